@@ -1,14 +1,20 @@
 //! A script, and what it prints.
 
+use im_engine::BufferSize;
 use im_tool_text::drill_text;
 use std::alloc::Global;
 use std::io;
 
 /// What a script prints, and its exit status.
 pub fn drilled(alloc: Global, script: &[u8]) -> io::Result<(u8, Vec<u8>)> {
+    drilled_in(alloc, BufferSize::ONE, script)
+}
+
+/// The same, where the logs of its stores have a buffer of this size.
+pub fn drilled_in(alloc: Global, buffer: BufferSize, script: &[u8]) -> io::Result<(u8, Vec<u8>)> {
     let mut printed = Vec::new(alloc);
     let mut reader = script;
-    let status = drill_text(alloc, &mut reader, &mut printed)?;
+    let status = drill_text(alloc, buffer, &mut reader, &mut printed)?;
     Ok((status, printed))
 }
 

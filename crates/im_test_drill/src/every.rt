@@ -3,6 +3,7 @@
 
 use crate::texts::Part::{Each, Text};
 use crate::texts::{Part, text_of};
+use im_engine::BufferSize;
 use im_tool_every::{Counts, every_failure, every_restart, every_text};
 use im_tool_lines::StoreScript;
 use std::alloc::{AllocError, Global};
@@ -41,7 +42,7 @@ fn restarts(alloc: Global, script: &[u8]) -> Result<Counts, AllocError> {
         return Ok(counts);
     };
     for life in &script.lives {
-        every_restart(alloc, life, &mut counts)?;
+        every_restart(alloc, life, BufferSize::ONE, &mut counts)?;
     }
     Ok(counts)
 }
@@ -87,7 +88,13 @@ static EVERY: [(&str, &str, &str, u8); 4] = [
 fn prints_every(alloc: Global, script: &str, want: &str, want_status: u8) -> io::Result<bool> {
     let mut printed = Vec::new(alloc);
     let mut reader = script.as_bytes();
-    let status = every_text(alloc, &mut reader, &mut printed, &mut io::sink())?;
+    let status = every_text(
+        alloc,
+        BufferSize::ONE,
+        &mut reader,
+        &mut printed,
+        &mut io::sink(),
+    )?;
     Ok(status == want_status && printed.as_slice() == want.as_bytes())
 }
 
@@ -161,7 +168,7 @@ fn failures(alloc: Global, script: &[u8]) -> Result<Counts, AllocError> {
         mut lives,
     } = script;
     match lives.pop() {
-        Some(life) => every_failure(alloc, life),
+        Some(life) => every_failure(alloc, life, BufferSize::ONE),
         None => Ok(Counts::default()),
     }
 }

@@ -14,14 +14,15 @@ use crate::store_drilled::StoreDrilled;
 use crate::store_lives::{last_entries, run_store_life};
 use im_base_disk::Disk;
 use im_base_model_disk::ModelDisk;
+use im_engine::BufferSize;
 use im_tool_lines::StoreScript;
 use std::alloc::{AllocError, Global};
 
 /// Runs the lives of a script on a model disk, each on what the stop of the one before has left, and opens once
 /// more behind the last.
 ///
-/// Every answer comes from a call: in each life the stop is armed, an engine is opened with the life's options on the disk that the stop before has
-/// left, and its steps and headers are what the lines answer, up to one into which the stop fell. `Stopped` is told only where the life has a
+/// Every answer comes from a call: in each life the stop is armed, an engine is opened with the life's options, and a log's buffer of this
+/// size, on the disk that the stop before has left, and its steps and headers are what the lines answer, up to one into which the stop fell. `Stopped` is told only where the life has a
 /// stop within a device call, and it has come; an opening is refused only for its cause.
 ///
 /// Where the script's files stand for some effects at first, as two empty ones do for none, each life leaves those from before it and
@@ -30,7 +31,11 @@ use std::alloc::{AllocError, Global};
 /// every store, whether the tree has changed its structure or not, in whichever life.
 ///
 /// On any bytes, each life has its answers and each of its lines its reply, up to a line into which the stop fell.
-pub fn drill_store(alloc: Global, script: &StoreScript) -> Result<StoreDrilled, AllocError>
+pub fn drill_store(
+    alloc: Global,
+    script: &StoreScript,
+    buffer: BufferSize,
+) -> Result<StoreDrilled, AllocError>
     ensures run { IfOk result (λ told. IsRun ⟦<ModelDisk as Disk>⟧ script.now told) }
     ensures answered { IfOk result (λ told. EachStoreAnswered script.now.lives.items told.lives.items) }
     ensures kept { IfOk result (λ told. (before : List Effect) → StandsFor before (three script.now.log.items script.now.pages.items script.now.log2.items)
@@ -44,13 +49,13 @@ pub fn drill_store(alloc: Global, script: &StoreScript) -> Result<StoreDrilled, 
     let mut disk = ModelDisk::with_log2(log, pages, log2);
     let mut lives = Vec::new(alloc);
     for life in &script.lives {
-        let (told, after) = run_store_life(alloc, disk, life)?;
+        let (told, after) = run_store_life(alloc, disk, life, buffer)?;
         lives.push(told)?;
         disk = match after.after_stop(alloc) {
             Ok(left) => left,
             Err(_) => return Err(AllocError),
         };
     }
-    let (last, disk) = last_entries(alloc, disk);
+    let (last, disk) = last_entries(alloc, disk, buffer);
     Ok(StoreDrilled { lives, last, disk })
 }

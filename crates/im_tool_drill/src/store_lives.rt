@@ -18,7 +18,7 @@ use im_base_disk::Disk;
 use im_base_model_disk::{ModelDisk, Stop};
 use im_base_steps::Step;
 use im_base_types::{Fault, Key, PageNo, Rid};
-use im_engine::{Config, Engine, look};
+use im_engine::{BufferSize, Config, Engine, look};
 use im_tool_answers::{StoreAnswers, StoreReply};
 use im_tool_lines::{LifeOptions, StoreLife, StoreLine};
 use im_tool_raw::{Opening, arm_life, has_come, refused_opening};
@@ -26,14 +26,15 @@ use std::alloc::{AllocError, Global};
 
 /// Runs one life on the disk, and gives the disk back as it was when the stop came or the lines ended.
 ///
-/// The stop is armed, and the device call and the read that fail, an engine is opened on the disk, and it makes the lines: the answers are its own. Where the files stood for some
-/// effects, whatever a stop then leaves stands for these effects and a front of those whose Commit the life asked, with all that were
+/// The stop is armed, and the device call and the read that fail, an engine is opened on the disk, with a log's buffer of this size, and it
+/// makes the lines: the answers are its own. Where the files stood for some effects, whatever a stop then leaves stands for these effects and a front of those whose Commit the life asked, with all that were
 /// acknowledged; and the opening does not say that the files are no store. Each line has its reply, unless the stop came before or the
 /// opening did not succeed.
 pub fn run_store_life(
     alloc: Global,
     disk: ModelDisk,
     life: &StoreLife,
+    buffer: BufferSize,
 ) -> Result<(StoreAnswers, ModelDisk), AllocError>
     requires working { ⟦<ModelDisk as Disk>⟧.failed disk ≡ false }
     requires synced { IsSynced ⟦<ModelDisk as Disk>⟧ disk }
@@ -45,7 +46,7 @@ pub fn run_store_life(
 {
     let mut disk = disk;
     arm_life(alloc, &mut disk, life)?;
-    match open_store(alloc, disk, life.options) {
+    match open_store(alloc, disk, life.options, buffer) {
         Ok(mut engine) => {
             let opening = Opening::Open(engine.disk().calls());
             let replies = run_store_lines(alloc, &mut engine, &life.lines, &life.stop);
@@ -61,23 +62,26 @@ pub fn run_store_life(
     }
 }
 
-/// Opens the store of a disk by these options.
+/// Opens the store of a disk by these options, with a log's buffer of this size.
 pub fn open_store(
     alloc: Global,
     disk: ModelDisk,
     options: LifeOptions,
+    buffer: BufferSize,
 ) -> Result<Engine<ModelDisk>, (Fault, ModelDisk)>
     requires working { ⟦<ModelDisk as Disk>⟧.failed disk ≡ false }
     requires synced { IsSynced ⟦<ModelDisk as Disk>⟧ disk }
     ensures opening { IsOpening ⟦<ModelDisk as Disk>⟧ options disk result }
     ensures group { IfOk result (λ e. e.txns.group ≡ options.group) }
 {
-    Engine::open_or_create(alloc, disk, config_of(options))
+    Engine::open_or_create(alloc, disk, config_of(options, buffer))
 }
 
 /// How an engine is opened by these options: 64 frames and 1,000,000 pages where they are left out. Commits wait where `group` stands there.
-pub fn config_of(options: LifeOptions) -> Config
-    ensures { IsConfigOf options result }
+/// The size of the log's buffer is no option of a life.
+pub fn config_of(options: LifeOptions, buffer: BufferSize) -> Config
+    ensures config { IsConfigOf options result }
+    ensures buffer { result.buffer ≡ buffer }
 {
     let config = Config::default();
     let frames = match options.frames {
@@ -92,7 +96,7 @@ pub fn config_of(options: LifeOptions) -> Config
     Config {
         frames,
         max_pages,
-        buffer: config.buffer,
+        buffer,
         group: options.group,
     }
 }
@@ -192,6 +196,7 @@ fn is_stopped(reply: &StoreReply) -> bool
 pub(crate) fn last_entries(
     alloc: Global,
     disk: ModelDisk,
+    buffer: BufferSize,
 ) -> (Result<Vec<(Key, Rid)>, Fault>, ModelDisk)
     requires working { ⟦<ModelDisk as Disk>⟧.failed disk ≡ false }
     requires synced { IsSynced ⟦<ModelDisk as Disk>⟧ disk }
@@ -206,5 +211,5 @@ pub(crate) fn last_entries(
         failing_read: None,
         group: false,
     };
-    look(alloc, disk, config_of(options))
+    look(alloc, disk, config_of(options, buffer))
 }

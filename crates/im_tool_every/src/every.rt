@@ -6,6 +6,7 @@ ghost use Rattle.im_base_disk.specs.Runs.{IsSynced};
 use crate::judged_opening::{judge_opening, left_by, stop_opening};
 use im_base_disk::Disk;
 use im_base_model_disk::{Fill, Length, ModelDisk, Stop};
+use im_engine::BufferSize;
 use im_tool_drill::run_store_life;
 use im_tool_judge::{AskedEffect, effects_asked};
 use im_tool_lines::{LifeOptions, StoreLife};
@@ -40,24 +41,26 @@ pub(crate) fn stop_at(alloc: Global, call: u64, way: (Length, u8)) -> Result<Sto
     })
 }
 
-/// Stops a life within each of its device calls, in each way, and judges what is behind. The life's own stop is left out.
+/// Stops a life within each of its device calls, in each way, and judges what it leaves. The life's own stop is left out. Each store is opened
+/// with a log's buffer of this size.
 ///
 /// It writes to `progress` how many of the life's device calls are done, over the line before. Where that cannot be written nobody reads it.
 pub fn every_stop<P: Write>(
     alloc: Global,
     life: StoreLife,
+    buffer: BufferSize,
     progress: &mut P,
 ) -> Result<Counts, AllocError> {
     let mut life = life;
     life.stop = None;
     let mut counts = Counts::default();
-    let (_, disk) = run_store_life(alloc, new_disk(alloc), &life)?;
+    let (_, disk) = run_store_life(alloc, new_disk(alloc), &life, buffer)?;
     let calls = disk.calls();
     for i in 0..calls {
         for way in WAYS {
             life.stop = Some(stop_at(alloc, i.wrapping_add(1), way)?);
             counts.stops = counts.stops.saturating_add(1);
-            every_restart(alloc, &life, &mut counts)?;
+            every_restart(alloc, &life, buffer, &mut counts)?;
         }
         let _ = write!(progress, "\r{} of {calls} device calls", i.wrapping_add(1));
     }
@@ -77,17 +80,18 @@ pub(crate) fn new_disk(alloc: Global) -> ModelDisk
 pub fn every_restart(
     alloc: Global,
     life: &StoreLife,
+    buffer: BufferSize,
     counts: &mut Counts,
 ) -> Result<(), AllocError> {
-    let (told, disk) = run_store_life(alloc, new_disk(alloc), life)?;
+    let (told, disk) = run_store_life(alloc, new_disk(alloc), life, buffer)?;
     let asked = effects_asked(alloc, &life.lines, &told.replies)?;
     let left = left_by(alloc, &disk)?;
-    let calls = judge(alloc, &left, life.options, &asked, counts)?;
+    let calls = judge(alloc, &left, life.options, buffer, &asked, counts)?;
     for i in 0..calls {
         for way in WAYS {
             let stop = stop_at(alloc, i.wrapping_add(1), way)?;
             counts.restarts = counts.restarts.saturating_add(1);
-            restart(alloc, &left, life.options, stop, &asked, counts)?;
+            restart(alloc, &left, life.options, buffer, stop, &asked, counts)?;
         }
     }
     Ok(())
@@ -98,13 +102,14 @@ fn restart(
     alloc: Global,
     disk: &ModelDisk,
     options: LifeOptions,
+    buffer: BufferSize,
     stop: Stop,
     asked: &[AskedEffect],
     counts: &mut Counts,
 ) -> Result<(), AllocError> {
     let copy = left_by(alloc, disk)?;
-    let next = stop_opening(alloc, copy, options, stop)?;
-    let _calls = judge(alloc, &next, options, asked, counts)?;
+    let next = stop_opening(alloc, copy, options, buffer, stop)?;
+    let _calls = judge(alloc, &next, options, buffer, asked, counts)?;
     Ok(())
 }
 
@@ -113,11 +118,12 @@ pub(crate) fn judge(
     alloc: Global,
     disk: &ModelDisk,
     options: LifeOptions,
+    buffer: BufferSize,
     asked: &[AskedEffect],
     counts: &mut Counts,
 ) -> Result<u64, AllocError> {
     let copy = left_by(alloc, disk)?;
-    let (judged, _disk) = judge_opening(alloc, copy, options, asked)?;
+    let (judged, _disk) = judge_opening(alloc, copy, options, buffer, asked)?;
     counts.count(judged.good);
     Ok(judged.calls)
 }

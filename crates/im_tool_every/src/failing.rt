@@ -3,6 +3,7 @@
 use crate::every::{Counts, WAYS, judge, new_disk, stop_at};
 use crate::judged_opening::left_by;
 use im_base_types::Fault;
+use im_engine::BufferSize;
 use im_tool_answers::{StoreAnswers, StoreReply};
 use im_tool_drill::run_store_life;
 use im_tool_judge::{effects_asked, is_by_device, is_disturbed};
@@ -12,22 +13,26 @@ use std::alloc::{AllocError, Global};
 
 /// Makes a life again and again, in which another device call fails each time, then another read or length call, and ends it in each length and
 /// with each fill. Its answers are judged (`IsDisturbed`) by those of the life that nothing disturbs, and so is the opening behind. It counts
-/// these lives as stops. The life's own stop and failures are left out.
-pub fn every_failure(alloc: Global, life: StoreLife) -> Result<Counts, AllocError> {
+/// these lives as stops. The life's own stop and failures are left out. Each store is opened with a log's buffer of this size.
+pub fn every_failure(
+    alloc: Global,
+    life: StoreLife,
+    buffer: BufferSize,
+) -> Result<Counts, AllocError> {
     let mut life = life;
     life.stop = None;
     life.options.failing_call = None;
     life.options.failing_read = None;
     let mut counts = Counts::default();
-    let (plain, disk) = run_store_life(alloc, new_disk(alloc), &life)?;
+    let (plain, disk) = run_store_life(alloc, new_disk(alloc), &life, buffer)?;
     for i in 0..disk.calls() {
         life.options.failing_call = Some(i.wrapping_add(1));
-        let _failed = each_end(alloc, &mut life, &plain, &mut counts)?;
+        let _failed = each_end(alloc, &mut life, buffer, &plain, &mut counts)?;
     }
     life.options.failing_call = None;
     for i in 0..MOST_READS {
         life.options.failing_read = Some(i.wrapping_add(1));
-        if !each_end(alloc, &mut life, &plain, &mut counts)? {
+        if !each_end(alloc, &mut life, buffer, &plain, &mut counts)? {
             return Ok(counts);
         }
     }
@@ -41,6 +46,7 @@ const MOST_READS: u64 = 1_000_000;
 fn each_end(
     alloc: Global,
     life: &mut StoreLife,
+    buffer: BufferSize,
     plain: &StoreAnswers,
     counts: &mut Counts,
 ) -> Result<bool, AllocError> {
@@ -48,7 +54,7 @@ fn each_end(
     for way in WAYS {
         life.stop = Some(stop_at(alloc, 0, way)?);
         counts.stops = counts.stops.saturating_add(1);
-        failed = one_failure(alloc, life, plain, counts)?;
+        failed = one_failure(alloc, life, buffer, plain, counts)?;
     }
     Ok(failed)
 }
@@ -56,14 +62,15 @@ fn each_end(
 fn one_failure(
     alloc: Global,
     life: &StoreLife,
+    buffer: BufferSize,
     plain: &StoreAnswers,
     counts: &mut Counts,
 ) -> Result<bool, AllocError> {
-    let (told, disk) = run_store_life(alloc, new_disk(alloc), life)?;
+    let (told, disk) = run_store_life(alloc, new_disk(alloc), life, buffer)?;
     counts.count(is_disturbed(plain, &told));
     let asked = effects_asked(alloc, &life.lines, &told.replies)?;
     let left = left_by(alloc, &disk)?;
-    let _calls = judge(alloc, &left, life.options, &asked, counts)?;
+    let _calls = judge(alloc, &left, life.options, buffer, &asked, counts)?;
     Ok(has_failed(&told))
 }
 

@@ -9,7 +9,7 @@ ghost use Rattle.im_tool_every.specs.Opened.{IsJudged, IsJudgedBy, IsStopped};
 
 use im_base_disk::Disk;
 use im_base_model_disk::{ModelDisk, Stop};
-use im_engine::Engine;
+use im_engine::{BufferSize, Engine};
 use im_tool_drill::open_store;
 use im_tool_judge::{AskedEffect, is_good, is_passed_over};
 use im_tool_lines::LifeOptions;
@@ -27,13 +27,14 @@ pub(crate) fn judge_opening(
     alloc: Global,
     disk: ModelDisk,
     options: LifeOptions,
+    buffer: BufferSize,
     asked: &[AskedEffect],
 ) -> Result<(Judged, ModelDisk), AllocError>
     requires working { ⟦<ModelDisk as Disk>⟧.failed disk ≡ false }
     requires synced { IsSynced ⟦<ModelDisk as Disk>⟧ disk }
     ensures { IfOk result (λ told. IsJudged ⟦<ModelDisk as Disk>⟧ options asked.now disk told.1 told.0) }
 {
-    match open_store(alloc, disk, options) {
+    match open_store(alloc, disk, options, buffer) {
         Ok(mut engine) => {
             let calls = engine.disk().calls();
             let good = judge_entries(alloc, &mut engine, asked)?;
@@ -66,6 +67,7 @@ pub(crate) fn stop_opening(
     alloc: Global,
     disk: ModelDisk,
     options: LifeOptions,
+    buffer: BufferSize,
     stop: Stop,
 ) -> Result<ModelDisk, AllocError>
     requires working { ⟦<ModelDisk as Disk>⟧.failed disk ≡ false }
@@ -76,7 +78,7 @@ pub(crate) fn stop_opening(
 {
     let mut disk = disk;
     disk.arm(stop);
-    match open_store(alloc, disk, options) {
+    match open_store(alloc, disk, options, buffer) {
         Ok(engine) => {
             let disk = engine.into_disk();
             let next = left_by(alloc, &disk)?;

@@ -4,17 +4,20 @@ ghost use Rattle.std.specs.Prelude.{◌≤◌, IfOk};
 
 use crate::every::every_stop;
 use im_base_types::Fault;
+use im_engine::BufferSize;
 use im_tool_lines::{Script, ScriptError, StoreLife, StoreScript, is_raw};
 use std::alloc::{AllocError, Global};
 use std::io;
 use std::io::{Read, Write};
 
-/// Reads a script, stops its life everywhere and prints the counts: `stops A restarts B bad C`. It answers the exit status: 0 where none is bad.
+/// Reads a script, stops its life everywhere, with a log's buffer of this size, and prints the counts: `stops A restarts B bad C`. It answers
+/// the exit status: 0 where none is bad.
 ///
 /// A script that has not one `life` alone, or has a `set` line or a stop, is answered `script not single`, and a bad line is named alone; the
 /// status is 1 then. It writes to `progress` how far it is; where that cannot be written nobody reads it.
 pub fn every_text<R: Read, W: Write, P: Write>(
     alloc: Global,
+    buffer: BufferSize,
     reader: &mut R,
     writer: &mut W,
     progress: &mut P,
@@ -25,7 +28,7 @@ pub fn every_text<R: Read, W: Write, P: Write>(
     reader.read_to_end(&mut text)?;
     match life_of(alloc, &text) {
         Ok(Some(life)) => {
-            let counts = every_stop(alloc, life, progress)?;
+            let counts = every_stop(alloc, life, buffer, progress)?;
             writeln!(
                 writer,
                 "stops {} restarts {} bad {}",

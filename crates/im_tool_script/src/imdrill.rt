@@ -2,7 +2,9 @@
 
 ghost use Rattle.std.specs.Prelude.{◌≤◌, IfOk};
 
+use clap::builder::ValueParser;
 use clap::{Arg, ArgAction, ArgMatches, Command, Error};
+use im_engine::BufferSize;
 use im_tool_every::every_text;
 use im_tool_lines::{reason_of, refused_line};
 use im_tool_text::drill_text;
@@ -10,9 +12,19 @@ use std::alloc::{AllocError, Global};
 use std::io::{BufWriter, ErrorKind, IsTerminal, Read, Write};
 use std::{fs, io};
 
+/// How a script is run.
+#[derive(Clone, Copy)]
+struct Run {
+    /// Its one life is stopped everywhere.
+    is_everywhere: bool,
+    /// The log's buffer of its stores.
+    buffer: BufferSize,
+}
+
 /// Runs the script that the command line names, or standard input where it names none, and prints what its
-/// lives answer. With `--every` it stops the script's one life everywhere, tells on standard error how far it is, where that is a terminal, and
-/// prints how often, and how many openings were bad. The first word is the program's name. It answers the exit status.
+/// lives answer. With `--buffer N` the logs of its stores have a buffer of N batches, 1 to 64. With `--every` it stops the script's one life
+/// everywhere, tells on standard error how far it is, where that is a terminal, and prints how often, and how many openings were bad. The first
+/// word is the program's name. It answers the exit status.
 ///
 /// An error is of the program's own memory, input or output: its status is 1.
 pub fn drill_program(rt: &HostRuntime, words: &[String]) -> io::Result<u8>
@@ -30,13 +42,13 @@ pub fn drill_program(rt: &HostRuntime, words: &[String]) -> io::Result<u8>
         }
     };
     let mut writer = BufWriter::new(alloc, io::writer(rt))?;
-    let every = matches.get_flag("every");
+    let run = run_of(&matches);
     let status = match matches.get_str("SCRIPT") {
-        Some(path) => run_file(rt, path, every, &mut writer)?,
+        Some(path) => run_file(rt, path, run, &mut writer)?,
         None => {
             let mut text = Vec::new(alloc);
             rt.reader().read_to_end(&mut text)?;
-            run_text(rt, &text, every, &mut writer)?
+            run_text(rt, &text, run, &mut writer)?
         }
     };
     writer.flush()?;
@@ -44,11 +56,11 @@ pub fn drill_program(rt: &HostRuntime, words: &[String]) -> io::Result<u8>
 }
 
 // The file is read to its end before anything is printed.
-fn run_file<W: Write>(rt: &HostRuntime, path: &str, every: bool, writer: &mut W) -> io::Result<u8>
+fn run_file<W: Write>(rt: &HostRuntime, path: &str, run: Run, writer: &mut W) -> io::Result<u8>
     ensures { IfOk result (λ status. status ≤ 1) }
 {
     match fs::read(rt, path) {
-        Ok(text) => run_text(rt, &text, every, writer),
+        Ok(text) => run_text(rt, &text, run, writer),
         Err(error) if error.kind() == ErrorKind::OutOfMemory => Err(error),
         Err(_) => {
             writeln!(writer, "script unreadable")?;
@@ -58,15 +70,15 @@ fn run_file<W: Write>(rt: &HostRuntime, path: &str, every: bool, writer: &mut W)
 }
 
 // Runs a script, and says on standard error why a line of it is bad. Where that is closed nobody reads it.
-fn run_text<W: Write>(rt: &HostRuntime, text: &[u8], every: bool, writer: &mut W) -> io::Result<u8>
+fn run_text<W: Write>(rt: &HostRuntime, text: &[u8], run: Run, writer: &mut W) -> io::Result<u8>
     ensures { IfOk result (λ status. status ≤ 1) }
 {
     let mut printed = Vec::new(rt.alloc());
-    let status = if every {
-        run_every(rt, text, &mut printed)?
+    let status = if run.is_everywhere {
+        run_every(rt, text, run.buffer, &mut printed)?
     } else {
         let mut reader = text;
-        drill_text(rt.alloc(), &mut reader, &mut printed)?
+        drill_text(rt.alloc(), run.buffer, &mut reader, &mut printed)?
     };
     writer.write_all(&printed)?;
     if let Some((number, line)) = refused_line(&printed, text) {
@@ -77,15 +89,20 @@ fn run_text<W: Write>(rt: &HostRuntime, text: &[u8], every: bool, writer: &mut W
 }
 
 // Stops the script's life everywhere, and tells how far it is on standard error, where that is a terminal.
-fn run_every(rt: &HostRuntime, text: &[u8], printed: &mut Vec<u8>) -> io::Result<u8>
+fn run_every(
+    rt: &HostRuntime,
+    text: &[u8],
+    buffer: BufferSize,
+    printed: &mut Vec<u8>,
+) -> io::Result<u8>
     ensures { IfOk result (λ status. status ≤ 1) }
 {
     let mut reader = text;
     let mut progress = rt.stderr();
     if progress.is_terminal() {
-        every_text(rt.alloc(), &mut reader, printed, &mut progress)
+        every_text(rt.alloc(), buffer, &mut reader, printed, &mut progress)
     } else {
-        every_text(rt.alloc(), &mut reader, printed, &mut io::sink())
+        every_text(rt.alloc(), buffer, &mut reader, printed, &mut io::sink())
     }
 }
 
@@ -96,11 +113,32 @@ fn status_of(error: &Error) -> u8
     if error.use_stderr() { 2 } else { 0 }
 }
 
+fn run_of(matches: &ArgMatches) -> Run {
+    Run {
+        is_everywhere: matches.get_flag("every"),
+        buffer: buffer_of(matches.get_one::<u64>("buffer")),
+    }
+}
+
+// A buffer of so many batches, and of one where none is named.
+fn buffer_of(batches: Option<u64>) -> BufferSize {
+    let Some(batches) = batches else {
+        return BufferSize::ONE;
+    };
+    BufferSize::new(batches as usize).unwrap_or(BufferSize::ONE)
+}
+
 fn parse_words<'a>(alloc: Global, words: &'a [String]) -> Result<ArgMatches<'a>, Error> {
     let script = Arg::new(alloc, "SCRIPT");
     let every = Arg::new(alloc, "every")
         .long("every")
         .action(ArgAction::SetTrue);
-    let command = Command::new(alloc, "imdrill").arg(every)?.arg(script)?;
+    let buffer = Arg::new(alloc, "buffer")
+        .long("buffer")
+        .value_parser(ValueParser::unsigned(1, 64));
+    let command = Command::new(alloc, "imdrill")
+        .arg(every)?
+        .arg(buffer)?
+        .arg(script)?;
     command.try_get_matches_from(words)
 }

@@ -4,6 +4,7 @@ ghost use Rattle.std.specs.Prelude.{◌≤◌, IfOk};
 
 use crate::store_text::{print_opening, print_store};
 use im_base_types::Fault;
+use im_engine::BufferSize;
 use im_tool_drill::drill_store;
 use im_tool_lines::{Script, ScriptError, StoreScript, is_raw};
 use im_tool_raw::{Drilled, LifeAnswers, RawReply, drill};
@@ -11,10 +12,11 @@ use std::alloc::{AllocError, Global};
 use std::io;
 use std::io::{Read, Write};
 
-/// Reads a script, runs it and prints what its lives answer. It answers the exit status: 0, or 1 where a line
-/// of the script is bad, of which it then prints the number alone.
+/// Reads a script, runs it, its stores with a log's buffer of this size, and prints what its lives answer. It answers the exit status: 0,
+/// or 1 where a line of the script is bad, of which it then prints the number alone.
 pub fn drill_text<R: Read, W: Write>(
     alloc: Global,
+    buffer: BufferSize,
     reader: &mut R,
     writer: &mut W,
 ) -> io::Result<u8>
@@ -25,7 +27,7 @@ pub fn drill_text<R: Read, W: Write>(
     let run = if is_raw(&text) {
         run_raw(alloc, writer, &text)?
     } else {
-        run_store(alloc, writer, &text)?
+        run_store(alloc, buffer, writer, &text)?
     };
     match run {
         Ok(()) => Ok(0),
@@ -59,12 +61,13 @@ fn run_raw<W: Write>(
 // A script of lives of a store.
 fn run_store<W: Write>(
     alloc: Global,
+    buffer: BufferSize,
     writer: &mut W,
     text: &[u8],
 ) -> io::Result<Result<(), ScriptError>> {
     match StoreScript::parse(alloc, text) {
         Ok(script) => {
-            print_store(alloc, writer, &drill_store(alloc, &script)?)?;
+            print_store(alloc, writer, &drill_store(alloc, &script, buffer)?)?;
             Ok(Ok(()))
         }
         Err(error) => Ok(Err(error)),

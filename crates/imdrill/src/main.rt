@@ -1,4 +1,4 @@
-//! `imdrill [--every] [SCRIPT]`: runs a script of lives on a model disk and prints what they answer; or stops its one life everywhere, and
+//! `imdrill [--every] [--buffer N] [SCRIPT]`: runs a script of lives on a model disk and prints what they answer; or stops its one life everywhere, and
 //! prints how many openings after that were bad.
 #![tactic(auto)]
 

@@ -7,7 +7,7 @@ returns-clause-opening c =
     let e = c.open_or_create.ensures in
     record {
       config = c.config_of.result;
-      of = c.config_of.ensures;
+      of = c.config_of.ensures.config;
       kept = λ before stands. e.kept before tt c.requires.synced stands;
       opened = opened_as ghosts c.config_of.result.max_pages c.open_or_create.result e.opened e.limit;
       pool = e.pool;
@@ -20,4 +20,4 @@ returns-clause-opening c =
     }
 
 pub returns-clause-group : goal.returns-clause-group
-returns-clause-group c = opened_in_group ghosts c.config_of.result.group _ c.open_or_create.result c.open_or_create.ensures.group c.config_of.ensures.group
+returns-clause-group c = opened_in_group ghosts c.config_of.result.group _ c.open_or_create.result c.open_or_create.ensures.group c.config_of.ensures.config.group
