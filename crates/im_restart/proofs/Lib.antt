@@ -9,7 +9,6 @@ pub mod Leaves
 pub mod Readings
 pub mod Undos
 pub mod Openings
-pub mod Changes
 pub mod Restarts
 pub mod OpenChanges
 pub mod Orders

@@ -1,9 +1,10 @@
 -- The log at an opening: its first gate, and its records in turn.
-use Rattle.std.proofs.Common.{◌≡◌, ◌≤◌, ◌⊎◌, inl, inr, ℕ, List, [], ◌∷◌, Some, Option, Result, Ok, Err, sym, ◌∙◌, ap, subst}
+use Rattle.std.proofs.Common.{◌≡◌, ◌≤◌, ◌⊎◌, ◌↔◌, inl, inr, ℕ, Bool, true, false, List, [], ◌∷◌, length, Some, Option, Result, Ok, Err, refl, sym, ◌∙◌, ap, subst, arith}
 use Rattle.std.specs.Prelude.{IfOk, OnOk}
 use Rattle.im_base_types.specs.declared.fault.Fault.{Fault}
 use Rattle.im_base_types.specs.declared.file_id.FileId.{FileId}
-use Rattle.im_base_types.specs.declared.file_id.FileId.TheVariants.{Log}
+use Rattle.im_base_types.specs.declared.fault.Fault.TheVariants.{Device}
+use Rattle.im_base_types.specs.declared.file_id.FileId.TheVariants.{Log, Pages}
 use Rattle.im_base_types.specs.Records.{Logged}
 use Rattle.im_theory_log.specs.Tree.{Tree, TreeLaws}
 use Rattle.im_theory_log.specs.Histories.{Base, History, IsFront}
@@ -11,23 +12,27 @@ use Rattle.im_theory_log.specs.Lawful.{IsLawful}
 use Rattle.im_theory_log.specs.PageCounts.{count_of, first_count}
 use Rattle.im_theory_log.proofs.Histories.{at_front}
 use Rattle.im_base_disk.specs.declared.disk.Disk.{Ghosts}
-use Rattle.im_base_disk.specs.Disk.{Files}
-use Rattle.im_base_disk.specs.Runs.{Reads}
+use Rattle.im_base_disk.specs.Disk.{Files, Only}
+use Rattle.im_base_disk.specs.Runs.{ChangesOnly, LeavesIn, Reads}
+use Rattle.im_base_disk.proofs.Runs.{in_then, only_reads, reads_then}
 use Rattle.im_log_gate.specs.declared.gate.Gate.{Gate}
 use Rattle.im_log_gate.specs.Batches.{batches}
-use Rattle.im_log_gate.specs.Gate.{file_of, first_of, place_of, logged, StartsAs}
+use Rattle.im_log_gate.specs.Gate.{file_of, first_of, place_of, has_failed, logged, IsReading, StartsAs}
 use Rattle.im_log_gate.specs.Header.{base_of, first_gate, least_number, StartsAlike, IsMade, IsUnmade}
 use Rattle.im_log_gate.proofs.Starts.{blank_starts}
 use Rattle.im_log_record.specs.Entry.{Entry}
 use Rattle.im_log.specs.Spelled.{logged_at}
 use Rattle.im_log.specs.declared.opening.Opening.{Opening}
 use Rattle.im_log.specs.Opening.{HasRead, IsOpening}
-use Rattle.im_log.specs.Kept.{HasLog}
+use Rattle.im_log.specs.Gates.{IsOfLog}
+use Rattle.im_log.specs.Kept.{HasLog, IsLogOf}
 use Rattle.im_log.proofs.Creations.{blank_has, not_both}
 use Rattle.im_log.proofs.Runs.{of_log}
 use Rattle.im_restart_analysis.specs.Analysis.{Continues}
 use Rattle.im_restart_analysis.specs.Orderly.{FitsBehind, IsOrderly, IsReadable}
 use Rattle.im_restart_analysis.proofs.LeadingDown.{logs_are_taken}
+use Rattle.im_restart.specs.declared.found.Found.{Found}
+use Rattle.im_restart.specs.Reading.{IsReadLog, OpenKept}
 use Rattle.im_restart.specs.Restart.{AreTaken, IsFresh, SpellsLog}
 
 -- a log that was made has no record, and starts where the unmade one would
@@ -98,3 +103,63 @@ spelled_so d old mid opening (Ok x) store reads start spelled = λ told. elim (s
   | inl fresh ↦ inl fresh
   | inr made ↦ let s = spelled (base_of (d.seen mid Log)) (start told) in inr (s.0, subst (λ (f : Files). HasLog (base_of (f Log)) s.0 (f Log)) (reads told (made_known (d.seen old) made)).seen s.1, s.2)
 ]
+
+-- ---- a log that is read again
+
+-- where each change is kept, each that is wanted is there
+pub drops_only : (drops : Bool) (start point : ℕ) (reaches : Bool) → (drops ≡ false → start ≡ 0) → (reaches ≡ true ↔ start ≤ point) → reaches ≡ false → drops ≡ true
+drops_only true start point reaches whole is not = refl
+drops_only false start point reaches whole is not =
+    let all : start ≡ 0 = whole refl in
+    let yes : reaches ≡ true = is.1 (omega (arith, all)) in
+    let never : true ≡ false = sym yes ∙ not in
+    absurd (cc never)
+
+pub also_if_ok : {T : Type 0} {Q : Type 0} (P : T → Type 0) (result : Result T Fault) → Q → IfOk result P → IfOk result (λ x. Q × P x)
+also_if_ok P (Ok x) q p = (q, p)
+also_if_ok P (Err e) q p = tt
+
+pub read_log_so : {D T : Type 0} (d : Ghosts D) (old mid new : D) (gate : Gate) (result : Result T Fault) → (result ≡ Err Device ↔ (d.failed new ≡ true)) → IsReading d gate mid → has_failed gate ≡ false → IsOfLog gate
+    → (d.tells → IsMade (d.seen mid Log)) → (d.tells → IsFresh (d.seen old) ⊎ IsMade (d.seen old Log)) → (d.tells → StartsAlike (d.seen old Log) (d.seen mid Log)) → Reads d mid new → OnOk result (IsReadLog d old new)
+read_log_so d old mid new gate (Err e) device reading usable of made store alike reads = tt
+read_log_so d old mid new gate (Ok x) device reading usable of made store alike reads = record {
+  working = not_failed (d.failed new) (λ (is : d.failed new ≡ true). (let never : Ok x ≡ Err Device = device.1 is in cc never));
+  durable = only_reads d Log mid new reads (subst (λ (f : FileId). Only f (d.seen mid) (d.may_leave mid)) of.file (reading.durable usable));
+  made = λ told. subst (λ (f : Files). IsMade (f Log)) (sym reads.seen) (made told);
+  store = store;
+  alike = λ told. subst (λ (f : Files). StartsAlike (d.seen old Log) (f Log)) (sym reads.seen) (alike told);
+}
+  where
+    not_failed : (b : Bool) → (b ≡ true → ⊥) → b ≡ false
+    not_failed true never = absurd (never refl)
+    not_failed false never = refl
+
+module _ {D : Type 0} (d : Ghosts D) (base : ℕ) (all : History) (old mid new : D) where
+  -- the file that was read first stands for the list still
+  pub of_read : HasLog base all (d.seen mid Log) → IsLogOf base all (d.seen mid Log) × (IsUnmade (d.seen mid Log) → length (d.seen mid Pages) ≡ 0)
+  of_read has = (inr has, λ unmade. absurd (not_both (d.seen mid Log) has.made unmade))
+
+  pub kept_again : (result : Result Found Fault) → LeavesIn d Log old mid (IsLogOf base all) → ChangesOnly d Log old mid → OpenKept d base all mid new result → OpenKept d base all old new result
+  kept_again result first changes k = record {
+    ok = k.ok;
+    stops = in_then d Log old mid new (IsLogOf base all) (IsLogOf base all) (IsLogOf base all) first changes k.stops (λ told c is. is) (λ told c is. is);
+    cause = k.cause;
+  }
+
+module _ {D : Type 0} (d : Ghosts D) (old mid new : D) (r : IsReadLog d old mid) (reads : d.tells → ¬ (IsFresh (d.seen old)) → Reads d old mid) where
+  pub spelled_again : (result : Result Found Fault) → IfOk result (λ _. d.tells → SpellsLog (d.seen mid)) → IfOk result (λ _. d.tells → SpellsLog (d.seen old))
+  spelled_again (Err e) spelled = tt
+  spelled_again (Ok x) spelled = λ told. elim (r.store told) [
+    | inl fresh ↦ inl fresh
+    | inr made ↦ subst (λ (f : Files). SpellsLog f) (reads told (made_known (d.seen old) made)).seen (spelled told)
+  ]
+
+  pub alike_again : (result : Result Found Fault) → IfOk result (λ _. d.tells → StartsAlike (d.seen mid Log) (d.seen new Log)) → IfOk result (λ _. d.tells → StartsAlike (d.seen old Log) (d.seen new Log))
+  alike_again (Err e) alike = tt
+  alike_again (Ok x) alike = λ told.
+      let first = r.alike told in
+      let then = alike told in
+      record { gate = then.gate ∙ first.gate; base = then.base ∙ first.base; number = then.number ∙ first.number }
+
+  pub reads_again : (d.tells → ¬ (IsFresh (d.seen mid)) → Reads d mid new) → d.tells → ¬ (IsFresh (d.seen old)) → Reads d old new
+  reads_again then told known = reads_then d old mid new (reads told known) (then told (made_known (d.seen mid) (r.made told)))

@@ -197,7 +197,7 @@ module _ {D : Type 0} (d : Ghosts D) (b : Base) (base : ℕ) (all : History) whe
     log = log_spared d base all all found.log old mid (spares_reads d Log old mid reads) is.log;
     analysis = subst (λ (f : Files). IsAnalysis (least_number (f Log)) all found.analysed) (sym reads.seen) is.analysis;
     numbers = subst (λ (f : Files). 1 ≤ least_number (f Log)) (sym reads.seen) is.numbers;
-    lsns = is.lsns;
+    changes = is.changes;
     last = is.last;
   }
 

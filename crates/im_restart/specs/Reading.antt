@@ -1,20 +1,21 @@
 -- What reading the log keeps.
-use Rattle.std.specs.Prelude.{◌≡◌, ◌≢◌, ◌≤◌, ℕ, Result, IfErr, IfOk}
+use Rattle.std.specs.Prelude.{◌≡◌, ◌≢◌, ◌≤◌, ◌⊎◌, ℕ, false, Option, Result, IfErr, IfOk, IfSome}
 use Rattle.im_base_types.specs.declared.fault.Fault.{Fault}
 use Rattle.im_base_types.specs.declared.fault.Fault.TheVariants.{NotAStore}
 use Rattle.im_base_types.specs.declared.file_id.FileId.TheVariants.{Log}
 use Rattle.im_theory_log.specs.Histories.{History}
 use Rattle.im_theory_log.specs.RedoPoints.{redo_point}
 use Rattle.im_base_disk.specs.declared.disk.Disk.{Ghosts}
+use Rattle.im_base_disk.specs.Disk.{Only}
 use Rattle.im_base_disk.specs.Runs.{LeavesIn}
 use Rattle.im_log_gate.specs.declared.gate.Gate.{Gate}
-use Rattle.im_log_gate.specs.Header.{least_number}
+use Rattle.im_log_gate.specs.Header.{least_number, StartsAlike, IsMade}
 use Rattle.im_log.specs.Kept.{HasLog, IsLogOf}
 use Rattle.im_log.specs.LogFile.{IsLog}
 use Rattle.im_restart_analysis.specs.Analysis.{IsAnalysis}
-use Rattle.im_restart_analysis.specs.Changes.{AreLastBelow}
-use Rattle.im_restart_redo.specs.Redo.{lsns_from}
+use Rattle.im_restart_analysis.specs.Changes.{AreLastBelow, changes_from}
 use Rattle.im_restart.specs.declared.found.Found.{Found}
+use Rattle.im_restart.specs.Restart.{IsFresh}
 
 module _ {D : Type 0} (d : Ghosts D) (base : ℕ) (all : History) where
   -- What the first gate of a log is, that was opened or made.
@@ -28,12 +29,18 @@ module _ {D : Type 0} (d : Ghosts D) (base : ℕ) (all : History) where
     pub log : IsLog d base all all found.log disk
     pub analysis : IsAnalysis (least_number (d.seen disk Log)) all found.analysed
     pub numbers : 1 ≤ least_number (d.seen disk Log)
-    pub lsns : found.lsns.items ≡ lsns_from (redo_point all) all
+    pub changes : found.changes.items ≡ changes_from (redo_point all) all
     pub last : AreLastBelow all (redo_point all) found.last
 
   -- what reading the records keeps
-  pub record ReadKept (disk : D) (result : Result Found Fault) : Type 0 where
-    pub ok : IfOk result (λ found. IsFound found disk)
+  pub record ReadKept (disk : D) (result : Result (Option Found) Fault) : Type 0 where
+    pub ok : IfOk result (λ found. IfSome found (λ f. IsFound f disk))
+    pub cause : IfErr result (λ e. e ≢ NotAStore)
+
+  -- what reading a log keeps, that was opened or made
+  pub record LogKept (old new : D) (result : Result (Option Found) Fault) : Type 0 where
+    pub ok : IfOk result (λ found. HasLog base all (d.seen new Log) × IfSome found (λ f. IsFound f new))
+    pub stops : LeavesIn d Log old new (IsLogOf base all)
     pub cause : IfErr result (λ e. e ≢ NotAStore)
 
   -- what opening a log keeps
@@ -41,3 +48,11 @@ module _ {D : Type 0} (d : Ghosts D) (base : ℕ) (all : History) where
     pub ok : IfOk result (λ found. IsFound found new)
     pub stops : LeavesIn d Log old new (IsLogOf base all)
     pub cause : IfErr result (λ e. e ≢ NotAStore)
+
+-- The log was opened or made, and can be read again.
+pub record IsReadLog {D : Type 0} (d : Ghosts D) (old new : D) : Type 0 where
+  pub working : d.failed new ≡ false
+  pub durable : Only Log (d.seen new) (d.may_leave new)
+  pub made : d.tells → IsMade (d.seen new Log)
+  pub store : d.tells → IsFresh (d.seen old) ⊎ IsMade (d.seen old Log)
+  pub alike : d.tells → StartsAlike (d.seen old Log) (d.seen new Log)

@@ -6,7 +6,9 @@
 //!
 //! 1. **Analysis** (`reading`): the log is opened, or made where there is none yet and no page, and each record read once. That
 //!    gives the number of the next transaction, the redo point, the losers, the last full copies of pages, the structure change
-//!    that is open, and the LSNs of the records that change a page.
+//!    that is open, and the changes of pages from the redo point on. Those below it are dropped wherever a Checkpoint moves it, but for the
+//!    last one of each page: what is kept goes by the pages and by what is to be redone, however long the log is. A log whose Checkpoints
+//!    move it back, which no store writes, is read once more.
 //! 2. **Redo**, by `im_restart_redo`: the pages are brought to what all of the log made of them. How many records that took is told with the
 //!    redo point (`RedoReport`).
 //! 3. **Undo of the open structure change** (`structure_change`): its pages are put back, the newest first, each by an UndoSmo with

@@ -13,11 +13,12 @@ ghost use Rattle.im_log_gate.specs.Header.{IsMade};
 ghost use Rattle.im_theory_page.specs.PageFile.{file_page};
 ghost use Rattle.im_log.specs.LogFile.{IsOpen};
 ghost use Rattle.im_restart_analysis.specs.Analysis.{IsAnalysis};
+ghost use Rattle.im_restart_analysis.specs.Changes.{changes_from};
 ghost use Rattle.im_restart_analysis.specs.Losers.{AreLosers};
 ghost use Rattle.im_restart_analysis.specs.OpenChange.{IsOpenChange};
 ghost use Rattle.im_smo_alloc.specs.Kept.{mild_to_take};
 ghost use Rattle.im_restart_redo.specs.Recovery.{Recovers};
-ghost use Rattle.im_restart_redo.specs.Redo.{AreApplicable, lsns_from};
+ghost use Rattle.im_restart_redo.specs.Redo.{AreApplicable};
 ghost use Rattle.im_page_writer.specs.Outcome.{fault_of};
 ghost use Rattle.im_page_writer.specs.PageWriter.{IsReadyWriter, StandsAs};
 ghost use Rattle.im_restart.specs.Opening.{Opens};
@@ -34,9 +35,9 @@ use crate::structure_change::undo_change;
 use crate::synced::{check_file, synced_of};
 use crate::undo::undo;
 use im_base_disk::Disk;
-use im_base_types::{Fault, Lsn, TxnId};
+use im_base_types::{Fault, TxnId};
 use im_page_writer::PageWriter;
-use im_restart_analysis::Analysed;
+use im_restart_analysis::{Analysed, Change};
 use im_restart_redo::redo;
 use std::alloc::Global;
 use std::cmp::max;
@@ -97,7 +98,7 @@ fn settle<D: Disk>(
     writer: &mut PageWriter,
     disk: &mut D,
     analysed: &mut Analysed,
-    lsns: &[Lsn],
+    changes: &[Change],
     room: &mut [u8],
 ) -> Result<u64, Fault>
     requires room { 16384 ≤ length room.old }
@@ -105,11 +106,11 @@ fn settle<D: Disk>(
     requires working { writer.old.failed ≡ false }
     ensures outcome { Recovers D.Disk mild_to_take writer.old writer.new disk.new (fault_of result) }
     ensures kept { (b : Base) (base : ℕ) (all : History) → StandsAs D.Disk b base (opened b all (file_page (D.seen disk.old Pages))) writer.old disk.old → MayRestart b base all (D.seen disk.old)
-        → (least : ℕ) → IsAnalysis least all analysed.old → lsns.now ≡ lsns_from (redo_point all) all → SettleKept D.Disk b base all disk.old writer.new disk.new result }
+        → (least : ℕ) → IsAnalysis least all analysed.old → changes.now ≡ changes_from (redo_point all) all → SettleKept D.Disk b base all disk.old writer.new disk.new result }
     ensures used_up { (b : Base) (base : ℕ) (all : History) → StandsAs D.Disk b base (opened b all (file_page (D.seen disk.old Pages))) writer.old disk.old → MayRestart b base all (D.seen disk.old)
-        → (least : ℕ) → IsAnalysis least all analysed.old → lsns.now ≡ lsns_from (redo_point all) all → IfErr result (λ e. e ≡ Capacity → RunsOut b all) }
+        → (least : ℕ) → IsAnalysis least all analysed.old → changes.now ≡ changes_from (redo_point all) all → IfErr result (λ e. e ≡ Capacity → RunsOut b all) }
     ensures redoes { (b : Base) (base : ℕ) (all : History) → StandsAs D.Disk b base (opened b all (file_page (D.seen disk.old Pages))) writer.old disk.old → AreApplicable b all → LeavesNoUndo all
-        → (least : ℕ) → IsAnalysis least all analysed.old → lsns.now ≡ lsns_from (redo_point all) all → IfErr result (λ e. e ≢ NotAStore) }
+        → (least : ℕ) → IsAnalysis least all analysed.old → changes.now ≡ changes_from (redo_point all) all → IfErr result (λ e. e ≢ NotAStore) }
     ensures next { analysed.new.next ≡ analysed.old.next }
 {
     let applied = redo(
@@ -117,7 +118,7 @@ fn settle<D: Disk>(
         disk,
         analysed.redo_point,
         &analysed.copies,
-        lsns,
+        changes,
         room,
     )?;
     undo_found(alloc, writer, disk, analysed, room)?;
@@ -150,7 +151,7 @@ fn restart<D: Disk>(
     let Found {
         log,
         analysed,
-        lsns,
+        changes,
         last,
     } = found;
     let mut analysed = analysed;
@@ -158,7 +159,7 @@ fn restart<D: Disk>(
     writer.expect(synced_of(last));
     let mut room = make_room(alloc)?;
     let point = analysed.redo_point;
-    let applied = settle(alloc, &mut writer, disk, &mut analysed, &lsns, &mut room)?;
+    let applied = settle(alloc, &mut writer, disk, &mut analysed, &changes, &mut room)?;
     Ok(Restarted {
         writer,
         next: first_number(analysed.next),

@@ -1,33 +1,28 @@
 //! The log is opened, and each of its records read once.
 
-ghost use Rattle.std.specs.Prelude.{◌≡◌, ◌≢◌, ◌+◌, ◌^◌, ◌≤◌, ◌⊎◌, ◌↔◌, ◌∷◌, ℕ, [], false, true, length, List, IfErr, IfOk, OnOk};
+ghost use Rattle.std.specs.Prelude.{◌≡◌, ◌+◌, ◌^◌, ◌≤◌, ◌⊎◌, ◌↔◌, ℕ, [], false, true, length, IfErr, IfOk, IfSome, OnOk, None};
 ghost use Rattle.im_base_types.specs.declared.fault.Fault.TheVariants.{Device, Memory, NotAStore};
 ghost use Rattle.im_base_types.specs.declared.file_id.FileId.TheVariants.{Log, Pages};
-ghost use Rattle.im_base_types.specs.Records.{Unreadable};
-ghost use Rattle.im_theory_log.specs.Histories.{History, changes_page};
+ghost use Rattle.im_theory_log.specs.Histories.{History};
 ghost use Rattle.im_theory_log.specs.PageCounts.{first_count};
 ghost use Rattle.im_base_disk.specs.Disk.{Only};
 ghost use Rattle.im_base_disk.specs.Runs.{ChangesOnly, Reads};
 ghost use Rattle.im_log_gate.specs.Gate.{first_of, place_of, has_failed, StartsAs, IsReading};
 ghost use Rattle.im_log_gate.specs.Header.{least_number, StartsAlike, IsMade, IsUnmade};
-ghost use Rattle.im_log_record.specs.Entry.{view};
 ghost use Rattle.im_log.specs.Gates.{IsOfLog};
-ghost use Rattle.im_log.specs.Whats.{what_of};
-ghost use Rattle.im_log.specs.Spelled.{logged_at};
 ghost use Rattle.im_log.specs.Kept.{HasLog, IsLogOf};
 ghost use Rattle.im_log.specs.LogFile.{IsOpen};
 ghost use Rattle.im_log.specs.Opening.{IsBegun, IsOpening, HasRead};
 ghost use Rattle.im_restart_analysis.specs.Orderly.{IsOrderly, IsReadable};
-ghost use Rattle.im_restart_redo.specs.Redo.{lsns_from};
+ghost use Rattle.im_restart_analysis.specs.Changes.{AreChanges};
 ghost use Rattle.im_restart.specs.Restart.{AreTaken, IsFresh, SpellsLog};
-ghost use Rattle.im_restart.specs.Reading.{GateKept, ReadKept, OpenKept};
+ghost use Rattle.im_restart.specs.Reading.{GateKept, IsReadLog, LogKept, OpenKept, ReadKept};
 
 use crate::found::Found;
 use im_base_disk::Disk;
 use im_base_types::{Fault, FileId, Lsn, TxnId};
 use im_log::Opening;
 use im_log_gate::Gate;
-use im_log_record::Record;
 use im_restart_analysis::{Analysis, Changes};
 use std::alloc::Global;
 
@@ -56,71 +51,42 @@ fn first_gate<D: Disk>(alloc: Global, disk: &mut D) -> Result<Gate, Fault>
     }
 }
 
-// Whether a record's kind is one that changes its page.
-fn changes_page(record: &Record) -> bool
-    ensures { what_of (view record.now) ≢ Unreadable → result ≡ changes_page (what_of (view record.now)) }
-{
-    match record {
-        Record::InsertKey { .. }
-        | Record::DeleteKey { .. }
-        | Record::UndoInsert { .. }
-        | Record::UndoDelete { .. }
-        | Record::Smo { .. }
-        | Record::UndoSmo { .. } => true,
-        Record::DummyClr { .. }
-        | Record::Commit { .. }
-        | Record::End { .. }
-        | Record::Image { .. }
-        | Record::Checkpoint { .. } => false,
-    }
-}
-
-// Notes the LSN of a record that changes a page.
-fn note_change(lsns: &mut Vec<Lsn>, lsn: Lsn, record: &Record) -> Result<(), Fault>
-    ensures kept { OnOk result ((older : History) → what_of (view record.now) ≢ Unreadable → lsns.old.items ≡ lsns_from 0 older
-        → lsns.new.items ≡ lsns_from 0 (logged_at lsn (view record.now) ∷ older)) }
+// Keeps no more of the changes below the redo point than the last one of each page, where they are to be dropped.
+fn drop_changes(changes: &mut Changes, point: Lsn, drops: bool) -> Result<(), Fault>
+    ensures kept { OnOk result ((log : History) → AreChanges log changes.old → AreChanges log changes.new) }
+    ensures whole { OnOk result (drops ≡ false → changes.new.start ≡ changes.old.start) }
     ensures causes { IfErr result (λ e. e ≡ Memory) }
 {
-    if changes_page(record) {
-        match lsns.push(lsn) {
-            Ok(()) => Ok(()),
-            Err(_) => Err(Fault::Memory),
-        }
+    if drops {
+        changes.drop_below(point)
     } else {
         Ok(())
     }
 }
 
-// Those from an LSN on.
-fn since(lsns: Vec<Lsn>, point: Lsn) -> Vec<Lsn>
-    ensures { (log : History) → lsns.items ≡ lsns_from 0 log → result.items ≡ lsns_from point log }
-{
-    let mut lsns = lsns;
-    lsns.retain(|lsn| *lsn >= point);
-    lsns
-}
-
-// Reads the records, and takes each in turn. The numbers of transactions begin at the least.
+// Reads the records, and takes each in turn. The numbers of transactions begin at the least. Changes below the redo point are dropped on the
+// way, where they are to be; none is answered where one of them is wanted in the end, since a later Checkpoint moved the redo point back.
 fn read_all<D: Disk>(
     alloc: Global,
     disk: &mut D,
     opening: Opening,
     least: TxnId,
-) -> Result<Found, Fault>
+    drops: bool,
+) -> Result<Option<Found>, Fault>
     requires begun { IsBegun D.Disk opening disk.old }
     requires usable { opening.failed ≡ false }
     ensures reads { Reads D.Disk disk.old disk.new }
-    ensures ready { IfOk result (λ found. IsOpen D.Disk found.log disk.new) }
-    ensures usable { IfOk result (λ found. found.log.failed ≡ false) }
+    ensures ready { IfOk result (λ found. IfSome found (λ f. IsOpen D.Disk f.log disk.new)) }
+    ensures usable { IfOk result (λ found. IfSome found (λ f. f.log.failed ≡ false)) }
     ensures kept { (base : ℕ) (all : History) → IsOpening D.Disk base all [] opening disk.old → AreTaken first_count all → least ≡ least_number (D.seen disk.old Log) → 1 ≤ least
         → ReadKept D.Disk base all disk.new result }
     ensures spelled { IfOk result (λ _. (base : ℕ) → HasRead D.Disk base [] opening disk.old → (found : History) × HasLog base found (D.seen disk.old Log) × (IsReadable found → IsOrderly first_count found)) }
+    ensures whole { result ≡ Ok None → drops ≡ true }
     ensures causes { IfErr result (λ e. (e ≡ Memory) ⊎ (e ≡ Device) ⊎ (e ≡ NotAStore)) }
     ensures device { result ≡ Err Device ↔ (D.failed disk.new ≡ true) }
 {
     let mut opening = opening;
     let mut analysis = Analysis::new(alloc, least);
-    let mut lsns = Vec::new(alloc);
     let mut changes = Changes::new(alloc);
     loop {
         match opening.next(disk)? {
@@ -128,23 +94,77 @@ fn read_all<D: Disk>(
             Some(lsn) => {
                 let record = opening.record()?;
                 analysis.take(lsn, &record)?;
-                note_change(&mut lsns, lsn, &record)?;
                 changes.note(lsn, &record)?;
+                drop_changes(&mut changes, analysis.redo_point(), drops)?;
             }
         }
     }
     let analysed = analysis.finish();
-    let last = changes.below(alloc, analysed.redo_point)?;
-    let lsns = since(lsns, analysed.redo_point);
-    Ok(Found {
+    if !changes.reaches(analysed.redo_point) {
+        return Ok(None);
+    }
+    let (last, kept) = changes.parts(analysed.redo_point)?;
+    Ok(Some(Found {
         log: opening.finish(disk),
         analysed,
-        lsns,
+        changes: kept,
         last,
-    })
+    }))
 }
 
-/// Opens a store's log, or makes one where there is none yet, and reads its records once. Its buffer holds so many batches.
+// Opens a store's log, or makes one where there is none yet, and reads its records: none is answered as `read_all` does.
+fn read_log<D: Disk>(
+    alloc: Global,
+    disk: &mut D,
+    batches: usize,
+    drops: bool,
+) -> Result<Option<Found>, Fault>
+    requires few { (1 ≤ batches) × (batches ≤ 64) }
+    requires working { D.failed disk.old ≡ false }
+    requires durable { Only Log (D.seen disk.old) (D.may_leave disk.old) }
+    ensures ready { IfOk result (λ found. IfSome found (λ f. IsOpen D.Disk f.log disk.new)) }
+    ensures usable { IfOk result (λ found. IfSome found (λ f. f.log.failed ≡ false)) }
+    ensures kept { (base : ℕ) (all : History) → D.tells → IsLogOf base all (D.seen disk.old Log) → (IsUnmade (D.seen disk.old Log) → length (D.seen disk.old Pages) ≡ 0) → AreTaken first_count all
+        → LogKept D.Disk base all disk.old disk.new result }
+    ensures again { OnOk result (IsReadLog D.Disk disk.old disk.new) }
+    ensures spelled { IfOk result (λ _. D.tells → SpellsLog (D.seen disk.old)) }
+    ensures whole { result ≡ Ok None → drops ≡ true }
+    ensures changes { ChangesOnly D.Disk Log disk.old disk.new }
+    ensures reads { D.tells → ¬ (IsFresh (D.seen disk.old)) → Reads D.Disk disk.old disk.new }
+    ensures causes { IfErr result (λ e. (e ≡ Memory) ⊎ (e ≡ Device) ⊎ (e ≡ NotAStore)) }
+    ensures device { result ≡ Err Device ↔ (D.failed disk.new ≡ true) }
+{
+    let gate = first_gate(alloc, disk)?;
+    let least = gate.least_number();
+    let opening = Opening::start(alloc, gate, batches)?;
+    read_all(alloc, disk, opening, least, drops)
+}
+
+// The same with each change kept until all records were read.
+fn read_whole<D: Disk>(alloc: Global, disk: &mut D, batches: usize) -> Result<Found, Fault>
+    requires few { (1 ≤ batches) × (batches ≤ 64) }
+    requires working { D.failed disk.old ≡ false }
+    requires durable { Only Log (D.seen disk.old) (D.may_leave disk.old) }
+    ensures ready { IfOk result (λ found. IsOpen D.Disk found.log disk.new) }
+    ensures usable { IfOk result (λ found. found.log.failed ≡ false) }
+    ensures kept { (base : ℕ) (all : History) → D.tells → IsLogOf base all (D.seen disk.old Log) → (IsUnmade (D.seen disk.old Log) → length (D.seen disk.old Pages) ≡ 0) → AreTaken first_count all
+        → OpenKept D.Disk base all disk.old disk.new result }
+    ensures spelled { IfOk result (λ _. D.tells → SpellsLog (D.seen disk.old)) }
+    ensures alike { IfOk result (λ _. D.tells → StartsAlike (D.seen disk.old Log) (D.seen disk.new Log)) }
+    ensures changes { ChangesOnly D.Disk Log disk.old disk.new }
+    ensures store { IfOk result (λ _. D.tells → IsFresh (D.seen disk.old) ⊎ IsMade (D.seen disk.old Log)) }
+    ensures reads { D.tells → ¬ (IsFresh (D.seen disk.old)) → Reads D.Disk disk.old disk.new }
+    ensures causes { IfErr result (λ e. (e ≡ Memory) ⊎ (e ≡ Device) ⊎ (e ≡ NotAStore)) }
+    ensures device { result ≡ Err Device ↔ (D.failed disk.new ≡ true) }
+{
+    match read_log(alloc, disk, batches, false)? {
+        Some(found) => Ok(found),
+        None => Err(Fault::NotAStore),
+    }
+}
+
+/// Opens a store's log, or makes one where there is none yet, and reads its records once; where a Checkpoint moved the redo point back, which
+/// none does that this store takes, once more. Its buffer holds so many batches.
 ///
 /// Refused `NotAStore` where the bytes are no log, a structure change opens beside another's, a record leads to a later one or names a page
 /// that no page count before it has, or there are pages without a log;
@@ -165,8 +185,8 @@ pub(crate) fn open_log<D: Disk>(alloc: Global, disk: &mut D, batches: usize) -> 
     ensures causes { IfErr result (λ e. (e ≡ Memory) ⊎ (e ≡ Device) ⊎ (e ≡ NotAStore)) }
     ensures device { result ≡ Err Device ↔ (D.failed disk.new ≡ true) }
 {
-    let gate = first_gate(alloc, disk)?;
-    let least = gate.least_number();
-    let opening = Opening::start(alloc, gate, batches)?;
-    read_all(alloc, disk, opening, least)
+    match read_log(alloc, disk, batches, true)? {
+        Some(found) => Ok(found),
+        None => read_whole(alloc, disk, batches),
+    }
 }

@@ -1,5 +1,5 @@
--- The changes of pages that the records of a log made, and the last one of each page below a redo point.
-use Rattle.std.specs.Prelude.{◌≡◌, ◌≤◌, ◌<◌, ℕ, true, All, List, Option, Some}
+-- The changes of pages that the records of a log made: each from an LSN on, and the last one of each page below it.
+use Rattle.std.specs.Prelude.{◌≡◌, ◌≤◌, ◌<◌, ◌==◌, ◌&&◌, ℕ, nat_le, true, if◌then◌else◌, List, [], ◌∷◌, ◌++◌, Option, Some}
 use Rattle.std.specs.Ordering.{nat_cmp}
 use Rattle.std.specs.BTreeMap.{BTreeMap, get}
 use Rattle.im_base_types.specs.Records.{Logged}
@@ -22,10 +22,14 @@ pub record IsChange (log : History) (x : Change) : Type 0 where
   pub lsn : logged.lsn ≡ x.lsn
   pub says : 1 ≤ x.said → (x.page ≡ 0) × (count_in logged.what ≡ x.said)
 
--- Each is a change that a record of the log made, and the pages that records name are below this number.
-pub record AreChanges (log : History) (c : Changes) : Type 0 where
-  pub all : All (IsChange log) c.all.items
-  pub named : c.named ≡ named_to log
+-- what is kept of a record that changes a page
+abbrev pub change_of : Logged → Change
+change_of r = record { page = r.page; said = (if r.page == 0 then count_in r.what else 0); lsn = r.lsn }
+
+-- the changes that the records from a point on made, the oldest first
+abbrev pub changes_from : ℕ → History → List Change
+changes_from point [] = []
+changes_from point (r ∷ older) = if nat_le point r.lsn && changes_page r.what then changes_from point older ++ change_of r ∷ [] else changes_from point older
 
 -- A record of the log below the redo point changed the page, at this LSN; and where the page is page 0 and a page count is said, it says that.
 pub record IsChangedAt (log : History) (point : ℕ) (count : Option ℕ) (p l : ℕ) : Type 0 where
@@ -40,6 +44,12 @@ pub record IsChangedAt (log : History) (point : ℕ) (count : Option ℕ) (p l :
 -- each LSN is that of such a record
 abbrev pub AreChangedAt : History → ℕ → Option ℕ → LastMap → Type 0
 AreChangedAt log point count lsns = (p l : ℕ) → get nat_cmp lsns p ≡ Some l → IsChangedAt log point count p l
+
+-- From its start on each change of the log is kept, and below it LSNs at which records changed pages; the pages that records name are below this number.
+pub record AreChanges (log : History) (c : Changes) : Type 0 where
+  pub all : c.all.items ≡ changes_from c.start log
+  pub lsns : AreChangedAt log c.start c.count c.lsns
+  pub named : c.named ≡ named_to log
 
 -- Each LSN is that of a record below the redo point that changed the page.
 pub record AreLastBelow (log : History) (point : ℕ) (last : LastChanges) : Type 0 where

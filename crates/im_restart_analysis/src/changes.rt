@@ -1,6 +1,6 @@
 //! The changes of pages that the records so far made.
 
-ghost use Rattle.std.specs.Prelude.{◌≡◌, ◌≢◌, ◌≤◌, ◌+◌, ◌∷◌, ℕ, [], All, max, true, false, if◌then◌else◌, IfErr, IfOk, OnOk, None, Some};
+ghost use Rattle.std.specs.Prelude.{◌≡◌, ◌≢◌, ◌≤◌, ◌+◌, ◌∷◌, ◌&&◌, ◌↔◌, ℕ, [], All, max, nat_le, true, false, if◌then◌else◌, IfErr, IfOk, OnOk, None, Some};
 ghost use Rattle.im_base_types.specs.declared.fault.Fault.TheVariants.{Memory};
 ghost use Rattle.im_base_types.specs.Records.{Unreadable};
 ghost use Rattle.im_theory_log.specs.Histories.{History, changes_page};
@@ -8,7 +8,7 @@ ghost use Rattle.im_theory_log.specs.PageCounts.{named_to, names_page};
 ghost use Rattle.im_log_record.specs.Entry.{view};
 ghost use Rattle.im_log.specs.Spelled.{logged_at};
 ghost use Rattle.im_log.specs.Whats.{what_of};
-ghost use Rattle.im_restart_analysis.specs.Changes.{AreChangedAt, AreChanges, AreLastBelow, IsChange};
+ghost use Rattle.im_restart_analysis.specs.Changes.{AreChangedAt, AreChanges, AreLastBelow, IsChange, changes_from};
 
 use crate::page_counts::said_count;
 use im_base_types::{Fault, Lsn, PageNo};
@@ -19,17 +19,25 @@ use std::collections::BTreeMap;
 
 /// A record that changed a page.
 #[derive(Clone, Copy, Debug, PartialEq, Eq)]
-pub(crate) struct Change {
+pub struct Change {
     pub page: PageNo,
     /// The page count that it says, where it is one of page 0 that says one; else 0.
     pub said: PageNo,
     pub lsn: Lsn,
 }
 
-/// The changes of pages that the records so far made, 16 bytes for each, and the pages that records name.
+/// The changes of pages that the records so far made, and the pages that records name. From an LSN on each change is kept, in 16 bytes;
+/// below it only the last one of each page.
 #[derive(Drop)]
 pub struct Changes {
+    /// That LSN.
+    start: Lsn,
+    /// The changes from there on, the oldest first.
     all: Vec<Change>,
+    /// For each page that a record below it changed, the LSN of the last one.
+    lsns: BTreeMap<PageNo, Lsn>,
+    /// The page count that page 0 says after its own, where that record says one.
+    count: Option<PageNo>,
     named: u64,
 }
 
@@ -115,30 +123,41 @@ fn enter(
     }
 }
 
-// The last one of each page, of the changes below a redo point, the oldest first; and the page count that page 0 says after its own.
-fn last_of(
-    alloc: Global,
+// Enters those of some changes that are below the redo point, the oldest first. It answers the page count that page 0 says then.
+fn enter_all(
+    lsns: &mut BTreeMap<PageNo, Lsn>,
+    count: Option<PageNo>,
     changes: &[Change],
     point: Lsn,
-) -> Result<(BTreeMap<PageNo, Lsn>, Option<PageNo>), Fault>
-    ensures kept { IfOk result (λ last. (log : History) → All (IsChange log) changes.now → AreChangedAt log point last.1 last.0) }
+) -> Result<Option<PageNo>, Fault>
+    ensures kept { IfOk result (λ said. (log : History) → All (IsChange log) changes.now → AreChangedAt log point count lsns.old → AreChangedAt log point said lsns.new) }
     ensures causes { IfErr result (λ e. e ≡ Memory) }
 {
-    let mut lsns = BTreeMap::new(alloc);
-    let mut count = None;
+    let mut said = count;
     for change in changes {
-        count = enter(&mut lsns, count, change, point)?;
+        said = enter(lsns, said, change, point)?;
     }
-    Ok((lsns, count))
+    Ok(said)
+}
+
+// Whether a record stands at an LSN or after it, and changes its page.
+fn changes_since(start: Lsn, lsn: Lsn, record: &Record) -> bool
+    ensures { what_of (view record.now) ≢ Unreadable → result ≡ (nat_le start lsn && changes_page (what_of (view record.now))) }
+{
+    start <= lsn && changes_page(record)
 }
 
 impl Changes {
     /// Before the first record.
     pub fn new(alloc: Global) -> Self
-        ensures { AreChanges [] result }
+        ensures none { AreChanges [] result }
+        ensures start { result.start ≡ 0 }
     {
         Changes {
+            start: 0,
             all: Vec::new(alloc),
+            lsns: BTreeMap::new(alloc),
+            count: None,
             named: 0,
         }
     }
@@ -146,10 +165,11 @@ impl Changes {
     /// Notes what a record changes and names. Refused `Memory`.
     pub fn note(&mut self, lsn: Lsn, record: &Record) -> Result<(), Fault>
         ensures kept { OnOk result ((older : History) → what_of (view record.now) ≢ Unreadable → AreChanges older self.old → AreChanges (logged_at lsn (view record.now) ∷ older) self.new) }
+        ensures start { self.new.start ≡ self.old.start }
         ensures causes { IfErr result (λ e. e ≡ Memory) }
     {
         self.named = max(self.named, above_named(record));
-        if !changes_page(record) {
+        if !changes_since(self.start, lsn, record) {
             return Ok(());
         }
         let change = Change {
@@ -163,16 +183,43 @@ impl Changes {
         }
     }
 
-    /// The last changes below a redo point. Refused `Memory`.
-    pub fn below(self, alloc: Global, point: Lsn) -> Result<LastChanges, Fault>
-        ensures kept { IfOk result (λ last. (log : History) → AreChanges log self → AreLastBelow log point last) }
+    /// Keeps of the changes below an LSN only the last one of each page. Refused `Memory`, and what is kept then is not said.
+    pub fn drop_below(&mut self, point: Lsn) -> Result<(), Fault>
+        ensures kept { OnOk result ((log : History) → AreChanges log self.old → AreChanges log self.new) }
+        ensures start { OnOk result (self.new.start ≡ max self.old.start point) }
         ensures causes { IfErr result (λ e. e ≡ Memory) }
     {
-        let (lsns, count) = last_of(alloc, &self.all, point)?;
-        Ok(LastChanges {
+        if point <= self.start {
+            return Ok(());
+        }
+        self.count = enter_all(&mut self.lsns, self.count, &self.all, point)?;
+        self.all.retain(|change| change.lsn >= point);
+        self.start = point;
+        Ok(())
+    }
+
+    /// Whether each change from an LSN on is kept.
+    pub fn reaches(&self, point: Lsn) -> bool
+        ensures { result ≡ true ↔ self.now.start ≤ point }
+    {
+        self.start <= point
+    }
+
+    /// The last change of each page below a redo point, and the changes from there on, the oldest first, where each of these is kept.
+    /// Refused `Memory`.
+    pub fn parts(self, point: Lsn) -> Result<(LastChanges, Vec<Change>), Fault>
+        ensures kept { self.start ≤ point → IfOk result (λ parts. (log : History) → AreChanges log self → AreLastBelow log point parts.0 × (parts.1.items ≡ changes_from point log)) }
+        ensures causes { IfErr result (λ e. e ≡ Memory) }
+    {
+        let mut changes = self;
+        changes.drop_below(point)?;
+        let Changes {
+            all,
             lsns,
             count,
-            named: self.named,
-        })
+            named,
+            ..
+        } = changes;
+        Ok((LastChanges { lsns, count, named }, all))
     }
 }

@@ -31,6 +31,6 @@ mod rows;
 mod undo_steps;
 
 pub use analysis::{Analysed, Analysis};
-pub use changes::{Changes, LastChanges};
+pub use changes::{Change, Changes, LastChanges};
 pub use rows::{Loser, OpenRecord};
 pub use undo_steps::{is_key_record, undo_next_after};

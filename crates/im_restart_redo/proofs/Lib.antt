@@ -1,5 +1,6 @@
 pub mod Applicable
 pub mod Applying
+pub mod ChangeLsns
 pub mod Loading
 pub mod Counting
 pub mod Passing

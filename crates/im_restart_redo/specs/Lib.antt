@@ -1,4 +1,5 @@
 pub mod Applying
+pub mod Changes
 pub mod Loading
 pub mod Recovery
 pub mod Redo

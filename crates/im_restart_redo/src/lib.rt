@@ -4,7 +4,7 @@
 //!
 //! Analysis (`im_restart_analysis`) says from which LSN on records may be lacking in the file of pages, the redo point, and where the last
 //! full copy of each page stands at or after it. `redo` is handed both, the LSNs of the records from the redo point on that change
-//! a page, and a writer of pages (`im_page_writer`) over the log that was just opened:
+//! a page, each with that page, and a writer of pages (`im_page_writer`) over the log that was just opened:
 //!
 //! 1. Each page with a noted copy is loaded from that copy, in rising page number, and never from the file, whose bytes a stop may
 //!    have torn. It counts as changed from the redo point on. All copies are loaded before the first record is applied: no write

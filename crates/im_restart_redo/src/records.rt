@@ -12,6 +12,7 @@ ghost use Rattle.im_page_writer.specs.PageWriter.{IsReadyWriter};
 ghost use Rattle.im_restart_redo.specs.Redo.{AreApplicable};
 ghost use Rattle.im_restart_redo.specs.Recovery.{Recovers};
 ghost use Rattle.im_restart_redo.specs.Applying.{IsApplying, AppliedKept, ApplyingKept};
+ghost use Rattle.im_restart_redo.specs.Changes.{lsns_of};
 ghost use Rattle.im_restart_redo.specs.Window.{Shows};
 
 use crate::window::Window;
@@ -19,6 +20,7 @@ use im_base_disk::Disk;
 use im_base_types::{Fault, Lsn, PageNo};
 use im_log_record::decode;
 use im_page_writer::PageWriter;
+use im_restart_analysis::Change;
 use std::collections::BTreeMap;
 
 // Whether a copy of a page is noted.
@@ -66,13 +68,13 @@ fn counted(count: u64, applied: bool) -> u64
     if applied { count + 1 } else { count }
 }
 
-/// Applies the records at these LSNs in turn, and answers how many pages took theirs.
+/// Applies the records that made these changes in turn, and answers how many pages took theirs.
 pub(crate) fn redo_all<D: Disk>(
     writer: &mut PageWriter,
     disk: &mut D,
     point: Lsn,
     copies: &BTreeMap<PageNo, Lsn>,
-    lsns: &[Lsn],
+    changes: &[Change],
     room: &mut [u8],
 ) -> Result<u64, Fault>
     requires room { 16384 ≤ length room.old }
@@ -80,13 +82,13 @@ pub(crate) fn redo_all<D: Disk>(
     requires working { writer.old.failed ≡ false }
     ensures outcome { Recovers D.Disk mild writer.old writer.new disk.new (fault_of result) }
     ensures room { length room.new ≡ length room.old }
-    ensures kept { (b : Base) (base : ℕ) (begun : History) (file : ℕ → Option Page) (from : D) → IsApplying D.Disk b base begun file lsns.now 0 from writer.old disk.old
+    ensures kept { (b : Base) (base : ℕ) (begun : History) (file : ℕ → Option Page) (from : D) → IsApplying D.Disk b base begun file (lsns_of changes.now) 0 from writer.old disk.old
         → AreApplicable b begun → point ≡ redo_point begun → AreCopies point copies.now begun → ApplyingKept D.Disk b base begun file from writer.new disk.new result }
 {
     let mut count = 0;
     let mut window = Window::empty();
-    for lsn in lsns {
-        let applied = redo_one(writer, disk, point, copies, *lsn, &mut window, room)?;
+    for change in changes {
+        let applied = redo_one(writer, disk, point, copies, change.lsn, &mut window, room)?;
         count = counted(count, applied);
     }
     Ok(count)

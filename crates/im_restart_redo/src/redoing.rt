@@ -5,23 +5,25 @@ ghost use Rattle.im_base_types.specs.Pages.{Page};
 ghost use Rattle.im_theory_log.specs.Histories.{Base, History};
 ghost use Rattle.im_theory_log.specs.RedoPoints.{redo_point};
 ghost use Rattle.im_theory_log.specs.WriterSteps.{opened};
+ghost use Rattle.im_restart_analysis.specs.Changes.{changes_from};
 ghost use Rattle.im_restart_analysis.specs.CopyLsns.{AreCopies};
 ghost use Rattle.im_page_writer.specs.Outcome.{fault_of, mild};
 ghost use Rattle.im_page_writer.specs.PageWriter.{IsReadyWriter, StandsAs};
 ghost use Rattle.im_restart_redo.specs.Recovery.{Recovers};
-ghost use Rattle.im_restart_redo.specs.Redo.{AreApplicable, lsns_from, RedoneKept};
+ghost use Rattle.im_restart_redo.specs.Redo.{AreApplicable, RedoneKept};
 
 use crate::copies::load_all;
 use crate::records::redo_all;
 use im_base_disk::Disk;
 use im_base_types::{Fault, Lsn, PageNo};
 use im_page_writer::PageWriter;
+use im_restart_analysis::Change;
 use std::collections::BTreeMap;
 
 /// Brings the pages of a writer that was just opened to what the whole durable log made of them: the noted copies are loaded in
 /// rising page number, and then the records that change a page, from the redo point on, are applied to their pages in turn, by
-/// LSN. `copies` has the LSN of each noted copy, and `lsns` those of the records. Records are read again into `room`, of 16,384 bytes
-/// at least. It answers how many records were applied: those that change a page whose LSN was lower than theirs as redo first had it.
+/// LSN. `copies` has the LSN of each noted copy, and `changes` those of the records, each with its page. Records are read again into `room`,
+/// of 16,384 bytes at least. It answers how many records were applied: those that change a page whose LSN was lower than theirs as redo first had it.
 ///
 /// Refused `NotAStore` where a page does not take its record or no such record stands there, otherwise as the writer's `get` is.
 /// After a refusal redo is not over: the store is to be opened again.
@@ -30,7 +32,7 @@ pub fn redo<D: Disk>(
     disk: &mut D,
     point: Lsn,
     copies: &BTreeMap<PageNo, Lsn>,
-    lsns: &[Lsn],
+    changes: &[Change],
     room: &mut [u8],
 ) -> Result<u64, Fault>
     requires room { 16384 ≤ length room.old }
@@ -38,12 +40,12 @@ pub fn redo<D: Disk>(
     ensures outcome { Recovers D.Disk mild writer.old writer.new disk.new (fault_of result) }
     ensures room { length room.new ≡ length room.old }
     ensures kept { (b : Base) (base : ℕ) (begun : History) (file : ℕ → Option Page) → StandsAs D.Disk b base (opened b begun file) writer.old disk.old
-        → AreApplicable b begun → point ≡ redo_point begun → AreCopies point copies.now begun → lsns.now ≡ lsns_from point begun
+        → AreApplicable b begun → point ≡ redo_point begun → AreCopies point copies.now begun → changes.now ≡ changes_from point begun
         → RedoneKept D.Disk b base begun file disk.old writer.new disk.new result }
 {
     if writer.has_failed() {
         return Err(Fault::Failed);
     }
     load_all(writer, disk, point, copies, room)?;
-    redo_all(writer, disk, point, copies, lsns, room)
+    redo_all(writer, disk, point, copies, changes, room)
 }

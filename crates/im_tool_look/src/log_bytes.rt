@@ -159,8 +159,8 @@ pub fn read_log<F: Files>(alloc: Global, files: &mut F) -> Result<Survey, LogDam
         }
     }
     let analysed = analysis.finish();
-    match changes.below(alloc, analysed.redo_point) {
-        Ok(last) => Ok(Survey {
+    match changes.parts(analysed.redo_point) {
+        Ok((last, _)) => Ok(Survey {
             end: gate,
             batches: counts.batches,
             records: counts.records,

@@ -40,7 +40,7 @@ returns-in_err-applied-clause-kept g c b base all may pages is =
     let w = c.in_ok-writer in
     let synced = synced_as all (redo_point all) c.args.found.last c.synced_of.result c.synced_of.ensures.lsns c.synced_of.ensures.count is.last in
     let stands = writer_starts d b base all c.args.found.log w.writer c.expect.new.self c.synced_of.result c.args.frames c.args.disk.now may.start (rises b page_tree all may.lawful) may.has.covers pages c.requires.ready is.log c.expect.ensures w.ensures.log w.ensures.pool w.ensures.table w.ensures.failed w.ensures.known synced in
-    let k = c.in_err-applied.ensures.kept b base all stands may (least_number (d.seen c.args.disk.now Log)) is.analysis (c.deref.ensures.value ∙ is.lsns) in
+    let k = c.in_err-applied.ensures.kept b base all stands may (least_number (d.seen c.args.disk.now Log)) is.analysis (c.deref.ensures.value ∙ is.changes) in
     record { sound = sound_on c.from_residual-in_err-applied.result _ _ c.from_residual-in_err-applied.ensures.1 k.sound; stops = k.stops }
 
 pub returns-clause-kept : goal.returns-clause-kept
@@ -49,7 +49,7 @@ returns-clause-kept g c b base all may pages is =
     let w = c.in_ok-writer in
     let synced = synced_as all (redo_point all) c.args.found.last c.synced_of.result c.synced_of.ensures.lsns c.synced_of.ensures.count is.last in
     let stands = writer_starts d b base all c.args.found.log w.writer c.expect.new.self c.synced_of.result c.args.frames c.args.disk.now may.start (rises b page_tree all may.lawful) may.has.covers pages c.requires.ready is.log c.expect.ensures w.ensures.log w.ensures.pool w.ensures.table w.ensures.failed w.ensures.known synced in
-    let k = c.in_ok-applied.ensures.kept b base all stands may (least_number (d.seen c.args.disk.now Log)) is.analysis (c.deref.ensures.value ∙ is.lsns) in
+    let k = c.in_ok-applied.ensures.kept b base all stands may (least_number (d.seen c.args.disk.now Log)) is.analysis (c.deref.ensures.value ∙ is.changes) in
     let lowest = least_number (d.seen c.args.disk.now Log) in
     let least = next_least lowest c.args.found.analysed.next all is.numbers is.analysis.next in
     let same : c.first_number.result ≡ c.args.found.analysed.next = c.first_number.ensures.same (subst (λ n. 1 ≤ n) (sym c.in_ok-applied.ensures.next) least) ∙ c.in_ok-applied.ensures.next in
@@ -72,7 +72,7 @@ returns-in_err-applied-clause-redoes g c b base all may pages is =
     let w = c.in_ok-writer in
     let synced = synced_as all (redo_point all) c.args.found.last c.synced_of.result c.synced_of.ensures.lsns c.synced_of.ensures.count is.last in
     let stands = writer_starts d b base all c.args.found.log w.writer c.expect.new.self c.synced_of.result c.args.frames c.args.disk.now may.start may.rises may.has.covers pages c.requires.ready is.log c.expect.ensures w.ensures.log w.ensures.pool w.ensures.table w.ensures.failed w.ensures.known synced in
-    let other = c.in_err-applied.ensures.redoes b base all stands may.can may.done (least_number (d.seen c.args.disk.now Log)) is.analysis (c.deref.ensures.value ∙ is.lsns) in
+    let other = c.in_err-applied.ensures.redoes b base all stands may.can may.done (least_number (d.seen c.args.disk.now Log)) is.analysis (c.deref.ensures.value ∙ is.changes) in
     err_on c.from_residual-in_err-applied.result c.in_err-applied.field-0.0 (λ e. e ≢ NotAStore) c.from_residual-in_err-applied.ensures.1 other
 
 pub returns-in_err-writer-clause-outcome : goal.returns-in_err-writer-clause-outcome
@@ -107,4 +107,4 @@ returns-in_err-applied-clause-used_up g c b base all may pages is =
     let synced = synced_as all (redo_point all) c.args.found.last c.synced_of.result c.synced_of.ensures.lsns c.synced_of.ensures.count is.last in
     let stands = writer_starts d b base all c.args.found.log w.writer c.expect.new.self c.synced_of.result c.args.frames c.args.disk.now may.start (rises b page_tree all may.lawful) may.has.covers pages c.requires.ready is.log c.expect.ensures w.ensures.log w.ensures.pool w.ensures.table w.ensures.failed w.ensures.known synced in
     err_on c.from_residual-in_err-applied.result c.in_err-applied.field-0.0 (λ e. e ≡ Capacity → RunsOut b all) c.from_residual-in_err-applied.ensures.1
-    (c.in_err-applied.ensures.used_up b base all stands may (least_number (d.seen c.args.disk.now Log)) is.analysis (c.deref.ensures.value ∙ is.lsns))
+    (c.in_err-applied.ensures.used_up b base all stands may (least_number (d.seen c.args.disk.now Log)) is.analysis (c.deref.ensures.value ∙ is.changes))

@@ -1,55 +1,44 @@
-use Rattle.std.proofs.Common.{rules, ◌≡◌, ◌≢◌, refl, sym, ◌∙◌, subst}
-use Rattle.im_base_types.specs.declared.fault.Fault.TheVariants.{Memory, NotAStore}
+use Rattle.std.proofs.Common.{rules, Option, IfSome, subst}
+use Rattle.im_base_disk.proofs.Runs.{changes_then}
 use Rattle.im_base_types.specs.declared.file_id.FileId.TheVariants.{Log}
-use Rattle.im_base_disk.specs.Disk.{Files}
-use Rattle.im_log_gate.specs.Header.{base_of, StartsAlike}
-use Rattle.im_base_disk.proofs.Runs.{reads_on, reads_then}
-use Rattle.im_log.proofs.Backward.{read_none}
-use Rattle.im_log.proofs.Openings.{begun_start, started}
-use Rattle.im_restart.proofs.Openings.{holds_if_ok, spelled_so}
+use Rattle.im_restart.specs.declared.found.Found.{Found}
+use Rattle.im_restart.specs.Reading.{IsFound}
+use Rattle.im_restart.proofs.Openings.{alike_again, holds_if_ok, kept_again, of_read, reads_again, spelled_again}
 use Rattle.im_restart.proofs.reading.open_log.Goals as goal
 
-pub returns-in_err-gate-clause-kept : goal.returns-in_err-gate-clause-kept
-returns-in_err-gate-clause-kept g c base all told is bare taken =
-    let k = c.in_err-gate.ensures.kept base all told is bare in
-    let other : c.in_err-gate.field-0.0 ≢ NotAStore = k.cause in
-    record { ok = search rules; stops = k.stops; cause = search (rules, other) }
+pub returns-in_err-found-clause-kept : goal.returns-in_err-found-clause-kept
+returns-in_err-found-clause-kept g c base all told is bare taken =
+    let k = c.in_err-found.ensures.kept base all told is bare taken in
+    record { ok = search rules; stops = k.stops; cause = search (rules, k.cause) }
 
-pub returns-in_err-opening-clause-kept : goal.returns-in_err-opening-clause-kept
-returns-in_err-opening-clause-kept g c base all told is bare taken =
-    let k = c.in_ok-gate.ensures.kept base all told is bare in
-    let cause : c.in_err-opening.field-0.0 ≡ Memory = c.in_err-opening.ensures.causes in
-    let other : c.in_err-opening.field-0.0 ≢ NotAStore = λ e. (let clash : Memory ≡ NotAStore = sym cause ∙ e in cc clash) in
-    record { ok = search rules; stops = k.stops; cause = search (rules, other) }
+pub returns-in-Some-clause-kept : goal.returns-in-Some-clause-kept
+returns-in-Some-clause-kept g c base all told is bare taken =
+    let k = c.in_ok-found.ensures.kept base all told is bare taken in
+    record { ok = subst (λ (o : Option Found). IfSome o (λ f. IsFound g.D.Disk base all f c.read_log.new.disk)) c.in-Some.is k.ok.1; stops = k.stops; cause = search rules }
 
-pub returns-clause-kept : goal.returns-clause-kept
-returns-clause-kept g c base all told is bare taken =
-    let k = c.in_ok-gate.ensures.kept base all told is bare in
-    let start = started g.D.Disk base all c.in_ok-gate.gate c.in_ok-opening.opening c.first_gate.new.disk c.in_ok-gate.ensures.of_log (c.in_ok-gate.ensures.starts told) c.in_ok-gate.ensures.place told k.ok c.in_ok-opening.ensures.opening in
-    let number = c.least_number-least.ensures.number ∙ (c.in_ok-gate.ensures.starts told).least in
-    let r = c.read_all.ensures.kept base all start taken number c.least_number-least.ensures.least in
-    record { ok = r.ok; stops = reads_on g.D.Disk c.args.disk.now c.first_gate.new.disk c.read_all.new.disk _ k.stops c.read_all.ensures.reads; cause = r.cause }
+pub returns-in-Some-clause-alike : goal.returns-in-Some-clause-alike
+returns-in-Some-clause-alike g c = c.in_ok-found.ensures.again.alike
 
-pub returns-clause-store : goal.returns-clause-store
-returns-clause-store g c = holds_if_ok c.read_all.result c.in_ok-gate.ensures.store
+pub returns-in-Some-clause-store : goal.returns-in-Some-clause-store
+returns-in-Some-clause-store g c = c.in_ok-found.ensures.again.store
 
-pub returns-clause-reads : goal.returns-clause-reads
-returns-clause-reads g c told known = reads_then g.D.Disk c.args.disk.now c.first_gate.new.disk c.read_all.new.disk (c.in_ok-gate.ensures.reads told known) c.read_all.ensures.reads
+pub returns-in-None-clause-kept : goal.returns-in-None-clause-kept
+returns-in-None-clause-kept g c base all told is bare taken =
+    let k = c.in_ok-found.ensures.kept base all told is bare taken in
+    let now = of_read g.D.Disk base all c.args.disk.now c.read_log.new.disk c.read_whole.new.disk k.ok.0 in
+    kept_again g.D.Disk base all c.args.disk.now c.read_log.new.disk c.read_whole.new.disk c.read_whole.result k.stops c.in_ok-found.ensures.changes (c.read_whole.ensures.kept base all told now.0 now.1 taken)
 
-pub returns-clause-spelled : goal.returns-clause-spelled
-returns-clause-spelled g c =
-    let gate = c.in_ok-gate.ensures in
-    spelled_so g.D.Disk c.args.disk.now c.first_gate.new.disk c.in_ok-opening.opening c.read_all.result gate.store gate.reads
-    (λ told.
-    read_none g.D.Disk (base_of (g.D.Disk.seen c.first_gate.new.disk Log)) c.in_ok-gate.gate c.in_ok-opening.opening c.first_gate.new.disk gate.of_log (gate.starts told) refl gate.place told (gate.made told) c.in_ok-opening.ensures.opening)
-    c.read_all.ensures.spelled
+pub returns-in-None-clause-spelled : goal.returns-in-None-clause-spelled
+returns-in-None-clause-spelled g c = spelled_again g.D.Disk c.args.disk.now c.read_log.new.disk c.read_whole.new.disk c.in_ok-found.ensures.again c.in_ok-found.ensures.reads c.read_whole.result c.read_whole.ensures.spelled
 
-pub returns-clause-alike : goal.returns-clause-alike
-returns-clause-alike g c =
-    let seen = c.read_all.ensures.reads.seen in
-    holds_if_ok c.read_all.result (λ told. subst (λ (f : Files). StartsAlike (g.D.Disk.seen c.args.disk.now Log) (f Log)) (sym seen) (c.in_ok-gate.ensures.alike told))
+pub returns-in-None-clause-alike : goal.returns-in-None-clause-alike
+returns-in-None-clause-alike g c = alike_again g.D.Disk c.args.disk.now c.read_log.new.disk c.read_whole.new.disk c.in_ok-found.ensures.again c.in_ok-found.ensures.reads c.read_whole.result c.read_whole.ensures.alike
 
-pub read_all-requires-clause-begun : goal.read_all-requires-clause-begun
-read_all-requires-clause-begun g c =
-    let gate = c.in_ok-gate.ensures in
-    begun_start g.D.Disk c.in_ok-gate.gate c.in_ok-opening.opening c.first_gate.new.disk gate.starts gate.usable gate.reading c.in_ok-opening.ensures.opening
+pub returns-in-None-clause-changes : goal.returns-in-None-clause-changes
+returns-in-None-clause-changes g c = changes_then g.D.Disk Log c.args.disk.now c.read_log.new.disk c.read_whole.new.disk c.in_ok-found.ensures.changes c.read_whole.ensures.changes
+
+pub returns-in-None-clause-store : goal.returns-in-None-clause-store
+returns-in-None-clause-store g c = holds_if_ok c.read_whole.result c.in_ok-found.ensures.again.store
+
+pub returns-in-None-clause-reads : goal.returns-in-None-clause-reads
+returns-in-None-clause-reads g c = reads_again g.D.Disk c.args.disk.now c.read_log.new.disk c.read_whole.new.disk c.in_ok-found.ensures.again c.in_ok-found.ensures.reads c.read_whole.ensures.reads

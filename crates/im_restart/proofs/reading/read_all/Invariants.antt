@@ -8,7 +8,6 @@ use Rattle.im_log_gate.specs.Header.{least_number}
 use Rattle.im_restart_analysis.specs.Analysis.{IsAnalysed}
 use Rattle.im_restart_analysis.specs.Changes.{AreChanges}
 use Rattle.im_restart_analysis.specs.Orderly.{IsOrderly, IsReadable, Knows}
-use Rattle.im_restart_redo.specs.Redo.{lsns_from}
 use Rattle.im_restart.specs.Restart.{AreTaken}
 use Rattle.im_restart.proofs.reading.read_all.Given as goal
 
@@ -17,8 +16,9 @@ invariant-loop-changes g l = record {
   begun : IsBegun g.D.Disk l.opening l.disk;
   reads : Reads g.D.Disk l.fn.disk l.disk;
   working : l.opening.failed ≡ false;
+  whole : l.fn.drops ≡ false → l.changes.start ≡ 0;
   kept : (base : ℕ) (all : History) → IsOpening g.D.Disk base all [] l.fn.opening l.fn.disk → AreTaken first_count all → l.fn.least ≡ least_number (g.D.Disk.seen l.fn.disk Log) → 1 ≤ l.fn.least
-      → (older : History) × IsOpening g.D.Disk base all older l.opening l.disk × IsAnalysed l.fn.least first_count older l.analysis × (l.lsns.items ≡ lsns_from 0 older) × AreChanges older l.changes;
+      → (older : History) × IsOpening g.D.Disk base all older l.opening l.disk × IsAnalysed l.fn.least first_count older l.analysis × AreChanges older l.changes;
   back : (base : ℕ) → HasRead g.D.Disk base [] l.fn.opening l.fn.disk
       → (older : History) × HasRead g.D.Disk base older l.opening l.disk × (IsReadable older → IsOrderly first_count older × Knows first_count older l.analysis);
 }

@@ -1,8 +1,11 @@
 use Rattle.std.proofs.Common.{rules, ℕ, List, ◌∷◌, ◌+◌, ◌≡◌, ◌≤◌, drop, length, get_or, Bool, true, false, arith, sym, subst, refl}
 use Rattle.std.specs.Prelude.{if◌then◌else◌}
 use Rattle.std.proofs.Math.ListN.{drop_of_length-le}
-use Rattle.std.proofs.lemmas.List.{drop_more}
+use Rattle.std.proofs.lemmas.List.{length-map}
+use Rattle.im_restart_analysis.specs.declared.changes.Change.{Change}
 use Rattle.im_restart_redo.specs.Applying.{IsApplying}
+use Rattle.im_restart_redo.specs.Changes.{lsns_of}
+use Rattle.im_restart_redo.proofs.ChangeLsns.{next_lsn}
 use Rattle.im_page_writer.proofs.Outcomes.{sound_on}
 use Rattle.im_restart_redo.proofs.Recoveries.{moved, recovers_then, recovery_refused}
 use Rattle.im_restart_redo.proofs.Within.{leaves_now}
@@ -12,21 +15,21 @@ few_more : (count index : ℕ) (done : Bool) (n : ℕ) → n ≡ count + (if don
 few_more count index true n is le = omega (arith, is, le)
 few_more count index false n is le = omega (arith, is, le)
 
-pub loop-lsn-init : goal.loop-lsn-init
-loop-lsn-init g c = record { outcome = moved g.D.Disk c.args.writer.now c.args.writer.now c.args.disk.now c.requires.working c.requires.ready refl c.requires.working; few = omega arith; room = refl; used = omega (arith, c.empty-window.ensures.none); kept = λ b base begun file from is can at are. (is, c.empty-window.ensures.shows begun c.args.room.now) }
+pub loop-change-init : goal.loop-change-init
+loop-change-init g c = record { outcome = moved g.D.Disk c.args.writer.now c.args.writer.now c.args.disk.now c.requires.working c.requires.ready refl c.requires.working; few = omega arith; room = refl; used = omega (arith, c.empty-window.ensures.none); kept = λ b base begun file from is can at are. (is, c.empty-window.ensures.shows begun c.args.room.now) }
 
-pub loop-lsn-preserved : goal.loop-lsn-preserved
-loop-lsn-preserved g c =
-    let l = c.loop-lsn in
+pub loop-change-preserved : goal.loop-change-preserved
+loop-change-preserved g c =
+    let l = c.loop-change in
     record {
       outcome = recovers_then g.D.Disk l.invariant.outcome c.in_ok-applied.ensures.outcome;
-      few = few_more l.count l.lsn-index c.in_ok-applied.applied c.counted-count.result c.counted-count.ensures l.invariant.few;
+      few = few_more l.count l.change-index c.in_ok-applied.applied c.counted-count.result c.counted-count.ensures l.invariant.few;
       room = (search rules);
       used = c.in_ok-applied.ensures.used;
       kept = λ b base begun file from is can at are.
-          let rest = drop (l.lsn-index + 1) c.args.lsns.now in
+          let rest = drop (l.change-index + 1) (lsns_of c.args.changes.now) in
           let held = l.invariant.kept b base begun file from is can at are in
-          let more : drop l.lsn-index c.args.lsns.now ≡ get_or c.args.lsns.now l.lsn-index 0 ∷ rest = drop_more c.args.lsns.now l.lsn-index 0 c.loop-lsn-test.true in
+          let more = next_lsn c.args.changes.now l.change-index (record { page = 0; said = 0; lsn = 0 }) c.loop-change-test.true in
           let so = subst (λ (left : List ℕ). IsApplying g.D.Disk b base begun file left l.count from l.writer l.disk) more (held.0) in (
             subst (λ (n : ℕ). IsApplying g.D.Disk b base begun file rest n from c.redo_one.new.writer c.redo_one.new.disk) (sym c.counted-count.ensures) (c.in_ok-applied.ensures.kept b base begun file from rest l.count so held.1 can at are).sound,
             c.in_ok-applied.ensures.shows b base begun file from rest l.count so held.1,
@@ -34,13 +37,13 @@ loop-lsn-preserved g c =
     }
 
 pub returns-in_err-applied-clause-outcome : goal.returns-in_err-applied-clause-outcome
-returns-in_err-applied-clause-outcome g c = recovery_refused g.D.Disk c.from_residual.result c.from_residual.ensures.1 (recovers_then g.D.Disk c.loop-lsn.invariant.outcome c.in_err-applied.ensures.outcome)
+returns-in_err-applied-clause-outcome g c = recovery_refused g.D.Disk c.from_residual.result c.from_residual.ensures.1 (recovers_then g.D.Disk c.loop-change.invariant.outcome c.in_err-applied.ensures.outcome)
 
 pub returns-in_err-applied-clause-kept : goal.returns-in_err-applied-clause-kept
 returns-in_err-applied-clause-kept g c b base begun file from is can at are =
-    let l = c.loop-lsn in
-    let rest = drop (l.lsn-index + 1) c.args.lsns.now in
-    let more : drop l.lsn-index c.args.lsns.now ≡ get_or c.args.lsns.now l.lsn-index 0 ∷ rest = drop_more c.args.lsns.now l.lsn-index 0 c.loop-lsn-test.true in
+    let l = c.loop-change in
+    let rest = drop (l.change-index + 1) (lsns_of c.args.changes.now) in
+    let more = next_lsn c.args.changes.now l.change-index (record { page = 0; said = 0; lsn = 0 }) c.loop-change-test.true in
     let held = l.invariant.kept b base begun file from is can at are in
     let so = subst (λ (left : List ℕ). IsApplying g.D.Disk b base begun file left l.count from l.writer l.disk) more (held.0) in
     let one = c.in_err-applied.ensures.kept b base begun file from rest l.count so held.1 can at are in
@@ -48,8 +51,8 @@ returns-in_err-applied-clause-kept g c b base begun file from is can at are =
 
 pub returns-clause-kept : goal.returns-clause-kept
 returns-clause-kept g c b base begun file from is can at are =
-    let l = c.loop-lsn in
+    let l = c.loop-change in
     let held = l.invariant.kept b base begun file from is can at are in
-    let past : length c.args.lsns.now ≤ l.lsn-index = omega (arith, c.loop-lsn-test.false) in
-    let so = subst (λ (left : List ℕ). IsApplying g.D.Disk b base begun file left l.count from l.writer l.disk) (drop_of_length-le c.args.lsns.now past) (held.0) in
+    let past : length (lsns_of c.args.changes.now) ≤ l.change-index = omega (arith, length-map c.args.changes.now (λ (x : Change). x.lsn), c.loop-change-test.false) in
+    let so = subst (λ (left : List ℕ). IsApplying g.D.Disk b base begun file left l.count from l.writer l.disk) (drop_of_length-le (lsns_of c.args.changes.now) past) (held.0) in
     record { sound = so; stops = leaves_now g.D.Disk b base begun from so.passed.now l.writer l.disk so.passed.within }
