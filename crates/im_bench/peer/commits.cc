@@ -4,7 +4,7 @@
 //     ./commits FOLDER lmdb|sqlite|bdb|wiredtiger|rocksdb THREADS COMMITS
 // LMDB has one writer, whose lock its `mdb_txn_begin` waits for. SQLite (WAL, synchronous=FULL) has one too, and is asked under a mutex, since a busy
 // connection would sleep and try again. The other three make one sync for those that commit at once. A transaction of Berkeley DB or WiredTiger that
-// loses to another is made again. A write of RocksDB is a synced Put behind a Get, as a unique index has to look.
+// loses to another is made again. A write of RocksDB is a synced Put after a Get, as a unique index has to look.
 #include <chrono>
 #include <cstdint>
 #include <cstdio>

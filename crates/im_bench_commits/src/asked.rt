@@ -32,7 +32,7 @@ pub struct Asked {
     pub commits: u64,
 }
 
-/// What the words behind the program's name and the folder ask for.
+/// What the words after the program's name and the folder ask for.
 pub fn asked_by(words: &[String]) -> Option<Asked> {
     if words.len() != 5 {
         return None;

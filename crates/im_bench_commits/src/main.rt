@@ -2,7 +2,7 @@
 //!
 //! So many threads make so many transactions each, of one insert: a key of 16 bytes, rising within each thread, and a row id. The folder is one that has no
 //! store yet. The mode says who makes the forces: `group`, in a store with group commit, ends each transaction by `commit`; `alone` does so in a store
-//! without; `own` asks for the Commit in a store with group commit and makes a force behind it, each thread for itself. One line is printed, with the
+//! without; `own` asks for the Commit in a store with group commit and makes a force after it, each thread for itself. One line is printed, with the
 //! commits a second and the forces. Without words four threads commit in each mode, in a folder that is removed then, and the entries that are there are
 //! counted: the same each time.
 //!

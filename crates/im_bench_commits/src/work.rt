@@ -138,7 +138,7 @@ fn commit<E: Store, R: Wait>(
     Ok(())
 }
 
-// The Commit, and a force behind it, also where another one has committed it meanwhile.
+// The Commit, and a force after it, also where another one has committed it meanwhile.
 fn commit_by_own_force<E: Store, R: Wait>(
     rt: &R,
     front: &Open<E>,

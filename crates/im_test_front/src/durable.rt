@@ -1,4 +1,4 @@
-//! What `commit` and `settle` answer to one caller, and what is there behind a stop then.
+//! What `commit` and `settle` answer to one caller, and what is there after a stop then.
 
 use crate::stores::{
     CREATION, FORCE, NEVER, are_bytes, begin_with, front_over, grouped, look_behind, stop_at, waits,
@@ -136,7 +136,7 @@ fn who_waits_takes_no_step_until_it_is_settled(rt: HostRuntime) -> Result<(), Fa
     Ok(())
 }
 
-// How many of 64 transactions wait at once; what a Begin is answered then, and behind `settle`.
+// How many of 64 transactions wait at once; what a Begin is answered then, and after `settle`.
 fn let_all_wait<E: Store, R: Wait>(
     rt: &R,
     alloc: Global,

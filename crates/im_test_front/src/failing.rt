@@ -11,7 +11,7 @@ use std::sync::Wait;
 use std::test::Fail;
 use std::thread::{Threads, map_vec};
 
-/// The device call that opens the gate of the first force's batch: behind it the batch is there, before it is not.
+/// The device call that opens the gate of the first force's batch: after it the batch is there, before it is not.
 const OPENING: u64 = CREATION + 3;
 
 // What the last of four is told, whose force fails; and what `settle` and a Begin are told then.

@@ -1,4 +1,4 @@
-//! A load on a store with group commit, of which each Commit has a force of its own behind it: four steps a transaction.
+//! A load on a store with group commit, of which each Commit has a force of its own after it: four steps a transaction.
 
 use crate::stores::{NEVER, new_store, stop_at};
 use im_base_steps::NoTurn;

@@ -1,4 +1,4 @@
-//! Commits through a front that counts the steps of each caller: a Commit and the force behind it are two.
+//! Commits through a front that counts the steps of each caller: a Commit and the force after it are two.
 
 use crate::stores::{NEVER, key_of, new_store, stop_at};
 use im_base_steps::{Reply, Step, Store};

@@ -1,4 +1,4 @@
-//! Threads that commit in one store while its disk stops within one of its calls: behind the stop each transaction is there whose `commit` was answered
+//! Threads that commit in one store while its disk stops within one of its calls: after the stop each transaction is there whose `commit` was answered
 //! `Ok`, each that asked for its commit is there or not, and no other.
 
 use crate::stores::{CREATION, Found, NEVER, front_over, look_behind};
@@ -14,7 +14,7 @@ use std::thread::{Threads, join};
 /// How many transactions each of the two threads makes.
 const TXNS: u8 = 20;
 
-/// How many stops are tried: one within each of the first calls of the disk behind those of a creation. They are fewer than the calls of the forces that one
+/// How many stops are tried: one within each of the first calls of the disk after those of a creation. They are fewer than the calls of the forces that one
 /// thread's commits need.
 const STOPS: u64 = 60;
 
@@ -26,7 +26,7 @@ enum Outcome {
     Left,
 }
 
-// What the threads were told, and what is there behind the stop.
+// What the threads were told, and what is there after the stop.
 #[derive(Drop)]
 struct Told {
     first: Vec<Outcome>,
@@ -79,7 +79,7 @@ fn work<E: Store, R: Wait>(
     Ok(outcomes)
 }
 
-// A key is inserted and committed. Where its transaction must die, another one tries again behind a force.
+// A key is inserted and committed. Where its transaction must die, another one tries again after a force.
 fn insert_one<E: Store, R: Wait>(
     rt: &R,
     alloc: Global,
@@ -133,7 +133,7 @@ fn roll_back<E: Store, R: Wait>(rt: &R, front: &Open<E>, t: TxnId) {
     }
 }
 
-// Both threads at work, and what is there behind the stop.
+// Both threads at work, and what is there after the stop.
 fn stopped_within<R: Threads + Wait + Sync>(
     rt: &R,
     alloc: Global,

@@ -20,7 +20,7 @@ pub const CREATION: u64 = 6;
 /// The device calls of a force.
 pub const FORCE: u64 = 4;
 
-/// What a front left: how many steps it made, how many calls its disk, whether that stopped, and the entries that are there when its store is opened behind the
+/// What a front left: how many steps it made, how many calls its disk, whether that stopped, and the entries that are there when its store is opened after the
 /// stop.
 #[derive(Drop)]
 pub struct Found {
@@ -39,7 +39,7 @@ pub fn stop_at(call: u64) -> Stop {
     }
 }
 
-/// A stop behind the last device call. What was not synced is then this byte, over and over.
+/// A stop after the last device call. What was not synced is then this byte, over and over.
 pub fn stop_with(alloc: Global, byte: u8) -> Result<Stop, Fault> {
     let Ok(bytes) = Vec::from_slice(alloc, &[byte]) else {
         return Err(Fault::Memory);
@@ -144,7 +144,7 @@ pub fn key_of(alloc: Global, byte: u8) -> Result<Vec<u8>, Fault> {
     }
 }
 
-/// Ends a front, and looks what is there behind a stop.
+/// Ends a front, and looks what is there after a stop.
 pub fn look_behind(alloc: Global, front: Open<Engine<ModelDisk>>) -> Result<Found, Fault> {
     let Left { engine, made, .. } = front.close();
     look_at(alloc, made, engine.into_disk())
