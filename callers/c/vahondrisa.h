@@ -94,7 +94,11 @@ typedef struct vah_config {
 	uint32_t max_pages;       /**< the most pages of the store */
 	uint64_t redo_bytes;      /**< the most log that an opening has to redo; 0: any */
 } vah_config;
-#define VAH_CONFIG_INIT { sizeof(vah_config), 1024, 1000000, 16u << 20 }
+
+/** For redo_bytes, and the default: 16 MiB, or 7 times the bytes of the file of
+ *  pages, whichever is more. */
+#define VAH_REDO_GROWS UINT64_MAX
+#define VAH_CONFIG_INIT { sizeof(vah_config), 1024, 1000000, VAH_REDO_GROWS }
 
 /** What vah_stat tells. */
 typedef struct vah_info {

@@ -1,10 +1,13 @@
-/* Bad input, the same calls on a table in memory, threads that share a store, a thread that would wait for itself, and signals. */
+/* Bad input, the same calls on a table in memory, how much an opening redoes, threads that share a store, a thread that would wait for itself, and
+ * signals. */
 #define _GNU_SOURCE
 #include "test.h"
 #include <pthread.h>
 #include <stdatomic.h>
 #include <signal.h>
 #include <sys/time.h>
+#include <sys/wait.h>
+#include <unistd.h>
 
 /* ---- bad input ---- */
 
@@ -209,6 +212,53 @@ static void on_a_table(const char *dir, int steps)
 	OK(vah_close(store));
 }
 
+/* ---- the bound of redo ---- */
+
+/* One key is put in and taken out until the log has more than 32 MiB, and the program ends there. Returns how much of it the next opening reads for redo. */
+static uint64_t redone_of(const char *dir, uint64_t redo_bytes)
+{
+	vah_config config = VAH_CONFIG_INIT;
+	vah_store *store;
+	vah_txn *txn;
+	vah_info info = { 0 };
+	char key[VAH_KEY_MAX];
+	int status;
+	HOLDS(config.redo_bytes == VAH_REDO_GROWS);
+	config.redo_bytes = redo_bytes;
+	memset(key, 'k', sizeof key);
+	pid_t child = fork();
+	if (child == 0) {
+		OK(vah_open(dir, &config, &store));
+		while (info.durable_end <= 32 << 20) {
+			OK(vah_begin(store, &txn));
+			for (int i = 0; i < 5000; i++) {
+				OK(vah_insert(txn, key, sizeof key, 1));
+				OK(vah_delete(txn, key, sizeof key));
+			}
+			OK(vah_commit(txn));
+			OK(vah_stat(store, &info));
+		}
+		_exit(0);
+	}
+	HOLDS(child > 0 && waitpid(child, &status, 0) == child && WIFEXITED(status) && WEXITSTATUS(status) == 0);
+	OK(vah_open(dir, &config, &store));
+	OK(vah_stat(store, &info));
+	OK(vah_close(store));
+	return info.durable_end - info.redo_from;
+}
+
+/* The file of pages is short, so what grows with it is 16 MiB. */
+static void bounds(const char *dir)
+{
+	char at[4096];
+	snprintf(at, sizeof at, "%.4000s/any", dir);
+	HOLDS(redone_of(at, 0) > 32 << 20);
+	snprintf(at, sizeof at, "%.4000s/grows", dir);
+	HOLDS(redone_of(at, VAH_REDO_GROWS) <= 16 << 20);
+	snprintf(at, sizeof at, "%.4000s/little", dir);
+	HOLDS(redone_of(at, 4 << 20) <= 4 << 20);
+}
+
 /* ---- threads ---- */
 
 struct work { vah_store *store; int number; };
@@ -289,6 +339,8 @@ int main(int argc, char **argv)
 	refusals(dir);
 	snprintf(dir, sizeof dir, "%s/table", argv[1]);
 	on_a_table(dir, argc > 2 ? atoi(argv[2]) : 20000);
+	snprintf(dir, sizeof dir, "%s/bounds", argv[1]);
+	bounds(dir);
 	snprintf(dir, sizeof dir, "%s/threads", argv[1]);
 	threads(dir);
 	return 0;

@@ -15,11 +15,12 @@ T = TypeVar("T")
 Entry = Tuple[bytes, int]
 
 
-def open(path: Union[str, bytes, "os.PathLike[str]"], *, frames: int = 1024, max_pages: int = 1_000_000, redo_bytes: int = 16 << 20) -> "Store":
+def open(path: Union[str, bytes, "os.PathLike[str]"], *, frames: int = 1024, max_pages: int = 1_000_000, redo_bytes: int = c.REDO_GROWS) -> "Store":
     """Opens the store in a folder, or makes one, with the folder and those above it.
 
     `frames` are pages of 4 KiB kept in memory, 8 to 1,024; `max_pages` the most that the store may have; `redo_bytes` the most log that the next
-    opening has to redo, 0 for any. Raises Locked, NotAStore, Failed where a call of the system failed, ValueError, MemoryError.
+    opening has to redo, 0 for any, and by default 16 MiB, or 7 times the file of pages. Raises Locked, NotAStore, Failed where a call of the
+    system failed, ValueError, MemoryError.
     """
     name = os.fsencode(path)
     if b"\0" in name:

@@ -27,7 +27,8 @@ impl<D: Disk + Drop> Opened<D> {
     ghost use Rattle.im_calls.specs.Sessions.{IsMade, Serves, IsOpening, IsRefused};
 
     /// Opens the store of a disk as a call asks it: `limit` frames, `txn` pages at most, `number` bytes of log that the opening after this one
-    /// may have to redo; with 1 as `word` a Commit waits for a Force. The log's buffer is of the size that programs take.
+    /// may have to redo, or with the greatest number the usual bound, which grows with the file of pages; with 1 as `word` a Commit waits for
+    /// a Force. The log's buffer is of the size that programs take.
     ///
     /// Refused `Capacity` where more pages are asked for than have numbers, and else as `Engine::open_or_create` is.
     pub fn open(alloc: Global, disk: D, call: &mut Call) -> Option<Opened<D>>
@@ -38,7 +39,7 @@ impl<D: Disk + Drop> Opened<D> {
     {
         match engine_of(alloc, disk, call) {
             Ok(engine) => {
-                let checkpoints = Checkpoints::of(&engine, RedoBound::of_bytes(call.number));
+                let checkpoints = Checkpoints::of(&engine, bound_of(call.number));
                 tell(call, 14, 0);
                 Some(Opened {
                     engine,
@@ -151,6 +152,15 @@ fn waits(call: &Call) -> bool
     ensures { (result ≡ true) ↔ (call.now.word ≡ 1) }
 {
     call.word == 1
+}
+
+// How much log an opening may have to redo: so many bytes, or the usual bound where they are the greatest number.
+fn bound_of(bytes: u64) -> RedoBound {
+    if bytes == u64::MAX {
+        RedoBound::default()
+    } else {
+        RedoBound::of_bytes(bytes)
+    }
 }
 
 // Whether records may have joined the log.

@@ -67,6 +67,7 @@ pub const VAH_TOO_MANY: c_int = 12;
 pub const VAH_POOL_SIZE: c_int = 13;
 pub const VAH_LOCKED: c_int = 19;
 pub const VAH_NO_WAIT: c_uint = 1;
+pub const VAH_REDO_GROWS: u64 = u64::MAX;
 
 // The library's own build tests these sizes and places too.
 const _: () = assert!(core::mem::size_of::<vah_entry>() == 264 && core::mem::offset_of!(vah_entry, key) == 9);

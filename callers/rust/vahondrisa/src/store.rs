@@ -27,12 +27,12 @@ pub struct Options {
 
 impl Default for Options {
     fn default() -> Options {
-        Options { frames: 1_024, max_pages: 1_000_000, redo_bytes: 16 << 20 }
+        Options { frames: 1_024, max_pages: 1_000_000, redo_bytes: sys::VAH_REDO_GROWS }
     }
 }
 
 impl Options {
-    /// 1,024 frames, a million pages at most, 16 MiB of log to redo.
+    /// 1,024 frames, a million pages at most, 16 MiB of log to redo, or 7 times the file of pages.
     pub fn new() -> Options {
         Options::default()
     }
