@@ -49,9 +49,10 @@
 //! | eight look-ups, an insert, a delete | 1.3, 2.3, 2.0, 3.3 | 1.3, 2.0, 1.7, 2.7 | 0.64, 1.2, 1.9, 1.3 |
 //! | deletes, 64 a commit | 1.4, 3.2, 2.2, 1.8 | 1.8, 3.4, 2.2, 1.9 | 0.56, 1.3, 0.67, 0.62 |
 //!
-//! On a disk where a write of 4 KiB with its sync took 4 ms, now and then 0.1: 64 inserts a commit 1.45, 0.84, 0.84, 0.67 at 20,000 keys and 0.72, 0.44, 0.27,
-//! 0.27 at 100,000; one a commit 0.94, 1.0, 0.42, 0.58 and 1.7, 2.0, 4.8, 2.0; deletes 1.1, 0.69, 0.54, 0.48 and 1.8, 1.3, 1.2, 1.2. Absent look-ups took
-//! 0.9 to 1.0 of the rate of present ones. At a million keys the 1,024 frames hold one leaf in seven, which the others' 256 MiB hold whole.
+//! On a disk where a write of 4 KiB with its sync took 4 ms, now and then 0.1 to 3, which makes single rounds differ by up to four times: 64 inserts a commit
+//! 1.45, 0.84, 0.84, 0.67 at 20,000 keys, 0.72, 0.44, 0.27, 0.27 at 100,000 and 0.69, 0.56, 0.38, 0.29 at a million; one a commit 0.94, 1.0, 0.42, 0.58, then
+//! 1.2, 1.7, 0.96, 2.0, then 0.57, 0.46, 0.61, 0.51; deletes 1.1, 0.69, 0.54, 0.48, then 1.2, 1.3, 0.98, 1.1, then 0.56, 0.40, 0.23, 0.29. Absent look-ups
+//! took 0.9 to 1.0 of the rate of present ones. At a million keys the 1,024 frames hold one leaf in seven, which the others' 256 MiB hold whole.
 
 mod options;
 
