@@ -274,7 +274,8 @@ impl PageWriter {
     /// then each page is got; then they are lent, changed by the records, and taken back. `pages` has a spare page for each. It answers
     /// how many records were applied.
     ///
-    /// Refused `NotAStore` where a page does not take a record; otherwise as `get` is.
+    /// Refused `NotAStore` where a page does not take a record, and `Memory` also where a page is not held or has no room for its entry, which
+    /// no sound file brings about; otherwise as `get` is.
     pub fn redo_round<D: Disk>(
         &mut self,
         disk: &mut D,
