@@ -1,5 +1,6 @@
 -- Openings that make a log, and stops within them.
 use Rattle.std.proofs.Common.{◌≡◌, ◌≢◌, inl, inr, ⊎_elim, ℕ, ◌≤◌, List, [], length, slice_index, Some, Result, Ok, Err, IfOk, IfErr, refl, sym, ◌∙◌, subst, arith}
+use Rattle.std.specs.Prelude.{IsErrAnd}
 use Rattle.im_base_types.specs.declared.fault.Fault.{Fault}
 use Rattle.im_base_types.specs.declared.fault.Fault.TheVariants.{NotAStore}
 use Rattle.im_base_types.specs.declared.file_id.FileId.TheVariants.{Log, Pages}
@@ -34,7 +35,7 @@ unmade_starts base all bytes unmade (inr has) = absurd (not_both bytes has.made 
 
 -- a file with no batch has the empty list
 pub blank_has : (base : ℕ) (bytes : List ℕ) → IsMade bytes → base_of bytes ≡ base → batches (first_gate bytes) bytes ≡ Some [] → HasLog base [] bytes
-blank_has base bytes made low none = record { made = made; starts = low; spells = log_is base bytes [] [] none (omega (arith, low, starts_low bytes)) refl }
+blank_has base bytes made low none = record { made = made; starts = low; spells = log_is base bytes [] [] none (omega (arith, low, starts_low bytes made)) refl }
 
 pub blank_is : (base : ℕ) (all : List Logged) (bytes : List ℕ) → all ≡ [] → base_of bytes ≡ base → IsBlank bytes → IsLogOf base all bytes
 blank_is base all bytes none low (inl unmade) = inl (unmade, none, low)
@@ -79,6 +80,11 @@ store_made d old new (Ok log) fresh opened = λ told.
     let f = fresh told in
     let none : IsLogOf (base_of (d.seen old Log)) [] (d.seen old Log) = inl (f.0, refl, refl) in
     (record { all = []; spelled = none; bare = λ unmade. f.1 }, opened told none (λ unmade. f.1))
+
+-- a refusal that a call hands on
+pub refused_otherwise : {T : Type 0} (result : Result T Fault) (e : Fault) → IsErrAnd result (λ x. x ≡ e) → (e ≡ NotAStore → ⊥) → IfErr result (λ x. x ≢ NotAStore)
+refused_otherwise (Ok x) e is never = tt
+refused_otherwise (Err x) e is never = λ same. never (sym is ∙ same)
 
 pub not_refused_so : {T : Type 0} (result : Result T Fault) → IfErr result (λ e. e ≢ NotAStore) → result ≡ Err NotAStore → ⊥
 not_refused_so (Ok x) never is = let clash : Ok x ≡ Err NotAStore = is in cc clash

@@ -13,11 +13,11 @@ use Rattle.im_log_gate.specs.Batches.{batches, batches_from, with_batches, IsBef
 use Rattle.im_log_gate.proofs.BatchLemmas.{size_of-push}
 use Rattle.im_log_gate.proofs.Several.{gated_long}
 use Rattle.std.proofs.lemmas.List.Elements.{All-nil}
-use Rattle.im_log_gate.specs.Header.{base_of, first_gate, StartsAlike, IsMade}
+use Rattle.im_log_gate.specs.Header.{base_of, first_gate, generation_of, StartsAlike, IsMade}
 use Rattle.im_log_gate.specs.Gate.{file_of, first_of, place_of, has_failed, logged, InOneFile, StartsAs, IsReady}
 use Rattle.im_log_gate.specs.declared.gate.Gate.{Gate}
 use Rattle.im_log_gate.proofs.Frames.{ready_place}
-use Rattle.im_log_gate.proofs.Starts.{front_starts, front_made}
+use Rattle.im_log_gate.proofs.Starts.{front_generation, front_starts, front_made}
 use Rattle.im_log_record.specs.Entry.{Entry}
 use Rattle.im_log_record.specs.Reading.{entry_of}
 use Rattle.im_log.specs.declared.log_file.LogFile.{LogFile}
@@ -148,11 +148,22 @@ alike_now d gate old new of starts counts_now may_stay front told =
     let front_log = of_log gate (first_gate file) of starts.first (λ f n. LeavesIn d f old new (λ c. take n c ≡ take n (d.seen old f))) front in
     front_starts file (d.seen new Log) (seen_now d Log old new Q counts_now may_stay front_log told)
 
-pub starts_kept : (gate new : Gate) (file c : List ℕ) → StartsAs gate file → InOneFile gate new → StartsAlike file c → StartsAs new c
-starts_kept gate new file c starts same alike = record {
+-- and is of the same generation
+pub generation_now : {D : Type 0} (d : Ghosts D) (gate : Gate) (old new : D) → IsOfLog gate → StartsAs gate (d.seen old Log)
+    → ((t : ℕ) (c : Files) → t ≤ d.moment new → d.may_leave new c → d.left_since new t c) → (d.tells → d.may_leave new (d.seen new))
+    → LeavesIn d (file_of gate) old new (λ c. take (first_of gate) c ≡ take (first_of gate) (d.seen old (file_of gate))) → d.tells → generation_of (d.seen new Log) ≡ generation_of (d.seen old Log)
+generation_now d gate old new of starts counts_now may_stay front told =
+    let file = d.seen old Log in
+    let Q : List ℕ → Type 0 = λ bytes. take (first_gate file) bytes ≡ take (first_gate file) file in
+    let front_log = of_log gate (first_gate file) of starts.first (λ f n. LeavesIn d f old new (λ c. take n c ≡ take n (d.seen old f))) front in
+    front_generation file (d.seen new Log) (seen_now d Log old new Q counts_now may_stay front_log told)
+
+pub starts_kept : (gate new : Gate) (file c : List ℕ) → StartsAs gate file → InOneFile gate new → StartsAlike file c → generation_of c ≡ generation_of file → StartsAs new c
+starts_kept gate new file c starts same alike as_before = record {
   first = same.first ∙ starts.first ∙ sym alike.gate;
   base = same.base ∙ starts.base ∙ sym alike.base;
   least = same.least ∙ starts.least ∙ sym alike.number;
+  generation = same.generation ∙ starts.generation ∙ sym as_before;
 }
 
 pub either_made : (base : ℕ) (durable all : List Logged) (file : List ℕ) → SpellsEither base durable all file → IsMade file

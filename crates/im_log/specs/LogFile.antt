@@ -5,7 +5,7 @@ use Rattle.im_base_types.specs.Records.{Logged}
 use Rattle.im_theory_log.specs.Histories.{IsFront}
 use Rattle.im_base_disk.specs.declared.disk.Disk.{Ghosts}
 use Rattle.im_log_gate.specs.Batches.{IsFilled}
-use Rattle.im_log_gate.specs.Gate.{IsReady, StartsAs, place_of, has_failed}
+use Rattle.im_log_gate.specs.Gate.{IsReady, StartsAs, base_at, place_of, has_failed}
 use Rattle.im_log_gate.specs.Header.{base_of, IsMade}
 use Rattle.im_log.specs.declared.log_file.LogFile.{LogFile}
 use Rattle.im_log.specs.Spelled.{records_from, batches_records, log_of, last_lsn}
@@ -45,6 +45,7 @@ HasNextRoom log = (log.start + log.used + 16394 ≤ length log.buffer.items) × 
 
 -- A record of some length would end above LSN 2^62; the gate works still, and at most one batch waits.
 pub record HasNoRoom (log : LogFile) : Type 0 where
+  pub of_gate : log.base ≡ base_at log.gate
   pub gate : has_failed log.gate ≡ false
   pub size : ℕ
   pub most : size ≤ 16384

@@ -12,6 +12,9 @@
 //! its bytes; what each call keeps of it stands in its clause `kept`. After a call that failed every later one is refused: how an append or
 //! a force ends is one fact (`LogOutcome`).
 //!
+//! `LogFile::go_on` goes on in the other file, where nothing waits: the log has no record then, and its first LSN is above all of the one from before, which is the
+//! other log. A stop within leaves files whose current log is the one, with its records, or the other (`HasEither`).
+//!
 //! Nothing that was written is read again but by `read_at` and `read_span`: an append costs a copy of its record into the buffer, and
 //! a force one write of what is buffered and one of a byte, however long the log is. `im_bench log --time` measures it on the model
 //! disk; one run on four cores, for records of 50 bytes, in nanoseconds a record:

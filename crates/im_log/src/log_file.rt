@@ -10,6 +10,7 @@ use im_base_types::{BATCH_ROOM, Fault, LAST_LSN, LONGEST_BATCH, Lsn};
 use im_log_gate::{Gate, seal};
 use im_log_record::{Record, spellings};
 
+mod going_on;
 mod span;
 
 /// The log: records in turn, of which the last may wait in a buffer for a force, laid out as they will stand in the file.
@@ -30,7 +31,7 @@ pub struct LogFile {
     ghost ahead: { failed ≡ false → 1 ≤ start → base + (place_of gate + 1) + (length buffer.items + 16388) ≤ 2 ^ 62 },
     ghost within: { used ≤ 16384 },
     ghost based: { base ≤ 2 ^ 62 },
-    ghost of_gate: { base ≡ base_at gate },
+    ghost of_gate: { failed ≡ false → base ≡ base_at gate },
 }
 
 impl LogFile {

@@ -6,7 +6,8 @@ use Rattle.im_log_gate.proofs.BatchLemmas.{from_drop}
 use Rattle.im_log_gate.proofs.Places.{reaches_by}
 use Rattle.im_base_disk.specs.Disk.{Holds, Torn}
 use Rattle.im_log_gate.specs.Batches.{in_front, batches_from, batches, Reaches}
-use Rattle.im_log_gate.specs.Header.{header, first_gate, IsUnmade, IsMade, IsBlank}
+use Rattle.im_log_gate.specs.Header.{first_header, first_gate, IsUnmade, IsMade, IsBlank, Says}
+use Rattle.im_log_header.proofs.Fronts.{first_says}
 
 -- a file of at most one byte, while its first byte is written
 pub torn_short : (file c : List ℕ) → length file ≤ 1 → Torn 0 1 file c → IsUnmade c
@@ -17,33 +18,38 @@ written_short [] new short holds = holds
 written_short (a ∷ []) new short holds = holds
 written_short (a ∷ b ∷ file) new short holds = absurd (omega (arith, short))
 
--- a file with this byte 0, the header and a closed gate
+-- a file with this byte 0, the header of the first format and a closed gate
 abbrev pub made_with : ℕ → List ℕ → List ℕ
-made_with first junk = first ∷ header ++ 0 ∷ junk
+made_with first junk = first ∷ first_header ++ 0 ∷ junk
 
 in_front-nil : (bs : Option (List (List ℕ))) → bs ≡ in_front [] bs
 in_front-nil None = refl
 in_front-nil (Some bs) = refl
 
-pub no_batches : (first : ℕ) (junk : List ℕ) → batches (first_gate (made_with first junk)) (made_with first junk) ≡ Some []
-unfolding first_gate
-no_batches first junk = refl
+module _ (junk : List ℕ) where
+  long_made : 31 < length (made_with 1 junk)
+  long_made = omega (arith, length-append first_header (0 ∷ junk))
 
-pub is_made : (junk : List ℕ) → IsMade (made_with 1 junk)
-unfolding first_gate
-is_made junk = record { within = omega (arith, length-append header (0 ∷ junk)); made = refl; named = refl }
+  pub says_first : Says 31 1 0 1 (made_with 1 junk)
+  says_first = first_says (made_with 1 junk) long_made refl refl
 
-pub reaches_first : (junk : List ℕ) → Reaches (first_gate (made_with 1 junk)) (made_with 1 junk) (first_gate (made_with 1 junk))
-unfolding first_gate
-reaches_first junk = record { within = omega (arith, length-append header (0 ∷ junk)); placed = refl; front = λ rest. in_front-nil (batches_from 0 rest) }
+  pub no_batches : batches (first_gate (made_with 1 junk)) (made_with 1 junk) ≡ Some []
+  no_batches = ap (λ (n : ℕ). batches n (made_with 1 junk)) says_first.gate
 
-pub gate_closed : (junk : List ℕ) → slice_index (made_with 1 junk) (first_gate (made_with 1 junk)) ≢ 1
-unfolding first_gate
-gate_closed junk one = let clash : 0 ≡ 1 = one in omega (arith, clash)
+  pub is_made : IsMade (made_with 1 junk)
+  is_made = let says = says_first in record { within = omega (arith, says.gate, long_made); made = refl; named = inl refl; low = omega (arith, says.gate, says.base) }
+
+  pub reaches_first : Reaches (first_gate (made_with 1 junk)) (made_with 1 junk) (first_gate (made_with 1 junk))
+  reaches_first =
+      subst (λ (n : ℕ). Reaches n (made_with 1 junk) n) (sym says_first.gate)
+      (record { within = omega (arith, long_made); placed = refl; front = λ rest. in_front-nil (batches_from 0 rest) })
+
+  pub gate_closed : slice_index (made_with 1 junk) (first_gate (made_with 1 junk)) ≢ 1
+  gate_closed one = let clash : 0 ≡ 1 = sym (ap (λ (n : ℕ). get_or (made_with 1 junk) n 0) says_first.gate) ∙ one in omega (arith, clash)
 
 blank : (first : ℕ) (junk : List ℕ) → IsBlank (made_with first junk)
 blank first junk = elim (cases_eq first 1) [
-  | inl one ↦ subst (λ (f : ℕ). IsBlank (made_with f junk)) (sym one) (inr (is_made junk, no_batches 1 junk))
+  | inl one ↦ subst (λ (f : ℕ). IsBlank (made_with f junk)) (sym one) (inr (is_made junk, no_batches junk, says_first junk))
   | inr other ↦ inl (inr other)
 ]
 
@@ -55,8 +61,8 @@ module _ (file : List ℕ) (begun : 1 ≤ length file) (closed : get_or file 0 0
   abbrev pub behind_header : List ℕ
   behind_header = drop 32 file
 
-  pub written_closed : (new : List ℕ) → Holds 1 (header ++ 0 ∷ []) file new → new ≡ made_with (get_or file 0 0) behind_header
-  written_closed new holds = holds ∙ ap (λ (l : List ℕ). l ++ (header ++ 0 ∷ []) ++ behind_header) (take_one file begun)
+  pub written_closed : (new : List ℕ) → Holds 1 (first_header ++ 0 ∷ []) file new → new ≡ made_with (get_or file 0 0) behind_header
+  written_closed new holds = holds ∙ ap (λ (l : List ℕ). l ++ (first_header ++ 0 ∷ []) ++ behind_header) (take_one file begun)
     where
       take_one : (l : List ℕ) → 1 ≤ length l → take 1 l ≡ get_or l 0 0 ∷ []
       take_one [] le = absurd (omega (arith, le))

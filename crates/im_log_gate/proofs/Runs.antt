@@ -5,7 +5,7 @@ use Rattle.im_base_disk.specs.declared.disk.Disk.{Ghosts}
 use Rattle.im_base_disk.specs.Disk.{Files, Only, Stepped, InFile, Holds, Torn}
 use Rattle.im_base_disk.specs.Runs.{LeavesOnly, LeavesIn, ChangesOnly, Reads}
 use Rattle.im_base_disk.proofs.Runs.{step_in, in_then, in_started, in_weakened, reads_on, changes_reads, only_reads}
-use Rattle.im_log_gate.specs.Header.{header, IsUnmade, IsBlank}
+use Rattle.im_log_gate.specs.Header.{first_header, IsUnmade, IsBlank}
 use Rattle.im_log_gate.proofs.Making.{behind_header, torn_short, torn_closed, written_closed, torn_opening}
 
 module _ {D : Type 0} (d : Ghosts D) (file : FileId) (old mid new : D) where
@@ -27,7 +27,7 @@ module _ {D : Type 0} (d : Ghosts D) (file : FileId) (old mid new : D) where
 
   -- and then that byte
   pub make_run : (begun : d.tells → 1 ≤ length (d.seen old file)) (closed : d.tells → get_or (d.seen old file) 0 0 ≢ 1) → Only file (d.seen old) (d.may_leave old)
-      → LeavesOnly d old mid (Stepped (InFile file (Torn 1 31)) (d.may_leave old)) → (d.tells → Holds 1 (header ++ 0 ∷ []) (d.seen old file) (d.seen mid file))
+      → LeavesOnly d old mid (Stepped (InFile file (Torn 1 31)) (d.may_leave old)) → (d.tells → Holds 1 (first_header ++ 0 ∷ []) (d.seen old file) (d.seen mid file))
       → ChangesOnly d file old mid → Only file (d.seen mid) (d.may_leave mid) → LeavesOnly d mid new (Stepped (InFile file (Torn 0 1)) (d.may_leave mid)) → LeavesIn d file old new IsBlank
   make_run begun closed synced run written changes mid_synced second =
       in_then d file old mid new IsUnmade IsBlank IsBlank

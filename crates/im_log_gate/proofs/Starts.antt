@@ -1,37 +1,82 @@
 -- What a log file says of where its log starts.
-use Rattle.std.proofs.Common.{◌≡◌, ℕ, ◌+◌, ◌^◌, ◌<◌, ◌≤◌, List, length, take, drop, get_or, refl, sym, ◌∙◌, ap, subst, arith}
-use Rattle.std.proofs.lemmas.List.{get_or-take, drop-take}
+use Rattle.std.proofs.Common.{◌≡◌, ◌⊎◌, inl, inr, ℕ, ◌+◌, ◌^◌, ◌<◌, ◌≤◌, List, length, take, drop, get_or, sym, ◌∙◌, ap, subst, arith}
+use Rattle.std.proofs.lemmas.List.{get_or-take, drop-take, take-take}
+use Rattle.im_log_header.proofs.Fronts.{first_says, front_second}
+use Rattle.im_log_header.proofs.Saying.{fronts, gate_second, least_gate, says_its_own, unmade}
+use Rattle.im_log_header.specs.Header.{second_header}
 use Rattle.im_log_gate.specs.Batches.{Reaches}
-use Rattle.im_log_gate.specs.Header.{first_gate, base_of, least_number, StartsAlike, IsMade, IsUnmade, IsBlank}
+use Rattle.im_log_gate.specs.Header.{first_gate, base_of, generation_of, first_header, StartsAlike, Says, IsMade, IsSecond, IsUnmade, IsBlank}
 use Rattle.im_log_gate.proofs.Making.{first_reaches}
 
--- A file that keeps what stands in front of its first gate says the same.
+-- A file that keeps what stands in front of its first gate says the same, and is of the same generation.
 pub front_starts : (file c : List ℕ) → take (first_gate file) c ≡ take (first_gate file) file → StartsAlike file c
-unfolding first_gate base_of least_number
-front_starts file c same = record { gate = refl; base = refl; number = refl }
+front_starts file c same = (fronts file c same).0
+
+pub front_generation : (file c : List ℕ) → take (first_gate file) c ≡ take (first_gate file) file → generation_of c ≡ generation_of file
+front_generation file c same = (fronts file c same).1
 
 -- A file that is made where none was says the same.
 pub blank_starts : (file c : List ℕ) → IsUnmade file → IsBlank c → StartsAlike file c
-unfolding first_gate base_of least_number
-blank_starts file c unmade blank = record { gate = refl; base = refl; number = refl }
-
--- It is made where the other one was.
-pub front_made : (file c : List ℕ) → take (first_gate file) c ≡ take (first_gate file) file → first_gate file < length c → IsMade file → IsMade c
-unfolding first_gate
-front_made file c same within made = record {
-  within = within;
-  made = sym (get_or-take 31 c 0 0 (omega arith)) ∙ ap (λ (l : List ℕ). get_or l 0 0) same ∙ get_or-take 31 file 0 0 (omega arith) ∙ made.made;
-  named = sym (drop-take 1 30 c) ∙ ap (λ (l : List ℕ). drop 1 l) same ∙ drop-take 1 30 file ∙ made.named;
-}
+blank_starts file c none (inl still) =
+    let was = unmade file none in
+    let is = unmade c still in
+    record { gate = is.gate ∙ sym was.gate; base = is.base ∙ sym was.base; number = is.number ∙ sym was.number }
+blank_starts file c none (inr made) =
+    let was = unmade file none in
+    let is = made.2 in
+    record { gate = is.gate ∙ sym was.gate; base = is.base ∙ sym was.base; number = is.number ∙ sym was.number }
 
 -- A first gate stands behind the made byte, and not above LSN 2^62.
 pub gate_behind : (file : List ℕ) → 2 ≤ first_gate file
-unfolding first_gate
-gate_behind file = omega arith
+gate_behind file = let least = least_gate file in omega (arith, least)
 
-pub starts_low : (file : List ℕ) → base_of file + first_gate file ≤ 2 ^ 62
-unfolding first_gate base_of
-starts_low file = omega arith
+pub starts_low : (file : List ℕ) → IsMade file → base_of file + first_gate file ≤ 2 ^ 62
+starts_low file made = made.low
+
+-- It is made where the other one was.
+module _ (file c : List ℕ) (same : take (first_gate file) c ≡ take (first_gate file) file) where
+  same_front : (n : ℕ) → n ≤ first_gate file → take n c ≡ take n file
+  same_front n le = sym (take-take n (first_gate file) c le) ∙ ap (λ (l : List ℕ). take n l) same ∙ take-take n (first_gate file) file le
+
+  behind_made : (n : ℕ) → 1 + n ≤ first_gate file → take n (drop 1 c) ≡ take n (drop 1 file)
+  behind_made n le = sym (drop-take 1 n c) ∙ ap (λ (l : List ℕ). drop 1 l) (same_front (1 + n) le) ∙ drop-take 1 n file
+
+  named_so : IsMade file → (take 30 (drop 1 c) ≡ first_header) ⊎ IsSecond (take 46 (drop 1 c))
+  named_so made =
+      let least = least_gate file in
+      elim made.named [
+        | inl first ↦ inl (behind_made 30 (omega (arith, least)) ∙ first)
+        | inr second ↦ (
+            let long : 1 ≤ length file = omega (arith, least, made.within) in
+            let gate = gate_second file second.0 second.1 second.2 (front_second file (second_header second.0 second.1 second.2) long made.made second.3) in
+            inr (subst IsSecond (sym (behind_made 46 (omega (arith, gate)))) second))
+      ]
+
+  pub front_made : first_gate file < length c → IsMade file → IsMade c
+  front_made within made =
+      let alike = front_starts file c same in
+      let least = least_gate file in
+      record {
+        within = omega (arith, within, alike.gate);
+        made = sym (get_or-take (first_gate file) c 0 0 (omega (arith, least))) ∙ ap (λ (l : List ℕ). get_or l 0 0) same ∙ get_or-take (first_gate file) file 0 0 (omega (arith, least)) ∙ made.made;
+        named = named_so made;
+        low = omega (arith, alike.base, alike.gate, made.low);
+      }
+
+-- A made file is of some generation.
+pub made_some : (file : List ℕ) → IsMade file → 1 ≤ generation_of file
+made_some file made =
+    let least = least_gate file in
+    elim made.named [
+      | inl first ↦ (let says = first_says file (omega (arith, least, made.within)) made.made first in omega (arith, says.generation))
+      | inr second ↦ (
+          let front = front_second file (second_header second.0 second.1 second.2) (omega (arith, least, made.within)) made.made second.3 in
+          let some = second.4 in
+          let last = second.5 in
+          let low = second.6 in
+          let says = says_its_own file second.0 second.1 second.2 front (omega (arith, last)) (omega (arith, low)) second.7 in
+          omega (arith, says.generation, some))
+    ]
 
 -- the first gate of a made file is reached
 pub start_reaches : (first place : ℕ) (bytes : List ℕ) → first ≡ first_gate bytes → place ≡ first → first_gate bytes < length bytes → Reaches first bytes place

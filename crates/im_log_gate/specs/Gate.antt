@@ -5,7 +5,7 @@ use Rattle.im_base_disk.specs.declared.disk.Disk.{Ghosts}
 use Rattle.im_base_disk.specs.Disk.{Only}
 use Rattle.im_log_gate.specs.declared.gate.Gate.{Gate}
 use Rattle.im_log_gate.specs.Batches.{batches, batches_from, Reaches}
-use Rattle.im_log_gate.specs.Header.{first_gate, base_of, least_number}
+use Rattle.im_log_gate.specs.Header.{first_gate, base_of, least_number, generation_of}
 
 -- The file that the gate stands in.
 abbrev pub file_of : Gate → FileId
@@ -23,6 +23,10 @@ base_at gate = gate.base
 abbrev pub least_at : Gate → ℕ
 least_at gate = gate.least
 
+-- Which log of its store it is.
+abbrev pub generation_at : Gate → ℕ
+generation_at gate = gate.generation
+
 -- The place of the gate.
 abbrev pub place_of : Gate → ℕ
 place_of gate = gate.place
@@ -37,12 +41,14 @@ pub record InOneFile (some other : Gate) : Type 0 where
   pub first : first_of other ≡ first_of some
   pub base : base_at other ≡ base_at some
   pub least : least_at other ≡ least_at some
+  pub generation : generation_at other ≡ generation_at some
 
 -- The gate says where the log of these bytes starts.
 pub record StartsAs (gate : Gate) (bytes : List ℕ) : Type 0 where
   pub first : first_of gate ≡ first_gate bytes
   pub base : base_at gate ≡ base_of bytes
   pub least : least_at gate ≡ least_number bytes
+  pub generation : generation_at gate ≡ generation_of bytes
 
 module _ {D : Type 0} (d : Ghosts D) where
   -- The batches of the gate's file as it reads; none where it is refused.

@@ -1,3 +1,4 @@
 pub mod Batches
 pub mod Gate
+pub mod GoingOn
 pub mod Header

@@ -3,27 +3,36 @@
 ghost use Rattle.std.specs.Prelude.{◌≡◌, ◌+◌, ◌*◌, ◌^◌, ◌<◌, ◌≤◌, ◌↔◌, ◌⊎◌, ◌++◌, ℕ, List, false, true, not, is_ok, length, take, IfErr, IfOk, IfSome, OnOk, MatchOption, [], ◌∷◌};
 
 use crate::creation::{close_made, make};
-use crate::opening::{has_header, is_made};
+use crate::opening::read_start;
 use crate::put::{clear, put_behind, put_laid};
 use crate::size::batch_size;
 use im_base_disk::{Disk, read_vec};
 use im_base_types::{BATCH_ROOM, Fault, FileId, LAST_LSN, TxnId};
+use im_log_header::{Header, LogStart};
 use std::alloc::Global;
 
-/// Where a log file has its first gate, in bytes from its start: behind the header.
+mod going_on;
+
+/// Where a log file of the first format has its first gate, in bytes from its start: behind the header.
 pub const FIRST_GATE: u64 = 31;
 
-// Where the log of a file of this format starts: the LSN of its first byte, and the least number of a transaction.
-const BASE: u64 = 0;
-
-const LEAST_NUMBER: TxnId = 1;
+// Where the log of such a file starts.
+const FIRST_START: LogStart = LogStart {
+    first_gate: FIRST_GATE,
+    header: Header {
+        generation: 1,
+        base: 0,
+        next: 1,
+    },
+};
 
 /// A gate of a log file, with the room from which every batch is written. It carries its file and what that file says of where its
-/// log starts: the place of its first gate, the LSN of its first byte, and the least number of a transaction. It has failed once a call failed otherwise than for want of memory, and refuses every call from then on.
+/// log starts: the place of its first gate, its generation, the LSN of its first byte, and the least number of a transaction. It has failed once a call failed otherwise than for want of memory, and refuses every call from then on.
 #[derive(Drop)]
 pub struct Gate {
     file: FileId,
     first: u64,
+    generation: u64,
     base: u64,
     least: TxnId,
     place: u64,
@@ -50,29 +59,31 @@ impl Gate {
     ghost use Rattle.im_base_types.specs.declared.file_id.FileId.TheVariants.{Pages};
     ghost use Rattle.im_base_types.specs.declared.fault.Fault.TheVariants.{Device, Failed, LogFull, Memory, NotAStore};
     ghost use Rattle.im_log_gate.specs.Batches.{with_batch, with_batches, in_front, IsBeforeOrWith, IsBeforeOrWithAll, IsLaid};
-    ghost use Rattle.im_log_gate.specs.Header.{IsUnmade, IsMade, IsBlank};
-    ghost use Rattle.im_log_gate.specs.Gate.{file_of, first_of, base_at, least_at, place_of, has_failed, InOneFile, StartsAs, logged, unread, IsReading, IsReady};
+    ghost use Rattle.im_log_gate.specs.Header.{IsUnmade, IsMade, IsBlank, Says};
+    ghost use Rattle.im_log_gate.specs.Gate.{file_of, first_of, base_at, least_at, generation_at, place_of, has_failed, InOneFile, StartsAs, logged, unread, IsReading, IsReady};
 
-    // The first gate of a made file, with this room.
-    #[tactic(auto, unfolding(crate::specs::Header::first_gate, crate::specs::Header::base_of, crate::specs::Header::least_number))]
-    fn at_start(file: FileId, room: Vec<u8>) -> Gate
+    // The first gate of a file that says this, with this room.
+    fn at_start(file: FileId, room: Vec<u8>, start: LogStart) -> Gate
         requires size { length room.items ≡ 16389 }
-        ensures starts { (bytes : List ℕ) → IsMade bytes → StartsAs result bytes }
+        requires low { start.header.base + start.first_gate ≤ 2 ^ 62 }
+        requires numbered { 1 ≤ start.header.next }
+        ensures starts { (bytes : List ℕ) → Says start.first_gate start.header.generation start.header.base start.header.next bytes → StartsAs result bytes }
         ensures gate { (file_of result ≡ file) × (place_of result ≡ first_of result) × (has_failed result ≡ false) }
     {
         Gate {
             file,
-            first: FIRST_GATE,
-            base: BASE,
-            least: LEAST_NUMBER,
-            place: FIRST_GATE,
+            first: start.first_gate,
+            generation: start.header.generation,
+            base: start.header.base,
+            least: start.header.next,
+            place: start.first_gate,
             room,
             long: 0,
             failed: false,
         }
     }
 
-    /// Makes a log without batches of a file that is none yet, and answers its closed gate: by six device calls, or four where
+    /// Makes a log of the first format, without batches, of a file that is none yet, and answers its closed gate: by six device calls, or four where
     /// the file has two bytes or more. It takes the room from which every batch is written, before the first call.
     ///
     /// Refused `Memory`, with no device call made, or `Device`.
@@ -85,6 +96,7 @@ impl Gate {
         ensures first { IfOk result (λ gate. (file_of gate ≡ file) × (place_of gate ≡ first_of gate)) }
         ensures starts { IfOk result (λ gate. D.tells → StartsAs gate (D.seen disk.new file)) }
         ensures made { OnOk result (D.tells → IsMade (D.seen disk.new file)) }
+        ensures blank { OnOk result (D.tells → IsBlank (D.seen disk.new file)) }
         ensures empty { IfOk result (λ gate. D.tells → logged D.Disk gate disk.new ≡ Some []) }
         ensures any_moment { LeavesIn D.Disk file disk.old disk.new IsBlank }
         ensures changes { ChangesOnly D.Disk file disk.old disk.new }
@@ -95,14 +107,14 @@ impl Gate {
         let room = make_room(alloc)?;
         close_made(disk, file)?;
         make(disk, file)?;
-        Ok(Gate::at_start(file, room))
+        Ok(Gate::at_start(file, room, FIRST_START))
     }
 
-    /// Opens a made log at its first gate, or answers none where no store was made yet: the log is unmade, and the file of
+    /// Opens a made log of either format at its first gate, or answers none where no store was made yet: the log is unmade, and the file of
     /// pages is empty. It writes nothing, and takes the room from which every batch is written.
     ///
-    /// Refused `NotAStore` where a made log has another header or no first gate, or an unmade one stands beside pages; `Memory`;
-    /// `Device`.
+    /// Refused `NotAStore` where a made log has another header or no first gate, or that gate an LSN above 2^62, or an unmade one stands beside
+    /// pages; `Memory`; `Device`.
     pub fn open<D: Disk>(alloc: Global, disk: &mut D, file: FileId) -> Result<Option<Gate>, Fault>
         requires working { D.failed disk.old ≡ false }
         requires durable { Only file (D.seen disk.old) (D.may_leave disk.old) }
@@ -120,17 +132,14 @@ impl Gate {
         ensures device { result ≡ Err Device ↔ (D.failed disk.new ≡ true) }
     {
         let room = make_room(alloc)?;
-        if !is_made(disk, file)? {
+        let Some(start) = read_start(disk, file)? else {
             return if disk.len(FileId::Pages)? == 0 {
                 Ok(None)
             } else {
                 Err(Fault::NotAStore)
             };
-        }
-        if !has_header(disk, file)? {
-            return Err(Fault::NotAStore);
-        }
-        Ok(Some(Gate::at_start(file, room)))
+        };
+        Ok(Some(Gate::at_start(file, room, start)))
     }
 
     /// Where the gate stands in its file, in bytes.
@@ -138,6 +147,20 @@ impl Gate {
         ensures { result ≡ place_of self.now }
     {
         self.place
+    }
+
+    /// What the header of its log says.
+    pub fn header(&self) -> Header
+        ensures generation { result.generation ≡ generation_at self.now }
+        ensures base { result.base ≡ base_at self.now }
+        ensures number { result.next ≡ least_at self.now }
+        ensures numbered { 1 ≤ result.next }
+    {
+        Header {
+            generation: self.generation,
+            base: self.base,
+            next: self.least,
+        }
     }
 
     /// The LSN of its file's first byte. A gate stands at LSN 2^62 at most when its file begins.

@@ -12,6 +12,9 @@
 //! | 13 to 30 | zero |
 //! | 31 | the first gate |
 //!
+//! This is the first format. In the second the name ends in `2`, the header has a generation, a base and a number (`im_log_header`), and the
+//! first gate stands at byte 47. A file is opened in either; its first gate has an LSN, the base and its place, of 2^62 at most.
+//!
 //! A gate is a byte: 1 is open, any other is closed. Behind a gate stand four bytes of length, big-endian, then so
 //! many bytes of records, 1 to 16,384, then the next gate. A batch counts if and only if its gate and every gate in
 //! front of it are open (`batches`). An open gate whose length is out of range, or whose records or next gate lie past the
@@ -26,11 +29,14 @@
 //!
 //! `Gate::create` closes byte 0 and syncs (only where the file has at most one byte: any other is closed already), writes the
 //! header and a closed first gate behind it and syncs, and writes byte 0 as 1 and syncs: six device calls or four. A stop
-//! within leaves a file that is not made, or a made one with no batch.
+//! within leaves a file that is not made, or a made one with no batch, of the first format.
+//!
+//! `Gate::go_on` makes the other log file one of the second format with no batch, and goes on in it; `Gate::next_header` says with which header: of the
+//! next generation, and with the LSN of this gate as its base. A stop within leaves the one log or the other as the current one.
 //!
 //! # What it stands on, and its invariant
 //!
-//! It stands on the trait `Disk` alone, and makes each change by a write and a sync of one range (`write_synced`). The invariant of a gate
+//! It stands on the trait `Disk`, on headers and on how a log goes on in the other file (`im_log_choice`), and makes each change by a write and a sync of one range (`write_synced`). The invariant of a gate
 //! is `IsReady`: the gate stands behind whole batches and is closed, and all of its file is on the disk. While the
 //! batches are read it is `IsReading`, which leaves the gate open. Both hold of a failed gate, and outlive calls on the other files
 //! (`ready_spared`, `reading_spared` in the proofs). What is said of bytes is said of a disk that tells them.
@@ -43,4 +49,5 @@ mod put;
 mod size;
 
 pub use gate::{FIRST_GATE, Gate};
+pub use im_log_header::Header;
 pub use put::seal;

@@ -1,45 +1,41 @@
-//! What the first bytes of a log file say.
+//! Where the log of a file starts.
 
-ghost use Rattle.std.specs.Prelude.{◌≡◌, ◌≢◌, ◌⊎◌, ◌↔◌, ◌+◌, ◌*◌, ◌<◌, ◌≤◌, true, false, length, take, drop, slice_index, IfOk, IfErr};
-ghost use Rattle.im_base_types.specs.declared.fault.Fault.TheVariants.{Device};
+ghost use Rattle.std.specs.Prelude.{◌≡◌, ◌⊎◌, ◌↔◌, ◌+◌, ◌^◌, ◌≤◌, true, false, IfOk, IfErr, IfSome};
+ghost use Rattle.im_base_types.specs.declared.fault.Fault.TheVariants.{Device, NotAStore};
 ghost use Rattle.im_base_disk.specs.Runs.{Reads};
-ghost use Rattle.im_log_gate.specs.Header.{header, first_gate, IsUnmade};
+ghost use Rattle.im_log_gate.specs.Header.{IsMade, IsUnmade, Says};
 
-use crate::creation::HEADER;
 use im_base_disk::Disk;
-use im_base_types::{Fault, FileId};
+use im_base_types::{Fault, FileId, LAST_LSN};
+use im_log_header::{LogStart, read_header};
 
-// The file's made byte says that it was made.
-pub(crate) fn is_made<D: Disk>(disk: &mut D, file: FileId) -> Result<bool, Fault>
-    requires { D.failed disk.old ≡ false }
-    ensures made { result ≡ Ok true → D.tells → (1 < length (D.seen disk.old file)) × (slice_index (D.seen disk.old file) 0 ≡ 1) }
-    ensures unmade { result ≡ Ok false → D.tells → IsUnmade (D.seen disk.old file) }
-    ensures reads { Reads D.Disk disk.old disk.new }
-    ensures causes { IfErr result (λ e. e ≡ Device) }
-    ensures device { result ≡ Err Device ↔ (D.failed disk.new ≡ true) }
+// The first gate has an LSN up to 2^62.
+fn is_low(start: &LogStart) -> bool
+    ensures { (result ≡ true) ↔ (start.now.header.base + start.now.first_gate ≤ 2 ^ 62) }
 {
-    if disk.len(file)? <= 1 {
-        return Ok(false);
-    }
-    let mut made = [0; 1];
-    disk.read(file, 0, &mut made)?;
-    Ok(made[0] == 1)
+    start.first_gate <= LAST_LSN && start.header.base <= LAST_LSN - start.first_gate
 }
 
-// The header is the format's, and a gate stands behind it.
-#[tactic(auto, unfolding(crate::specs::Header::first_gate))]
-pub(crate) fn has_header<D: Disk>(disk: &mut D, file: FileId) -> Result<bool, Fault>
+// Where the log of a made file starts; none of a file that is not made. Refused `NotAStore` where a made file has no header
+// of either format, or its first gate an LSN above 2^62; `Device`.
+pub(crate) fn read_start<D: Disk>(disk: &mut D, file: FileId) -> Result<Option<LogStart>, Fault>
     requires { D.failed disk.old ≡ false }
-    ensures there { result ≡ Ok true → D.tells → (first_gate (D.seen disk.old file) < length (D.seen disk.old file)) × (take 30 (drop 1 (D.seen disk.old file)) ≡ header) }
-    ensures not_there { result ≡ Ok false → D.tells → first_gate (D.seen disk.old file) < length (D.seen disk.old file) → take 30 (drop 1 (D.seen disk.old file)) ≢ header }
+    ensures unmade { result ≡ Ok None → D.tells → IsUnmade (D.seen disk.old file) }
+    ensures made { IfOk result (λ found. IfSome found (λ start. D.tells → IsMade (D.seen disk.old file))) }
+    ensures says { IfOk result (λ found. IfSome found (λ start. D.tells → Says start.first_gate start.header.generation start.header.base start.header.next (D.seen disk.old file))) }
+    ensures low { IfOk result (λ found. IfSome found (λ start. start.header.base + start.first_gate ≤ 2 ^ 62)) }
+    ensures numbered { IfOk result (λ found. IfSome found (λ start. 1 ≤ start.header.next)) }
+    ensures refused { result ≡ Err NotAStore → D.tells → ¬ (IsUnmade (D.seen disk.old file)) × ¬ (IsMade (D.seen disk.old file)) }
     ensures reads { Reads D.Disk disk.old disk.new }
-    ensures causes { IfErr result (λ e. e ≡ Device) }
+    ensures causes { IfErr result (λ e. (e ≡ NotAStore) ⊎ (e ≡ Device)) }
     ensures device { result ≡ Err Device ↔ (D.failed disk.new ≡ true) }
 {
-    if disk.len(file)? < 32 {
-        return Ok(false);
+    let Some(start) = read_header(disk, file)? else {
+        return Ok(None);
+    };
+    let low = is_low(&start);
+    if !low {
+        return Err(Fault::NotAStore);
     }
-    let mut found = [0; 30];
-    disk.read(file, 1, &mut found)?;
-    Ok(found == HEADER)
+    Ok(Some(start))
 }

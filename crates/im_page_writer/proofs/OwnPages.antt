@@ -17,6 +17,7 @@ use Rattle.im_log.specs.declared.log_file.LogFile.{LogFile}
 use Rattle.im_log.specs.LogFile.{IsOpen, IsLog}
 use Rattle.im_log.proofs.Places.{InFile, found_in}
 use Rattle.im_log.proofs.Runs.{placed}
+use Rattle.im_log_gate.proofs.Starts.{gate_behind}
 use Rattle.im_log.proofs.Spells.{log_records}
 use Rattle.im_page_writer.specs.declared.known.Synced.{Synced}
 use Rattle.im_page_writer.specs.declared.known.Known.{Known}
@@ -24,10 +25,6 @@ use Rattle.im_page_writer.specs.Synced.{AreSyncedWith, IsChangedBelow, IsKnown, 
 use Rattle.im_page_writer.proofs.ChangedPages.{below_low, changed_here, changed_reaches, record_below}
 
 -- ---- the log's end
-
-gate_behind : (file : List ℕ) → 1 ≤ first_gate file
-unfolding first_gate
-gate_behind file = omega arith
 
 module _ {D : Type 0} (d : Ghosts D) (base : ℕ) (all durable : List Logged) (log : LogFile) (disk : D) (is_open : IsOpen d log disk) (h : IsLog d base all durable log disk) where
   -- a record that the disk has stands in front of the gate
@@ -44,7 +41,7 @@ module _ {D : Type 0} (d : Ghosts D) (base : ℕ) (all durable : List Logged) (l
       by : (some : History) → durable ≡ some → end_of b some < log.base + place_of log.gate
       by [] is =
           let at = placed d log.gate disk log.of_log (is_open.starts h.tells) is_open.ready (is_open.working h.working) h.tells in
-          omega (arith, based, h.based, at.place, gate_behind (d.seen disk Log))
+          (let behind = gate_behind (d.seen disk Log) in omega (arith, based, h.based, at.place, behind))
       by (r ∷ older) is = durable_low r (subst (λ (l : History). IsRecordOf r l) (sym is) (inl refl))
 
   pub under_end : (b : Base) (l : ℕ) → b.start ≤ base → l ≤ end_of b durable → l < end_of_log log

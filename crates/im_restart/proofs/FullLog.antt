@@ -29,6 +29,6 @@ full_log d w disk ready works full told =
     let is_open = ready.still (not_true (d.failed disk) works) in
     let reaches = is_open.ready.reading.reaches full.gate told in
     let at : place_of w.log.gate < length (d.seen disk Log) = subst (λ (f : FileId). place_of w.log.gate < length (d.seen disk f)) w.log.of_log.file reaches.within in
-    let base : w.log.base ≡ base_of (d.seen disk Log) = w.log.of_gate ∙ (is_open.starts told).base in
+    let base : w.log.base ≡ base_of (d.seen disk Log) = full.of_gate ∙ (is_open.starts told).base in
     let most = end_most w.log full.size in
     omega (arith, full.above, full.most, full.one, most, at, base, w.log.within)

@@ -18,7 +18,7 @@ use Rattle.im_base_disk.proofs.Runs.{in_then, only_reads, reads_then}
 use Rattle.im_log_gate.specs.declared.gate.Gate.{Gate}
 use Rattle.im_log_gate.specs.Batches.{batches}
 use Rattle.im_log_gate.specs.Gate.{file_of, first_of, place_of, has_failed, logged, IsReading, StartsAs}
-use Rattle.im_log_gate.specs.Header.{base_of, first_gate, least_number, StartsAlike, IsMade, IsUnmade}
+use Rattle.im_log_gate.specs.Header.{base_of, first_gate, least_number, StartsAlike, IsBlank, IsMade, IsUnmade}
 use Rattle.im_log_gate.proofs.Starts.{blank_starts}
 use Rattle.im_log_record.specs.Entry.{Entry}
 use Rattle.im_log.specs.Spelled.{logged_at}
@@ -40,20 +40,18 @@ made_blank : {D : Type 0} (d : Ghosts D) (disk : D) (gate : Gate) → d.tells �
 made_blank d disk gate told empty file starts =
     of_log gate (first_gate (d.seen disk Log)) (record { file = file }) starts.first (λ (f : FileId) (n : ℕ). batches n (d.seen disk f) ≡ Some []) (empty told)
 
-pub created : {D : Type 0} (d : Ghosts D) (base : ℕ) (all : History) (old disk : D) (result : Result Gate Fault) → all ≡ [] → IsUnmade (d.seen old Log) → base_of (d.seen old Log) ≡ base → d.tells → OnOk result (d.tells → IsMade (d.seen disk Log))
+pub created : {D : Type 0} (d : Ghosts D) (base : ℕ) (all : History) (old disk : D) (result : Result Gate Fault) → all ≡ [] → IsUnmade (d.seen old Log) → base_of (d.seen old Log) ≡ base → d.tells → OnOk result (d.tells → IsMade (d.seen disk Log)) → OnOk result (d.tells → IsBlank (d.seen disk Log))
     → IfOk result (λ gate. d.tells → logged d gate disk ≡ Some []) → IfOk result (λ gate. (file_of gate ≡ Log) × (place_of gate ≡ first_of gate)) → IfOk result (λ gate. d.tells → StartsAs gate (d.seen disk Log))
     → IfOk result (λ gate. HasLog base all (d.seen disk Log))
-created d base all old disk (Err e) none unmade low told made empty first starts = tt
-created d base all old disk (Ok gate) none unmade low told made empty first starts =
+created d base all old disk (Err e) none unmade low told made new empty first starts = tt
+created d base all old disk (Ok gate) none unmade low told made new empty first starts =
     let blank = made_blank d disk gate told empty first.0 (starts told) in
-    let low_now = (blank_starts (d.seen old Log) (d.seen disk Log) unmade (inr (made told, blank))).base ∙ low in
+    let low_now = (blank_starts (d.seen old Log) (d.seen disk Log) unmade (new told)).base ∙ low in
     subst (λ (l : History). HasLog base l (d.seen disk Log)) (sym none) (blank_has base (d.seen disk Log) (made told) low_now blank)
 
-pub created_alike : {D : Type 0} (d : Ghosts D) (old disk : D) (result : Result Gate Fault) → (d.tells → IsUnmade (d.seen old Log)) → OnOk result (d.tells → IsMade (d.seen disk Log)) → IfOk result (λ gate. d.tells → logged d gate disk ≡ Some [])
-    → IfOk result (λ gate. (file_of gate ≡ Log) × (place_of gate ≡ first_of gate)) → IfOk result (λ gate. d.tells → StartsAs gate (d.seen disk Log)) → IfOk result (λ _. d.tells → StartsAlike (d.seen old Log) (d.seen disk Log))
-created_alike d old disk (Err e) unmade made empty first starts = tt
-created_alike d old disk (Ok gate) unmade made empty first starts = λ told.
-    blank_starts (d.seen old Log) (d.seen disk Log) (unmade told) (inr (made told, made_blank d disk gate told empty first.0 (starts told)))
+pub created_alike : {D : Type 0} (d : Ghosts D) (old disk : D) (result : Result Gate Fault) → (d.tells → IsUnmade (d.seen old Log)) → OnOk result (d.tells → IsBlank (d.seen disk Log)) → IfOk result (λ _. d.tells → StartsAlike (d.seen old Log) (d.seen disk Log))
+created_alike d old disk (Err e) unmade new = tt
+created_alike d old disk (Ok gate) unmade new = λ told. blank_starts (d.seen old Log) (d.seen disk Log) (unmade told) (new told)
 
 -- files that are the same start alike
 pub same_alike : (some other : List ℕ) → other ≡ some → StartsAlike some other

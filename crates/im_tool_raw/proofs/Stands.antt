@@ -83,4 +83,4 @@ stopped_put c file before asked records made same (inr e) = (
 -- a blank log has no batches
 pub stands_blank : (c : Files) → IsBlank (c Log) → length (c Pages) ≡ 0 → StandsFor c []
 stands_blank c (inl unmade) empty = inr (unmade, empty, refl)
-stands_blank c (inr made) empty = inl made
+stands_blank c (inr made) empty = inl (made.0, made.1)

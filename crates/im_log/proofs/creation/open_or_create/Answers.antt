@@ -1,6 +1,7 @@
-use Rattle.std.proofs.Common.{◌≡◌, ℕ, List, [], Option, IfSome, Ok, Some, inr, sym, ◌∙◌, ap, subst, rules}
+use Rattle.std.proofs.Common.{◌≡◌, ℕ, List, [], Option, IfSome, Ok, Err, Some, sym, ◌∙◌, ap, subst, rules}
+use Rattle.im_base_types.specs.declared.fault.Fault.{Fault}
 use Rattle.im_base_types.specs.declared.file_id.FileId.{FileId}
-use Rattle.im_base_types.specs.declared.file_id.FileId.TheVariants.{Log}
+use Rattle.im_base_types.specs.declared.file_id.FileId.TheVariants.{Log, Pages}
 use Rattle.im_base_types.specs.Records.{Logged}
 use Rattle.im_base_disk.specs.Disk.{Files, Stepped, InFile}
 use Rattle.im_base_disk.proofs.Runs.{reads_on}
@@ -9,9 +10,21 @@ use Rattle.im_log_gate.specs.Batches.{batches}
 use Rattle.im_log_gate.specs.Header.{base_of, first_gate, IsMade}
 use Rattle.im_log_gate.proofs.Starts.{blank_starts}
 use Rattle.im_log.specs.Kept.{HasLog, IsLogOf}
-use Rattle.im_log.proofs.Creations.{made_has, unmade_none, unmade_starts, blank_has, reads_stops, creation_stops, store_opened, store_made, not_refused_so}
+use Rattle.im_log.proofs.Creations.{made_has, unmade_none, unmade_starts, blank_has, reads_stops, creation_stops, store_opened, store_made, is_store, not_refused_so, refused_otherwise}
 use Rattle.im_log.proofs.Runs.{of_log}
 use Rattle.im_log.proofs.creation.open_or_create.Goals as goal
+
+pub returns-in_err-gate-clause-kept : goal.returns-in_err-gate-clause-kept
+returns-in_err-gate-clause-kept g c base all told is empty =
+    let old = c.args.disk.now in
+    record {
+      ok = search rules;
+      stops = reads_stops g.D.Disk base all old c.open.new.disk (g.met.D.Disk.only_now old) c.requires.durable is c.open.ensures.reads;
+      cause = refused_otherwise c.from_residual.result c.in_err-gate.field-0.0 c.from_residual.ensures.1
+          (λ same.
+          let none = c.in_err-gate.ensures.refused (ap (λ (y : Fault). Err y) same) told in
+          is_store base all (g.D.Disk.seen old Log) (g.D.Disk.seen old Pages) is empty none.0 none.1);
+    }
 
 pub returns-in_err-gate-in-None-clause-kept : goal.returns-in_err-gate-in-None-clause-kept
 returns-in_err-gate-in-None-clause-kept g c base all told is empty =
@@ -51,7 +64,7 @@ returns-in_ok-gate-in-None-clause-kept g c base all told is empty =
     let batches_none : batches (first_gate (g.D.Disk.seen mid Log)) (g.D.Disk.seen mid Log) ≡ Some [] =
     of_log gate (first_gate (g.D.Disk.seen mid Log)) (record { file = c.in_ok-gate-in-None.ensures.first.0 }) starts.first (λ (f : FileId) (n : ℕ). batches n (g.D.Disk.seen mid f) ≡ Some []) (c.in_ok-gate-in-None.ensures.empty told) in
     let made = c.in_ok-gate-in-None.ensures.made told in
-    let low_now = (blank_starts (g.D.Disk.seen c.args.disk.now Log) (g.D.Disk.seen mid Log) unmade.0 (inr (made, batches_none))).base ∙ low in
+    let low_now = (blank_starts (g.D.Disk.seen c.args.disk.now Log) (g.D.Disk.seen mid Log) unmade.0 (c.in_ok-gate-in-None.ensures.blank told)).base ∙ low in
     let has = subst (λ (l : List Logged). HasLog base l (g.D.Disk.seen mid Log)) (sym none) (blank_has base (g.D.Disk.seen mid Log) made low_now batches_none) in
     let kept = c.open_log-in-None.ensures.kept base all told has in
     record {

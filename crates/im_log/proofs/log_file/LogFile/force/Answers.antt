@@ -1,7 +1,7 @@
 use Rattle.std.proofs.Common.{◌≤◌, ◌∙◌, true, refl, rules, arith}
 use Rattle.im_base_types.specs.declared.file_id.FileId.TheVariants.{Log}
 use Rattle.im_log.specs.Kept.{SpellsEither}
-use Rattle.im_log.proofs.Runs.{waits, nothing_sealed, force_stops, forced, seen_now, either_made, alike_now, starts_kept, all_durable, no_more, unmoved, laid_all, written_back, none_begun}
+use Rattle.im_log.proofs.Runs.{waits, nothing_sealed, force_stops, forced, seen_now, either_made, alike_now, generation_now, starts_kept, all_durable, no_more, unmoved, laid_all, written_back, none_begun}
 use Rattle.im_base_disk.proofs.Costs.{most_none}
 use Rattle.im_base_types.specs.Outcomes.{none_own}
 use Rattle.im_base_types.proofs.Outcomes.{end_told}
@@ -73,7 +73,8 @@ returns-in_err-put_batches-clause-outcome g c =
         ready = c.put_batches.ensures.ready;
         starts = λ told.
             starts_kept c.args.self.now.gate c.put_batches.new.self (g.D.Disk.seen old Log) (g.D.Disk.seen new Log) (c.requires.ready.starts told) c.put_batches.ensures.same
-            (alike_now g.D.Disk c.args.self.now.gate old new c.args.self.now.of_log (c.requires.ready.starts told) (g.met.D.Disk.counts_now new) (g.met.D.Disk.seen_may_stay new) (c.put_batches.ensures.front works) told);
+            (alike_now g.D.Disk c.args.self.now.gate old new c.args.self.now.of_log (c.requires.ready.starts told) (g.met.D.Disk.counts_now new) (g.met.D.Disk.seen_may_stay new) (c.put_batches.ensures.front works) told)
+            (generation_now g.D.Disk c.args.self.now.gate old new c.args.self.now.of_log (c.requires.ready.starts told) (g.met.D.Disk.counts_now new) (g.met.D.Disk.seen_may_stay new) (c.put_batches.ensures.front works) told);
         working = search rules;
         placed = search rules;
         room = search rules;
@@ -99,7 +100,8 @@ returns-clause-outcome g c =
         ready = c.put_batches.ensures.ready;
         starts = λ told.
             starts_kept c.args.self.now.gate c.put_batches.new.self (g.D.Disk.seen old Log) (g.D.Disk.seen new Log) (c.requires.ready.starts told) c.put_batches.ensures.same
-            (alike_now g.D.Disk c.args.self.now.gate old new c.args.self.now.of_log (c.requires.ready.starts told) (g.met.D.Disk.counts_now new) (g.met.D.Disk.seen_may_stay new) (c.put_batches.ensures.front works) told);
+            (alike_now g.D.Disk c.args.self.now.gate old new c.args.self.now.of_log (c.requires.ready.starts told) (g.met.D.Disk.counts_now new) (g.met.D.Disk.seen_may_stay new) (c.put_batches.ensures.front works) told)
+            (generation_now g.D.Disk c.args.self.now.gate old new c.args.self.now.of_log (c.requires.ready.starts told) (g.met.D.Disk.counts_now new) (g.met.D.Disk.seen_may_stay new) (c.put_batches.ensures.front works) told);
         working = search rules;
         placed = search (rules, at, room);
         room = search rules;

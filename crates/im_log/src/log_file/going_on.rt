@@ -1,0 +1,64 @@
+//! The log goes on in the other file.
+
+ghost use Rattle.std.specs.Prelude.{◌≡◌, ◌+◌, ◌^◌, ◌<◌, ◌≤◌, ◌↔◌, ◌⊎◌, false, true, length, IfErr, OnErr, OnOk, List, ℕ};
+
+use crate::LogFile;
+use im_base_two_logs::TwoLogs;
+use im_base_types::{Fault, TxnId};
+use im_log_gate::Header;
+
+impl LogFile {
+    ghost use Rattle.im_base_types.specs.declared.fault.Fault.TheVariants.{Capacity, Device, Failed, LogFull};
+    ghost use Rattle.im_base_types.specs.Records.{Logged};
+    ghost use Rattle.im_base_types.specs.declared.file_id.FileId.TheVariants.{Log2, Pages};
+    ghost use Rattle.im_base_disk.specs.Disk.{Only};
+    ghost use Rattle.im_base_disk.specs.Runs.{CostsAtMost};
+    ghost use Rattle.im_log_gate.specs.Gate.{generation_at, place_of};
+    ghost use Rattle.im_log.specs.LogFile.{IsOpen, IsLog};
+    ghost use Rattle.im_log.specs.GoingOn.{GoOnKept};
+
+    /// What the header of the log says.
+    pub fn header(&self) -> Header
+        ensures generation { result.generation ≡ generation_at self.now.gate }
+    {
+        self.gate.header()
+    }
+
+    /// Goes on in the other log file, where nothing waits: that file is made a log of the next generation, with no record, whose first byte has the LSN of the next gate
+    /// and whose transactions have the number `next` or a greater one; the names of the two files change. By six device calls, or four where the file has two
+    /// bytes or more and its byte 0 is not 1. It takes no memory.
+    ///
+    /// Refused `LogFull` where the first gate of the new log would have an LSN above 2^62, and then `Capacity` where there is no next generation, both with nothing done;
+    /// `Device`. After that every later call answers `Failed`.
+    pub fn go_on<D: TwoLogs>(&mut self, disk: &mut D, next: TxnId) -> Result<(), Fault>
+        requires numbered { 1 ≤ next }
+        requires empty { self.old.used ≡ 0 }
+        requires ready { IsOpen D.Disk self.old disk.old }
+        requires pages { self.old.failed ≡ false → Only Pages (D.seen disk.old) (D.may_leave disk.old) }
+        requires other { self.old.failed ≡ false → Only Log2 (D.seen disk.old) (D.may_leave disk.old) }
+        ensures ready { IsOpen D.Disk self.new disk.new }
+        ensures kept { (base : ℕ) (all durable : List Logged) → IsLog D.Disk base all durable self.old disk.old → GoOnKept D.Disk base all next self.old disk.old self.new disk.new result }
+        ensures empty { self.new.used ≡ 0 }
+        ensures room { length self.new.buffer.items ≡ length self.old.buffer.items }
+        ensures base { OnOk result (self.new.base ≡ self.old.base + place_of self.old.gate) }
+        ensures few { CostsAtMost D.Disk 3 3 disk.old disk.new }
+        ensures full { result ≡ Err LogFull ↔ ((self.old.failed ≡ false) × (2 ^ 62 < self.old.base + place_of self.old.gate + 47)) }
+        ensures capacity { result ≡ Err Capacity ↔ ((self.old.failed ≡ false) × (self.old.base + place_of self.old.gate + 47 ≤ 2 ^ 62) × (2 ^ 62 ≤ generation_at self.old.gate + 1)) }
+        ensures nothing { IfErr result (λ e. (e ≡ LogFull) ⊎ (e ≡ Capacity) ⊎ (e ≡ Failed) → (disk.new ≡ disk.old) × (self.new ≡ self.old)) }
+        ensures failed { IfErr result (λ e. e ≡ Device → self.new.failed ≡ true) }
+        ensures works { OnOk result (self.new.failed ≡ false) }
+        ensures causes { IfErr result (λ e. (e ≡ Failed) ⊎ (e ≡ LogFull) ⊎ (e ≡ Capacity) ⊎ (e ≡ Device)) }
+        ensures already { result ≡ Err Failed ↔ (self.old.failed ≡ true) }
+        ensures device { self.old.failed ≡ false → result ≡ Err Device ↔ (D.failed disk.new ≡ true) }
+    {
+        if self.failed {
+            return Err(Fault::Failed);
+        }
+        let header = self.gate.next_header(next)?;
+        self.failed = true;
+        self.gate.go_on(disk, &header)?;
+        self.base = header.base;
+        self.failed = false;
+        Ok(())
+    }
+}
