@@ -1,5 +1,5 @@
 -- What the layers above compose.
-use Rattle.std.proofs.Common.{false, ◌≡◌, inl, inr, ℕ, ◌≤◌, List, [], ◌∷◌, ◌++◌, Ok, Some, refl, sym, ◌∙◌, ap, subst, append_assoc}
+use Rattle.std.proofs.Common.{false, ◌≡◌, ◌⊎◌, inl, inr, ℕ, ◌≤◌, List, [], ◌∷◌, ◌++◌, Ok, Some, refl, sym, ◌∙◌, ap, subst, append_assoc}
 use Rattle.im_base_types.specs.declared.file_id.FileId.{FileId}
 use Rattle.im_base_types.specs.declared.file_id.FileId.TheVariants.{Log, Pages}
 use Rattle.im_base_types.specs.Records.{Logged}
@@ -15,7 +15,7 @@ use Rattle.im_log_record.specs.Entry.{Entry}
 use Rattle.im_log.specs.declared.log_file.LogFile.{LogFile}
 use Rattle.im_log.specs.Spelled.{logged_at, log_of}
 use Rattle.im_log.specs.LogFile.{IsOpen, IsLog}
-use Rattle.im_log.specs.Kept.{HasMore, SpellsEither, SpellsBetween, AppendKept, ForceKept, Run}
+use Rattle.im_log.specs.Kept.{HasLog, HasMore, SpellsEither, SpellsBetween, AppendKept, ForceKept, Run}
 use Rattle.im_log.proofs.Runs.{unmoved}
 
 pub front_none : (log : List Logged) → IsFront log log
@@ -30,10 +30,13 @@ front_then a b c first second = record {
   is = append_assoc second.newer first.newer a ∙ ap (λ (l : List Logged). second.newer ++ l) first.is ∙ second.is;
 }
 
+between_lists : (base : ℕ) (low durable all high : List Logged) → IsFront low durable → IsFront durable all → IsFront all high → (file : List ℕ) → HasLog base durable file ⊎ HasLog base all file → SpellsBetween base low high file
+between_lists base low durable all high below here above file (inl has) = record { left = durable; has = has; longer = below; shorter = front_then durable all high here above }
+between_lists base low durable all high below here above file (inr has) = record { left = all; has = has; longer = front_then low durable all below here; shorter = above }
+
 -- one call's outcome lies between any two lists round its own
-pub between : (base : ℕ) (low durable all high : List Logged) → IsFront low durable → IsFront durable all → IsFront all high → (file : List ℕ) → SpellsEither base durable all file → SpellsBetween base low high file
-between base low durable all high below here above file (inl has) = record { left = durable; has = has; longer = below; shorter = front_then durable all high here above }
-between base low durable all high below here above file (inr has) = record { left = all; has = has; longer = front_then low durable all below here; shorter = above }
+pub between : (base : ℕ) (low durable all high : List Logged) → IsFront low durable → IsFront durable all → IsFront all high → (was file : List ℕ) → SpellsEither base durable all was file → SpellsBetween base low high file
+between base low durable all high below here above was file has = between_lists base low durable all high below here above file has.0
 
 pub wider : (base : ℕ) (low durable all high : List Logged) → IsFront low durable → IsFront all high → (file : List ℕ) → SpellsBetween base durable all file → SpellsBetween base low high file
 wider base low durable all high below above file s =
@@ -44,19 +47,20 @@ pub more_then : (old mid new : List ℕ) → HasMore old mid → HasMore mid new
 more_then old mid new first second = record {
   more = first.more ++ second.more;
   grown = λ before is. second.grown (before ++ first.more) (first.grown before is) ∙ ap Some (append_assoc before first.more second.more);
+  generation = second.generation ∙ first.generation;
 }
 
 module _ {D : Type 0} (d : Ghosts D) where
   -- calls of the log in a row
   pub log_then : (base : ℕ) (low durable all high : List Logged) (old mid new : D) → LeavesIn d Log old mid (SpellsBetween base low high) → ChangesOnly d Log old mid
-      → LeavesIn d Log mid new (SpellsEither base durable all) → IsFront low durable → IsFront durable all → IsFront all high → LeavesIn d Log old new (SpellsBetween base low high)
+      → LeavesIn d Log mid new (SpellsEither base durable all (d.seen mid Log)) → IsFront low durable → IsFront durable all → IsFront all high → LeavesIn d Log old new (SpellsBetween base low high)
   log_then base low durable all high old mid new first changes second below here above =
-      in_then d Log old mid new (SpellsBetween base low high) (SpellsEither base durable all) (SpellsBetween base low high) first changes second (λ told c p. p) (λ told c p. between base low durable all high below here above c p)
+      in_then d Log old mid new (SpellsBetween base low high) (SpellsEither base durable all (d.seen mid Log)) (SpellsBetween base low high) first changes second (λ told c p. p) (λ told c p. between base low durable all high below here above (d.seen mid Log) c p)
 
-  pub log_first : (base : ℕ) (low durable all high : List Logged) (old new : D) → LeavesIn d Log old new (SpellsEither base durable all) → IsFront low durable → IsFront durable all → IsFront all high
+  pub log_first : (base : ℕ) (low durable all high : List Logged) (old new : D) → LeavesIn d Log old new (SpellsEither base durable all (d.seen old Log)) → IsFront low durable → IsFront durable all → IsFront all high
       → LeavesIn d Log old new (SpellsBetween base low high)
   log_first base low durable all high old new run below here above =
-      in_weakened d Log old new (SpellsEither base durable all) (SpellsBetween base low high) run (λ told c p. between base low durable all high below here above c p)
+      in_weakened d Log old new (SpellsEither base durable all (d.seen old Log)) (SpellsBetween base low high) run (λ told c p. between base low durable all high below here above (d.seen old Log) c p)
 
   -- with what is known of the other file beside every list that may be left
   pub with_pages : (base : ℕ) (durable all : List Logged) (old new : D) (Covers : List Logged → List ℕ → Type 0) → LeavesIn d Log old new (SpellsBetween base durable all)
@@ -75,7 +79,7 @@ module _ {D : Type 0} (d : Ghosts D) where
 
   module _ (base : ℕ) (low all durable : List Logged) (old : D) (file : LogFile) (disk : D) where
     -- the last call of a run, whatever it answers
-    pub run_stops : Run d base low all durable old file disk → (new : D) → LeavesIn d Log disk new (SpellsEither base durable all) → LeavesIn d Log old new (SpellsBetween base low all)
+    pub run_stops : Run d base low all durable old file disk → (new : D) → LeavesIn d Log disk new (SpellsEither base durable all (d.seen disk Log)) → LeavesIn d Log old new (SpellsBetween base low all)
     run_stops run new stops = log_then base low durable all all old disk new run.stops run.changes stops run.longer run.log.front (front_none all)
 
     -- an append that succeeded
@@ -155,8 +159,8 @@ module _ {D : Type 0} (d : Ghosts D) where
       })
 
   -- a call of the log behind a run on both files
-  pub mixed_then : (base : ℕ) (low durable all high : List Logged) (old mid new : D) → LeavesOnly d old mid (λ c. SpellsBetween base low high (c Log)) → LeavesIn d Log mid new (SpellsEither base durable all)
+  pub mixed_then : (base : ℕ) (low durable all high : List Logged) (old mid new : D) → LeavesOnly d old mid (λ c. SpellsBetween base low high (c Log)) → LeavesIn d Log mid new (SpellsEither base durable all (d.seen mid Log))
       → IsFront low durable → IsFront durable all → IsFront all high → LeavesOnly d old new (λ c. SpellsBetween base low high (c Log))
   mixed_then base low durable all high old mid new first second below here above =
-      then_on d old mid new (λ c. SpellsBetween base low high (c Log)) (Stepped (InFile Log (λ _ bytes. SpellsEither base durable all bytes)) (d.may_leave mid)) first second
-      (λ told c left. between base low durable all high below here above (c Log) left.2.changed)
+      then_on d old mid new (λ c. SpellsBetween base low high (c Log)) (Stepped (InFile Log (λ _ bytes. SpellsEither base durable all (d.seen mid Log) bytes)) (d.may_leave mid)) first second
+      (λ told c left. between base low durable all high below here above (d.seen mid Log) (c Log) left.2.changed)

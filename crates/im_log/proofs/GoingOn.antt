@@ -45,7 +45,7 @@ module _ {D : Type 0} (d : Ghosts D) where
   all_synced log disk own pages other Log2 = other
 
   -- a weaker fact
-  named_weakened : (old new : D) (P Q : Files → Type 0) → LeavesNamed d old new P → (d.tells → (c : Files) → P c → Q c) → LeavesNamed d old new Q
+  pub named_weakened : (old new : D) (P Q : Files → Type 0) → LeavesNamed d old new P → (d.tells → (c : Files) → P c → Q c) → LeavesNamed d old new Q
   named_weakened old new P Q run within = record {
     later = run.later;
     each = λ told c left. within told c (run.each told c left);

@@ -166,8 +166,8 @@ starts_kept gate new file c starts same alike as_before = record {
   generation = same.generation ∙ starts.generation ∙ sym as_before;
 }
 
-pub either_made : (base : ℕ) (durable all : List Logged) (file : List ℕ) → SpellsEither base durable all file → IsMade file
-either_made base durable all file has = ⊎_elim (λ (h : HasLog base durable file). h.made) (λ (h : HasLog base all file). h.made) has
+pub either_made : (base : ℕ) (durable all : List Logged) (was file : List ℕ) → SpellsEither base durable all was file → IsMade file
+either_made base durable all was file has = ⊎_elim (λ (h : HasLog base durable file). h.made) (λ (h : HasLog base all file). h.made) has.0
 
 module _ {D : Type 0} (d : Ghosts D) (base : ℕ) (all durable : List Logged) where
   -- what waits, as batches behind the gate
@@ -189,7 +189,7 @@ module _ {D : Type 0} (d : Ghosts D) (base : ℕ) (all durable : List Logged) wh
   pub force_stops : (log : LogFile) (disk new_disk : D) → 1 ≤ log.used → IsOpen d log disk → (h : IsLog d base all durable log disk)
       → LeavesIn d (file_of log.gate) disk new_disk (IsBeforeOrWithAll (first_of log.gate) (waits log h.sealed) (logged d log.gate disk))
       → LeavesIn d (file_of log.gate) disk new_disk (λ bytes. take (first_of log.gate) bytes ≡ take (first_of log.gate) (d.seen disk (file_of log.gate)))
-      → LeavesIn d Log disk new_disk (SpellsEither base durable all)
+      → LeavesIn d Log disk new_disk (SpellsEither base durable all (d.seen disk Log))
   force_stops log disk new_disk some is_open h run front =
       let file = d.seen disk Log in
       let more = waits log h.sealed in
@@ -199,25 +199,28 @@ module _ {D : Type 0} (d : Ghosts D) (base : ℕ) (all durable : List Logged) wh
       let at = placed d log.gate disk log.of_log starts is_open.ready (is_open.working h.working) h.tells in
       let P = IsBeforeOrWithAll (first_gate file) more (batches (first_gate file) file) in
       let Q : List ℕ → Type 0 = λ bytes. take (first_gate file) bytes ≡ take (first_gate file) file in
-      in_weakened d Log disk new_disk (λ c. P c × Q c) (SpellsEither base durable all) (both_leave d Log disk new_disk P Q run_log front_log)
-      (λ told c left. ⊎_elim
-      (λ before. inl (record {
-        made = made_kept file c at.before left.1 (before ∙ at.is) h.made;
-        starts = (front_starts file c left.1).base ∙ h.starts;
-        spells = log_same base file c (front_starts file c left.1).gate (ap (λ (n : ℕ). batches n c) (front_starts file c left.1).gate ∙ before) ∙ h.on_disk;
-      }))
-      (λ put. inr (record {
-        made = made_kept file c (at.before ++ more) left.1 (put ∙ ap (with_batches more) at.is) h.made;
-        starts = (front_starts file c left.1).base ∙ h.starts;
-        spells = with_buffer log disk is_open h some c (front_starts file c left.1).gate put;
-      }))
-      left.0)
+      in_weakened d Log disk new_disk (λ c. P c × Q c) (SpellsEither base durable all file) (both_leave d Log disk new_disk P Q run_log front_log)
+      (λ told c left. (
+        ⊎_elim
+            (λ before. inl (record {
+              made = made_kept file c at.before left.1 (before ∙ at.is) h.made;
+              starts = (front_starts file c left.1).base ∙ h.starts;
+              spells = log_same base file c (front_starts file c left.1).gate (ap (λ (n : ℕ). batches n c) (front_starts file c left.1).gate ∙ before) ∙ h.on_disk;
+            }))
+            (λ put. inr (record {
+              made = made_kept file c (at.before ++ more) left.1 (put ∙ ap (with_batches more) at.is) h.made;
+              starts = (front_starts file c left.1).base ∙ h.starts;
+              spells = with_buffer log disk is_open h some c (front_starts file c left.1).gate put;
+            }))
+            left.0,
+        front_generation file c left.1,
+      ))
 
   -- behind a force
   pub forced : (log new : LogFile) (disk new_disk : D) → 1 ≤ log.used → IsOpen d log disk → (h : IsLog d base all durable log disk)
-      → (d.tells → logged d new.gate new_disk ≡ with_batches (waits log h.sealed) (logged d log.gate disk)) → first_of new.gate ≡ first_of log.gate → StartsAlike (d.seen disk Log) (d.seen new_disk Log) → IsMade (d.seen new_disk Log)
+      → (d.tells → logged d new.gate new_disk ≡ with_batches (waits log h.sealed) (logged d log.gate disk)) → first_of new.gate ≡ first_of log.gate → StartsAlike (d.seen disk Log) (d.seen new_disk Log) → generation_of (d.seen new_disk Log) ≡ generation_of (d.seen disk Log) → IsMade (d.seen new_disk Log)
       → new.failed ≡ false → new.base ≡ log.base → new.start ≡ 0 → new.used ≡ 0 → place_of new.gate ≡ place_of log.gate + (log.start + 4 + log.used + 1) → Forced d base all durable disk new new_disk
-  forced log new disk new_disk some is_open h put first alike made works same start used place =
+  forced log new disk new_disk some is_open h put first alike as_before made works same start used place =
       let file = d.seen disk Log in
       let more = waits log h.sealed in
       let starts = is_open.starts h.tells in
@@ -239,7 +242,7 @@ module _ {D : Type 0} (d : Ghosts D) (base : ℕ) (all durable : List Logged) wh
           front = record { newer = []; is = refl };
           below = omega (arith, h.below, same, start, used, place);
         };
-        file = record { more = more; grown = λ bs is. ap (λ (n : ℕ). batches n (d.seen new_disk Log)) alike.gate ∙ put_log ∙ ap (with_batches more) is };
+        file = record { more = more; grown = λ bs is. ap (λ (n : ℕ). batches n (d.seen new_disk Log)) alike.gate ∙ put_log ∙ ap (with_batches more) is; generation = as_before };
       }
 
   -- behind a call that only reads
@@ -292,11 +295,11 @@ module _ {D : Type 0} (d : Ghosts D) (base : ℕ) (all durable : List Logged) wh
 
   -- before the first call
   pub unmoved : (log : LogFile) (disk : D) → ((c : Files) → d.left_since disk (d.moment disk) c → d.may_leave disk c) → IsOpen d log disk → IsLog d base all durable log disk
-      → LeavesIn d Log disk disk (SpellsEither base durable all)
+      → LeavesIn d Log disk disk (SpellsEither base durable all (d.seen disk Log))
   unmoved log disk only_now is_open h =
-      in_started d Log disk (SpellsEither base durable all) only_now
+      in_started d Log disk (SpellsEither base durable all (d.seen disk Log)) only_now
       (subst (λ (f : FileId). Only f (d.seen disk) (d.may_leave disk)) log.of_log.file (is_open.ready.reading.durable (is_open.working h.working)))
-      (λ told. inl (record { made = h.made; starts = h.starts; spells = h.on_disk }))
+      (λ told. (inl (record { made = h.made; starts = h.starts; spells = h.on_disk }), refl))
 
   put_ok : (log new : LogFile) (disk : D) (bytes : List ℕ) (entry : Entry) → IsLog d base all durable log disk → entry_of bytes ≡ Some entry → Whole bytes → buffered new ≡ buffered log ++ bytes → new.used ≡ log.used + length bytes
       → (new.start ≡ log.start) × (take log.start new.buffer.items ≡ take log.start log.buffer.items) → new.base ≡ log.base → new.gate ≡ log.gate → new.failed ≡ log.failed → IsLog d base (logged_at (next_lsn log) entry ∷ all) durable new disk
@@ -342,4 +345,4 @@ module _ {D : Type 0} (d : Ghosts D) (base : ℕ) (all durable : List Logged) wh
 
 -- a file has no more than it has
 pub no_more : (file : List ℕ) → HasMore file file
-no_more file = record { more = []; grown = λ before is. is ∙ ap Some (sym (append-nil before)) }
+no_more file = record { more = []; grown = λ before is. is ∙ ap Some (sym (append-nil before)); generation = refl }

@@ -1,5 +1,5 @@
 -- A log that goes on in the other file.
-use Rattle.std.specs.Prelude.{◌≡◌, ◌⊎◌, ℕ, ◌+◌, ◌≤◌, false, Bool, List, [], Result, OnOk}
+use Rattle.std.specs.Prelude.{◌≡◌, ◌⊎◌, ℕ, ◌+◌, ◌≤◌, nat_lt, if◌then◌else◌, false, Bool, List, [], Result, OnOk}
 use Rattle.im_base_types.specs.declared.fault.Fault.{Fault}
 use Rattle.im_base_types.specs.declared.file_id.FileId.TheVariants.{Log, Pages, Log2}
 use Rattle.im_base_types.specs.Records.{Logged}
@@ -12,8 +12,12 @@ use Rattle.im_log_choice.specs.Current.{HasCurrent, IsCurrent}
 use Rattle.im_log_gate.specs.Header.{generation_of, least_number}
 use Rattle.im_log_gate.specs.Gate.{place_of}
 use Rattle.im_log.specs.declared.log_file.LogFile.{LogFile}
-use Rattle.im_log.specs.LogFile.{IsLog}
+use Rattle.im_log.specs.LogFile.{next_lsn, IsLog}
 use Rattle.im_log.specs.Kept.{HasLog}
+
+-- The LSN of the gate once what waits is durable.
+abbrev pub next_gate : LogFile → ℕ
+next_gate log = if nat_lt 0 log.used then next_lsn log else log.base + place_of log.gate
 
 -- Files have a current log: the one from before with its list, or one that starts at this LSN and has no record. Then the one from before is the other.
 pub record HasEither (base : ℕ) (all : List Logged) (start : ℕ) (was files : Files) : Type 0 where
@@ -33,7 +37,7 @@ module _ {D : Type 0} (d : Ghosts D) (base : ℕ) (all : List Logged) (next : �
     pub pages : d.seen disk Pages ≡ d.seen old_disk Pages
     pub durable : IsSynced d disk
 
-  -- A log whose records are all durable goes on; a stop within leaves files that have the one log or the other.
+  -- A log whose records are all durable goes on, with all of each file on the disk; a stop within leaves files that have the one log or the other.
   pub record GoOnKept (new : LogFile) (disk : D) (result : Result Unit Fault) : Type 0 where
     pub ok : OnOk result (WentOn new disk)
     pub stops : IsCurrent false (d.seen old_disk) → HasCurrent (d.seen old_disk) → LeavesNamed d old_disk disk (HasEither base all (base + place_of old.gate) (d.seen old_disk))

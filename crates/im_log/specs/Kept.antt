@@ -9,7 +9,7 @@ use Rattle.im_base_disk.specs.declared.disk.Disk.{Ghosts}
 use Rattle.im_base_disk.specs.Disk.{Files}
 use Rattle.im_base_disk.specs.Runs.{LeavesIn, ChangesOnly}
 use Rattle.im_log_gate.specs.Batches.{batches}
-use Rattle.im_log_gate.specs.Header.{base_of, first_gate, IsMade, IsUnmade}
+use Rattle.im_log_gate.specs.Header.{base_of, first_gate, generation_of, IsMade, IsUnmade}
 use Rattle.im_log_record.specs.Entry.{Entry}
 use Rattle.im_log.specs.declared.log_file.LogFile.{LogFile}
 use Rattle.im_log.specs.Spelled.{logged_at, log_of}
@@ -31,9 +31,9 @@ pub record IsStore (files : Files) : Type 0 where
   pub spelled : IsLogOf (base_of (files Log)) all (files Log)
   pub bare : IsUnmade (files Log) → length (files Pages) ≡ 0
 
--- The bytes have the one list or the other.
-abbrev pub SpellsEither : ℕ → List Logged → List Logged → List ℕ → Type 0
-SpellsEither base durable all bytes = HasLog base durable bytes ⊎ HasLog base all bytes
+-- The bytes have the one list or the other, in a log of the generation of those from before.
+abbrev pub SpellsEither : ℕ → List Logged → List Logged → List ℕ → List ℕ → Type 0
+SpellsEither base durable all was bytes = (HasLog base durable bytes ⊎ HasLog base all bytes) × (generation_of bytes ≡ generation_of was)
 
 -- They have a list between the two.
 pub record SpellsBetween (base : ℕ) (durable all : List Logged) (bytes : List ℕ) : Type 0 where
@@ -42,10 +42,11 @@ pub record SpellsBetween (base : ℕ) (durable all : List Logged) (bytes : List 
   pub longer : IsFront durable left
   pub shorter : IsFront left all
 
--- The one file's batches are the other's and more at the end.
+-- The one file's batches are the other's and more at the end, in a log of the same generation.
 pub record HasMore (old new : List ℕ) : Type 0 where
   pub more : List (List ℕ)
   pub grown : (before : List (List ℕ)) → batches (first_gate old) old ≡ Some before → batches (first_gate new) new ≡ Some (before ++ more)
+  pub generation : generation_of new ≡ generation_of old
 
 module _ {D : Type 0} (d : Ghosts D) (base : ℕ) (all durable : List Logged) where
   -- The record joined the list, with an LSN above all before. What is durable may have grown.
@@ -58,7 +59,7 @@ module _ {D : Type 0} (d : Ghosts D) (base : ℕ) (all durable : List Logged) wh
 
   pub record AppendKept (entry : Entry) (old_disk : D) (new : LogFile) (new_disk : D) (result : Result ℕ Fault) : Type 0 where
     pub ok : IfOk result (λ lsn. Appended entry lsn old_disk new new_disk)
-    pub stops : LeavesIn d Log old_disk new_disk (SpellsEither base durable all)
+    pub stops : LeavesIn d Log old_disk new_disk (SpellsEither base durable all (d.seen old_disk Log))
 
   -- All is durable.
   pub record Forced (old_disk : D) (new : LogFile) (disk : D) : Type 0 where
@@ -67,7 +68,7 @@ module _ {D : Type 0} (d : Ghosts D) (base : ℕ) (all durable : List Logged) wh
 
   pub record ForceKept (old_disk : D) (new : LogFile) (new_disk : D) (result : Result Unit Fault) : Type 0 where
     pub ok : OnOk result (Forced old_disk new new_disk)
-    pub stops : LeavesIn d Log old_disk new_disk (SpellsEither base durable all)
+    pub stops : LeavesIn d Log old_disk new_disk (SpellsEither base durable all (d.seen old_disk Log))
 
 -- What reading a log keeps of a file that has this list.
 pub record ReadKept {D : Type 0} (d : Ghosts D) (base : ℕ) (all : List Logged) (disk : D) (result : Result LogFile Fault) : Type 0 where

@@ -30,10 +30,10 @@ module _ (was : Files) (g b n : ℕ) where
       back : named (not r.swapped) (named true c) ≡ named r.swapped c
       back = other_names r.swapped (named true c) ∙ ap (named r.swapped) (same_files true c)
 
-module _ {D : Type 0} (d : Ghosts D) (old mid : D) (g b n : ℕ) (synced : IsSynced d old) where
+module _ {D : Type 0} (d : Ghosts D) (old mid : D) (g b n : ℕ) where
   -- while the other file is made
-  pub making_goes_on : LeavesIn d Log2 old mid (IsBeingMade (d.seen old Log2) g b n) → LeavesOnly d old mid (IsGoingOn (d.seen old) g b n)
-  making_goes_on run =
+  pub making_goes_on : IsSynced d old → LeavesIn d Log2 old mid (IsBeingMade (d.seen old Log2) g b n) → LeavesOnly d old mid (IsGoingOn (d.seen old) g b n)
+  making_goes_on synced run =
       weakened d old mid (Stepped (InFile Log2 (λ _ bytes. IsBeingMade (d.seen old Log2) g b n bytes)) (d.may_leave old)) (IsGoingOn (d.seen old) g b n) run
       (λ told c left. record {
         swapped = false;
@@ -42,25 +42,29 @@ module _ {D : Type 0} (d : Ghosts D) (old mid : D) (g b n : ℕ) (synced : IsSyn
         other = left.2.changed;
       })
 
-  pub stops_making : LeavesIn d Log2 old mid (IsBeingMade (d.seen old Log2) g b n) → LeavesNamed d old mid (IsGoingOn (d.seen old) g b n)
-  stops_making run = unnamed d (IsGoingOn (d.seen old) g b n) (going_nameless (d.seen old) g b n) old mid (making_goes_on run)
+  pub stops_making : IsSynced d old → LeavesIn d Log2 old mid (IsBeingMade (d.seen old Log2) g b n) → LeavesNamed d old mid (IsGoingOn (d.seen old) g b n)
+  stops_making synced run = unnamed d (IsGoingOn (d.seen old) g b n) (going_nameless (d.seen old) g b n) old mid (making_goes_on synced run)
 
   module _ (changes : ChangesOnly d Log2 old mid) (durable : Only Log2 (d.seen mid) (d.may_leave mid)) where
     -- once it is made
-    made_synced : IsSynced d mid
-    made_synced Log2 c left = durable c left
-    made_synced Log c left =
+    made_synced : IsSynced d old → IsSynced d mid
+    made_synced synced Log2 c left = durable c left
+    made_synced synced Log c left =
         let e = changes.outcomes c left in
         e.2 Log log_not_other ∙ synced Log e.0 e.1 ∙ sym (changes.seen Log log_not_other)
-    made_synced Pages c left =
+    made_synced synced Pages c left =
         let e = changes.outcomes c left in
         e.2 Pages pages_not_other ∙ synced Pages e.0 e.1 ∙ sym (changes.seen Pages pages_not_other)
 
     -- and has its name
     module _ (new : D) (seen : d.seen new ≡ named true (d.seen mid)) (may_leave : (c : Files) → d.may_leave new c ↔ d.may_leave mid (named true c)) where
-      pub turned_synced : IsSynced d new
-      turned_synced file c left =
-          ap (λ (f : Files). f file) (sym (same_files true c)) ∙ made_synced (file_named true file) (named true c) ((may_leave c).0 left) ∙ ap (λ (f : Files). f file) (sym seen)
+      pub turned_synced : IsSynced d old → IsSynced d new
+      turned_synced synced file c left =
+          ap (λ (f : Files). f file) (sym (same_files true c)) ∙ made_synced synced (file_named true file) (named true c) ((may_leave c).0 left) ∙ ap (λ (f : Files). f file) (sym seen)
+
+      -- it is on the disk
+      pub turned_durable : Only Log (d.seen new) (d.may_leave new)
+      turned_durable c left = ap (λ (f : Files). f Log) (sym (same_files true c)) ∙ durable (named true c) ((may_leave c).0 left) ∙ ap (λ (f : Files). f Log) (sym seen)
 
       pub turned_other : d.seen new Log2 ≡ d.seen old Log
       turned_other = ap (λ (f : Files). f Log2) seen ∙ changes.seen Log log_not_other
@@ -73,9 +77,9 @@ module _ {D : Type 0} (d : Ghosts D) (old mid : D) (g b n : ℕ) (synced : IsSyn
 
       module _ (counts_now : (t : ℕ) (c : Files) → t ≤ d.moment mid → d.may_leave mid c → d.left_since mid t c) (only_now : (c : Files) → d.left_since mid (d.moment mid) c → d.may_leave mid c)
           (moment : d.moment new ≡ d.moment mid) (left_since : (t : ℕ) (c : Files) → d.left_since new t c ↔ d.left_since mid t (named true c)) where
-        pub stops_turned : LeavesIn d Log2 old mid (IsBeingMade (d.seen old Log2) g b n) → LeavesNamed d old new (IsGoingOn (d.seen old) g b n)
-        stops_turned run =
-            let making = making_goes_on run in
-            then_named d (IsGoingOn (d.seen old) g b n) (going_nameless (d.seen old) g b n) old mid new (stops_making run)
+        pub stops_turned : IsSynced d old → LeavesIn d Log2 old mid (IsBeingMade (d.seen old Log2) g b n) → LeavesNamed d old new (IsGoingOn (d.seen old) g b n)
+        stops_turned synced run =
+            let making = making_goes_on synced run in
+            then_named d (IsGoingOn (d.seen old) g b n) (going_nameless (d.seen old) g b n) old mid new (stops_making synced run)
             (swapped_leaves d (IsGoingOn (d.seen old) g b n) (going_nameless (d.seen old) g b n) mid new moment (λ t c left. (left_since t c).0 left) only_now
             (λ told c left. making.each told c (counts_now (d.moment old) c making.later left)))

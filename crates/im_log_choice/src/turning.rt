@@ -3,7 +3,7 @@
 ghost use Rattle.std.specs.Prelude.{◌≡◌, ◌⊎◌, ◌↔◌, ◌+◌, ◌^◌, ◌<◌, ◌≤◌, true, false, IfErr, IfOk, OnErr, OnOk};
 ghost use Rattle.im_base_types.specs.declared.file_id.FileId.TheVariants.{Log, Pages, Log2};
 ghost use Rattle.im_base_types.specs.declared.fault.Fault.TheVariants.{Capacity, Device, LogFull};
-ghost use Rattle.im_base_disk.specs.Disk.{Answers};
+ghost use Rattle.im_base_disk.specs.Disk.{Answers, Only};
 ghost use Rattle.im_base_disk.specs.Runs.{IsSynced, ChangesOnly, CostsAtMost};
 ghost use Rattle.im_base_two_logs.specs.Runs.{LeavesNamed};
 ghost use Rattle.im_log_header.specs.Header.{IsEmptyLog};
@@ -49,12 +49,12 @@ pub fn next_header(header: &Header, end: u64, next: TxnId) -> Result<Header, Fau
 /// Refused `Device`, and the names stay.
 pub fn go_on<D: TwoLogs>(disk: &mut D, header: &Header) -> Result<(), Fault>
     requires working { D.failed disk.old ≡ false }
-    requires durable { IsSynced D.Disk disk.old }
     ensures made { OnOk result (D.tells → IsEmptyLog header.now.generation header.now.base header.now.next (D.seen disk.new Log)) }
     ensures before { OnOk result (D.seen disk.new Log2 ≡ D.seen disk.old Log) }
     ensures pages { OnOk result (D.seen disk.new Pages ≡ D.seen disk.old Pages) }
-    ensures durable { OnOk result (IsSynced D.Disk disk.new) }
-    ensures any_moment { LeavesNamed D.Disk disk.old disk.new (IsGoingOn (D.seen disk.old) header.now.generation header.now.base header.now.next) }
+    ensures log { OnOk result (Only Log (D.seen disk.new) (D.may_leave disk.new)) }
+    ensures durable { OnOk result (IsSynced D.Disk disk.old → IsSynced D.Disk disk.new) }
+    ensures any_moment { IsSynced D.Disk disk.old → LeavesNamed D.Disk disk.old disk.new (IsGoingOn (D.seen disk.old) header.now.generation header.now.base header.now.next) }
     ensures stays { OnErr result (ChangesOnly D.Disk Log2 disk.old disk.new) }
     ensures few { CostsAtMost D.Disk 3 3 disk.old disk.new }
     ensures answers { Answers (D.failed disk.new) result }

@@ -31,11 +31,10 @@ fn is_closed<D: Disk>(disk: &mut D, file: FileId) -> Result<bool, Fault>
 // Writes byte 0 as 0, where the file has at most one byte or byte 0 is 1. Any other file is closed already.
 fn close<D: Disk>(disk: &mut D, file: FileId) -> Result<(), Fault>
     requires working { D.failed disk.old ≡ false }
-    requires durable { Only file (D.seen disk.old) (D.may_leave disk.old) }
     ensures begun { OnOk result (D.tells → 1 ≤ length (D.seen disk.new file)) }
     ensures closed { OnOk result (D.tells → slice_index (D.seen disk.new file) 0 ≢ 1) }
-    ensures durable { OnOk result (Only file (D.seen disk.new) (D.may_leave disk.new)) }
-    ensures any_moment { LeavesIn D.Disk file disk.old disk.new (λ c. (c ≡ D.seen disk.old file) ⊎ IsUnmade c) }
+    ensures durable { OnOk result (Only file (D.seen disk.old) (D.may_leave disk.old) → Only file (D.seen disk.new) (D.may_leave disk.new)) }
+    ensures any_moment { Only file (D.seen disk.old) (D.may_leave disk.old) → LeavesIn D.Disk file disk.old disk.new (λ c. (c ≡ D.seen disk.old file) ⊎ IsUnmade c) }
     ensures changes { ChangesOnly D.Disk file disk.old disk.new }
     ensures few { CostsAtMost D.Disk 1 1 disk.old disk.new }
     ensures answers { Answers (D.failed disk.new) result }
@@ -62,10 +61,9 @@ fn write<D: Disk>(disk: &mut D, file: FileId, header: &Header) -> Result<(), Fau
     requires working { D.failed disk.old ≡ false }
     requires begun { D.tells → 1 ≤ length (D.seen disk.old file) }
     requires closed { D.tells → slice_index (D.seen disk.old file) 0 ≢ 1 }
-    requires durable { Only file (D.seen disk.old) (D.may_leave disk.old) }
     ensures made { OnOk result (D.tells → IsEmptyLog header.now.generation header.now.base header.now.next (D.seen disk.new file)) }
     ensures durable { OnOk result (Only file (D.seen disk.new) (D.may_leave disk.new)) }
-    ensures any_moment { LeavesIn D.Disk file disk.old disk.new (λ c. IsUnmade c ⊎ IsEmptyLog header.now.generation header.now.base header.now.next c) }
+    ensures any_moment { Only file (D.seen disk.old) (D.may_leave disk.old) → LeavesIn D.Disk file disk.old disk.new (λ c. IsUnmade c ⊎ IsEmptyLog header.now.generation header.now.base header.now.next c) }
     ensures changes { ChangesOnly D.Disk file disk.old disk.new }
     ensures few { CostsAtMost D.Disk 2 2 disk.old disk.new }
     ensures answers { Answers (D.failed disk.new) result }
@@ -76,15 +74,14 @@ fn write<D: Disk>(disk: &mut D, file: FileId, header: &Header) -> Result<(), Fau
 }
 
 /// Makes a log of the second format with this header and no batch, of a file whatever it has: by six device calls, or four where
-/// the file has two bytes or more and its byte 0 is not 1. A stop within leaves the file as it was, or not made, or the new log.
+/// the file has two bytes or more and its byte 0 is not 1. Where all of the file was on the disk, a stop within leaves it as it was, or not made, or the new log.
 ///
 /// Refused `Device`.
 pub fn make_log<D: Disk>(disk: &mut D, file: FileId, header: &Header) -> Result<(), Fault>
     requires working { D.failed disk.old ≡ false }
-    requires durable { Only file (D.seen disk.old) (D.may_leave disk.old) }
     ensures made { OnOk result (D.tells → IsEmptyLog header.now.generation header.now.base header.now.next (D.seen disk.new file)) }
     ensures durable { OnOk result (Only file (D.seen disk.new) (D.may_leave disk.new)) }
-    ensures any_moment { LeavesIn D.Disk file disk.old disk.new (IsBeingMade (D.seen disk.old file) header.now.generation header.now.base header.now.next) }
+    ensures any_moment { Only file (D.seen disk.old) (D.may_leave disk.old) → LeavesIn D.Disk file disk.old disk.new (IsBeingMade (D.seen disk.old file) header.now.generation header.now.base header.now.next) }
     ensures changes { ChangesOnly D.Disk file disk.old disk.new }
     ensures few { CostsAtMost D.Disk 3 3 disk.old disk.new }
     ensures answers { Answers (D.failed disk.new) result }

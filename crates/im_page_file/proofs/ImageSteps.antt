@@ -2,7 +2,7 @@
 use Rattle.std.proofs.Common.{◌≡◌, ◌≢◌, ℕ, ◌<◌, ◌≤◌, false, List, [], ◌∷◌, refl, sym, ◌∙◌, ap, subst, Option, None, Some, Result, Ok, Err}
 use Rattle.std.specs.Prelude.{IfOk}
 use Rattle.im_base_types.specs.declared.fault.Fault.{Fault}
-use Rattle.im_base_types.specs.declared.file_id.FileId.TheVariants.{Log, Pages}
+use Rattle.im_base_types.specs.declared.file_id.FileId.TheVariants.{Log, Pages, Log2}
 use Rattle.im_base_types.specs.Pages.{Page}
 use Rattle.im_base_types.specs.Records.{Logged}
 use Rattle.im_theory_log.specs.Histories.{Base, History, IsFront, end_of, page_at}
@@ -34,6 +34,7 @@ use Rattle.im_page_table.specs.Growth.{image_at, image_pages, with_image}
 use Rattle.im_page_file.specs.Images.{MayImage, Imaged, ImageKept}
 use Rattle.im_page_table.specs.KnownCopies.{KnowsCopies}
 use Rattle.im_page_table.proofs.KnownCopies.{knows_grown, knows_joined, knows_redoing}
+use Rattle.im_page_file.proofs.OtherLog.{older_as, only_spared}
 use Rattle.im_page_file.proofs.PageFiles.{page_file_spared}
 use Rattle.im_page_file.proofs.Standing.{log_stops}
 
@@ -106,6 +107,8 @@ module _ {D : Type 0} (d : Ghosts D) (b : Base) (base : ℕ) (s : Writer) (log :
           file = file_imaged d s.redo_end lsn s.pages new (page_file_spared d s.pages old new (spared d Log Pages old new (λ same. cc) changes) st.file);
           tied = tied_imaged s.redo_end lsn s.pages table st.tied;
           copies = knows_imaged b s lsn p put.now_durable st.kept st.copies (put.rises b starts) put.grows;
+          other = only_spared d Log2 old new (spared d Log Log2 old new (λ same. cc) changes) st.other;
+          older = older_as (d.seen old) (d.seen new) put.file.generation (changes.seen Log2 (λ same. cc)) st.older;
         };
       }
 

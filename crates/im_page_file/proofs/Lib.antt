@@ -5,3 +5,4 @@ pub mod Standing
 pub mod ImageSteps
 pub mod Openings
 pub mod WaitingRecords
+pub mod OtherLog

@@ -1,7 +1,7 @@
 -- How a writer of pages stands behind each of its calls, and what a stop within one leaves.
 use Rattle.std.proofs.Common.{◌≡◌, inl, ⊎_elim, ℕ, ◌*◌, ◌≤◌, false, true, List, length, refl, sym, ◌∙◌, ap, subst}
 use Rattle.im_base_types.specs.declared.file_id.FileId.{FileId}
-use Rattle.im_base_types.specs.declared.file_id.FileId.TheVariants.{Log, Pages}
+use Rattle.im_base_types.specs.declared.file_id.FileId.TheVariants.{Log, Pages, Log2}
 use Rattle.im_theory_log.specs.Histories.{Base, History, IsFront}
 use Rattle.im_theory_log.specs.Writer.{Writer, WriterKept}
 use Rattle.im_theory_log.specs.WriterSteps.{forced, synced_entry, written, written_entry}
@@ -12,7 +12,7 @@ use Rattle.im_base_disk.specs.declared.disk.Disk.{Ghosts}
 use Rattle.im_base_disk.specs.Disk.{Files, Only, Holds, Torn, InFile, Stepped, Follows}
 use Rattle.im_base_disk.specs.Runs.{ChangesOnly, LeavesIn, LeavesOnly, Reads, Spares}
 use Rattle.im_base_disk.proofs.Runs.{reads_on, spared, spares_reads, started, then_on, weakened}
-use Rattle.im_log_gate.specs.Header.{base_of, IsMade}
+use Rattle.im_log_gate.specs.Header.{base_of, generation_of, IsMade}
 use Rattle.im_log.specs.declared.log_file.LogFile.{LogFile}
 use Rattle.im_log.specs.LogFile.{IsOpen, IsLog}
 use Rattle.im_log.specs.Spelled.{log_of}
@@ -21,10 +21,12 @@ use Rattle.im_log.proofs.Above.{front_then, log_spared, open_spared}
 use Rattle.im_theory_page.specs.PageFile.{file_page}
 use Rattle.im_page_table.specs.declared.table_entry.TableEntry.{TableEntry}
 use Rattle.im_page_table.specs.DirtyTable.{entry_in, has_room, written_in, ChangesEntry}
+use Rattle.im_page_file.specs.OtherLog.{IsOlder}
 use Rattle.im_page_file.specs.PageFile.{KeepsSynced}
 use Rattle.im_page_file.specs.Stands.{IsCovered, LeavesCovered, Stands, MayWritePage, Synced, Run}
 use Rattle.im_page_table.proofs.TableSteps.{tied_synced, tied_written}
 use Rattle.im_page_table.proofs.KnownCopies.{knows_forced, knows_synced, knows_written}
+use Rattle.im_page_file.proofs.OtherLog.{older_as, only_spared}
 use Rattle.im_page_file.proofs.PageFiles.{page_file_spared, page_file_synced, page_file_torn, page_file_written}
 
 -- ---- the log's file
@@ -39,16 +41,18 @@ open_synced d log old new seen outcomes works is_open = open_spared d log old ne
 -- ---- what a stop leaves
 
 module _ {D : Type 0} (d : Ghosts D) (b : Base) (base : ℕ) where
-  covered_by : (t : Writer) (c : Files) → WriterKept b t → HasLog base t.durable (c Log) → KeepsSynced t.pages (c Pages) → IsCovered b base t.durable t.log c
-  covered_by t c kept has keeps = record {
+  covered_by : (t : Writer) (c : Files) → WriterKept b t → HasLog base t.durable (c Log) → KeepsSynced t.pages (c Pages) → IsOlder c → IsCovered b base t.durable t.log c
+  covered_by t c kept has keeps older = record {
     log = record { left = t.durable; has = has; longer = front_self t.durable; shorter = kept.front };
     pages = covers b t kept (file_page (c Pages)) keeps t.durable (record { from = front_self t.durable; upto = kept.front });
+    older = older;
   }
 
   pub wider_covered : (low durable high higher : History) (c : Files) → IsFront low durable → IsFront high higher → IsCovered b base durable high c → IsCovered b base low higher c
   wider_covered low durable high higher c below above is = record {
     log = record { left = is.log.left; has = is.log.has; longer = front_then low durable is.log.left below is.log.longer; shorter = front_then is.log.left high higher is.log.shorter above };
     pages = is.pages;
+    older = is.older;
   }
 
   -- what a stop leaves of two runs in a row
@@ -71,34 +75,41 @@ module _ {D : Type 0} (d : Ghosts D) (b : Base) (base : ℕ) where
     has_log : (c : Files) → c Log ≡ d.seen old Log → HasLog base s.durable (c Log)
     has_log c same = record { made = subst IsMade (sym same) st.log_is.made; starts = ap base_of same ∙ st.log_is.starts; spells = ap (log_of base) same ∙ st.log_is.on_disk }
 
+    -- the other log is older still
+    older_left : (c : Files) → c Log ≡ d.seen old Log → c Log2 ≡ d.seen old Log2 → IsOlder c
+    older_left c log other = older_as (d.seen old) c (ap generation_of log) other st.older
+
     -- a stop now
     pub stop_now : (c : Files) → d.may_leave old c → IsCovered b base s.durable s.log c
-    stop_now c left = covered_by s c st.kept (has_log c (log_durable c left)) (st.file.leaves c left)
+    stop_now c left = covered_by s c st.kept (has_log c (log_durable c left)) (st.file.leaves c left) (older_left c (log_durable c left) (st.other c left))
 
     -- a stop within the write of a page
     pub write_stops : (p l n : ℕ) (new : D) → n ≡ 4096 → WriterKept b (written p l s) → LeavesOnly d old new (Stepped (InFile Pages (Torn (p * 4096) n)) (d.may_leave old)) → LeavesCovered d b base s.durable s.log old new
     write_stops p l n new whole kept run =
         weakened d old new (Stepped (InFile Pages (Torn (p * 4096) n)) (d.may_leave old)) (IsCovered b base s.durable s.log) run
         (λ told c left.
-        covered_by (written p l s) c kept (has_log c (left.2.others Log (λ same. cc) ∙ log_durable left.0 left.1)) (page_file_torn d s.pages p l n old whole st.file c left))
+        let log = left.2.others Log (λ same. cc) ∙ log_durable left.0 left.1 in
+        covered_by (written p l s) c kept (has_log c log) (page_file_torn d s.pages p l n old whole st.file c left) (older_left c log (left.2.others Log2 (λ same. cc) ∙ st.other left.0 left.1)))
 
     -- a stop within a sync
     pub sync_stops : (new : D) → LeavesOnly d old new (d.may_leave old) → LeavesCovered d b base s.durable s.log old new
     sync_stops new run = weakened d old new (d.may_leave old) (IsCovered b base s.durable s.log) run (λ told c left. stop_now c left)
 
     -- a stop within a call of the log
-    pub log_stops : (new : D) → LeavesIn d Log old new (SpellsEither base s.durable s.log) → LeavesCovered d b base s.durable s.log old new
+    pub log_stops : (new : D) → LeavesIn d Log old new (SpellsEither base s.durable s.log (d.seen old Log)) → LeavesCovered d b base s.durable s.log old new
     log_stops new run =
         weakened d old new _ (IsCovered b base s.durable s.log) run
         (λ told c left.
         let keeps = subst (λ (bytes : List ℕ). KeepsSynced s.pages bytes) (sym (left.2.others Pages (λ same. cc))) (st.file.leaves left.0 left.1) in
+        let older = older_as (d.seen old) c left.2.changed.1 (left.2.others Log2 (λ same. cc) ∙ st.other left.0 left.1) st.older in
         ⊎_elim
-        (λ (has : HasLog base s.durable (c Log)). covered_by s c st.kept has keeps)
+        (λ (has : HasLog base s.durable (c Log)). covered_by s c st.kept has keeps older)
         (λ (has : HasLog base s.log (c Log)). record {
           log = record { left = s.log; has = has; longer = st.kept.front; shorter = front_self s.log };
           pages = covers b s st.kept (file_page (c Pages)) keeps s.log (record { from = st.kept.front; upto = front_self s.log });
+          older = older;
         })
-        left.2.changed)
+        left.2.changed.0)
 
     -- ---- how it stands then
 
@@ -114,6 +125,8 @@ module _ {D : Type 0} (d : Ghosts D) (b : Base) (base : ℕ) where
           file = page_file_written d s.pages p l bytes old new place whole may.page st.file holds crash;
           tied = tied_written s.pages p l table new_table may.entry is enters st.tied;
           copies = knows_written s p l st.copies;
+          other = only_spared d Log2 old new (spared d Pages Log2 old new (λ same. cc) changes) st.other;
+          older = older_as (d.seen old) (d.seen new) (ap generation_of spares.seen) (changes.seen Log2 (λ same. cc)) st.older;
         }
 
     pub stands_synced : (new_table : List TableEntry) (new : D) → d.seen new ≡ d.seen old → ((c : Files) → d.may_leave new c → d.may_leave old c) → Only Pages (d.seen new) (d.may_leave new) → d.failed new ≡ false
@@ -129,18 +142,22 @@ module _ {D : Type 0} (d : Ghosts D) (b : Base) (base : ℕ) where
             file = page_file_synced d s.pages old new seen durable st.file;
             tied = λ p. inl (entries p);
             copies = knows_synced b s st.kept st.copies;
+            other = λ c left. st.other c (outcomes c left) ∙ sym (ap (λ (files : Files). files Log2) seen);
+            older = older_as (d.seen old) (d.seen new) (ap generation_of spares.seen) (ap (λ (files : Files). files Log2) seen) st.older;
           };
           entries = entries;
         }
 
-    pub stands_forced : (new_log : LogFile) (new : D) → IsLog d base s.log s.log new_log new → IsOpen d new_log new → ChangesOnly d Log old new → Stands d b base (forced s) new_log table new
-    stands_forced new_log new log_is ready changes = record {
+    pub stands_forced : (new_log : LogFile) (new : D) → IsLog d base s.log s.log new_log new → IsOpen d new_log new → ChangesOnly d Log old new → generation_of (d.seen new Log) ≡ generation_of (d.seen old Log) → Stands d b base (forced s) new_log table new
+    stands_forced new_log new log_is ready changes same = record {
       kept = forced_kept b s st.kept;
       ready = ready;
       log_is = log_is;
       file = page_file_spared d s.pages old new (spared d Log Pages old new (λ same. cc) changes) st.file;
       tied = st.tied;
       copies = knows_forced s st.kept.front st.copies;
+      other = only_spared d Log2 old new (spared d Log Log2 old new (λ same. cc) changes) st.other;
+      older = older_as (d.seen old) (d.seen new) same (changes.seen Log2 (λ same. cc)) st.older;
     }
 
     pub stands_read : (new : D) → Reads d old new → d.failed new ≡ false → Stands d b base s log table new
@@ -151,6 +168,8 @@ module _ {D : Type 0} (d : Ghosts D) (b : Base) (base : ℕ) where
       file = page_file_spared d s.pages old new (spares_reads d Pages old new reads) st.file;
       tied = st.tied;
       copies = st.copies;
+      other = only_spared d Log2 old new (spares_reads d Log2 old new reads) st.other;
+      older = older_as (d.seen old) (d.seen new) (ap (λ (files : Files). generation_of (files Log)) reads.seen) (ap (λ (files : Files). files Log2) reads.seen) st.older;
     }
 
     -- ---- runs

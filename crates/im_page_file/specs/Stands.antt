@@ -1,13 +1,13 @@
 -- How a writer of pages stands over its log, its dirty table and a disk, and what each of its calls keeps.
 use Rattle.std.specs.Prelude.{◌≡◌, ℕ, Bool, true, List, Some, Result, IfOk, OnOk}
 use Rattle.im_base_types.specs.declared.fault.Fault.{Fault}
-use Rattle.im_base_types.specs.declared.file_id.FileId.TheVariants.{Log, Pages}
+use Rattle.im_base_types.specs.declared.file_id.FileId.TheVariants.{Log, Pages, Log2}
 use Rattle.im_theory_log.specs.Histories.{Base, History, IsFront}
 use Rattle.im_theory_log.specs.RedoPoints.{Covers}
 use Rattle.im_theory_log.specs.Writer.{Writer, WriterKept}
 use Rattle.im_theory_log.specs.WriterSteps.{MayWrite, written, synced}
 use Rattle.im_base_disk.specs.declared.disk.Disk.{Ghosts}
-use Rattle.im_base_disk.specs.Disk.{Files}
+use Rattle.im_base_disk.specs.Disk.{Files, Only}
 use Rattle.im_base_disk.specs.Runs.{LeavesOnly}
 use Rattle.im_log.specs.declared.log_file.LogFile.{LogFile}
 use Rattle.im_log.specs.LogFile.{IsOpen, IsLog}
@@ -16,18 +16,20 @@ use Rattle.im_theory_page.specs.Page.{page_of}
 use Rattle.im_theory_page.specs.PageFile.{file_page}
 use Rattle.im_page_table.specs.declared.table_entry.TableEntry.{TableEntry}
 use Rattle.im_page_table.specs.DirtyTable.{entry_in, HasEntries, IsTied}
+use Rattle.im_page_file.specs.OtherLog.{IsOlder}
 use Rattle.im_page_file.specs.PageFile.{IsPageFile}
 use Rattle.im_page_table.specs.KnownCopies.{KnowsCopies}
 
 -- ---- the whole
 
--- A stop left a front of the log between these two, and a file of pages that it covers.
+-- A stop left a front of the log between these two, and a file of pages that it covers; the other log is older.
 pub record IsCovered (b : Base) (base : ℕ) (low high : History) (c : Files) : Type 0 where
   pub log : SpellsBetween base low high (c Log)
   pub pages : Covers b log.left (file_page (c Pages))
+  pub older : IsOlder c
 
 module _ {D : Type 0} (d : Ghosts D) (b : Base) (base : ℕ) where
-  -- What a writer keeps is kept, and its log, its file of pages and its table are as it says.
+  -- What a writer keeps is kept, and its log, its file of pages and its table are as it says; the other log is older, and on the disk.
   pub record Stands (s : Writer) (log : LogFile) (table : List TableEntry) (disk : D) : Type 0 where
     pub kept : WriterKept b s
     pub ready : IsOpen d log disk
@@ -35,6 +37,8 @@ module _ {D : Type 0} (d : Ghosts D) (b : Base) (base : ℕ) where
     pub file : IsPageFile d s.pages disk
     pub tied : (p : ℕ) → IsTied (entry_in table p) (s.pages p).entry
     pub copies : KnowsCopies s
+    pub other : Only Log2 (d.seen disk) (d.may_leave disk)
+    pub older : IsOlder (d.seen disk)
 
   -- A stop at any moment since old leaves what redo can start from.
   abbrev pub LeavesCovered : History → History → D → D → Type 0

@@ -21,7 +21,7 @@ on_ok (Err e) P Q is to = tt
 -- ---- what stays
 
 pub same_page : (x : PageState) → SamePage x x
-same_page x = record { page = refl; waits = refl; found = refl; upto = omega arith }
+same_page x = record { page = refl; waits = refl; found = refl; upto = omega arith; written = λ w. w }
 
 pub same_then : (x y z : PageState) → SamePage x y → SamePage y z → SamePage x z
 same_then x y z one two = record {
@@ -29,6 +29,7 @@ same_then x y z one two = record {
   waits = two.waits ∙ one.waits;
   found = two.found ∙ one.found;
   upto = let low : x.upto ≤ y.upto = one.upto in let high : y.upto ≤ z.upto = two.upto in omega (arith, low, high);
+  written = λ w. two.written (one.written w);
 }
 
 images_then : (b : Base) (more some older : History) → AreImages b some older → AreImages b more (some ++ older) → AreImages b (more ++ some) older
@@ -79,6 +80,7 @@ module _ (b : Base) (s : Writer) (p l : ℕ) (kept : WriterKept b s) (ready : (s
     waits = refl;
     found = refl;
     upto = let high : (s.pages q).upto ≤ end_of b s.log + 1 = (kept.pages q).high in omega (arith, high, last);
+    written = λ w. w;
   }
 
   entry_imaged : (o : Option ℕ) (q : ℕ) → (image_pages o l s.pages q).entry ≡ (s.pages q).entry

@@ -4,15 +4,16 @@ use Rattle.im_base_types.specs.Pages.{Page}
 use Rattle.im_base_types.specs.Records.{Image, Logged}
 use Rattle.im_theory_log.specs.Histories.{Base, History, IsFront}
 use Rattle.im_theory_log.specs.Copies.{GrowsByImages}
-use Rattle.im_theory_log.specs.Writer.{PageState, Writer}
+use Rattle.im_theory_log.specs.Writer.{IsWritten, PageState, Writer}
 use Rattle.im_theory_log.specs.WriterSteps.{passed}
 
--- a page is as it was
+-- a page is as it was; where nothing of it was left to be written, nothing is
 pub record SamePage (old new : PageState) : Type 0 where
   pub page : new.page ≡ old.page
   pub waits : new.waits ≡ old.waits
   pub found : new.found ≡ old.found
   pub upto : old.upto ≤ new.upto
+  pub written : IsWritten old.entry → IsWritten new.entry
 
 -- Each page is as it was, and the log has Images more.
 pub record Keeps (b : Base) (s t : Writer) : Type 0 where

@@ -2,7 +2,7 @@
 use Rattle.std.proofs.Common.{◌≡◌, inl, inr, ℕ, ◌∷◌, true, false, Bool, List, Option, None, Some, refl, sym, ◌∙◌, ap, subst, arith}
 use Rattle.std.specs.Prelude.{is_some}
 use Rattle.std.proofs.lemmas.Bool.{cases_eq}
-use Rattle.im_base_types.specs.declared.file_id.FileId.TheVariants.{Log, Pages}
+use Rattle.im_base_types.specs.declared.file_id.FileId.TheVariants.{Log, Pages, Log2}
 use Rattle.im_base_types.specs.Pages.{Page}
 use Rattle.im_base_types.specs.Records.{Checkpoint, Commit, DeleteKey, DummyClr, End, Image, InsertKey, Smo, UndoDelete, UndoInsert, UndoSmo, Unreadable, What}
 use Rattle.im_theory_log.specs.Histories.{Base, page_after}
@@ -28,6 +28,7 @@ use Rattle.im_page_pool.specs.declared.frame.Frame.{Frame}
 use Rattle.im_page_pool.specs.Pool.{Held, PoolView, held_of, Sets}
 use Rattle.im_page_table.specs.declared.table_entry.TableEntry.{TableEntry}
 use Rattle.im_page_table.specs.DirtyTable.{ChangesEntry, HasEntries, is_changed}
+use Rattle.im_page_file.proofs.OtherLog.{older_as, only_spared}
 use Rattle.im_page_file.specs.PageFile.{IsPageFile}
 use Rattle.im_page_writer.specs.Writing.{IsShown, IsPooled, IsWriting}
 use Rattle.im_page_table.specs.KnownCopies.{changed_as, changed_page_as, IsAtOrAfter, IsKnownFrom}
@@ -125,6 +126,8 @@ module _ {D : Type 0} (d : Ghosts D) (b : Base) (base : ℕ) (s : Writer) (log n
           tied = λ q. inl (entries q);
           copies = knows_grown (changed_as known r s) done.now_durable done.grows
               (knows_joined b s r w.stands.kept w.stands.copies may.last (λ q. passed lsn (only r.page (changed_page_as known r) s.pages q)) (others_none (changed_page_as known r) r.page lsn s.pages (λ x none. cc none)));
+          other = only_spared d Log2 old new (spared d Log Log2 old new (λ same. cc) changes) w.stands.other;
+          older = older_as (d.seen old) (d.seen new) done.file.generation (changes.seen Log2 (λ same. cc)) w.stands.older;
         };
         entries = entries;
         pooled = pooled_same new_pool (only r.page (changed_page_as known r) s.pages) (λ q. passed lsn (only r.page (changed_page_as known r) s.pages q)) (λ q. refl) (λ q. refl) (λ q. refl) pooled;

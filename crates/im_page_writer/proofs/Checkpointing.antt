@@ -2,7 +2,7 @@
 use Rattle.std.proofs.Common.{◌≡◌, inl, inr, ℕ, ◌<◌, Bool, false, true, List, [], ◌∷◌, Option, None, Some, refl, sym, ◌∙◌, ap, subst}
 use Rattle.im_base_types.specs.declared.fault.Fault.{Fault}
 use Rattle.im_base_types.specs.declared.fault.Fault.TheVariants.{Device, Failed, LogFull, NotAStore}
-use Rattle.im_base_types.specs.declared.file_id.FileId.TheVariants.{Log, Pages}
+use Rattle.im_base_types.specs.declared.file_id.FileId.TheVariants.{Log, Pages, Log2}
 use Rattle.im_base_types.specs.declared.tables.ActiveTransaction.{ActiveTransaction}
 use Rattle.im_base_types.specs.declared.tables.DirtyPage.{DirtyPage}
 use Rattle.im_theory_log.specs.Histories.{Base, end_of}
@@ -23,6 +23,7 @@ use Rattle.im_page_writer.specs.declared.page_writer.PageWriter.{PageWriter}
 use Rattle.im_page_table.specs.declared.table_entry.TableEntry.{TableEntry}
 use Rattle.im_page_table.specs.DirtyTable.{entry_in, HasEntries, is_changed}
 use Rattle.im_page_table.specs.KnownCopies.{KnowsCopies}
+use Rattle.im_page_file.proofs.OtherLog.{older_as, only_spared}
 use Rattle.im_page_file.specs.Stands.{LeavesCovered}
 use Rattle.im_page_writer.specs.Writing.{IsPooled, IsShown, IsWriting}
 use Rattle.im_page_writer.specs.PageWriter.{GoesOn}
@@ -92,6 +93,8 @@ module _ {D : Type 0} (d : Ghosts D) (b : Base) (base : ℕ) (s : Writer) (log :
       file = record { reads = w.stands.file.reads; leaves = w.stands.file.leaves };
       tied = λ p. inl (entries p);
       copies = knows_forgotten s w.stands.copies;
+      other = w.stands.other;
+      older = w.stands.older;
     };
     entries = entries;
     pooled = pooled_forgotten pool s.pages w.pooled;
@@ -119,6 +122,8 @@ module _ {D : Type 0} (d : Ghosts D) (b : Base) (base : ℕ) (s : Writer) (e nex
           file = record { reads = file.reads; leaves = file.leaves };
           tied = w.stands.tied;
           copies = knows_grown (appended r t) done.now_durable done.grows (knows_joined b t r w.stands.kept w.stands.copies high (λ q. passed lsn (t.pages q)) (λ q none. (none, refl)));
+          other = only_spared d Log2 old new (spared d Log Log2 old new (λ same. cc) changes) w.stands.other;
+          older = older_as (d.seen old) (d.seen new) done.file.generation (changes.seen Log2 (λ same. cc)) w.stands.older;
         };
         entries = w.entries;
         pooled = pooled_same pool t.pages (λ q. passed lsn (t.pages q)) (λ q. refl) (λ q. refl) (λ q. refl) w.pooled;

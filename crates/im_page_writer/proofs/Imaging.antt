@@ -19,6 +19,7 @@ use Rattle.im_base_disk.specs.Disk.{Files}
 use Rattle.im_base_disk.specs.Runs.{ChangesOnly, LeavesIn}
 use Rattle.im_log.specs.declared.log_file.LogFile.{LogFile}
 use Rattle.im_log.specs.LogFile.{IsLog, IsOpen}
+use Rattle.im_log_gate.specs.Header.{generation_of}
 use Rattle.im_log.specs.Kept.{SpellsEither}
 use Rattle.im_page_pool.specs.Pool.{PoolView}
 use Rattle.im_page_table.specs.declared.table_entry.TableEntry.{TableEntry}
@@ -187,9 +188,9 @@ module _ {D : Type 0} (d : Ghosts D) (b : Base) (base : ℕ) (s : Writer) (first
 
 module _ {D : Type 0} (d : Ghosts D) (b : Base) (base : ℕ) (s : Writer) (log new_log : LogFile) (table : List TableEntry) (pool : PoolView) (old new : D) (w : IsWriting d b base s log table pool old) where
   -- The log is forced.
-  pub goes_forced : IsLog d base s.log s.log new_log new → IsOpen d new_log new → ChangesOnly d Log old new → LeavesIn d Log old new (SpellsEither base s.durable s.log) → Goes d b base s old (forced s) new_log table pool new
-  goes_forced log_is opened changes stops = record {
-    writing = record { stands = stands_forced d b base s log table old w.stands new_log new log_is opened changes; entries = w.entries; pooled = record { shows = w.pooled.shows; ready = w.pooled.ready }; based = w.based };
+  pub goes_forced : IsLog d base s.log s.log new_log new → IsOpen d new_log new → ChangesOnly d Log old new → LeavesIn d Log old new (SpellsEither base s.durable s.log (d.seen old Log)) → generation_of (d.seen new Log) ≡ generation_of (d.seen old Log) → Goes d b base s old (forced s) new_log table pool new
+  goes_forced log_is opened changes stops same = record {
+    writing = record { stands = stands_forced d b base s log table old w.stands new_log new log_is opened changes same; entries = w.entries; pooled = record { shows = w.pooled.shows; ready = w.pooled.ready }; based = w.based };
     stops = log_stops d b base s log table old w.stands new stops;
     keeps = record { log = grows_none b s.log; durable = w.stands.kept.front; point = refl; redo_end = refl; pages = λ p. same_page (s.pages p) };
   }

@@ -22,5 +22,8 @@ pub mod Restarting
 pub mod Outcomes
 pub mod Checkpointing
 pub mod EarlyWrites
+pub mod FlushedRows
+pub mod Switching
 mod Loans
+mod SameWriter
 mod RoundsDone

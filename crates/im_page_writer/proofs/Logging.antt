@@ -1,6 +1,6 @@
 -- A record that changes no page joins the log, after redo.
 use Rattle.std.proofs.Common.{◌≡◌, ℕ, ◌<◌, List, ◌∷◌, None, Some, refl, sym, ◌∙◌}
-use Rattle.im_base_types.specs.declared.file_id.FileId.TheVariants.{Log, Pages}
+use Rattle.im_base_types.specs.declared.file_id.FileId.TheVariants.{Log, Pages, Log2}
 use Rattle.im_theory_log.specs.Histories.{Base, end_of, page_at}
 use Rattle.im_theory_log.specs.Writer.{Writer}
 use Rattle.im_theory_log.specs.WriterSteps.{MayAppend, appended, passed}
@@ -22,6 +22,7 @@ use Rattle.im_page_table.specs.declared.table_entry.TableEntry.{TableEntry}
 use Rattle.im_page_writer.specs.Writing.{IsWriting}
 use Rattle.im_page_writer.specs.PageWriter.{IsPlain}
 use Rattle.im_page_table.proofs.KnownCopies.{knows_grown, knows_joined}
+use Rattle.im_page_file.proofs.OtherLog.{older_as, only_spared}
 use Rattle.im_page_file.proofs.PageFiles.{page_file_spared}
 use Rattle.im_page_writer.proofs.Goings.{pooled_same}
 
@@ -55,6 +56,8 @@ module _ {D : Type 0} (d : Ghosts D) (b : Base) (base : ℕ) (s : Writer) (e : �
           tied = w.stands.tied;
           copies = knows_grown (appended (logged_at lsn entry) s) done.now_durable done.grows
               (knows_joined b s (logged_at lsn entry) w.stands.kept w.stands.copies logged_high (λ q. passed lsn (s.pages q)) (λ q none. (none, refl)));
+          other = only_spared d Log2 old new (spared d Log Log2 old new (λ same. cc) changes) w.stands.other;
+          older = older_as (d.seen old) (d.seen new) done.file.generation (changes.seen Log2 (λ same. cc)) w.stands.older;
         };
         entries = w.entries;
         pooled = pooled_same pool s.pages (λ q. passed lsn (s.pages q)) (λ q. refl) (λ q. refl) (λ q. refl) w.pooled;

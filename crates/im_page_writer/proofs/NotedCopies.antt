@@ -137,6 +137,10 @@ module _ {D : Type 0} (d : Ghosts D) (b : Base) (base : ℕ) where
     waits = stays (λ x. x.waits) (λ x. refl) pages p q;
     found = stays (λ x. x.found) (λ x. refl) pages p q;
     upto = (let same : (only p told_state pages q).upto ≡ (pages q).upto = stays (λ x. x.upto) (λ x. refl) pages p q in omega (arith, same));
+    written = λ w. elim (cases_eq p q) [
+      | inl here ↦ subst (λ (x : PageState). IsWritten x.entry) (sym (only_here told_state pages p q here)) (shown_told None (pages q) w)
+      | inr other ↦ subst (λ (x : PageState). IsWritten x.entry) (sym (only_other told_state pages p q other)) w
+    ];
   }
 
   -- The copy that the log has of a changed page is known from now on.
@@ -156,6 +160,8 @@ module _ {D : Type 0} (d : Ghosts D) (b : Base) (base : ℕ) where
             file = file_told t.pages p new_disk w.stands.file;
             tied = λ q. inl (entries q);
             copies = told_knows b t p e at done.copy w.stands.copies;
+            other = w.stands.other;
+            older = w.stands.older;
           };
           entries = entries;
           pooled = pooled_told pool t.pages p w.pooled;

@@ -2,7 +2,7 @@
 use Rattle.std.proofs.Common.{◌≡◌, inl, inr, ℕ, ◌+◌, ◌-◌, ◌*◌, ◌≤◌, false, true, Bool, List, Option, None, Some, refl, sym, ◌∙◌, ap, subst, arith}
 use Rattle.std.specs.Prelude.{if◌then◌else◌, option_map, is_some}
 use Rattle.std.proofs.lemmas.Bool.{cases_Bool, cases_eq}
-use Rattle.im_base_types.specs.declared.file_id.FileId.TheVariants.{Log, Pages}
+use Rattle.im_base_types.specs.declared.file_id.FileId.TheVariants.{Log, Pages, Log2}
 use Rattle.im_base_types.specs.Pages.{Page}
 use Rattle.im_theory_log.specs.Histories.{Base, History}
 use Rattle.im_theory_log.specs.Writer.{DirtyEntry, PageState, Writer, IsWritten}
@@ -22,6 +22,8 @@ use Rattle.im_page_pool.specs.Pool.{Held, PoolView, held_of}
 use Rattle.im_page_pool.specs.Writes.{TearsPage, WritesPage}
 use Rattle.im_page_table.specs.declared.table_entry.TableEntry.{TableEntry}
 use Rattle.im_page_table.specs.DirtyTable.{entry_in, has_room, put, written_in, ChangesEntry, is_changed}
+use Rattle.im_log_gate.specs.Header.{generation_of}
+use Rattle.im_page_file.proofs.OtherLog.{older_as, only_spared}
 use Rattle.im_page_file.specs.Stands.{LeavesCovered, Stands, Synced}
 use Rattle.im_page_table.specs.Growth.{Keeps, SamePage}
 use Rattle.im_page_writer.specs.Writing.{lsn_for, IsShown, IsPooled, SameHeld, Unmarks, unmarked, pool_page, IsWriting, MayPlace, MayPlaceEarly, MayWriteHere, WrittenHere, WritesTo, Flushed}
@@ -112,12 +114,12 @@ written_keeps b s p l = record { log = grows_none b s.log; durable = front_self 
   where
     by : (q : ℕ) → SamePage (s.pages q) (only p (written_page l) s.pages q)
     by q = elim (cases_eq p q) [
-      | inl here ↦ subst (λ (x : PageState). SamePage (s.pages q) x) (sym (only_here (written_page l) s.pages p q here)) (record { page = refl; waits = refl; found = refl; upto = omega arith })
+      | inl here ↦ subst (λ (x : PageState). SamePage (s.pages q) x) (sym (only_here (written_page l) s.pages p q here)) (record { page = refl; waits = refl; found = refl; upto = omega arith; written = λ w. written_is l (s.pages q).entry })
       | inr other ↦ subst (λ (x : PageState). SamePage (s.pages q) x) (sym (only_other (written_page l) s.pages p q other)) (same_page (s.pages q))
     ]
 
 pub synced_keeps : (b : Base) (s : Writer) → Keeps b s (synced s)
-synced_keeps b s = record { log = grows_none b s.log; durable = front_self s.durable; point = refl; redo_end = refl; pages = λ q. record { page = refl; waits = refl; found = refl; upto = omega arith } }
+synced_keeps b s = record { log = grows_none b s.log; durable = front_self s.durable; point = refl; redo_end = refl; pages = λ q. record { page = refl; waits = refl; found = refl; upto = omega arith; written = λ w. written_synced (s.pages q).entry w } }
 
 -- ---- a write
 
@@ -157,6 +159,8 @@ module _ {D : Type 0} (d : Ghosts D) (b : Base) (base : ℕ) (s : Writer) (log :
           file = record { reads = reads_placed new writes; leaves = λ c left. page_file_torn d s.pages p l 4096 old refl st.file c (torn c (crash c left)) };
           tied = tied_written s.pages p l table new_table may.entry is entry st.tied;
           copies = knows_written s p l st.copies;
+          other = only_spared d Log2 old new (spared d Pages Log2 old new (λ same. cc) changes) st.other;
+          older = older_as (d.seen old) (d.seen new) (ap generation_of spares.seen) (changes.seen Log2 (λ same. cc)) st.older;
         };
         pooled = pooled_written pool new_pool s.pages p l pooled un;
         entries = λ e has. entries_written s.pages p l table new_table may.entry is entry (sym room ∙ e) has;

@@ -91,6 +91,8 @@ module _ {D : Type 0} (d : Ghosts D) (b : Base) (base : ℕ) (s : Writer) (log :
           file = page_file_as d s.pages (only p (loaded_page s.point c) s.pages) disk (only_in_file s.pages (loaded_page s.point c) p (λ x. record { reads = refl; synced = refl; unsynced = refl })) w.stands.file;
           tied = λ q. inl (entries q);
           copies = knows_redoing (loaded p c s) going;
+          other = w.stands.other;
+          older = w.stands.older;
         };
         entries = entries;
         pooled = pooled_loaded pool new_pool s.pages s.point p c frame w.pooled number takes low;

@@ -132,6 +132,8 @@ module _ {D : Type 0} (d : Ghosts D) (b : Base) (base : ℕ) (s : Writer) (log :
       file = page_file_as d s.pages (redone_as known r s).pages disk (λ q. record { reads = refl; synced = refl; unsynced = refl }) w.stands.file;
       tied = λ q. inl (entries q);
       copies = knows_redoing (redone_as known r s) going;
+      other = w.stands.other;
+      older = w.stands.older;
     };
     entries = entries;
     pooled = pooled;

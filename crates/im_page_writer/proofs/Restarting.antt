@@ -1,6 +1,6 @@
 -- How a writer of pages stands as restart goes on: at the opening, past records that change no page, and as redo ends.
 use Rattle.std.proofs.Common.{◌≡◌, ℕ, ◌<◌, ◌≤◌, false, List, [], ◌∷◌, ◌++◌, Option, None, refl, sym, ap, subst}
-use Rattle.im_base_types.specs.declared.file_id.FileId.TheVariants.{Pages}
+use Rattle.im_base_types.specs.declared.file_id.FileId.TheVariants.{Pages, Log2}
 use Rattle.im_base_types.specs.Records.{Logged}
 use Rattle.im_theory_log.specs.Histories.{Base, History, IsFront, Rises, changes_page, end_of}
 use Rattle.im_theory_log.specs.Copies.{GrowsByImages}
@@ -23,6 +23,7 @@ use Rattle.im_page_table.proofs.KnownCopies.{knows_ended}
 use Rattle.im_page_table.proofs.DurableCopies.{durable_ended, durable_redoing}
 use Rattle.im_page_writer.proofs.SyncedPages.{known_ended, known_redone}
 use Rattle.im_page_writer.proofs.Goings.{pooled_same}
+use Rattle.im_page_file.specs.OtherLog.{IsOlder}
 use Rattle.im_page_file.proofs.Openings.{page_file_as, stands_opened}
 use Rattle.im_page_writer.proofs.RedoneRecords.{applies_none, redone_none}
 
@@ -40,13 +41,13 @@ pooled_none frames gets pages none = record {
 module _ {D : Type 0} (d : Ghosts D) (b : Base) (base : ℕ) where
   -- A new writer over an opened log, on a disk that is synced, whose file of pages the log covers.
   pub writer_opens : (all : History) (w : PageWriter) (frames : ℕ) (disk : D) → b.start ≤ base → Rises b all → Covers b all (file_page (d.seen disk Pages)) → IsOpen d w.log disk → IsLog d base all all w.log disk
-      → Only Pages (d.seen disk) (d.may_leave disk) → w.pool ≡ record { held = []; frames = frames; gets = 0 } → w.table ≡ [] → w.failed ≡ false → w.known.from ≡ None → AreSyncedWith all (redo_point all) w.known.synced → StandsAs d b base (opened b all (file_page (d.seen disk Pages))) w disk
-  writer_opens all w frames disk based up covered ready log_is synced pool table working unknown expected = record {
+      → Only Pages (d.seen disk) (d.may_leave disk) → Only Log2 (d.seen disk) (d.may_leave disk) → IsOlder (d.seen disk) → w.pool ≡ record { held = []; frames = frames; gets = 0 } → w.table ≡ [] → w.failed ≡ false → w.known.from ≡ None → AreSyncedWith all (redo_point all) w.known.synced → StandsAs d b base (opened b all (file_page (d.seen disk Pages))) w disk
+  writer_opens all w frames disk based up covered ready log_is synced other older pool table working unknown expected = record {
     working = working;
     known = record { from = subst (λ (from : Option ℕ). IsKnownFrom (opened b all (file_page (d.seen disk Pages))) from) (sym unknown) tt; synced = expected; copies = λ none. durable_redoing (opened b all (file_page (d.seen disk Pages))) refl };
     writing = subst (λ (x : PoolView). IsWriting d b base (opened b all (file_page (d.seen disk Pages))) w.log w.table x disk) (sym pool)
         (subst (λ (x : List TableEntry). IsWriting d b base (opened b all (file_page (d.seen disk Pages))) w.log x (record { held = []; frames = frames; gets = 0 }) disk) (sym table) (record {
-          stands = stands_opened d b base all w.log disk up covered ready log_is synced;
+          stands = stands_opened d b base all w.log disk up covered ready log_is synced other older;
           entries = λ p. refl;
           pooled = pooled_none frames 0 (opened b all (file_page (d.seen disk Pages))).pages (λ p. refl);
           based = based;
@@ -77,6 +78,8 @@ module _ {D : Type 0} (d : Ghosts D) (b : Base) (base : ℕ) where
           file = page_file_as d s.pages (ended b s).pages disk (λ p. record { reads = refl; synced = refl; unsynced = refl }) is.writing.stands.file;
           tied = is.writing.stands.tied;
           copies = knows_ended b s (redo_ends b s begun grows.images is.writing.stands.kept going ready grows.is grows.all front past);
+          other = is.writing.stands.other;
+          older = is.writing.stands.older;
         };
         entries = is.writing.entries;
         pooled = pooled_same w.pool s.pages (ended b s).pages (λ p. refl) (λ p. refl) (λ p. refl) is.writing.pooled;

@@ -126,6 +126,8 @@ module _ {D : Type 0} (d : Ghosts D) (b : Base) (base : ℕ) (s : Writer) (old :
               }) w.stands.file;
           tied = λ q. inl (entries q ∙ ap (λ (x : Writer). (x.pages q).entry) is);
           copies = knows_redoing one going;
+          other = w.stands.other;
+          older = w.stands.older;
         };
         entries = λ q. entries q ∙ ap (λ (x : Writer). (x.pages q).entry) is;
         pooled = subst (λ (x : Writer). IsPooled pool x.pages) is pooled;

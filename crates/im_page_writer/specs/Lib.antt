@@ -7,4 +7,5 @@ pub mod Checkpoints
 pub mod StructureChange
 pub mod Redoing
 pub mod Outcome
+pub mod Switching
 pub mod Rounds

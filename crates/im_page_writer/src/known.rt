@@ -57,6 +57,17 @@ impl Known {
         }
     }
 
+    /// Nothing is known from now on.
+    pub fn forget(&mut self)
+        ensures from { self.new.from ≡ None }
+        ensures none { self.new.synced.lsns.entries ≡ [] }
+    {
+        self.from = None;
+        self.ahead = false;
+        self.synced.lsns.clear();
+        self.synced.count = None;
+    }
+
     /// Whether the file may have this page.
     pub fn may_be(&self, number: PageNo, page: &Page) -> bool
         ensures may { result ≡ true → MayBe self.now.synced number page.now }

@@ -27,6 +27,7 @@ mod redo;
 mod round;
 mod span;
 mod structure;
+mod switching;
 
 /// The pages of a store in a bounded pool over its file, with the log that goes before every write. It owns no disk.
 #[derive(Drop)]
@@ -91,6 +92,7 @@ impl PageWriter {
     ghost use Rattle.im_theory_page.specs.PageFile.{file_page, page_count};
     ghost use Rattle.im_page_pool.specs.Pool.{held_of, is_changed, page_at, Evicts, Holds, IsAt, MovesFirst};
     ghost use Rattle.im_theory_log.specs.WriterSteps.{forced, synced};
+    ghost use Rattle.im_base_disk.specs.Disk.{Only};
     ghost use Rattle.im_base_disk.specs.Runs.{Costs, CostsAtMost, Forces};
     ghost use Rattle.im_page_writer.specs.Costs.{PageCosts};
     ghost use Rattle.im_page_table.specs.DirtyTable.{entry_in, has_room, oldest, synced_entries};
@@ -118,6 +120,7 @@ impl PageWriter {
         ensures unchanged { self.old.failed ≡ false → is_changed self.old.pool number ≡ false → (result ≡ Ok tt) × (self.new ≡ self.old) × (disk.new ≡ disk.old) }
         ensures stays { D.tells → number ≤ page_count (D.seen disk.old Pages) → is_some (entry_in self.old.table number) ≡ true → OnOk result (is_some (entry_in self.new.table number) ≡ true) }
         ensures held { OnOk result (SameHeld self.old.pool self.new.pool) }
+        ensures rows { self.new.rows ≡ self.old.rows }
         ensures costs { is_changed self.old.pool number ≡ true → OnOk result (PageCosts D.Disk number (page_count (D.seen disk.old Pages)) (has_room number self.old.table) disk.old disk.new) }
         ensures unforced { D.tells → number < page_count (D.seen disk.old Pages) → is_changed self.old.pool number ≡ true → IsUnforced self.old number → OnOk result (Costs D.Disk 1 0 disk.old disk.new) }
     {
@@ -162,6 +165,7 @@ impl PageWriter {
         ensures kept { (b : Base) (base : ℕ) (s : Writer) → StandsAs D.Disk b base s self.old disk.old → OnOk result (FlushedOne D.Disk b base s number disk.old self.new disk.new) }
         ensures stays { D.tells → number ≤ page_count (D.seen disk.old Pages) → is_some (entry_in self.old.table number) ≡ true → OnOk result (is_some (entry_in self.new.table number) ≡ true) }
         ensures held { OnOk result (SameHeld self.old.pool self.new.pool) }
+        ensures rows { self.new.rows ≡ self.old.rows }
         ensures costs { OnOk result (PageCosts D.Disk number (page_count (D.seen disk.old Pages)) (has_room number self.old.table) disk.old disk.new) }
         ensures unforced { D.tells → number < page_count (D.seen disk.old Pages) → durable ≡ true → OnOk result (Costs D.Disk 1 0 disk.old disk.new) }
     {
@@ -383,6 +387,7 @@ impl PageWriter {
         ensures none { self.old.failed ≡ false → self.old.log.used ≡ 0 → (result ≡ Ok tt) × (self.new.log ≡ self.old.log) × (disk.new ≡ disk.old) }
         ensures costs { OnOk result (1 ≤ self.old.log.used → Costs D.Disk 2 2 disk.old disk.new) }
         ensures few { CostsAtMost D.Disk 2 2 disk.old disk.new }
+        ensures empty { OnOk result (self.new.log.used ≡ 0) }
         ensures pool { self.new.pool ≡ self.old.pool }
         ensures table { self.new.table ≡ self.old.table }
     {
@@ -405,6 +410,7 @@ impl PageWriter {
         ensures room { result ≢ Err LogFull }
         ensures kept { (b : Base) (base : ℕ) (s : Writer) → StandsAs D.Disk b base s self.old disk.old → StepKept D.Disk b base s (synced s) disk.old self.new disk.new result }
         ensures table { OnOk result (self.new.table ≡ synced_entries self.old.table) }
+        ensures durable { OnOk result (Only Pages (D.seen disk.new) (D.may_leave disk.new)) }
         ensures costs { OnOk result (Costs D.Disk 0 1 disk.old disk.new) }
         ensures few { CostsAtMost D.Disk 0 1 disk.old disk.new }
         ensures log { self.new.log ≡ self.old.log }

@@ -53,7 +53,6 @@ impl Gate {
         requires fits { header.now.next < 2 ^ 64 }
         requires later { base_at self.old ≤ header.now.base }
         requires working { D.failed disk.old ≡ false }
-        requires durable { IsSynced D.Disk disk.old }
         ensures ready { IsReady D.Disk self.new disk.new }
         ensures file { file_of self.new ≡ Log }
         ensures first { OnOk result (IsFirstOf header.now self.new) }
@@ -62,8 +61,8 @@ impl Gate {
         ensures empty { OnOk result (D.tells → logged D.Disk self.new disk.new ≡ Some []) }
         ensures before { OnOk result (D.seen disk.new Log2 ≡ D.seen disk.old Log) }
         ensures pages { OnOk result (D.seen disk.new Pages ≡ D.seen disk.old Pages) }
-        ensures durable { OnOk result (IsSynced D.Disk disk.new) }
-        ensures any_moment { LeavesNamed D.Disk disk.old disk.new (IsGoingOn (D.seen disk.old) header.now.generation header.now.base header.now.next) }
+        ensures durable { OnOk result (IsSynced D.Disk disk.old → IsSynced D.Disk disk.new) }
+        ensures any_moment { IsSynced D.Disk disk.old → LeavesNamed D.Disk disk.old disk.new (IsGoingOn (D.seen disk.old) header.now.generation header.now.base header.now.next) }
         ensures same { OnErr result (InOneFile self.old self.new × (place_of self.new ≡ place_of self.old)) }
         ensures stays { OnErr result (ChangesOnly D.Disk Log2 disk.old disk.new) }
         ensures few { CostsAtMost D.Disk 3 3 disk.old disk.new }

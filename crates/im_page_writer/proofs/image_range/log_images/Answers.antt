@@ -43,7 +43,7 @@ pub returns-clause-kept : goal.returns-clause-kept
 returns-clause-kept g c b base s w all =
     let so = (c.in_ok-append_images.ensures.kept b base s w all).ok in
     let forced = c.in_ok-force.ensures.kept base so.now.log so.now.durable so.goes.writing.stands.log_is in
-    let goes = goes_forced g.D.Disk b base so.now c.append_images.new.log c.force.new.self c.args.table.now c.args.pool.now c.append_images.new.disk c.force.new.disk so.goes.writing forced.ok.log c.force.ensures.outcome.ready c.force.ensures.outcome.changes forced.stops in
+    let goes = goes_forced g.D.Disk b base so.now c.append_images.new.log c.force.new.self c.args.table.now c.args.pool.now c.append_images.new.disk c.force.new.disk so.goes.writing forced.ok.log c.force.ensures.outcome.ready c.force.ensures.outcome.changes forced.stops forced.ok.file.generation in
     let all_durable = images_durable g.D.Disk b base s c.args.first c.args.last c.append_images.new.lsns.items c.args.disk.now c.append_images.new.log c.force.new.self c.args.table.now c.args.pool.now c.append_images.new.disk c.force.new.disk so goes in
     record { ok = all_durable; stops = leaves_so_far g.D.Disk b base s c.args.disk.now all_durable.now c.force.new.self c.args.table.now c.args.pool.now c.force.new.disk all_durable.goes }
 

@@ -36,11 +36,12 @@ returns-clause-kept g c base all durable h =
     (c.seal.ensures.closed refl) h.sealed in
     let stops = force_stops g.D.Disk base all durable c.args.self.now c.args.disk.now disk (omega arith) c.requires.ready h
     (c.put_batches.ensures.any_moment works (waits c.args.self.now h.sealed) laid) (c.put_batches.ensures.front works) in
-    let made = either_made base durable all (g.D.Disk.seen disk Log) (seen_now g.D.Disk Log c.args.disk.now disk (SpellsEither base durable all) (g.met.D.Disk.counts_now disk) (g.met.D.Disk.seen_may_stay disk) stops h.tells) in
+    let made = either_made base durable all (g.D.Disk.seen c.args.disk.now Log) (g.D.Disk.seen disk Log) (seen_now g.D.Disk Log c.args.disk.now disk (SpellsEither base durable all (g.D.Disk.seen c.args.disk.now Log)) (g.met.D.Disk.counts_now disk) (g.met.D.Disk.seen_may_stay disk) stops h.tells) in
     let alike = alike_now g.D.Disk c.args.self.now.gate c.args.disk.now disk c.args.self.now.of_log (c.requires.ready.starts h.tells) (g.met.D.Disk.counts_now disk) (g.met.D.Disk.seen_may_stay disk) (c.put_batches.ensures.front works) h.tells in
+    let as_before = generation_now g.D.Disk c.args.self.now.gate c.args.disk.now disk c.args.self.now.of_log (c.requires.ready.starts h.tells) (g.met.D.Disk.counts_now disk) (g.met.D.Disk.seen_may_stay disk) (c.put_batches.ensures.front works) h.tells in
     record {
       ok = forced g.D.Disk base all durable c.args.self.now _ c.args.disk.now disk (omega arith)
-          c.requires.ready h (c.in_ok-put_batches.ensures.put (waits c.args.self.now h.sealed) laid) c.put_batches.ensures.same.first alike made refl refl refl refl c.in_ok-put_batches.ensures.place;
+          c.requires.ready h (c.in_ok-put_batches.ensures.put (waits c.args.self.now h.sealed) laid) c.put_batches.ensures.same.first alike as_before made refl refl refl refl c.in_ok-put_batches.ensures.place;
       stops = stops;
     }
 

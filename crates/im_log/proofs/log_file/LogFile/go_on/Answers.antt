@@ -6,7 +6,7 @@ use Rattle.im_log.proofs.Runs.{all_durable, none_begun, nothing_sealed}
 use Rattle.im_log.proofs.log_file.LogFile.go_on.Goals as goal
 
 pub returns-in_err-header-clause-kept : goal.returns-in_err-header-clause-kept
-returns-in_err-header-clause-kept g c base all durable h =
+returns-in_err-header-clause-kept g c base all durable h pages other =
     let log = c.args.self.now in
     let disk = c.args.disk.now in
     let works = c.if-self.false in
@@ -15,11 +15,11 @@ returns-in_err-header-clause-kept g c base all durable h =
       ok = search rules;
       stops = λ current has.
           nothing_stops g.D.Disk base all log disk (all_durable g.D.Disk base all durable log disk start c.requires.empty h) (base + place_of log.gate) (g.met.D.Disk.only_now disk)
-          (all_synced g.D.Disk log disk (c.requires.ready.ready.reading.durable (c.requires.ready.working works)) (c.requires.pages works) (c.requires.other works)) current has;
+          (all_synced g.D.Disk log disk (c.requires.ready.ready.reading.durable (c.requires.ready.working works)) pages other) current has;
     }
 
 pub returns-in_err-go_on-clause-kept : goal.returns-in_err-go_on-clause-kept
-returns-in_err-go_on-clause-kept g c base all durable h =
+returns-in_err-go_on-clause-kept g c base all durable h pages other =
     let log = c.args.self.now in
     let disk = c.args.disk.now in
     let works = c.if-self.false in
@@ -28,11 +28,11 @@ returns-in_err-go_on-clause-kept g c base all durable h =
       ok = search rules;
       stops = λ current has.
           going_stops g.D.Disk base all log disk (all_durable g.D.Disk base all durable log disk start c.requires.empty h) c.args.next c.in_ok-header.header c.in_ok-header.ensures.header (omega arith)
-          (c.requires.ready.starts h.tells) (log.of_gate works) c.go_on.new.disk current has c.go_on.ensures.any_moment;
+          (c.requires.ready.starts h.tells) (log.of_gate works) c.go_on.new.disk current has (c.go_on.ensures.any_moment (all_synced g.D.Disk log disk (c.requires.ready.ready.reading.durable (c.requires.ready.working works)) pages other));
     }
 
 pub returns-clause-kept : goal.returns-clause-kept
-returns-clause-kept g c base all durable h =
+returns-clause-kept g c base all durable h pages other =
     let log = c.args.self.now in
     let disk = c.args.disk.now in
     let works = c.if-self.false in
@@ -41,10 +41,10 @@ returns-clause-kept g c base all durable h =
     let on = c.in_ok-go_on.ensures in
     record {
       ok = went_on g.D.Disk base all log disk all_so c.args.next c.in_ok-header.header c.in_ok-header.ensures.header (omega arith) (c.requires.ready.starts h.tells) (log.of_gate works)
-          _ c.go_on.new.disk refl refl start c.requires.empty on.first (on.starts h.tells) (on.made h.tells) (on.empty h.tells) on.before on.pages on.durable;
+          _ c.go_on.new.disk refl refl start c.requires.empty on.first (on.starts h.tells) (on.made h.tells) (on.empty h.tells) on.before on.pages (on.durable (all_synced g.D.Disk log disk (c.requires.ready.ready.reading.durable (c.requires.ready.working works)) pages other));
       stops = λ current has.
           going_stops g.D.Disk base all log disk all_so c.args.next c.in_ok-header.header c.in_ok-header.ensures.header (omega arith)
-          (c.requires.ready.starts h.tells) (log.of_gate works) c.go_on.new.disk current has on.any_moment;
+          (c.requires.ready.starts h.tells) (log.of_gate works) c.go_on.new.disk current has (on.any_moment (all_synced g.D.Disk log disk (c.requires.ready.ready.reading.durable (c.requires.ready.working works)) pages other));
     }
 
 pub returns-in_err-go_on-clause-ready : goal.returns-in_err-go_on-clause-ready

@@ -20,7 +20,7 @@ returns-clause-kept g c b base s is =
     let w = c.args.self.now in
     let k = c.in_ok-force.ensures.kept base s.log s.durable is.writing.stands.log_is in
     record {
-      ok = record { working = refl; known = known_as false s (forced s) w.known refl refl refl (λ none. durable_whole b (forced s) (forced_kept b s is.writing.stands.kept) refl) is.known; goes = goes_forced g.D.Disk b base s w.log c.force.new.self w.table w.pool c.args.disk.now c.force.new.disk is.writing k.ok.log c.force.ensures.outcome.ready c.force.ensures.outcome.changes k.stops };
+      ok = record { working = refl; known = known_as false s (forced s) w.known refl refl refl (λ none. durable_whole b (forced s) (forced_kept b s is.writing.stands.kept) refl) is.known; goes = goes_forced g.D.Disk b base s w.log c.force.new.self w.table w.pool c.args.disk.now c.force.new.disk is.writing k.ok.log c.force.ensures.outcome.ready c.force.ensures.outcome.changes k.stops k.ok.file.generation };
       stops = log_stops g.D.Disk b base s w.log w.table c.args.disk.now is.writing.stands c.force.new.disk k.stops;
     }
 

@@ -2,7 +2,9 @@ use Rattle.std.proofs.Common.{◌≡◌, Option, false, true, is_some, refl, sym
 use Rattle.im_base_disk.proofs.Runs.{reads_none}
 use Rattle.im_base_types.specs.declared.file_id.FileId.TheVariants.{Pages}
 use Rattle.im_page_pool.specs.Pool.{Held, PoolView}
+use Rattle.im_page_writer.specs.Outcome.{fault_of, no_page, AreLoadedTo}
 use Rattle.im_page_writer.specs.Writing.{IsWriting}
+use Rattle.im_page_writer.proofs.SameWriter.{outcome_as}
 use Rattle.im_page_writer.proofs.Writers.{got_page, goes_got}
 use Rattle.im_page_writer.proofs.page_writer.PageWriter.get.Goals as goal
 
@@ -45,3 +47,8 @@ returns-clause-kept g c pages has =
     let same : c.get_held.new.self ≡ w.pool = c.in_default.ensures.none refl in
     let writing = subst (λ (pool : PoolView). IsWriting g.D.Disk has.b has.base has.now w.log w.table pool c.args.disk.now) (sym same) has.stands.writing in
     c.get_absent.ensures.kept pages (record { b = has.b; base = has.base; now = has.now; stands = record { working = has.stands.working; writing = writing; known = has.stands.known }; asked = has.asked; shows = has.shows })
+
+pub returns-clause-outcome : goal.returns-clause-outcome
+returns-clause-outcome g c =
+    let same : c.get_held.new.self ≡ c.args.self.now.pool = c.in_default.ensures.none refl in
+    outcome_as g.D.Disk c.args.self.now _ c.args.disk.now refl refl refl same refl (AreLoadedTo c.args.number) no_page c.get_absent.new.self c.get_absent.new.disk (fault_of c.get_absent.result) c.get_absent.ensures.outcome

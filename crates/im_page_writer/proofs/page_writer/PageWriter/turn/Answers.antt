@@ -1,0 +1,28 @@
+use Rattle.std.proofs.Common.{refl, inl, inr, ⊎_elim, rules}
+use Rattle.im_page_writer.proofs.LoggedChanges.{err_on}
+use Rattle.im_page_writer.proofs.Switching.{turn_refuses, turn_stops, turned}
+use Rattle.im_page_writer.proofs.page_writer.PageWriter.turn.Goals as goal
+
+pub returns-in_err-go_on-clause-kept : goal.returns-in_err-go_on-clause-kept
+returns-in_err-go_on-clause-kept g c b base s e is over durable clean pages =
+    let w = c.args.self.now in
+    let old = c.args.disk.now in
+    let kept = c.in_err-go_on.ensures.kept base s.log s.durable is.writing.stands.log_is pages is.writing.stands.other in
+    record { ok = search rules; stops = turn_stops g.D.Disk b base s e w old is over durable clean (c.requires.ready.opened c.requires.working) c.args.next c.go_on.new.self c.go_on.new.disk _ kept }
+
+pub returns-clause-kept : goal.returns-clause-kept
+returns-clause-kept g c b base s e is over durable clean pages =
+    let w = c.args.self.now in
+    let old = c.args.disk.now in
+    let opened = c.requires.ready.opened c.requires.working in
+    let kept = c.in_ok-go_on.ensures.kept base s.log s.durable is.writing.stands.log_is pages is.writing.stands.other in
+    record {
+      ok = turned g.D.Disk b base s e w old is over durable clean opened c.args.next _ c.go_on.new.disk refl c.go_on.ensures.ready kept.ok refl refl c.forget.ensures.from c.forget.ensures.none;
+      stops = turn_stops g.D.Disk b base s e w old is over durable clean opened c.args.next c.go_on.new.self c.go_on.new.disk _ kept;
+    }
+
+pub returns-in_err-go_on-clause-causes : goal.returns-in_err-go_on-clause-causes
+returns-in_err-go_on-clause-causes g c =
+    let f = c.in_err-go_on.field-0.0 in
+    err_on c.from_residual.result f _ c.from_residual.ensures.1
+    (turn_refuses g.D.Disk c.args.self.now.failed c.args.self.now.log c.go_on.new.self c.go_on.new.disk f c.requires.empty (c.requires.ready.works c.requires.working) c.in_err-go_on.ensures.causes c.in_err-go_on.ensures.full c.in_err-go_on.ensures.capacity c.in_err-go_on.ensures.already c.in_err-go_on.ensures.device (λ cause. (c.in_err-go_on.ensures.nothing (⊎_elim (λ e. inl e) (λ e. inr (inl e)) cause)).1))
