@@ -2,7 +2,7 @@ use Rattle.std.proofs.Common.{ℕ, ap, sym, ◌∙◌, subst, false}
 use Rattle.std.specs.Bool.{IsTrue}
 use Rattle.im_base_types.specs.Pages.{Page}
 use Rattle.im_page_pool.specs.Pool.{page_at}
-use Rattle.im_page_writer.proofs.Outcomes.{pages_to, sound_on}
+use Rattle.im_page_writer.proofs.Outcomes.{handed_on, pages_to, search_of, sound_on}
 use Rattle.im_tree_search.specs.Levels.{HasLevel}
 use Rattle.im_tree_search.proofs.Quiet.{got_quiet}
 use Rattle.im_tree_search.proofs.descent.root_page.Goals as goal
@@ -28,3 +28,6 @@ returns-then-not-has_level-clause-quiet g c working holds = got_quiet (c.in_ok-f
 
 pub returns-clause-quiet : goal.returns-clause-quiet
 returns-clause-quiet g c working holds = got_quiet (c.in_ok-frame.ensures.held working holds) (c.in_ok-frame.ensures.quiet working holds)
+
+pub returns-in_err-frame-clause-outcome : goal.returns-in_err-frame-clause-outcome
+returns-in_err-frame-clause-outcome g c = handed_on g.D.Disk c.from_residual.result c.from_residual.ensures.1 (search_of g.D.Disk c.in_err-frame.ensures.outcome)

@@ -2,7 +2,7 @@ use Rattle.std.proofs.Common.{◌≡◌, ℕ, ap, ◌∙◌, rules}
 use Rattle.im_base_types.specs.declared.page_kind.PageKind.TheVariants.{Meta}
 use Rattle.im_base_types.specs.Pages.{Page}
 use Rattle.im_page_pool.specs.Pool.{page_at}
-use Rattle.im_page_writer.proofs.Outcomes.{pages_to, sound_on}
+use Rattle.im_page_writer.proofs.Outcomes.{handed_on, pages_to, search_of, sound_on}
 use Rattle.im_tree_search.proofs.Quiet.{got_quiet}
 use Rattle.im_tree_search.proofs.leaf_chain.page_count.Goals as goal
 
@@ -27,3 +27,6 @@ returns-then-ne-clause-quiet g c working holds = got_quiet (c.in_ok-frame.ensure
 
 pub returns-clause-quiet : goal.returns-clause-quiet
 returns-clause-quiet g c working holds = got_quiet (c.in_ok-frame.ensures.held working holds) (c.in_ok-frame.ensures.quiet working holds)
+
+pub returns-in_err-frame-clause-outcome : goal.returns-in_err-frame-clause-outcome
+returns-in_err-frame-clause-outcome g c = handed_on g.D.Disk c.from_residual.result c.from_residual.ensures.1 (search_of g.D.Disk c.in_err-frame.ensures.outcome)
