@@ -60,6 +60,8 @@ stands_raised d b base s n w disk kept is = let old = is.writing in record {
       file = page_file_as d s.pages (raised n s).pages disk (λ p. record { reads = refl; synced = refl; unsynced = refl }) old.stands.file;
       tied = old.stands.tied;
       copies = record { copies = old.stands.copies.copies };
+      other = old.stands.other;
+      older = old.stands.older;
     };
     entries = old.entries;
     pooled = pooled_same w.pool s.pages (raised n s).pages (λ q. refl) (λ q. refl) (λ q. refl) old.pooled;
