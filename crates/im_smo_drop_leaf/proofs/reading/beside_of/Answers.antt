@@ -1,13 +1,16 @@
 use Rattle.std.proofs.Common.{◌≡◌, ℕ, [], refl, sym, ap, ◌∙◌, subst}
 use Rattle.im_base_types.specs.Pages.{Body, Page}
 use Rattle.im_page_pool.specs.Pool.{page_at}
-use Rattle.im_page_writer.proofs.Outcomes.{ends_own, pages_to, search_of, sound_on, sound_own}
+use Rattle.im_page_writer.proofs.Outcomes.{ends_own, pages_to, refused, search_of, sound_on, sound_own}
 use Rattle.im_tree_search.specs.Levels.{HasLevel}
 use Rattle.im_smo_alloc.specs.Seen.{bodies}
 use Rattle.im_smo_drop_leaf.specs.Chains.{IsBeside}
 use Rattle.im_smo_drop_leaf.proofs.Results.{only_bytes, never_err}
 use Rattle.im_page_writer.specs.Outcome.{no_page}
 use Rattle.im_smo_drop_leaf.proofs.reading.beside_of.Goals as goal
+
+pub returns-in_err-frame-clause-outcome : goal.returns-in_err-frame-clause-outcome
+returns-in_err-frame-clause-outcome g c = refused g.D.Disk c.from_residual.result c.from_residual.ensures.1 (search_of g.D.Disk c.in_err-frame.ensures.outcome)
 
 pub returns-in_err-frame-clause-kept : goal.returns-in_err-frame-clause-kept
 returns-in_err-frame-clause-kept g c pages has level none = sound_on c.from_residual.result _ _ c.from_residual.ensures.1 (c.in_err-frame.ensures.kept pages (pages_to g.D.Disk c.args.number has))

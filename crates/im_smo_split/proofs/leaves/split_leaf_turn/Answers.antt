@@ -1,6 +1,6 @@
 use Rattle.std.proofs.Common.{ℕ, zero, List, [], ◌∷◌, refl, ◌∙◌, subst}
 use Rattle.im_page_writer.specs.Outcome.{mild}
-use Rattle.im_page_writer.proofs.Outcomes.{ends_own, pages_still, sound_own, sound_on, then}
+use Rattle.im_page_writer.proofs.Outcomes.{ends_own, pages_still, refused, sound_own, sound_on, then}
 use Rattle.im_smo_alloc.specs.Seen.{seen}
 use Rattle.im_smo_alloc.proofs.Goings.{mildly}
 use Rattle.im_smo_split.specs.Turns.{IsTurn}
@@ -12,6 +12,10 @@ use Rattle.im_smo_split.proofs.leaves.split_leaf_turn.Goals as goal
 
 pub returns-in_err-bring_both-clause-kept : goal.returns-in_err-bring_both-clause-kept
 returns-in_err-bring_both-clause-kept g c store has turn above = sound_on c.from_residual.result _ _ c.from_residual.ensures.1 (c.in_err-bring_both.ensures.kept store has.has)
+
+pub returns-in_err-page-clause-outcome : goal.returns-in_err-page-clause-outcome
+returns-in_err-page-clause-outcome g c =
+    then g.D.Disk c.in_ok-bring_both.ensures.outcome (refused g.D.Disk c.from_residual-in_err-page.result c.from_residual-in_err-page.ensures.1 c.in_err-page.ensures.outcome)
 
 pub returns-in_err-page-clause-kept : goal.returns-in_err-page-clause-kept
 returns-in_err-page-clause-kept g c store has turn above =

@@ -3,12 +3,15 @@ use Rattle.std.specs.Prelude.{IfOk}
 use Rattle.im_base_types.specs.Pages.{Body, Page}
 use Rattle.im_base_types.specs.declared.page_kind.PageKind.TheVariants.{Meta}
 use Rattle.im_page_pool.specs.Pool.{page_at}
-use Rattle.im_page_writer.proofs.Outcomes.{ends_own, pages_to, search_of, sound_on, sound_own}
+use Rattle.im_page_writer.proofs.Outcomes.{ends_own, pages_to, refused, search_of, sound_on, sound_own}
 use Rattle.im_smo_alloc.specs.Seen.{bodies}
 use Rattle.im_smo_split.specs.Readings.{IsFull}
 use Rattle.im_smo_split.proofs.Reasons.{only_bytes, never_err}
 use Rattle.im_page_writer.specs.Outcome.{no_page}
 use Rattle.im_smo_split.proofs.reading.is_full.Goals as goal
+
+pub returns-in_err-frame-clause-outcome : goal.returns-in_err-frame-clause-outcome
+returns-in_err-frame-clause-outcome g c = refused g.D.Disk c.from_residual.result c.from_residual.ensures.1 (search_of g.D.Disk c.in_err-frame.ensures.outcome)
 
 pub returns-in_err-frame-clause-kept : goal.returns-in_err-frame-clause-kept
 returns-in_err-frame-clause-kept g c store has meta = sound_on c.from_residual.result _ _ c.from_residual.ensures.1 (c.in_err-frame.ensures.kept store (pages_to g.D.Disk 0 has))
