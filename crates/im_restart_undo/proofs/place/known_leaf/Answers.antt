@@ -6,6 +6,9 @@ use Rattle.im_page_writer.proofs.Outcomes.{pages_to, refused, search_of, sound_o
 use Rattle.im_restart_undo.proofs.PlaceCalls.{known_held, whole_still}
 use Rattle.im_restart_undo.proofs.place.known_leaf.Goals as goal
 
+pub returns-in_err-meta-clause-outcome : goal.returns-in_err-meta-clause-outcome
+returns-in_err-meta-clause-outcome g c = refused g.D.Disk c.from_residual.result c.from_residual.ensures.1 (search_of g.D.Disk c.in_err-meta.ensures.outcome)
+
 pub returns-in_err-meta-clause-kept : goal.returns-in_err-meta-clause-kept
 returns-in_err-meta-clause-kept g c pages tree = sound_on c.from_residual.result _ _ c.from_residual.ensures.1 (c.in_err-meta.ensures.kept pages (pages_to g.D.Disk 0 tree.has))
 
