@@ -6,4 +6,6 @@
 #[cfg(test)]
 mod page_writer;
 #[cfg(test)]
+mod switching;
+#[cfg(test)]
 mod writers;
