@@ -133,7 +133,7 @@ module _ {D : Type 0} (d : Ghosts D) (b : Base) (base : ℕ) (all : History) whe
       let on = by.covered in
       record {
         left = on.log.left;
-        has = record { log = inr on.log.has; bare = λ unmade. absurd (not_both (c Log) on.log.has.made unmade); covers = on.pages };
+        has = record { log = inr on.log.has; bare = λ unmade. absurd (not_both (c Log) on.log.has.made unmade); covers = on.pages; newest = inl on.older };
         grown = grows_front all on.log.left by.high (grows_key all s.log by.high t is.grown loser by.grows) (front_then all s.durable on.log.left is.found on.log.longer) on.log.shorter;
         order = order_left all s.log on.log.left by.high t is.order first by.grows (front_then all s.durable on.log.left is.found on.log.longer) on.log.shorter;
         lawful = fronts_lawful b page_tree on.log.left by.high on.log.shorter by.lawful;

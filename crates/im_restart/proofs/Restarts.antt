@@ -4,7 +4,7 @@ use Rattle.std.specs.Prelude.{IfErr}
 use Rattle.im_base_types.specs.declared.fault.Fault.{Fault}
 use Rattle.im_base_types.specs.declared.fault.Fault.TheVariants.{NotAStore}
 use Rattle.im_base_types.specs.declared.file_id.FileId.{FileId}
-use Rattle.im_base_types.specs.declared.file_id.FileId.TheVariants.{Log, Pages}
+use Rattle.im_base_types.specs.declared.file_id.FileId.TheVariants.{Log, Pages, Log2}
 use Rattle.im_base_types.specs.Pages.{Page}
 use Rattle.im_theory_log.specs.Histories.{Base, History, Rises, end_of}
 use Rattle.im_theory_log.specs.Copies.{GrowsByImages}
@@ -17,7 +17,7 @@ use Rattle.im_theory_log.specs.Structure.{open_smo}
 use Rattle.im_base_disk.specs.declared.disk.Disk.{Ghosts}
 use Rattle.im_base_disk.specs.Disk.{Files, Only}
 use Rattle.im_base_disk.specs.Runs.{ChangesOnly, LeavesIn, LeavesOnly, Reads}
-use Rattle.im_base_disk.proofs.Runs.{reads_on, spares_reads, started, weakened}
+use Rattle.im_base_disk.proofs.Runs.{reads_on, spared, spares_reads, started, weakened}
 use Rattle.im_log_gate.specs.Header.{IsUnmade, least_number}
 use Rattle.im_theory_page.specs.PageFile.{file_page}
 use Rattle.im_log.specs.Kept.{IsLogOf}
@@ -25,6 +25,8 @@ use Rattle.im_log.specs.LogFile.{IsOpen, IsLog}
 use Rattle.im_log.proofs.Above.{front_none, log_spared}
 use Rattle.im_log.proofs.Creations.{not_both}
 use Rattle.im_log.specs.declared.log_file.LogFile.{LogFile}
+use Rattle.im_page_file.specs.OtherLog.{IsNewest}
+use Rattle.im_page_file.proofs.OtherLog.{newest_as, newest_made, newest_older, newest_unmade, only_spared}
 use Rattle.im_page_writer.specs.declared.page_writer.PageWriter.{PageWriter}
 use Rattle.im_page_writer.specs.PageWriter.{GoesOn, StandsAs, StepKept}
 use Rattle.im_page_table.proofs.Growing.{grown_front}
@@ -53,21 +55,22 @@ use Rattle.im_restart.proofs.Steps.{left_covered, left_here, left_then}
 
 -- ---- the files
 
-pub has_same : (b : Base) (base : ℕ) (all : History) (files c : Files) → c Log ≡ files Log → c Pages ≡ files Pages → HasStore b base all files → HasStore b base all c
-has_same b base all files c log pages has = record {
+pub has_same : (b : Base) (base : ℕ) (all : History) (files c : Files) → c Log ≡ files Log → c Pages ≡ files Pages → c Log2 ≡ files Log2 → HasStore b base all files → HasStore b base all c
+has_same b base all files c log pages other has = record {
   log = subst (λ (bytes : List ℕ). IsLogOf base all bytes) (sym log) has.log;
   bare = λ unmade. ap (λ (bytes : List ℕ). length bytes) pages ∙ has.bare (subst (λ (bytes : List ℕ). IsUnmade bytes) log unmade);
   covers = subst (λ (bytes : List ℕ). Covers b all (file_page bytes)) (sym pages) has.covers;
+  newest = newest_as files c log other has.newest;
 }
 
 module _ {D : Type 0} (d : Ghosts D) (b : Base) (base : ℕ) (all : History) where
   -- ---- before any call
 
-  pub left_unmoved : (disk : D) → ((c : Files) → d.left_since disk (d.moment disk) c → d.may_leave disk c) → Only Log (d.seen disk) (d.may_leave disk) → Only Pages (d.seen disk) (d.may_leave disk) → HasStore b base all (d.seen disk)
+  pub left_unmoved : (disk : D) → ((c : Files) → d.left_since disk (d.moment disk) c → d.may_leave disk c) → Only Log (d.seen disk) (d.may_leave disk) → Only Pages (d.seen disk) (d.may_leave disk) → Only Log2 (d.seen disk) (d.may_leave disk) → HasStore b base all (d.seen disk)
       → IsLawful b page_tree all → LeavesOnly d disk disk (IsLeftUndoing b base all)
-  left_unmoved disk only_now log pages has law =
+  left_unmoved disk only_now log pages other has law =
       started d disk (IsLeftUndoing b base all)
-      (λ told c left. record { left = all; has = has_same b base all (d.seen disk) c (log c (only_now c left)) (pages c (only_now c left)) has; grown = grows_none all; order = inl (order_none all); lawful = law })
+      (λ told c left. record { left = all; has = has_same b base all (d.seen disk) c (log c (only_now c left)) (pages c (only_now c left)) (other c (only_now c left)) has; grown = grows_none all; order = inl (order_none all); lawful = law })
 
   -- an open log is on the disk
   pub log_synced : (file : LogFile) (disk : D) → IsOpen d file disk → file.failed ≡ false → Only Log (d.seen disk) (d.may_leave disk)
@@ -75,10 +78,15 @@ module _ {D : Type 0} (d : Ghosts D) (b : Base) (base : ℕ) (all : History) whe
 
   -- ---- the log is opened or made
 
-  pub left_opening : (old mid : D) → ((c : Files) → d.left_since old (d.moment old) c → d.may_leave old c) → d.tells → Only Log (d.seen old) (d.may_leave old) → Only Pages (d.seen old) (d.may_leave old)
+  pub left_opening : (old mid : D) → ((c : Files) → d.left_since old (d.moment old) c → d.may_leave old c) → d.tells → Only Log (d.seen old) (d.may_leave old) → Only Pages (d.seen old) (d.may_leave old) → Only Log2 (d.seen old) (d.may_leave old)
       → MayRestart b base all (d.seen old) → LeavesIn d Log old mid (IsLogOf base all) → (d.tells → ¬ (IsFresh (d.seen old)) → Reads d old mid) → LeavesOnly d old mid (IsLeftUndoing b base all)
-  left_opening old mid only_now told log pages may stops reads = by may.has.log
+  left_opening old mid only_now told log pages other may stops reads = by may.has.log
     where
+      -- while the log is made, which was not
+      newest_by : IsUnmade (d.seen old Log) → (c : Files) → IsLogOf base all (c Log) → c Log2 ≡ d.seen old Log2 → IsNewest c
+      newest_by was c (inl none) same = inr (none.0, subst IsUnmade (sym same) (newest_unmade (d.seen old) was may.has.newest))
+      newest_by was c (inr has) same = inl (newest_made (d.seen old) c (λ _. same) has.made (λ made. absurd (made was)) may.has.newest)
+
       by : IsLogOf base all (d.seen old Log) → LeavesOnly d old mid (IsLeftUndoing b base all)
       by (inl fresh) =
           weakened d old mid _ (IsLeftUndoing b base all) stops
@@ -90,33 +98,39 @@ module _ {D : Type 0} (d : Ghosts D) (b : Base) (base : ℕ) (all : History) whe
               log = left.2.changed;
               bare = λ unmade. ap (λ (bytes : List ℕ). length bytes) same ∙ may.has.bare fresh.0;
               covers = subst (λ (bytes : List ℕ). Covers b all (file_page bytes)) (sym same) may.has.covers;
+              newest = newest_by fresh.0 c left.2.changed (left.2.others Log2 (λ e. cc e) ∙ other left.0 left.1);
             };
             grown = grows_none all;
             order = inl (order_none all);
             lawful = may.lawful;
           })
       by (inr made) =
-          reads_on d old old mid (IsLeftUndoing b base all) (left_unmoved old only_now log pages may.has may.lawful) (reads told (λ fresh. not_both (d.seen old Log) made.made fresh.0))
+          reads_on d old old mid (IsLeftUndoing b base all) (left_unmoved old only_now log pages other may.has may.lawful) (reads told (λ fresh. not_both (d.seen old Log) made.made fresh.0))
 
   -- what the restart finds behind it
-  has_behind : (old mid : D) (file : LogFile) → HasStore b base all (d.seen old) → ChangesOnly d Log old mid → IsLog d base all all file mid → HasStore b base all (d.seen mid)
-  has_behind old mid file has changes log = record {
+  has_behind : (old mid : D) (file : LogFile) → HasStore b base all (d.seen old) → ChangesOnly d Log old mid → (d.tells → ¬ (IsFresh (d.seen old)) → Reads d old mid) → IsLog d base all all file mid → HasStore b base all (d.seen mid)
+  has_behind old mid file has changes reads log = record {
     log = inr (record { made = log.made; starts = log.starts; spells = log.on_disk });
     bare = λ unmade. absurd (not_both (d.seen mid Log) log.made unmade);
     covers = subst (λ (bytes : List ℕ). Covers b all (file_page bytes)) (sym (changes.seen Pages (λ e. cc e))) has.covers;
+    newest = inl (newest_made (d.seen old) (d.seen mid) (λ _. changes.seen Log2 (λ e. cc e)) log.made
+        (λ made. subst IsNewest (sym (reads log.tells (λ fresh. made fresh.0)).seen) has.newest) has.newest);
   }
 
-  pub may_behind : (old mid : D) (file : LogFile) → MayRestart b base all (d.seen old) → ChangesOnly d Log old mid → IsLog d base all all file mid → MayRestart b base all (d.seen mid)
-  may_behind old mid file may changes log = record { start = may.start; counted = may.counted; has = has_behind old mid file may.has changes log; lawful = may.lawful }
+  pub may_behind : (old mid : D) (file : LogFile) → MayRestart b base all (d.seen old) → ChangesOnly d Log old mid → (d.tells → ¬ (IsFresh (d.seen old)) → Reads d old mid) → IsLog d base all all file mid → MayRestart b base all (d.seen mid)
+  may_behind old mid file may changes reads log = record { start = may.start; counted = may.counted; has = has_behind old mid file may.has changes reads log; lawful = may.lawful }
 
-  pub redo_behind : (old mid : D) (file : LogFile) → MayRedo b base all (d.seen old) → ChangesOnly d Log old mid → IsLog d base all all file mid → MayRedo b base all (d.seen mid)
-  redo_behind old mid file may changes log =
-      record { start = may.start; has = has_behind old mid file may.has changes log; rises = may.rises; taken = may.taken; can = may.can; done = may.done }
+  pub redo_behind : (old mid : D) (file : LogFile) → MayRedo b base all (d.seen old) → ChangesOnly d Log old mid → (d.tells → ¬ (IsFresh (d.seen old)) → Reads d old mid) → IsLog d base all all file mid → MayRedo b base all (d.seen mid)
+  redo_behind old mid file may changes reads log =
+      record { start = may.start; has = has_behind old mid file may.has changes reads log; rises = may.rises; taken = may.taken; can = may.can; done = may.done }
 
   pub pages_synced : (old mid : D) → ChangesOnly d Log old mid → Only Pages (d.seen old) (d.may_leave old) → Only Pages (d.seen mid) (d.may_leave mid)
   pages_synced old mid changes pages c left =
       let e = changes.outcomes c left in
       e.2 Pages (λ same. cc same) ∙ pages e.0 e.1 ∙ sym (changes.seen Pages (λ same. cc same))
+
+  pub other_synced : (old mid : D) → ChangesOnly d Log old mid → Only Log2 (d.seen old) (d.may_leave old) → Only Log2 (d.seen mid) (d.may_leave mid)
+  other_synced old mid changes other = only_spared d Log2 old mid (spared d Log Log2 old mid (λ same. cc same) changes) other
 
   -- ---- redo
 
@@ -172,22 +186,22 @@ module _ {D : Type 0} (d : Ghosts D) (b : Base) (base : ℕ) (all : History) whe
   -- ---- the writer
 
   -- that expects what the file was synced with
-  pub writer_starts : (file : LogFile) (w x : PageWriter) (synced : Synced) (frames : ℕ) (disk : D) → b.start ≤ base → Rises b all → Covers b all (file_page (d.seen disk Pages)) → Only Pages (d.seen disk) (d.may_leave disk) → IsOpen d file disk → IsLog d base all all file disk
+  pub writer_starts : (file : LogFile) (w x : PageWriter) (synced : Synced) (frames : ℕ) (disk : D) → b.start ≤ base → Rises b all → Covers b all (file_page (d.seen disk Pages)) → Only Pages (d.seen disk) (d.may_leave disk) → Only Log2 (d.seen disk) (d.may_leave disk) → IsNewest (d.seen disk) → IsOpen d file disk → IsLog d base all all file disk
       → x ≡ record w { known = record w.known { synced = synced } } → w.log ≡ file → w.pool ≡ record { held = []; frames = frames; gets = 0 } → w.table ≡ [] → w.failed ≡ false → w.known.from ≡ None → AreSyncedWith all (redo_point all) synced
       → StandsAs d b base (opened b all (file_page (d.seen disk Pages))) x disk
-  writer_starts file w x synced frames disk start up covers pages is_open log is same pool table working unknown expected =
+  writer_starts file w x synced frames disk start up covers pages other newest is_open log is same pool table working unknown expected =
       subst (λ (y : PageWriter). StandsAs d b base (opened b all (file_page (d.seen disk Pages))) y disk) (sym is)
       (writer_opens d b base all (record w { known = record w.known { synced = synced } }) frames disk start up covers (subst (λ (f : LogFile). IsOpen d f disk) (sym same) is_open)
-      (subst (λ (f : LogFile). IsLog d base all all f disk) (sym same) log) pages pool table working unknown expected)
+      (subst (λ (f : LogFile). IsLog d base all all f disk) (sym same) log) pages other (newest_older (d.seen disk) log.made newest) pool table working unknown expected)
 
   -- ---- the file of pages is tested first, by reads
 
   pub log_over : (file : LogFile) (disk : D) (end : ℕ) → b.start ≤ base → IsOpen d file disk → IsLog d base all all file disk → end ≡ end_of_log file → end_of b all < end
   log_over file disk end start is_open log is = subst (λ (n : ℕ). end_of b all < n) (sym is) (under_end d base all all file disk is_open log b (end_of b all) start (omega arith))
 
-  pub left_reading : (old mid : D) → ((c : Files) → d.left_since old (d.moment old) c → d.may_leave old c) → Only Log (d.seen old) (d.may_leave old) → Only Pages (d.seen old) (d.may_leave old) → HasStore b base all (d.seen old)
+  pub left_reading : (old mid : D) → ((c : Files) → d.left_since old (d.moment old) c → d.may_leave old c) → Only Log (d.seen old) (d.may_leave old) → Only Pages (d.seen old) (d.may_leave old) → Only Log2 (d.seen old) (d.may_leave old) → HasStore b base all (d.seen old)
       → IsLawful b page_tree all → Reads d old mid → LeavesOnly d old mid (IsLeftUndoing b base all)
-  left_reading old mid only_now log pages has law reads = reads_on d old old mid (IsLeftUndoing b base all) (left_unmoved old only_now log pages has law) reads
+  left_reading old mid only_now log pages other has law reads = reads_on d old old mid (IsLeftUndoing b base all) (left_unmoved old only_now log pages other has law) reads
 
   pub pages_read : (old mid : D) → Reads d old mid → Only Pages (d.seen old) (d.may_leave old) → Only Pages (d.seen mid) (d.may_leave mid)
   pages_read old mid reads pages c left = pages c (reads.outcomes c left) ∙ sym (ap (λ (f : Files). f Pages) reads.seen)

@@ -63,7 +63,7 @@ module _ {D : Type 0} (d : Ghosts D) (b : Base) (base : ℕ) (all : History) whe
       weakened d old new (IsCovered b base low high) (IsLeftUndoing b base all) stops
       (λ told c is. record {
         left = is.log.left;
-        has = record { log = inr is.log.has; bare = λ unmade. absurd (not_both (c Log) is.log.has.made unmade); covers = is.pages };
+        has = record { log = inr is.log.has; bare = λ unmade. absurd (not_both (c Log) is.log.has.made unmade); covers = is.pages; newest = inl is.older };
         grown = grows_front all is.log.left high grown (front_then all low is.log.left found is.log.longer) is.log.shorter;
         order = inl (order_front all is.log.left high order (front_then all low is.log.left found is.log.longer) is.log.shorter);
         lawful = fronts_lawful b page_tree is.log.left high is.log.shorter law;

@@ -18,6 +18,7 @@ use Rattle.im_base_disk.specs.Runs.{LeavesOnly}
 use Rattle.im_log_gate.specs.Header.{base_of, least_number, IsUnmade}
 use Rattle.im_log.specs.Kept.{HasLog, IsLogOf}
 use Rattle.im_theory_page.specs.PageFile.{file_page}
+use Rattle.im_page_file.specs.OtherLog.{IsNewest}
 use Rattle.im_page_writer.specs.declared.page_writer.PageWriter.{PageWriter}
 use Rattle.im_page_writer.specs.PageWriter.{StandsAs}
 use Rattle.im_page_writer.specs.Outcome.{IsSound}
@@ -61,11 +62,12 @@ pub record LeavesNoUndo (log : History) : Type 0 where
 abbrev pub IsFullLog : Files → Type 0
 IsFullLog files = 2 ^ 62 < base_of (files Log) + (length (files Log) + 32778)
 
--- The files have this log, which starts at this LSN and covers the pages; without a log there are no pages.
+-- The files have this log, which starts at this LSN and covers the pages; without a log there are no pages. The other log is older, or neither is made.
 pub record HasStore (b : Base) (base : ℕ) (all : History) (files : Files) : Type 0 where
   pub log : IsLogOf base all (files Log)
   pub bare : IsUnmade (files Log) → length (files Pages) ≡ 0
   pub covers : Covers b all (file_page (files Pages))
+  pub newest : IsNewest files
 
 -- What a restart can start from: a lawful log that covers the pages. What the log is over has no LSN above its first byte, and says no more pages than a first log finds.
 pub record MayRestart (b : Base) (base : ℕ) (all : History) (files : Files) : Type 0 where

@@ -2,7 +2,7 @@
 
 ghost use Rattle.std.specs.Prelude.{◌≡◌, ◌≢◌, ◌≤◌, ◌⊎◌, ℕ, [], false, length, Ok, IfErr, IfOk};
 ghost use Rattle.im_base_types.specs.declared.fault.Fault.TheVariants.{Capacity, Device, Memory, NotAStore};
-ghost use Rattle.im_base_types.specs.declared.file_id.FileId.TheVariants.{Log, Pages};
+ghost use Rattle.im_base_types.specs.declared.file_id.FileId.TheVariants.{Log, Pages, Log2};
 ghost use Rattle.im_theory_log.specs.Histories.{Base, History};
 ghost use Rattle.im_theory_log.specs.RedoPoints.{redo_point};
 ghost use Rattle.im_theory_log.specs.Writer.{Writer};
@@ -141,11 +141,11 @@ fn restart<D: Disk>(
     ensures ready { IfOk result (λ r. IsReadyWriter D.Disk r.writer disk.new × (r.writer.failed ≡ false)) }
     ensures pool { IfOk result (λ r. r.writer.pool.frames ≡ frames) }
     ensures least { IfOk result (λ r. 1 ≤ r.next) }
-    ensures kept { (b : Base) (base : ℕ) (all : History) → MayRestart b base all (D.seen disk.old) → Only Pages (D.seen disk.old) (D.may_leave disk.old) → IsFound D.Disk base all found disk.old
+    ensures kept { (b : Base) (base : ℕ) (all : History) → MayRestart b base all (D.seen disk.old) → Only Pages (D.seen disk.old) (D.may_leave disk.old) → Only Log2 (D.seen disk.old) (D.may_leave disk.old) → IsFound D.Disk base all found disk.old
         → RestartKept D.Disk b base all disk.old disk.new result }
-    ensures used_up { (b : Base) (base : ℕ) (all : History) → MayRestart b base all (D.seen disk.old) → Only Pages (D.seen disk.old) (D.may_leave disk.old) → IsFound D.Disk base all found disk.old
+    ensures used_up { (b : Base) (base : ℕ) (all : History) → MayRestart b base all (D.seen disk.old) → Only Pages (D.seen disk.old) (D.may_leave disk.old) → Only Log2 (D.seen disk.old) (D.may_leave disk.old) → IsFound D.Disk base all found disk.old
         → IfErr result (λ e. e ≡ Capacity → RunsOut b all) }
-    ensures redoes { (b : Base) (base : ℕ) (all : History) → MayRedo b base all (D.seen disk.old) → Only Pages (D.seen disk.old) (D.may_leave disk.old) → IsFound D.Disk base all found disk.old
+    ensures redoes { (b : Base) (base : ℕ) (all : History) → MayRedo b base all (D.seen disk.old) → Only Pages (D.seen disk.old) (D.may_leave disk.old) → Only Log2 (D.seen disk.old) (D.may_leave disk.old) → IsFound D.Disk base all found disk.old
         → IfErr result (λ e. e ≢ NotAStore) }
 {
     let Found {
@@ -182,11 +182,11 @@ fn restart_tested<D: Disk>(
     ensures ready { IfOk result (λ r. IsReadyWriter D.Disk r.writer disk.new × (r.writer.failed ≡ false)) }
     ensures pool { IfOk result (λ r. r.writer.pool.frames ≡ frames) }
     ensures least { IfOk result (λ r. 1 ≤ r.next) }
-    ensures kept { (b : Base) (base : ℕ) (all : History) → MayRestart b base all (D.seen disk.old) → Only Pages (D.seen disk.old) (D.may_leave disk.old) → IsFound D.Disk base all found disk.old
+    ensures kept { (b : Base) (base : ℕ) (all : History) → MayRestart b base all (D.seen disk.old) → Only Pages (D.seen disk.old) (D.may_leave disk.old) → Only Log2 (D.seen disk.old) (D.may_leave disk.old) → IsFound D.Disk base all found disk.old
         → RestartKept D.Disk b base all disk.old disk.new result }
-    ensures used_up { (b : Base) (base : ℕ) (all : History) → MayRestart b base all (D.seen disk.old) → Only Pages (D.seen disk.old) (D.may_leave disk.old) → IsFound D.Disk base all found disk.old
+    ensures used_up { (b : Base) (base : ℕ) (all : History) → MayRestart b base all (D.seen disk.old) → Only Pages (D.seen disk.old) (D.may_leave disk.old) → Only Log2 (D.seen disk.old) (D.may_leave disk.old) → IsFound D.Disk base all found disk.old
         → IfErr result (λ e. e ≡ Capacity → RunsOut b all) }
-    ensures redoes { (b : Base) (base : ℕ) (all : History) → MayRedo b base all (D.seen disk.old) → Only Pages (D.seen disk.old) (D.may_leave disk.old) → IsFound D.Disk base all found disk.old
+    ensures redoes { (b : Base) (base : ℕ) (all : History) → MayRedo b base all (D.seen disk.old) → Only Pages (D.seen disk.old) (D.may_leave disk.old) → Only Log2 (D.seen disk.old) (D.may_leave disk.old) → IsFound D.Disk base all found disk.old
         → IfErr result (λ e. e ≢ NotAStore) }
 {
     check_file(

@@ -1,6 +1,6 @@
 use Rattle.std.proofs.Common.{rules, ◌≡◌, ◌≢◌, refl, inl}
 use Rattle.im_base_types.specs.declared.fault.Fault.TheVariants.{Capacity, NotAStore}
-use Rattle.im_base_types.specs.declared.file_id.FileId.TheVariants.{Log, Pages}
+use Rattle.im_base_types.specs.declared.file_id.FileId.TheVariants.{Log, Pages, Log2}
 use Rattle.im_theory_log.specs.PageCounts.{first_count}
 use Rattle.im_page_writer.proofs.LoggedChanges.{err_on}
 use Rattle.im_page_writer.proofs.Outcomes.{sound_also, sound_on}
@@ -9,7 +9,7 @@ use Rattle.im_theory_tree.proofs.TheoryLaws.{page_tree_laws}
 use Rattle.im_restart.specs.Restart.{RunsOut}
 use Rattle.im_restart.proofs.Ends.{opens_read, opens_refused, read_cause}
 use Rattle.im_restart.proofs.Openings.{holds_if_ok, lawful_taken}
-use Rattle.im_restart.proofs.Restarts.{left_opening, may_behind, opened_behind, pages_synced, redo_behind}
+use Rattle.im_restart.proofs.Restarts.{left_opening, may_behind, opened_behind, other_synced, pages_synced, redo_behind}
 use Rattle.im_restart.proofs.Steps.{left_then}
 use Rattle.im_restart.proofs.opening.open_or_create.Goals as goal
 
@@ -25,7 +25,7 @@ returns-in_err-found-clause-kept g c b base all told may =
     let k = c.in_err-found.ensures.kept base all told may.has.log may.has.bare (lawful_taken b page_tree first_count page_tree_laws may.counted all may.lawful) in
     record {
       sound = sound_on c.from_residual.result _ _ c.from_residual.ensures.1 k.cause;
-      stops = left_opening d b base all old c.open_log.new.disk (g.met.D.Disk.only_now old) told (c.requires.synced Log) (c.requires.synced Pages) may k.stops c.in_err-found.ensures.reads;
+      stops = left_opening d b base all old c.open_log.new.disk (g.met.D.Disk.only_now old) told (c.requires.synced Log) (c.requires.synced Pages) (c.requires.synced Log2) may k.stops c.in_err-found.ensures.reads;
     }
 
 pub returns-clause-kept : goal.returns-clause-kept
@@ -34,9 +34,9 @@ returns-clause-kept g c b base all told may =
     let old = c.args.disk.now in
     let mid = c.open_log.new.disk in
     let k = c.in_ok-found.ensures.kept base all told may.has.log may.has.bare (lawful_taken b page_tree first_count page_tree_laws may.counted all may.lawful) in
-    let opening = left_opening d b base all old mid (g.met.D.Disk.only_now old) told (c.requires.synced Log) (c.requires.synced Pages) may k.stops c.in_ok-found.ensures.reads in
-    let behind = may_behind d b base all old mid c.in_ok-found.found.log may c.in_ok-found.ensures.changes k.ok.log in
-    let r = c.restart_tested.ensures.kept b base all behind (pages_synced d b base all old mid c.in_ok-found.ensures.changes (c.requires.synced Pages)) k.ok in
+    let opening = left_opening d b base all old mid (g.met.D.Disk.only_now old) told (c.requires.synced Log) (c.requires.synced Pages) (c.requires.synced Log2) may k.stops c.in_ok-found.ensures.reads in
+    let behind = may_behind d b base all old mid c.in_ok-found.found.log may c.in_ok-found.ensures.changes c.in_ok-found.ensures.reads k.ok.log in
+    let r = c.restart_tested.ensures.kept b base all behind (pages_synced d b base all old mid c.in_ok-found.ensures.changes (c.requires.synced Pages)) (other_synced d b base all old mid c.in_ok-found.ensures.changes (c.requires.synced Log2)) k.ok in
     let number = (c.in_ok-found.ensures.alike told).number in
     record {
       sound = sound_also c.restart_tested.result _ _ r.sound (λ made is. opened_behind d b base all old mid c.restart_tested.new.disk made number (c.in_ok-found.ensures.changes.seen Pages (λ e. cc e)) is);
@@ -69,8 +69,8 @@ returns-clause-redoes g c b base all told may =
     let old = c.args.disk.now in
     let mid = c.open_log.new.disk in
     let k = c.in_ok-found.ensures.kept base all told may.has.log may.has.bare may.taken in
-    let behind = redo_behind d b base all old mid c.in_ok-found.found.log may c.in_ok-found.ensures.changes k.ok.log in
-    c.restart_tested.ensures.redoes b base all behind (pages_synced d b base all old mid c.in_ok-found.ensures.changes (c.requires.synced Pages)) k.ok
+    let behind = redo_behind d b base all old mid c.in_ok-found.found.log may c.in_ok-found.ensures.changes c.in_ok-found.ensures.reads k.ok.log in
+    c.restart_tested.ensures.redoes b base all behind (pages_synced d b base all old mid c.in_ok-found.ensures.changes (c.requires.synced Pages)) (other_synced d b base all old mid c.in_ok-found.ensures.changes (c.requires.synced Log2)) k.ok
 
 pub returns-in_err-found-clause-used_up : goal.returns-in_err-found-clause-used_up
 returns-in_err-found-clause-used_up g c b base all told may =
@@ -82,5 +82,5 @@ returns-clause-used_up g c b base all told may =
     let old = c.args.disk.now in
     let mid = c.open_log.new.disk in
     let k = c.in_ok-found.ensures.kept base all told may.has.log may.has.bare (lawful_taken b page_tree first_count page_tree_laws may.counted all may.lawful) in
-    let behind = may_behind d b base all old mid c.in_ok-found.found.log may c.in_ok-found.ensures.changes k.ok.log in
-    c.restart_tested.ensures.used_up b base all behind (pages_synced d b base all old mid c.in_ok-found.ensures.changes (c.requires.synced Pages)) k.ok
+    let behind = may_behind d b base all old mid c.in_ok-found.found.log may c.in_ok-found.ensures.changes c.in_ok-found.ensures.reads k.ok.log in
+    c.restart_tested.ensures.used_up b base all behind (pages_synced d b base all old mid c.in_ok-found.ensures.changes (c.requires.synced Pages)) (other_synced d b base all old mid c.in_ok-found.ensures.changes (c.requires.synced Log2)) k.ok
