@@ -23,7 +23,7 @@ made_not bytes made (inr other) = other made.made
 
 -- what a stop left is a store
 covered_store : (b : Base) (base : ℕ) (low high : History) (c : Files) (is : IsCovered b base low high c) → HasStore b base is.log.left c
-covered_store b base low high c is = record { log = inr is.log.has; bare = λ unmade. absurd (made_not (c Log) is.log.has.made unmade); covers = is.pages }
+covered_store b base low high c is = record { log = inr is.log.has; bare = λ unmade. absurd (made_not (c Log) is.log.has.made unmade); covers = is.pages; newest = inl is.older }
 
 -- and stands for what the life may make of the effects before it
 pub covered_allowed : (b : Base) (base : ℕ) (earlier before : List Effect) (s : Shown) (low high : History) → b.start ≤ base → count_of b ≤ first_count → apply_all empty earlier ≡ b.map → IsLawful b page_tree high

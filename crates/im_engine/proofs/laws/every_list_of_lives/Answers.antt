@@ -8,4 +8,4 @@ pub returns-clause-lives : goal.returns-clause-lives
 returns-clause-lives c old new lives before stands chain = lives_in_turn old new lives before stands chain
 
 pub returns-clause-first : goal.returns-clause-first
-returns-clause-first c = fresh_stands (both [] []) (inl (omega arith), refl)
+returns-clause-first c = fresh_stands (both [] []) (inl (omega arith), refl) (inl (omega arith))

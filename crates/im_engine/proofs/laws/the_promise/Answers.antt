@@ -6,4 +6,4 @@ use Rattle.im_engine.proofs.Promised.{one_list}
 use Rattle.im_engine.proofs.laws.the_promise.Goals as goal
 
 pub returns : goal.returns
-returns c lives are = one_list StandsFor (both [] []) lives [] (fresh_stands (both [] []) (inl (omega arith), refl)) are
+returns c lives are = one_list StandsFor (both [] []) lives [] (fresh_stands (both [] []) (inl (omega arith), refl) (inl (omega arith))) are
