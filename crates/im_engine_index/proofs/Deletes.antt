@@ -14,6 +14,7 @@ use Rattle.im_theory_log.specs.Histories.{Base, History}
 use Rattle.im_theory_log.specs.Copies.{GrowsByImages}
 use Rattle.im_theory_log.specs.Lawful as lawful
 use Rattle.im_theory_log.specs.LogLaws as logs
+use Rattle.im_theory_log.specs.Structure.{open_smo}
 use Rattle.im_theory_log.specs.Transactions.{contents, is_rolling_back}
 use Rattle.im_theory_log.specs.Writer.{Writer}
 use Rattle.im_theory_log.proofs.Histories.{front_self}
@@ -52,7 +53,7 @@ use Rattle.im_engine_index.specs.declared.place.Place.{Place}
 use Rattle.im_engine_index.specs.Asks.{IsAsked}
 use Rattle.im_engine_index.specs.KeyLogs.{LeftByEdit, LeavesEdit, MayTake, KeyLogged}
 use Rattle.im_engine_index.specs.Edits.{Deleted, DeleteKept, HasOne, HasMore, MayEdit, TakenKept}
-use Rattle.im_engine_index.proofs.KeyLogs.{owner_some, bodies_are, grows_within, left_edit, unchanged, walk_is}
+use Rattle.im_engine_index.proofs.KeyLogs.{owner_some, bodies_are, grows_within, is_going_on, is_unfinished, left_edit, none_open, settled_are, still_closed, unchanged, walk_is}
 
 -- ---- growth within a transaction, twice
 
@@ -94,14 +95,18 @@ module _ {D : Type 0} (d : Ghosts D) (b : Base) (base : ℕ) (s : Writer) (e t l
       }))
       (λ told c is. is)
 
-  module _ (there : get (contents b s.log) key ≡ Some rid) (lsn : ℕ) (v : PageWriter) (mid : D) (k : KeyLogged d b base s e t last page (DeleteKey key rid) lsn v mid) where
+  -- where no structure change is open
+  module _ (there : get (contents b s.log) key ≡ Some rid) (lsn : ℕ) (v : PageWriter) (mid : D) (k : KeyLogged d b base s e t last page (DeleteKey key rid) lsn v mid) (closed : open_smo s.log ≡ []) where
+    pub logged_alone : IsUnfinished d b base k.now e t lsn lsn v mid
+    logged_alone = still_closed d b base s e t last page (DeleteKey key rid) lsn v mid closed k
+
     -- the leaf stays: it has entries left, or is the root
     pub deleted_here : HasMore (bodies s) key → Deleted d b base s e t last key (record { last = lsn; undo_next = lsn; leaf_kept = false }) v mid
     deleted_here more = record {
       rid = rid;
       there = there;
       now = k.now;
-      stands = k.stands;
+      stands = logged_alone;
       point = k.point;
       durable = k.durable;
       before = k.before;
@@ -133,7 +138,7 @@ module _ {D : Type 0} (d : Ghosts D) (b : Base) (base : ℕ) (s : Writer) (e t l
       }
 
       same_pages : bodies k.now ≡ logs.bodies b (record_of lsn ∷ k.before)
-      same_pages = bodies_are d b base k.now e t lsn lsn v mid k.stands owner ∙ ap (logs.bodies b) k.is
+      same_pages = bodies_are d b base k.now e t lsn lsn v mid logged_alone owner ∙ ap (logs.bodies b) k.is
 
       -- by Images alone
       deleted_images : (left : Bool) → GrowsByImages b k.now.log made.now.log → (left ≡ true → HasOne (bodies s) key) → (left ≡ false → IsKept (bodies k.now) key)
@@ -156,21 +161,27 @@ module _ {D : Type 0} (d : Ghosts D) (b : Base) (base : ℕ) (s : Writer) (e t l
     -- for want of memory it stays
     pub deleted_none : (w : PageWriter) (new : D) → HasOne (bodies s) key → Evicted d b base k.now mid w new → Deleted d b base s e t last key (record { last = lsn; undo_next = lsn; leaf_kept = true }) w new
     deleted_none w new one ev =
-        let made : Restructured d b base k.now e t lsn lsn w new = images_made d b base k.now e t lsn lsn v mid k.stands (owner_some t owner) ev.now w new ev.on in
+        let made : Restructured d b base k.now e t lsn lsn w new = images_made d b base k.now e t lsn lsn v mid logged_alone (owner_some t owner) ev.now w new ev.on in
         deleted_images lsn w new made true ev.on.goes.keeps.log (λ is. one) (λ is. (let never : ⊥ = cc is in absurd never))
 
 -- ---- the leaf of the key, as it was held
 
-module _ {D : Type 0} (d : Ghosts D) (b : Base) (base : ℕ) (s : Writer) (e t last undo_next : ℕ) (w : PageWriter) (disk : D) (u : IsUnfinished d b base s e t last undo_next w disk) (key : Key) (frame : Frame)
-    (way : IsOnWay (bodies s) 0 key frame.number) (at : IsAt w.pool frame) where
+module _ {D : Type 0} (d : Ghosts D) (b : Base) (base : ℕ) (s : Writer) (e t last undo_next : ℕ) (key : Key) (rid : ℕ) (w : PageWriter) (disk : D) (frame : Frame) (may : MayTake d b base s e t last undo_next frame.number key rid w disk)
+    (closed : open_smo s.log ≡ []) (at : IsAt w.pool frame) where
+  alone : IsUnfinished d b base s e t last undo_next w disk
+  alone = is_unfinished d b base s e t last undo_next w disk may.unfinished closed
+
+  leaf_way : IsOnWay (bodies s) 0 key frame.number
+  leaf_way = subst (λ (f : Pages). IsOnWay f 0 key frame.number) (settled_are d b base s e t last undo_next w disk alone) may.way
+
   entries_are : (page_at w.pool frame.number).body.entries ≡ (bodies s frame.number).entries
-  entries_are = ap (λ (x : Page). x.body.entries) (held_is d frame (unfinished_pages d b base s e t last undo_next w disk u) at)
+  entries_are = ap (λ (x : Page). x.body.entries) (held_is d frame (unfinished_pages d b base s e t last undo_next w disk alone) at)
 
   pub one_left : (frame.number ≢ 1) × (length (page_at w.pool frame.number).body.entries ≡ 1) → HasOne (bodies s) key
-  one_left is = record { page = frame.number; way = way; under = is.0; one = ap length (sym entries_are) ∙ is.1 }
+  one_left is = record { page = frame.number; way = leaf_way; under = is.0; one = ap length (sym entries_are) ∙ is.1 }
 
   pub more_left : (frame.number ≡ 1) ⊎ (length (page_at w.pool frame.number).body.entries ≢ 1) → HasMore (bodies s) key
-  more_left is = record { page = frame.number; way = way; more = by is }
+  more_left is = record { page = frame.number; way = leaf_way; more = by is }
     where
       by : (frame.number ≡ 1) ⊎ (length (page_at w.pool frame.number).body.entries ≢ 1) → (frame.number ≡ 1) ⊎ (length (bodies s frame.number).entries ≢ 1)
       by (inl root) = inl root
@@ -202,16 +213,20 @@ module _ {D : Type 0} (d : Ghosts D) (b : Base) (base : ℕ) (s : Writer) (e t l
     now_bodies : bodies ev.now ≡ bodies s
     now_bodies = ap bodies_of (pages_stay b s ev.now ev.on.goes.keeps)
 
+    pub unfinished_now : IsUnfinished d b base ev.now e t last undo_next w mid
+    unfinished_now = unfinished_images d b base s e t last undo_next v old u (owner_some t owner) ev.now w mid ev.on
+
     -- the key may be taken out there
     pub may_take : (page : ℕ) → is_rolling_back t s.log ≡ false → lawful.IsFree t key s.log → IsOnWay (bodies s) 0 key page → MayTake d b base ev.now e t last undo_next page key rid w mid
     may_take page forward free way =
         let rest = unchanged b s.log ev.now.log ev.on.goes.keeps.log in
         record {
-          unfinished = unfinished_images d b base s e t last undo_next v old u (owner_some t owner) ev.now w mid ev.on;
+          unfinished = is_going_on d b base ev.now e t last undo_next w mid unfinished_now;
           forward = (rest.1 t).rolling ∙ forward;
           free = λ n other theirs. free n other (subst (λ (c : Effect). Touches c key) (rest.0.nets n) theirs);
           there = ap (λ (m : IndexMap). get m key) rest.0.walk ∙ there;
-          way = subst (λ (f : Pages). IsOnWay f 0 key page) (sym now_bodies) way;
+          apart = none_open d b base ev.now e t last undo_next w mid unfinished_now page;
+          way = subst (λ (f : Pages). IsOnWay f 0 key page) (sym now_bodies ∙ sym (settled_are d b base ev.now e t last undo_next w mid unfinished_now)) way;
         }
 
     pub one_since : HasOne (bodies ev.now) key → HasOne (bodies s) key
@@ -325,6 +340,10 @@ module _ {D : Type 0} (d : Ghosts D) (b : Base) (base : ℕ) (s : Writer) (e t l
 
         pub may_be_taken : MayTake d b base now_of e t last undo_next place.leaf.number key rid w mid
         may_be_taken = may_take d b base s e t last undo_next v old may.unfinished owner key rid there w mid ev place.leaf.number may.forward free ours.place.leaf.way
+
+        -- where none is open still
+        pub none_open_there : open_smo now_of.log ≡ []
+        none_open_there = (unfinished_now d b base s e t last undo_next v old may.unfinished owner key rid there w mid ev).closed
 
         pub taken_ok : (x : PageWriter) (disk : D) (taken : Taken) → TakenKept d b base now_of e t last key mid x disk (Ok taken) → DeleteKept d b base s e t last key held new old x disk (Ok (Granted (Some taken)))
         taken_ok x disk taken kept = record {

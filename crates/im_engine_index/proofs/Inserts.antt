@@ -1,30 +1,28 @@
 -- An insert: planned, granted, and then logged behind the structure change that its leaf wants.
 use Rattle.std.proofs.Common.{◌≡◌, ◌≢◌, ◌⊎◌, inl, inr, ⊎_elim, ◌≤◌, ℕ, Bool, true, false, List, [], ◌∷◌, ◌++◌, length, Option, None, Some, Result, Ok, Err, refl, sym, ◌∙◌, ap, subst, append_assoc, arith}
-use Rattle.std.specs.Prelude.{IsErrAnd, IfErr}
+use Rattle.std.specs.Prelude.{IsErrAnd}
 use Rattle.std.proofs.Math.Path.{fun_ext}
 use Rattle.std.specs.FinMap.{get}
 use Rattle.std.specs.FinMap.Entries.{find}
 use Rattle.im_base_types.specs.declared.fault.Fault.{Fault}
-use Rattle.im_base_types.specs.declared.fault.Fault.TheVariants.{Capacity, Failed, Memory, NotAStore, PagesFull}
+use Rattle.im_base_types.specs.declared.fault.Fault.TheVariants.{Capacity, Failed, Memory, NotAStore}
 use Rattle.im_base_types.specs.Keys.{Key, key_order}
 use Rattle.im_base_types.specs.Maps.{IndexMap}
 use Rattle.im_base_types.specs.Changes.{Effect, Touches}
-use Rattle.im_base_types.specs.Answers.{Insert}
 use Rattle.im_base_types.specs.Records.{What, InsertKey, DeleteKey, UndoInsert, UndoDelete, Smo, UndoSmo, DummyClr, Commit, End, Image, Checkpoint, Unreadable, Logged}
 use Rattle.im_theory_log.specs.Histories.{Base, History, IsFront}
-use Rattle.im_theory_log.specs.Copies.{AreImages, GrowsByImages}
-use Rattle.im_theory_log.specs.Transactions.{contents}
+use Rattle.im_theory_log.specs.Copies.{AreImages}
+use Rattle.im_theory_log.specs.Structure.{settled}
 use Rattle.im_theory_log.specs.Writer.{Writer}
 use Rattle.im_theory_log.proofs.Histories.{front_self}
 use Rattle.im_base_disk.specs.declared.disk.Disk.{Ghosts}
 use Rattle.im_base_disk.proofs.Runs.{then_on, weakened}
 use Rattle.im_log.proofs.Above.{front_then}
-use Rattle.im_page_pool.specs.Pool.{PoolView}
 use Rattle.im_page_writer.specs.declared.page_writer.PageWriter.{PageWriter}
-use Rattle.im_page_writer.specs.Outcome.{fault_of, mild, want_of_memory, pages_of, AllPages, AreLoaded, HasPages, IsSound, Outcome as Ends, LogEnds, Logs}
+use Rattle.im_page_writer.specs.Outcome.{want_of_memory, pages_of, AllPages, AreLoaded, Outcome as Ends, Logs}
 use Rattle.im_page_table.specs.Growth.{Keeps}
 use Rattle.im_page_writer.specs.PageWriter.{Evicted}
-use Rattle.im_page_writer.proofs.Outcomes.{leaves_of_end, pages_here}
+use Rattle.im_page_writer.proofs.Outcomes.{leaves_of_end}
 use Rattle.im_page_file.proofs.Standing.{wider_covered}
 use Rattle.im_theory_page.specs.Split.{HasRoom}
 use Rattle.im_theory_tree.specs.Good.{AllOf, IsGoodTree}
@@ -33,25 +31,24 @@ use Rattle.im_theory_tree.specs.Search.{IsOnWay}
 use Rattle.im_tree_search.specs.Levels.{bodies, bodies_of}
 use Rattle.im_smo_pages.specs.Images.{Numbered}
 use Rattle.im_smo_alloc.specs.Seen.{seen}
-use Rattle.im_smo_log.specs.Changes.{IsOfChange, GrowsByChange, HasRecordOf, MayChange, Changed, ChangeKept, LeavesChange, image_marks}
+use Rattle.im_smo_log.specs.Changes.{IsOfChange, GrowsByChange, HasRecordOf, MayChange, ChangeKept, LeavesChange, image_marks}
 use Rattle.im_smo_log.proofs.Runs.{marked_is}
 use Rattle.im_smo_split.specs.Kept.{mild_to_split}
 use Rattle.im_smo_split.specs.Plan.{IsWithin}
 use Rattle.im_smo_split.specs.declared.split_plan.SplitPlan.{SplitPlan}
 use Rattle.im_smo_split.specs.Tops.{HasRoomFor, LacksRoomFor}
 use Rattle.im_smo_split.proofs.OneLeaf.{one_leaf}
-use Rattle.im_smo_actions.specs.Structure.{IsUnfinished, Restructured}
+use Rattle.im_smo_actions.specs.Structure.{IsUnfinished}
 use Rattle.im_smo_actions.proofs.Growth.{images_as_change, change_then, record_back, record_front, no_images_of}
 use Rattle.im_smo_actions.proofs.Standing.{pages_stay, unfinished_good, unfinished_images, images_made, left_images, left_then}
 use Rattle.im_theory_steps.specs.Growth.{AreWithin, GrowsWithin, IsStructural, AreStructural, GrowsByStructure, IsRestructured, is_structural}
 use Rattle.im_theory_steps.proofs.Growth.{structure_changes_no_key}
 use Rattle.im_engine_index.specs.declared.noted.Noted.{Noted}
 use Rattle.im_engine_index.specs.declared.plan.Plan.{Plan}
-use Rattle.im_engine_index.specs.declared.plan.Plan.TheVariants.{Fits, Split, UsedUp}
-use Rattle.im_engine_index.specs.KeyLogs.{LeftByEdit, LeavesEdit, MayPut, KeyLogged, KeyLogKept}
-use Rattle.im_engine_index.specs.Edits.{Inserted}
+use Rattle.im_engine_index.specs.declared.plan.Plan.TheVariants.{Fits, Split}
+use Rattle.im_engine_index.specs.KeyLogs.{LeftByEdit, LeavesEdit, MayPut, KeyLogKept}
 use Rattle.im_engine_index.specs.InsertPlans.{IsInsertPlan, ComesTo, MayInsert, PutKept}
-use Rattle.im_engine_index.proofs.KeyLogs.{owner_some, grows_within, left_edit, walk_says}
+use Rattle.im_engine_index.proofs.KeyLogs.{owner_some, grows_within, is_going_on, left_edit, none_open, settled_are, still_closed, walk_says}
 
 -- ---- logs
 
@@ -170,14 +167,18 @@ module _ {D : Type 0} (d : Ghosts D) (b : Base) (base : ℕ) where
     pub left_behind : (new : D) → LeavesEdit d b base to.made.now t disk new → LeavesEdit d b base s t to.since new
     left_behind new stops = edit_then s to.made.now t to.since disk new (grows_within t s.log to.made.now.log to.made.grows) to.made.durable to.stops stops
 
+    settled_now : settled b to.made.now.log ≡ bodies to.made.now
+    settled_now = settled_are d b base to.made.now e t last undo_next w disk to.made.stands
+
     pub may_put : (page : ℕ) → IsOnWay (bodies to.made.now) 0 key page → HasRoom true (bodies to.made.now page).entries (key, 0) → MayPut d b base to.made.now e t last undo_next page key w disk
     may_put page way room = record {
-      unfinished = to.made.stands;
+      unfinished = is_going_on d b base to.made.now e t last undo_next w disk to.made.stands;
       forward = stays.rolling ∙ to.forward;
       free = λ n other theirs. to.free n other (subst (λ (c : Effect). Touches c key) (stays.stays.nets n) theirs);
       absent = ap (λ (m : IndexMap). get m key) stays.stays.walk ∙ to.absent;
-      way = way;
-      room = room;
+      apart = none_open d b base to.made.now e t last undo_next w disk to.made.stands page;
+      way = subst (λ (f : Pages). IsOnWay f 0 key page) (sym settled_now) way;
+      room = subst (λ (f : Pages). HasRoom true (f page).entries (key, 0)) (sym settled_now) room;
     }
 
     -- the record
@@ -188,7 +189,7 @@ module _ {D : Type 0} (d : Ghosts D) (b : Base) (base : ℕ) where
           sound = record {
             absent = to.absent;
             now = k.now;
-            stands = k.stands;
+            stands = still_closed d b base to.made.now e t last page (InsertKey key rid) lsn x new to.made.stands.closed k;
             same = refl;
             point = k.point ∙ to.made.point;
             durable = front_then s.durable to.made.now.durable k.now.durable to.made.durable k.durable;

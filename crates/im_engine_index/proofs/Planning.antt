@@ -1,13 +1,13 @@
 -- The plan of an insert, and the grant of its locks behind it.
 use Rattle.std.proofs.Common.{◌≡◌, ◌≢◌, ◌⊎◌, inl, inr, ⊎_elim, ◌∷◌, ◌≤◌, ℕ, Bool, true, false, [], List, length, is_some, Option, None, Some, Result, Ok, Err, refl, sym, ◌∙◌, ap, subst, cond, arith}
-use Rattle.std.specs.Prelude.{IsErrAnd, IfOk, IfErr, OnErr}
+use Rattle.std.specs.Prelude.{IsErrAnd, IfOk, IfErr}
 use Rattle.std.specs.FinMap.{entries, get}
 use Rattle.std.specs.FinMap.Entries.{find}
 use Rattle.im_base_types.specs.declared.fault.Fault.{Fault}
 use Rattle.im_base_types.specs.declared.fault.Fault.TheVariants.{Capacity, Failed, Memory, NotAStore, PagesFull}
 use Rattle.im_base_types.specs.Keys.{Key, key_order}
 use Rattle.im_base_types.specs.Maps.{IndexMap}
-use Rattle.im_base_types.specs.Changes.{Change, Effect, Put}
+use Rattle.im_base_types.specs.Changes.{Put}
 use Rattle.im_base_types.specs.Answers.{Insert, changes}
 use Rattle.im_base_types.specs.Pages.{Page}
 use Rattle.im_theory_log.specs.Histories.{Base}
@@ -28,7 +28,7 @@ use Rattle.im_theory_tree.proofs.LookupLemmas.{leaf_value}
 use Rattle.im_tree_search.specs.Levels.{bodies, bodies_of}
 use Rattle.im_smo_split.specs.Kept.{mild_to_split}
 use Rattle.im_smo_split.proofs.Reasons.{never_capacity, never_pages_full}
-use Rattle.im_smo_split.specs.Plan.{IsOver, IsWithin, Planned, WantsPages}
+use Rattle.im_smo_split.specs.Plan.{IsOver, IsWithin, WantsPages}
 use Rattle.im_smo_split.specs.Tops.{LacksRoomFor}
 use Rattle.im_smo_split.proofs.OneLeaf.{one_leaf}
 use Rattle.im_smo_pages.specs.Images.{Numbered}
@@ -47,7 +47,7 @@ use Rattle.im_engine_index.specs.declared.plan.Prepared.{Prepared}
 use Rattle.im_engine_index.specs.Asks.{IsAsked, IsPlace}
 use Rattle.im_engine_index.specs.Edits.{MayEdit, InsertKept, IsLimited}
 use Rattle.im_engine_index.specs.KeyLogs.{LeavesEdit}
-use Rattle.im_engine_index.specs.InsertPlans.{IsFull, HasNoneLeft, IsInsertPlan, PlanKept, prepared_with, IsPrepared, PreparedKept, MayInsert, PutKept}
+use Rattle.im_engine_index.specs.InsertPlans.{IsFull, IsInsertPlan, PlanKept, prepared_with, IsPrepared, PreparedKept, MayInsert, PutKept}
 use Rattle.im_engine_index.specs.Outcomes.{verdict_of, IfGranted}
 use Rattle.im_engine_index.proofs.KeyLogs.{bodies_are, walk_is, walk_says}
 use Rattle.im_engine_index.proofs.Names.{walk_says_map}

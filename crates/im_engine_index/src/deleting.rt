@@ -1,9 +1,10 @@
 //! Deletes.
 
-ghost use Rattle.std.specs.Prelude.{◌≡◌, ◌≤◌, ℕ, length, false, true, IfErr};
+ghost use Rattle.std.specs.Prelude.{◌≡◌, ◌≤◌, ℕ, [], length, false, true, IfErr};
 ghost use Rattle.im_base_types.specs.declared.fault.Fault.TheVariants.{Memory};
 ghost use Rattle.im_base_types.specs.Answers.{Delete};
 ghost use Rattle.im_theory_log.specs.Histories.{Base};
+ghost use Rattle.im_theory_log.specs.Structure.{open_smo};
 ghost use Rattle.im_theory_log.specs.Writer.{Writer};
 ghost use Rattle.im_page_pool.specs.Pool.{IsAt};
 ghost use Rattle.im_page_writer.specs.PageWriter.{IsReadyWriter};
@@ -44,7 +45,7 @@ fn delete_from<D: Disk>(
     requires short { length key.now ≤ 255 }
     ensures outcome { Logs D.Disk true no_page writer.old disk.old writer.new disk.new (fault_of result) }
     ensures kept { (b : Base) (base : ℕ) (s : Writer) (e : ℕ) → MayTake D.Disk b base s e transaction.now.number transaction.now.last transaction.now.undo_next leaf.number key.now rid writer.old disk.old
-        → TakenKept D.Disk b base s e transaction.now.number transaction.now.last key.now disk.old writer.new disk.new result }
+        → open_smo s.log ≡ [] → TakenKept D.Disk b base s e transaction.now.number transaction.now.last key.now disk.old writer.new disk.new result }
 {
     let last_entry = is_last_entry(writer, leaf);
     let lsn = log_delete(

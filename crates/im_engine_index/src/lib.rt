@@ -9,7 +9,8 @@
 //! - `seek` answers the first entry at or above a key, or above it.
 //! - `scan` answers the entries of a range.
 //! - `ask_insert` and `ask_delete` ask the locks of a change, and hold the leaf where it goes.
-//! - `log_insert` and `log_delete` log the change on that leaf, after which the log is lawful and the transaction not finished.
+//! - `log_insert` and `log_delete` log the change on that leaf, after which the log is lawful and the transaction not finished. Another
+//!   transaction's structure change may be open that has not changed that leaf.
 //! - `insert` searches the key's leaf, plans the split that it wants, asks its locks, and logs its key where they are granted, after that split. What it
 //!   logged is one record of the key, Images, and those of the split, which comes just where the leaf lacks room, within a limit of pages.
 //! - `delete` asks its locks, drops the key where they are granted, and takes out of the tree the leaf that it leaves empty. What it

@@ -14,7 +14,8 @@ use im_log_record::Record;
 use im_page_writer::PageWriter;
 
 /// Logs the record of a key that comes into its leaf, after the transaction's record at `last`, and puts it there. It answers the
-/// record's LSN.
+/// record's LSN. Another transaction's structure change may be open, where it has not changed that leaf: then the key's leaf is that of the
+/// tree with the change taken back.
 ///
 /// Refused as `PageWriter::log_change` is.
 pub fn log_insert<D: Disk>(
@@ -45,7 +46,7 @@ pub fn log_insert<D: Disk>(
 }
 
 /// Logs the record of a key that goes from its leaf, after the transaction's record at `last`, and takes it out. It answers the
-/// record's LSN.
+/// record's LSN. Another transaction's structure change may be open, as for `log_insert`.
 ///
 /// Refused as `PageWriter::log_change` is.
 pub fn log_delete<D: Disk>(

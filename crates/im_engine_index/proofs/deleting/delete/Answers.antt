@@ -1,7 +1,7 @@
 use Rattle.std.proofs.Common.{refl}
 use Rattle.im_theory_log.specs.Transactions.{contents}
 use Rattle.im_page_writer.specs.Outcome.{pages_of, mild}
-use Rattle.im_engine_index.proofs.Deletes.{has_tree, walk_has, not_asked, asked_wait, asked_die, asked_absent, may_be_taken, taken_ok, taken_err}
+use Rattle.im_engine_index.proofs.Deletes.{has_tree, walk_has, not_asked, asked_wait, asked_die, asked_absent, may_be_taken, none_open_there, taken_ok, taken_err}
 use Rattle.im_page_writer.proofs.Outcomes.{logs_then, logs_for_more, no_page_for}
 use Rattle.im_engine_index.proofs.Inserts.{log_late}
 use Rattle.im_engine_index.proofs.deleting.delete.Goals as goal
@@ -57,7 +57,8 @@ returns-in-Ok-clause-kept g c b base s e may =
     let tree = has_tree g.D.Disk b base s e t.number t.last t.undo_next v old may.unfinished c.requires.owner in
     let asks = c.in_ok-place.ensures.kept (pages_of s) (contents b s.log) tree (walk_has g.D.Disk b base s e t.number t.last t.undo_next v old may.unfinished c.requires.owner) in
     let taken = may_be_taken g.D.Disk b base s e t.number t.last t.undo_next v old key c.args.locks.now c.ask_delete.new.locks may c.requires.owner c.ask_delete.new.writer c.ask_delete.new.disk c.in_ok-place.ensures.outcome c.in_ok-place.field-0 c.in-Granted.place c.in-Granted.is asks c.in-Some.rid c.in-Some.is in
-    taken_ok g.D.Disk b base s e t.number t.last t.undo_next v old key c.args.locks.now c.ask_delete.new.locks may c.requires.owner c.ask_delete.new.writer c.ask_delete.new.disk c.in_ok-place.ensures.outcome c.in_ok-place.field-0 c.in-Granted.place c.in-Granted.is asks c.in-Some.rid c.in-Some.is c.delete_from.new.writer c.delete_from.new.disk c.in-Ok.taken (c.in-Ok.ensures.kept b base _ e taken)
+    let closed = none_open_there g.D.Disk b base s e t.number t.last t.undo_next v old key c.args.locks.now c.ask_delete.new.locks may c.requires.owner c.ask_delete.new.writer c.ask_delete.new.disk c.in_ok-place.ensures.outcome c.in_ok-place.field-0 c.in-Granted.place c.in-Granted.is asks c.in-Some.rid c.in-Some.is in
+    taken_ok g.D.Disk b base s e t.number t.last t.undo_next v old key c.args.locks.now c.ask_delete.new.locks may c.requires.owner c.ask_delete.new.writer c.ask_delete.new.disk c.in_ok-place.ensures.outcome c.in_ok-place.field-0 c.in-Granted.place c.in-Granted.is asks c.in-Some.rid c.in-Some.is c.delete_from.new.writer c.delete_from.new.disk c.in-Ok.taken (c.in-Ok.ensures.kept b base _ e taken closed)
 
 pub returns-in-Err-clause-outcome : goal.returns-in-Err-clause-outcome
 returns-in-Err-clause-outcome g c = log_late g.D.Disk (logs_then g.D.Disk c.in_ok-place.ensures.outcome (logs_for_more g.D.Disk (no_page_for mild refl) c.in-Err.ensures.outcome)) c.late.ensures.memory c.late.ensures.others
@@ -71,5 +72,6 @@ returns-in-Err-clause-kept g c b base s e may =
     let tree = has_tree g.D.Disk b base s e t.number t.last t.undo_next v old may.unfinished c.requires.owner in
     let asks = c.in_ok-place.ensures.kept (pages_of s) (contents b s.log) tree (walk_has g.D.Disk b base s e t.number t.last t.undo_next v old may.unfinished c.requires.owner) in
     let taken = may_be_taken g.D.Disk b base s e t.number t.last t.undo_next v old key c.args.locks.now c.ask_delete.new.locks may c.requires.owner c.ask_delete.new.writer c.ask_delete.new.disk c.in_ok-place.ensures.outcome c.in_ok-place.field-0 c.in-Granted.place c.in-Granted.is asks c.in-Some.rid c.in-Some.is in
+    let closed = none_open_there g.D.Disk b base s e t.number t.last t.undo_next v old key c.args.locks.now c.ask_delete.new.locks may c.requires.owner c.ask_delete.new.writer c.ask_delete.new.disk c.in_ok-place.ensures.outcome c.in_ok-place.field-0 c.in-Granted.place c.in-Granted.is asks c.in-Some.rid c.in-Some.is in
     taken_err g.D.Disk b base s e t.number t.last t.undo_next v old key c.args.locks.now c.ask_delete.new.locks may c.requires.owner c.ask_delete.new.writer c.ask_delete.new.disk c.in_ok-place.ensures.outcome c.in_ok-place.field-0 c.in-Granted.place c.in-Granted.is asks c.in-Some.rid c.in-Some.is c.delete_from.new.writer c.delete_from.new.disk c.in-Err.fault c.late.result c.late.ensures.memory c.late.ensures.others c.in-Err.ensures.outcome
-    (c.in-Err.ensures.kept b base _ e taken)
+    (c.in-Err.ensures.kept b base _ e taken closed)

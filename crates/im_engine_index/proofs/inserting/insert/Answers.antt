@@ -1,9 +1,6 @@
-use Rattle.std.proofs.Common.{◌≢◌, [], None, Some, refl, sym, ◌∙◌}
-use Rattle.im_base_types.specs.declared.fault.Fault.TheVariants.{Memory, PagesFull}
 use Rattle.im_theory_log.specs.Transactions.{contents}
 use Rattle.im_page_writer.specs.Outcome.{pages_of}
 use Rattle.im_page_writer.proofs.Outcomes.{changed_none, log_refused, logs_for_more, logs_late, logs_then}
-use Rattle.im_smo_split.specs.Kept.{mild_to_split}
 use Rattle.im_engine_index.proofs.Inserts.{log_late}
 use Rattle.im_engine_index.proofs.Planning.{fewer_splits, good_tree, has_pages, insert_dies, insert_duplicate, insert_fails, insert_put, insert_refused, insert_waits, late_table, map_is, may_insert, never_full}
 use Rattle.im_engine_index.proofs.inserting.insert.Goals as goal

@@ -1,5 +1,5 @@
 use Rattle.std.proofs.Common.{◌≡◌, ◌⊎◌, None, refl, sym, ◌∙◌}
-use Rattle.im_base_types.specs.declared.fault.Fault.TheVariants.{Capacity, Failed, Memory}
+use Rattle.im_base_types.specs.declared.fault.Fault.TheVariants.{Failed, Memory}
 use Rattle.im_page_writer.proofs.Outcomes.{idle, logs_for_more, logs_late, no_page_for}
 use Rattle.im_smo_split.specs.Kept.{mild_to_split}
 use Rattle.im_smo_split.proofs.Reasons.{mild_splits}

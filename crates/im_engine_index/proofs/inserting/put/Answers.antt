@@ -1,4 +1,3 @@
-use Rattle.im_page_writer.proofs.Outcomes.{log_refused}
 use Rattle.im_engine_index.proofs.Inserts.{may_put, put_done, put_refused}
 use Rattle.im_engine_index.proofs.inserting.put.Goals as goal
 
