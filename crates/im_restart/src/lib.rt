@@ -23,7 +23,8 @@
 //!
 //! Each chain must lead to earlier records of its own transaction. That it leads to earlier ones is tested as the records are read, before
 //! anything is written, and that it is its own transaction's record by record in undo: so restart ends on any bytes, and is refused
-//! `NotAStore` where it is not so. Memory is taken for the frames, a room of 65,536 bytes, and the tables.
+//! `NotAStore` where it is not so. Memory is taken for the frames, a room for the log of 64 KiB to 1 MiB, redo's spare
+//! pages, and the tables.
 //!
 //! # What is kept
 //!

@@ -35,22 +35,35 @@ use crate::structure_change::undo_change;
 use crate::synced::{check_file, synced_of};
 use crate::undo::undo;
 use im_base_disk::Disk;
-use im_base_types::{Fault, TxnId};
+use im_base_types::{Fault, Lsn, TxnId};
 use im_page_writer::PageWriter;
 use im_restart_analysis::{Analysed, Change};
 use im_restart_redo::redo;
 use std::alloc::Global;
 use std::cmp::max;
 
-// How much of the log redo reads at once, in bytes.
-const REDO_ROOM: usize = 65_536;
+// How much of the log redo reads at once, in bytes: no less, and no more.
+const LEAST_ROOM: u64 = 65_536;
+
+const MOST_ROOM: u64 = 1_048_576;
+
+// How much of the log from an LSN to its end redo reads at once.
+fn room_size(from: Lsn, end: Lsn) -> usize
+    ensures least { 65536 ≤ result }
+    ensures most { result ≤ 1048576 }
+{
+    if end <= from || end - from <= LEAST_ROOM {
+        return LEAST_ROOM as usize;
+    }
+    (end - from).min(MOST_ROOM) as usize
+}
 
 // The room in which records are read again.
-fn make_room(alloc: Global) -> Result<Vec<u8>, Fault>
-    ensures size { IfOk result (λ room. length room.items ≡ 65536) }
+fn make_room(alloc: Global, size: usize) -> Result<Vec<u8>, Fault>
+    ensures size { IfOk result (λ room. length room.items ≡ size) }
     ensures causes { IfErr result (λ e. e ≡ Memory) }
 {
-    vec![in alloc; 0; REDO_ROOM].map_err(|_| Fault::Memory)
+    vec![in alloc; 0; size].map_err(|_| Fault::Memory)
 }
 
 // The number of the next transaction, from 1 on.
@@ -114,6 +127,7 @@ fn settle<D: Disk>(
     ensures next { analysed.new.next ≡ analysed.old.next }
 {
     let applied = redo(
+        alloc,
         writer,
         disk,
         analysed.redo_point,
@@ -155,10 +169,11 @@ fn restart<D: Disk>(
         last,
     } = found;
     let mut analysed = analysed;
+    let point = analysed.redo_point;
+    let size = room_size(point, log.durable_end());
     let mut writer = PageWriter::new(alloc, log, frames)?;
     writer.expect(synced_of(last));
-    let mut room = make_room(alloc)?;
-    let point = analysed.redo_point;
+    let mut room = make_room(alloc, size)?;
     let applied = settle(alloc, &mut writer, disk, &mut analysed, &changes, &mut room)?;
     Ok(Restarted {
         writer,

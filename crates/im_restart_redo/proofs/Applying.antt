@@ -34,7 +34,7 @@ use Rattle.im_restart_redo.proofs.Reached.{needs_record}
 use Rattle.im_restart_redo.proofs.Within.{record_still, within_more}
 
 -- each record of the log can be applied where it stands
-applicable_at : (b : Base) (newer : History) (r : Logged) (older : History) → AreApplicable b (newer ++ r ∷ older) → TakesRecord r.what (page_at b older r.page)
+pub applicable_at : (b : Base) (newer : History) (r : Logged) (older : History) → AreApplicable b (newer ++ r ∷ older) → TakesRecord r.what (page_at b older r.page)
 applicable_at b [] r older can = can.1
 applicable_at b (s ∷ newer) r older can = applicable_at b newer r older can.0
 

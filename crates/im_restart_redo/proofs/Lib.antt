@@ -7,5 +7,8 @@ pub mod Passing
 pub mod Raised
 pub mod Reached
 pub mod Recoveries
+pub mod Runs
+pub mod RoundsApplied
+pub mod RoundsPassed
 pub mod Windows
 pub mod Within

@@ -30,7 +30,7 @@ none_pushed [] l is = cc is
 none_pushed (x ∷ ls) l is = cc is
 
 -- where none is, each record is passed by
-passed_newest : (point : ℕ) (r : Logged) (older : History) → lsns_from point (r ∷ older) ≡ [] → IsPassedBy point r × (lsns_from point older ≡ [])
+pub passed_newest : (point : ℕ) (r : Logged) (older : History) → lsns_from point (r ∷ older) ≡ [] → IsPassedBy point r × (lsns_from point older ≡ [])
 passed_newest point r older none = by (nat_le point r.lsn && changes_page r.what) refl none
   where
     by : (t : Bool) → (nat_le point r.lsn && changes_page r.what) ≡ t → (if t then lsns_from point older ++ r.lsn ∷ [] else lsns_from point older) ≡ [] → IsPassedBy point r × (lsns_from point older ≡ [])

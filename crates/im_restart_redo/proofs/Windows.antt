@@ -3,7 +3,7 @@ use Rattle.std.proofs.Common.{◌≡◌, ◌⊎◌, inl, inr, ⊎_elim, ℕ, ◌
 use Rattle.std.specs.Prelude.{◌↔◌}
 use Rattle.std.proofs.lemmas.List.{take-take}
 use Rattle.im_base_types.specs.declared.fault.Fault.{Fault}
-use Rattle.im_base_types.specs.declared.fault.Fault.TheVariants.{Device, Failed, NotAStore}
+use Rattle.im_base_types.specs.declared.fault.Fault.TheVariants.{Device, Failed}
 use Rattle.im_base_types.specs.Records.{Logged}
 use Rattle.im_theory_log.specs.Histories.{History, IsRecordOf}
 use Rattle.im_base_disk.specs.declared.disk.Disk.{Ghosts}
@@ -17,7 +17,7 @@ use Rattle.im_page_writer.specs.Outcome.{mild}
 use Rattle.im_page_writer.specs.PageWriter.{IsReadyWriter}
 use Rattle.im_restart_redo.specs.declared.window.Window.{Window}
 use Rattle.im_restart_redo.specs.Recovery.{Recovers}
-use Rattle.im_restart_redo.specs.Window.{AreAlsoOf, Shows, bytes_at}
+use Rattle.im_restart_redo.specs.Window.{AreAlsoOf, Shows}
 use Rattle.im_restart_redo.proofs.Recoveries.{read_refused}
 
 -- a room that holds nothing of the log

@@ -13,9 +13,13 @@
 //!    also so for a record that stands before the page's copy in the log: a copy may be older than the records around it, and its
 //!    own LSN says which of them it has.
 //!
-//! The records are read again, a room full of the log at once (`window`), into room that the caller lends: the larger it is, the fewer
-//! reads. A page that is evicted on the way is
-//! written as in any flush, after its Image, so Images may join the log while redo goes on.
+//! The changes are made in rounds (`rounds`). A round is the next changes in a row, as many as are of no more pages than there are
+//! frames, of 256 pages and 4,096 changes at most, and whose records stand in the room, into which the log is read by one read from the
+//! first of them on where it is not there yet (`window`); one change at least. Its pages are got, lent, changed by the records and taken
+//! back (`PageWriter::redo_round`). The caller lends the room: the larger it is, the fewer reads. What else rounds need, a spare page
+//! for each page among it, is made before the first call of the disk (`round_room`), so that want of memory is told with nothing done.
+//!
+//! A page that is evicted on the way is written as in any flush, after its Image, so Images may join the log while redo goes on.
 //!
 //! # What is kept
 //!
@@ -42,6 +46,8 @@
 mod copies;
 mod records;
 mod redoing;
+mod round_room;
+mod rounds;
 mod window;
 
 pub use redoing::redo;

@@ -15,6 +15,8 @@ ghost use Rattle.im_restart_redo.specs.Applying.{IsApplying, AppliedKept, Applyi
 ghost use Rattle.im_restart_redo.specs.Changes.{lsns_of};
 ghost use Rattle.im_restart_redo.specs.Window.{Shows};
 
+use crate::round_room::RoundRoom;
+use crate::rounds::redo_some;
 use crate::window::Window;
 use im_base_disk::Disk;
 use im_base_types::{Fault, Lsn, PageNo};
@@ -30,9 +32,9 @@ fn has_copy(copies: &BTreeMap<PageNo, Lsn>, page: PageNo) -> bool
     copies.get(&page).is_some()
 }
 
-// Applies the record at an LSN to its page, unless the page has it, and says whether it did. A page that has a noted
-// copy needs no other.
-fn redo_one<D: Disk>(
+/// Applies the record at an LSN to its page, unless the page has it, and says whether it did. A page that has a noted
+/// copy needs no other.
+pub(crate) fn redo_one<D: Disk>(
     writer: &mut PageWriter,
     disk: &mut D,
     point: Lsn,
@@ -60,15 +62,7 @@ fn redo_one<D: Disk>(
     Ok(applied)
 }
 
-// One more, where a record was applied.
-fn counted(count: u64, applied: bool) -> u64
-    requires room { count < 2 ^ 64 - 1 }
-    ensures { result ≡ count + (if applied then 1 else 0) }
-{
-    if applied { count + 1 } else { count }
-}
-
-/// Applies the records that made these changes in turn, and answers how many pages took theirs.
+/// Makes these changes again, round after round, and answers how many pages took theirs.
 pub(crate) fn redo_all<D: Disk>(
     writer: &mut PageWriter,
     disk: &mut D,
@@ -76,8 +70,10 @@ pub(crate) fn redo_all<D: Disk>(
     copies: &BTreeMap<PageNo, Lsn>,
     changes: &[Change],
     room: &mut [u8],
+    rounds: &mut RoundRoom,
 ) -> Result<u64, Fault>
     requires room { 16384 ≤ length room.old }
+    requires frames { length rounds.old.pages.items ≤ writer.old.pool.frames }
     requires ready { IsReadyWriter D.Disk writer.old disk.old }
     requires working { writer.old.failed ≡ false }
     ensures outcome { Recovers D.Disk mild writer.old writer.new disk.new (fault_of result) }
@@ -86,10 +82,24 @@ pub(crate) fn redo_all<D: Disk>(
         → AreApplicable b begun → point ≡ redo_point begun → AreCopies point copies.now begun → ApplyingKept D.Disk b base begun file from writer.new disk.new result }
 {
     let mut count = 0;
+    let mut done = 0;
     let mut window = Window::empty();
-    for change in changes {
-        let applied = redo_one(writer, disk, point, copies, change.lsn, &mut window, room)?;
-        count = counted(count, applied);
+    for _round in 0..changes.len() {
+        if done >= changes.len() {
+            break;
+        }
+        let passed = redo_some(
+            writer,
+            disk,
+            point,
+            copies,
+            &changes[done..],
+            &mut window,
+            room,
+            rounds,
+        )?;
+        done += passed.changes;
+        count += passed.applied;
     }
     Ok(count)
 }

@@ -14,20 +14,24 @@ ghost use Rattle.im_restart_redo.specs.Redo.{AreApplicable, RedoneKept};
 
 use crate::copies::load_all;
 use crate::records::redo_all;
+use crate::round_room::RoundRoom;
 use im_base_disk::Disk;
 use im_base_types::{Fault, Lsn, PageNo};
 use im_page_writer::PageWriter;
 use im_restart_analysis::Change;
+use std::alloc::Global;
 use std::collections::BTreeMap;
 
 /// Brings the pages of a writer that was just opened to what the whole durable log made of them: the noted copies are loaded in
-/// rising page number, and then the records that change a page, from the redo point on, are applied to their pages in turn, by
-/// LSN. `copies` has the LSN of each noted copy, and `changes` those of the records, each with its page. Records are read again into `room`,
+/// rising page number, and then the records that change a page, from the redo point on, are applied to their pages, round after
+/// round. `copies` has the LSN of each noted copy, and `changes` those of the records, each with its page. Records are read again into `room`,
 /// of 16,384 bytes at least. It answers how many records were applied: those that change a page whose LSN was lower than theirs as redo first had it.
 ///
-/// Refused `NotAStore` where a page does not take its record or no such record stands there, otherwise as the writer's `get` is.
+/// Refused `NotAStore` where a page does not take its record or no such record stands there, `Memory` before the first call of the disk, or
+/// where a record is of another page than its change says; otherwise as the writer's `get` is.
 /// After a refusal redo is not over: the store is to be opened again.
 pub fn redo<D: Disk>(
+    alloc: Global,
     writer: &mut PageWriter,
     disk: &mut D,
     point: Lsn,
@@ -46,6 +50,7 @@ pub fn redo<D: Disk>(
     if writer.has_failed() {
         return Err(Fault::Failed);
     }
+    let mut rounds = RoundRoom::new(alloc, writer.frames(), changes.len())?;
     load_all(writer, disk, point, copies, room)?;
-    redo_all(writer, disk, point, copies, changes, room)
+    redo_all(writer, disk, point, copies, changes, room, &mut rounds)
 }

@@ -1,6 +1,7 @@
 //! A part of the log is held in a room, in which the records of redo are found one after another.
 
-ghost use Rattle.std.specs.Prelude.{◌≡◌, ◌≤◌, false, ℕ, List, length, IfOk, IfSome, OnOk};
+ghost use Rattle.std.specs.Prelude.{◌≡◌, ◌≤◌, false, ℕ, List, length, IfErr, IfOk, IfSome, OnErr, OnOk};
+ghost use Rattle.im_base_types.specs.declared.fault.Fault.TheVariants.{Device};
 ghost use Rattle.im_base_types.specs.Records.{Logged};
 ghost use Rattle.im_base_disk.specs.Runs.{Reads};
 ghost use Rattle.im_theory_log.specs.Histories.{Base, History, IsRecordOf};
@@ -55,8 +56,35 @@ impl Window {
         }
     }
 
-    // The log is read to the room from an LSN on, at which a record is to stand: as much of it as the room takes, by one read. Where the record is not
-    // among that, it alone is read, as the writer's `read_at` does.
+    /// Reads the log to the room from an LSN on: as much of it as the room takes, by one read.
+    ///
+    /// Refused `Device`.
+    pub fn refill<D: Disk>(
+        &mut self,
+        writer: &mut PageWriter,
+        disk: &mut D,
+        from: Lsn,
+        room: &mut [u8],
+    ) -> Result<(), Fault>
+        requires ready { IsReadyWriter D.Disk writer.old disk.old }
+        requires working { writer.old.failed ≡ false }
+        ensures outcome { Recovers D.Disk mild writer.old writer.new disk.new (fault_of result) }
+        ensures kept { (b : Base) (base : ℕ) (s : Writer) → StandsAs D.Disk b base s writer.old disk.old → OnOk result (StandsAs D.Disk b base s writer.new disk.new) }
+        ensures shows { (b : Base) (base : ℕ) (s : Writer) (log : History) → StandsAs D.Disk b base s writer.old disk.old → AreAlsoOf log s.log → OnOk result (Shows log self.new room.new) }
+        ensures cause { IfErr result (λ e. e ≡ Device) }
+        ensures reads { Reads D.Disk disk.old disk.new }
+        ensures used { OnOk result (self.new.used ≤ length room.new) }
+        ensures same { OnErr result (self.new ≡ self.old) }
+        ensures room { length room.new ≡ length room.old }
+    {
+        let used = writer.read_span(disk, from, room)?;
+        self.from = from;
+        self.used = used;
+        Ok(())
+    }
+
+    // The log is read to the room from an LSN on, at which a record is to stand. Where the record is not among that, it alone is read, as the
+    // writer's `read_at` does.
     fn read_anew<D: Disk>(
         &mut self,
         writer: &mut PageWriter,
@@ -77,9 +105,7 @@ impl Window {
         ensures used { self.new.used ≤ length room.new }
         ensures room { length room.new ≡ length room.old }
     {
-        let used = writer.read_span(disk, lsn, room)?;
-        self.from = lsn;
-        self.used = used;
+        self.refill(writer, disk, lsn, room)?;
         if let Some(place) = self.find(lsn, room) {
             return Ok(place);
         }

@@ -11,12 +11,15 @@ use Rattle.im_restart_redo.specs.Changes.{lsns_of}
 use Rattle.im_restart_redo.specs.Window.{Shows}
 use Rattle.im_restart_redo.proofs.records.redo_all.Given as goal
 
-abbrev pub invariant-loop-change : goal.invariant-loop-change
-invariant-loop-change g l = record {
+abbrev pub invariant-loop-round : goal.invariant-loop-round
+invariant-loop-round g l = record {
   outcome : Recovers g.D.Disk mild l.fn.writer l.writer l.disk None;
-  few : l.count ≤ l.change-index;
+  few : l.count ≤ l.done;
+  on : l._round ≤ l.done;
+  within : l.done ≤ length l.changes;
+  frames : length l.rounds.pages.items ≤ l.writer.pool.frames;
   room : length l.room ≡ length l.fn.room;
   used : l.window.used ≤ length l.room;
   kept : (b : Base) (base : ℕ) (begun : History) (file : ℕ → Option Page) (from : g.row.D.Denot) → IsApplying g.D.Disk b base begun file (lsns_of l.changes) 0 from l.fn.writer l.fn.disk → AreApplicable b begun → l.fn.point ≡ redo_point begun → AreCopies l.fn.point l.copies begun
-      → IsApplying g.D.Disk b base begun file (drop l.change-index (lsns_of l.changes)) l.count from l.writer l.disk × Shows begun l.window l.room;
+      → IsApplying g.D.Disk b base begun file (drop l.done (lsns_of l.changes)) l.count from l.writer l.disk × Shows begun l.window l.room;
 }

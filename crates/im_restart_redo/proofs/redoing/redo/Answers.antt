@@ -1,7 +1,9 @@
-use Rattle.std.proofs.Common.{ap, sym, ◌∙◌}
+use Rattle.std.proofs.Common.{◌≡◌, ap, arith, refl, sym, ◌∙◌}
+use Rattle.im_base_types.specs.declared.fault.Fault.TheVariants.{Memory, NotAStore}
 use Rattle.im_theory_log.specs.WriterSteps.{opened}
 use Rattle.im_restart_analysis.specs.CopyLsns.{copy_lsn}
 use Rattle.im_page_writer.specs.Outcome.{mild}
+use Rattle.im_page_writer.proofs.LoggedChanges.{err_on}
 use Rattle.im_page_writer.proofs.Outcomes.{sound_also, sound_on}
 use Rattle.im_page_writer.proofs.Writers.{goes_on_start}
 use Rattle.im_restart_redo.specs.Changes.{lsns_of}
@@ -10,13 +12,31 @@ use Rattle.im_restart_redo.proofs.ChangeLsns.{lsns_are}
 use Rattle.im_restart_redo.proofs.Applying.{applying_end, applying_start, counted_all}
 use Rattle.im_restart_redo.proofs.Counting.{first_opened}
 use Rattle.im_restart_redo.proofs.Loading.{waiting_opened}
-use Rattle.im_restart_redo.proofs.Recoveries.{recovers_then, recovery_refused, unmoved}
-use Rattle.im_restart_redo.proofs.Within.{within_opened}
+use Rattle.im_restart_redo.proofs.Recoveries.{recovers_then, recovery_own, recovery_refused, unmoved}
+use Rattle.im_restart_redo.proofs.Within.{leaves_now, within_opened}
 use Rattle.im_restart_redo.proofs.redoing.redo.Goals as goal
+
+pub returns-in_err-rounds-clause-outcome : goal.returns-in_err-rounds-clause-outcome
+returns-in_err-rounds-clause-outcome g c =
+    recovery_own g.D.Disk {m = mild} refl refl refl c.from_residual.result (unmoved g.D.Disk c.args.writer.now c.args.disk.now (sym c.has_failed.ensures ∙ c.if-has_failed.false) c.requires.ready)
+    (err_on c.from_residual.result c.in_err-rounds.field-0.0 _ c.from_residual.ensures.1 (ap mild c.in_err-rounds.ensures.refused))
+
+pub returns-in_err-rounds-clause-kept : goal.returns-in_err-rounds-clause-kept
+returns-in_err-rounds-clause-kept g c b base begun file is can at copies changes =
+    let d = g.D.Disk in
+    let from = c.args.disk.now in
+    let within = within_opened d b base begun from file c.args.writer.now from (goes_on_start d b base (opened b begun file) c.args.writer.now from (g.met.D.Disk.only_now from) is) in
+    record {
+      sound = sound_on c.from_residual.result _ _ c.from_residual.ensures.1 (λ same. let clash : Memory ≡ NotAStore = sym c.in_err-rounds.ensures.refused ∙ same in cc clash);
+      stops = leaves_now d b base begun from (opened b begun file) c.args.writer.now from within;
+    }
+
+pub redo_all-requires-clause-frames : goal.redo_all-requires-clause-frames
+redo_all-requires-clause-frames g c = omega (arith, c.in_ok-rounds.ensures.few, c.frames.ensures, c.in_ok-load_all.ensures.outcome.frames)
 
 pub returns-in_err-load_all-clause-outcome : goal.returns-in_err-load_all-clause-outcome
 returns-in_err-load_all-clause-outcome g c =
-    recovery_refused g.D.Disk c.from_residual.result c.from_residual.ensures.1 (recovers_then g.D.Disk {m = mild} (unmoved g.D.Disk c.args.writer.now c.args.disk.now (sym c.has_failed.ensures ∙ c.if-has_failed.false) c.requires.ready) c.in_err-load_all.ensures.outcome)
+    recovery_refused g.D.Disk c.from_residual-in_err-load_all.result c.from_residual-in_err-load_all.ensures.1 (recovers_then g.D.Disk {m = mild} (unmoved g.D.Disk c.args.writer.now c.args.disk.now (sym c.has_failed.ensures ∙ c.if-has_failed.false) c.requires.ready) c.in_err-load_all.ensures.outcome)
 
 pub returns-in_err-load_all-clause-kept : goal.returns-in_err-load_all-clause-kept
 returns-in_err-load_all-clause-kept g c b base begun file is can at copies changes =
@@ -24,7 +44,7 @@ returns-in_err-load_all-clause-kept g c b base begun file is can at copies chang
     let from = c.args.disk.now in
     let within = within_opened d b base begun from file c.args.writer.now from (goes_on_start d b base (opened b begun file) c.args.writer.now from (g.met.D.Disk.only_now from) is) in
     let one = c.in_err-load_all.ensures.kept b base begun file from (opened b begun file) within (waiting_opened b begun file c.args.copies.now (λ p. copies p ∙ ap (λ n. copy_lsn n begun p) at)) (first_opened b begun file) at in
-    record { sound = sound_on c.from_residual.result _ _ c.from_residual.ensures.1 one.sound; stops = one.stops }
+    record { sound = sound_on c.from_residual-in_err-load_all.result _ _ c.from_residual-in_err-load_all.ensures.1 one.sound; stops = one.stops }
 
 pub returns-clause-outcome : goal.returns-clause-outcome
 returns-clause-outcome g c = recovers_then g.D.Disk {m = mild} (unmoved g.D.Disk c.args.writer.now c.args.disk.now (sym c.has_failed.ensures ∙ c.if-has_failed.false) c.requires.ready) (recovers_then g.D.Disk c.in_ok-load_all.ensures.outcome c.redo_all.ensures.outcome)

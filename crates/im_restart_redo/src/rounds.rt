@@ -1,0 +1,196 @@
+//! Rounds: changes made again at once to the pages that they are of.
+
+ghost use Rattle.std.specs.Prelude.{◌≡◌, ◌≢◌, ◌≤◌, ◌<◌, ◌+◌, ℕ, List, false, if◌then◌else◌, length, take, drop, Option, IfErr, IfOk, OnOk};
+ghost use Rattle.im_base_types.specs.declared.fault.Fault.TheVariants.{NotAStore};
+ghost use Rattle.im_base_types.specs.Pages.{Page};
+ghost use Rattle.im_base_disk.specs.Runs.{Reads};
+ghost use Rattle.im_theory_log.specs.Histories.{Base, History};
+ghost use Rattle.im_theory_log.specs.RedoPoints.{redo_point};
+ghost use Rattle.im_theory_log.specs.Writer.{Writer};
+ghost use Rattle.im_restart_analysis.specs.CopyLsns.{AreCopies};
+ghost use Rattle.im_page_rounds.specs.Hand.{AreRising};
+ghost use Rattle.im_page_writer.specs.Outcome.{fault_of, mild};
+ghost use Rattle.im_page_writer.specs.PageWriter.{IsReadyWriter, StandsAs};
+ghost use Rattle.im_restart_redo.specs.Changes.{lsns_of};
+ghost use Rattle.im_restart_redo.specs.Redo.{AreApplicable, RedoSound};
+ghost use Rattle.im_restart_redo.specs.Recovery.{Recovers};
+ghost use Rattle.im_restart_redo.specs.Applying.{IsApplying};
+ghost use Rattle.im_restart_redo.specs.Rounds.{AreWhole, PassedKept};
+ghost use Rattle.im_restart_redo.specs.Window.{AreAlsoOf, Shows};
+
+use crate::records::redo_one;
+use crate::round_room::{RoundRoom, is_whole_at};
+use crate::window::Window;
+use im_base_disk::Disk;
+use im_base_types::{Fault, Lsn, PageNo};
+use im_page_writer::PageWriter;
+use im_restart_analysis::Change;
+use std::collections::BTreeMap;
+
+/// How many changes redo went past, and how many of their records it applied.
+#[derive(Clone, Copy)]
+pub(crate) struct Passed {
+    pub changes: usize,
+    pub applied: u64,
+}
+
+// How many records were applied, where one was or was not.
+fn one_if(applied: bool) -> u64
+    ensures { result ≡ (if applied then 1 else 0) }
+{
+    if applied { 1 } else { 0 }
+}
+
+// Makes the next change alone.
+fn redo_first<D: Disk>(
+    writer: &mut PageWriter,
+    disk: &mut D,
+    point: Lsn,
+    copies: &BTreeMap<PageNo, Lsn>,
+    changes: &[Change],
+    window: &mut Window,
+    room: &mut [u8],
+) -> Result<Passed, Fault>
+    requires some { 0 < length changes.now }
+    requires room { 16384 ≤ length room.old }
+    requires used { window.old.used ≤ length room.old }
+    requires ready { IsReadyWriter D.Disk writer.old disk.old }
+    requires working { writer.old.failed ≡ false }
+    ensures outcome { Recovers D.Disk mild writer.old writer.new disk.new (fault_of result) }
+    ensures room { length room.new ≡ length room.old }
+    ensures used { window.new.used ≤ length room.new }
+    ensures passed { IfOk result (λ passed. (passed.changes ≡ 1) × (passed.applied ≤ 1)) }
+    ensures kept { (b : Base) (base : ℕ) (begun : History) (file : ℕ → Option Page) (from : D) (count : ℕ) → IsApplying D.Disk b base begun file (lsns_of changes.now) count from writer.old disk.old
+        → Shows begun window.old room.old → AreApplicable b begun → point ≡ redo_point begun → AreCopies point copies.now begun → PassedKept D.Disk b base begun file (lsns_of changes.now) count from writer.new disk.new result }
+    ensures shows { (b : Base) (base : ℕ) (begun : History) (file : ℕ → Option Page) (from : D) (count : ℕ) → IsApplying D.Disk b base begun file (lsns_of changes.now) count from writer.old disk.old
+        → Shows begun window.old room.old → OnOk result (Shows begun window.new room.new) }
+{
+    let applied = redo_one(writer, disk, point, copies, changes[0].lsn, window, room)?;
+    Ok(Passed {
+        changes: 1,
+        applied: one_if(applied),
+    })
+}
+
+// Whether a window has all of the round that was planned in it: it begins where the round does, the round has all changes, or the window has the
+// record of the next one too.
+fn has_all(window: Window, room: &[u8], planned: usize, changes: &[Change]) -> bool
+    requires some { 0 < length changes.now }
+    requires used { window.used ≤ length room.now }
+{
+    if window.from == changes[0].lsn || planned >= changes.len() {
+        return true;
+    }
+    is_whole_at(changes[planned].lsn, window.from, &room[..window.used])
+}
+
+// Plans the next round. The log is read to the room from its first record on, where that has not all of it.
+fn plan_round<D: Disk>(
+    writer: &mut PageWriter,
+    disk: &mut D,
+    changes: &[Change],
+    window: &mut Window,
+    room: &mut [u8],
+    rounds: &mut RoundRoom,
+) -> Result<(), Fault>
+    requires some { 0 < length changes.now }
+    requires used { window.old.used ≤ length room.old }
+    requires ready { IsReadyWriter D.Disk writer.old disk.old }
+    requires working { writer.old.failed ≡ false }
+    ensures outcome { Recovers D.Disk mild writer.old writer.new disk.new (fault_of result) }
+    ensures kept { (b : Base) (base : ℕ) (s : Writer) → StandsAs D.Disk b base s writer.old disk.old → OnOk result (StandsAs D.Disk b base s writer.new disk.new) }
+    ensures shows { (b : Base) (base : ℕ) (s : Writer) (log : History) → StandsAs D.Disk b base s writer.old disk.old → AreAlsoOf log s.log → Shows log window.old room.old
+        → OnOk result (Shows log window.new room.new) }
+    ensures sound { IfErr result (λ e. e ≢ NotAStore) }
+    ensures reads { Reads D.Disk disk.old disk.new }
+    ensures room { length room.new ≡ length room.old }
+    ensures used { window.new.used ≤ length room.new }
+    ensures pages { rounds.new.pages ≡ rounds.old.pages }
+    ensures within { OnOk result (length rounds.new.lsns.items ≤ length changes.now) }
+    ensures lsns { OnOk result (rounds.new.lsns.items ≡ take (length rounds.new.lsns.items) (lsns_of changes.now)) }
+    ensures whole { OnOk result (AreWhole window.new.from (take window.new.used room.new) rounds.new.lsns.items) }
+    ensures rising { OnOk result (AreRising rounds.new.numbers.items) }
+    ensures few { OnOk result (length rounds.new.numbers.items ≤ length rounds.new.pages.items) }
+{
+    rounds.plan(window.from, &room[..window.used], changes)?;
+    if has_all(*window, room, rounds.lsns.len(), changes) {
+        return Ok(());
+    }
+    window.refill(writer, disk, changes[0].lsn, room)?;
+    rounds.plan(window.from, &room[..window.used], changes)
+}
+
+// Redoes the round that was planned, of no more pages than there are frames, and answers how many of its records were applied.
+fn redo_planned<D: Disk>(
+    writer: &mut PageWriter,
+    disk: &mut D,
+    point: Lsn,
+    copies: &BTreeMap<PageNo, Lsn>,
+    window: Window,
+    room: &[u8],
+    rounds: &mut RoundRoom,
+) -> Result<u64, Fault>
+    requires some { 0 < length rounds.old.lsns.items }
+    requires used { window.used ≤ length room.now }
+    requires rising { AreRising rounds.old.numbers.items }
+    requires few { length rounds.old.numbers.items ≤ length rounds.old.pages.items }
+    requires frames { length rounds.old.pages.items ≤ writer.old.pool.frames }
+    requires ready { IsReadyWriter D.Disk writer.old disk.old }
+    ensures outcome { Recovers D.Disk mild writer.old writer.new disk.new (fault_of result) }
+    ensures pages { length rounds.new.pages.items ≡ length rounds.old.pages.items }
+    ensures applied { IfOk result (λ n. n ≤ length rounds.old.lsns.items) }
+    ensures kept { (b : Base) (base : ℕ) (begun : History) (file : ℕ → Option Page) (from : D) (lsns : List ℕ) (count : ℕ) → IsApplying D.Disk b base begun file lsns count from writer.old disk.old
+        → length rounds.old.lsns.items ≤ length lsns → rounds.old.lsns.items ≡ take (length rounds.old.lsns.items) lsns → AreWhole window.from (take window.used room.now) rounds.old.lsns.items
+        → Shows begun window room.now → AreApplicable b begun → point ≡ redo_point begun → AreCopies point copies.now begun
+        → RedoSound D.Disk b base begun (λ n. IsApplying D.Disk b base begun file (drop (length rounds.old.lsns.items) lsns) (count + n) from writer.new disk.new) from disk.new result }
+{
+    writer.redo_round(
+        disk,
+        point,
+        copies,
+        &rounds.numbers,
+        &mut rounds.pages,
+        &rounds.lsns,
+        window.from,
+        &room[..window.used],
+    )
+}
+
+/// Makes the next changes: those that are one round, and one at least.
+pub(crate) fn redo_some<D: Disk>(
+    writer: &mut PageWriter,
+    disk: &mut D,
+    point: Lsn,
+    copies: &BTreeMap<PageNo, Lsn>,
+    changes: &[Change],
+    window: &mut Window,
+    room: &mut [u8],
+    rounds: &mut RoundRoom,
+) -> Result<Passed, Fault>
+    requires some { 0 < length changes.now }
+    requires room { 16384 ≤ length room.old }
+    requires used { window.old.used ≤ length room.old }
+    requires frames { length rounds.old.pages.items ≤ writer.old.pool.frames }
+    requires ready { IsReadyWriter D.Disk writer.old disk.old }
+    requires working { writer.old.failed ≡ false }
+    ensures outcome { Recovers D.Disk mild writer.old writer.new disk.new (fault_of result) }
+    ensures room { length room.new ≡ length room.old }
+    ensures used { window.new.used ≤ length room.new }
+    ensures pages { length rounds.new.pages.items ≡ length rounds.old.pages.items }
+    ensures passed { IfOk result (λ passed. (0 < passed.changes) × (passed.changes ≤ length changes.now) × (passed.applied ≤ passed.changes)) }
+    ensures kept { (b : Base) (base : ℕ) (begun : History) (file : ℕ → Option Page) (from : D) (count : ℕ) → IsApplying D.Disk b base begun file (lsns_of changes.now) count from writer.old disk.old
+        → Shows begun window.old room.old → AreApplicable b begun → point ≡ redo_point begun → AreCopies point copies.now begun → PassedKept D.Disk b base begun file (lsns_of changes.now) count from writer.new disk.new result }
+    ensures shows { (b : Base) (base : ℕ) (begun : History) (file : ℕ → Option Page) (from : D) (count : ℕ) → IsApplying D.Disk b base begun file (lsns_of changes.now) count from writer.old disk.old
+        → Shows begun window.old room.old → OnOk result (Shows begun window.new room.new) }
+{
+    plan_round(writer, disk, changes, window, room, rounds)?;
+    let planned = rounds.lsns.len();
+    if planned == 0 {
+        return redo_first(writer, disk, point, copies, changes, window, room);
+    }
+    let applied = redo_planned(writer, disk, point, copies, *window, room, rounds)?;
+    Ok(Passed {
+        changes: planned,
+        applied,
+    })
+}
