@@ -65,7 +65,7 @@ resumes_other b t images (suc i) r older (s ∷ []) other high is =
 resumes_other b t images (suc i) r older (s ∷ u ∷ rest) other high is = resumes_other b t images i r older (u ∷ rest) other high is.3
 
 -- the settled pages behind a key record on a page that the open change leaves alone
-key_pages : (b : Base) (r : Logged) (older : History) (f : List Entry → List Entry) (w : What) → ((l : ℕ) (g : Page) → page_after l w g ≡ record { lsn = l; body = with_entries g.body (f g.body.entries) })
+pub key_pages : (b : Base) (r : Logged) (older : History) (f : List Entry → List Entry) (w : What) → ((l : ℕ) (g : Page) → page_after l w g ≡ record { lsn = l; body = with_entries g.body (f g.body.entries) })
     → open_smo (r ∷ older) ≡ open_smo older → r.what ≡ w → IsNotIn r.page (open_smo older)
     → with_leaf (settled b older) r.page (f (settled b older r.page).entries) ≡ settled b (r ∷ older)
 key_pages b r older f w new going is out = fun_ext (λ (p : ℕ). sym (ap (λ (l : History). taken_back l p (page_at b (r ∷ older) p).body) going ∙ (elim (cases_eq r.page p) [

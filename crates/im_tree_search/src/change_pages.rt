@@ -1,6 +1,6 @@
 //! Which pages a structure change beside a search has made.
 
-ghost use Rattle.std.specs.Prelude.{◌≡◌, ◌≤◌, ◌==◌, [], length};
+ghost use Rattle.std.specs.Prelude.{◌≡◌, ◌≢◌, ◌≤◌, ◌==◌, [], length, true, false};
 ghost use Rattle.std.specs.List.{list_any};
 ghost use Rattle.im_tree_search.specs.Sights.{is_done};
 
@@ -27,6 +27,21 @@ impl<'a> Beside<'a> {
         ensures count { result.count ≡ count }
     {
         Beside { pages, done, count }
+    }
+
+    /// Whether there is none.
+    pub fn is_none(&self) -> bool
+        ensures none { result ≡ true → self.now.pages.now ≡ [] }
+        ensures some { result ≡ false → self.now.pages.now ≢ [] }
+    {
+        self.pages.is_empty()
+    }
+
+    /// How many pages the store had before it, as page 0 said.
+    pub fn count(&self) -> PageNo
+        ensures { result ≡ self.now.count }
+    {
+        self.count
     }
 
     /// Whether a page is one of its plan.
