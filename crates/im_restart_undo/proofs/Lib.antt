@@ -6,7 +6,13 @@ pub mod KeyRecords
 pub mod Shown
 pub mod PlaceLaws
 pub mod PlaceCalls
+pub mod Plans
+pub mod Beside
 pub mod Compensations
 pub mod StructureLogs
-pub mod StructureChanges
 pub mod Composing
+pub mod StructureChanges
+pub mod Closed
+pub mod LastKeys
+pub mod Told
+pub mod Behind

@@ -1,5 +1,5 @@
 -- Gets of a page that may be the leaf of a key.
-use Rattle.std.proofs.Common.{◌≡◌, ◌<◌, ℕ, [], Bool, Option, Some, None, refl, sym, ap, subst, ◌∙◌}
+use Rattle.std.proofs.Common.{◌≡◌, ◌<◌, ℕ, Bool, Option, Some, None, refl, sym, ap, subst, ◌∙◌}
 use Rattle.std.specs.Prelude.{Result, Ok, Err, IsErrAnd, IfSome, OnOk}
 use Rattle.im_base_types.specs.declared.fault.Fault.{Fault}
 use Rattle.im_base_types.specs.Keys.{Key}
@@ -12,7 +12,7 @@ use Rattle.im_page_writer.specs.Outcome.{AllPages, AreLoaded, Outcome}
 use Rattle.im_page_writer.proofs.Outcomes.{pages_still}
 use Rattle.im_theory_tree.specs.Search.{IsOnWay}
 use Rattle.im_tree_search.specs.Levels.{HasLevel, bodies_of}
-use Rattle.im_tree_search.specs.Found.{HasTree, IsReached}
+use Rattle.im_tree_search.specs.Found.{IsReached}
 use Rattle.im_restart_undo.specs.Place.{IsKnownLeaf, IsHeldPage, FindsPage, HasWholeTree}
 
 -- ---- the tree
@@ -21,23 +21,19 @@ use Rattle.im_restart_undo.specs.Place.{IsKnownLeaf, IsHeldPage, FindsPage, HasW
 pub whole_still : {D : Type 0} (d : Ghosts D) {m : Fault → Bool} {pages : AllPages} {v : PageWriter} {old : D} {w : PageWriter} {mid : D} → HasWholeTree d pages v old → Outcome d AreLoaded m v old w mid None → HasWholeTree d pages w mid
 whole_still {D} d {m} {pages} {v} {old} {w} {mid} tree one = record { has = pages_still d tree.has one; good = tree.good }
 
--- it is a tree that can be searched
-pub as_tree : {D : Type 0} (d : Ghosts D) {pages : AllPages} {v : PageWriter} {old : D} → HasWholeTree d pages v old → HasTree d pages v old
-as_tree {D} d {pages} {v} {old} tree = record { has = tree.has; spare = []; good = tree.good }
-
 -- ---- what was got
 
 -- a page that was got is a leaf below the page count
-pub known_held : (pages : AllPages) (pool : PoolView) (frame : Frame) (meta page : Page) (p : ℕ) → frame.number ≡ p → page ≡ page_at pool frame.number → page ≡ pages p → HasLevel 0 page.body
-    → meta ≡ pages 0 → p < meta.body.leftmost → IsHeldPage pages (IsKnownLeaf (bodies_of pages)) pool frame
-known_held pages pool frame meta page p is shown says level first less =
+pub known_held : (pages : AllPages) (pool : PoolView) (frame : Frame) (page : Page) (p : ℕ) → frame.number ≡ p → page ≡ page_at pool frame.number → page ≡ pages p → HasLevel 0 page.body
+    → p < (bodies_of pages 0).leftmost → IsHeldPage pages (IsKnownLeaf (bodies_of pages)) pool frame
+known_held pages pool frame page p is shown says level less =
     let here : page ≡ pages frame.number = says ∙ ap (λ (n : ℕ). pages n) (sym is) in
     record {
       page = sym shown ∙ here;
       has = record {
         leaf = ap (λ (g : Page). g.body.kind) (sym here) ∙ level.kind;
         level = ap (λ (g : Page). g.body.level) (sym here) ∙ level.level;
-        counted = subst (λ (n : ℕ). n < (bodies_of pages 0).leftmost) (sym is) (subst (λ (g : Page). p < g.body.leftmost) first less);
+        counted = subst (λ (n : ℕ). n < (bodies_of pages 0).leftmost) (sym is) less;
       };
     }
 

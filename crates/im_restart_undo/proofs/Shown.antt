@@ -1,13 +1,14 @@
 -- What the walk shows of the newest change that a transaction has left to undo.
 use Rattle.std.proofs.Common.{◌≡◌, ◌≢◌, ℕ, List, [], ◌∷◌, ◌++◌, inl, refl, sym, ap, subst, ◌∙◌}
 use Rattle.std.proofs.Math.Path.{fun_ext}
-use Rattle.std.specs.FinMap.{entries, get}
+use Rattle.std.specs.FinMap.{get}
 use Rattle.std.specs.FinMap.Entries.{find}
 use Rattle.im_base_types.specs.Keys.{Key, key_order}
 use Rattle.im_base_types.specs.Pages.{Entry}
 use Rattle.im_base_types.specs.Changes.{Put, Drop, Effect, apply, apply_all, Touches}
 use Rattle.im_base_types.specs.Records.{What, InsertKey, DeleteKey, UndoInsert, UndoDelete, Smo, UndoSmo, DummyClr, Commit, End, Image, Checkpoint, Unreadable, Logged}
 use Rattle.im_theory_log.specs.Histories.{Base, History, page_at}
+use Rattle.im_theory_log.specs.Lawful.{IsLawful}
 use Rattle.im_theory_log.specs.Structure.{open_smo, settled, taken_back}
 use Rattle.im_theory_log.specs.Transactions.{change_of, changes_of, committed, contents, net, to_undo}
 use Rattle.im_theory_log.specs.LogLaws.{bodies}
@@ -15,29 +16,24 @@ use Rattle.im_base_types.proofs.Changes.{applied_at}
 use Rattle.im_theory_log.proofs.Committed.{nets_of}
 use Rattle.im_theory_log.proofs.Fronts.{has_tree}
 use Rattle.im_base_types.proofs.Maps.{sorted_find}
-use Rattle.im_theory_tree.specs.Levels.{walk}
+use Rattle.im_theory_tree.specs.Levels.{Pages, walk}
 use Rattle.im_theory_tree.specs.Search.{IsOnWay}
 use Rattle.im_theory_tree.specs.Theory.{page_tree}
 use Rattle.im_theory_tree.proofs.LookupLemmas.{leaf_value}
 use Rattle.im_restart_analysis.specs.Undo.{IsNext, IsUndoable}
 use Rattle.im_restart_undo.specs.Undoing.{ShowsChange}
-use Rattle.im_restart_undo.proofs.Growth.{good_pages}
 
 -- where no structure change is open, the settled pages are the pages as they are
-settled_is : (b : Base) (log : History) → open_smo log ≡ [] → settled b log ≡ bodies b log
+pub settled_is : (b : Base) (log : History) → open_smo log ≡ [] → settled b log ≡ bodies b log
 settled_is b log closed = fun_ext (λ (p : ℕ). ap (λ (l : History). taken_back l p (page_at b log p).body) closed)
 
-module _ (b : Base) (log : History) (can : IsUndoable b page_tree log) where
-  -- the walk is the entries of the tree's map
-  pub walk_is : walk (bodies b log) ≡ entries (contents b log)
-  walk_is = ap walk (sym (settled_is b log can.closed)) ∙ (has_tree b page_tree log can.lawful).walk
-
-  pub get_is : (k : Key) → get (contents b log) k ≡ find key_order k (walk (bodies b log))
-  get_is k = sorted_find (contents b log) k ∙ ap (λ (es : List Entry). find key_order k es) (sym walk_is)
+module _ (b : Base) (log : History) (law : IsLawful b page_tree log) where
+  settled_get : (k : Key) → get (contents b log) k ≡ find key_order k (walk (settled b log))
+  settled_get k = sorted_find (contents b log) k ∙ ap (λ (es : List Entry). find key_order k es) (sym (has_tree b page_tree log law).walk)
 
   -- a key's leaf has of its key what the walk has
-  pub leaf_has : (k : Key) (p : ℕ) → IsOnWay (bodies b log) 0 k p → find key_order k (bodies b log p).entries ≡ find key_order k (walk (bodies b log))
-  leaf_has k p way = sym (leaf_value (bodies b log) [] k p (good_pages b log can) way)
+  pub settled_has : (k : Key) (p : ℕ) → IsOnWay (settled b log) 0 k p → find key_order k (settled b log p).entries ≡ find key_order k (walk (settled b log))
+  settled_has k p way = sym (leaf_value (settled b log) [] k p (has_tree b page_tree log law).good way)
 
   module _ (t : ℕ) (x : Logged) (rest : History) (stack : to_undo t log ≡ x ∷ rest) where
     net_is : (w : What) → x.what ≡ w → net t log ≡ change_of w ++ changes_of rest
@@ -45,21 +41,21 @@ module _ (b : Base) (log : History) (can : IsUndoable b page_tree log) where
 
     -- no other net touches a key of this one
     untouched : (k : Key) → Touches (net t log) k → (u : ℕ) → u ≢ t → Touches (net u log) k → ⊥
-    untouched k mine u other theirs = (nets_of b page_tree log can.lawful).apart u t other k theirs mine
+    untouched k mine u other theirs = (nets_of b page_tree log law).apart u t other k theirs mine
 
-    shows : (w : What) → x.what ≡ w → ShowsChange (bodies b log) w
+    shows : (w : What) → x.what ≡ w → ShowsChange (settled b log) w
     shows (InsertKey k i) is =
         let base = apply_all b.map (committed log) in
         let mine : Touches (net t log) k = subst (λ (c : Effect). Touches c k) (sym (net_is (InsertKey k i) is)) (inl refl) in
-        sym (get_is k)
-        ∙ (nets_of b page_tree log can.lawful).makes t k (untouched k mine)
+        sym (settled_get k)
+        ∙ (nets_of b page_tree log law).makes t k (untouched k mine)
         ∙ ap (λ (c : Effect). get (apply base c) k) (net_is (InsertKey k i) is)
         ∙ applied_at (apply base (changes_of rest)) (Put k i) k refl
     shows (DeleteKey k i) is =
         let base = apply_all b.map (committed log) in
         let mine : Touches (net t log) k = subst (λ (c : Effect). Touches c k) (sym (net_is (DeleteKey k i) is)) (inl refl) in
-        sym (get_is k)
-        ∙ (nets_of b page_tree log can.lawful).makes t k (untouched k mine)
+        sym (settled_get k)
+        ∙ (nets_of b page_tree log law).makes t k (untouched k mine)
         ∙ ap (λ (c : Effect). get (apply base c) k) (net_is (DeleteKey k i) is)
         ∙ applied_at (apply base (changes_of rest)) (Drop k i) k refl
     shows (UndoInsert k i) is = tt
@@ -74,5 +70,13 @@ module _ (b : Base) (log : History) (can : IsUndoable b page_tree log) where
     shows Unreadable is = tt
 
   -- the walk has the key that an insert put, and lacks the one that a delete dropped
+  pub settled_shows : (t : ℕ) (x : Logged) → IsNext t log x → ShowsChange (settled b log) x.what
+  settled_shows t x next = shows t x next.rest next.stack x.what refl
+
+-- the same of the pages as they are, where no structure change is open
+module _ (b : Base) (log : History) (can : IsUndoable b page_tree log) where
+  pub get_is : (k : Key) → get (contents b log) k ≡ find key_order k (walk (bodies b log))
+  get_is k = settled_get b log can.lawful k ∙ ap (λ (pages : Pages). find key_order k (walk pages)) (settled_is b log can.closed)
+
   pub shows_change : (t : ℕ) (x : Logged) → IsNext t log x → ShowsChange (bodies b log) x.what
-  shows_change t x next = shows t x next.rest next.stack x.what refl
+  shows_change t x next = subst (λ (pages : Pages). ShowsChange pages x.what) (settled_is b log can.closed) (settled_shows b log can.lawful t x next)

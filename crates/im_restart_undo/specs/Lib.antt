@@ -1,3 +1,5 @@
 pub mod Records
 pub mod Place
 pub mod Undoing
+pub mod Planning
+pub mod GoingBeside

@@ -1,5 +1,5 @@
 -- Where the leaf of a key is found.
-use Rattle.std.specs.Prelude.{◌≡◌, ◌<◌, ◌≤◌, ℕ, List, [], length, Option, None, IfSome}
+use Rattle.std.specs.Prelude.{◌≡◌, ◌<◌, ◌≤◌, ◌⊎◌, ℕ, true, List, [], length, Option, None, IfSome}
 use Rattle.im_base_types.specs.declared.page_kind.PageKind.TheVariants.{Leaf, Meta}
 use Rattle.im_base_types.specs.Keys.{Key, IsBelow}
 use Rattle.im_base_types.specs.Pages.{Body, Entry}
@@ -13,7 +13,9 @@ use Rattle.im_page_writer.specs.declared.page_writer.PageWriter.{PageWriter}
 use Rattle.im_page_writer.specs.Outcome.{AllPages, AreLoaded, HasPages}
 use Rattle.im_theory_tree.specs.Levels.{Pages}
 use Rattle.im_theory_tree.specs.Good.{IsGoodTree}
+use Rattle.im_tree_search.specs.declared.change_beside.Beside.{Beside}
 use Rattle.im_tree_search.specs.Levels.{bodies_of}
+use Rattle.im_tree_search.specs.Sights.{is_done, HasTreeBut, IsWayMade}
 
 -- ---- what a page says of a key
 
@@ -70,3 +72,12 @@ pub record FindsPage (pages : AllPages) (P : ℕ → Type 0) (Wanted : Type 0) (
 pub record HasWholeTree {D : Type 0} (d : Ghosts D) (pages : AllPages) (w : PageWriter) (disk : D) : Type 0 where
   pub has : HasPages d AreLoaded pages w disk
   pub good : IsGoodTree (bodies_of pages) []
+
+-- The same of pages as they stand beside a structure change: but for those that it has made they are these.
+pub record HasWholeTreeBut {D : Type 0} (d : Ghosts D) (pages : AllPages) (beside : Beside) (w : PageWriter) (disk : D) : Type 0 where
+  pub tree : HasTreeBut d pages beside w disk
+  pub good : IsGoodTree (bodies_of pages) []
+
+-- why the leaf of a key is hidden: the page that is looked at first is made, or it is not known as that leaf, and a page on the key's way is made
+abbrev pub IsPlaceMade : Pages → Beside → ℕ → Key → Type 0 → Type 0
+IsPlaceMade pages beside page key Known = (is_done beside page ≡ true) ⊎ ((Known → ⊥) × IsWayMade pages beside key)

@@ -26,7 +26,6 @@ use Rattle.im_theory_tree.specs.Theory.{page_tree}
 use Rattle.im_tree_search.specs.Levels.{bodies}
 use Rattle.im_smo_log.specs.Changes.{HasRecordOf}
 use Rattle.im_smo_split.specs.Tops.{LacksRoomFor}
-use Rattle.im_smo_split.specs.Plan.{FitsInLeaf}
 use Rattle.im_smo_actions.specs.Structure.{IsUsedUp}
 use Rattle.im_restart_analysis.specs.Losers.{row_of}
 use Rattle.im_restart_analysis.specs.Undo.{IsUndoable, IsNext}
@@ -111,18 +110,17 @@ module _ {D : Type 0} (d : Ghosts D) (b : Base) (base : ℕ) where
     pub stops : LeavesUndo s t old disk
     pub begun : IfErr result (λ e. e ≡ Failed → HasBegun s t w disk)
 
-  -- The leaf of the key has room; a structure was changed just where it lacked that.
-  pub record HasMadeRoom (s : Writer) (e t last undo_next : ℕ) (key : Key) (old : D) (w : PageWriter) (disk : D) : Type 0 where
+  -- The leaf of the key is this page, one of the change, and has room.
+  pub record HasMadeRoom (s : Writer) (e t last undo_next : ℕ) (key : Key) (leaf : ℕ) (old : D) (w : PageWriter) (disk : D) : Type 0 where
     pub made : Restructured s e t last undo_next old w disk
-    pub fits : FitsInLeaf (bodies made.now) key
-    pub some : LacksRoomFor (bodies s) key → HasRecordOf t made.goes.grows.more
-    pub only : HasRecordOf t made.goes.grows.more → LacksRoomFor (bodies s) key
+    pub way : IsOnWay (bodies made.now) 0 key leaf
+    pub room : HasRoom true (bodies made.now leaf).entries (key, 0)
+    pub some : HasRecordOf t made.goes.grows.more
 
   -- what the split of a key's leaf keeps; it is refused `Failed` behind a record of the transaction
-  pub record SplitKept (s : Writer) (e t undo_next : ℕ) (key : Key) (old : D) (w : PageWriter) (disk : D) (result : Result ℕ Fault) : Type 0 where
-    pub sound : IsSound result (λ last. HasMadeRoom s e t last undo_next key old w disk)
+  pub record SplitKept (s : Writer) (e t undo_next : ℕ) (key : Key) (leaf : ℕ) (old : D) (w : PageWriter) (disk : D) (result : Result ℕ Fault) : Type 0 where
+    pub sound : IsSound result (λ last. HasMadeRoom s e t last undo_next key leaf old w disk)
     pub stops : LeavesUndo s t old disk
-    pub used_up : IfErr result (λ e. e ≡ Capacity → CanNotSplit (bodies s) key)
     pub begun : IfErr result (λ e. e ≡ Failed → HasBegun s t w disk)
 
   -- ---- the compensation

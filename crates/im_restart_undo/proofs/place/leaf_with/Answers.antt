@@ -1,27 +1,30 @@
-use Rattle.std.proofs.Common.{◌≡◌, ◌+◌, Option, subst}
-use Rattle.std.specs.Prelude.{IfSome}
-use Rattle.im_page_pool.specs.declared.frame.Frame.{Frame}
-use Rattle.im_page_writer.proofs.Outcomes.{sound_also, sound_on}
-use Rattle.im_restart_undo.proofs.PlaceCalls.{as_tree, no_answer, none_of, place_held, whole_still}
+use Rattle.std.proofs.Common.{inl, sym, ◌∙◌}
+use Rattle.im_page_writer.proofs.Outcomes.{idle, sound_on}
+use Rattle.im_tree_search.proofs.Sighted.{some_done}
+use Rattle.im_restart_undo.proofs.PlaceCalls.{none_of, place_held}
+use Rattle.im_restart_undo.proofs.Plans.{leaf_seen, whole_but_still}
 use Rattle.im_restart_undo.proofs.place.leaf_with.Goals as goal
 
+pub returns-then-is_done-clause-outcome : goal.returns-then-is_done-clause-outcome
+returns-then-is_done-clause-outcome g c = idle g.D.Disk g.met.D.Disk.only_now c.args.writer.now c.args.disk.now c.requires.working c.requires.ready
+
+pub returns-then-is_done-clause-kept : goal.returns-then-is_done-clause-kept
+returns-then-is_done-clause-kept g c pages whole = inl (sym c.is_done.ensures ∙ c.if-is_done.true)
+
+pub returns-then-is_done-clause-leaf : goal.returns-then-is_done-clause-leaf
+returns-then-is_done-clause-leaf g c = some_done c.args.beside c.args.page (sym c.is_done.ensures ∙ c.if-is_done.true)
+
 pub returns-in_err-frame-clause-kept : goal.returns-in_err-frame-clause-kept
-returns-in_err-frame-clause-kept g c pages tree = sound_on c.from_residual.result _ _ c.from_residual.ensures.1 (c.in_err-frame.ensures.kept pages tree)
+returns-in_err-frame-clause-kept g c pages whole = sound_on c.from_residual.result _ _ c.from_residual.ensures.1 (c.in_err-frame.ensures.kept pages whole)
 
 pub returns-in-Some-clause-kept : goal.returns-in-Some-clause-kept
-returns-in-Some-clause-kept g c pages tree =
-    place_held pages c.page_with.new.writer.pool c.in_ok-frame.field-0 c.in-Some.frame c.in-Some.is c.args.key.now _ (c.in_ok-frame.ensures.kept pages tree)
+returns-in-Some-clause-kept g c pages whole =
+    place_held pages c.page_with.new.writer.pool c.in_ok-frame.field-0 c.in-Some.frame c.in-Some.is c.args.key.now _ (c.in_ok-frame.ensures.kept pages whole)
 
 pub returns-clause-kept : goal.returns-clause-kept
-returns-clause-kept g c pages tree =
-    sound_also c.leaf_for.result _ _ (c.leaf_for.ensures.kept pages (as_tree g.D.Disk (whole_still g.D.Disk tree c.in_ok-frame.ensures.outcome))) (λ frame found. found.reached)
-
-pub returns-in_err-frame-clause-quick : goal.returns-in_err-frame-clause-quick
-returns-in_err-frame-clause-quick g c pages tree known wanted = no_answer c.from_residual.result c.in_err-frame.field-0.0 _ c.from_residual.ensures.1
-
-pub returns-in-Some-clause-quick : goal.returns-in-Some-clause-quick
-returns-in-Some-clause-quick g c pages tree known wanted =
-    subst (λ (o : Option Frame). IfSome o (λ (f : Frame). c.page_with.new.writer.pool.gets ≡ c.args.writer.now.pool.gets + 2)) c.in-Some.is c.in_ok-frame.ensures.gets
+returns-clause-kept g c pages whole =
+    leaf_seen c.leaf_beside.result pages c.args.beside c.args.page c.args.key.now _ _ c.leaf_beside.new.writer.pool (λ known. (c.in_ok-frame.ensures.kept pages whole).none (none_of c.in_ok-frame.field-0 c.in_default.not-Some) known)
+    (c.leaf_beside.ensures.kept pages (whole_but_still g.D.Disk whole c.in_ok-frame.ensures.outcome).tree)
 
 pub returns-clause-quick : goal.returns-clause-quick
-returns-clause-quick g c pages tree known wanted = absurd ((c.in_ok-frame.ensures.kept pages tree).none (none_of c.in_ok-frame.field-0 c.in_default.not-Some) (known, wanted))
+returns-clause-quick g c pages whole known wanted = absurd ((c.in_ok-frame.ensures.kept pages whole).none (none_of c.in_ok-frame.field-0 c.in_default.not-Some) (known, wanted))

@@ -9,23 +9,23 @@ use Rattle.im_restart_undo.proofs.PlaceCalls.{lent_says, none_of, way_held}
 use Rattle.im_restart_undo.proofs.place.page_with.Goals as goal
 
 pub returns-in_err-frame-clause-kept : goal.returns-in_err-frame-clause-kept
-returns-in_err-frame-clause-kept g c pages tree = sound_on c.from_residual.result _ _ c.from_residual.ensures.1 (c.in_err-frame.ensures.kept pages tree)
+returns-in_err-frame-clause-kept g c pages whole = sound_on c.from_residual.result _ _ c.from_residual.ensures.1 (c.in_err-frame.ensures.kept pages whole)
 
 pub returns-in_default-clause-kept : goal.returns-in_default-clause-kept
-returns-in_default-clause-kept g c pages tree =
-    let found = c.in_ok-frame.ensures.kept pages tree in
+returns-in_default-clause-kept g c pages whole =
+    let found = c.in_ok-frame.ensures.kept pages whole in
     record { held = tt; none = λ none wanted. found.none (none_of c.in_ok-frame.field-0 c.in_default.not-Some) wanted.0 }
 
 pub returns-then-not-has_key-clause-kept : goal.returns-then-not-has_key-clause-kept
-returns-then-not-has_key-clause-kept g c pages tree =
+returns-then-not-has_key-clause-kept g c pages whole =
     let says : c.page.result.now.body ≡ bodies_of pages c.args.page =
-    lent_says pages c.known_leaf.new.writer.pool c.in_ok-frame.field-0 c.in-Some.frame c.in-Some.is c.args.page _ c.page.result.now (c.in_ok-frame.ensures.kept pages tree) c.in_ok-frame.ensures.frame c.page.ensures.page in
+    lent_says pages c.known_leaf.new.writer.pool c.in_ok-frame.field-0 c.in-Some.frame c.in-Some.is c.args.page _ c.page.result.now (c.in_ok-frame.ensures.kept pages whole) c.in_ok-frame.ensures.frame c.page.ensures.page in
     record {
       held = tt;
       none = λ none wanted. let no : IsTrue false = c.if-not-has_key.ensures.1 (subst (λ (x : Body). HasKey x.entries c.args.key.now) (sym says) wanted.1) in let never : ⊥ = cc no in never;
     }
 
 pub returns-clause-kept : goal.returns-clause-kept
-returns-clause-kept g c pages tree =
-    way_held pages c.known_leaf.new.writer.pool c.in_ok-frame.field-0 c.in-Some.frame c.in-Some.is c.args.key.now _ _ c.page.result.now (c.in_ok-frame.ensures.kept pages tree) c.page.ensures.page
-    (λ known says. way_of_key (bodies_of pages) c.in-Some.frame.number c.args.key.now tree.good known (subst (λ (x : Body). HasKey x.entries c.args.key.now) says (c.if-not-has_key.ensures.0 refl)))
+returns-clause-kept g c pages whole =
+    way_held pages c.known_leaf.new.writer.pool c.in_ok-frame.field-0 c.in-Some.frame c.in-Some.is c.args.key.now _ _ c.page.result.now (c.in_ok-frame.ensures.kept pages whole) c.page.ensures.page
+    (λ known says. way_of_key (bodies_of pages) c.in-Some.frame.number c.args.key.now whole.good known (subst (λ (x : Body). HasKey x.entries c.args.key.now) says (c.if-not-has_key.ensures.0 refl)))
