@@ -4,4 +4,6 @@ pub mod Held
 pub mod Sums
 pub mod Changes
 mod OnePage
+pub mod Places
+mod Together
 pub mod HandPages

@@ -1,5 +1,5 @@
 -- The pages of a round, and what its records make of them.
-use Rattle.std.specs.Prelude.{◌≡◌, ◌≤◌, ◌<◌, ◌-◌, ℕ, List, [], ◌∷◌, length, take, drop, slice_index_or, get_or, Bool, true, not, ◌==◌, ◌||◌}
+use Rattle.std.specs.Prelude.{◌≡◌, ◌≤◌, ◌<◌, ◌-◌, ℕ, List, [], ◌∷◌, length, take, drop, slice_index_or, Bool, true, not, ◌==◌, ◌||◌}
 use Rattle.im_base_types.specs.Pages.{Page}
 use Rattle.im_base_types.specs.Records.{Logged}
 use Rattle.im_theory_log.specs.Copies.{redo_all, redo_one}
@@ -9,7 +9,7 @@ use Rattle.im_log.specs.Span.{IsWhole}
 use Rattle.im_log.specs.Spelled.{record_size}
 use Rattle.im_page_rounds.specs.declared.round_page.RoundPage.{RoundPage}
 use Rattle.im_page_rounds.specs.OnePage.{PageTakes}
-use Rattle.im_page_rounds.specs.Rounds.{applied_to, applied_of_all}
+use Rattle.im_page_rounds.specs.Rounds.{applied_to}
 
 -- ---- the bytes of a round's records
 
@@ -38,10 +38,6 @@ pub record IsThis (x : RoundPage) (g : Page) (marked : Bool) : Type 0 where
   pub page : x.page.value ≡ g
   pub changed : x.changed ≡ marked
 
--- The pages of these numbers stand in their order, each as the functions say.
-abbrev pub AreThese : List ℕ → List RoundPage → (ℕ → Page) → (ℕ → Bool) → Type 0
-AreThese numbers hand pages changed = (i : ℕ) (d : RoundPage) → i < length numbers → IsThis (get_or hand i d) (pages (slice_index_or numbers i 0)) (changed (slice_index_or numbers i 0))
-
 -- whether redo applies any of these records to a page
 abbrev pub is_applied : List Logged → ℕ → Page → Bool
 is_applied rs p g = not (applied_to rs p g == 0)
@@ -61,9 +57,3 @@ pub record IsAmong (numbers : List ℕ) (p : ℕ) : Type 0 where
 abbrev pub AreAmong : List ℕ → List Logged → Type 0
 AreAmong numbers [] = Unit {0}
 AreAmong numbers (r ∷ rs) = IsAmong numbers r.page × AreAmong numbers rs
-
--- Records were redone, each of one of these pages: so many were applied, and each page is as they made it.
-pub record AreRedone (numbers : List ℕ) (rs : List Logged) (old : ℕ → Page) (changed : ℕ → Bool) (n : ℕ) (hand : List RoundPage) : Type 0 where
-  pub pages : AreThese numbers hand (λ q. redo_all rs q (old q)) (λ q. changed q || is_applied rs q (old q))
-  pub count : n ≡ applied_of_all rs old
-  pub among : AreAmong numbers rs

@@ -1,5 +1,5 @@
-//! The records of a round, applied to its pages.
-ghost use Rattle.std.specs.Prelude.{◌≡◌, ◌≢◌, ◌≤◌, ◌<◌, ◌+◌, ◌-◌, ◌^◌, ◌⊎◌, ◌||◌, ℕ, List, Bool, true, length, drop, take, if◌then◌else◌, IfErr, IfOk, OnOk};
+//! The records of a round, applied to the pages of one worker.
+ghost use Rattle.std.specs.Prelude.{◌≡◌, ◌≢◌, ◌≤◌, ◌<◌, ◌+◌, ◌-◌, ◌*◌, ◌^◌, ◌⊎◌, ◌||◌, ◌&&◌, ℕ, List, Bool, true, length, drop, take, get_or, if◌then◌else◌, IfErr, IfOk, OnOk};
 ghost use Rattle.im_base_types.specs.declared.fault.Fault.TheVariants.{Memory, NotAStore};
 ghost use Rattle.im_base_types.specs.Pages.{Page};
 ghost use Rattle.im_base_types.specs.Records.{Logged};
@@ -8,8 +8,10 @@ ghost use Rattle.im_theory_log.specs.WriterSteps.{applies};
 ghost use Rattle.im_log_record.specs.Entry.{view};
 ghost use Rattle.im_log_record.specs.Spelling.{IsEntry};
 ghost use Rattle.im_log.specs.Spelled.{logged_at};
-ghost use Rattle.im_page_rounds.specs.Hand.{AllTaken, AreRedone, AreRising, AreThese, IsAmong, StandIn, StandsIn};
-ghost use Rattle.im_page_rounds.specs.OnePage.{PageTakes};
+ghost use Rattle.im_page_rounds.specs.Hand.{AllTaken, AreRising, IsAmong, StandIn, StandsIn};
+ghost use Rattle.im_page_rounds.specs.OnePage.{PageRefuses, PageTakes};
+ghost use Rattle.im_page_rounds.specs.declared.round_page.RoundPage.{RoundPage};
+ghost use Rattle.im_page_rounds.specs.Workers.{AreDealt, HandRedone, IsRedone, is_dealt};
 
 use crate::one_page::redo_on;
 use crate::round_page::RoundPage;
@@ -35,22 +37,47 @@ fn record_at(lsn: Lsn, from: Lsn, span: &[u8]) -> Result<Record<'_>, Fault>
     }
 }
 
-// Goes past a record, which is one of a page of these numbers, and answers whether it was applied to it.
+// Goes past a record of the page at a place of a worker's hand, and answers whether it was applied to it.
+fn redo_at(
+    pages: &mut [RoundPage],
+    place: usize,
+    spare: &mut Page,
+    lsn: Lsn,
+    record: &Record,
+) -> Result<bool, Fault>
+    requires entry { IsEntry (view record.now) }
+    requires within { place < length pages.old }
+    ensures redone { IfOk result (λ done. (d : RoundPage) → IsRedone (logged_at lsn (view record.now)) (get_or pages.old place d) done (get_or pages.new place d)) }
+    ensures others { (j : ℕ) (d : RoundPage) → j ≢ place → get_or pages.new j d ≡ get_or pages.old j d }
+    ensures refused { IfErr result (λ e. (e ≡ NotAStore) × ((d : RoundPage) → PageRefuses (logged_at lsn (view record.now)) (get_or pages.old place d).page.value)) }
+    ensures length { length pages.new ≡ length pages.old }
+{
+    let here = &mut pages[place];
+    let done = redo_on(&mut here.page, spare, lsn, record)?;
+    here.changed = here.changed || done;
+    Ok(done)
+}
+
+// Goes past a record, which is one of a page of these numbers, and answers whether it was applied. It is where the page is one of this
+// worker's, which alone are changed.
 fn redo_in(
     numbers: &[PageNo],
+    workers: usize,
+    worker: usize,
     pages: &mut [RoundPage],
     spare: &mut Page,
     lsn: Lsn,
     record: &Record,
 ) -> Result<bool, Fault>
     requires entry { IsEntry (view record.now) }
-    requires few { length numbers.now ≤ length pages.old }
+    requires some { 0 < workers }
+    requires few { length numbers.now ≤ workers * length pages.old }
     requires rising { AreRising numbers.now }
-    ensures pages { (g : ℕ → Page) (changed : ℕ → Bool) → AreThese numbers.now pages.old g changed
-        → OnOk result (AreThese numbers.now pages.new (λ q. redo_one (logged_at lsn (view record.now)) q (g q)) (λ q. changed q || applies (logged_at lsn (view record.now)) q (g q))) }
-    ensures applied { (g : ℕ → Page) (changed : ℕ → Bool) → AreThese numbers.now pages.old g changed
-        → IfOk result (λ done. done ≡ applies (logged_at lsn (view record.now)) (logged_at lsn (view record.now)).page (g (logged_at lsn (view record.now)).page)) }
-    ensures taken { (g : ℕ → Page) (changed : ℕ → Bool) → AreThese numbers.now pages.old g changed
+    ensures pages { (g : ℕ → Page) (changed : ℕ → Bool) → AreDealt workers worker numbers.now pages.old g changed
+        → OnOk result (AreDealt workers worker numbers.now pages.new (λ q. redo_one (logged_at lsn (view record.now)) q (g q)) (λ q. changed q || applies (logged_at lsn (view record.now)) q (g q))) }
+    ensures applied { (g : ℕ → Page) (changed : ℕ → Bool) → AreDealt workers worker numbers.now pages.old g changed
+        → IfOk result (λ done. done ≡ (is_dealt workers worker numbers.now (logged_at lsn (view record.now)).page && applies (logged_at lsn (view record.now)) (logged_at lsn (view record.now)).page (g (logged_at lsn (view record.now)).page))) }
+    ensures taken { (g : ℕ → Page) (changed : ℕ → Bool) → AreDealt workers worker numbers.now pages.old g changed
         → (applies (logged_at lsn (view record.now)) (logged_at lsn (view record.now)).page (g (logged_at lsn (view record.now)).page) ≡ true → PageTakes (logged_at lsn (view record.now)).what (g (logged_at lsn (view record.now)).page))
         → IfErr result (λ e. e ≢ NotAStore) }
     ensures among { OnOk result (IsAmong numbers.now (logged_at lsn (view record.now)).page) }
@@ -60,10 +87,10 @@ fn redo_in(
     match numbers.binary_search(&record.page()) {
         Err(_) => Err(Fault::Memory),
         Ok(i) => {
-            let here = &mut pages[i];
-            let done = redo_on(&mut here.page, spare, lsn, record)?;
-            here.changed = here.changed || done;
-            Ok(done)
+            if i % workers != worker {
+                return Ok(false);
+            }
+            redo_at(pages, i / workers, spare, lsn, record)
         }
     }
 }
@@ -76,24 +103,26 @@ fn counted(count: u64, applied: bool) -> u64
     if applied { count + 1 } else { count }
 }
 
-/// Redoes the records at these LSNs in turn, whose bytes stand in a part of the log that begins at `from`: each changes its page where
-/// that needs it. The pages are those of `numbers`, which rise. It answers how many records were applied. `spare` is any page then.
-///
-/// Refused `NotAStore` where a page does not take a record that it needs, or no record stands at an LSN; `Memory` where a record is of
-/// none of these pages. The pages are then such as some of the records made them.
-pub fn redo_records(
+// Redoes the records at these LSNs in turn, whose bytes stand in a part of the log that begins at `from`: each that is of one of this
+// worker's pages changes it where it needs that. It answers how many of them were applied.
+//
+// Refused as `redo_records` is. The pages are then such as some of the records made them.
+pub(crate) fn redo_own(
     numbers: &[PageNo],
+    workers: usize,
+    worker: usize,
     pages: &mut [RoundPage],
     spare: &mut Page,
     lsns: &[Lsn],
     from: Lsn,
     span: &[u8],
 ) -> Result<u64, Fault>
-    requires few { length numbers.now ≤ length pages.old }
+    requires some { 0 < workers }
+    requires few { length numbers.now ≤ workers * length pages.old }
     requires rising { AreRising numbers.now }
-    ensures redone { (rs : List Logged) (g : ℕ → Page) (changed : ℕ → Bool) → StandIn from span.now lsns.now rs → AreThese numbers.now pages.old g changed
-        → IfOk result (λ count. AreRedone numbers.now rs g changed count pages.new) }
-    ensures taken { (rs : List Logged) (g : ℕ → Page) (changed : ℕ → Bool) → StandIn from span.now lsns.now rs → AreThese numbers.now pages.old g changed → AllTaken rs g
+    ensures redone { (rs : List Logged) (g : ℕ → Page) (changed : ℕ → Bool) → StandIn from span.now lsns.now rs → AreDealt workers worker numbers.now pages.old g changed
+        → IfOk result (λ count. HandRedone workers worker numbers.now rs g changed count pages.new) }
+    ensures taken { (rs : List Logged) (g : ℕ → Page) (changed : ℕ → Bool) → StandIn from span.now lsns.now rs → AreDealt workers worker numbers.now pages.old g changed → AllTaken rs g
         → IfErr result (λ e. e ≢ NotAStore) }
     ensures few { IfOk result (λ count. count ≤ length lsns.now) }
     ensures length { length pages.new ≡ length pages.old }
@@ -102,7 +131,7 @@ pub fn redo_records(
     let mut count = 0;
     for lsn in lsns {
         let record = record_at(*lsn, from, span)?;
-        let applied = redo_in(numbers, pages, spare, *lsn, &record)?;
+        let applied = redo_in(numbers, workers, worker, pages, spare, *lsn, &record)?;
         count = counted(count, applied);
     }
     Ok(count)

@@ -8,8 +8,12 @@
 //! stays. It needs the page alone: no pool, no dirty table, no disk. Refused `NotAStore` where the page needs the record and does not
 //! take it.
 //!
+//! # Workers
+//!
 //! `redo_records` goes past the records of a round in turn, whose bytes stand in one part of the log, over its pages: after it each page
-//! is what its own records made of it (`AreRedone`). Pages are found by their numbers, which rise.
+//! is what its own records made of it (`AreRedone`). Pages are found by their numbers, which rise. It does so by any number of workers:
+//! page i of the round, from 0, is with worker i mod how many there are, and each goes past the records of its own pages, in a thread of
+//! its own where one can be made. `workers_for` makes the workers, `deal` tells which pages each of them has.
 //!
 //! # A round
 //!
@@ -26,18 +30,23 @@
 //! - `entries_follow`: a page's entry in the dirty table is as it was where no record was applied to it, else at the redo point.
 //! - `counts_add`: the counts of the round's pages add up to the count of the round.
 //!
-//! It stands on pages, on leaves, on the dirty table, on the copies in records and on the definitions of the log.
+//! It stands on pages, on leaves, on the dirty table, on the copies in records, on the definitions of the log and on threads.
 #![tactic(auto)]
 
+mod dealing;
 mod hand;
 mod laws;
 mod one_page;
 mod round_page;
+mod worker;
+mod workers;
 
-pub use hand::redo_records;
+pub use dealing::deal;
 pub use laws::{
     a_round_is_held, a_round_is_kept, counts_add, entries_follow, pages_need_changes_alone,
     pages_need_their_own_records, rounds_come_after_another, rounds_leave,
 };
 pub use one_page::redo_on;
 pub use round_page::RoundPage;
+pub use worker::Worker;
+pub use workers::{redo_records, workers_for};

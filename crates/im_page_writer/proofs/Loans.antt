@@ -1,9 +1,8 @@
 -- Pages are lent, one after another, and taken back.
-use Rattle.std.proofs.Common.{◌≡◌, ◌≢◌, ◌⊎◌, inl, inr, ⊎_elim, ℕ, suc, zero, ◌+◌, ◌<◌, ◌≤◌, List, [], ◌∷◌, length, get_or, Bool, true, false, refl, sym, ◌∙◌, ap, subst, arith, Option, Some, None}
-use Rattle.std.specs.Prelude.{slice_index_or, slice_set, option_map, ◌||◌}
+use Rattle.std.proofs.Common.{◌≡◌, ◌≢◌, ◌⊎◌, inl, inr, ⊎_elim, ℕ, ◌+◌, ◌<◌, ◌≤◌, List, length, Bool, true, false, refl, sym, ◌∙◌, ap, subst, arith, Option, Some, None}
+use Rattle.std.specs.Prelude.{slice_index_or, option_map, ◌||◌}
 use Rattle.std.specs.Option.{option_map_or}
 use Rattle.std.proofs.lemmas.Bool.{cases_eq, cases_lt}
-use Rattle.std.proofs.lemmas.List.{get_or-set_same, get_or-set_other}
 use Rattle.im_base_types.specs.Pages.{Page}
 use Rattle.im_base_types.specs.Records.{Logged}
 use Rattle.im_theory_log.specs.Copies.{redo_all}
@@ -13,7 +12,10 @@ use Rattle.im_page_pool.specs.Pool.{Held, PoolView, Sets, frame_of, held_of, is_
 use Rattle.im_page_table.specs.declared.table_entry.TableEntry.{TableEntry}
 use Rattle.im_page_table.specs.DirtyTable.{entry_in}
 use Rattle.im_page_rounds.specs.declared.round_page.RoundPage.{RoundPage}
-use Rattle.im_page_rounds.specs.Hand.{AreRedone, AreRising, AreThese, is_applied}
+use Rattle.im_page_rounds.specs.declared.worker.Worker.{Worker}
+use Rattle.im_page_rounds.specs.Hand.{AreRising, is_applied}
+use Rattle.im_page_rounds.specs.Workers.{AreRedone, AreThese, page_in}
+use Rattle.im_page_rounds.proofs.Places.{item_at, page_of}
 use Rattle.im_page_writer.specs.declared.page_writer.PageWriter.{PageWriter}
 use Rattle.im_page_writer.specs.Rounds.{AreShown, IsBack, IsOther, Lends, LendsAll, RoundHere, TakesBack, entry_after}
 
@@ -80,28 +82,21 @@ module _ (pool new : PoolView) (number : ℕ) (frame : Frame) (f : Found pool nu
       sym (ap (held_of new) f.is) ∙ sets.here ∙ ap (λ (n : ℕ). Some (record { place = n; page = x.page.value; changed = changed })) (sym f.place ∙ ap (λ (h : Held). h.place) same)
       ∙ ap (λ (c : Bool). Some (record { place = was.place; page = x.page.value; changed = c })) (marked ∙ ap (λ (c : Bool). c || x.changed) (ap (is_changed pool) f.is ∙ changed_is pool number was held))
 
--- an item is the same, whatever is taken where there is none
-pub same_item : (xs : List RoundPage) (i : ℕ) (d e : RoundPage) → i < length xs → get_or xs i d ≡ get_or xs i e
-same_item [] i d e lt = absurd (omega (arith, lt))
-same_item (x ∷ xs) zero d e lt = refl
-same_item (x ∷ xs) (suc i) d e lt = same_item xs i d e (omega (arith, lt))
-
 -- ---- loans
 
-pub lends_none : (numbers : List ℕ) (hand : List RoundPage) (pool : PoolView) → LendsAll numbers 0 hand pool pool
-lends_none numbers hand pool = record { these = λ i d lt. absurd (omega (arith, lt)); others = λ q other. refl; frames = refl }
+pub lends_none : (numbers : List ℕ) (page : ℕ → RoundPage) (pool : PoolView) → LendsAll numbers 0 page pool pool
+lends_none numbers page pool = record { these = λ i lt. absurd (omega (arith, lt)); others = λ q other. refl; frames = refl }
 
-pub lends_more : (numbers : List ℕ) (n : ℕ) (hand : List RoundPage) (x : RoundPage) (old mid new : PoolView) → AreRising numbers → n < length numbers → n < length hand → LendsAll numbers n hand old mid
-    → Lends (slice_index_or numbers n 0) x mid new → ((q : ℕ) → q ≢ slice_index_or numbers n 0 → held_of new q ≡ held_of mid q) → new.frames ≡ mid.frames → LendsAll numbers (n + 1) (slice_set hand n x) old new
-lends_more numbers n hand x old mid new rising within room so one others frames = record {
-  these = λ i d lt. elim (cases_eq i n) [
-    | inl e ↦ subst (λ (k : ℕ). Lends (slice_index_or numbers k 0) (get_or (slice_set hand n x) k d) old new) (sym e)
-        (subst (λ (y : RoundPage). Lends (slice_index_or numbers n 0) y old new) (sym (get_or-set_same hand n x d room))
-        (record { was = one.was; held = sym (so.others (slice_index_or numbers n 0) (other_before numbers n rising within)) ∙ one.held; out = one.out; unchanged = one.unchanged; spare = one.spare; now = one.now }))
+pub lends_more : (numbers : List ℕ) (n : ℕ) (page next : ℕ → RoundPage) (old mid new : PoolView) → AreRising numbers → n < length numbers → LendsAll numbers n page old mid → Lends (slice_index_or numbers n 0) (next n) mid new
+    → ((i : ℕ) → i ≢ n → next i ≡ page i) → ((q : ℕ) → q ≢ slice_index_or numbers n 0 → held_of new q ≡ held_of mid q) → new.frames ≡ mid.frames → LendsAll numbers (n + 1) next old new
+lends_more numbers n page next old mid new rising within so one kept others frames = record {
+  these = λ i lt. elim (cases_eq i n) [
+    | inl e ↦ subst (λ (k : ℕ). Lends (slice_index_or numbers k 0) (next k) old new) (sym e)
+        (record { was = one.was; held = sym (so.others (slice_index_or numbers n 0) (other_before numbers n rising within)) ∙ one.held; out = one.out; unchanged = one.unchanged; spare = one.spare; now = one.now })
     | inr ne ↦
         (let low : i < n = omega (arith, lt, ne) in
-        let l = so.these i d low in
-        subst (λ (y : RoundPage). Lends (slice_index_or numbers i 0) y old new) (sym (get_or-set_other hand n i x d ne))
+        let l = so.these i low in
+        subst (λ (y : RoundPage). Lends (slice_index_or numbers i 0) y old new) (sym (kept i ne))
         (record { was = l.was; held = l.held; out = l.out; unchanged = l.unchanged; spare = l.spare; now = others (slice_index_or numbers i 0) (differ numbers i n rising (omega (arith, low, within)) within ne) ∙ l.now }))
   ];
   others = λ q other. others q (λ e. other n (omega arith) (sym e)) ∙ so.others q (fewer numbers n q other);
@@ -110,29 +105,29 @@ lends_more numbers n hand x old mid new rising within room so one others frames 
 
 -- ---- pages that come back
 
-pub back_none : (numbers : List ℕ) (point : ℕ) (known : ℕ → Bool) (hand : List RoundPage) (pool : PoolView) (table : List TableEntry) → TakesBack numbers 0 point known hand pool pool table table
-back_none numbers point known hand pool table = record { these = λ i d was lt. absurd (omega (arith, lt)); others = λ q other. refl; entries = λ i d lt. absurd (omega (arith, lt)); other_entries = λ q other. refl; frames = refl }
+pub back_none : (numbers : List ℕ) (point : ℕ) (known : ℕ → Bool) (page : ℕ → RoundPage) (pool : PoolView) (table : List TableEntry) → TakesBack numbers 0 point known page pool pool table table
+back_none numbers point known page pool table = record { these = λ i was lt. absurd (omega (arith, lt)); others = λ q other. refl; entries = λ i lt. absurd (omega (arith, lt)); other_entries = λ q other. refl; frames = refl }
 
-module _ (numbers : List ℕ) (n point : ℕ) (known : ℕ → Bool) (hand : List RoundPage) (x : RoundPage) (old mid new : PoolView) (one two three : List TableEntry) (rising : AreRising numbers) (within : n < length numbers)
-    (so : TakesBack numbers n point known hand old mid one two) (is : (d : RoundPage) → get_or hand n d ≡ x)
+module _ (numbers : List ℕ) (n point : ℕ) (known : ℕ → Bool) (page : ℕ → RoundPage) (x : RoundPage) (old mid new : PoolView) (one two three : List TableEntry) (rising : AreRising numbers) (within : n < length numbers)
+    (so : TakesBack numbers n point known page old mid one two) (is : page n ≡ x)
     (back : (was : Held) → held_of mid (slice_index_or numbers n 0) ≡ Some was → IsBack was x new (slice_index_or numbers n 0))
     (others : (q : ℕ) → q ≢ slice_index_or numbers n 0 → held_of new q ≡ held_of mid q)
     (entry : entry_in three (slice_index_or numbers n 0) ≡ entry_after x.changed (known (slice_index_or numbers n 0)) point (entry_in two (slice_index_or numbers n 0)))
     (other_entries : (q : ℕ) → q ≢ slice_index_or numbers n 0 → entry_in three q ≡ entry_in two q) (frames : new.frames ≡ mid.frames) where
-  pub back_more : TakesBack numbers (n + 1) point known hand old new one three
+  pub back_more : TakesBack numbers (n + 1) point known page old new one three
   back_more = record {
-    these = λ i d was lt held. elim (cases_eq i n) [
-      | inl e ↦ subst (λ (k : ℕ). IsBack was (get_or hand k d) new (slice_index_or numbers k 0)) (sym e)
-          (subst (λ (y : RoundPage). IsBack was y new (slice_index_or numbers n 0)) (sym (is d))
+    these = λ i was lt held. elim (cases_eq i n) [
+      | inl e ↦ subst (λ (k : ℕ). IsBack was (page k) new (slice_index_or numbers k 0)) (sym e)
+          (subst (λ (y : RoundPage). IsBack was y new (slice_index_or numbers n 0)) (sym is)
           (back was (so.others (slice_index_or numbers n 0) (other_before numbers n rising within) ∙ subst (λ (k : ℕ). held_of old (slice_index_or numbers k 0) ≡ Some was) e held)))
-      | inr ne ↦ (let low : i < n = omega (arith, lt, ne) in others (slice_index_or numbers i 0) (differ numbers i n rising (omega (arith, low, within)) within ne) ∙ so.these i d was low held)
+      | inr ne ↦ (let low : i < n = omega (arith, lt, ne) in others (slice_index_or numbers i 0) (differ numbers i n rising (omega (arith, low, within)) within ne) ∙ so.these i was low held)
     ];
     others = λ q other. others q (λ e. other n (omega arith) (sym e)) ∙ so.others q (fewer numbers n q other);
-    entries = λ i d lt. elim (cases_eq i n) [
-      | inl e ↦ subst (λ (k : ℕ). entry_in three (slice_index_or numbers k 0) ≡ entry_after (get_or hand k d).changed (known (slice_index_or numbers k 0)) point (entry_in one (slice_index_or numbers k 0))) (sym e)
-          (subst (λ (y : RoundPage). entry_in three (slice_index_or numbers n 0) ≡ entry_after y.changed (known (slice_index_or numbers n 0)) point (entry_in one (slice_index_or numbers n 0))) (sym (is d))
+    entries = λ i lt. elim (cases_eq i n) [
+      | inl e ↦ subst (λ (k : ℕ). entry_in three (slice_index_or numbers k 0) ≡ entry_after (page k).changed (known (slice_index_or numbers k 0)) point (entry_in one (slice_index_or numbers k 0))) (sym e)
+          (subst (λ (y : RoundPage). entry_in three (slice_index_or numbers n 0) ≡ entry_after y.changed (known (slice_index_or numbers n 0)) point (entry_in one (slice_index_or numbers n 0))) (sym is)
           (entry ∙ ap (entry_after x.changed (known (slice_index_or numbers n 0)) point) (so.other_entries (slice_index_or numbers n 0) (other_before numbers n rising within))))
-      | inr ne ↦ (let low : i < n = omega (arith, lt, ne) in other_entries (slice_index_or numbers i 0) (differ numbers i n rising (omega (arith, low, within)) within ne) ∙ so.entries i d low)
+      | inr ne ↦ (let low : i < n = omega (arith, lt, ne) in other_entries (slice_index_or numbers i 0) (differ numbers i n rising (omega (arith, low, within)) within ne) ∙ so.entries i low)
     ];
     other_entries = λ q other. other_entries q (λ e. other n (omega arith) (sym e)) ∙ so.other_entries q (fewer numbers n q other);
     frames = frames ∙ so.frames;
@@ -141,37 +136,34 @@ module _ (numbers : List ℕ) (n point : ℕ) (known : ℕ → Bool) (hand : Lis
 -- ---- a round, its pages held
 
 -- what is lent are the pages
-pub lent_these : (numbers : List ℕ) (hand : List RoundPage) (old new : PoolView) (g : ℕ → Page) → AreShown numbers old g → LendsAll numbers (length numbers) hand old new → AreThese numbers hand g (λ q. false)
-lent_these numbers hand old new g shown lends i d lt = let l = lends.these i d lt in record { page = l.out ∙ shown i l.was lt l.held; changed = l.unchanged }
+pub lent_these : (numbers : List ℕ) (workers : List Worker) (old new : PoolView) (g : ℕ → Page) → AreShown numbers old g → ((w : Worker) (d : RoundPage) → LendsAll numbers (length numbers) (λ i. page_in workers i w d) old new) → AreThese numbers workers g (λ q. false)
+lent_these numbers workers old new g shown lends i w d lt = let l = (lends w d).these i lt in record { page = l.out ∙ shown i l.was lt l.held; changed = l.unchanged }
 
 pub shown_here : (numbers : List ℕ) (pool : PoolView) → AreShown numbers pool (page_at pool)
 shown_here numbers pool i h lt held = sym (held_page pool (slice_index_or numbers i 0) h held)
 
--- one of some
-any : (hand : List RoundPage) → 1 ≤ length hand → RoundPage
-any [] some = absurd (omega (arith, some))
-any (x ∷ hand) some = x
-
 -- lent, redone, and taken back
-pub round_back : (numbers : List ℕ) (point : ℕ) (known : ℕ → Bool) (rs : List Logged) (old new : PageWriter) (mid : PoolView) (table : List TableEntry) (lent redone : List RoundPage) (count : ℕ) → length numbers ≤ length lent → LendsAll numbers (length numbers) lent old.pool mid
-    → AreRedone numbers rs (page_at old.pool) (λ q. false) count redone → table ≡ old.table → TakesBack numbers (length numbers) point known redone mid new.pool table new.table → RoundHere numbers point known rs old new
-round_back numbers point known rs old new mid table lent redone count few lends done same back = record {
+pub round_back : (numbers : List ℕ) (point : ℕ) (known : ℕ → Bool) (rs : List Logged) (old new : PageWriter) (mid : PoolView) (table : List TableEntry) (lent redone : List Worker) (count : ℕ) → 0 < length lent
+    → ((w : Worker) (d : RoundPage) → LendsAll numbers (length numbers) (λ i. page_in lent i w d) old.pool mid) → AreRedone numbers rs (page_at old.pool) (λ q. false) count redone → table ≡ old.table
+    → ((w : Worker) (d : RoundPage) → TakesBack numbers (length numbers) point known (λ i. page_in redone i w d) mid new.pool table new.table) → RoundHere numbers point known rs old new
+round_back numbers point known rs old new mid table lent redone count some lends done same back = record {
   among = done.among;
   these = λ i lt.
       let p : ℕ = slice_index_or numbers i 0 in
-      let d = any lent (omega (arith, few, lt)) in
-      let l = lends.these i d lt in
-      let is = done.pages i d lt in
-      let page : (get_or redone i d).page.value ≡ redo_all rs p l.was.page = is.page ∙ ap (redo_all rs p) (held_page old.pool p l.was l.held) in
-      let changed : (get_or redone i d).changed ≡ is_applied rs p l.was.page = is.changed ∙ ap (is_applied rs p) (held_page old.pool p l.was l.held) in
+      let w : Worker = item_at lent 0 some in
+      let d : RoundPage = page_of w in
+      let l = (lends w d).these i lt in
+      let is = done.pages i w d lt in
+      let page : (page_in redone i w d).page.value ≡ redo_all rs p l.was.page = is.page ∙ ap (redo_all rs p) (held_page old.pool p l.was l.held) in
+      let changed : (page_in redone i w d).changed ≡ is_applied rs p l.was.page = is.changed ∙ ap (is_applied rs p) (held_page old.pool p l.was l.held) in
       record {
         was = l.was;
         held = l.held;
-        now = back.these i d (record l.was { page = l.spare }) lt l.now
-            ∙ ap (λ (g : Page). Some (record l.was { page = g; changed = l.was.changed || (get_or redone i d).changed })) page
+        now = (back w d).these i (record l.was { page = l.spare }) lt l.now
+            ∙ ap (λ (g : Page). Some (record l.was { page = g; changed = l.was.changed || (page_in redone i w d).changed })) page
             ∙ ap (λ (c : Bool). Some (record l.was { page = redo_all rs p l.was.page; changed = l.was.changed || c })) changed;
-        entry = back.entries i d lt ∙ ap (λ (c : Bool). entry_after c (known p) point (entry_in table p)) changed ∙ ap (λ (t : List TableEntry). entry_after (is_applied rs p l.was.page) (known p) point (entry_in t p)) same;
+        entry = (back w d).entries i lt ∙ ap (λ (c : Bool). entry_after c (known p) point (entry_in table p)) changed ∙ ap (λ (t : List TableEntry). entry_after (is_applied rs p l.was.page) (known p) point (entry_in t p)) same;
       };
-  others = λ q other. back.others q other ∙ lends.others q other;
-  other_entries = λ q other. back.other_entries q other ∙ ap (λ (t : List TableEntry). entry_in t q) same;
+  others = λ q other. let w : Worker = item_at lent 0 some in (back w (page_of w)).others q other ∙ (lends w (page_of w)).others q other;
+  other_entries = λ q other. let w : Worker = item_at lent 0 some in (back w (page_of w)).other_entries q other ∙ ap (λ (t : List TableEntry). entry_in t q) same;
 }

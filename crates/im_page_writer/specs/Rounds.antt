@@ -1,5 +1,5 @@
 -- What a round of redo keeps: its pages lent, changed by its records, and taken back.
-use Rattle.std.specs.Prelude.{◌≡◌, ◌≢◌, ◌<◌, ◌≤◌, ◌+◌, ◌||◌, ℕ, List, length, slice_index_or, get_or, Bool, true, false, if◌then◌else◌, Some, Option, Result, IfErr, IfOk, OnOk}
+use Rattle.std.specs.Prelude.{◌≡◌, ◌≢◌, ◌<◌, ◌≤◌, ◌+◌, ◌||◌, ℕ, List, length, slice_index_or, Bool, true, false, if◌then◌else◌, Some, Option, Result, IfErr, IfOk, OnOk}
 use Rattle.std.specs.Map.{keys_of}
 use Rattle.im_base_types.specs.declared.fault.Fault.{Fault}
 use Rattle.im_base_types.specs.declared.fault.Fault.TheVariants.{NotAStore}
@@ -38,8 +38,8 @@ pub record Lends (number : ℕ) (x : RoundPage) (old new : PoolView) : Type 0 wh
   pub now : held_of new number ≡ Some (record was { page = spare })
 
 -- The first so many of these pages are lent, and each other is as it was.
-pub record LendsAll (numbers : List ℕ) (n : ℕ) (hand : List RoundPage) (old new : PoolView) : Type 0 where
-  pub these : (i : ℕ) (d : RoundPage) → i < n → Lends (slice_index_or numbers i 0) (get_or hand i d) old new
+pub record LendsAll (numbers : List ℕ) (n : ℕ) (page : ℕ → RoundPage) (old new : PoolView) : Type 0 where
+  pub these : (i : ℕ) → i < n → Lends (slice_index_or numbers i 0) (page i) old new
   pub others : (q : ℕ) → IsOther numbers n q → held_of new q ≡ held_of old q
   pub frames : new.frames ≡ old.frames
 
@@ -52,10 +52,10 @@ abbrev pub entry_after : Bool → Bool → ℕ → Option DirtyEntry → Option 
 entry_after changed known point e = if changed then Some (at_point (known || is_copied e) point) else e
 
 -- The first so many of these pages are taken back, and each other is as it was.
-pub record TakesBack (numbers : List ℕ) (n point : ℕ) (known : ℕ → Bool) (hand : List RoundPage) (old new : PoolView) (old_table new_table : List TableEntry) : Type 0 where
-  pub these : (i : ℕ) (d : RoundPage) (was : Held) → i < n → held_of old (slice_index_or numbers i 0) ≡ Some was → IsBack was (get_or hand i d) new (slice_index_or numbers i 0)
+pub record TakesBack (numbers : List ℕ) (n point : ℕ) (known : ℕ → Bool) (page : ℕ → RoundPage) (old new : PoolView) (old_table new_table : List TableEntry) : Type 0 where
+  pub these : (i : ℕ) (was : Held) → i < n → held_of old (slice_index_or numbers i 0) ≡ Some was → IsBack was (page i) new (slice_index_or numbers i 0)
   pub others : (q : ℕ) → IsOther numbers n q → held_of new q ≡ held_of old q
-  pub entries : (i : ℕ) (d : RoundPage) → i < n → entry_in new_table (slice_index_or numbers i 0) ≡ entry_after (get_or hand i d).changed (known (slice_index_or numbers i 0)) point (entry_in old_table (slice_index_or numbers i 0))
+  pub entries : (i : ℕ) → i < n → entry_in new_table (slice_index_or numbers i 0) ≡ entry_after (page i).changed (known (slice_index_or numbers i 0)) point (entry_in old_table (slice_index_or numbers i 0))
   pub other_entries : (q : ℕ) → IsOther numbers n q → entry_in new_table q ≡ entry_in old_table q
   pub frames : new.frames ≡ old.frames
 

@@ -38,7 +38,8 @@
 //!   redo point on.
 //! - `redo_round` does so for a round: records one after another, whose bytes stand in one part of the log, with the pages that they are
 //!   of, no more than there are frames. Room is made for the entries of all of them, each page is got, and then they are lent in
-//!   exchange for spare pages, changed by the records (`redo_records` of im_page_rounds) and taken back. No call of the disk comes in between.
+//!   exchange for spare pages, changed by the records (`redo_records` of im_page_rounds) by any number of workers and taken back. No call
+//!   of the disk comes in between.
 //!
 //! A refusal for want of memory, or since a page does not take a record, leaves the writer working. Each other one fails it, and
 //! from then on each call answers `Failed` and calls no disk (`fails`, `already`).
@@ -57,7 +58,7 @@
 //! leaves what redo can start from. A call that flushes on its way leaves each page as it was, and the log with Images more (`Keeps`).
 //! What a stop leaves holds after a refusal too, and after one that leaves the writer working it stands as before (`again`).
 //!
-//! It stands on the log, on pages and their file, on the dirty table, on rounds, on the pool and on the disk.
+//! It stands on the log, on pages and their file, on the dirty table, on rounds and their workers, on the pool and on the disk.
 #![tactic(auto)]
 
 mod flush;

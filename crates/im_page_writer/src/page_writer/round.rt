@@ -1,5 +1,5 @@
 //! A round of redo: its pages are got, lent, changed by its records, and taken back.
-ghost use Rattle.std.specs.Prelude.{◌≡◌, ◌≢◌, ◌≤◌, ◌<◌, ◌+◌, ◌++◌, ◌⊎◌, ◌||◌, ℕ, List, Bool, None, Ok, true, false, is_some, length, IfErr, IfOk, OnOk};
+ghost use Rattle.std.specs.Prelude.{◌≡◌, ◌≢◌, ◌≤◌, ◌<◌, ◌+◌, ◌/◌, ◌%◌, ◌++◌, ◌⊎◌, ◌||◌, ℕ, List, Bool, None, Ok, true, false, get_or, is_some, length, vec_len, IfErr, IfOk, OnOk};
 ghost use Rattle.std.specs.BTreeMap.{get};
 ghost use Rattle.std.specs.Ordering.{nat_cmp};
 ghost use Rattle.im_base_types.specs.declared.fault.Fault.TheVariants.{Memory, NotAStore};
@@ -10,9 +10,11 @@ ghost use Rattle.im_theory_log.specs.Writer.{Writer};
 
 use crate::PageWriter;
 use im_base_disk::Disk;
+use im_base_steps::Turn;
 use im_base_types::{Fault, Lsn, MOST_DIRTY, PageNo};
-use im_page_rounds::{RoundPage, redo_records};
+use im_page_rounds::{RoundPage, Worker, redo_records};
 use std::collections::BTreeMap;
+use std::thread::Threads;
 
 // Whether a copy of a page is noted.
 fn is_noted(copies: &BTreeMap<PageNo, Lsn>, number: PageNo) -> bool
@@ -32,7 +34,10 @@ impl PageWriter {
     ghost use Rattle.im_base_types.specs.Pages.{Page};
     ghost use Rattle.im_page_pool.specs.Pool.{Held, held_of};
     ghost use Rattle.im_page_table.specs.DirtyTable.{entry_in};
+    ghost use Rattle.im_page_rounds.specs.declared.round_page.RoundPage.{RoundPage};
+    ghost use Rattle.im_page_rounds.specs.declared.worker.Worker.{Worker};
     ghost use Rattle.im_page_rounds.specs.Hand.{AllTaken, AreRising, StandIn};
+    ghost use Rattle.im_page_rounds.specs.Workers.{HaveRoom, SameRoom, page_in};
     ghost use Rattle.im_page_rounds.specs.Rounds.{AreFrom, HaveHad, applied_of_all, changing};
     ghost use Rattle.im_page_writer.specs.Outcome.{fault_of, mild, AllPages, AreLoaded, Flushes, HasPages, Reads, Redoes};
     ghost use Rattle.im_page_writer.specs.PageWriter.{IsReadyWriter, StandsAs};
@@ -195,12 +200,64 @@ impl PageWriter {
         }
     }
 
-    // Lends held pages, each in exchange for a spare one.
-    fn lend_all(&mut self, numbers: &[PageNo], pages: &mut [RoundPage]) -> Result<(), Fault>
-        requires few { length numbers.now ≤ length pages.old }
+    // Lends a held page to the worker that has the page at this place of the round.
+    fn lend_to(&mut self, number: PageNo, workers: &mut [Worker], i: usize) -> Result<(), Fault>
+        requires some { 0 < length workers.old }
+        requires room { (w : Worker) → i / length workers.old < vec_len (get_or workers.old (i % length workers.old) w).pages }
+        ensures lent { OnOk result ((w : Worker) (d : RoundPage) → Lends number (page_in workers.new i w d) self.old.pool self.new.pool) }
+        ensures kept { (j : ℕ) (w : Worker) (d : RoundPage) → j ≢ i → page_in workers.new j w d ≡ page_in workers.old j w d }
+        ensures room { SameRoom workers.old workers.new }
+        ensures others { OnOk result ((q : ℕ) → q ≢ number → held_of self.new.pool q ≡ held_of self.old.pool q) }
+        ensures frames { self.new.pool.frames ≡ self.old.pool.frames }
+        ensures log { self.new.log ≡ self.old.log }
+        ensures table { self.new.table ≡ self.old.table }
+        ensures known { self.new.known ≡ self.old.known }
+        ensures failed { self.new.failed ≡ self.old.failed }
+        ensures refused { IfErr result (λ e. e ≡ Memory) }
+    {
+        let count = workers.len();
+        self.lend(number, &mut workers[i % count].pages[i / count])
+    }
+
+    // Takes a page back from the worker that has the page at this place of the round.
+    fn take_from(
+        &mut self,
+        point: Lsn,
+        number: PageNo,
+        copied: bool,
+        workers: &mut [Worker],
+        i: usize,
+    ) -> Result<(), Fault>
+        requires some { 0 < length workers.old }
+        requires room { (w : Worker) → i / length workers.old < vec_len (get_or workers.old (i % length workers.old) w).pages }
+        ensures back { (was : Held) (w : Worker) (d : RoundPage) → held_of self.old.pool number ≡ Some was → OnOk result (IsBack was (page_in workers.old i w d) self.new.pool number) }
+        ensures kept { (j : ℕ) (w : Worker) (d : RoundPage) → j ≢ i → page_in workers.new j w d ≡ page_in workers.old j w d }
+        ensures room { SameRoom workers.old workers.new }
+        ensures others { OnOk result ((q : ℕ) → q ≢ number → held_of self.new.pool q ≡ held_of self.old.pool q) }
+        ensures entry { OnOk result ((w : Worker) (d : RoundPage) → entry_in self.new.table number ≡ entry_after (page_in workers.old i w d).changed copied point (entry_in self.old.table number)) }
+        ensures other_entries { OnOk result ((q : ℕ) → q ≢ number → entry_in self.new.table q ≡ entry_in self.old.table q) }
+        ensures frames { self.new.pool.frames ≡ self.old.pool.frames }
+        ensures log { self.new.log ≡ self.old.log }
+        ensures known { self.new.known ≡ self.old.known }
+        ensures failed { self.new.failed ≡ self.old.failed }
+        ensures refused { IfErr result (λ e. e ≡ Memory) }
+    {
+        let count = workers.len();
+        self.take_back(
+            point,
+            number,
+            copied,
+            &mut workers[i % count].pages[i / count],
+        )
+    }
+
+    // Lends held pages to the workers of the round, each in exchange for a spare one.
+    fn lend_all(&mut self, numbers: &[PageNo], workers: &mut [Worker]) -> Result<(), Fault>
+        requires some { 0 < length workers.old }
+        requires room { HaveRoom (length numbers.now) workers.old }
         requires rising { AreRising numbers.now }
-        ensures lends { OnOk result (LendsAll numbers.now (length numbers.now) pages.new self.old.pool self.new.pool) }
-        ensures length { length pages.new ≡ length pages.old }
+        ensures lends { OnOk result ((w : Worker) (d : RoundPage) → LendsAll numbers.now (length numbers.now) (λ i. page_in workers.new i w d) self.old.pool self.new.pool) }
+        ensures room { SameRoom workers.old workers.new }
         ensures frames { self.new.pool.frames ≡ self.old.pool.frames }
         ensures log { self.new.log ≡ self.old.log }
         ensures table { self.new.table ≡ self.old.table }
@@ -209,7 +266,7 @@ impl PageWriter {
         ensures refused { IfErr result (λ e. e ≡ Memory) }
     {
         for i in 0..numbers.len() {
-            self.lend(numbers[i], &mut pages[i])?;
+            self.lend_to(numbers[i], workers, i)?;
         }
         Ok(())
     }
@@ -220,12 +277,13 @@ impl PageWriter {
         point: Lsn,
         copies: &BTreeMap<PageNo, Lsn>,
         numbers: &[PageNo],
-        pages: &mut [RoundPage],
+        workers: &mut [Worker],
     ) -> Result<(), Fault>
-        requires few { length numbers.now ≤ length pages.old }
+        requires some { 0 < length workers.old }
+        requires room { HaveRoom (length numbers.now) workers.old }
         requires rising { AreRising numbers.now }
-        ensures takes { OnOk result (TakesBack numbers.now (length numbers.now) point (λ q. is_some (get nat_cmp copies.now q)) pages.old self.old.pool self.new.pool self.old.table self.new.table) }
-        ensures length { length pages.new ≡ length pages.old }
+        ensures takes { OnOk result ((w : Worker) (d : RoundPage) → TakesBack numbers.now (length numbers.now) point (λ q. is_some (get nat_cmp copies.now q)) (λ i. page_in workers.old i w d) self.old.pool self.new.pool self.old.table self.new.table) }
+        ensures room { SameRoom workers.old workers.new }
         ensures frames { self.new.pool.frames ≡ self.old.pool.frames }
         ensures log { self.new.log ≡ self.old.log }
         ensures known { self.new.known ≡ self.old.known }
@@ -234,60 +292,67 @@ impl PageWriter {
     {
         for i in 0..numbers.len() {
             let copied = is_noted(copies, numbers[i]);
-            self.take_back(point, numbers[i], copied, &mut pages[i])?;
+            self.take_from(point, numbers[i], copied, workers, i)?;
         }
         Ok(())
     }
 
     // Redoes the records of a round, whose pages are all held. No call of the disk comes between the loan of the pages and their return.
-    fn redo_lent(
+    fn redo_lent<R: Threads + Sync, T: Turn + Sync>(
         &mut self,
+        rt: &R,
+        turn: &T,
         point: Lsn,
         copies: &BTreeMap<PageNo, Lsn>,
         numbers: &[PageNo],
-        pages: &mut [RoundPage],
+        workers: &mut [Worker],
         lsns: &[Lsn],
         from: Lsn,
         span: &[u8],
     ) -> Result<u64, Fault>
-        requires few { length numbers.now ≤ length pages.old }
+        requires some { 0 < length workers.old }
+        requires room { HaveRoom (length numbers.now) workers.old }
         requires rising { AreRising numbers.now }
         ensures here { (rs : List Logged) → StandIn from span.now lsns.now rs → OnOk result (RoundHere numbers.now point (λ q. is_some (get nat_cmp copies.now q)) rs self.old self.new) }
         ensures count { (rs : List Logged) (g : ℕ → Page) → StandIn from span.now lsns.now rs → AreShown numbers.now self.old.pool g → IfOk result (λ n. n ≡ applied_of_all rs g) }
         ensures taken { (rs : List Logged) (g : ℕ → Page) → StandIn from span.now lsns.now rs → AreShown numbers.now self.old.pool g → AllTaken rs g → IfErr result (λ e. e ≢ NotAStore) }
         ensures few { IfOk result (λ n. n ≤ length lsns.now) }
-        ensures length { length pages.new ≡ length pages.old }
+        ensures room { SameRoom workers.old workers.new }
         ensures frames { self.new.pool.frames ≡ self.old.pool.frames }
         ensures log { self.new.log ≡ self.old.log }
         ensures known { self.new.known ≡ self.old.known }
         ensures failed { self.new.failed ≡ self.old.failed }
         ensures causes { IfErr result (λ e. (e ≡ Memory) ⊎ (e ≡ NotAStore)) }
     {
-        self.lend_all(numbers, pages)?;
-        let applied = redo_records(numbers, pages, &mut self.spare, lsns, from, span);
-        self.take_all_back(point, copies, numbers, pages)?;
+        self.lend_all(numbers, workers)?;
+        let applied = redo_records(rt, turn, numbers, workers, lsns, from, span);
+        self.take_all_back(point, copies, numbers, workers)?;
         applied
     }
 
     /// Redoes a round: records of the durable log one after another, at these LSNs, whose bytes stand in a part of the log that begins at
     /// `from`. `numbers` are those of their pages, in rising order, no more than there are frames. Room is made for their entries first,
-    /// then each page is got; then they are lent, changed by the records, and taken back. `pages` has a spare page for each. It answers
-    /// how many records were applied.
+    /// then each page is got; then they are lent to the workers, who have a spare page for each, changed by the records, and taken back:
+    /// page i of the round is worker i's, mod how many workers there are. Each calls `turn` with its number before its first record. It
+    /// answers how many records were applied, which is the same for any number of workers, as are the pages.
     ///
     /// Refused `NotAStore` where a page does not take a record, and `Memory` also where a page is not held or has no room for its entry, which
     /// no sound file brings about; otherwise as `get` is.
-    pub fn redo_round<D: Disk>(
+    pub fn redo_round<D: Disk, R: Threads + Sync, T: Turn + Sync>(
         &mut self,
+        rt: &R,
+        turn: &T,
         disk: &mut D,
         point: Lsn,
         copies: &BTreeMap<PageNo, Lsn>,
         numbers: &[PageNo],
-        pages: &mut [RoundPage],
+        workers: &mut [Worker],
         lsns: &[Lsn],
         from: Lsn,
         span: &[u8],
     ) -> Result<u64, Fault>
-        requires few { length numbers.now ≤ length pages.old }
+        requires some { 0 < length workers.old }
+        requires room { HaveRoom (length numbers.now) workers.old }
         requires rising { AreRising numbers.now }
         requires ready { IsReadyWriter D.Disk self.old disk.old }
         ensures outcome { Redoes D.Disk mild self.old self.new disk.new (fault_of result) }
@@ -295,10 +360,10 @@ impl PageWriter {
             → newer ++ onto rs front ≡ s.durable → AreFrom point rs → HaveHad b front s.pages → StandIn from span.now lsns.now (changing rs)
             → ((p : ℕ) → is_some (get nat_cmp copies.now p) ≡ true → HasCopy s.durable p s.point) → RoundKept D.Disk b base s rs disk.old self.new disk.new result }
         ensures few { IfOk result (λ n. n ≤ length lsns.now) }
-        ensures length { length pages.new ≡ length pages.old }
+        ensures room { SameRoom workers.old workers.new }
     {
         self.make_entries_room(disk, numbers.len())?;
         self.get_all(disk, numbers)?;
-        self.redo_lent(point, copies, numbers, pages, lsns, from, span)
+        self.redo_lent(rt, turn, point, copies, numbers, workers, lsns, from, span)
     }
 }

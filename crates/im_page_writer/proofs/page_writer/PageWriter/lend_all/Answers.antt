@@ -1,20 +1,39 @@
-use Rattle.std.proofs.Common.{◌∙◌, arith, refl, rules}
+use Rattle.std.proofs.Common.{◌≡◌, ◌∙◌, ℕ, length, arith, refl, rules, subst}
+use Rattle.im_page_rounds.specs.Workers.{page_in}
+use Rattle.im_page_rounds.proofs.Places.{room_still, room_then}
+use Rattle.im_page_writer.specs.Rounds.{LendsAll}
 use Rattle.im_page_writer.proofs.Loans.{lends_more, lends_none}
 use Rattle.im_page_writer.proofs.page_writer.PageWriter.lend_all.Goals as goal
 
 pub loop-i-init : goal.loop-i-init
-loop-i-init c = record { lends = lends_none c.args.numbers.now c.args.pages.now c.args.self.now.pool; long = refl; frames = refl; log = refl; table = refl; known = refl; failed = refl }
+loop-i-init c = record {
+  lends = λ w d. lends_none c.args.numbers.now (λ k. page_in c.args.workers.now k w d) c.args.self.now.pool;
+  room = room_still c.args.workers.now;
+  frames = refl;
+  log = refl;
+  table = refl;
+  known = refl;
+  failed = refl;
+}
 
 pub loop-i-preserved : goal.loop-i-preserved
 loop-i-preserved c =
     let l = c.loop-i in
-    let e = c.in_ok-lend.ensures in
+    let e = c.in_ok-lend_to.ensures in
     record {
-      lends = lends_more c.args.numbers.now l.i l.pages _ c.args.self.now.pool l.self.pool c.lend.new.self.pool c.requires.rising (search rules) (search rules) l.invariant.lends e.lent e.others e.frames;
-      long = search rules;
+      lends = λ w d.
+          lends_more c.args.numbers.now l.i (λ k. page_in l.workers k w d) (λ k. page_in c.lend_to.new.workers k w d) c.args.self.now.pool l.self.pool c.lend_to.new.self.pool c.requires.rising (search rules) (l.invariant.lends w d) (e.lent w d)
+          (λ i ne. e.kept i w d ne) e.others e.frames;
+      room = room_then c.args.workers.now l.workers c.lend_to.new.workers l.invariant.room e.room;
       frames = e.frames ∙ l.invariant.frames;
       log = e.log ∙ l.invariant.log;
       table = e.table ∙ l.invariant.table;
       known = e.known ∙ l.invariant.known;
       failed = e.failed ∙ l.invariant.failed;
     }
+
+pub returns-clause-lends : goal.returns-clause-lends
+returns-clause-lends c w d =
+    let l = c.loop-i in
+    let past : l.i ≡ length c.args.numbers.now = omega (arith, l.auto.i-end, c.loop-i-test.false) in
+    subst (λ (n : ℕ). LendsAll c.args.numbers.now n (λ k. page_in l.workers k w d) c.args.self.now.pool l.self.pool) past (l.invariant.lends w d)
