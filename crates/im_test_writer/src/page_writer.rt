@@ -13,8 +13,8 @@ use im_page_writer::PageWriter;
 use std::process::Abort;
 use std::test::Fail;
 
-// Makes a page an empty leaf, by a structure change that is redone: the page is changed, and no copy of it is known.
-fn change<D: Disk>(writer: &mut PageWriter, disk: &mut D, page: PageNo) -> Result<bool, Fault>
+/// Makes a page an empty leaf, by a structure change that is redone: the page is changed, and no copy of it is known.
+pub fn change<D: Disk>(writer: &mut PageWriter, disk: &mut D, page: PageNo) -> Result<bool, Fault>
     requires ready { IsReadyWriter D.Disk writer.old disk.old }
     ensures ready { IsReadyWriter D.Disk writer.new disk.new }
 {
@@ -29,8 +29,8 @@ fn change<D: Disk>(writer: &mut PageWriter, disk: &mut D, page: PageNo) -> Resul
     writer.redo_change(disk, 36, 400, &record, false)
 }
 
-// The same of each page of a range.
-fn change_each<D: Disk>(
+/// The same of each page of a range.
+pub fn change_each<D: Disk>(
     writer: &mut PageWriter,
     disk: &mut D,
     first: PageNo,
