@@ -12,3 +12,4 @@ pub mod RoundsApplied
 pub mod RoundsPassed
 pub mod Windows
 pub mod Within
+mod Rooms

@@ -19,11 +19,13 @@ use crate::round_room::RoundRoom;
 use crate::rounds::redo_some;
 use crate::window::Window;
 use im_base_disk::Disk;
+use im_base_steps::Turn;
 use im_base_types::{Fault, Lsn, PageNo};
 use im_log_record::decode;
 use im_page_writer::PageWriter;
 use im_restart_analysis::Change;
 use std::collections::BTreeMap;
+use std::thread::Threads;
 
 // Whether a copy of a page is noted.
 fn has_copy(copies: &BTreeMap<PageNo, Lsn>, page: PageNo) -> bool
@@ -63,7 +65,9 @@ pub(crate) fn redo_one<D: Disk>(
 }
 
 /// Makes these changes again, round after round, and answers how many pages took theirs.
-pub(crate) fn redo_all<D: Disk>(
+pub(crate) fn redo_all<D: Disk, R: Threads + Sync, T: Turn + Sync>(
+    rt: &R,
+    turn: &T,
     writer: &mut PageWriter,
     disk: &mut D,
     point: Lsn,
@@ -73,7 +77,7 @@ pub(crate) fn redo_all<D: Disk>(
     rounds: &mut RoundRoom,
 ) -> Result<u64, Fault>
     requires room { 16384 ≤ length room.old }
-    requires frames { length rounds.old.pages.items ≤ writer.old.pool.frames }
+    requires frames { rounds.old.most ≤ writer.old.pool.frames }
     requires ready { IsReadyWriter D.Disk writer.old disk.old }
     requires working { writer.old.failed ≡ false }
     ensures outcome { Recovers D.Disk mild writer.old writer.new disk.new (fault_of result) }
@@ -89,6 +93,8 @@ pub(crate) fn redo_all<D: Disk>(
             break;
         }
         let passed = redo_some(
+            rt,
+            turn,
             writer,
             disk,
             point,

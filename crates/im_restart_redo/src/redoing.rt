@@ -1,6 +1,6 @@
 //! Noted copies are loaded, and then the records from the redo point on applied.
 
-ghost use Rattle.std.specs.Prelude.{◌≡◌, ◌≤◌, ℕ, length, Option};
+ghost use Rattle.std.specs.Prelude.{◌≡◌, ◌<◌, ◌≤◌, ℕ, length, Option};
 ghost use Rattle.im_base_types.specs.Pages.{Page};
 ghost use Rattle.im_theory_log.specs.Histories.{Base, History};
 ghost use Rattle.im_theory_log.specs.RedoPoints.{redo_point};
@@ -16,21 +16,25 @@ use crate::copies::load_all;
 use crate::records::redo_all;
 use crate::round_room::RoundRoom;
 use im_base_disk::Disk;
+use im_base_steps::Turn;
 use im_base_types::{Fault, Lsn, PageNo};
 use im_page_writer::PageWriter;
 use im_restart_analysis::Change;
 use std::alloc::Global;
 use std::collections::BTreeMap;
+use std::thread::Threads;
 
 /// Brings the pages of a writer that was just opened to what the whole durable log made of them: the noted copies are loaded in
 /// rising page number, and then the records that change a page, from the redo point on, are applied to their pages, round after
-/// round. `copies` has the LSN of each noted copy, and `changes` those of the records, each with its page. Records are read again into `room`,
+/// round, by so many workers, each of which calls `turn` with its number before its first record of a round: pages and count are the same
+/// for any number. `copies` has the LSN of each noted copy, and `changes` those of the records, each with its page. Records are read again into `room`,
 /// of 16,384 bytes at least. It answers how many records were applied: those that change a page whose LSN was lower than theirs as redo first had it.
 ///
 /// Refused `NotAStore` where a page does not take its record or no such record stands there, `Memory` before the first call of the disk, or
 /// where a record is of another page than its change says; otherwise as the writer's `get` is.
 /// After a refusal redo is not over: the store is to be opened again.
-pub fn redo<D: Disk>(
+pub fn redo<D: Disk, R: Threads + Sync, T: Turn + Sync>(
+    rt: &R,
     alloc: Global,
     writer: &mut PageWriter,
     disk: &mut D,
@@ -38,7 +42,10 @@ pub fn redo<D: Disk>(
     copies: &BTreeMap<PageNo, Lsn>,
     changes: &[Change],
     room: &mut [u8],
+    workers: usize,
+    turn: &T,
 ) -> Result<u64, Fault>
+    requires some { 0 < workers }
     requires room { 16384 ≤ length room.old }
     requires ready { IsReadyWriter D.Disk writer.old disk.old }
     ensures outcome { Recovers D.Disk mild writer.old writer.new disk.new (fault_of result) }
@@ -50,7 +57,9 @@ pub fn redo<D: Disk>(
     if writer.has_failed() {
         return Err(Fault::Failed);
     }
-    let mut rounds = RoundRoom::new(alloc, writer.frames(), changes.len())?;
+    let mut rounds = RoundRoom::new(alloc, writer.frames(), changes.len(), workers)?;
     load_all(writer, disk, point, copies, room)?;
-    redo_all(writer, disk, point, copies, changes, room, &mut rounds)
+    redo_all(
+        rt, turn, writer, disk, point, copies, changes, room, &mut rounds,
+    )
 }

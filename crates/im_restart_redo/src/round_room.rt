@@ -3,13 +3,13 @@
 ghost use Rattle.std.specs.Prelude.{◌≡◌, ◌≤◌, ◌++◌, ◌∷◌, [], true, length, take, IfErr, IfOk, OnErr, OnOk};
 ghost use Rattle.im_base_types.specs.declared.fault.Fault.TheVariants.{Memory};
 ghost use Rattle.im_page_rounds.specs.Hand.{AreRising};
+ghost use Rattle.im_page_rounds.specs.Workers.{HaveRoom};
 ghost use Rattle.im_restart_redo.specs.Changes.{lsns_of};
 ghost use Rattle.im_restart_redo.specs.Rounds.{AreWhole, IsWholeAt};
 
 use im_base_types::{Fault, Lsn, PageNo};
 use im_log::whole_size;
-use im_page::Page;
-use im_page_rounds::RoundPage;
+use im_page_rounds::{Worker, workers_for};
 use im_restart_analysis::Change;
 use std::alloc::Global;
 
@@ -19,36 +19,16 @@ const MOST_PAGES: usize = 256;
 // How many changes a round has at most.
 const MOST_CHANGES: usize = 4_096;
 
-/// The numbers of a round's pages, in rising order, the LSNs of its records, and a spare page for each page that it may have.
+/// The numbers of a round's pages, in rising order, the LSNs of its records, how many pages it may have at most, and its workers, who have
+/// room for so many.
 #[derive(Drop)]
 pub(crate) struct RoundRoom {
     pub numbers: Vec<PageNo>,
     pub lsns: Vec<Lsn>,
-    pub pages: Vec<RoundPage>,
-}
-
-// A spare page.
-fn spare(alloc: Global) -> Result<RoundPage, Fault>
-    ensures refused { IfErr result (λ e. e ≡ Memory) }
-{
-    let page = Box::new(alloc, Page::initial(0)).map_err(|_| Fault::Memory)?;
-    Ok(RoundPage {
-        page,
-        changed: false,
-    })
-}
-
-// So many spare pages.
-fn spares(alloc: Global, count: usize) -> Result<Vec<RoundPage>, Fault>
-    ensures few { IfOk result (λ pages. length pages.items ≤ count) }
-    ensures refused { IfErr result (λ e. e ≡ Memory) }
-{
-    let mut pages = Vec::with_capacity(alloc, count).map_err(|_| Fault::Memory)?;
-    for _page in 0..count {
-        let page = spare(alloc)?;
-        pages.push(page).map_err(|_| Fault::Memory)?;
-    }
-    Ok(pages)
+    pub most: usize,
+    pub workers: Vec<Worker>,
+    ghost some: { 0 < vec_len workers },
+    ghost room: { HaveRoom most workers.items },
 }
 
 // Whether each number is less than those after it.
@@ -74,32 +54,34 @@ pub(crate) fn is_whole_at(lsn: Lsn, from: Lsn, span: &[u8]) -> bool
 }
 
 impl RoundRoom {
-    /// Room for the rounds of so many changes over a pool of so many frames. Refused `Memory`.
-    pub fn new(alloc: Global, frames: usize, changes: usize) -> Result<Self, Fault>
-        ensures few { IfOk result (λ r. length r.pages.items ≤ frames) }
+    /// Room for the rounds of so many changes over a pool of so many frames, with so many workers. Refused `Memory`.
+    pub fn new(alloc: Global, frames: usize, changes: usize, workers: usize) -> Result<Self, Fault>
+        requires { 0 < workers }
+        ensures few { IfOk result (λ r. r.most ≤ frames) }
         ensures refused { IfErr result (λ e. e ≡ Memory) }
     {
-        let pages = frames.min(MOST_PAGES).min(changes);
-        let numbers = Vec::with_capacity(alloc, pages).map_err(|_| Fault::Memory)?;
+        let most = frames.min(MOST_PAGES).min(changes);
+        let numbers = Vec::with_capacity(alloc, most).map_err(|_| Fault::Memory)?;
         let lsns = Vec::with_capacity(alloc, changes.min(MOST_CHANGES)).map_err(|_| Fault::Memory)?;
-        let pages = spares(alloc, pages)?;
+        let workers = workers_for(alloc, workers, most)?;
         Ok(RoundRoom {
             numbers,
             lsns,
-            pages,
+            most,
+            workers,
         })
     }
 
     // Whether the round has the page, or takes it.
     fn takes(&mut self, page: PageNo) -> Result<bool, Fault>
-        ensures pages { self.new.pages ≡ self.old.pages }
+        ensures most { self.new.most ≡ self.old.most }
         ensures lsns { self.new.lsns ≡ self.old.lsns }
         ensures refused { IfErr result (λ e. e ≡ Memory) }
     {
         match self.numbers.binary_search(&page) {
             Ok(_) => Ok(true),
             Err(at) => {
-                if self.numbers.len() >= self.pages.len() {
+                if self.numbers.len() >= self.most {
                     return Ok(false);
                 }
                 self.numbers.insert(at, page).map_err(|_| Fault::Memory)?;
@@ -110,7 +92,7 @@ impl RoundRoom {
 
     // Notes one LSN more.
     fn keep(&mut self, lsn: Lsn) -> Result<(), Fault>
-        ensures pages { self.new.pages ≡ self.old.pages }
+        ensures most { self.new.most ≡ self.old.most }
         ensures numbers { self.new.numbers ≡ self.old.numbers }
         ensures lsns { OnOk result (self.new.lsns.items ≡ self.old.lsns.items ++ lsn ∷ []) }
         ensures same { OnErr result (self.new.lsns.items ≡ self.old.lsns.items) }
@@ -122,7 +104,7 @@ impl RoundRoom {
     // Notes the pages and LSNs of as many changes, from the first on, as stand as wholes in a part of the log, and are of no more pages
     // than a round may have.
     fn note(&mut self, from: Lsn, span: &[u8], changes: &[Change]) -> Result<(), Fault>
-        ensures pages { self.new.pages ≡ self.old.pages }
+        ensures most { self.new.most ≡ self.old.most }
         ensures within { length self.new.lsns.items ≤ length changes.now }
         ensures lsns { self.new.lsns.items ≡ take (length self.new.lsns.items) (lsns_of changes.now) }
         ensures whole { AreWhole from span.now self.new.lsns.items }
@@ -146,16 +128,16 @@ impl RoundRoom {
     /// Notes which of these changes, from the first on, are one round: as many as stand as wholes in a part of the log that begins at
     /// `from`, and are of no more pages than a round may have. Refused `Memory`.
     pub fn plan(&mut self, from: Lsn, span: &[u8], changes: &[Change]) -> Result<(), Fault>
-        ensures pages { self.new.pages ≡ self.old.pages }
+        ensures most { self.new.most ≡ self.old.most }
         ensures within { length self.new.lsns.items ≤ length changes.now }
         ensures lsns { self.new.lsns.items ≡ take (length self.new.lsns.items) (lsns_of changes.now) }
         ensures whole { AreWhole from span.now self.new.lsns.items }
         ensures rising { OnOk result (AreRising self.new.numbers.items) }
-        ensures few { OnOk result (length self.new.numbers.items ≤ length self.new.pages.items) }
+        ensures few { OnOk result (length self.new.numbers.items ≤ self.new.most) }
         ensures refused { IfErr result (λ e. e ≡ Memory) }
     {
         self.note(from, span, changes)?;
-        if self.numbers.len() > self.pages.len() || !are_rising(&self.numbers) {
+        if self.numbers.len() > self.most || !are_rising(&self.numbers) {
             return Err(Fault::Memory);
         }
         Ok(())

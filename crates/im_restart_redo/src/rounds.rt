@@ -22,10 +22,12 @@ use crate::records::redo_one;
 use crate::round_room::{RoundRoom, is_whole_at};
 use crate::window::Window;
 use im_base_disk::Disk;
+use im_base_steps::Turn;
 use im_base_types::{Fault, Lsn, PageNo};
 use im_page_writer::PageWriter;
 use im_restart_analysis::Change;
 use std::collections::BTreeMap;
+use std::thread::Threads;
 
 /// How many changes redo went past, and how many of their records it applied.
 #[derive(Clone, Copy)]
@@ -105,12 +107,12 @@ fn plan_round<D: Disk>(
     ensures reads { Reads D.Disk disk.old disk.new }
     ensures room { length room.new ≡ length room.old }
     ensures used { window.new.used ≤ length room.new }
-    ensures pages { rounds.new.pages ≡ rounds.old.pages }
+    ensures most { rounds.new.most ≡ rounds.old.most }
     ensures within { OnOk result (length rounds.new.lsns.items ≤ length changes.now) }
     ensures lsns { OnOk result (rounds.new.lsns.items ≡ take (length rounds.new.lsns.items) (lsns_of changes.now)) }
     ensures whole { OnOk result (AreWhole window.new.from (take window.new.used room.new) rounds.new.lsns.items) }
     ensures rising { OnOk result (AreRising rounds.new.numbers.items) }
-    ensures few { OnOk result (length rounds.new.numbers.items ≤ length rounds.new.pages.items) }
+    ensures few { OnOk result (length rounds.new.numbers.items ≤ rounds.new.most) }
 {
     rounds.plan(window.from, &room[..window.used], changes)?;
     if has_all(*window, room, rounds.lsns.len(), changes) {
@@ -121,7 +123,10 @@ fn plan_round<D: Disk>(
 }
 
 // Redoes the round that was planned, of no more pages than there are frames, and answers how many of its records were applied.
-fn redo_planned<D: Disk>(
+#[tactic(auto, using(crate::proofs::Rooms::room_fewer, im_page_rounds::proofs::Places::room_same, im_page_rounds::proofs::Places::some_on))]
+fn redo_planned<D: Disk, R: Threads + Sync, T: Turn + Sync>(
+    rt: &R,
+    turn: &T,
     writer: &mut PageWriter,
     disk: &mut D,
     point: Lsn,
@@ -133,11 +138,11 @@ fn redo_planned<D: Disk>(
     requires some { 0 < length rounds.old.lsns.items }
     requires used { window.used ≤ length room.now }
     requires rising { AreRising rounds.old.numbers.items }
-    requires few { length rounds.old.numbers.items ≤ length rounds.old.pages.items }
-    requires frames { length rounds.old.pages.items ≤ writer.old.pool.frames }
+    requires few { length rounds.old.numbers.items ≤ rounds.old.most }
+    requires frames { rounds.old.most ≤ writer.old.pool.frames }
     requires ready { IsReadyWriter D.Disk writer.old disk.old }
     ensures outcome { Recovers D.Disk mild writer.old writer.new disk.new (fault_of result) }
-    ensures pages { length rounds.new.pages.items ≡ length rounds.old.pages.items }
+    ensures most { rounds.new.most ≡ rounds.old.most }
     ensures applied { IfOk result (λ n. n ≤ length rounds.old.lsns.items) }
     ensures kept { (b : Base) (base : ℕ) (begun : History) (file : ℕ → Option Page) (from : D) (lsns : List ℕ) (count : ℕ) → IsApplying D.Disk b base begun file lsns count from writer.old disk.old
         → length rounds.old.lsns.items ≤ length lsns → rounds.old.lsns.items ≡ take (length rounds.old.lsns.items) lsns → AreWhole window.from (take window.used room.now) rounds.old.lsns.items
@@ -145,11 +150,13 @@ fn redo_planned<D: Disk>(
         → RedoSound D.Disk b base begun (λ n. IsApplying D.Disk b base begun file (drop (length rounds.old.lsns.items) lsns) (count + n) from writer.new disk.new) from disk.new result }
 {
     writer.redo_round(
+        rt,
+        turn,
         disk,
         point,
         copies,
         &rounds.numbers,
-        &mut rounds.pages,
+        &mut rounds.workers,
         &rounds.lsns,
         window.from,
         &room[..window.used],
@@ -157,7 +164,9 @@ fn redo_planned<D: Disk>(
 }
 
 /// Makes the next changes: those that are one round, and one at least.
-pub(crate) fn redo_some<D: Disk>(
+pub(crate) fn redo_some<D: Disk, R: Threads + Sync, T: Turn + Sync>(
+    rt: &R,
+    turn: &T,
     writer: &mut PageWriter,
     disk: &mut D,
     point: Lsn,
@@ -170,13 +179,13 @@ pub(crate) fn redo_some<D: Disk>(
     requires some { 0 < length changes.now }
     requires room { 16384 ≤ length room.old }
     requires used { window.old.used ≤ length room.old }
-    requires frames { length rounds.old.pages.items ≤ writer.old.pool.frames }
+    requires frames { rounds.old.most ≤ writer.old.pool.frames }
     requires ready { IsReadyWriter D.Disk writer.old disk.old }
     requires working { writer.old.failed ≡ false }
     ensures outcome { Recovers D.Disk mild writer.old writer.new disk.new (fault_of result) }
     ensures room { length room.new ≡ length room.old }
     ensures used { window.new.used ≤ length room.new }
-    ensures pages { length rounds.new.pages.items ≡ length rounds.old.pages.items }
+    ensures most { rounds.new.most ≡ rounds.old.most }
     ensures passed { IfOk result (λ passed. (0 < passed.changes) × (passed.changes ≤ length changes.now) × (passed.applied ≤ passed.changes)) }
     ensures kept { (b : Base) (base : ℕ) (begun : History) (file : ℕ → Option Page) (from : D) (count : ℕ) → IsApplying D.Disk b base begun file (lsns_of changes.now) count from writer.old disk.old
         → Shows begun window.old room.old → AreApplicable b begun → point ≡ redo_point begun → AreCopies point copies.now begun → PassedKept D.Disk b base begun file (lsns_of changes.now) count from writer.new disk.new result }
@@ -188,7 +197,9 @@ pub(crate) fn redo_some<D: Disk>(
     if planned == 0 {
         return redo_first(writer, disk, point, copies, changes, window, room);
     }
-    let applied = redo_planned(writer, disk, point, copies, *window, room, rounds)?;
+    let applied = redo_planned(
+        rt, turn, writer, disk, point, copies, *window, room, rounds,
+    )?;
     Ok(Passed {
         changes: planned,
         applied,

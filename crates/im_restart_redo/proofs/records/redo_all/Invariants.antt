@@ -17,7 +17,7 @@ invariant-loop-round g l = record {
   few : l.count ≤ l.done;
   on : l._round ≤ l.done;
   within : l.done ≤ length l.changes;
-  frames : length l.rounds.pages.items ≤ l.writer.pool.frames;
+  frames : l.rounds.most ≤ l.writer.pool.frames;
   room : length l.room ≡ length l.fn.room;
   used : l.window.used ≤ length l.room;
   kept : (b : Base) (base : ℕ) (begun : History) (file : ℕ → Option Page) (from : g.row.D.Denot) → IsApplying g.D.Disk b base begun file (lsns_of l.changes) 0 from l.fn.writer l.fn.disk → AreApplicable b begun → l.fn.point ≡ redo_point begun → AreCopies l.fn.point l.copies begun
