@@ -1,6 +1,6 @@
 -- What the workers of a round made of it, put together.
 use Rattle.std.proofs.Common.{◌≡◌, inl, inr, ℕ, suc, zero, ◌+◌, ◌/◌, ◌%◌, ◌<◌, ◌≤◌, List, [], ◌∷◌, length, get_or, slice_index_or, Bool, true, false, refl, sym, ap, subst, arith, Result, Ok, Err}
-use Rattle.std.specs.Prelude.{if◌then◌else◌, ◌==◌, ◌&&◌, ◌||◌, min, IfErr, IfOk, IsOk, OnOk}
+use Rattle.std.specs.Prelude.{if◌then◌else◌, ◌==◌, ◌&&◌, ◌||◌, min, IfOk, IsOk, OnOk}
 use Rattle.std.proofs.Math.Nat.{mod-lt}
 use Rattle.std.proofs.lemmas.Bool.{cases_eq, false≢true, ne_eqb}
 use Rattle.im_base_types.specs.declared.fault.Fault.{Fault}
@@ -8,11 +8,10 @@ use Rattle.im_base_types.specs.Pages.{Page}
 use Rattle.im_base_types.specs.Records.{Logged}
 use Rattle.im_theory_log.specs.Copies.{redo_all, redo_one}
 use Rattle.im_theory_log.specs.WriterSteps.{applies}
-use Rattle.im_page_rounds.specs.declared.round_page.RoundPage.{RoundPage}
 use Rattle.im_page_rounds.specs.declared.worker.Worker.{Worker}
 use Rattle.im_page_rounds.specs.Rounds.{applied_of_all}
 use Rattle.im_page_rounds.specs.Hand.{IsThis, StandIn, is_applied}
-use Rattle.im_page_rounds.specs.Workers.{AreDealt, AreRedone, AreThese, HandRedone, Worked, applied_by, count_below, count_in, is_dealt, place_in}
+use Rattle.im_page_rounds.specs.Workers.{AreDealt, AreRedone, AreThese, HandRedone, Worked, applied_by, count_below, count_in, place_in}
 use Rattle.im_page_rounds.proofs.Places.{item_at}
 
 -- ---- the pages

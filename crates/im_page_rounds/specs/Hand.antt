@@ -1,8 +1,8 @@
 -- The pages of a round, and what its records make of them.
-use Rattle.std.specs.Prelude.{◌≡◌, ◌≤◌, ◌<◌, ◌-◌, ℕ, List, [], ◌∷◌, length, take, drop, slice_index_or, Bool, true, not, ◌==◌, ◌||◌}
+use Rattle.std.specs.Prelude.{◌≡◌, ◌≤◌, ◌<◌, ◌-◌, ℕ, List, [], ◌∷◌, length, take, drop, slice_index_or, Bool, true, not, ◌==◌}
 use Rattle.im_base_types.specs.Pages.{Page}
 use Rattle.im_base_types.specs.Records.{Logged}
-use Rattle.im_theory_log.specs.Copies.{redo_all, redo_one}
+use Rattle.im_theory_log.specs.Copies.{redo_one}
 use Rattle.im_theory_log.specs.WriterSteps.{applies}
 use Rattle.im_log.specs.Reading.{SpellsRecord}
 use Rattle.im_log.specs.Span.{IsWhole}

@@ -1,4 +1,4 @@
-use Rattle.std.proofs.Common.{◌≡◌, ◌≤◌, map}
+use Rattle.std.proofs.Common.{◌≡◌, map}
 use Rattle.im_page_rounds.specs.Dealing.{hands_below}
 use Rattle.im_page_rounds.proofs.dealing.deal.Given as goal
 

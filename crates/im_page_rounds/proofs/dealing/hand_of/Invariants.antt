@@ -1,4 +1,4 @@
-use Rattle.std.proofs.Common.{◌≡◌, ◌≤◌}
+use Rattle.std.proofs.Common.{◌≡◌}
 use Rattle.im_page_rounds.specs.Dealing.{dealt_below}
 use Rattle.im_page_rounds.proofs.dealing.hand_of.Given as goal
 

@@ -1,11 +1,10 @@
-use Rattle.std.proofs.Common.{◌≡◌, ◌≢◌, ◌<◌, ◌%◌, ◌/◌, ℕ, Bool, length, slice_index_or, get_or, arith, rules, inr, sym, ◌∙◌}
+use Rattle.std.proofs.Common.{◌≡◌, ◌≢◌, ◌%◌, length, slice_index_or, rules, inr, sym}
 use Rattle.im_log_record.specs.Entry.{view}
 use Rattle.im_log.specs.Spelled.{logged_at}
 use Rattle.im_theory_log.specs.WriterSteps.{applies}
 use Rattle.im_page_table.proofs.Growing.{if_ok}
-use Rattle.im_page_rounds.specs.declared.round_page.RoundPage.{RoundPage}
 use Rattle.im_page_rounds.proofs.Places.{has_place}
-use Rattle.im_page_rounds.proofs.HandPages.{applied_own, if_err, one_redone, other_is, own_is, takes_own}
+use Rattle.im_page_rounds.proofs.HandPages.{applied_own, if_err, one_redone, other_is, takes_own}
 use Rattle.im_page_rounds.proofs.hand.redo_in.Goals as goal
 
 pub returns-then-i-workers-clause-applied : goal.returns-then-i-workers-clause-applied

@@ -1,4 +1,4 @@
-use Rattle.std.proofs.Common.{◌≡◌, ◌<◌, ◌≤◌, ℕ, length, get_or, min}
+use Rattle.std.proofs.Common.{◌≡◌, ◌<◌, ◌≤◌, ℕ, get_or, min}
 use Rattle.std.specs.Prelude.{IsOk}
 use Rattle.im_page_rounds.specs.declared.worker.Worker.{Worker}
 use Rattle.im_page_rounds.specs.Workers.{count_below}

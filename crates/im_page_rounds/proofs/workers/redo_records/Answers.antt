@@ -1,5 +1,4 @@
-use Rattle.std.proofs.Common.{◌≡◌, ◌<◌, ℕ, length, subst, sym, rules}
-use Rattle.im_page_table.proofs.Growing.{if_ok}
+use Rattle.std.proofs.Common.{◌<◌, ℕ, subst}
 use Rattle.im_page_rounds.specs.declared.worker.Worker.{Worker}
 use Rattle.im_page_rounds.proofs.Places.{item_at}
 use Rattle.im_page_rounds.proofs.Together.{at_most_all, dealt_of, round_of}

@@ -1,4 +1,4 @@
-use Rattle.std.proofs.Common.{ℕ, List, subst, sym}
+use Rattle.std.proofs.Common.{List, subst, sym}
 use Rattle.im_page_rounds.specs.declared.round_page.RoundPage.{RoundPage}
 use Rattle.im_page_rounds.specs.Workers.{AreDealt}
 use Rattle.im_page_rounds.proofs.workers.work.Goals as goal

@@ -1,4 +1,4 @@
-use Rattle.std.proofs.Common.{length, get_or, rules}
+use Rattle.std.proofs.Common.{length, get_or}
 use Rattle.im_page_rounds.specs.Workers.{Worked}
 use Rattle.im_page_rounds.proofs.Together.{worked_as}
 use Rattle.im_page_rounds.proofs.workers.work_all.Goals as goal
