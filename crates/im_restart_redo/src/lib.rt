@@ -9,15 +9,19 @@
 //! 1. Each page with a noted copy is loaded from that copy, in rising page number, and never from the file, whose bytes a stop may
 //!    have torn. It counts as changed from the redo point on. All copies are loaded before the first record is applied: no write
 //!    of another page may come before a page that waits for its copy.
-//! 2. The records are applied in the order of the log, each to its page, where that page's LSN is less than the record's. That is
+//! 2. The records are applied, those of each page in the order of the log, where the page's LSN is less than the record's. That is
 //!    also so for a record that stands before the page's copy in the log: a copy may be older than the records around it, and its
 //!    own LSN says which of them it has.
 //!
 //! The changes are made in rounds (`rounds`). A round is the next changes in a row, as many as are of no more pages than there are
 //! frames, of 256 pages and 4,096 changes at most, and whose records stand in the room, into which the log is read by one read from the
-//! first of them on where it is not there yet (`window`); one change at least. Its pages are got, lent, changed by the records and taken
-//! back (`PageWriter::redo_round`). The caller lends the room: the larger it is, the fewer reads. What else rounds need, a spare page
-//! for each page among it, is made before the first call of the disk (`round_room`), so that want of memory is told with nothing done.
+//! first of them on where it is not there yet (`window`); one change at least. Its pages are got, lent to workers, each of whom changes its
+//! own by their records, and taken back (`PageWriter::redo_round`). The caller lends the room: the larger it is, the fewer reads. What else
+//! rounds need, workers with a spare page for each page among it, is made before the first call of the disk (`round_room`), so that want of
+//! memory is told with nothing done.
+//!
+//! For a caller who can start no threads, `redo_alone` applies the records in the calling thread, one by one (`alone`). Both promise the
+//! same, for any number of workers.
 //!
 //! A page that is evicted on the way is written as in any flush, after its Image, so Images may join the log while redo goes on.
 //!
@@ -43,6 +47,7 @@
 //! It stands on the writer of pages, on the codec of records, and on the definitions of analysis.
 #![tactic(auto)]
 
+mod alone;
 mod copies;
 mod records;
 mod redoing;
@@ -50,4 +55,5 @@ mod round_room;
 mod rounds;
 mod window;
 
+pub use alone::redo_alone;
 pub use redoing::redo;

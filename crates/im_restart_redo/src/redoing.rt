@@ -60,6 +60,14 @@ pub fn redo<D: Disk, R: Threads + Sync, T: Turn + Sync>(
     let mut rounds = RoundRoom::new(alloc, writer.frames(), changes.len(), workers)?;
     load_all(writer, disk, point, copies, room)?;
     redo_all(
-        rt, turn, writer, disk, point, copies, changes, room, &mut rounds,
+        rt,
+        turn,
+        writer,
+        disk,
+        point,
+        copies,
+        changes,
+        room,
+        &mut rounds,
     )
 }

@@ -1,6 +1,6 @@
 //! Rounds of redo: room for their pages, and which changes are one.
 
-ghost use Rattle.std.specs.Prelude.{◌≡◌, ◌≤◌, ◌++◌, ◌∷◌, [], true, length, take, IfErr, IfOk, OnErr, OnOk};
+ghost use Rattle.std.specs.Prelude.{◌≡◌, ◌<◌, ◌≤◌, ◌++◌, ◌∷◌, [], true, length, take, vec_len, IfErr, IfOk, OnErr, OnOk};
 ghost use Rattle.im_base_types.specs.declared.fault.Fault.TheVariants.{Memory};
 ghost use Rattle.im_page_rounds.specs.Hand.{AreRising};
 ghost use Rattle.im_page_rounds.specs.Workers.{HaveRoom};

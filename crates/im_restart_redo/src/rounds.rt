@@ -197,9 +197,7 @@ pub(crate) fn redo_some<D: Disk, R: Threads + Sync, T: Turn + Sync>(
     if planned == 0 {
         return redo_first(writer, disk, point, copies, changes, window, room);
     }
-    let applied = redo_planned(
-        rt, turn, writer, disk, point, copies, *window, room, rounds,
-    )?;
+    let applied = redo_planned(rt, turn, writer, disk, point, copies, *window, room, rounds)?;
     Ok(Passed {
         changes: planned,
         applied,
