@@ -4,6 +4,9 @@ ghost use Rattle.std.specs.Prelude.{◌≡◌, ◌≤◌, false};
 
 use crate::buffer_size::BufferSize;
 
+/// The most workers of an opening.
+pub const MOST_WORKERS: usize = 16;
+
 /// The limits of an engine.
 #[derive(Clone, Copy)]
 pub struct Config {
@@ -15,6 +18,8 @@ pub struct Config {
     pub buffer: BufferSize,
     /// Whether a Commit waits for a force: it is answered `More`, and the next `Force` commits all that wait.
     pub group: bool,
+    /// How many workers share the redo of an opening, 1 to 16.
+    pub workers: usize,
 }
 
 impl Default for Config {
@@ -23,12 +28,14 @@ impl Default for Config {
         ensures pages { result.max_pages ≡ 1000000 }
         ensures buffer { result.buffer.batches ≡ 1 }
         ensures group { result.group ≡ false }
+        ensures workers { result.workers ≡ 1 }
     {
         Config {
             frames: 64,
             max_pages: 1_000_000,
             buffer: BufferSize::ONE,
             group: false,
+            workers: 1,
         }
     }
 }

@@ -32,7 +32,7 @@ mod turns;
 mod writes;
 
 pub use buffer_size::BufferSize;
-pub use config::Config;
+pub use config::{Config, MOST_WORKERS};
 pub use engine::Engine;
 pub use im_page::Header;
 pub use laws::{changes_are_taken_back_once, every_list_of_lives, the_promise};

@@ -16,6 +16,7 @@ use im_base_disk::Disk;
 use im_base_steps::{Reply, Step};
 use im_base_types::Fault;
 use std::alloc::Global;
+use std::thread::Threads;
 
 impl<D: Disk> Engine<D> {
     ghost use Rattle.std.specs.Prelude.{OnErr};
@@ -61,7 +62,8 @@ impl<D: Disk> Engine<D> {
 ///
 /// Refused as an opening is, and for its causes, with no step made, and `Memory` where there is no room for the replies: then the files
 /// stand for what they stood for.
-pub fn live<D: Disk>(
+pub fn live<D: Disk, R: Threads + Sync>(
+    rt: &R,
     alloc: Global,
     disk: D,
     config: Config,
@@ -76,7 +78,7 @@ pub fn live<D: Disk>(
     ensures each { IfOk result.0 (λ replies. length replies.items ≡ length steps.now) }
     ensures never { IfErr result.0 (λ e. (before : List Effect) → D.tells → StandsFor before (D.seen disk) → e ≢ NotAStore) }
 {
-    match Engine::open_or_create(alloc, disk, config) {
+    match Engine::open_or_create(rt, alloc, disk, config) {
         Err((fault, disk)) => (Err(fault), disk),
         Ok(opened) => {
             let mut engine = opened;

@@ -15,13 +15,19 @@ use crate::engine::Engine;
 use im_base_disk::Disk;
 use im_base_types::{Fault, Key, Rid};
 use std::alloc::Global;
+use std::thread::Threads;
 
 /// A look: opens the store of a disk, hands out its entries in rising key order, and hands the disk on. The entries are those that
 /// the effects make of an empty index for which the files stand (`shows`). It is a life without a step of those that the promise speaks of
 /// (`run`, `the_promise`): whatever a stop at any moment of it leaves stands for what the files stood for.
 ///
 /// Refused as an opening is, or as `Engine::entries` is; the files are then not shown.
-pub fn look<D: Disk>(alloc: Global, disk: D, config: Config) -> (Result<Vec<(Key, Rid)>, Fault>, D)
+pub fn look<D: Disk, R: Threads + Sync>(
+    rt: &R,
+    alloc: Global,
+    disk: D,
+    config: Config,
+) -> (Result<Vec<(Key, Rid)>, Fault>, D)
     requires working { D.failed disk ≡ false }
     requires synced { IsSynced D.Disk disk }
     ensures look { IsLook D.Disk config disk result.0 result.1 }
@@ -30,7 +36,7 @@ pub fn look<D: Disk>(alloc: Global, disk: D, config: Config) -> (Result<Vec<(Key
     ensures shows { IfOk result.0 (λ list. (before : List Effect) → D.tells → StandsFor before (D.seen disk) → list.items ≡ entries (apply_all empty before)) }
     ensures never { IfErr result.0 (λ e. (before : List Effect) → D.tells → StandsFor before (D.seen disk) → e ≢ NotAStore) }
 {
-    match Engine::open_or_create(alloc, disk, config) {
+    match Engine::open_or_create(rt, alloc, disk, config) {
         Err((fault, disk)) => (Err(fault), disk),
         Ok(opened) => {
             let mut engine = opened;

@@ -1,17 +1,19 @@
 //! How a store is opened, and how its engine ends.
 
-ghost use Rattle.std.specs.Prelude.{◌≡◌, ◌<◌, ◌⊎◌, ◌↔◌, [], false, true, length, List, IfOk, IfErr};
+ghost use Rattle.std.specs.Prelude.{◌≡◌, ◌<◌, ◌≤◌, ◌⊎◌, ◌↔◌, [], false, true, length, List, IfOk, IfErr};
 ghost use Rattle.std.specs.Result.{IsErrAnd};
 ghost use Rattle.im_base_types.specs.declared.fault.Fault.TheVariants.{Memory};
 
-use crate::config::Config;
+use crate::config::{Config, MOST_WORKERS};
 use crate::engine::Engine;
 use crate::syncing::sync_files;
 use crate::transactions::Transactions;
 use im_base_disk::Disk;
 use im_base_lock::LockTable;
 use im_base_types::{Fault, LEAST_FRAMES, LONGEST_BATCH, MOST_FRAMES};
+use im_restart::{Alone, ByThreads, Redoes};
 use std::alloc::Global;
+use std::thread::Threads;
 
 // The room in which records are read again.
 fn make_room(alloc: Global) -> Result<Vec<u8>, Fault>
@@ -24,45 +26,101 @@ fn make_room(alloc: Global) -> Result<Vec<u8>, Fault>
 impl<D: Disk> Engine<D> {
     ghost use Rattle.im_base_types.specs.Changes.{Effect};
     ghost use Rattle.std.specs.Prelude.{OnOk};
-    ghost use Rattle.im_base_types.specs.declared.fault.Fault.TheVariants.{LogFull, Capacity, Device, Failed, Memory, NotAStore, PoolSize};
+    ghost use Rattle.im_base_types.specs.declared.fault.Fault.TheVariants.{LogFull, Capacity, Device, Failed, Memory, NotAStore, PoolSize, Workers};
     ghost use Rattle.im_base_disk.specs.Disk.{Files};
     ghost use Rattle.im_base_disk.specs.Runs.{IsSynced, LeavesOnly, Reads};
     ghost use Rattle.im_restart.specs.Restart.{IsFullLog, SpellsLog};
     ghost use Rattle.im_engine.specs.Stands.{StandsFor};
     ghost use Rattle.im_engine.specs.Kept.{OpenKept, disk_of};
+    ghost use Rattle.im_engine.specs.Opening.{IsOpening};
 
     /// Opens the store of a disk, or makes a new one where both files are empty: what was committed is there, and what was not is
-    /// taken back. No transaction is active, and nothing is locked. Gives the disk back with a refusal.
+    /// taken back. No transaction is active, and nothing is locked. Redo is shared by the workers of the configuration, in threads that the
+    /// runtime starts. Gives the disk back with a refusal.
     ///
-    /// Refused `PoolSize`, with no device call, where the frames are not 8 to 1,024; `NotAStore` where the bytes are no store;
+    /// Refused, with no device call, `PoolSize` where the frames are not 8 to 1,024, and behind that `Workers` where the workers are not 1 to 16;
+    /// `NotAStore` where the bytes are no store;
     /// `LogFull` only where the log's file then ends less than 32,778 bytes below LSN 2^62; `Capacity` where what is taken back needs
     /// a page and page numbers or levels are used up; `Memory`; `Device`. Where the log's bytes are no log's, one of its records leads to a
     /// later one or names a page that no page count before it has, or one opens a structure change beside another's, nothing is written.
-    pub fn open_or_create(alloc: Global, disk: D, config: Config) -> Result<Engine<D>, (Fault, D)>
+    pub fn open_or_create<R: Threads + Sync>(
+        rt: &R,
+        alloc: Global,
+        disk: D,
+        config: Config,
+    ) -> Result<Engine<D>, (Fault, D)>
         requires working { D.failed disk ≡ false }
         requires synced { IsSynced D.Disk disk }
         ensures kept { (before : List Effect) → D.tells → IsSynced D.Disk disk → (stands : StandsFor before (D.seen disk)) → OpenKept D.Disk before disk stands result }
         ensures frames { IsErrAnd result (λ x. x.0 ≡ PoolSize) ↔ ((config.frames < 8) ⊎ (1024 < config.frames)) }
-        ensures untouched { IfErr result (λ x. x.0 ≡ PoolSize → x.1 ≡ disk) }
+        ensures workers { IsErrAnd result (λ x. x.0 ≡ Workers) ↔ ((8 ≤ config.frames) × (config.frames ≤ 1024)) × ((config.workers < 1) ⊎ (16 < config.workers)) }
+        ensures untouched { IfErr result (λ x. (x.0 ≡ PoolSize) ⊎ (x.0 ≡ Workers) → x.1 ≡ disk) }
         ensures opened { IfOk result (λ e. (e.failed ≡ false) × (e.txns.rows ≡ []) × (e.locks ≡ []) × (D.failed e.disk ≡ false)) }
         ensures limit { IfOk result (λ e. e.max_pages ≡ config.max_pages) }
         ensures group { IfOk result (λ e. e.txns.group ≡ config.group) }
         ensures pool { IfOk result (λ e. e.writer.pool.frames ≡ config.frames) }
         ensures spelled { IfOk result (λ _. D.tells → SpellsLog (D.seen disk)) }
-        ensures causes { IfErr result (λ x. (x.0 ≡ PoolSize) ⊎ (x.0 ≡ Memory) ⊎ (x.0 ≡ Device) ⊎ (x.0 ≡ NotAStore) ⊎ (x.0 ≡ LogFull) ⊎ (x.0 ≡ Capacity)) }
-        ensures unspelled { D.tells → ¬ (SpellsLog (D.seen disk)) → Reads D.Disk disk (disk_of D.Disk result) × IfErr result (λ x. (x.0 ≡ PoolSize) ⊎ (x.0 ≡ Memory) ⊎ (x.0 ≡ Device) ⊎ (x.0 ≡ NotAStore)) }
+        ensures causes { IfErr result (λ x. (x.0 ≡ PoolSize) ⊎ (x.0 ≡ Workers) ⊎ (x.0 ≡ Memory) ⊎ (x.0 ≡ Device) ⊎ (x.0 ≡ NotAStore) ⊎ (x.0 ≡ LogFull) ⊎ (x.0 ≡ Capacity)) }
+        ensures unspelled { D.tells → ¬ (SpellsLog (D.seen disk)) → Reads D.Disk disk (disk_of D.Disk result) × IfErr result (λ x. (x.0 ≡ PoolSize) ⊎ (x.0 ≡ Workers) ⊎ (x.0 ≡ Memory) ⊎ (x.0 ≡ Device) ⊎ (x.0 ≡ NotAStore)) }
+        ensures full { IfErr result (λ x. x.0 ≡ LogFull → D.tells → IsFullLog (D.seen x.1)) }
+        ensures device { IsErrAnd result (λ x. x.0 ≡ Device) ↔ (D.failed (disk_of D.Disk result) ≡ true) }
+    {
+        Engine::open_by(&ByThreads::new(rt), alloc, disk, config)
+    }
+
+    /// Opens the store of a disk as `open_or_create` does, for a caller who can start no threads: the opening call makes all of redo.
+    pub fn open_alone(alloc: Global, disk: D, config: Config) -> Result<Engine<D>, (Fault, D)>
+        requires working { D.failed disk ≡ false }
+        requires synced { IsSynced D.Disk disk }
+        ensures opening { IsOpening D.Disk config disk result }
+        ensures group { IfOk result (λ e. e.txns.group ≡ config.group) }
+    {
+        Engine::open_by(&Alone, alloc, disk, config)
+    }
+
+    // Opens the store of a disk, with redo made in the way given.
+    fn open_by<H: Redoes>(
+        how: &H,
+        alloc: Global,
+        disk: D,
+        config: Config,
+    ) -> Result<Engine<D>, (Fault, D)>
+        requires shared { H.shared }
+        requires working { D.failed disk ≡ false }
+        requires synced { IsSynced D.Disk disk }
+        ensures kept { (before : List Effect) → D.tells → IsSynced D.Disk disk → (stands : StandsFor before (D.seen disk)) → OpenKept D.Disk before disk stands result }
+        ensures frames { IsErrAnd result (λ x. x.0 ≡ PoolSize) ↔ ((config.frames < 8) ⊎ (1024 < config.frames)) }
+        ensures workers { IsErrAnd result (λ x. x.0 ≡ Workers) ↔ ((8 ≤ config.frames) × (config.frames ≤ 1024)) × ((config.workers < 1) ⊎ (16 < config.workers)) }
+        ensures untouched { IfErr result (λ x. (x.0 ≡ PoolSize) ⊎ (x.0 ≡ Workers) → x.1 ≡ disk) }
+        ensures opened { IfOk result (λ e. (e.failed ≡ false) × (e.txns.rows ≡ []) × (e.locks ≡ []) × (D.failed e.disk ≡ false)) }
+        ensures limit { IfOk result (λ e. e.max_pages ≡ config.max_pages) }
+        ensures group { IfOk result (λ e. e.txns.group ≡ config.group) }
+        ensures pool { IfOk result (λ e. e.writer.pool.frames ≡ config.frames) }
+        ensures spelled { IfOk result (λ _. D.tells → SpellsLog (D.seen disk)) }
+        ensures causes { IfErr result (λ x. (x.0 ≡ PoolSize) ⊎ (x.0 ≡ Workers) ⊎ (x.0 ≡ Memory) ⊎ (x.0 ≡ Device) ⊎ (x.0 ≡ NotAStore) ⊎ (x.0 ≡ LogFull) ⊎ (x.0 ≡ Capacity)) }
+        ensures unspelled { D.tells → ¬ (SpellsLog (D.seen disk)) → Reads D.Disk disk (disk_of D.Disk result) × IfErr result (λ x. (x.0 ≡ PoolSize) ⊎ (x.0 ≡ Workers) ⊎ (x.0 ≡ Memory) ⊎ (x.0 ≡ Device) ⊎ (x.0 ≡ NotAStore)) }
         ensures full { IfErr result (λ x. x.0 ≡ LogFull → D.tells → IsFullLog (D.seen x.1)) }
         ensures device { IsErrAnd result (λ x. x.0 ≡ Device) ↔ (D.failed (disk_of D.Disk result) ≡ true) }
     {
         if config.frames < LEAST_FRAMES || config.frames > MOST_FRAMES {
             return Err((Fault::PoolSize, disk));
         }
+        if config.workers < 1 || config.workers > MOST_WORKERS {
+            return Err((Fault::Workers, disk));
+        }
         let room = match make_room(alloc) {
             Ok(room) => room,
             Err(fault) => return Err((fault, disk)),
         };
         let mut disk = disk;
-        match im_restart::open_or_create(alloc, &mut disk, config.frames, config.buffer.batches()) {
+        match im_restart::open_or_create(
+            how,
+            alloc,
+            &mut disk,
+            config.frames,
+            config.buffer.batches(),
+            config.workers,
+        ) {
             Err(fault) => Err((fault, disk)),
             Ok(restarted) => Ok(Engine {
                 alloc,

@@ -9,8 +9,9 @@
 //!    that is open, and the changes of pages from the redo point on. Those below it are dropped wherever a Checkpoint moves it, but for the
 //!    last one of each page: what is kept goes by the pages and by what is to be redone, however long the log is. A log whose Checkpoints
 //!    move it back, which no store writes, is read once more.
-//! 2. **Redo**, by `im_restart_redo`: the pages are brought to what all of the log made of them. How many records that took is told with the
-//!    redo point (`RedoReport`).
+//! 2. **Redo**, by `im_restart_redo`: the pages are brought to what all of the log made of them, by workers in threads that a runtime starts
+//!    (`ByThreads`), or by the opening call alone where a caller can start none (`Alone`): in either way the same (`Redoes`). How many records
+//!    that took is told with the redo point (`RedoReport`).
 //! 3. **Undo of the open structure change** (`structure_change`): its pages are put back, the newest first, each by an UndoSmo with
 //!    the page before.
 //! 4. **Undo of the losers** (`undo`), all together, the record with the greatest LSN first. Each loser's chain stands in a map at
@@ -55,6 +56,7 @@ mod found;
 mod opening;
 mod reading;
 mod redo_report;
+mod redoes;
 mod restarted;
 mod structure_change;
 mod synced;
@@ -62,4 +64,5 @@ mod undo;
 
 pub use opening::open_or_create;
 pub use redo_report::RedoReport;
+pub use redoes::{Alone, ByThreads, Redoes};
 pub use restarted::Restarted;

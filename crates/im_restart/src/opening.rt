@@ -30,6 +30,7 @@ ghost use Rattle.im_restart.specs.Restart.{IsFresh, SpellsLog, LeavesNoUndo, May
 use crate::found::Found;
 use crate::reading::open_log;
 use crate::redo_report::RedoReport;
+use crate::redoes::Redoes;
 use crate::restarted::Restarted;
 use crate::structure_change::undo_change;
 use crate::synced::{check_file, synced_of};
@@ -38,7 +39,6 @@ use im_base_disk::Disk;
 use im_base_types::{Fault, Lsn, TxnId};
 use im_page_writer::PageWriter;
 use im_restart_analysis::{Analysed, Change};
-use im_restart_redo::redo;
 use std::alloc::Global;
 use std::cmp::max;
 
@@ -106,14 +106,18 @@ fn undo_found<D: Disk>(
 
 // Redoes the records from the redo point on, undoes and ends the losers, and makes what was logged durable. It answers how many
 // records were redone.
-fn settle<D: Disk>(
+fn settle<D: Disk, H: Redoes>(
+    how: &H,
     alloc: Global,
     writer: &mut PageWriter,
     disk: &mut D,
     analysed: &mut Analysed,
     changes: &[Change],
     room: &mut [u8],
+    workers: usize,
 ) -> Result<u64, Fault>
+    requires shared { H.shared }
+    requires workers { 1 ≤ workers }
     requires room { 16384 ≤ length room.old }
     requires ready { IsReadyWriter D.Disk writer.old disk.old }
     requires working { writer.old.failed ≡ false }
@@ -126,7 +130,7 @@ fn settle<D: Disk>(
         → (least : ℕ) → IsAnalysis least all analysed.old → changes.now ≡ changes_from (redo_point all) all → IfErr result (λ e. e ≢ NotAStore) }
     ensures next { analysed.new.next ≡ analysed.old.next }
 {
-    let applied = redo(
+    let applied = how.redo(
         alloc,
         writer,
         disk,
@@ -134,6 +138,7 @@ fn settle<D: Disk>(
         &analysed.copies,
         changes,
         room,
+        workers,
     )?;
     undo_found(alloc, writer, disk, analysed, room)?;
     writer.force(disk)?;
@@ -141,12 +146,16 @@ fn settle<D: Disk>(
 }
 
 // Restarts with the log that was found.
-fn restart<D: Disk>(
+fn restart<D: Disk, H: Redoes>(
+    how: &H,
     alloc: Global,
     disk: &mut D,
     found: Found,
     frames: usize,
+    workers: usize,
 ) -> Result<Restarted, Fault>
+    requires shared { H.shared }
+    requires workers { 1 ≤ workers }
     requires least { 8 ≤ frames }
     requires most { frames ≤ 1024 }
     requires ready { IsOpen D.Disk found.log disk.old }
@@ -174,7 +183,16 @@ fn restart<D: Disk>(
     let mut writer = PageWriter::new(alloc, log, frames)?;
     writer.expect(synced_of(last));
     let mut room = make_room(alloc, size)?;
-    let applied = settle(alloc, &mut writer, disk, &mut analysed, &changes, &mut room)?;
+    let applied = settle(
+        how,
+        alloc,
+        &mut writer,
+        disk,
+        &mut analysed,
+        &changes,
+        &mut room,
+        workers,
+    )?;
     Ok(Restarted {
         writer,
         next: first_number(analysed.next),
@@ -183,12 +201,16 @@ fn restart<D: Disk>(
 }
 
 // The same, after a test of the file of pages.
-fn restart_tested<D: Disk>(
+fn restart_tested<D: Disk, H: Redoes>(
+    how: &H,
     alloc: Global,
     disk: &mut D,
     found: Found,
     frames: usize,
+    workers: usize,
 ) -> Result<Restarted, Fault>
+    requires shared { H.shared }
+    requires workers { 1 ≤ workers }
     requires least { 8 ≤ frames }
     requires most { frames ≤ 1024 }
     requires ready { IsOpen D.Disk found.log disk.old }
@@ -210,24 +232,28 @@ fn restart_tested<D: Disk>(
         &found.analysed.copies,
         found.log.durable_end(),
     )?;
-    restart(alloc, disk, found, frames)
+    restart(how, alloc, disk, found, frames, workers)
 }
 
 /// Opens a store's log and pages, or makes a log where there is none yet and no page: analysis reads the log once, redo brings the
 /// pages to what all of it made of them, and the transactions with neither Commit nor End are undone and ended. Where that logs
-/// anything, it is made durable. The log's buffer holds so many batches.
+/// anything, it is made durable. The log's buffer holds so many batches. Redo is made in the way given, by so many workers, one at least.
 ///
 /// Refused `NotAStore` where the bytes are no store, or there are pages without a log; `Capacity` where the key of a delete is put back into
 /// a full leaf, and page numbers or levels are used up, so that the leaf can't be split; `LogFull` only where the log's file then ends less
 /// than 32,778 bytes below LSN 2^62; `Memory`; `Device`. Where the log's bytes are no log's, one of its records leads to a later one
 /// or names a page that no page count before it has, or one opens a structure change beside another's, nothing is written. A log that leaves nothing to undo is refused `NotAStore` only where
 /// analysis does not take one of its records, it does not cover the pages, or a page does not take its record.
-pub fn open_or_create<D: Disk>(
+pub fn open_or_create<D: Disk, H: Redoes>(
+    how: &H,
     alloc: Global,
     disk: &mut D,
     frames: usize,
     batches: usize,
+    workers: usize,
 ) -> Result<Restarted, Fault>
+    requires shared { H.shared }
+    requires workers { 1 ≤ workers }
     requires few { (1 ≤ batches) × (batches ≤ 64) }
     requires working { D.failed disk.old ≡ false }
     requires synced { IsSynced D.Disk disk.old }
@@ -245,5 +271,5 @@ pub fn open_or_create<D: Disk>(
     ensures unspelled { D.tells → ¬ (SpellsLog (D.seen disk.old)) → Reads D.Disk disk.old disk.new × IfErr result (λ e. (e ≡ Memory) ⊎ (e ≡ Device) ⊎ (e ≡ NotAStore)) }
 {
     let found = open_log(alloc, disk, batches)?;
-    restart_tested(alloc, disk, found, frames)
+    restart_tested(how, alloc, disk, found, frames, workers)
 }

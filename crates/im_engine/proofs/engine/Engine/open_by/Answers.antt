@@ -3,10 +3,20 @@ use Rattle.im_base_types.specs.declared.file_id.FileId.TheVariants.{Log}
 use Rattle.im_log_gate.specs.Header.{least_number}
 use Rattle.im_restart_analysis.specs.Numbers.{IsNextNumber}
 use Rattle.im_engine.proofs.Openings.{may_restart, none_opened, opening_stops, engine_opened}
-use Rattle.im_engine.proofs.engine.Engine.open_or_create.Goals as goal
+use Rattle.im_engine.proofs.engine.Engine.open_by.Goals as goal
 
 pub returns-then-config-lt-LEAST_FRAMES-clause-kept : goal.returns-then-config-lt-LEAST_FRAMES-clause-kept
 returns-then-config-lt-LEAST_FRAMES-clause-kept g c before told synced stands = record {
+  ok = tt;
+  next = tt;
+  report = tt;
+  stops = none_opened g.D.Disk before c.args.disk stands synced (g.met.D.Disk.only_now c.args.disk);
+  cause = λ e. cc e;
+  used_up = λ e. absurd (cc e);
+}
+
+pub returns-then-config-lt1-clause-kept : goal.returns-then-config-lt1-clause-kept
+returns-then-config-lt1-clause-kept g c before told synced stands = record {
   ok = tt;
   next = tt;
   report = tt;
