@@ -1,5 +1,5 @@
 -- The options of a life, and what stands behind each.
-use Rattle.std.proofs.Common.{◌≡◌, ◌≢◌, ◌⊎◌, inl, inr, ℕ, List, [], ◌∷◌, ◌++◌, Bool, Option, None, Some, Bor, MatchOption, is_some, true, false, codes, refl, sym, ◌∙◌, ap, subst, append_assoc, arith}
+use Rattle.std.proofs.Common.{◌≡◌, ◌≢◌, inl, inr, ℕ, List, [], ◌∷◌, ◌++◌, Bool, Option, None, Some, Bor, MatchOption, is_some, true, false, codes, refl, sym, ◌∙◌, ap, subst, append_assoc, arith}
 use Rattle.std.proofs.lemmas.List.{append-nil}
 use Rattle.im_tool_words.specs.Words.{Lacks, IsNumber}
 use Rattle.im_tool_lines.specs.Lines.{behind_word}
@@ -222,37 +222,47 @@ failread_lacks = (λ x. omega arith, (λ x. omega arith, (λ x. omega arith, (λ
 group_lacks : Lacks 32 (codes "group")
 group_lacks = (λ x. omega arith, (λ x. omega arith, (λ x. omega arith, (λ x. omega arith, (λ x. omega arith, tt)))))
 
+workers_lacks : Lacks 32 (codes "workers")
+workers_lacks = (λ x. omega arith, (λ x. omega arith, (λ x. omega arith, (λ x. omega arith, (λ x. omega arith, (λ x. omega arith, (λ x. omega arith, tt)))))))
+
 module _ (o : LifeOptions) where
-  -- the options behind the first, the second, the third and the fourth
+  -- the options behind the first, the second, the third, the fourth and the fifth
   abbrev pub behind_frames : List (List ℕ × OptionSaid)
-  behind_frames = (codes "max", Number o.max_pages) ∷ (codes "fail", Number o.failing_call) ∷ (codes "failread", Number o.failing_read) ∷ (codes "group", Word o.group) ∷ []
+  behind_frames = (codes "max", Number o.max_pages) ∷ (codes "fail", Number o.failing_call) ∷ (codes "failread", Number o.failing_read) ∷ (codes "group", Word o.group) ∷ (codes "workers", Number o.workers) ∷ []
 
   abbrev pub behind_max : List (List ℕ × OptionSaid)
-  behind_max = (codes "fail", Number o.failing_call) ∷ (codes "failread", Number o.failing_read) ∷ (codes "group", Word o.group) ∷ []
+  behind_max = (codes "fail", Number o.failing_call) ∷ (codes "failread", Number o.failing_read) ∷ (codes "group", Word o.group) ∷ (codes "workers", Number o.workers) ∷ []
 
   abbrev pub behind_fail : List (List ℕ × OptionSaid)
-  behind_fail = (codes "failread", Number o.failing_read) ∷ (codes "group", Word o.group) ∷ []
+  behind_fail = (codes "failread", Number o.failing_read) ∷ (codes "group", Word o.group) ∷ (codes "workers", Number o.workers) ∷ []
 
   abbrev pub behind_failread : List (List ℕ × OptionSaid)
-  behind_failread = (codes "group", Word o.group) ∷ []
+  behind_failread = (codes "group", Word o.group) ∷ (codes "workers", Number o.workers) ∷ []
+
+  abbrev pub behind_group : List (List ℕ × OptionSaid)
+  behind_group = (codes "workers", Number o.workers) ∷ []
 
   pub not_frames : AreOthers (codes "frames") behind_frames
-  not_frames = (max_lacks, (λ e. absurd (cc)), (fail_lacks, (λ e. absurd (cc)), (failread_lacks, (λ e. absurd (cc)), (group_lacks, (λ e. absurd (cc)), tt))))
+  not_frames = (max_lacks, (λ e. absurd (cc)), (fail_lacks, (λ e. absurd (cc)), (failread_lacks, (λ e. absurd (cc)), (group_lacks, (λ e. absurd (cc)), (workers_lacks, (λ e. absurd (cc)), tt)))))
 
   pub not_max : AreOthers (codes "max") behind_max
-  not_max = (fail_lacks, (λ e. absurd (cc)), (failread_lacks, (λ e. absurd (cc)), (group_lacks, (λ e. absurd (cc)), tt)))
+  not_max = (fail_lacks, (λ e. absurd (cc)), (failread_lacks, (λ e. absurd (cc)), (group_lacks, (λ e. absurd (cc)), (workers_lacks, (λ e. absurd (cc)), tt))))
 
   pub not_fail : AreOthers (codes "fail") behind_fail
-  not_fail = (failread_lacks, (λ e. absurd (cc)), (group_lacks, (λ e. absurd (cc)), tt))
+  not_fail = (failread_lacks, (λ e. absurd (cc)), (group_lacks, (λ e. absurd (cc)), (workers_lacks, (λ e. absurd (cc)), tt)))
 
   pub not_failread : AreOthers (codes "failread") behind_failread
-  not_failread = (group_lacks, (λ e. absurd (cc)), tt)
+  not_failread = (group_lacks, (λ e. absurd (cc)), (workers_lacks, (λ e. absurd (cc)), tt))
+
+  pub not_group : AreOthers (codes "group") behind_group
+  not_group = (workers_lacks, (λ e. absurd (cc)), tt)
 
 -- a life, option by option
-pub life_spelled : (text second third fourth fifth last : List ℕ) (options : LifeOptions) → IsOption (codes "frames") text (Number options.frames) second → IsOption (codes "max") second (Number options.max_pages) third
-    → IsOption (codes "fail") third (Number options.failing_call) fourth → IsOption (codes "failread") fourth (Number options.failing_read) fifth → IsOption (codes "group") fifth (Word options.group) last → last ≡ []
-    → SpellsLife (codes "life" ++ text) options
-life_spelled text second third fourth fifth last options frames most call read group end = (text, refl, (second, frames, (third, most, (fourth, call, (fifth, read, (last, group, end))))))
+pub life_spelled : (text second third fourth fifth sixth last : List ℕ) (options : LifeOptions) → IsOption (codes "frames") text (Number options.frames) second → IsOption (codes "max") second (Number options.max_pages) third
+    → IsOption (codes "fail") third (Number options.failing_call) fourth → IsOption (codes "failread") fourth (Number options.failing_read) fifth → IsOption (codes "group") fifth (Word options.group) sixth
+    → IsOption (codes "workers") sixth (Number options.workers) last → last ≡ [] → SpellsLife (codes "life" ++ text) options
+life_spelled text second third fourth fifth sixth last options frames most call read group workers end =
+    (text, refl, (second, frames, (third, most, (fourth, call, (fifth, read, (sixth, group, (last, workers, end)))))))
 
 pub none_left : (words : Option (Bor (List ℕ))) → is_some words ≡ true → [] ≡ behind_word words → ⊥
 none_left None some is = absurd (cc)

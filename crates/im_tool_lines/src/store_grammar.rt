@@ -64,6 +64,7 @@ fn life_line(words: Option<&[u8]>) -> Result<StoreScriptLine, Fault>
     let (failing_call, words) = option_of(b"fail".as_slice(), words)?;
     let (failing_read, words) = option_of(b"failread".as_slice(), words)?;
     let (group, words) = word_of(b"group".as_slice(), words);
+    let (workers, words) = option_of(b"workers".as_slice(), words)?;
     if words.is_some() {
         return Err(Fault::BadScript);
     }
@@ -73,6 +74,7 @@ fn life_line(words: Option<&[u8]>) -> Result<StoreScriptLine, Fault>
         failing_call,
         failing_read,
         group,
+        workers,
     }))
 }
 

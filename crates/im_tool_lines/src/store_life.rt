@@ -32,6 +32,8 @@ pub struct LifeOptions {
     pub failing_read: Option<u64>,
     /// Whether a Commit waits for a force.
     pub group: bool,
+    /// How many workers share redo; none for as many as the default has.
+    pub workers: Option<u64>,
 }
 
 /// A life of a store: it is opened, and then its lines are run in turn.
