@@ -30,7 +30,8 @@ impl<D: Disk + Drop> Opened<D> {
     /// may have to redo, or with the greatest number the usual bound, which grows with the file of pages; with 1 as `word` a Commit waits for
     /// a Force. The log's buffer is of the size that programs take.
     ///
-    /// Refused `Capacity` where more pages are asked for than have numbers, and else as `Engine::open_or_create` is.
+    /// Refused `Capacity` where more pages are asked for than have numbers, and else as `Engine::open_alone` is with one worker: a library that is
+    /// called from C can start no threads.
     pub fn open(alloc: Global, disk: D, call: &mut Call) -> Option<Opened<D>>
         requires working { D.failed disk ≡ false }
         requires synced { IsSynced D.Disk disk }
@@ -140,8 +141,9 @@ fn engine_of<D: Disk + Drop>(alloc: Global, disk: D, call: &Call) -> Result<Engi
         max_pages,
         buffer: BufferSize::OVER_FILES,
         group: waits(call),
+        workers: 1,
     };
-    match Engine::open_or_create(alloc, disk, config) {
+    match Engine::open_alone(alloc, disk, config) {
         Ok(engine) => Ok(engine),
         Err((fault, _disk)) => Err(fault),
     }
