@@ -52,12 +52,12 @@ fn run<R: Threads + Wait + Clock + Print + Sync>(
         "log" => log::run(rt, words),
         "pool" => pool::run(rt, words),
         "flush" => flush::run(rt, words),
-        "tree" => tree::run(rt, words),
-        "store" => store::run(rt, words),
+        "tree" => tree::run(rt, threads, words),
+        "store" => store::run(rt, threads, words),
         "lock" => lock::run(rt, words),
         "front" => front::run(threads, rt.alloc(), words),
-        "long" => long::run(rt),
-        "damage" => damage::run(rt, words),
+        "long" => long::run(rt, threads),
+        "damage" => damage::run(rt, threads, words),
         _ => bail!(
             "no bench {name}; there are gate, record, page, log, pool, flush, tree, store, lock, front, long, damage"
         ),

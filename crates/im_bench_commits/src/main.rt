@@ -125,6 +125,7 @@ fn config_of(mode: Mode) -> Config {
         max_pages: 1_000_000,
         buffer: BufferSize::OVER_FILES,
         group: mode.groups(),
+        workers: 1,
     }
 }
 
@@ -135,7 +136,10 @@ fn measured<R: Threads + Wait + Clock + Sync>(
     folder: &str,
     asked: Asked,
 ) -> Result<Done> {
-    let front = match Open::new(rt.alloc(), open(rt, folder, config_of(asked.mode))?) {
+    let front = match Open::new(
+        rt.alloc(),
+        open(rt, threads, folder, config_of(asked.mode))?,
+    ) {
         Ok(front) => front,
         Err((fault, _at_rest)) => return Err(anyhow::Error::from(fault)),
     };

@@ -19,6 +19,7 @@ use im_base_types::{FileId, MOST_FRAMES};
 use im_bench_layers::bounded::Files;
 use im_bench_layers::places::{is_in_page_number, page_numbers};
 use std::cmp::max;
+use std::thread::Threads;
 
 /// Which bytes of a file are damaged in turn.
 #[derive(Clone, Copy)]
@@ -31,11 +32,16 @@ struct Part {
 }
 
 /// Does it, and prints what came of it: with some bytes, by strides, or with each where the first word is `--all`.
-pub fn run(rt: &HostRuntime, words: &[String]) -> Result<()> {
+pub fn run<R: Threads + Sync>(rt: &HostRuntime, threads: &R, words: &[String]) -> Result<()> {
     let each = !words.is_empty() && words[0].as_str() == "--all";
-    let files = founded(rt.alloc())?;
-    show_parts(rt, &files, if each { [1, 1, 1] } else { [409, 5, 2_801] })?;
-    show_count(rt, &closed(rt.alloc(), &files)?)
+    let files = founded(threads, rt.alloc())?;
+    show_parts(
+        rt,
+        threads,
+        &files,
+        if each { [1, 1, 1] } else { [409, 5, 2_801] },
+    )?;
+    show_count(rt, threads, &closed(threads, rt.alloc(), &files)?)
 }
 
 /// Where the page count stands in page 0, and so in the file.
@@ -45,13 +51,13 @@ const COUNT: usize = 24;
 const MANY: u64 = 64;
 
 // Changes each bit of the page count, and says whether a page is taken by one that was not changed, and by one that was.
-fn show_count(rt: &HostRuntime, files: &Files) -> Result<()> {
-    let sound = pages_taken(rt.alloc(), files.copy(rt.alloc())?)?;
+fn show_count<R: Threads + Sync>(rt: &HostRuntime, threads: &R, files: &Files) -> Result<()> {
+    let sound = pages_taken(threads, rt.alloc(), files.copy(rt.alloc())?)?;
     let mut most = 0u64;
     for bit in 0..32u32 {
         let mut changed = files.copy(rt.alloc())?;
         change(&mut changed.pages, bit);
-        most = max(most, pages_taken(rt.alloc(), changed)?);
+        most = max(most, pages_taken(threads, rt.alloc(), changed)?);
     }
     println!(rt;
         "the page count: a page is taken by it {}, by none of 32 others {}",
@@ -70,7 +76,12 @@ fn change(pages: &mut Vec<u8>, bit: u32) {
 }
 
 // Damages bytes of each part, by these strides.
-fn show_parts(rt: &HostRuntime, files: &Files, strides: [usize; 3]) -> Result<()> {
+fn show_parts<R: Threads + Sync>(
+    rt: &HostRuntime,
+    threads: &R,
+    files: &Files,
+    strides: [usize; 3],
+) -> Result<()> {
     let log = files.size(FileId::Log);
     let pages = files.size(FileId::Pages);
     let parts = [
@@ -85,7 +96,7 @@ fn show_parts(rt: &HostRuntime, files: &Files, strides: [usize; 3]) -> Result<()
     ];
     let numbers = page_numbers(rt.alloc(), &files.log)?;
     for part in parts {
-        show(rt, files, &numbers, part)?;
+        show(rt, threads, files, &numbers, part)?;
     }
     Ok(())
 }
@@ -100,7 +111,13 @@ fn bytes_of(name: &'static str, file: FileId, end: usize, stride: usize) -> Part
 }
 
 // Damages the bytes of a part, one at a time, and says what comes of them.
-fn show(rt: &HostRuntime, files: &Files, numbers: &[usize], part: Part) -> Result<()> {
+fn show<R: Threads + Sync>(
+    rt: &HostRuntime,
+    threads: &R,
+    files: &Files,
+    numbers: &[usize],
+    part: Part,
+) -> Result<()> {
     let mut outcomes = Outcomes::default();
     let mut at = 0usize;
     for _ in 0..part.end {
@@ -112,7 +129,7 @@ fn show(rt: &HostRuntime, files: &Files, numbers: &[usize], part: Part) -> Resul
                 file: part.file,
                 at,
             };
-            outcomes.add(judged(rt.alloc(), files, damaged)?);
+            outcomes.add(judged(threads, rt.alloc(), files, damaged)?);
         }
         at = at.saturating_add(part.stride);
     }

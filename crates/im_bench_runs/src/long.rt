@@ -30,6 +30,7 @@ use im_bench_layers::memory::MemoryDisk;
 use im_bench_layers::spans::{Order, Span, Work, all_committed, worked_and_forced};
 use im_bench_layers::tally::{Tally, show_tally};
 use im_engine::Engine;
+use std::thread::Threads;
 
 /// How many keys the store has.
 const KEYS: u64 = 10_000;
@@ -38,12 +39,12 @@ const KEYS: u64 = 10_000;
 const PAGES: u32 = 2_048;
 
 /// Does it, and prints its counts.
-pub fn run(rt: &HostRuntime) -> Result<()> {
+pub fn run<R: Threads + Sync>(rt: &HostRuntime, threads: &R) -> Result<()> {
     let mut disk = MemoryDisk::new(rt.alloc());
     for opening in &OPENINGS {
-        disk = lived(rt, disk.at_rest(), opening)?;
+        disk = lived(rt, threads, disk.at_rest(), opening)?;
     }
-    stopped(rt)
+    stopped(rt, threads)
 }
 
 /// An opening of the store, by its name, in so many frames, and what is done then.
@@ -143,10 +144,15 @@ const DELETES: Losing = Losing {
 };
 
 // A life of the store: its opening, and what is done then.
-fn lived(rt: &HostRuntime, disk: MemoryDisk, opening: &Opening) -> Result<MemoryDisk>
+fn lived<R: Threads + Sync>(
+    rt: &HostRuntime,
+    threads: &R,
+    disk: MemoryDisk,
+    opening: &Opening,
+) -> Result<MemoryDisk>
     requires { ⟦<MemoryDisk as Disk>⟧.failed disk ≡ false }
 {
-    let mut engine = opened(rt.alloc(), Counted::new(disk), opening.frames)?;
+    let mut engine = opened(threads, rt.alloc(), Counted::new(disk), opening.frames)?;
     each_done(rt, &mut engine, opening)?;
     Ok(engine.into_disk().into_disk())
 }
@@ -207,16 +213,16 @@ fn each_transaction(
 }
 
 // Stops of a life whose transaction never commits, and of the opening that takes it back.
-fn stopped(rt: &HostRuntime) -> Result<()> {
-    let base = founded(rt.alloc())?;
-    stopped_on(rt, &base)
+fn stopped<R: Threads + Sync>(rt: &HostRuntime, threads: &R) -> Result<()> {
+    let base = founded(threads, rt.alloc())?;
+    stopped_on(rt, threads, &base)
 }
 
 // The same on copies of a disk that has what is committed.
-fn stopped_on(rt: &HostRuntime, base: &ModelDisk) -> Result<()> {
-    let (tally, kinds, lost) = losing(rt.alloc(), base)?;
+fn stopped_on<R: Threads + Sync>(rt: &HostRuntime, threads: &R, base: &ModelDisk) -> Result<()> {
+    let (tally, kinds, lost) = losing(threads, rt.alloc(), base)?;
     show_losing(rt, tally, kinds)?;
-    show_all_stops(rt, base, &lost)
+    show_all_stops(rt, threads, base, &lost)
 }
 
 // ---- lines
@@ -248,14 +254,25 @@ fn show_losing(rt: &HostRuntime, tally: Tally, kinds: Kinds) -> Result<()> {
     show_kinds(rt, kinds)
 }
 
-fn show_all_stops(rt: &HostRuntime, base: &ModelDisk, lost: &ModelDisk) -> Result<()> {
-    show_stops(rt, "its life", base, Life::Losing)?;
-    show_stops(rt, "its opening", lost, Life::TakingBack)
+fn show_all_stops<R: Threads + Sync>(
+    rt: &HostRuntime,
+    threads: &R,
+    base: &ModelDisk,
+    lost: &ModelDisk,
+) -> Result<()> {
+    show_stops(rt, threads, "its life", base, Life::Losing)?;
+    show_stops(rt, threads, "its opening", lost, Life::TakingBack)
 }
 
-fn show_stops(rt: &HostRuntime, name: &str, disk: &ModelDisk, life: Life) -> Result<()> {
+fn show_stops<R: Threads + Sync>(
+    rt: &HostRuntime,
+    threads: &R,
+    name: &str,
+    disk: &ModelDisk,
+    life: Life,
+) -> Result<()> {
     for doubt in [Doubt::Written, Doubt::Byte(0), Doubt::Short(255)] {
-        let stops = stopped_at_each(rt.alloc(), disk, life, doubt)?;
+        let stops = stopped_at_each(threads, rt.alloc(), disk, life, doubt)?;
         println!(rt;
             "  {name}, {doubt:?}: stops {}, right {}",
             stops.calls, stops.right

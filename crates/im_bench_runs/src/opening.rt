@@ -7,9 +7,15 @@ use im_base_disk::Disk;
 use im_base_types::Fault;
 use im_engine::{BufferSize, Config, Engine};
 use std::alloc::Global;
+use std::thread::Threads;
 
 /// The store of a disk, in so many frames.
-pub fn opened<D: Disk + Drop>(alloc: Global, disk: D, frames: usize) -> Result<Engine<D>, Fault>
+pub fn opened<D: Disk + Drop, R: Threads + Sync>(
+    rt: &R,
+    alloc: Global,
+    disk: D,
+    frames: usize,
+) -> Result<Engine<D>, Fault>
     requires working { D.failed disk ≡ false }
     requires synced { IsSynced D.Disk disk }
 {
@@ -18,8 +24,9 @@ pub fn opened<D: Disk + Drop>(alloc: Global, disk: D, frames: usize) -> Result<E
         max_pages: 1_000_000,
         buffer: BufferSize::ONE,
         group: false,
+        workers: 1,
     };
-    match Engine::open_or_create(alloc, disk, config) {
+    match Engine::open_or_create(rt, alloc, disk, config) {
         Ok(engine) => Ok(engine),
         Err((fault, _disk)) => Err(fault),
     }

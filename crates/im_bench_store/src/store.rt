@@ -69,38 +69,70 @@ use im_bench_layers::memory::MemoryDisk;
 use im_bench_layers::works::{Order, Part, Work, worked};
 use im_engine::Engine;
 use options::{Options, options_of};
+use std::thread::Threads;
 use std::time::Instant;
 
 /// The lives of a store, by what the words say.
-pub fn run(rt: &HostRuntime, words: &[String]) -> Result<()> {
+pub fn run<R: Threads + Sync>(rt: &HostRuntime, threads: &R, words: &[String]) -> Result<()> {
     let options = options_of(words);
     if let Some(folder) = options.folder {
-        return in_folder(rt, &options, folder);
+        return in_folder(rt, threads, &options, folder);
     }
-    in_memory(rt, &options, options.frames[0])?;
+    in_memory(rt, threads, &options, options.frames[0])?;
     if options.frames[0] != options.frames[1] {
-        in_memory(rt, &options, options.frames[1])?;
+        in_memory(rt, threads, &options, options.frames[1])?;
     }
     Ok(())
 }
 
 // All parts in memory.
-fn in_memory(rt: &HostRuntime, options: &Options<'_>, frames: usize) -> Result<()> {
+fn in_memory<R: Threads + Sync>(
+    rt: &HostRuntime,
+    threads: &R,
+    options: &Options<'_>,
+    frames: usize,
+) -> Result<()> {
     println!(rt; "{} keys in {frames} frames", options.keys)?;
     let disk = MemoryDisk::new(rt.alloc());
-    let disk = lived(rt, options, frames, disk, &PARTS)?;
-    let disk = lived(rt, options, frames, disk.at_rest(), &[])?;
-    lived(rt, options, frames, disk.at_rest(), &[])?;
+    let disk = lived(rt, threads, options, frames, disk, &PARTS)?;
+    let disk = lived(rt, threads, options, frames, disk.at_rest(), &[])?;
+    lived(rt, threads, options, frames, disk.at_rest(), &[])?;
     Ok(())
 }
 
 // All parts in a folder.
-fn in_folder(rt: &HostRuntime, options: &Options<'_>, folder: &str) -> Result<()> {
+fn in_folder<R: Threads + Sync>(
+    rt: &HostRuntime,
+    threads: &R,
+    options: &Options<'_>,
+    folder: &str,
+) -> Result<()> {
     let frames = options.frames[0];
     println!(rt; "{} keys in {frames} frames", options.keys)?;
-    lived(rt, options, frames, FileDisk::open(rt, folder)?, &PARTS)?;
-    lived(rt, options, frames, FileDisk::open(rt, folder)?, &[])?;
-    lived(rt, options, frames, FileDisk::open(rt, folder)?, &[])?;
+    lived(
+        rt,
+        threads,
+        options,
+        frames,
+        FileDisk::open(rt, folder)?,
+        &PARTS,
+    )?;
+    lived(
+        rt,
+        threads,
+        options,
+        frames,
+        FileDisk::open(rt, folder)?,
+        &[],
+    )?;
+    lived(
+        rt,
+        threads,
+        options,
+        frames,
+        FileDisk::open(rt, folder)?,
+        &[],
+    )?;
     Ok(())
 }
 
@@ -166,8 +198,9 @@ const PARTS: [Named; 7] = [
 ];
 
 // A life: the store is opened, and parts are done in turn.
-fn lived<D: Disk + Drop>(
+fn lived<D: Disk + Drop, R: Threads + Sync>(
     rt: &HostRuntime,
+    threads: &R,
     options: &Options<'_>,
     frames: usize,
     disk: D,
@@ -177,7 +210,7 @@ fn lived<D: Disk + Drop>(
     requires synced { IsSynced D.Disk disk }
 {
     let start = Instant::now(rt)?;
-    let mut engine = opened(rt.alloc(), Counted::new(disk), frames)?;
+    let mut engine = opened(threads, rt.alloc(), Counted::new(disk), frames)?;
     each_done(rt, options, &mut engine, &start, parts)?;
     Ok(engine.into_disk().into_disk())
 }

@@ -47,6 +47,7 @@ use im_bench_layers::figures::{is_timed, show_of};
 use im_bench_layers::works::{Order, Part, Work, worked};
 use im_bench_tree::look_ups::look_up;
 use im_engine::Engine;
+use std::thread::Threads;
 use std::time::Instant;
 
 /// How many steps a transaction makes.
@@ -60,21 +61,21 @@ const WORKS: [(Work, &str); 3] = [
 ];
 
 /// Look-ups in made trees, and stores that are filled, searched and emptied.
-pub fn run(rt: &HostRuntime, words: &[String]) -> Result<()> {
+pub fn run<R: Threads + Sync>(rt: &HostRuntime, threads: &R, words: &[String]) -> Result<()> {
     let timed = is_timed(words);
     let shapes = if timed { [681, 6_803] } else { [400, 1_400] };
     for leaves in shapes {
         look_up(rt, leaves, timed)?;
     }
-    fill(rt, Order::Rising, timed)?;
-    fill(rt, Order::Scattered, timed)
+    fill(rt, threads, Order::Rising, timed)?;
+    fill(rt, threads, Order::Scattered, timed)
 }
 
 /// Each work over a store, with its keys in this order.
-fn fill(rt: &HostRuntime, order: Order, timed: bool) -> Result<()> {
+fn fill<R: Threads + Sync>(rt: &HostRuntime, threads: &R, order: Order, timed: bool) -> Result<()> {
     let alloc = rt.alloc();
     let disk = ModelDisk::new(Vec::new(alloc), Vec::new(alloc));
-    let mut engine = opened(alloc, disk, MOST_FRAMES)?;
+    let mut engine = opened(threads, alloc, disk, MOST_FRAMES)?;
     each_done(rt, &mut engine, order, timed)
 }
 

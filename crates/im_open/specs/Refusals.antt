@@ -1,15 +1,16 @@
 -- Why a store was not opened.
-use Rattle.std.specs.Prelude.{◌≡◌, ◌<◌, ◌⊎◌, ◌↔◌}
+use Rattle.std.specs.Prelude.{◌≡◌, ◌<◌, ◌≤◌, ◌⊎◌, ◌↔◌}
 use Rattle.im_base_types.specs.declared.fault.Fault.{Fault}
-use Rattle.im_base_types.specs.declared.fault.Fault.TheVariants.{Capacity, Device, LogFull, Memory, NotAStore, PoolSize}
+use Rattle.im_base_types.specs.declared.fault.Fault.TheVariants.{Capacity, Device, LogFull, Memory, NotAStore, PoolSize, Workers}
 use Rattle.im_engine.specs.declared.config.Config.{Config}
 use Rattle.im_open.specs.declared.not_opened.NotOpened.{NotOpened}
 use Rattle.im_open.specs.declared.not_opened.NotOpened.TheVariants.{Files, Store}
 
--- One of the causes of an opening: the number of frames just where they are too few or too many.
+-- One of the causes of an opening: the number of frames just where they are too few or too many, and behind that the number of workers just where they are.
 pub record IsCause (config : Config) (fault : Fault) : Type 0 where
   pub frames : (fault ≡ PoolSize) ↔ ((config.frames < 8) ⊎ (1024 < config.frames))
-  pub any : (fault ≡ PoolSize) ⊎ (fault ≡ Memory) ⊎ (fault ≡ Device) ⊎ (fault ≡ NotAStore) ⊎ (fault ≡ LogFull) ⊎ (fault ≡ Capacity)
+  pub workers : (fault ≡ Workers) ↔ ((8 ≤ config.frames) × (config.frames ≤ 1024)) × ((config.workers < 1) ⊎ (16 < config.workers))
+  pub any : (fault ≡ PoolSize) ⊎ (fault ≡ Workers) ⊎ (fault ≡ Memory) ⊎ (fault ≡ Device) ⊎ (fault ≡ NotAStore) ⊎ (fault ≡ LogFull) ⊎ (fault ≡ Capacity)
 
 -- The files were not opened, or their store was refused for such a cause.
 abbrev pub IsRefusal : Config → NotOpened → Type 0

@@ -9,11 +9,13 @@ use im_base_file_disk::FileDisk;
 use im_base_steps::Store;
 use im_engine::{Config, Engine};
 use im_front::Rested;
+use std::thread::Threads;
 
 /// Opens the store in a folder, or makes one where there is none. No transaction is active in it and nothing is locked, and it keeps the folder until it
-/// ends. Refused as `FileDisk::open` and `Engine::open_or_create` are.
-pub fn open(
+/// ends. Threads are started by `threads` alone. Refused as `FileDisk::open` and `Engine::open_or_create` are.
+pub fn open<R: Threads + Sync>(
     rt: &HostRuntime,
+    threads: &R,
     folder: &str,
     config: Config,
 ) -> Result<Rested<Engine<FileDisk>>, NotOpened>
@@ -23,14 +25,19 @@ pub fn open(
     ensures works { IfOk result (λ e. (e.failed ≡ false) × (e.txns.rows ≡ [])) }
     ensures causes { IfErr result (λ e. IsRefusal config e) }
 {
-    match opened(rt, folder, config) {
+    match opened(rt, threads, folder, config) {
         Ok(engine) => Ok(Rested::new(engine)),
         Err(error) => Err(error),
     }
 }
 
 // The same, before it is said to be at rest.
-fn opened(rt: &HostRuntime, folder: &str, config: Config) -> Result<Engine<FileDisk>, NotOpened>
+fn opened<R: Threads + Sync>(
+    rt: &HostRuntime,
+    threads: &R,
+    folder: &str,
+    config: Config,
+) -> Result<Engine<FileDisk>, NotOpened>
     ensures rests { IfOk result (λ engine. IsResting ⟦<Engine<FileDisk> as Store>⟧ engine) }
     ensures group { IfOk result (λ e. e.txns.group ≡ config.group) }
     ensures frames { IfOk result (λ e. e.writer.pool.frames ≡ config.frames) }
@@ -42,7 +49,7 @@ fn opened(rt: &HostRuntime, folder: &str, config: Config) -> Result<Engine<FileD
         Ok(disk) => disk,
         Err(error) => return Err(NotOpened::Files(error)),
     };
-    match Engine::open_or_create(rt.alloc(), disk, config) {
+    match Engine::open_or_create(threads, rt.alloc(), disk, config) {
         Ok(engine) => Ok(engine),
         Err((fault, _disk)) => Err(NotOpened::Store(fault)),
     }

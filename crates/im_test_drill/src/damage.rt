@@ -11,6 +11,7 @@ use im_engine::{Config, Engine};
 use im_tool_lines::StoreScript;
 use std::alloc::{AllocError, Global};
 use std::test::Fail;
+use std::thread::Threads;
 
 const SCRIPT: &str =
     "set log 014152494553494d3100001000000000000000000000000000000000000000010000004c0000002b01000000000000000100000000000000000000000000000000000000010161000000000000000700000021080000000000000001000000000000002400000000000000000000000000\nlife\n";
@@ -31,8 +32,13 @@ fn whole_log(alloc: Global) -> Vec<u8> {
 }
 
 // What an opening of these files answers: 0, or the refusal's number. Where it succeeds, steps of each kind are made.
-fn answer_of(alloc: Global, log: Vec<u8>, pages: Vec<u8>) -> Result<u8, AllocError> {
-    match open(alloc, ModelDisk::new(log, pages)) {
+fn answer_of<R: Threads + Sync>(
+    rt: &R,
+    alloc: Global,
+    log: Vec<u8>,
+    pages: Vec<u8>,
+) -> Result<u8, AllocError> {
+    match open(rt, alloc, ModelDisk::new(log, pages)) {
         Ok(mut engine) => {
             let made = make_steps(alloc, &mut engine);
             let _disk = engine.into_disk();
@@ -43,11 +49,15 @@ fn answer_of(alloc: Global, log: Vec<u8>, pages: Vec<u8>) -> Result<u8, AllocErr
     }
 }
 
-fn open(alloc: Global, disk: ModelDisk) -> Result<Engine<ModelDisk>, Fault>
+fn open<R: Threads + Sync>(
+    rt: &R,
+    alloc: Global,
+    disk: ModelDisk,
+) -> Result<Engine<ModelDisk>, Fault>
     requires working { ⟦<ModelDisk as Disk>⟧.failed disk ≡ false }
     requires synced { IsSynced ⟦<ModelDisk as Disk>⟧ disk }
 {
-    match Engine::open_or_create(alloc, disk, Config::default()) {
+    match Engine::open_or_create(rt, alloc, disk, Config::default()) {
         Ok(engine) => Ok(engine),
         Err((fault, _disk)) => Err(fault),
     }
@@ -114,7 +124,7 @@ fn a_log_that_is_cut_is_no_store(rt: HostRuntime) -> Result<(), Fail> {
     assert!(rt; log.len() == 113, "{}", log.len());
     for size in 0..log.len() {
         let cut = Vec::from_slice(alloc, &log[..size])?;
-        let answer = answer_of(alloc, cut, Vec::new(alloc))?;
+        let answer = answer_of(&rt, alloc, cut, Vec::new(alloc))?;
         let want = if size < 2 { 0 } else { 11 };
         assert!(rt; answer == want, "{size}: {answer}");
     }
@@ -127,7 +137,7 @@ fn a_replaced_byte_is_refused_or_read(rt: HostRuntime) -> Result<(), Fail> {
     let alloc = rt.alloc();
     for len in [0, 4096, 8192] {
         for byte in [0x00, 0x01, 0xFF] {
-            let others = others_with(alloc, byte, len)?;
+            let others = others_with(&rt, alloc, byte, len)?;
             assert!(rt; others == 0, "{byte} {len}: {others}");
         }
     }
@@ -135,7 +145,12 @@ fn a_replaced_byte_is_refused_or_read(rt: HostRuntime) -> Result<(), Fail> {
 }
 
 // With each byte replaced in turn by this one: how many openings answer anything but that the store opens or is none.
-fn others_with(alloc: Global, byte: u8, len: usize) -> Result<usize, AllocError> {
+fn others_with<R: Threads + Sync>(
+    rt: &R,
+    alloc: Global,
+    byte: u8,
+    len: usize,
+) -> Result<usize, AllocError> {
     let log = whole_log(alloc);
     let mut others = 0usize;
     for at in 0..log.len() {
@@ -143,7 +158,7 @@ fn others_with(alloc: Global, byte: u8, len: usize) -> Result<usize, AllocError>
         if at < damaged.len() {
             damaged[at] = byte;
         }
-        let answer = answer_of(alloc, damaged, ones(alloc, len)?)?;
+        let answer = answer_of(rt, alloc, damaged, ones(alloc, len)?)?;
         if answer != 0 && answer != 11 {
             others = others.wrapping_add(1);
         }

@@ -9,6 +9,7 @@ use im_tool_lines::StoreScript;
 use std::alloc::{AllocError, Global};
 use std::io;
 use std::test::Fail;
+use std::thread::Threads;
 
 static LOSERS: [(&str, &[Part]); 2] = [
     // The committed keys stand in sixteen leaves under a full root; the loser splits a leaf and the root above it.
@@ -36,13 +37,13 @@ static LOSERS: [(&str, &[Part]); 2] = [
 ];
 
 // What comes of every stop of the opening behind the one life of a script.
-fn restarts(alloc: Global, script: &[u8]) -> Result<Counts, AllocError> {
+fn restarts<R: Threads + Sync>(rt: &R, alloc: Global, script: &[u8]) -> Result<Counts, AllocError> {
     let mut counts = Counts::default();
     let Ok(script) = StoreScript::parse(alloc, script) else {
         return Ok(counts);
     };
     for life in &script.lives {
-        every_restart(alloc, life, BufferSize::ONE, &mut counts)?;
+        every_restart(rt, alloc, life, BufferSize::ONE, &mut counts)?;
     }
     Ok(counts)
 }
@@ -50,18 +51,30 @@ fn restarts(alloc: Global, script: &[u8]) -> Result<Counts, AllocError> {
 #[test]
 fn losers_are_taken_back(rt: HostRuntime) -> Result<(), Fail> {
     for (name, parts) in &LOSERS {
-        let counts = restarts(rt.alloc(), &text_of(rt.alloc(), parts)?)?;
+        let counts = restarts(&rt, rt.alloc(), &text_of(rt.alloc(), parts)?)?;
         assert!(rt; counts.restarts >= 60, "{name}: {}", counts.restarts);
         assert!(rt; counts.bad == 0, "{name}: {}", counts.bad);
     }
     Ok(())
 }
 
-static EVERY: [(&str, &str, &str, u8); 4] = [
+static EVERY: [(&str, &str, &str, u8); 6] = [
     (
         "every_stop_counted",
         "life\nbegin\ninsert 1 a 7\ncommit 1\ncalls\n",
         "stops 60 restarts 984 bad 0\n",
+        0,
+    ),
+    (
+        "every_stop_of_a_life_with_workers_counted",
+        "life workers 4\nbegin\ninsert 1 a 7\ncommit 1\ncalls\n",
+        "stops 60 restarts 984 bad 0\n",
+        0,
+    ),
+    (
+        "a_life_without_workers_makes_no_call",
+        "life workers 0\n",
+        "stops 0 restarts 0 bad 0\n",
         0,
     ),
     (
@@ -85,10 +98,17 @@ static EVERY: [(&str, &str, &str, u8); 4] = [
 ];
 
 // Whether every stop of a script prints this and no more, with this exit status.
-fn prints_every(alloc: Global, script: &str, want: &str, want_status: u8) -> io::Result<bool> {
+fn prints_every<R: Threads + Sync>(
+    rt: &R,
+    alloc: Global,
+    script: &str,
+    want: &str,
+    want_status: u8,
+) -> io::Result<bool> {
     let mut printed = Vec::new(alloc);
     let mut reader = script.as_bytes();
     let status = every_text(
+        rt,
         alloc,
         BufferSize::ONE,
         &mut reader,
@@ -102,7 +122,7 @@ fn prints_every(alloc: Global, script: &str, want: &str, want_status: u8) -> io:
 fn every_stop_prints_its_counts(rt: HostRuntime) -> Result<(), Fail> {
     for (name, script, want, want_status) in &EVERY {
         assert!(rt;
-            prints_every(rt.alloc(), script, want, *want_status)?,
+            prints_every(&rt, rt.alloc(), script, want, *want_status)?,
             "{name}"
         );
     }
@@ -117,7 +137,7 @@ const SHARED: &str =
 #[test]
 fn every_stop_of_a_shared_force_prints_its_counts(rt: HostRuntime) -> Result<(), Fail> {
     let want = "stops 60 restarts 984 bad 0\n";
-    assert!(rt; prints_every(rt.alloc(), SHARED, want, 0)?);
+    assert!(rt; prints_every(&rt, rt.alloc(), SHARED, want, 0)?);
     Ok(())
 }
 
@@ -128,7 +148,7 @@ const LEFT_OUT: &str = "life\nbegin\ninsert 1 a 7\nflush 1\ninsert 1 b 8\nflush 
 #[test]
 fn every_stop_of_a_copy_left_out_prints_its_counts(rt: HostRuntime) -> Result<(), Fail> {
     let want = "stops 102 restarts 2088 bad 0\n";
-    assert!(rt; prints_every(rt.alloc(), LEFT_OUT, want, 0)?);
+    assert!(rt; prints_every(&rt, rt.alloc(), LEFT_OUT, want, 0)?);
     Ok(())
 }
 
@@ -157,7 +177,7 @@ static FAILURES: [(&str, &[Part]); 3] = [
 ];
 
 // What comes of each failure within the one life of a script.
-fn failures(alloc: Global, script: &[u8]) -> Result<Counts, AllocError> {
+fn failures<R: Threads + Sync>(rt: &R, alloc: Global, script: &[u8]) -> Result<Counts, AllocError> {
     let Ok(script) = StoreScript::parse(alloc, script) else {
         return Ok(Counts::default());
     };
@@ -168,7 +188,7 @@ fn failures(alloc: Global, script: &[u8]) -> Result<Counts, AllocError> {
         mut lives,
     } = script;
     match lives.pop() {
-        Some(life) => every_failure(alloc, life, BufferSize::ONE),
+        Some(life) => every_failure(rt, alloc, life, BufferSize::ONE),
         None => Ok(Counts::default()),
     }
 }
@@ -176,7 +196,7 @@ fn failures(alloc: Global, script: &[u8]) -> Result<Counts, AllocError> {
 #[test]
 fn failures_are_told(rt: HostRuntime) -> Result<(), Fail> {
     for (name, parts) in &FAILURES {
-        let counts = failures(rt.alloc(), &text_of(rt.alloc(), parts)?)?;
+        let counts = failures(&rt, rt.alloc(), &text_of(rt.alloc(), parts)?)?;
         assert!(rt; counts.stops >= 96, "{name}: {}", counts.stops);
         assert!(rt; counts.bad == 0, "{name}: {}", counts.bad);
     }

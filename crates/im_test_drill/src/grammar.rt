@@ -5,6 +5,7 @@ use std::alloc::Global;
 use std::io;
 use std::process::Abort;
 use std::test::Fail;
+use std::thread::Threads;
 
 // Scripts whose first line is bad.
 static SCRIPTS: [&str; 16] = [
@@ -46,7 +47,7 @@ static IN_RAW: [&str; 15] = [
 ];
 
 // Lines that no life of a store takes.
-static IN_LIFE: [&str; 78] = [
+static IN_LIFE: [&str; 84] = [
     "raw",
     "put 61",
     "set log 00",
@@ -75,6 +76,12 @@ static IN_LIFE: [&str; 78] = [
     "life group 1",
     "life groups",
     "life fail 3  group",
+    "life workers",
+    "life workers 04",
+    "life workers 4 ",
+    "life workers 4 group",
+    "life workers 4 workers 4",
+    "life frames 8 workers -1",
     "log 1",
     "log ",
     "begin ",
@@ -128,14 +135,19 @@ static IN_LIFE: [&str; 78] = [
 ];
 
 // Whether a life's second line is named as bad.
-fn is_bad(alloc: Global, first: &str, line: &str) -> io::Result<bool> {
+fn is_bad<R: Threads + Sync>(rt: &R, alloc: Global, first: &str, line: &str) -> io::Result<bool> {
     let script = format!(in alloc; "{first}\n{line}\n")?;
-    prints(alloc, script.as_bytes(), b"refused 16 line 2\n", 1)
+    prints(rt, alloc, script.as_bytes(), b"refused 16 line 2\n", 1)
 }
 
-fn each_is_bad(rt: &impl Abort, alloc: Global, first: &str, lines: &[&str]) -> Result<(), Fail> {
+fn each_is_bad<R: Abort + Threads + Sync>(
+    rt: &R,
+    alloc: Global,
+    first: &str,
+    lines: &[&str],
+) -> Result<(), Fail> {
     for line in lines {
-        assert!(rt; is_bad(alloc, first, line)?, "{line}");
+        assert!(rt; is_bad(rt, alloc, first, line)?, "{line}");
     }
     Ok(())
 }
@@ -144,7 +156,13 @@ fn each_is_bad(rt: &impl Abort, alloc: Global, first: &str, lines: &[&str]) -> R
 fn lines_that_the_grammar_lacks_are_refused(rt: HostRuntime) -> Result<(), Fail> {
     for script in &SCRIPTS {
         assert!(rt;
-            prints(rt.alloc(), script.as_bytes(), b"refused 16 line 1\n", 1)?,
+            prints(
+                &rt,
+                rt.alloc(),
+                script.as_bytes(),
+                b"refused 16 line 1\n",
+                1
+            )?,
             "{script}"
         );
     }

@@ -1,5 +1,5 @@
 //! Tests of scripts: what a script prints and its exit status, word for word, lines that the grammar lacks, trees that grow and shrink,
-//! Commits that wait for a force, lives that are stopped everywhere, or in which each call fails, and damaged files of a store.
+//! Commits that wait for a force, openings whose redo workers share, lives that are stopped everywhere, or in which each call fails, and damaged files of a store.
 //!
 //! They are calls of what `im_tool_text` and `im_tool_every` show. `drilled` runs a script, and `texts` puts long ones together of parts.
 #![tactic(auto)]
@@ -22,3 +22,5 @@ mod texts;
 mod trees;
 #[cfg(test)]
 mod waiting;
+#[cfg(test)]
+mod workers;

@@ -85,7 +85,13 @@ static STORE: [(&str, &str); 12] = [
 fn scripts_print_what_their_lives_answer(rt: HostRuntime) -> Result<(), Fail> {
     for (script, want, want_status) in &RAW {
         assert!(rt;
-            prints(rt.alloc(), script.as_bytes(), want.as_bytes(), *want_status)?,
+            prints(
+                &rt,
+                rt.alloc(),
+                script.as_bytes(),
+                want.as_bytes(),
+                *want_status
+            )?,
             "{script}"
         );
     }
@@ -96,7 +102,7 @@ fn scripts_print_what_their_lives_answer(rt: HostRuntime) -> Result<(), Fail> {
 fn lives_of_a_store_print_their_replies(rt: HostRuntime) -> Result<(), Fail> {
     for (script, want) in &STORE {
         assert!(rt;
-            prints(rt.alloc(), script.as_bytes(), want.as_bytes(), 0)?,
+            prints(&rt, rt.alloc(), script.as_bytes(), want.as_bytes(), 0)?,
             "{script}"
         );
     }

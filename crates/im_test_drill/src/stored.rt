@@ -4,6 +4,7 @@ use crate::drilled::prints;
 use std::alloc::Global;
 use std::process::Abort;
 use std::test::Fail;
+use std::thread::Threads;
 
 // Scripts with what they print and their exit statuses, word for word.
 static STORED: [(&str, &str, &str, u8); 40] = [
@@ -255,14 +256,14 @@ fn scripts_print_their_stored_outputs(rt: HostRuntime) -> Result<(), Fail> {
 }
 
 // The rows are lent: a proof about a function that names so long a table has all of it at each step.
-fn each_prints(
-    rt: &impl Abort,
+fn each_prints<R: Abort + Threads + Sync>(
+    rt: &R,
     alloc: Global,
     rows: &[(&str, &str, &str, u8)],
 ) -> Result<(), Fail> {
     for (name, script, want, want_status) in rows {
         assert!(rt;
-            prints(alloc, script.as_bytes(), want.as_bytes(), *want_status)?,
+            prints(rt, alloc, script.as_bytes(), want.as_bytes(), *want_status)?,
             "{name}"
         );
     }

@@ -7,6 +7,7 @@ use std::alloc::Global;
 use std::io;
 use std::process::Abort;
 use std::test::Fail;
+use std::thread::Threads;
 
 // What is printed is this, begins so, or ends so.
 #[derive(Clone, Copy)]
@@ -47,7 +48,7 @@ const THOUSAND: &str = "begin\ninsert N MHDU N\ncommit N\n";
 
 const THOUSAND_LEFT: &str = "3M3H3D3U N\n";
 
-static ROWS: [(&str, &[Part], Prints); 8] = [
+static ROWS: [(&str, &[Part], Prints); 9] = [
     (
         "the_root_leaf_splits",
         &[
@@ -151,11 +152,25 @@ static ROWS: [(&str, &[Part], Prints); 8] = [
         ],
         Prints::Last(&[Text("final 1000\n"), Each(1, 1001, THOUSAND_LEFT)]),
     ),
+    (
+        "four_workers_and_eight_frames_redo_a_thousand_transactions",
+        &[
+            Text("life\n"),
+            Each(1, 1001, THOUSAND),
+            Text("begin\ninsert 1001 x 1\nforce\nlife frames 8 workers 4\n"),
+        ],
+        Prints::Last(&[Text("final 1000\n"), Each(1, 1001, THOUSAND_LEFT)]),
+    ),
 ];
 
 // Whether a script prints so, with status 0.
-fn prints_so(alloc: Global, script: &[u8], so: Prints) -> io::Result<bool> {
-    let (status, printed) = drilled(alloc, script)?;
+fn prints_so<R: Threads + Sync>(
+    rt: &R,
+    alloc: Global,
+    script: &[u8],
+    so: Prints,
+) -> io::Result<bool> {
+    let (status, printed) = drilled(rt, alloc, script)?;
     let is_so = match so {
         Prints::All(parts) => printed == text_of(alloc, parts)?,
         Prints::First(parts) => printed.starts_with(&text_of(alloc, parts)?),
@@ -169,14 +184,14 @@ fn trees_grow_and_shrink(rt: HostRuntime) -> Result<(), Fail> {
     each_prints_so(&rt, rt.alloc(), &ROWS)
 }
 
-fn each_prints_so(
-    rt: &impl Abort,
+fn each_prints_so<R: Abort + Threads + Sync>(
+    rt: &R,
     alloc: Global,
     rows: &[(&str, &[Part], Prints)],
 ) -> Result<(), Fail> {
     for (name, parts, so) in rows {
         let script = text_of(alloc, parts)?;
-        assert!(rt; prints_so(alloc, &script, *so)?, "{name}");
+        assert!(rt; prints_so(rt, alloc, &script, *so)?, "{name}");
     }
     Ok(())
 }
@@ -193,7 +208,7 @@ fn an_opening_that_splits_may_be_stopped(rt: HostRuntime) -> Result<(), Fail> {
         )?;
         script.extend_from_slice(&stop)?;
         assert!(rt;
-            prints_so(alloc, &script, Prints::Last(&SIXTEEN))?,
+            prints_so(&rt, alloc, &script, Prints::Last(&SIXTEEN))?,
             "{call}"
         );
     }

@@ -149,7 +149,7 @@ fn commits_wait_for_a_force(rt: HostRuntime) -> Result<(), Fail> {
     for (name, script, want) in &WAITING {
         let script = text_of(rt.alloc(), script)?;
         let want = text_of(rt.alloc(), want)?;
-        assert!(rt; prints(rt.alloc(), &script, &want, 0)?, "{name}");
+        assert!(rt; prints(&rt, rt.alloc(), &script, &want, 0)?, "{name}");
     }
     Ok(())
 }

@@ -1,5 +1,5 @@
-//! Tests of the engine of many transactions: lives on the model disk, many transactions at once, devices that fail in the middle of a rollback, and
-//! threads that share a store through a front: the engine over a disk that stops, and a store in memory.
+//! Tests of the engine of many transactions: lives on the model disk, many transactions at once, devices that fail in the middle of a rollback,
+//! openings whose redo workers share, and threads that share a store through a front: the engine over a disk that stops, and a store in memory.
 #![tactic(auto)]
 
 #[cfg(test)]
@@ -22,3 +22,5 @@ mod stops;
 mod threads;
 #[cfg(test)]
 mod waiting;
+#[cfg(test)]
+mod workers;

@@ -54,7 +54,7 @@ fn left_on(disk: ModelDisk) -> (u64, u64) {
 #[test]
 fn one_insert_is_committed(rt: HostRuntime) -> Result<(), Fail> {
     let alloc = rt.alloc();
-    let mut engine = created(alloc, Config::default())?;
+    let mut engine = created(&rt, alloc, Config::default())?;
     let told = commit_one(&rt, alloc, &mut engine);
     let left = left_on(engine.into_disk());
     told?;
@@ -77,7 +77,7 @@ fn a_life_gives_its_disk_back(rt: HostRuntime) -> Result<(), Fail> {
     let alloc = rt.alloc();
     let disk = ModelDisk::new(Vec::new(alloc), Vec::new(alloc));
     let steps = one_insert(alloc, b'a', 7)?;
-    let (replies, disk) = live(alloc, disk, Config::default(), &steps);
+    let (replies, disk) = live(&rt, alloc, disk, Config::default(), &steps);
     let (calls, _) = left_on(disk);
     assert!(rt; (replies?.len(), calls) == (3, 10));
     Ok(())
@@ -155,8 +155,9 @@ fn a_thousand_keys_come_and_go(rt: HostRuntime) -> Result<(), Fail> {
         max_pages: 100,
         buffer: BufferSize::ONE,
         group: false,
+        workers: 1,
     };
-    let mut engine = created(alloc, config)?;
+    let mut engine = created(&rt, alloc, config)?;
     let told = come_and_go(&rt, alloc, &mut engine);
     end(engine);
     told

@@ -8,6 +8,7 @@ use im_engine::{Config, Engine};
 use std::alloc::Global;
 use std::process::Abort;
 use std::test::Fail;
+use std::thread::Threads;
 
 // The key of three digits.
 fn key_of(alloc: Global, number: u64) -> Result<Vec<u8>, Fail> {
@@ -59,22 +60,30 @@ fn count_all<D: Disk>(
 #[test]
 fn sixty_four_are_active_and_commit(rt: HostRuntime) -> Result<(), Fail> {
     let alloc = rt.alloc();
-    let mut engine = created(alloc, Config::default())?;
+    let mut engine = created(&rt, alloc, Config::default())?;
     let told = commit_all(&rt, alloc, &mut engine);
     end(engine);
     told
 }
 
-fn commit_all(rt: &impl Abort, alloc: Global, engine: &mut Engine<ModelDisk>) -> Result<(), Fail> {
+fn commit_all<R: Abort + Threads + Sync>(
+    rt: &R,
+    alloc: Global,
+    engine: &mut Engine<ModelDisk>,
+) -> Result<(), Fail> {
     assert!(rt; count_all(alloc, engine)? == (64, Said::Refused(12), 64, 64));
     assert!(rt; engine.active() == 0);
-    assert!(rt; left_after_stop(alloc, engine)? == 64);
+    assert!(rt; left_after_stop(rt, alloc, engine)? == 64);
     Ok(())
 }
 
 // How many entries there are after a stop.
-fn left_after_stop(alloc: Global, engine: &Engine<ModelDisk>) -> Result<usize, Fail> {
-    let mut next = opened_after_stop(alloc, engine, Config::default())?;
+fn left_after_stop<R: Threads + Sync>(
+    rt: &R,
+    alloc: Global,
+    engine: &Engine<ModelDisk>,
+) -> Result<usize, Fail> {
+    let mut next = opened_after_stop(rt, alloc, engine, Config::default())?;
     let entries = next.entries(alloc);
     end(next);
     Ok(entries?.len())
@@ -102,7 +111,7 @@ fn scan<D: Disk>(alloc: Global, engine: &mut Engine<D>, limit: u64) -> Result<Sa
 #[test]
 fn a_scan_lists_as_many_as_its_limit(rt: HostRuntime) -> Result<(), Fail> {
     let alloc = rt.alloc();
-    let mut engine = created(alloc, Config::default())?;
+    let mut engine = created(&rt, alloc, Config::default())?;
     let told = scan_many(&rt, alloc, &mut engine);
     end(engine);
     told

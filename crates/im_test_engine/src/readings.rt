@@ -9,6 +9,7 @@ use im_engine::{Config, Engine};
 use std::alloc::Global;
 use std::process::Abort;
 use std::test::Fail;
+use std::thread::Threads;
 
 /// How many keys each transaction inserts.
 const KEYS: u64 = 250;
@@ -56,10 +57,15 @@ fn put_all<D: Disk>(alloc: Global, engine: &mut Engine<D>) -> Result<Said, Fail>
 }
 
 // Whether an opening of what a stop now leaves comes through where the read of one number fails.
-fn opens(alloc: Global, engine: &Engine<ModelDisk>, read: u64) -> Result<bool, Fail> {
+fn opens<R: Threads + Sync>(
+    rt: &R,
+    alloc: Global,
+    engine: &Engine<ModelDisk>,
+    read: u64,
+) -> Result<bool, Fail> {
     let mut left = engine.disk().after_stop(alloc)?;
     left.fail_read(read);
-    match opened(alloc, left, few_frames()) {
+    match opened(rt, alloc, left, few_frames()) {
         Ok(next) => {
             end(next);
             Ok(true)
@@ -77,12 +83,16 @@ fn few_frames() -> Config {
 }
 
 // How many reads an opening makes, a length asked for included: the least number whose failure it does not see.
-fn reads_of(alloc: Global, engine: &Engine<ModelDisk>) -> Result<u64, Fail> {
+fn reads_of<R: Threads + Sync>(
+    rt: &R,
+    alloc: Global,
+    engine: &Engine<ModelDisk>,
+) -> Result<u64, Fail> {
     let mut low: u64 = 0;
     let mut high: u64 = 65_536;
     for _ in 0..16 {
         let middle = low.saturating_add(high) / 2;
-        if opens(alloc, engine, middle.saturating_add(1))? {
+        if opens(rt, alloc, engine, middle.saturating_add(1))? {
             high = middle;
         } else {
             low = middle;
@@ -100,7 +110,7 @@ fn redone<D: Disk>(engine: &Engine<D>) -> u64 {
 fn an_opening_reads_the_log_in_pieces(rt: HostRuntime) -> Result<(), Fail> {
     let alloc = rt.alloc();
     let disk = ModelDisk::new(Vec::new(alloc), Vec::new(alloc));
-    let mut engine = opened(alloc, disk, few_frames())?;
+    let mut engine = opened(&rt, alloc, disk, few_frames())?;
     let said = count(&rt, alloc, &mut engine);
     end(engine);
     said
@@ -108,15 +118,19 @@ fn an_opening_reads_the_log_in_pieces(rt: HostRuntime) -> Result<(), Fail> {
 
 // A record that is redone by itself takes three reads: here all of them, and the batches, pages and copies beside them, take fewer reads than there are
 // records.
-fn count(rt: &impl Abort, alloc: Global, engine: &mut Engine<ModelDisk>) -> Result<(), Fail> {
+fn count<R: Abort + Threads + Sync>(
+    rt: &R,
+    alloc: Global,
+    engine: &mut Engine<ModelDisk>,
+) -> Result<(), Fail> {
     assert!(rt; put_all(alloc, engine)? == Said::Committed);
-    let mut next = opened_after_stop(alloc, engine, few_frames())?;
+    let mut next = opened_after_stop(rt, alloc, engine, few_frames())?;
     let applied = redone(&next);
     let entries = next.entries(alloc);
     end(next);
     assert!(rt; entries?.len() as u64 == TXNS * KEYS);
     assert!(rt; applied > 400, "{applied}");
-    let reads = reads_of(alloc, engine)?;
+    let reads = reads_of(rt, alloc, engine)?;
     assert!(rt; reads < applied / 2, "{reads} reads for {applied} records");
     Ok(())
 }

@@ -8,6 +8,7 @@ use im_base_types::LONGEST_KEY;
 use im_engine::{BufferSize, Config, Engine};
 use std::alloc::Global;
 use std::test::Fail;
+use std::thread::Threads;
 
 // How many keys the first transaction commits, and the second inserts between them.
 const KEYS: u64 = 40;
@@ -70,6 +71,7 @@ fn few_frames() -> Config {
         max_pages: 1_000,
         buffer: BufferSize::ONE,
         group: false,
+        workers: 1,
     }
 }
 
@@ -113,22 +115,26 @@ fn taken_back() -> Came {
 }
 
 // What comes where the device call of one number fails, and the read of another; a number that is never reached fails none.
-fn came_of(alloc: Global, call: u64, read: u64) -> Result<Came, Fail> {
+fn came_of<R: Threads + Sync>(rt: &R, alloc: Global, call: u64, read: u64) -> Result<Came, Fail> {
     let mut disk = ModelDisk::new(Vec::new(alloc), Vec::new(alloc));
     disk.fail_call(call);
     disk.fail_read(read);
-    let mut engine = opened(alloc, disk, few_frames())?;
-    let came = roll_back(alloc, &mut engine);
+    let mut engine = opened(rt, alloc, disk, few_frames())?;
+    let came = roll_back(rt, alloc, &mut engine);
     end(engine);
     came
 }
 
 // What comes of this engine.
-fn roll_back(alloc: Global, engine: &mut Engine<ModelDisk>) -> Result<Came, Fail> {
+fn roll_back<R: Threads + Sync>(
+    rt: &R,
+    alloc: Global,
+    engine: &mut Engine<ModelDisk>,
+) -> Result<Came, Fail> {
     let begun = many_to_undo(alloc, engine)?;
     let (times, failing) = go_on(engine);
     let behind = (make(engine, Step::Continue(2)), make(engine, Step::Begin));
-    let (found, next) = found_after_stop(alloc, engine)?;
+    let (found, next) = found_after_stop(rt, alloc, engine)?;
     Ok(Came {
         begun,
         within: 0 < times && times < KEYS - 1,
@@ -140,11 +146,12 @@ fn roll_back(alloc: Global, engine: &mut Engine<ModelDisk>) -> Result<Came, Fail
 }
 
 // What there is behind a stop, and the reply to a Begin then.
-fn found_after_stop(
+fn found_after_stop<R: Threads + Sync>(
+    rt: &R,
     alloc: Global,
     engine: &Engine<ModelDisk>,
 ) -> Result<((usize, bool), Said), Fail> {
-    let mut next = opened_after_stop(alloc, engine, few_frames())?;
+    let mut next = opened_after_stop(rt, alloc, engine, few_frames())?;
     let found = are_committed(alloc, &mut next);
     let said = make(&mut next, Step::Begin);
     end(next);
@@ -152,8 +159,8 @@ fn found_after_stop(
 }
 
 // How many device calls there are before the first Continue, and behind the last, where none fails.
-fn calls_within(alloc: Global) -> Result<(u64, u64), Fail> {
-    let mut engine = created(alloc, few_frames())?;
+fn calls_within<R: Threads + Sync>(rt: &R, alloc: Global) -> Result<(u64, u64), Fail> {
+    let mut engine = created(rt, alloc, few_frames())?;
     let begun = many_to_undo(alloc, &mut engine);
     let before = engine.disk().calls();
     let _ = go_on(&mut engine);
@@ -168,14 +175,14 @@ fn a_failed_write_ends_a_rollback_and_the_next_opening_takes_the_rest_back(
     rt: HostRuntime,
 ) -> Result<(), Fail> {
     let alloc = rt.alloc();
-    let (before, behind) = calls_within(alloc)?;
+    let (before, behind) = calls_within(&rt, alloc)?;
     let third = behind.wrapping_sub(before) / 3;
     assert!(rt; third >= 10 && third <= 1_000, "{third}");
     for places in 0..3u64 {
         let call = before
             .wrapping_add(1)
             .wrapping_add(places.wrapping_mul(third));
-        assert!(rt; came_of(alloc, call, u64::MAX)? == taken_back());
+        assert!(rt; came_of(&rt, alloc, call, u64::MAX)? == taken_back());
     }
     Ok(())
 }
@@ -186,7 +193,7 @@ fn a_failed_read_ends_a_rollback_and_the_next_opening_takes_the_rest_back(
 ) -> Result<(), Fail> {
     let alloc = rt.alloc();
     for read in [150u64, 250, 350] {
-        assert!(rt; came_of(alloc, u64::MAX, read)? == taken_back());
+        assert!(rt; came_of(&rt, alloc, u64::MAX, read)? == taken_back());
     }
     Ok(())
 }

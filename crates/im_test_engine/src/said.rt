@@ -11,6 +11,7 @@ use im_base_types::Fault;
 use im_engine::{Config, Engine};
 use std::alloc::Global;
 use std::test::Fail;
+use std::thread::Threads;
 
 /// What a reply says: of an entry its key's first byte and its row id, of entries how many, of a refusal its number.
 #[derive(Clone, Copy, PartialEq, Eq)]
@@ -77,30 +78,40 @@ pub fn make<D: Disk>(engine: &mut Engine<D>, step: Step) -> Said {
 }
 
 /// Opens the store of a disk.
-pub fn opened<D: Disk + Drop>(alloc: Global, disk: D, config: Config) -> Result<Engine<D>, Fault>
+pub fn opened<D: Disk + Drop, R: Threads + Sync>(
+    rt: &R,
+    alloc: Global,
+    disk: D,
+    config: Config,
+) -> Result<Engine<D>, Fault>
     requires working { D.failed disk ≡ false }
     requires synced { IsSynced D.Disk disk }
 {
-    match Engine::open_or_create(alloc, disk, config) {
+    match Engine::open_or_create(rt, alloc, disk, config) {
         Ok(engine) => Ok(engine),
         Err((fault, _disk)) => Err(fault),
     }
 }
 
 /// Opens a new store.
-pub fn created(alloc: Global, config: Config) -> Result<Engine<ModelDisk>, Fault> {
+pub fn created<R: Threads + Sync>(
+    rt: &R,
+    alloc: Global,
+    config: Config,
+) -> Result<Engine<ModelDisk>, Fault> {
     let disk = ModelDisk::new(Vec::new(alloc), Vec::new(alloc));
-    opened(alloc, disk, config)
+    opened(rt, alloc, disk, config)
 }
 
 /// Opens what a stop now leaves of an engine's disk.
-pub fn opened_after_stop(
+pub fn opened_after_stop<R: Threads + Sync>(
+    rt: &R,
     alloc: Global,
     engine: &Engine<ModelDisk>,
     config: Config,
 ) -> Result<Engine<ModelDisk>, Fault> {
     let left = engine.disk().after_stop(alloc)?;
-    opened(alloc, left, config)
+    opened(rt, alloc, left, config)
 }
 
 /// Ends an engine, and its disk.

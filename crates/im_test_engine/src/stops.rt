@@ -56,13 +56,17 @@ fn stop_at(alloc: Global, call: u64) -> Result<Stop, Fault> {
 }
 
 // A new store at rest, on a disk that will stop.
-fn new_store(alloc: Global, stop: Stop) -> Result<Engine<ModelDisk>, Fault>
+fn new_store<R: Threads + Sync>(
+    rt: &R,
+    alloc: Global,
+    stop: Stop,
+) -> Result<Engine<ModelDisk>, Fault>
     ensures resting { IfOk result (λ e. IsResting ⟦<Engine<ModelDisk> as Store>⟧ e) }
 {
     every_list_of_lives();
     let mut disk = ModelDisk::new(Vec::new(alloc), Vec::new(alloc));
     disk.arm(stop);
-    match Engine::open_or_create(alloc, disk, Config::default()) {
+    match Engine::open_or_create(rt, alloc, disk, Config::default()) {
         Ok(engine) => Ok(engine),
         Err(_) => Err(Fault::Device),
     }
@@ -170,9 +174,13 @@ fn work_at_once<E: Store + Send, L: Ledger + Send + Sync, R: Threads + Wait + Sy
 }
 
 // What the stop left, opened again.
-fn reopened(alloc: Global, closed: Closed<Engine<ModelDisk>>) -> Result<Left, Fault> {
+fn reopened<R: Threads + Sync>(
+    rt: &R,
+    alloc: Global,
+    closed: Closed<Engine<ModelDisk>>,
+) -> Result<Left, Fault> {
     let Closed { engine, trace, .. } = closed;
-    let (stopped, entries) = left_on(alloc, engine.into_disk());
+    let (stopped, entries) = left_on(rt, alloc, engine.into_disk());
     Ok(Left {
         trace,
         entries: entries?,
@@ -181,16 +189,24 @@ fn reopened(alloc: Global, closed: Closed<Engine<ModelDisk>>) -> Result<Left, Fa
 }
 
 // Whether a disk has stopped, and the entries that it left.
-fn left_on(alloc: Global, disk: ModelDisk) -> (bool, Result<Vec<(Key, Rid)>, Fault>) {
-    (disk.stopped(), entries_left(alloc, &disk))
+fn left_on<R: Threads + Sync>(
+    rt: &R,
+    alloc: Global,
+    disk: ModelDisk,
+) -> (bool, Result<Vec<(Key, Rid)>, Fault>) {
+    (disk.stopped(), entries_left(rt, alloc, &disk))
 }
 
 // The entries that a stop leaves of a disk, opened again.
-fn entries_left(alloc: Global, disk: &ModelDisk) -> Result<Vec<(Key, Rid)>, Fault> {
+fn entries_left<R: Threads + Sync>(
+    rt: &R,
+    alloc: Global,
+    disk: &ModelDisk,
+) -> Result<Vec<(Key, Rid)>, Fault> {
     let Ok(left) = disk.after_stop(alloc) else {
         return Err(Fault::Memory);
     };
-    let Ok(mut next) = opened(alloc, left, Config::default()) else {
+    let Ok(mut next) = opened(rt, alloc, left, Config::default()) else {
         return Err(Fault::NotAStore);
     };
     let entries = next.entries(alloc);
@@ -210,9 +226,9 @@ fn stopped_at<L: Ledger + Send + Sync, R: Threads + Wait + Sync>(
 ) -> Result<Left, Fault>
     requires blank { (blank.name ≡ L.name) × (blank.parts ≡ L.parts) × (blank.parts ≡ 1024) }
 {
-    let engine = new_store(alloc, stop_at(alloc, call)?)?;
+    let engine = new_store(rt, alloc, stop_at(alloc, call)?)?;
     let closed = both::<Engine<ModelDisk>, L, R>(rt, alloc, engine, blank)?;
-    reopened(alloc, closed)
+    reopened(rt, alloc, closed)
 }
 
 // Whether the Commit of a transaction stands in the trace; and if it does, whether it was acknowledged.

@@ -7,6 +7,7 @@ use im_engine::{BufferSize, Config, Engine};
 use std::alloc::Global;
 use std::process::Abort;
 use std::test::Fail;
+use std::thread::Threads;
 
 fn key_of(alloc: Global, byte: u8) -> Result<Vec<u8>, Fail> {
     let mut key = Vec::new(alloc);
@@ -15,14 +16,15 @@ fn key_of(alloc: Global, byte: u8) -> Result<Vec<u8>, Fail> {
 }
 
 // A new store in which Commits wait.
-fn grouped(alloc: Global) -> Result<Engine<ModelDisk>, Fail> {
+fn grouped<R: Threads + Sync>(rt: &R, alloc: Global) -> Result<Engine<ModelDisk>, Fail> {
     let config = Config {
         frames: 64,
         max_pages: 1_000,
         buffer: BufferSize::ONE,
         group: true,
+        workers: 1,
     };
-    Ok(created(alloc, config)?)
+    Ok(created(rt, alloc, config)?)
 }
 
 // A transaction of this number begins, and inserts a key.
@@ -74,7 +76,7 @@ fn wait_and_force(
 #[test]
 fn force_finishes_both(rt: HostRuntime) -> Result<(), Fail> {
     let alloc = rt.alloc();
-    let mut engine = grouped(alloc)?;
+    let mut engine = grouped(&rt, alloc)?;
     let told = wait_and_force(&rt, alloc, &mut engine);
     end(engine);
     told

@@ -18,9 +18,9 @@ fn commit_one<E: Store, R: Wait>(rt: &R, alloc: Global, front: &Open<E>) -> Resu
 
 #[test]
 fn commit_makes_a_force_and_is_durable(rt: HostRuntime) -> Result<(), Fail> {
-    let front = grouped(rt.alloc())?;
+    let front = grouped(&rt, rt.alloc())?;
     let told = commit_one(&rt, rt.alloc(), &front);
-    let found = look_behind(rt.alloc(), front)?;
+    let found = look_behind(&rt, rt.alloc(), front)?;
     assert!(rt; told.is_ok());
     assert!(rt; found.made == 4 && found.calls == CREATION + FORCE);
     assert!(rt; are_bytes(found.entries.as_slice(), b"a"));
@@ -29,9 +29,9 @@ fn commit_makes_a_force_and_is_durable(rt: HostRuntime) -> Result<(), Fail> {
 
 #[test]
 fn without_group_commit_is_one_step(rt: HostRuntime) -> Result<(), Fail> {
-    let front = front_over(rt.alloc(), false, stop_at(NEVER), NEVER)?;
+    let front = front_over(&rt, rt.alloc(), false, stop_at(NEVER), NEVER)?;
     let told = commit_one(&rt, rt.alloc(), &front);
-    let found = look_behind(rt.alloc(), front)?;
+    let found = look_behind(&rt, rt.alloc(), front)?;
     assert!(rt; told.is_ok());
     assert!(rt; found.made == 3 && found.calls == CREATION + FORCE);
     assert!(rt; are_bytes(found.entries.as_slice(), b"a"));
@@ -76,9 +76,9 @@ fn commit_a_long_one<E: Store, R: Wait>(
 
 #[test]
 fn a_commit_that_does_not_fit_is_durable(rt: HostRuntime) -> Result<(), Fail> {
-    let front = grouped(rt.alloc())?;
+    let front = grouped(&rt, rt.alloc())?;
     let told = commit_a_long_one(&rt, rt.alloc(), &front);
-    let found = look_behind(rt.alloc(), front)?;
+    let found = look_behind(&rt, rt.alloc(), front)?;
     assert!(rt; told.is_ok());
     assert!(rt; found.calls == CREATION + FORCE + FORCE);
     assert!(rt; are_bytes(found.entries.as_slice(), b"a"));
@@ -124,9 +124,9 @@ fn is_unknown(reply: Reply) -> bool {
 
 #[test]
 fn who_waits_takes_no_step_until_it_is_settled(rt: HostRuntime) -> Result<(), Fail> {
-    let front = grouped(rt.alloc())?;
+    let front = grouped(&rt, rt.alloc())?;
     let told = ask_of_one_that_waits(&rt, rt.alloc(), &front);
-    let found = look_behind(rt.alloc(), front)?;
+    let found = look_behind(&rt, rt.alloc(), front)?;
     let told = told?;
     assert!(rt; told.waits && told.second == Err(Fault::NoTransaction));
     assert!(rt; told.rollback && told.go_on);
@@ -156,9 +156,9 @@ fn let_all_wait<E: Store, R: Wait>(
 
 #[test]
 fn sixty_four_wait_and_one_force_serves_them(rt: HostRuntime) -> Result<(), Fail> {
-    let front = grouped(rt.alloc())?;
+    let front = grouped(&rt, rt.alloc())?;
     let told = let_all_wait(&rt, rt.alloc(), &front);
-    let found = look_behind(rt.alloc(), front)?;
+    let found = look_behind(&rt, rt.alloc(), front)?;
     let (waiting, over, then) = told?;
     assert!(rt; waiting == 64 && found.calls == CREATION + FORCE);
     assert!(rt; matches!(over, Reply::Refused(Fault::TooMany)));

@@ -33,10 +33,14 @@ fn commit_four<E: Store, R: Wait>(
 }
 
 // The same on a new store; then what was not synced becomes this byte.
-fn fail_and_stop<R: Wait>(rt: &R, alloc: Global, byte: u8) -> Result<(bool, Found), Fault> {
-    let front = front_over(alloc, true, stop_with(alloc, byte)?, OPENING)?;
+fn fail_and_stop<R: Wait + Threads + Sync>(
+    rt: &R,
+    alloc: Global,
+    byte: u8,
+) -> Result<(bool, Found), Fault> {
+    let front = front_over(rt, alloc, true, stop_with(alloc, byte)?, OPENING)?;
     let told = commit_four(rt, alloc, &front);
-    let found = look_behind(alloc, front)?;
+    let found = look_behind(rt, alloc, front)?;
     let (told, settled, then) = told?;
     let refused = told == Err(Fault::Device) && settled == Err(Fault::Failed);
     Ok((refused && fault_of(then) == Fault::Failed, found))
@@ -106,9 +110,9 @@ fn count(told: &[Fault], fault: Fault) -> usize {
 #[test]
 fn who_sleeps_while_the_force_fails_is_told(rt: HostRuntime) -> Result<(), Fail> {
     let stop = stop_with(rt.alloc(), 0)?;
-    let front = front_over(rt.alloc(), true, stop, OPENING)?;
+    let front = front_over(&rt, rt.alloc(), true, stop, OPENING)?;
     let told = all_told(&rt, rt.alloc(), &front);
-    let found = look_behind(rt.alloc(), front)?;
+    let found = look_behind(&rt, rt.alloc(), front)?;
     let told = told?;
     assert!(rt; count(told.as_slice(), Fault::Device) == 1);
     assert!(rt; count(told.as_slice(), Fault::Failed) == 4);

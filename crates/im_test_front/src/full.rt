@@ -12,6 +12,7 @@ use std::marker::Brand;
 use std::sync::Wait;
 use std::sync::ledger::{Blank, Ledger};
 use std::test::Fail;
+use std::thread::Threads;
 
 /// More than a trace takes steps.
 const MANY: u64 = 70_000;
@@ -95,14 +96,14 @@ fn told_by_front<E: Store, L: Ledger, R: Wait>(
 }
 
 // The same on a new store.
-fn told_by_a_full_trace<L: Ledger, R: Wait>(
+fn told_by_a_full_trace<L: Ledger, R: Wait + Threads + Sync>(
     rt: &R,
     alloc: Global,
     blank: Blank,
 ) -> Result<Told, Fault>
     requires blank { (blank.name ≡ L.name) × (blank.parts ≡ L.parts) × (blank.parts ≡ 1024) }
 {
-    let engine = new_store(alloc, true, stop_at(NEVER), NEVER)?;
+    let engine = new_store(rt, alloc, true, stop_at(NEVER), NEVER)?;
     told_over::<_, L, R>(rt, alloc, engine, blank)
 }
 

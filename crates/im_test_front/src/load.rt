@@ -8,7 +8,7 @@ use std::test::Fail;
 
 #[test]
 fn a_load_with_group_commit_makes_four_steps_a_transaction(rt: HostRuntime) -> Result<(), Fail> {
-    let engine = new_store(rt.alloc(), true, stop_at(NEVER), NEVER)?;
+    let engine = new_store(&rt, rt.alloc(), true, stop_at(NEVER), NEVER)?;
     let args = LoadArgs::new(1, 3, 0).expect(&rt, "in their ranges");
     let mut text = Vec::new(rt.alloc());
     let status = load_text(

@@ -68,7 +68,7 @@ fn commit_both<E: Store, L: Ledger, R: Wait>(
 
 #[test]
 fn each_step_of_a_commit_is_counted(rt: HostRuntime) -> Result<(), Fail> {
-    let engine = new_store(rt.alloc(), true, stop_at(NEVER), NEVER)?;
+    let engine = new_store(&rt, rt.alloc(), true, stop_at(NEVER), NEVER)?;
     let (told, ended) = serve(&rt, rt.alloc(), Rested::new(engine), Commits)?;
     assert!(rt; told?);
     assert!(rt; ended.sum == Some(8));

@@ -71,9 +71,9 @@ fn all_commit<E: Store + Send, R: Threads + Wait + Sync>(
 
 // One round, in a new store.
 fn round<R: Threads + Wait + Sync>(rt: &R, alloc: Global) -> Result<Found, Fault> {
-    let front = grouped(alloc)?;
+    let front = grouped(rt, alloc)?;
     let told = all_commit(rt, alloc, &front);
-    let found = look_behind(alloc, front)?;
+    let found = look_behind(rt, alloc, front)?;
     told?;
     Ok(found)
 }
@@ -156,7 +156,7 @@ fn blocked_in_a_new_store<R: Threads + Wait + Sync>(
     alloc: Global,
     by_commit: bool,
 ) -> Result<bool, Fault> {
-    let front = grouped(alloc)?;
+    let front = grouped(rt, alloc)?;
     older_finds(rt, alloc, &front, by_commit)
 }
 
@@ -182,9 +182,9 @@ fn end_and_commit<E: Store + Send, R: Threads + Wait + Sync>(
 
 #[test]
 fn who_ends_while_its_commit_waits_is_committed(rt: HostRuntime) -> Result<(), Fail> {
-    let front = grouped(rt.alloc())?;
+    let front = grouped(&rt, rt.alloc())?;
     let told = end_and_commit(&rt, rt.alloc(), &front);
-    let found = look_behind(rt.alloc(), front)?;
+    let found = look_behind(&rt, rt.alloc(), front)?;
     assert!(rt; told?);
     assert!(rt; found.made == 7 && found.entries.len() == 2);
     Ok(())

@@ -139,13 +139,13 @@ fn stopped_within<R: Threads + Wait + Sync>(
     alloc: Global,
     call: u64,
 ) -> Result<Told, Fault> {
-    let front = front_over(alloc, true, stop_within(alloc, call)?, NEVER)?;
+    let front = front_over(rt, alloc, true, stop_within(alloc, call)?, NEVER)?;
     let (first, second) = join(
         rt,
         || work(rt, alloc, &front, 0),
         || work(rt, alloc, &front, 1),
     );
-    let found = look_behind(alloc, front)?;
+    let found = look_behind(rt, alloc, front)?;
     Ok(Told {
         first: first?,
         second: second?,

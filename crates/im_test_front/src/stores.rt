@@ -10,6 +10,7 @@ use im_engine::{BufferSize, Config, Engine, every_list_of_lives};
 use im_front::{Left, Open, Rested};
 use std::alloc::Global;
 use std::sync::Wait;
+use std::thread::Threads;
 
 /// A device call that is never made.
 pub const NEVER: u64 = 1 << 61;
@@ -52,7 +53,8 @@ pub fn stop_with(alloc: Global, byte: u8) -> Result<Stop, Fault> {
 }
 
 /// A new store, on a disk that stops, and whose device call of that number fails.
-pub fn new_store(
+pub fn new_store<R: Threads + Sync>(
+    rt: &R,
     alloc: Global,
     group: bool,
     stop: Stop,
@@ -69,21 +71,23 @@ pub fn new_store(
         max_pages: 1_000,
         buffer: BufferSize::ONE,
         group,
+        workers: 1,
     };
-    match Engine::open_or_create(alloc, disk, config) {
+    match Engine::open_or_create(rt, alloc, disk, config) {
         Ok(engine) => Ok(engine),
         Err((fault, _disk)) => Err(fault),
     }
 }
 
 /// A front over such a store.
-pub fn front_over(
+pub fn front_over<R: Threads + Sync>(
+    rt: &R,
     alloc: Global,
     group: bool,
     stop: Stop,
     failing: u64,
 ) -> Result<Open<Engine<ModelDisk>>, Fault> {
-    let engine = new_store(alloc, group, stop, failing)?;
+    let engine = new_store(rt, alloc, group, stop, failing)?;
     opened(alloc, Rested::new(engine))
 }
 
@@ -96,8 +100,8 @@ pub fn opened<E: Store>(alloc: Global, at_rest: Rested<E>) -> Result<Open<E>, Fa
 }
 
 /// A front over a store with group commit, on a disk that neither stops nor fails.
-pub fn grouped(alloc: Global) -> Result<Open<Engine<ModelDisk>>, Fault> {
-    front_over(alloc, true, stop_at(NEVER), NEVER)
+pub fn grouped<R: Threads + Sync>(rt: &R, alloc: Global) -> Result<Open<Engine<ModelDisk>>, Fault> {
+    front_over(rt, alloc, true, stop_at(NEVER), NEVER)
 }
 
 /// A transaction that begins.
@@ -145,15 +149,24 @@ pub fn key_of(alloc: Global, byte: u8) -> Result<Vec<u8>, Fault> {
 }
 
 /// Ends a front, and looks what is there after a stop.
-pub fn look_behind(alloc: Global, front: Open<Engine<ModelDisk>>) -> Result<Found, Fault> {
+pub fn look_behind<R: Threads + Sync>(
+    rt: &R,
+    alloc: Global,
+    front: Open<Engine<ModelDisk>>,
+) -> Result<Found, Fault> {
     let Left { engine, made, .. } = front.close();
-    look_at(alloc, made, engine.into_disk())
+    look_at(rt, alloc, made, engine.into_disk())
 }
 
-fn look_at(alloc: Global, made: u64, disk: ModelDisk) -> Result<Found, Fault> {
+fn look_at<R: Threads + Sync>(
+    rt: &R,
+    alloc: Global,
+    made: u64,
+    disk: ModelDisk,
+) -> Result<Found, Fault> {
     let calls = disk.calls();
     let stopped = disk.stopped();
-    let entries = entries_left(alloc, &disk)?;
+    let entries = entries_left(rt, alloc, &disk)?;
     Ok(Found {
         made,
         calls,
@@ -163,9 +176,13 @@ fn look_at(alloc: Global, made: u64, disk: ModelDisk) -> Result<Found, Fault> {
 }
 
 // The entries that a stop leaves on a disk.
-fn entries_left(alloc: Global, disk: &ModelDisk) -> Result<Vec<(Key, Rid)>, Fault> {
+fn entries_left<R: Threads + Sync>(
+    rt: &R,
+    alloc: Global,
+    disk: &ModelDisk,
+) -> Result<Vec<(Key, Rid)>, Fault> {
     let left = disk.after_stop(alloc)?;
-    match Engine::open_or_create(alloc, left, Config::default()) {
+    match Engine::open_or_create(rt, alloc, left, Config::default()) {
         Ok(engine) => entries_of(alloc, engine),
         Err((fault, _disk)) => Err(fault),
     }

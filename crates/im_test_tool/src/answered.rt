@@ -13,6 +13,7 @@ use im_tool::{Cause, Causes, Manner, StoreEnd, store_text};
 use std::alloc::Global;
 use std::io::BufReader;
 use std::test::Fail;
+use std::thread::Threads;
 use std::{fs, io};
 
 // Lines on the model disk, and what is answered.
@@ -132,7 +133,8 @@ static RUNS: [Run; 8] = [
 ];
 
 // What a store on a disk answers to these lines, and how the run ended.
-fn answers<D: Disk + Cause + Drop>(
+fn answers<D: Disk + Cause + Drop, R: Threads + Sync>(
+    rt: &R,
     alloc: Global,
     disk: D,
     bound: u64,
@@ -150,6 +152,7 @@ fn answers<D: Disk + Cause + Drop>(
         is_told: false,
     };
     let end = store_text(
+        rt,
         alloc,
         disk,
         Config::default(),
@@ -163,42 +166,44 @@ fn answers<D: Disk + Cause + Drop>(
 }
 
 // Whether a run ends and answers as it says.
-fn is_so(alloc: Global, run: &Run) -> io::Result<bool> {
+fn is_so<R: Threads + Sync>(rt: &R, alloc: Global, run: &Run) -> io::Result<bool> {
     let log = Vec::from_slice(alloc, run.log)?;
     let mut disk = ModelDisk::new(log, Vec::new(alloc));
     disk.fail_call(run.fails);
-    let (end, printed) = answers(alloc, disk, run.bound, run.manner, run.lines)?;
+    let (end, printed) = answers(rt, alloc, disk, run.bound, run.manner, run.lines)?;
     Ok(end == run.end && printed.as_slice() == run.printed.as_bytes())
 }
 
 #[test]
 fn a_store_answers_its_lines(rt: HostRuntime) -> Result<(), Fail> {
     for run in &RUNS {
-        assert!(rt; is_so(rt.alloc(), run)?, "{}", run.name);
+        assert!(rt; is_so(&rt, rt.alloc(), run)?, "{}", run.name);
     }
     Ok(())
 }
 
 // What a store in a folder answers to these lines, and how the run ended.
-fn kept(
+fn kept<R: Threads + Sync>(
     rt: &HostRuntime,
+    threads: &R,
     folder: &str,
     bound: u64,
     lines: &str,
 ) -> Result<(StoreEnd, Vec<u8>), Fail> {
     let disk = FileDisk::open(rt, folder)?;
-    Ok(answers(rt.alloc(), disk, bound, BY_NUMBERS, lines)?)
+    Ok(answers(threads, rt.alloc(), disk, bound, BY_NUMBERS, lines)?)
 }
 
 // Whether a store in a folder comes to the input's end, and answers this and no more to these lines.
-fn keeps(
+fn keeps<R: Threads + Sync>(
     rt: &HostRuntime,
+    threads: &R,
     folder: &str,
     bound: u64,
     lines: &str,
     want: &str,
 ) -> Result<bool, Fail> {
-    let (end, printed) = kept(rt, folder, bound, lines)?;
+    let (end, printed) = kept(rt, threads, folder, bound, lines)?;
     Ok(end == StoreEnd::Input && printed.as_slice() == want.as_bytes())
 }
 
@@ -215,7 +220,7 @@ static KEPT: [(&str, &str); 2] = [
 fn a_store_in_a_folder_keeps_its_keys(rt: HostRuntime) -> Result<(), Fail> {
     let _ = fs::remove_dir_all(&rt, "im_tool_kept");
     for (lines, want) in &KEPT {
-        assert!(rt; keeps(&rt, "im_tool_kept", 0, lines, want)?, "{lines}");
+        assert!(rt; keeps(&rt, &rt, "im_tool_kept", 0, lines, want)?, "{lines}");
     }
     fs::remove_dir_all(&rt, "im_tool_kept")?;
     Ok(())
@@ -224,14 +229,15 @@ fn a_store_in_a_folder_keeps_its_keys(rt: HostRuntime) -> Result<(), Fail> {
 const THREE: &str = "begin\ninsert 1 a 7\ninsert 1 b 8\ninsert 1 c 9\ncommit 1\nredo\n";
 
 // Whether the store in the folder comes to the input's end, and what it answers to these lines begins and ends so.
-fn is_kept(
+fn is_kept<R: Threads + Sync>(
     rt: &HostRuntime,
+    threads: &R,
     bound: u64,
     lines: &str,
     first: &str,
     last: &str,
 ) -> Result<bool, Fail> {
-    let (end, printed) = kept(rt, "im_tool_closed", bound, lines)?;
+    let (end, printed) = kept(rt, threads, "im_tool_closed", bound, lines)?;
     Ok(
         end == StoreEnd::Input
             && printed.starts_with(first.as_bytes())
@@ -246,15 +252,15 @@ fn files(rt: &HostRuntime) -> io::Result<(Vec<u8>, Vec<u8>)> {
     Ok((log, pages))
 }
 
-fn has_three(rt: &HostRuntime, bound: u64) -> Result<bool, Fail> {
+fn has_three<R: Threads + Sync>(rt: &HostRuntime, threads: &R, bound: u64) -> Result<bool, Fail> {
     let want = "total 3\n61 7\n62 8\n63 9\n";
-    keeps(rt, "im_tool_closed", bound, "entries\n", want)
+    keeps(rt, threads, "im_tool_closed", bound, "entries\n", want)
 }
 
 // Whether one more opening and close find the three entries, and leave the files as they are.
-fn is_left(rt: &HostRuntime, bound: u64) -> Result<bool, Fail> {
+fn is_left<R: Threads + Sync>(rt: &HostRuntime, threads: &R, bound: u64) -> Result<bool, Fail> {
     let left = files(rt)?;
-    Ok(has_three(rt, bound)? && files(rt)? == left)
+    Ok(has_three(rt, threads, bound)? && files(rt)? == left)
 }
 
 // Three inserts are redone where nothing bounds that, and none after a close.
@@ -263,11 +269,14 @@ fn a_closed_store_has_nothing_to_redo(rt: HostRuntime) -> Result<(), Fail> {
     for (bound, want) in [(0, "redo 36 3\n"), (16_777_216, " 0\n")] {
         let _ = fs::remove_dir_all(&rt, "im_tool_closed");
         assert!(rt;
-            is_kept(&rt, bound, THREE, "", "committed\nredo 0 0\n")?,
+            is_kept(&rt, &rt, bound, THREE, "", "committed\nredo 0 0\n")?,
             "{bound}"
         );
-        assert!(rt; is_kept(&rt, bound, "redo\n", "redo ", want)?, "{bound}");
-        assert!(rt; is_left(&rt, bound)?, "{bound}");
+        assert!(rt;
+            is_kept(&rt, &rt, bound, "redo\n", "redo ", want)?,
+            "{bound}"
+        );
+        assert!(rt; is_left(&rt, &rt, bound)?, "{bound}");
     }
     fs::remove_dir_all(&rt, "im_tool_closed")?;
     Ok(())

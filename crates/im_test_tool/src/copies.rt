@@ -6,6 +6,7 @@ use im_tool::{ScratchDisk, check_text};
 use std::alloc::Global;
 use std::fs;
 use std::test::Fail;
+use std::thread::Threads;
 
 // The bytes of both files.
 #[derive(Drop)]
@@ -45,8 +46,12 @@ pub(crate) fn scratch(alloc: Global, copies: &Copies) -> Result<ScratchDisk, Fai
 }
 
 // Whether the check of a store finds no damage.
-pub(crate) fn is_whole(alloc: Global, copies: &Copies) -> Result<bool, Fail> {
+pub(crate) fn is_whole<R: Threads + Sync>(
+    rt: &R,
+    alloc: Global,
+    copies: &Copies,
+) -> Result<bool, Fail> {
     let mut printed = Vec::new(alloc);
-    let (status, _disk) = check_text(alloc, &mut printed, scratch(alloc, copies)?);
+    let (status, _disk) = check_text(rt, alloc, &mut printed, scratch(alloc, copies)?);
     Ok(status? == 0 && printed.as_slice() == b"ok\n".as_slice())
 }

@@ -9,6 +9,7 @@ use std::alloc::{AllocError, Global};
 use std::io;
 use std::io::{BufReader, Write};
 use std::test::Fail;
+use std::thread::Threads;
 
 // Writes so many entries as a dump has them.
 fn write_entries(text: &mut Vec<u8>, count: u32) -> io::Result<()> {
@@ -20,7 +21,12 @@ fn write_entries(text: &mut Vec<u8>, count: u32) -> io::Result<()> {
 }
 
 // What a load of a text answers, and what it tells of how far it is.
-fn loaded(alloc: Global, text: &[u8], is_shown: bool) -> io::Result<(Loaded, Vec<u8>)> {
+fn loaded<R: Threads + Sync>(
+    rt: &R,
+    alloc: Global,
+    text: &[u8],
+    is_shown: bool,
+) -> io::Result<(Loaded, Vec<u8>)> {
     let mut reader = BufReader::new(alloc, text)?;
     let mut progress = Progress {
         writer: Vec::new(alloc),
@@ -33,6 +39,7 @@ fn loaded(alloc: Global, text: &[u8], is_shown: bool) -> io::Result<(Loaded, Vec
         is_told: false,
     };
     let end = load_text(
+        rt,
         alloc,
         disk,
         Config::default(),
@@ -56,17 +63,23 @@ static LOADS: [(u32, bool, &str); 2] = [
 ];
 
 // Whether all of so many entries are loaded, and this and no more is told.
-fn tells(alloc: Global, count: u32, is_shown: bool, want: &str) -> io::Result<bool> {
+fn tells<R: Threads + Sync>(
+    rt: &R,
+    alloc: Global,
+    count: u32,
+    is_shown: bool,
+    want: &str,
+) -> io::Result<bool> {
     let mut text = Vec::new(alloc);
     write_entries(&mut text, count)?;
-    let (end, told) = loaded(alloc, &text, is_shown)?;
+    let (end, told) = loaded(rt, alloc, &text, is_shown)?;
     Ok(end == Loaded::All(u64::from(count)) && told.as_slice() == want.as_bytes())
 }
 
 #[test]
 fn a_load_tells_how_far_it_is(rt: HostRuntime) -> Result<(), Fail> {
     for (count, is_shown, want) in &LOADS {
-        assert!(rt; tells(rt.alloc(), *count, *is_shown, want)?, "{count}");
+        assert!(rt; tells(&rt, rt.alloc(), *count, *is_shown, want)?, "{count}");
     }
     Ok(())
 }
@@ -103,15 +116,15 @@ static PORTABLE: [(&str, Loaded); 9] = [
 ];
 
 // Whether the load of a text ends so.
-fn ends(alloc: Global, text: &str, want: &Loaded) -> io::Result<bool> {
-    let (end, _told) = loaded(alloc, text.as_bytes(), false)?;
+fn ends<R: Threads + Sync>(rt: &R, alloc: Global, text: &str, want: &Loaded) -> io::Result<bool> {
+    let (end, _told) = loaded(rt, alloc, text.as_bytes(), false)?;
     Ok(end == *want)
 }
 
 #[test]
 fn a_load_takes_the_portable_form(rt: HostRuntime) -> Result<(), Fail> {
     for (text, want) in &PORTABLE {
-        assert!(rt; ends(rt.alloc(), text, want)?, "{text}");
+        assert!(rt; ends(&rt, rt.alloc(), text, want)?, "{text}");
     }
     Ok(())
 }

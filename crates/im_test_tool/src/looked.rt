@@ -12,6 +12,7 @@ use std::alloc::Global;
 use std::io::{BufReader, Write};
 use std::process::Abort;
 use std::test::Fail;
+use std::thread::Threads;
 use std::{fs, io};
 
 // Fifteen keys of 255 bytes fill the root; one of them is deleted, another transaction takes its room, and the first never ends.
@@ -27,7 +28,12 @@ fn write_lines(lines: &mut Vec<u8>) -> io::Result<()> {
 }
 
 // Makes the steps of these lines in the store of a folder.
-fn fill(rt: &HostRuntime, folder: &str, lines: &[u8]) -> Result<(), Fail> {
+fn fill<R: Threads + Sync>(
+    rt: &HostRuntime,
+    threads: &R,
+    folder: &str,
+    lines: &[u8],
+) -> Result<(), Fail> {
     let mut reader = BufReader::new(rt.alloc(), lines)?;
     let disk = FileDisk::open(rt, folder)?;
     let mut printed = Vec::new(rt.alloc());
@@ -37,6 +43,7 @@ fn fill(rt: &HostRuntime, folder: &str, lines: &[u8]) -> Result<(), Fail> {
         is_told: false,
     };
     let _end = store_text(
+        threads,
         rt.alloc(),
         disk,
         Config::default(),
@@ -50,19 +57,23 @@ fn fill(rt: &HostRuntime, folder: &str, lines: &[u8]) -> Result<(), Fail> {
 }
 
 // The numbers of a store, with the status.
-fn numbers_of(alloc: Global, copies: &Copies) -> Result<(u8, Vec<u8>), Fail> {
+fn numbers_of<R: Threads + Sync>(
+    rt: &R,
+    alloc: Global,
+    copies: &Copies,
+) -> Result<(u8, Vec<u8>), Fail> {
     let mut printed = Vec::new(alloc);
-    let (status, _disk) = stat_text(alloc, &mut printed, scratch(alloc, copies)?);
+    let (status, _disk) = stat_text(rt, alloc, &mut printed, scratch(alloc, copies)?);
     Ok((status?, printed))
 }
 
-fn has_two_leaves(alloc: Global, copies: &Copies) -> Result<bool, Fail> {
-    let (status, printed) = numbers_of(alloc, copies)?;
+fn has_two_leaves<R: Threads + Sync>(rt: &R, alloc: Global, copies: &Copies) -> Result<bool, Fail> {
+    let (status, printed) = numbers_of(rt, alloc, copies)?;
     Ok(status == 0 && printed.starts_with(b"entries 16\nheight 2\nleaves 2 fill "))
 }
 
-fn has_empty_leaf(alloc: Global, copies: &Copies) -> Result<bool, Fail> {
-    let (_status, printed) = numbers_of(alloc, copies)?;
+fn has_empty_leaf<R: Threads + Sync>(rt: &R, alloc: Global, copies: &Copies) -> Result<bool, Fail> {
+    let (_status, printed) = numbers_of(rt, alloc, copies)?;
     Ok(
         printed
             .as_slice()
@@ -77,11 +88,11 @@ fn pages_that_the_opening_takes_are_known(rt: HostRuntime) -> Result<(), Fail> {
     let _ = fs::remove_dir_all(&rt, "im_tool_looked");
     let mut lines = Vec::new(rt.alloc());
     write_lines(&mut lines)?;
-    fill(&rt, "im_tool_looked", &lines)?;
+    fill(&rt, &rt, "im_tool_looked", &lines)?;
     let copies = copies_in(&rt, "im_tool_looked")?;
     fs::remove_dir_all(&rt, "im_tool_looked")?;
-    assert!(rt; is_whole(rt.alloc(), &copies)?);
-    assert!(rt; has_two_leaves(rt.alloc(), &copies)?);
+    assert!(rt; is_whole(&rt, rt.alloc(), &copies)?);
+    assert!(rt; has_two_leaves(&rt, rt.alloc(), &copies)?);
     Ok(())
 }
 
@@ -127,14 +138,18 @@ fn a_leaf_that_a_stop_left_empty_is_no_damage(rt: HostRuntime) -> Result<(), Fai
     let _ = fs::remove_dir_all(&rt, "im_tool_emptied");
     let mut lines = Vec::new(rt.alloc());
     write_emptying_lines(&mut lines)?;
-    fill(&rt, "im_tool_emptied", &lines)?;
+    fill(&rt, &rt, "im_tool_emptied", &lines)?;
     let copies = copies_in(&rt, "im_tool_emptied")?;
     fs::remove_dir_all(&rt, "im_tool_emptied")?;
     stop_at_each_gate(&rt, rt.alloc(), &copies)
 }
 
 // Some of these stops fall between the record that empties the leaf and the end of its page deletion.
-fn stop_at_each_gate(rt: &impl Abort, alloc: Global, copies: &Copies) -> Result<(), Fail> {
+fn stop_at_each_gate<R: Abort + Threads + Sync>(
+    rt: &R,
+    alloc: Global,
+    copies: &Copies,
+) -> Result<(), Fail> {
     let mut gate = FIRST_GATE as usize;
     let mut emptied = 0u64;
     for _batch in 0..100u32 {
@@ -143,8 +158,8 @@ fn stop_at_each_gate(rt: &impl Abort, alloc: Global, copies: &Copies) -> Result<
         };
         gate = next;
         let cut = cut_at(alloc, copies, gate)?;
-        assert!(rt; is_whole(alloc, &cut)?, "{gate}");
-        if has_empty_leaf(alloc, &cut)? {
+        assert!(rt; is_whole(rt, alloc, &cut)?, "{gate}");
+        if has_empty_leaf(rt, alloc, &cut)? {
             emptied = emptied.saturating_add(1);
         }
     }
@@ -153,9 +168,14 @@ fn stop_at_each_gate(rt: &impl Abort, alloc: Global, copies: &Copies) -> Result<
 }
 
 // The files of a store in memory, with so many keys of 255 bytes, so many committed together.
-fn filled(alloc: Global, count: u64, together: u64) -> Result<Copies, Fail> {
+fn filled<R: Threads + Sync>(
+    rt: &R,
+    alloc: Global,
+    count: u64,
+    together: u64,
+) -> Result<Copies, Fail> {
     let disk = ScratchDisk::new(alloc, None);
-    match Engine::open_or_create(alloc, disk, Config::default()) {
+    match Engine::open_or_create(rt, alloc, disk, Config::default()) {
         Ok(mut engine) => {
             let put = put_all(alloc, &mut engine, count, together);
             let mut disk = engine.into_disk();
@@ -205,10 +225,15 @@ fn closed_at(alloc: Global, copies: &Copies, gate: usize) -> Result<Copies, Fail
 }
 
 // What the check says of such files.
-fn said_at(alloc: Global, copies: &Copies, gate: usize) -> Result<(u8, Vec<u8>), Fail> {
+fn said_at<R: Threads + Sync>(
+    rt: &R,
+    alloc: Global,
+    copies: &Copies,
+    gate: usize,
+) -> Result<(u8, Vec<u8>), Fail> {
     let closed = closed_at(alloc, copies, gate)?;
     let mut printed = Vec::new(alloc);
-    let (status, _disk) = check_text(alloc, &mut printed, scratch(alloc, &closed)?);
+    let (status, _disk) = check_text(rt, alloc, &mut printed, scratch(alloc, &closed)?);
     Ok((status?, printed))
 }
 
@@ -230,9 +255,9 @@ static BEHIND: [(u64, u64, u32, u8, &str); 2] = [
 #[test]
 fn batches_that_a_stop_left_are_no_damage(rt: HostRuntime) -> Result<(), Fail> {
     for (count, together, closed, status, end) in &BEHIND {
-        let copies = filled(rt.alloc(), *count, *together)?;
+        let copies = filled(&rt, rt.alloc(), *count, *together)?;
         let gate = gate_after(&copies.log, *closed);
-        let (found, printed) = said_at(rt.alloc(), &copies, gate)?;
+        let (found, printed) = said_at(&rt, rt.alloc(), &copies, gate)?;
         let said = format!(in rt.alloc(); " whole batches behind the closed gate at {gate}{end}")?;
         assert!(rt; found == *status, "{count}");
         assert!(rt; printed.ends_with(said.as_bytes()), "{count}");

@@ -14,6 +14,7 @@ use im_tool::{Causes, Manner, check_text, stat_text, store_text};
 use std::alloc::Global;
 use std::io::{BufReader, Write};
 use std::test::Fail;
+use std::thread::Threads;
 use std::{fs, io};
 
 // What is done to the files of a store.
@@ -63,7 +64,12 @@ fn write_lines(lines: &mut Vec<u8>) -> io::Result<()> {
 }
 
 // What is printed of lines, and what of calls that fail.
-fn answered(alloc: Global, disk: FileDisk, lines: &[u8]) -> Result<(Vec<u8>, Vec<u8>), Fail>
+fn answered<R: Threads + Sync>(
+    rt: &R,
+    alloc: Global,
+    disk: FileDisk,
+    lines: &[u8],
+) -> Result<(Vec<u8>, Vec<u8>), Fail>
     requires working { ⟦<FileDisk as Disk>⟧.failed disk ≡ false }
 {
     let mut reader = BufReader::new(alloc, lines)?;
@@ -74,6 +80,7 @@ fn answered(alloc: Global, disk: FileDisk, lines: &[u8]) -> Result<(Vec<u8>, Vec
         is_told: false,
     };
     let _end = store_text(
+        rt,
         alloc,
         disk,
         Config::default(),
@@ -87,11 +94,11 @@ fn answered(alloc: Global, disk: FileDisk, lines: &[u8]) -> Result<(Vec<u8>, Vec
 }
 
 // Makes a store in a folder, which is closed in order.
-fn make_store(rt: &HostRuntime, folder: &str) -> Result<(), Fail> {
+fn make_store<R: Threads + Sync>(rt: &HostRuntime, threads: &R, folder: &str) -> Result<(), Fail> {
     let _ = fs::remove_dir_all(rt, folder);
     let mut lines = Vec::new(rt.alloc());
     write_lines(&mut lines)?;
-    let _told = answered(rt.alloc(), FileDisk::open(rt, folder)?, &lines)?;
+    let _told = answered(threads, rt.alloc(), FileDisk::open(rt, folder)?, &lines)?;
     Ok(())
 }
 
@@ -121,19 +128,25 @@ fn has_part(text: &[u8], part: &str) -> bool {
 }
 
 // Whether the check says this of the files, and the numbers are not told.
-fn is_named(alloc: Global, copies: &Copies, damage: Damage, name: &str) -> Result<bool, Fail> {
+fn is_named<R: Threads + Sync>(
+    rt: &R,
+    alloc: Global,
+    copies: &Copies,
+    damage: Damage,
+    name: &str,
+) -> Result<bool, Fail> {
     let mut printed = Vec::new(alloc);
     let mut numbers = Vec::new(alloc);
     let copies = damaged(alloc, copies, damage)?;
-    let (check, _disk) = check_text(alloc, &mut printed, scratch(alloc, &copies)?);
-    let (stat, _disk) = stat_text(alloc, &mut numbers, scratch(alloc, &copies)?);
+    let (check, _disk) = check_text(rt, alloc, &mut printed, scratch(alloc, &copies)?);
+    let (stat, _disk) = stat_text(rt, alloc, &mut numbers, scratch(alloc, &copies)?);
     Ok(check? == 1 && stat? == 1 && has_part(&printed, name) && has_part(&numbers, name))
 }
 
 // Whether the opening is refused, or the first look at page 0 is.
-fn is_refused(alloc: Global, copies: Copies, in_opening: bool) -> bool {
+fn is_refused<R: Threads + Sync>(rt: &R, alloc: Global, copies: Copies, in_opening: bool) -> bool {
     let disk = ModelDisk::new(copies.log, copies.pages);
-    match Engine::open_or_create(alloc, disk, Config::default()) {
+    match Engine::open_or_create(rt, alloc, disk, Config::default()) {
         Ok(mut engine) => {
             let looked = matches!(&engine.header(0), Err(Fault::NotAStore));
             let _disk = engine.into_disk();
@@ -146,13 +159,19 @@ fn is_refused(alloc: Global, copies: Copies, in_opening: bool) -> bool {
 // A store that was closed in order is opened without a look at a page: also where none of the file's bytes is one.
 #[test]
 fn files_that_do_not_belong_together_are_refused_by_name(rt: HostRuntime) -> Result<(), Fail> {
-    make_store(&rt, "im_tool_mixed")?;
+    make_store(&rt, &rt, "im_tool_mixed")?;
     let copies = copies_in(&rt, "im_tool_mixed")?;
     fs::remove_dir_all(&rt, "im_tool_mixed")?;
     for (damage, name, in_opening) in &DAMAGES {
-        assert!(rt; is_named(rt.alloc(), &copies, *damage, name)?, "{damage:?}");
+        assert!(rt;
+            is_named(&rt, rt.alloc(), &copies, *damage, name)?,
+            "{damage:?}"
+        );
         let files = damaged(rt.alloc(), &copies, *damage)?;
-        assert!(rt; is_refused(rt.alloc(), files, *in_opening), "{damage:?}");
+        assert!(rt;
+            is_refused(&rt, rt.alloc(), files, *in_opening),
+            "{damage:?}"
+        );
     }
     Ok(())
 }
@@ -160,10 +179,10 @@ fn files_that_do_not_belong_together_are_refused_by_name(rt: HostRuntime) -> Res
 // The files are opened to be read only: the system refuses the first write.
 #[test]
 fn a_call_that_fails_is_named(rt: HostRuntime) -> Result<(), Fail> {
-    make_store(&rt, "im_tool_failing")?;
+    make_store(&rt, &rt, "im_tool_failing")?;
     let disk = FileDisk::open_to_read(&rt, "im_tool_failing")?;
     let lines = b"begin\ninsert 2 a 1\ncommit 2\n";
-    let (printed, told) = answered(rt.alloc(), disk, lines)?;
+    let (printed, told) = answered(&rt, rt.alloc(), disk, lines)?;
     fs::remove_dir_all(&rt, "im_tool_failing")?;
     assert!(rt; printed.starts_with(b"started 2\ninserted\nrefused 8\n"));
     assert!(rt; told.starts_with(b"imstore: folder: a write to `log` at byte "));

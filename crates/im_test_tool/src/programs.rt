@@ -13,8 +13,11 @@ static DRILLS: [(&[&str], u8); 4] = [
     (&["imdrill", "im_tool_script", "two"], 2),
 ];
 
-static STORES: [(&[&str], u8); 3] = [
+static STORES: [(&[&str], u8); 6] = [
     (&["imstore", "im_tool_store"], 0),
+    (&["imstore", "im_tool_store", "--workers", "16"], 0),
+    (&["imstore", "--workers", "0"], 2),
+    (&["imstore", "--workers", "17"], 2),
     (&["imstore", "im_tool_no_folder"], 1),
     (&["imstore", "one", "two"], 2),
 ];
@@ -32,7 +35,7 @@ fn the_drill_program_answers_its_status(rt: HostRuntime) -> Result<(), Fail> {
     fs::write(&rt, "im_tool_script", "raw\n")?;
     for (words, status) in &DRILLS {
         let strings = strings_of(rt.alloc(), words)?;
-        assert!(rt; drill_program(&rt, &strings)? == *status, "{status}");
+        assert!(rt; drill_program(&rt, &rt, &strings)? == *status, "{status}");
     }
     fs::remove_file(&rt, "im_tool_script")?;
     Ok(())
@@ -43,7 +46,7 @@ fn the_store_program_answers_its_status(rt: HostRuntime) -> Result<(), Fail> {
     fs::write(&rt, "im_tool_no_folder", "")?;
     for (words, status) in &STORES {
         let strings = strings_of(rt.alloc(), words)?;
-        assert!(rt; store_program(&rt, &strings)? == *status, "{status}");
+        assert!(rt; store_program(&rt, &rt, &strings)? == *status, "{status}");
     }
     fs::remove_file(&rt, "im_tool_no_folder")?;
     fs::remove_dir_all(&rt, "im_tool_store")?;

@@ -8,11 +8,16 @@ use im_engine_upkeep::{Checkpoints, RedoBound};
 use std::alloc::Global;
 use std::process::Abort;
 use std::test::Fail;
+use std::thread::Threads;
 
 // How long the log is that an opening would read which follows a stop now, from its redo point on.
-fn redo_length(alloc: Global, engine: &Engine<ModelDisk>) -> Result<u64, Fail> {
+fn redo_length<R: Threads + Sync>(
+    rt: &R,
+    alloc: Global,
+    engine: &Engine<ModelDisk>,
+) -> Result<u64, Fail> {
     let disk = engine.disk().after_stop(alloc)?;
-    match Engine::open_or_create(alloc, disk, Config::default()) {
+    match Engine::open_or_create(rt, alloc, disk, Config::default()) {
         Ok(engine) => Ok(
             engine
                 .durable_end()
@@ -56,24 +61,24 @@ const MOST: u64 = 131_072;
 fn what_is_redone_stays_within_the_bound(rt: HostRuntime) -> Result<(), Fail> {
     let alloc = rt.alloc();
     let disk = ModelDisk::new(Vec::new(alloc), Vec::new(alloc));
-    match Engine::open_or_create(alloc, disk, Config::default()) {
+    match Engine::open_or_create(&rt, alloc, disk, Config::default()) {
         Ok(mut engine) => stop_behind_each(&rt, alloc, &mut engine),
         Err((fault, _disk)) => Err(Fail::from(fault)),
     }
 }
 
 // Keys of 255 bytes, each committed, over leaves of fifteen: the store stops after each commit.
-fn stop_behind_each(
-    rt: &impl Abort,
+fn stop_behind_each<R: Abort + Threads + Sync>(
+    rt: &R,
     alloc: Global,
     engine: &mut Engine<ModelDisk>,
 ) -> Result<(), Fail> {
     let mut checkpoints = Checkpoints::of(engine, RedoBound::of_bytes(MOST));
     for n in 0..90u64 {
         assert!(rt; is_put(alloc, engine, &mut checkpoints, n)?, "{n}");
-        assert!(rt; redo_length(alloc, engine)? <= MOST, "{n}");
+        assert!(rt; redo_length(rt, alloc, engine)? <= MOST, "{n}");
     }
     assert!(rt; checkpoints.close(engine).is_ok());
-    assert!(rt; redo_length(alloc, engine)? <= 4_096);
+    assert!(rt; redo_length(rt, alloc, engine)? <= 4_096);
     Ok(())
 }

@@ -17,6 +17,7 @@ use std::alloc::AllocError;
 use std::fmt::Display;
 use std::io;
 use std::io::{BufReader, BufWriter, IsTerminal, Write};
+use std::thread::Threads;
 
 /// Opens the store in the folder that the command line names, or an empty one in memory where it names none, makes the steps
 /// that standard input asks for and prints their replies. The first word is the program's name. It answers the exit status: 0,
@@ -24,11 +25,15 @@ use std::io::{BufReader, BufWriter, IsTerminal, Write};
 ///
 /// Why an opening or a close was refused stands on standard error, in words. An error is of the program's own memory, input or output: its
 /// status is 1.
-pub fn store_program(rt: &HostRuntime, words: &[String]) -> io::Result<u8>
+pub fn store_program<T: Threads + Sync>(
+    rt: &HostRuntime,
+    threads: &T,
+    words: &[String],
+) -> io::Result<u8>
     ensures { IfOk result (λ status. status ≤ 3) }
 {
     match parse_options(rt.alloc(), words) {
-        Ok(options) => run_task(rt, &options),
+        Ok(options) => run_task(rt, threads, &options),
         Err(error) => {
             if error.kind() == clap::error::ErrorKind::OutOfMemory {
                 return Err(io::Error::from(AllocError));
@@ -46,40 +51,58 @@ fn status_of(error: &Error) -> u8
     if error.use_stderr() { 2 } else { 0 }
 }
 
-fn run_task(rt: &HostRuntime, options: &Options) -> io::Result<u8>
+fn run_task<T: Threads + Sync>(rt: &HostRuntime, threads: &T, options: &Options) -> io::Result<u8>
     ensures { IfOk result (λ status. status ≤ 3) }
 {
     let Some(dir) = options.dir else {
-        return run_in_memory(rt, options);
+        return run_in_memory(rt, threads, options);
     };
     match options.task {
-        Task::Steps => run_in_folder(rt, dir, options),
-        Task::Load => load_program(rt, dir, options),
-        task => look_program(rt, dir, task),
+        Task::Steps => run_in_folder(rt, threads, dir, options),
+        Task::Load => load_program(rt, threads, dir, options),
+        task => look_program(rt, threads, dir, task),
     }
 }
 
-fn run_in_memory(rt: &HostRuntime, options: &Options) -> io::Result<u8>
+fn run_in_memory<T: Threads + Sync>(
+    rt: &HostRuntime,
+    threads: &T,
+    options: &Options,
+) -> io::Result<u8>
     ensures { IfOk result (λ status. status ≤ 3) }
 {
     let alloc = rt.alloc();
     let mut reader = BufReader::new(alloc, rt.reader())?;
     let mut writer = BufWriter::new(alloc, io::writer(rt))?;
     let disk = ModelDisk::new(Vec::new(alloc), Vec::new(alloc));
-    let end = run_steps(rt, disk, "memory", options, &mut reader, &mut writer)?;
+    let end = run_steps(
+        rt,
+        threads,
+        disk,
+        "memory",
+        options,
+        &mut reader,
+        &mut writer,
+    )?;
     Ok(status_at(end))
 }
 
-fn run_in_folder(rt: &HostRuntime, dir: &str, options: &Options) -> io::Result<u8>
+fn run_in_folder<T: Threads + Sync>(
+    rt: &HostRuntime,
+    threads: &T,
+    dir: &str,
+    options: &Options,
+) -> io::Result<u8>
     ensures { IfOk result (λ status. status ≤ 3) }
 {
     let mut reader = BufReader::new(rt.alloc(), rt.reader())?;
     let mut writer = BufWriter::new(rt.alloc(), io::writer(rt))?;
-    run_on_files(rt, dir, options, &mut reader, &mut writer)
+    run_on_files(rt, threads, dir, options, &mut reader, &mut writer)
 }
 
-fn run_on_files<R: LineInput, W: Write>(
+fn run_on_files<R: LineInput, W: Write, T: Threads + Sync>(
     rt: &HostRuntime,
+    threads: &T,
     dir: &str,
     options: &Options,
     reader: &mut R,
@@ -89,12 +112,12 @@ fn run_on_files<R: LineInput, W: Write>(
 {
     match FileDisk::open(rt, dir) {
         Ok(disk) => {
-            let end = run_steps(rt, disk, dir, options, reader, writer)?;
+            let end = run_steps(rt, threads, disk, dir, options, reader, writer)?;
             match end {
                 StoreEnd::RefusedOpening(fault) => {
                     tell(rt, dir, &fault);
                     if fault == Fault::NotAStore {
-                        tell_damage(rt, dir);
+                        tell_damage(rt, threads, dir);
                     }
                 }
                 StoreEnd::RefusedClose(fault) => tell(rt, dir, &fault),
@@ -111,8 +134,9 @@ fn run_on_files<R: LineInput, W: Write>(
 }
 
 // The steps that the lines of a reader ask for, as the options say.
-fn run_steps<D: Disk + Cause + Drop, R: LineInput, W: Write>(
+fn run_steps<D: Disk + Cause + Drop, R: LineInput, W: Write, T: Threads + Sync>(
     rt: &HostRuntime,
+    threads: &T,
     disk: D,
     dir: &str,
     options: &Options,
@@ -122,13 +146,14 @@ fn run_steps<D: Disk + Cause + Drop, R: LineInput, W: Write>(
     requires working { D.failed disk ≡ false }
     requires synced { IsSynced D.Disk disk }
 {
-    let (config, bound) = (options.config(), options.redo_bound());
+    let (config, bound) = (options.config(threads), options.redo_bound());
     let mut causes = Causes {
         writer: rt.stderr(),
         dir,
         is_told: false,
     };
     store_text(
+        threads,
         rt.alloc(),
         disk,
         config,

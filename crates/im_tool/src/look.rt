@@ -13,6 +13,7 @@ use im_tool_look::{
 use std::alloc::{AllocError, Global};
 use std::io;
 use std::io::Write;
+use std::thread::Threads;
 
 // What is broken of a store. Of a fault that is none of the store's it is told what kept it from being looked at.
 #[derive(Drop)]
@@ -40,13 +41,17 @@ struct Looked {
 }
 
 // What the log says, how the pages go with it, and what the tree and the free list are after an opening. The disk is handed back.
-fn look(alloc: Global, disk: ScratchDisk) -> (Result<Looked, Broken>, ScratchDisk) {
+fn look<T: Threads + Sync>(
+    rt: &T,
+    alloc: Global,
+    disk: ScratchDisk,
+) -> (Result<Looked, Broken>, ScratchDisk) {
     let mut disk = disk;
     let surveyed = match read_files(alloc, &mut disk) {
         Ok(surveyed) => surveyed,
         Err(broken) => return (Err(broken), disk),
     };
-    let (tree, disk) = tree_behind(alloc, disk);
+    let (tree, disk) = tree_behind(rt, alloc, disk);
     let looked = match tree {
         Ok(tree) => Ok(Looked { surveyed, tree }),
         Err(broken) => Err(broken),
@@ -80,8 +85,12 @@ fn read_files(alloc: Global, disk: &mut ScratchDisk) -> Result<Surveyed, Broken>
 }
 
 // The tree in the pages as an opening leaves them.
-fn tree_behind(alloc: Global, disk: ScratchDisk) -> (Result<TreeSurvey, Broken>, ScratchDisk) {
-    let mut engine = match opened(alloc, disk) {
+fn tree_behind<T: Threads + Sync>(
+    rt: &T,
+    alloc: Global,
+    disk: ScratchDisk,
+) -> (Result<TreeSurvey, Broken>, ScratchDisk) {
+    let mut engine = match opened(rt, alloc, disk) {
         Ok(engine) => engine,
         Err((fault, disk)) => return (Err(Broken::Opening(fault)), disk),
     };
@@ -97,14 +106,15 @@ fn tree_behind(alloc: Global, disk: ScratchDisk) -> (Result<TreeSurvey, Broken>,
 /// Checks a store: the records of its log, the file of pages beside them, the whole batches after the log's end, and the tree and the free list as an opening
 /// finds them. Writes `ok`, or a line for each rule that does not hold, and answers the exit status, 0 or 1, and the disk. Whole batches after the log's end
 /// are told, and are no damage as long as one put can have left them.
-pub fn check_text<W: Write>(
+pub fn check_text<W: Write, T: Threads + Sync>(
+    rt: &T,
     alloc: Global,
     writer: &mut W,
     disk: ScratchDisk,
 ) -> (io::Result<u8>, ScratchDisk)
     ensures { IfOk result.0 (λ status. status ≤ 1) }
 {
-    let (looked, disk) = look(alloc, disk);
+    let (looked, disk) = look(rt, alloc, disk);
     let status = match looked {
         Ok(looked) => whole_text(writer, &looked.surveyed, &looked.tree),
         Err(broken) => broken_text(writer, &broken),
@@ -172,14 +182,15 @@ fn broken_text<W: Write>(writer: &mut W, broken: &Broken) -> io::Result<u8>
 }
 
 /// Writes what a store has, in numbers, and answers the exit status, 0, or 1 where it is broken, and the disk.
-pub fn stat_text<W: Write>(
+pub fn stat_text<W: Write, T: Threads + Sync>(
+    rt: &T,
     alloc: Global,
     writer: &mut W,
     disk: ScratchDisk,
 ) -> (io::Result<u8>, ScratchDisk)
     ensures { IfOk result.0 (λ status. status ≤ 1) }
 {
-    let (looked, disk) = look(alloc, disk);
+    let (looked, disk) = look(rt, alloc, disk);
     let status = match looked {
         Ok(looked) => numbers_text(writer, &looked),
         Err(broken) => broken_text(writer, &broken),

@@ -5,14 +5,18 @@ use crate::version::VERSION;
 use clap::builder::ValueParser;
 use clap::{Arg, ArgAction, ArgMatches, Command, Error};
 use im_base_types::{LEAST_FRAMES, MOST_FRAMES};
-use im_engine::{BufferSize, Config};
+use im_engine::{BufferSize, Config, MOST_WORKERS};
 use im_engine_upkeep::RedoBound;
 use std::alloc::Global;
+use std::thread::{Threads, available_parallelism};
 
 /// The most MiB that may be named.
 const MOST_CHECKPOINT: u64 = 1_048_576;
 
 const MIB: u64 = 1_048_576;
+
+/// The most workers where the words name none.
+const USUAL_WORKERS: usize = 4;
 
 /// What the program is asked for.
 #[derive(Clone, Copy, Debug, PartialEq, Eq)]
@@ -43,6 +47,8 @@ pub struct Options<'a> {
     pub pages: Option<u64>,
     /// The MiB of log that an opening redoes at most, 0 to 1,048,576; with 0 no Checkpoint is taken.
     pub checkpoint: Option<u64>,
+    /// The workers that share redo, 1 to 16.
+    pub workers: Option<u64>,
     /// Refusals are told in words, and keys are written and read so that they can be typed.
     pub has_words: bool,
     /// The program ends at the first line that is refused.
@@ -50,10 +56,14 @@ pub struct Options<'a> {
 }
 
 impl<'a> Options<'a> {
-    /// The limits of the engine: 1,024 frames for a folder and 64 in memory, and a million pages, where the words say nothing else. The log of a
-    /// store in a folder has the buffer that suits files.
-    pub(crate) fn config(&self) -> Config {
+    /// The limits of the engine: 1,024 frames for a folder and 64 in memory, a million pages, and workers as the machine has processors, where the
+    /// words say nothing else. The log of a store in a folder has the buffer that suits files.
+    pub(crate) fn config<T: Threads>(&self, threads: &T) -> Config {
         let mut config = Config::default();
+        config.workers = match self.workers {
+            Some(workers) => workers as usize,
+            None => usual_workers(threads),
+        };
         if self.dir.is_some() {
             config.frames = MOST_FRAMES;
             config.buffer = BufferSize::OVER_FILES;
@@ -78,6 +88,14 @@ impl<'a> Options<'a> {
     }
 }
 
+/// As many workers as the machine has processors for this program, 4 at most; 4 where their number is not known.
+pub(crate) fn usual_workers<T: Threads>(threads: &T) -> usize {
+    match available_parallelism(threads) {
+        Ok(processors) => processors.get().min(USUAL_WORKERS),
+        Err(_) => USUAL_WORKERS,
+    }
+}
+
 /// Reads the words of the command line, of which the first is the program's name.
 pub(crate) fn parse_options<'a>(alloc: Global, words: &'a [String]) -> Result<Options<'a>, Error> {
     let matches = command(alloc)?.try_get_matches_from(words)?;
@@ -87,6 +105,7 @@ pub(crate) fn parse_options<'a>(alloc: Global, words: &'a [String]) -> Result<Op
         frames: matches.get_one::<u64>("frames"),
         pages: matches.get_one::<u64>("pages"),
         checkpoint: matches.get_one::<u64>("checkpoint"),
+        workers: matches.get_one::<u64>("workers"),
         has_words: matches.get_flag("words"),
         is_batch: matches.get_flag("batch"),
     })
@@ -147,6 +166,14 @@ fn with_numbers<'a>(alloc: Global, command: Command<'a>) -> Result<Command<'a>, 
                 .value_parser(ValueParser::unsigned(0, MOST_CHECKPOINT))
                 .help(
                     "MiB of log that an opening redoes at most, also after a kill, 0 to 1048576; smaller ones open sooner and write more, 0 takes no Checkpoint [with DIR 16, or 7 times the file of pages, 0 without]",
+                ),
+        )?
+        .arg(
+            Arg::new(alloc, "workers")
+                .long("workers")
+                .value_parser(ValueParser::unsigned(1, MOST_WORKERS as u64))
+                .help(
+                    "Threads that share the redo of an opening, 1 to 16 [as many as there are processors, 4 at most]",
                 ),
         )?;
     Ok(command)
@@ -233,7 +260,8 @@ fn task_flag<'a>(alloc: Global, name: &'a str, help: &'a str) -> Result<Arg<'a>,
         arg = arg
             .conflicts_with("frames")?
             .conflicts_with("pages")?
-            .conflicts_with("checkpoint")?;
+            .conflicts_with("checkpoint")?
+            .conflicts_with("workers")?;
     }
     Ok(arg)
 }

@@ -1,39 +1,46 @@
 //! A store as an opening finds it, over its files, of which nothing is changed.
 
+use crate::options::usual_workers;
 use crate::scratch_disk::ScratchDisk;
 use im_base_steps::{Reply, Step};
 use im_base_types::{Fault, Key, MOST_DIRTY, MOST_FRAMES, Rid};
 use im_engine::{BufferSize, Config, Engine, look};
 use std::alloc::Global;
+use std::thread::Threads;
 
 // How a store is opened that is only looked at.
-const TO_LOOK: Config = Config {
-    frames: MOST_FRAMES,
-    max_pages: u32::MAX,
-    buffer: BufferSize::ONE,
-    group: false,
-};
+fn to_look<T: Threads>(threads: &T) -> Config {
+    Config {
+        frames: MOST_FRAMES,
+        max_pages: u32::MAX,
+        buffer: BufferSize::ONE,
+        group: false,
+        workers: usual_workers(threads),
+    }
+}
 
 /// The store of the files, opened over them. Refused as `Engine::open_or_create` is, with the disk.
-pub(crate) fn opened(
+pub(crate) fn opened<T: Threads + Sync>(
+    rt: &T,
     alloc: Global,
     disk: ScratchDisk,
 ) -> Result<Engine<ScratchDisk>, (Fault, ScratchDisk)> {
     if disk.has_failed() {
         return Err((Fault::Device, disk));
     }
-    Engine::open_or_create(alloc, disk, TO_LOOK)
+    Engine::open_or_create(rt, alloc, disk, to_look(rt))
 }
 
 /// The entries that a look at the files finds, and the disk.
-pub(crate) fn entries_of(
+pub(crate) fn entries_of<T: Threads + Sync>(
+    rt: &T,
     alloc: Global,
     disk: ScratchDisk,
 ) -> (Result<Vec<(Key, Rid)>, Fault>, ScratchDisk) {
     if disk.has_failed() {
         return (Err(Fault::Device), disk);
     }
-    look(alloc, disk, TO_LOOK)
+    look(rt, alloc, disk, to_look(rt))
 }
 
 /// Writes each page that lacks changes in its file.

@@ -18,6 +18,7 @@ use std::alloc::{AllocError, Global};
 use std::fmt::Display;
 use std::io;
 use std::io::Write;
+use std::thread::Threads;
 
 /// How lines are read and replies are written.
 #[derive(Clone, Copy, Debug, Default, PartialEq, Eq)]
@@ -52,7 +53,8 @@ pub enum StoreEnd {
 /// Checkpoints are taken after the opening and after the steps, as the bound wants them. At the end of the input all changed
 /// pages are written and a last one is taken, so that the next opening has nothing to redo. Where such a step is refused, a line
 /// `checkpoint refused N` or `close refused N` says so. Where a call of the disk failed, what failed stands in a line of `causes`, once.
-pub fn store_text<D: Disk + Cause + Drop, R: LineInput, W: Write, E: Write>(
+pub fn store_text<D: Disk + Cause + Drop, R: LineInput, W: Write, E: Write, T: Threads + Sync>(
+    rt: &T,
     alloc: Global,
     disk: D,
     config: Config,
@@ -65,7 +67,7 @@ pub fn store_text<D: Disk + Cause + Drop, R: LineInput, W: Write, E: Write>(
     requires working { D.failed disk ≡ false }
     requires synced { IsSynced D.Disk disk }
 {
-    match Engine::open_or_create(alloc, disk, config) {
+    match Engine::open_or_create(rt, alloc, disk, config) {
         Ok(mut engine) => {
             let run = run_to_close(alloc, &mut engine, bound, manner, reader, writer, causes);
             let _disk = engine.into_disk();

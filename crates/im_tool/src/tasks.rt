@@ -18,27 +18,39 @@ use im_base_types::{Fault, Key, Rid};
 use im_tool_look::{LogDamage, log_text, read_log};
 use std::fmt::{Display, Formatter};
 use std::io::{BufReader, BufWriter, IsTerminal, Write};
+use std::thread::Threads;
 use std::{fmt, io};
 
 /// Does a task that only looks at the store in a folder, and changes no byte of it. It answers the exit status: 0, or 1 where
 /// the store is broken or could not be read.
-pub(crate) fn look_program(rt: &HostRuntime, dir: &str, task: Task) -> io::Result<u8>
+pub(crate) fn look_program<T: Threads + Sync>(
+    rt: &HostRuntime,
+    threads: &T,
+    dir: &str,
+    task: Task,
+) -> io::Result<u8>
     ensures { IfOk result (λ status. status ≤ 1) }
 {
     let mut writer = BufWriter::new(rt.alloc(), io::writer(rt))?;
-    let status = look_in(rt, dir, task, &mut writer)?;
+    let status = look_in(rt, threads, dir, task, &mut writer)?;
     writer.flush()?;
     Ok(status)
 }
 
 // The same, written without a flush.
-fn look_in<W: Write>(rt: &HostRuntime, dir: &str, task: Task, writer: &mut W) -> io::Result<u8>
+fn look_in<W: Write, T: Threads + Sync>(
+    rt: &HostRuntime,
+    threads: &T,
+    dir: &str,
+    task: Task,
+    writer: &mut W,
+) -> io::Result<u8>
     ensures { IfOk result (λ status. status ≤ 1) }
 {
     match FileDisk::open_to_read(rt, dir) {
         Ok(files) => {
             let disk = ScratchDisk::new(rt.alloc(), Some(files));
-            let (status, disk) = look_at(rt, dir, task, writer, disk);
+            let (status, disk) = look_at(rt, threads, dir, task, writer, disk);
             if let Some(error) = disk.cause() {
                 tell(rt, dir, error);
             }
@@ -53,8 +65,9 @@ fn look_in<W: Write>(rt: &HostRuntime, dir: &str, task: Task, writer: &mut W) ->
 }
 
 // The same over its files.
-fn look_at<W: Write>(
+fn look_at<W: Write, T: Threads + Sync>(
     rt: &HostRuntime,
+    threads: &T,
     dir: &str,
     task: Task,
     writer: &mut W,
@@ -63,10 +76,10 @@ fn look_at<W: Write>(
     ensures { IfOk result.0 (λ status. status ≤ 1) }
 {
     match task {
-        Task::Check => check_text(rt.alloc(), writer, disk),
-        Task::Stat => stat_text(rt.alloc(), writer, disk),
+        Task::Check => check_text(threads, rt.alloc(), writer, disk),
+        Task::Stat => stat_text(threads, rt.alloc(), writer, disk),
         Task::Log => print_log(rt, dir, writer, disk),
-        Task::Dump(form) => dump(rt, dir, writer, form, disk),
+        Task::Dump(form) => dump(rt, threads, dir, writer, form, disk),
         Task::Steps | Task::Load => (Ok(0), disk),
     }
 }
@@ -88,12 +101,12 @@ fn refused<W: Write>(rt: &HostRuntime, dir: &str, writer: &mut W, fault: Fault) 
 }
 
 /// Says on standard error what of a store is damaged that was refused as none. Where that cannot be told, nothing is said.
-pub(crate) fn tell_damage(rt: &HostRuntime, dir: &str) {
+pub(crate) fn tell_damage<T: Threads + Sync>(rt: &HostRuntime, threads: &T, dir: &str) {
     let Ok(files) = FileDisk::open_to_read(rt, dir) else {
         return;
     };
     let disk = ScratchDisk::new(rt.alloc(), Some(files));
-    let _ = check_text(rt.alloc(), &mut rt.stderr(), disk);
+    let _ = check_text(threads, rt.alloc(), &mut rt.stderr(), disk);
 }
 
 // Says on standard error how many transactions a dump leaves out.
@@ -160,8 +173,9 @@ fn end_log<W: Write>(
     }
 }
 
-fn dump<W: Write>(
+fn dump<W: Write, T: Threads + Sync>(
     rt: &HostRuntime,
+    threads: &T,
     dir: &str,
     writer: &mut W,
     form: Form,
@@ -176,7 +190,7 @@ fn dump<W: Write>(
         is_shown: rt.stderr().is_terminal() && !rt.stdout().is_terminal(),
     };
     progress.say("opening a copy of the store");
-    let (entries, disk) = entries_of(rt.alloc(), disk);
+    let (entries, disk) = entries_of(threads, rt.alloc(), disk);
     let status = match entries {
         Ok(entries) => dumped(rt, writer, form, &entries, &mut progress),
         Err(fault) => refused(rt, dir, writer, fault),
@@ -199,19 +213,25 @@ fn dumped<W: Write, P: Write>(
 
 /// Loads the entries that standard input has into the store of a folder. It answers the exit status: 0, 1 where the opening was
 /// refused, or what closes the store, 3 where a line was.
-pub(crate) fn load_program(rt: &HostRuntime, dir: &str, options: &Options) -> io::Result<u8>
+pub(crate) fn load_program<T: Threads + Sync>(
+    rt: &HostRuntime,
+    threads: &T,
+    dir: &str,
+    options: &Options,
+) -> io::Result<u8>
     ensures { IfOk result (λ status. status ≤ 3) }
 {
     let mut reader = BufReader::new(rt.alloc(), rt.reader())?;
     let mut writer = BufWriter::new(rt.alloc(), io::writer(rt))?;
-    let status = load_from(rt, dir, options, &mut reader, &mut writer)?;
+    let status = load_from(rt, threads, dir, options, &mut reader, &mut writer)?;
     writer.flush()?;
     Ok(status)
 }
 
 // The same of the lines of a reader, written without a flush.
-fn load_from<R: LineInput, W: Write>(
+fn load_from<R: LineInput, W: Write, T: Threads + Sync>(
     rt: &HostRuntime,
+    threads: &T,
     dir: &str,
     options: &Options,
     reader: &mut R,
@@ -225,13 +245,14 @@ fn load_from<R: LineInput, W: Write>(
                 writer: rt.stderr(),
                 is_shown: rt.stderr().is_terminal(),
             };
-            let (config, bound) = (options.config(), options.redo_bound());
+            let (config, bound) = (options.config(threads), options.redo_bound());
             let mut causes = Causes {
                 writer: rt.stderr(),
                 dir,
                 is_told: false,
             };
             let loaded = load_text(
+                threads,
                 rt.alloc(),
                 disk,
                 config,

@@ -15,6 +15,7 @@ use im_engine_upkeep::{Checkpoints, RedoBound};
 use std::alloc::Global;
 use std::io;
 use std::io::Write;
+use std::thread::Threads;
 
 /// How many entries are put in between one commit and the next.
 const A_COMMIT: u64 = 1_000;
@@ -38,7 +39,8 @@ pub enum Loaded {
 
 /// Puts the entries of such a text into a store, commits them a thousand at a time, and tells of each commit. Checkpoints are taken in
 /// between, as the bound wants them, and one after the last entry, so that the next opening has nothing to redo.
-pub fn load_text<D: Disk + Cause + Drop, R: LineInput, P: Write, E: Write>(
+pub fn load_text<D: Disk + Cause + Drop, R: LineInput, P: Write, E: Write, T: Threads + Sync>(
+    rt: &T,
     alloc: Global,
     disk: D,
     config: Config,
@@ -50,7 +52,7 @@ pub fn load_text<D: Disk + Cause + Drop, R: LineInput, P: Write, E: Write>(
     requires working { D.failed disk ≡ false }
     requires synced { IsSynced D.Disk disk }
 {
-    match Engine::open_or_create(alloc, disk, config) {
+    match Engine::open_or_create(rt, alloc, disk, config) {
         Ok(mut engine) => {
             let loaded = load_to_close(alloc, &mut engine, bound, reader, progress);
             let disk = engine.into_disk();

@@ -1,9 +1,9 @@
 -- Lives of a store in a script, as engines run them: which calls the answers come from, and on which disks.
-use Rattle.std.specs.Prelude.{◌≡◌, ◌⊎◌, ◌↔◌, ◌<◌, ℕ, true, false, List, [], ◌∷◌, Option, None, Result, Ok, Err, IfOk, IfErr, MatchResult}
+use Rattle.std.specs.Prelude.{◌≡◌, ◌⊎◌, ◌↔◌, ◌<◌, ◌≤◌, ℕ, true, false, List, [], ◌∷◌, Option, None, Result, Ok, Err, IfOk, IfErr, MatchResult}
 use Rattle.std.specs.Global.{Vec}
 use Rattle.std.specs.Result.{IsErrAnd}
 use Rattle.im_base_types.specs.declared.fault.Fault.{Fault}
-use Rattle.im_base_types.specs.declared.fault.Fault.TheVariants.{Memory, Device, LogFull, NotAStore, PoolSize, Capacity}
+use Rattle.im_base_types.specs.declared.fault.Fault.TheVariants.{Memory, Device, LogFull, NotAStore, PoolSize, Capacity, Workers}
 use Rattle.im_base_steps.specs.declared.step.Step.{Step}
 use Rattle.im_base_steps.specs.declared.reply.Reply.{Reply}
 use Rattle.im_base_types.specs.Changes.{Effect}
@@ -44,7 +44,7 @@ use Rattle.im_tool_drill.specs.StoreLives.{IsConfigOf, gate_of}
 
 -- a life whose options are left out
 abbrev pub no_options : LifeOptions
-no_options = record { frames = None; max_pages = None; failing_call = None; failing_read = None; group = false }
+no_options = record { frames = None; max_pages = None; failing_call = None; failing_read = None; group = false; workers = None }
 
 -- Each report among these replies is this one.
 abbrev pub AllReport : RedoReport → List StoreReply → Type 0
@@ -83,7 +83,7 @@ module _ (d : Ghosts ModelDisk) where
   AreLinesRun stop [] (told ∷ others) old new = ⊥
 
   -- What an engine that is opened with these options answers. It is refused only for want of memory, by the disk, because the files are no store,
-  -- for want of room in the log or of page numbers, or by the number of its frames, and by these exactly where they are too few or too many. Where
+  -- for want of room in the log or of page numbers, or by the number of its frames, and behind that of its workers, and by these exactly where they are too few or too many. Where
   -- the log's bytes are no log's it only reads and is never told that a log is full; that comes only where the log's file is full.
   pub record IsOpening (options : LifeOptions) (old : ModelDisk) (result : Result (Engine ModelDisk d) (Fault × ModelDisk)) : Type 0 where
     pub config : Config
@@ -92,10 +92,11 @@ module _ (d : Ghosts ModelDisk) where
     pub opened : IfOk result (λ e. (e.failed ≡ false) × (e.txns.rows ≡ []) × (e.locks ≡ []) × (e.max_pages ≡ config.max_pages))
     pub pool : IfOk result (λ e. e.writer.pool.frames ≡ config.frames)
     pub frames : IsErrAnd result (λ x. x.0 ≡ PoolSize) ↔ ((config.frames < 8) ⊎ (1024 < config.frames))
+    pub workers : IsErrAnd result (λ x. x.0 ≡ Workers) ↔ ((8 ≤ config.frames) × (config.frames ≤ 1024)) × ((config.workers < 1) ⊎ (16 < config.workers))
     pub device : IsErrAnd result (λ x. x.0 ≡ Device) ↔ (d.failed (disk_of d result) ≡ true)
-    pub causes : IfErr result (λ x. (x.0 ≡ PoolSize) ⊎ (x.0 ≡ Memory) ⊎ (x.0 ≡ Device) ⊎ (x.0 ≡ NotAStore) ⊎ (x.0 ≡ LogFull) ⊎ (x.0 ≡ Capacity))
+    pub causes : IfErr result (λ x. (x.0 ≡ PoolSize) ⊎ (x.0 ≡ Workers) ⊎ (x.0 ≡ Memory) ⊎ (x.0 ≡ Device) ⊎ (x.0 ≡ NotAStore) ⊎ (x.0 ≡ LogFull) ⊎ (x.0 ≡ Capacity))
     pub spelled : IfOk result (λ e. d.tells → SpellsLog (d.seen old))
-    pub unspelled : d.tells → ¬ (SpellsLog (d.seen old)) → Reads d old (disk_of d result) × IfErr result (λ x. (x.0 ≡ PoolSize) ⊎ (x.0 ≡ Memory) ⊎ (x.0 ≡ Device) ⊎ (x.0 ≡ NotAStore))
+    pub unspelled : d.tells → ¬ (SpellsLog (d.seen old)) → Reads d old (disk_of d result) × IfErr result (λ x. (x.0 ≡ PoolSize) ⊎ (x.0 ≡ Workers) ⊎ (x.0 ≡ Memory) ⊎ (x.0 ≡ Device) ⊎ (x.0 ≡ NotAStore))
     pub full : IfErr result (λ x. x.0 ≡ LogFull → d.tells → IsFullLog (d.seen x.1))
 
   -- The answers of a life whose opening came out so: its number of device calls, and the replies of its lines, of which each report is that of this

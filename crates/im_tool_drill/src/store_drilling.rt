@@ -17,6 +17,7 @@ use im_base_model_disk::ModelDisk;
 use im_engine::BufferSize;
 use im_tool_lines::StoreScript;
 use std::alloc::{AllocError, Global};
+use std::thread::Threads;
 
 /// Runs the lives of a script on a model disk, each on what the stop of the one before has left, and opens once
 /// more behind the last.
@@ -31,7 +32,8 @@ use std::alloc::{AllocError, Global};
 /// every store, whether the tree has changed its structure or not, in whichever life.
 ///
 /// On any bytes, each life has its answers and each of its lines its reply, up to a line into which the stop fell.
-pub fn drill_store(
+pub fn drill_store<T: Threads + Sync>(
+    rt: &T,
     alloc: Global,
     script: &StoreScript,
     buffer: BufferSize,
@@ -49,13 +51,13 @@ pub fn drill_store(
     let mut disk = ModelDisk::with_log2(log, pages, log2);
     let mut lives = Vec::new(alloc);
     for life in &script.lives {
-        let (told, after) = run_store_life(alloc, disk, life, buffer)?;
+        let (told, after) = run_store_life(rt, alloc, disk, life, buffer)?;
         lives.push(told)?;
         disk = match after.after_stop(alloc) {
             Ok(left) => left,
             Err(_) => return Err(AllocError),
         };
     }
-    let (last, disk) = last_entries(alloc, disk, buffer);
+    let (last, disk) = last_entries(rt, alloc, disk, buffer);
     Ok(StoreDrilled { lives, last, disk })
 }

@@ -23,6 +23,7 @@ use im_tool_answers::{StoreAnswers, StoreReply};
 use im_tool_lines::{LifeOptions, StoreLife, StoreLine};
 use im_tool_raw::{Opening, arm_life, has_come, refused_opening};
 use std::alloc::{AllocError, Global};
+use std::thread::Threads;
 
 /// Runs one life on the disk, and gives the disk back as it was when the stop came or the lines ended.
 ///
@@ -30,7 +31,8 @@ use std::alloc::{AllocError, Global};
 /// makes the lines: the answers are its own. Where the files stood for some effects, whatever a stop then leaves stands for these effects and a front of those whose Commit the life asked, with all that were
 /// acknowledged; and the opening does not say that the files are no store. Each line has its reply, unless the stop came before or the
 /// opening did not succeed.
-pub fn run_store_life(
+pub fn run_store_life<T: Threads + Sync>(
+    rt: &T,
     alloc: Global,
     disk: ModelDisk,
     life: &StoreLife,
@@ -46,7 +48,7 @@ pub fn run_store_life(
 {
     let mut disk = disk;
     arm_life(alloc, &mut disk, life)?;
-    match open_store(alloc, disk, life.options, buffer) {
+    match open_store(rt, alloc, disk, life.options, buffer) {
         Ok(mut engine) => {
             let opening = Opening::Open(engine.disk().calls());
             let replies = run_store_lines(alloc, &mut engine, &life.lines, &life.stop);
@@ -63,7 +65,8 @@ pub fn run_store_life(
 }
 
 /// Opens the store of a disk by these options, with a log's buffer of this size.
-pub fn open_store(
+pub fn open_store<T: Threads + Sync>(
+    rt: &T,
     alloc: Global,
     disk: ModelDisk,
     options: LifeOptions,
@@ -74,10 +77,10 @@ pub fn open_store(
     ensures opening { IsOpening ⟦<ModelDisk as Disk>⟧ options disk result }
     ensures group { IfOk result (λ e. e.txns.group ≡ options.group) }
 {
-    Engine::open_or_create(alloc, disk, config_of(options, buffer))
+    Engine::open_or_create(rt, alloc, disk, config_of(options, buffer))
 }
 
-/// How an engine is opened by these options: 64 frames and 1,000,000 pages where they are left out. Commits wait where `group` stands there.
+/// How an engine is opened by these options: 64 frames, 1,000,000 pages and one worker where they are left out. Commits wait where `group` stands there.
 /// The size of the log's buffer is no option of a life.
 pub fn config_of(options: LifeOptions, buffer: BufferSize) -> Config
     ensures config { IsConfigOf options result }
@@ -93,11 +96,16 @@ pub fn config_of(options: LifeOptions, buffer: BufferSize) -> Config
         Some(most) => most,
     };
     let max_pages = in_32_bits(most);
+    let workers = match options.workers {
+        None => config.workers,
+        Some(workers) => workers as usize,
+    };
     Config {
         frames,
         max_pages,
         buffer,
         group: options.group,
+        workers,
     }
 }
 
@@ -193,7 +201,8 @@ fn is_stopped(reply: &StoreReply) -> bool
 }
 
 /// The entries that a look finds, and the disk behind it.
-pub(crate) fn last_entries(
+pub(crate) fn last_entries<T: Threads + Sync>(
+    rt: &T,
     alloc: Global,
     disk: ModelDisk,
     buffer: BufferSize,
@@ -210,6 +219,7 @@ pub(crate) fn last_entries(
         failing_call: None,
         failing_read: None,
         group: false,
+        workers: None,
     };
-    look(alloc, disk, config_of(options, buffer))
+    look(rt, alloc, disk, config_of(options, buffer))
 }

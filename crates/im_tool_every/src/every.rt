@@ -12,6 +12,7 @@ use im_tool_judge::{AskedEffect, effects_asked};
 use im_tool_lines::{LifeOptions, StoreLife};
 use std::alloc::{AllocError, Global};
 use std::io::Write;
+use std::thread::Threads;
 
 /// How often a life was stopped, how often an opening behind it was, and how many openings were bad.
 #[derive(Clone, Copy, Debug, Default, PartialEq, Eq)]
@@ -45,7 +46,8 @@ pub(crate) fn stop_at(alloc: Global, call: u64, way: (Length, u8)) -> Result<Sto
 /// with a log's buffer of this size.
 ///
 /// It writes to `progress` how many of the life's device calls are done, over the line before. Where that cannot be written nobody reads it.
-pub fn every_stop<P: Write>(
+pub fn every_stop<P: Write, T: Threads + Sync>(
+    rt: &T,
     alloc: Global,
     life: StoreLife,
     buffer: BufferSize,
@@ -54,13 +56,13 @@ pub fn every_stop<P: Write>(
     let mut life = life;
     life.stop = None;
     let mut counts = Counts::default();
-    let (_, disk) = run_store_life(alloc, new_disk(alloc), &life, buffer)?;
+    let (_, disk) = run_store_life(rt, alloc, new_disk(alloc), &life, buffer)?;
     let calls = disk.calls();
     for i in 0..calls {
         for way in WAYS {
             life.stop = Some(stop_at(alloc, i.wrapping_add(1), way)?);
             counts.stops = counts.stops.saturating_add(1);
-            every_restart(alloc, &life, buffer, &mut counts)?;
+            every_restart(rt, alloc, &life, buffer, &mut counts)?;
         }
         let _ = write!(progress, "\r{} of {calls} device calls", i.wrapping_add(1));
     }
@@ -77,28 +79,30 @@ pub(crate) fn new_disk(alloc: Global) -> ModelDisk
 
 /// Makes a life with its own stop, opens behind it with the same frames and pages, stops that opening within each of its device calls, in each
 /// way, and judges each opening that was not stopped.
-pub fn every_restart(
+pub fn every_restart<T: Threads + Sync>(
+    rt: &T,
     alloc: Global,
     life: &StoreLife,
     buffer: BufferSize,
     counts: &mut Counts,
 ) -> Result<(), AllocError> {
-    let (told, disk) = run_store_life(alloc, new_disk(alloc), life, buffer)?;
+    let (told, disk) = run_store_life(rt, alloc, new_disk(alloc), life, buffer)?;
     let asked = effects_asked(alloc, &life.lines, &told.replies)?;
     let left = left_by(alloc, &disk)?;
-    let calls = judge(alloc, &left, life.options, buffer, &asked, counts)?;
+    let calls = judge(rt, alloc, &left, life.options, buffer, &asked, counts)?;
     for i in 0..calls {
         for way in WAYS {
             let stop = stop_at(alloc, i.wrapping_add(1), way)?;
             counts.restarts = counts.restarts.saturating_add(1);
-            restart(alloc, &left, life.options, buffer, stop, &asked, counts)?;
+            restart(rt, alloc, &left, life.options, buffer, stop, &asked, counts)?;
         }
     }
     Ok(())
 }
 
 // Stops an opening of this disk, and judges the opening behind it.
-fn restart(
+fn restart<T: Threads + Sync>(
+    rt: &T,
     alloc: Global,
     disk: &ModelDisk,
     options: LifeOptions,
@@ -108,13 +112,14 @@ fn restart(
     counts: &mut Counts,
 ) -> Result<(), AllocError> {
     let copy = left_by(alloc, disk)?;
-    let next = stop_opening(alloc, copy, options, buffer, stop)?;
-    let _calls = judge(alloc, &next, options, buffer, asked, counts)?;
+    let next = stop_opening(rt, alloc, copy, options, buffer, stop)?;
+    let _calls = judge(rt, alloc, &next, options, buffer, asked, counts)?;
     Ok(())
 }
 
 /// Judges an opening of what is left of this disk, and answers how many device calls it made.
-pub(crate) fn judge(
+pub(crate) fn judge<T: Threads + Sync>(
+    rt: &T,
     alloc: Global,
     disk: &ModelDisk,
     options: LifeOptions,
@@ -123,7 +128,7 @@ pub(crate) fn judge(
     counts: &mut Counts,
 ) -> Result<u64, AllocError> {
     let copy = left_by(alloc, disk)?;
-    let (judged, _disk) = judge_opening(alloc, copy, options, buffer, asked)?;
+    let (judged, _disk) = judge_opening(rt, alloc, copy, options, buffer, asked)?;
     counts.count(judged.good);
     Ok(judged.calls)
 }

@@ -10,11 +10,13 @@ use im_tool_judge::{effects_asked, is_by_device, is_disturbed};
 use im_tool_lines::StoreLife;
 use im_tool_raw::Opening;
 use std::alloc::{AllocError, Global};
+use std::thread::Threads;
 
 /// Makes a life again and again, in which another device call fails each time, then another read or length call, and ends it in each length and
 /// with each fill. Its answers are judged (`IsDisturbed`) by those of the life that nothing disturbs, and so is the opening behind. It counts
 /// these lives as stops. The life's own stop and failures are left out. Each store is opened with a log's buffer of this size.
-pub fn every_failure(
+pub fn every_failure<T: Threads + Sync>(
+    rt: &T,
     alloc: Global,
     life: StoreLife,
     buffer: BufferSize,
@@ -24,15 +26,15 @@ pub fn every_failure(
     life.options.failing_call = None;
     life.options.failing_read = None;
     let mut counts = Counts::default();
-    let (plain, disk) = run_store_life(alloc, new_disk(alloc), &life, buffer)?;
+    let (plain, disk) = run_store_life(rt, alloc, new_disk(alloc), &life, buffer)?;
     for i in 0..disk.calls() {
         life.options.failing_call = Some(i.wrapping_add(1));
-        let _failed = each_end(alloc, &mut life, buffer, &plain, &mut counts)?;
+        let _failed = each_end(rt, alloc, &mut life, buffer, &plain, &mut counts)?;
     }
     life.options.failing_call = None;
     for i in 0..MOST_READS {
         life.options.failing_read = Some(i.wrapping_add(1));
-        if !each_end(alloc, &mut life, buffer, &plain, &mut counts)? {
+        if !each_end(rt, alloc, &mut life, buffer, &plain, &mut counts)? {
             return Ok(counts);
         }
     }
@@ -43,7 +45,8 @@ pub fn every_failure(
 const MOST_READS: u64 = 1_000_000;
 
 // Makes the life with each end, and answers whether a device call failed in it.
-fn each_end(
+fn each_end<T: Threads + Sync>(
+    rt: &T,
     alloc: Global,
     life: &mut StoreLife,
     buffer: BufferSize,
@@ -54,23 +57,24 @@ fn each_end(
     for way in WAYS {
         life.stop = Some(stop_at(alloc, 0, way)?);
         counts.stops = counts.stops.saturating_add(1);
-        failed = one_failure(alloc, life, buffer, plain, counts)?;
+        failed = one_failure(rt, alloc, life, buffer, plain, counts)?;
     }
     Ok(failed)
 }
 
-fn one_failure(
+fn one_failure<T: Threads + Sync>(
+    rt: &T,
     alloc: Global,
     life: &StoreLife,
     buffer: BufferSize,
     plain: &StoreAnswers,
     counts: &mut Counts,
 ) -> Result<bool, AllocError> {
-    let (told, disk) = run_store_life(alloc, new_disk(alloc), life, buffer)?;
+    let (told, disk) = run_store_life(rt, alloc, new_disk(alloc), life, buffer)?;
     counts.count(is_disturbed(plain, &told));
     let asked = effects_asked(alloc, &life.lines, &told.replies)?;
     let left = left_by(alloc, &disk)?;
-    let _calls = judge(alloc, &left, life.options, buffer, &asked, counts)?;
+    let _calls = judge(rt, alloc, &left, life.options, buffer, &asked, counts)?;
     Ok(has_failed(&told))
 }
 

@@ -14,6 +14,7 @@ use im_tool_drill::open_store;
 use im_tool_judge::{AskedEffect, is_good, is_passed_over};
 use im_tool_lines::LifeOptions;
 use std::alloc::{AllocError, Global};
+use std::thread::Threads;
 
 /// How many device calls an opening made, and whether it is good.
 #[derive(Clone, Copy, Debug, PartialEq, Eq)]
@@ -23,7 +24,8 @@ pub(crate) struct Judged {
 }
 
 /// Opens to the end, and judges what is there by what was asked. It gives the disk back as it is then.
-pub(crate) fn judge_opening(
+pub(crate) fn judge_opening<T: Threads + Sync>(
+    rt: &T,
     alloc: Global,
     disk: ModelDisk,
     options: LifeOptions,
@@ -34,7 +36,7 @@ pub(crate) fn judge_opening(
     requires synced { IsSynced ⟦<ModelDisk as Disk>⟧ disk }
     ensures { IfOk result (λ told. IsJudged ⟦<ModelDisk as Disk>⟧ options asked.now disk told.1 told.0) }
 {
-    match open_store(alloc, disk, options, buffer) {
+    match open_store(rt, alloc, disk, options, buffer) {
         Ok(mut engine) => {
             let calls = engine.disk().calls();
             let good = judge_entries(alloc, &mut engine, asked)?;
@@ -63,7 +65,8 @@ fn judge_entries(
 }
 
 /// Opens with a stop armed, and gives the disk that the stop leaves.
-pub(crate) fn stop_opening(
+pub(crate) fn stop_opening<T: Threads + Sync>(
+    rt: &T,
     alloc: Global,
     disk: ModelDisk,
     options: LifeOptions,
@@ -78,7 +81,7 @@ pub(crate) fn stop_opening(
 {
     let mut disk = disk;
     disk.arm(stop);
-    match open_store(alloc, disk, options, buffer) {
+    match open_store(rt, alloc, disk, options, buffer) {
         Ok(engine) => {
             let disk = engine.into_disk();
             let next = left_by(alloc, &disk)?;

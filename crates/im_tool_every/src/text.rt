@@ -9,13 +9,15 @@ use im_tool_lines::{Script, ScriptError, StoreLife, StoreScript, is_raw};
 use std::alloc::{AllocError, Global};
 use std::io;
 use std::io::{Read, Write};
+use std::thread::Threads;
 
 /// Reads a script, stops its life everywhere, with a log's buffer of this size, and prints the counts: `stops A restarts B bad C`. It answers
 /// the exit status: 0 where none is bad.
 ///
 /// A script that has not one `life` alone, or has a `set` line or a stop, is answered `script not single`, and a bad line is named alone; the
 /// status is 1 then. It writes to `progress` how far it is; where that cannot be written nobody reads it.
-pub fn every_text<R: Read, W: Write, P: Write>(
+pub fn every_text<R: Read, W: Write, P: Write, T: Threads + Sync>(
+    rt: &T,
     alloc: Global,
     buffer: BufferSize,
     reader: &mut R,
@@ -28,7 +30,7 @@ pub fn every_text<R: Read, W: Write, P: Write>(
     reader.read_to_end(&mut text)?;
     match life_of(alloc, &text) {
         Ok(Some(life)) => {
-            let counts = every_stop(alloc, life, buffer, progress)?;
+            let counts = every_stop(rt, alloc, life, buffer, progress)?;
             writeln!(
                 writer,
                 "stops {} restarts {} bad {}",

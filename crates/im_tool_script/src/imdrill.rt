@@ -10,6 +10,7 @@ use im_tool_lines::{reason_of, refused_line};
 use im_tool_text::drill_text;
 use std::alloc::{AllocError, Global};
 use std::io::{BufWriter, ErrorKind, IsTerminal, Read, Write};
+use std::thread::Threads;
 use std::{fs, io};
 
 /// How a script is run.
@@ -27,7 +28,11 @@ struct Run {
 /// word is the program's name. It answers the exit status.
 ///
 /// An error is of the program's own memory, input or output: its status is 1.
-pub fn drill_program(rt: &HostRuntime, words: &[String]) -> io::Result<u8>
+pub fn drill_program<T: Threads + Sync>(
+    rt: &HostRuntime,
+    threads: &T,
+    words: &[String],
+) -> io::Result<u8>
     ensures { IfOk result (λ status. status ≤ 2) }
 {
     let alloc = rt.alloc();
@@ -44,11 +49,11 @@ pub fn drill_program(rt: &HostRuntime, words: &[String]) -> io::Result<u8>
     let mut writer = BufWriter::new(alloc, io::writer(rt))?;
     let run = run_of(&matches);
     let status = match matches.get_str("SCRIPT") {
-        Some(path) => run_file(rt, path, run, &mut writer)?,
+        Some(path) => run_file(rt, threads, path, run, &mut writer)?,
         None => {
             let mut text = Vec::new(alloc);
             rt.reader().read_to_end(&mut text)?;
-            run_text(rt, &text, run, &mut writer)?
+            run_text(rt, threads, &text, run, &mut writer)?
         }
     };
     writer.flush()?;
@@ -56,11 +61,17 @@ pub fn drill_program(rt: &HostRuntime, words: &[String]) -> io::Result<u8>
 }
 
 // The file is read to its end before anything is printed.
-fn run_file<W: Write>(rt: &HostRuntime, path: &str, run: Run, writer: &mut W) -> io::Result<u8>
+fn run_file<W: Write, T: Threads + Sync>(
+    rt: &HostRuntime,
+    threads: &T,
+    path: &str,
+    run: Run,
+    writer: &mut W,
+) -> io::Result<u8>
     ensures { IfOk result (λ status. status ≤ 1) }
 {
     match fs::read(rt, path) {
-        Ok(text) => run_text(rt, &text, run, writer),
+        Ok(text) => run_text(rt, threads, &text, run, writer),
         Err(error) if error.kind() == ErrorKind::OutOfMemory => Err(error),
         Err(_) => {
             writeln!(writer, "script unreadable")?;
@@ -70,15 +81,21 @@ fn run_file<W: Write>(rt: &HostRuntime, path: &str, run: Run, writer: &mut W) ->
 }
 
 // Runs a script, and says on standard error why a line of it is bad. Where that is closed nobody reads it.
-fn run_text<W: Write>(rt: &HostRuntime, text: &[u8], run: Run, writer: &mut W) -> io::Result<u8>
+fn run_text<W: Write, T: Threads + Sync>(
+    rt: &HostRuntime,
+    threads: &T,
+    text: &[u8],
+    run: Run,
+    writer: &mut W,
+) -> io::Result<u8>
     ensures { IfOk result (λ status. status ≤ 1) }
 {
     let mut printed = Vec::new(rt.alloc());
     let status = if run.is_everywhere {
-        run_every(rt, text, run.buffer, &mut printed)?
+        run_every(rt, threads, text, run.buffer, &mut printed)?
     } else {
         let mut reader = text;
-        drill_text(rt.alloc(), run.buffer, &mut reader, &mut printed)?
+        drill_text(threads, rt.alloc(), run.buffer, &mut reader, &mut printed)?
     };
     writer.write_all(&printed)?;
     if let Some((number, line)) = refused_line(&printed, text) {
@@ -89,8 +106,9 @@ fn run_text<W: Write>(rt: &HostRuntime, text: &[u8], run: Run, writer: &mut W) -
 }
 
 // Stops the script's life everywhere, and tells how far it is on standard error, where that is a terminal.
-fn run_every(
+fn run_every<T: Threads + Sync>(
     rt: &HostRuntime,
+    threads: &T,
     text: &[u8],
     buffer: BufferSize,
     printed: &mut Vec<u8>,
@@ -100,9 +118,23 @@ fn run_every(
     let mut reader = text;
     let mut progress = rt.stderr();
     if progress.is_terminal() {
-        every_text(rt.alloc(), buffer, &mut reader, printed, &mut progress)
+        every_text(
+            threads,
+            rt.alloc(),
+            buffer,
+            &mut reader,
+            printed,
+            &mut progress,
+        )
     } else {
-        every_text(rt.alloc(), buffer, &mut reader, printed, &mut io::sink())
+        every_text(
+            threads,
+            rt.alloc(),
+            buffer,
+            &mut reader,
+            printed,
+            &mut io::sink(),
+        )
     }
 }
 

@@ -11,10 +11,12 @@ use im_tool_raw::{Drilled, LifeAnswers, RawReply, drill};
 use std::alloc::{AllocError, Global};
 use std::io;
 use std::io::{Read, Write};
+use std::thread::Threads;
 
 /// Reads a script, runs it, its stores with a log's buffer of this size, and prints what its lives answer. It answers the exit status: 0,
 /// or 1 where a line of the script is bad, of which it then prints the number alone.
-pub fn drill_text<R: Read, W: Write>(
+pub fn drill_text<R: Read, W: Write, T: Threads + Sync>(
+    rt: &T,
     alloc: Global,
     buffer: BufferSize,
     reader: &mut R,
@@ -27,7 +29,7 @@ pub fn drill_text<R: Read, W: Write>(
     let run = if is_raw(&text) {
         run_raw(alloc, writer, &text)?
     } else {
-        run_store(alloc, buffer, writer, &text)?
+        run_store(rt, alloc, buffer, writer, &text)?
     };
     match run {
         Ok(()) => Ok(0),
@@ -59,7 +61,8 @@ fn run_raw<W: Write>(
 }
 
 // A script of lives of a store.
-fn run_store<W: Write>(
+fn run_store<W: Write, T: Threads + Sync>(
+    rt: &T,
     alloc: Global,
     buffer: BufferSize,
     writer: &mut W,
@@ -67,7 +70,7 @@ fn run_store<W: Write>(
 ) -> io::Result<Result<(), ScriptError>> {
     match StoreScript::parse(alloc, text) {
         Ok(script) => {
-            print_store(alloc, writer, &drill_store(alloc, &script, buffer)?)?;
+            print_store(alloc, writer, &drill_store(rt, alloc, &script, buffer)?)?;
             Ok(Ok(()))
         }
         Err(error) => Ok(Err(error)),

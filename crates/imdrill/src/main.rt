@@ -8,5 +8,5 @@ use std::{env, io};
 
 fn main(rt: HostRuntime) -> io::Result<ExitCode> {
     let words: Vec<String> = env::args(&rt)?.collect(rt.alloc())?;
-    Ok(ExitCode::from(drill_program(&rt, &words)?))
+    Ok(ExitCode::from(drill_program(&rt, &rt, &words)?))
 }

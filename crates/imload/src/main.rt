@@ -49,7 +49,7 @@ fn run_load<T: Turn + Sync, R: Threads + Wait + Sync, W: Write>(
     turn: &T,
     writer: &mut W,
 ) -> io::Result<u8> {
-    match new_store(alloc, args.group()) {
+    match new_store(rt, alloc, args.group()) {
         Ok(engine) => load_text(rt, alloc, engine, args, turn, writer),
         Err(fault) => print_refused(fault, writer),
     }

@@ -8,9 +8,14 @@ use im_base_steps::Store;
 use im_base_types::Fault;
 use im_engine::{Config, Engine, every_list_of_lives};
 use std::alloc::Global;
+use std::thread::Threads;
 
 /// A new store at rest, whose files are a model disk in memory, and in which Commits wait for a force or do not. Refused as an opening is.
-pub(crate) fn new_store(alloc: Global, group: bool) -> Result<Engine<ModelDisk>, Fault>
+pub(crate) fn new_store<R: Threads + Sync>(
+    rt: &R,
+    alloc: Global,
+    group: bool,
+) -> Result<Engine<ModelDisk>, Fault>
     ensures resting { IfOk result (λ e. IsResting ⟦<Engine<ModelDisk> as Store>⟧ e) }
     ensures group { IfOk result (λ e. e.txns.group ≡ group) }
 {
@@ -18,7 +23,7 @@ pub(crate) fn new_store(alloc: Global, group: bool) -> Result<Engine<ModelDisk>,
     let disk = ModelDisk::new(Vec::new(alloc), Vec::new(alloc));
     let mut config = Config::default();
     config.group = group;
-    match Engine::open_or_create(alloc, disk, config) {
+    match Engine::open_or_create(rt, alloc, disk, config) {
         Ok(engine) => Ok(engine),
         Err((fault, _disk)) => Err(fault),
     }

@@ -3,10 +3,11 @@
 
 use im_tool::store_program;
 use std::process::ExitCode;
+use std::thread::Threads;
 use std::{env, io};
 
 fn main(rt: HostRuntime) -> ExitCode {
-    match run(&rt) {
+    match run(&rt, &rt) {
         Ok(status) => ExitCode::from(status),
         Err(error) => {
             let _ = eprintln!(rt; "imstore: what it reads or prints, or its memory: {error}");
@@ -15,7 +16,7 @@ fn main(rt: HostRuntime) -> ExitCode {
     }
 }
 
-fn run(rt: &HostRuntime) -> io::Result<u8> {
+fn run<R: Threads + Sync>(rt: &HostRuntime, threads: &R) -> io::Result<u8> {
     let words: Vec<String> = env::args(rt)?.collect(rt.alloc())?;
-    store_program(rt, &words)
+    store_program(rt, threads, &words)
 }

@@ -18,7 +18,7 @@ const ALONE: &str = "store_example_files";
 const SHARED: &str = "store_example_threads";
 
 fn main(rt: HostRuntime) -> anyhow::Result<()> {
-    alone(&rt)?;
+    alone(&rt, &rt)?;
     fs::remove_dir_all(&rt, ALONE)?;
     together(&rt, &rt)?;
     fs::remove_dir_all(&rt, SHARED)?;
@@ -26,8 +26,8 @@ fn main(rt: HostRuntime) -> anyhow::Result<()> {
 }
 
 // One transaction, and the entries behind it.
-fn alone(rt: &HostRuntime) -> anyhow::Result<()> {
-    let mut engine = open(rt, ALONE, config(false))?.into_engine();
+fn alone<R: Threads + Sync>(rt: &HostRuntime, threads: &R) -> anyhow::Result<()> {
+    let mut engine = open(rt, threads, ALONE, config(false))?.into_engine();
     insert(rt, &mut engine)?;
     list(rt, &mut engine)
 }
@@ -39,17 +39,18 @@ fn config(group: bool) -> Config {
         max_pages: 1_000_000,
         buffer: BufferSize::OVER_FILES,
         group,
+        workers: 1,
     }
 }
 
 // Threads that commit in one store. They are started, and waited for, by `threads` alone.
 fn together<R: Threads + Wait + Sync>(rt: &HostRuntime, threads: &R) -> anyhow::Result<()> {
-    let front = match Open::new(rt.alloc(), open(rt, SHARED, config(true))?) {
+    let front = match Open::new(rt.alloc(), open(rt, threads, SHARED, config(true))?) {
         Ok(front) => front,
         Err((fault, _at_rest)) => return Err(anyhow::Error::from(fault)),
     };
     let stats = insert_all(threads, rt.alloc(), &front);
-    show(rt, stats?, front.close(), SHARED)
+    show(rt, threads, stats?, front.close(), SHARED)
 }
 
 // Inserts a key and commits, by steps of the engine.

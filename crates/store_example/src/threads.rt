@@ -18,15 +18,19 @@ const THREADS: u8 = 4;
 const KEYS: u8 = 25;
 
 /// What is left of a front that was closed: the counts, and what the store in its folder has when it is opened again.
-pub fn show(
+pub fn show<R: Threads + Sync>(
     rt: &HostRuntime,
+    threads: &R,
     stats: Stats,
     left: Left<Engine<FileDisk>>,
     folder: &str,
 ) -> anyhow::Result<()> {
     close(left)?;
     println!(rt; "committed {}", stats.committed)?;
-    println!(rt; "entries when opened again: {}", count(rt, folder)?)?;
+    println!(rt;
+        "entries when opened again: {}",
+        count(rt, threads, folder)?
+    )?;
     Ok(())
 }
 
@@ -38,8 +42,8 @@ fn close(left: Left<Engine<FileDisk>>) -> Result<(), Fault> {
 }
 
 // How many entries the store in a folder has.
-fn count(rt: &HostRuntime, folder: &str) -> anyhow::Result<usize> {
-    let mut engine = open(rt, folder, Config::default())?.into_engine();
+fn count<R: Threads + Sync>(rt: &HostRuntime, threads: &R, folder: &str) -> anyhow::Result<usize> {
+    let mut engine = open(rt, threads, folder, Config::default())?.into_engine();
     let entries = engine.entries(rt.alloc())?;
     Ok(entries.len())
 }

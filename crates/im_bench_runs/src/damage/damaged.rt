@@ -9,6 +9,7 @@ use im_bench_layers::spans::{Order, Span, Work, committed};
 use im_bench_layers::tally::Tally;
 use im_engine::Engine;
 use std::alloc::Global;
+use std::thread::Threads;
 
 /// In how few frames the store is opened, so that pages are written on the way.
 const FRAMES: usize = 8;
@@ -57,10 +58,15 @@ impl Outcomes {
 }
 
 /// Opens the files with one byte damaged, lists the entries, and then makes steps of each kind and writes each page.
-pub fn judged(alloc: Global, files: &Files, damaged: Damaged) -> Result<Outcome, Fault> {
+pub fn judged<R: Threads + Sync>(
+    rt: &R,
+    alloc: Global,
+    files: &Files,
+    damaged: Damaged,
+) -> Result<Outcome, Fault> {
     let mut files = files.copy(alloc).map_err(|_| Fault::Memory)?;
     files.damage(damaged.file, damaged.at);
-    match opened(alloc, BoundedDisk::new(files), FRAMES) {
+    match opened(rt, alloc, BoundedDisk::new(files), FRAMES) {
         Ok(mut engine) => used(alloc, &mut engine),
         Err(Fault::NotAStore) => Ok(Outcome::NoStore),
         Err(_) => Ok(Outcome::Bad),
@@ -97,13 +103,13 @@ fn judged_by(alloc: Global, entries: &[(Key, Rid)]) -> Result<Outcome, Fault> {
 }
 
 /// The files of the store, in which a third transaction has changed keys that it never committed.
-pub fn founded(alloc: Global) -> Result<Files, Fault> {
+pub fn founded<R: Threads + Sync>(rt: &R, alloc: Global) -> Result<Files, Fault> {
     let files = Files {
         log: Vec::new(alloc),
         pages: Vec::new(alloc),
         log2: Vec::new(alloc),
     };
-    let mut engine = opened(alloc, BoundedDisk::new(files), FRAMES)?;
+    let mut engine = opened(rt, alloc, BoundedDisk::new(files), FRAMES)?;
     found(alloc, &mut engine)?;
     Ok(engine.into_disk().into_files())
 }
@@ -120,9 +126,9 @@ fn write_all(engine: &mut Engine<BoundedDisk>) {
 }
 
 /// The same files after an opening that takes the third transaction back, with all pages written and a Checkpoint after them.
-pub fn closed(alloc: Global, files: &Files) -> Result<Files, Fault> {
+pub fn closed<R: Threads + Sync>(rt: &R, alloc: Global, files: &Files) -> Result<Files, Fault> {
     let files = files.copy(alloc).map_err(|_| Fault::Memory)?;
-    let mut engine = opened(alloc, BoundedDisk::new(files), FRAMES)?;
+    let mut engine = opened(rt, alloc, BoundedDisk::new(files), FRAMES)?;
     write_all(&mut engine);
     Ok(engine.into_disk().into_files())
 }
@@ -135,10 +141,10 @@ const MORE: Span = Span {
 };
 
 /// By how many pages the file grows where keys are inserted until leaves split, and all pages written. 0 where the opening is refused.
-pub fn pages_taken(alloc: Global, files: Files) -> Result<u64, Fault> {
+pub fn pages_taken<R: Threads + Sync>(rt: &R, alloc: Global, files: Files) -> Result<u64, Fault> {
     let before = files.size(FileId::Pages);
     let disk = BoundedDisk::new(files);
-    let Ok(mut engine) = opened(alloc, disk, FRAMES) else {
+    let Ok(mut engine) = opened(rt, alloc, disk, FRAMES) else {
         return Ok(0);
     };
     let mut tally = Tally::default();

@@ -17,6 +17,7 @@ use im_bench_layers::spans::{Order, Span, Work, committed, lose};
 use im_bench_layers::tally::Tally;
 use im_engine::{BufferSize, Config, Engine};
 use std::alloc::Global;
+use std::thread::Threads;
 
 /// The keys that are committed, in rising order: a tree of two levels, whose root is full.
 const FOUNDED: Span = Span {
@@ -48,6 +49,7 @@ const CONFIG: Config = Config {
     max_pages: 1_000_000,
     buffer: BufferSize::ONE,
     group: false,
+    workers: 1,
 };
 
 /// What is stopped.
@@ -80,18 +82,22 @@ pub struct Stops {
 }
 
 /// The store, with nothing but what is committed.
-pub fn founded(alloc: Global) -> Result<ModelDisk, Fault> {
+pub fn founded<R: Threads + Sync>(rt: &R, alloc: Global) -> Result<ModelDisk, Fault> {
     let disk = ModelDisk::new(Vec::new(alloc), Vec::new(alloc));
-    let mut engine = opened(alloc, disk, CONFIG.frames)?;
+    let mut engine = opened(rt, alloc, disk, CONFIG.frames)?;
     let mut tally = Tally::default();
     committed(alloc, &mut engine, Work::Insert, FOUNDED, &mut tally)?;
     Ok(engine.into_disk())
 }
 
 /// What the transaction's steps came to, and what the pages are for behind them.
-pub fn losing(alloc: Global, base: &ModelDisk) -> Result<(Tally, Kinds, ModelDisk), Fault> {
+pub fn losing<R: Threads + Sync>(
+    rt: &R,
+    alloc: Global,
+    base: &ModelDisk,
+) -> Result<(Tally, Kinds, ModelDisk), Fault> {
     let disk = base.after_stop(alloc)?;
-    let mut engine = opened(alloc, disk, CONFIG.frames)?;
+    let mut engine = opened(rt, alloc, disk, CONFIG.frames)?;
     let (tally, kinds) = lost(alloc, &mut engine)?;
     Ok((tally, kinds, engine.into_disk()))
 }
@@ -104,7 +110,8 @@ fn lost(alloc: Global, engine: &mut Engine<ModelDisk>) -> Result<(Tally, Kinds),
 }
 
 /// Stops a life on copies of a disk at each of its device calls.
-pub fn stopped_at_each(
+pub fn stopped_at_each<R: Threads + Sync>(
+    rt: &R,
     alloc: Global,
     disk: &ModelDisk,
     life: Life,
@@ -112,8 +119,8 @@ pub fn stopped_at_each(
 ) -> Result<Stops, Fault> {
     let mut stops = Stops::default();
     for call in 1..MOST_CALLS {
-        let left = run(alloc, armed(alloc, disk, call, doubt)?, life)?;
-        if !has_counted(alloc, &left, &mut stops)? {
+        let left = run(rt, alloc, armed(alloc, disk, call, doubt)?, life)?;
+        if !has_counted(rt, alloc, &left, &mut stops)? {
             break;
         }
     }
@@ -121,12 +128,17 @@ pub fn stopped_at_each(
 }
 
 // Counts what came of a stop, where there was one.
-fn has_counted(alloc: Global, left: &ModelDisk, stops: &mut Stops) -> Result<bool, Fault> {
+fn has_counted<R: Threads + Sync>(
+    rt: &R,
+    alloc: Global,
+    left: &ModelDisk,
+    stops: &mut Stops,
+) -> Result<bool, Fault> {
     if !left.stopped() {
         return Ok(false);
     }
     stops.calls = stops.calls.wrapping_add(1);
-    if is_right(alloc, left)? {
+    if is_right(rt, alloc, left)? {
         stops.right = stops.right.wrapping_add(1);
     }
     Ok(true)
@@ -158,11 +170,16 @@ fn fill_of(alloc: Global, doubt: Doubt) -> Result<Fill, Fault> {
 }
 
 // Runs a life until it ends or its disk stops.
-fn run(alloc: Global, disk: ModelDisk, life: Life) -> Result<ModelDisk, Fault>
+fn run<R: Threads + Sync>(
+    rt: &R,
+    alloc: Global,
+    disk: ModelDisk,
+    life: Life,
+) -> Result<ModelDisk, Fault>
     requires working { ⟦<ModelDisk as Disk>⟧.failed disk ≡ false }
     requires synced { IsSynced ⟦<ModelDisk as Disk>⟧ disk }
 {
-    let mut engine = match Engine::open_or_create(alloc, disk, CONFIG) {
+    let mut engine = match Engine::open_or_create(rt, alloc, disk, CONFIG) {
         Ok(engine) => engine,
         Err((_fault, disk)) => return Ok(disk),
     };
@@ -174,9 +191,9 @@ fn run(alloc: Global, disk: ModelDisk, life: Life) -> Result<ModelDisk, Fault>
 }
 
 // An opening on what the stop has left finds just what is committed.
-fn is_right(alloc: Global, left: &ModelDisk) -> Result<bool, Fault> {
+fn is_right<R: Threads + Sync>(rt: &R, alloc: Global, left: &ModelDisk) -> Result<bool, Fault> {
     let disk = left.after_stop(alloc)?;
-    match opened(alloc, disk, CONFIG.frames) {
+    match opened(rt, alloc, disk, CONFIG.frames) {
         Ok(mut engine) => Ok(listed(alloc, &mut engine)? == (FOUNDED.keys, FOUNDED.keys)),
         Err(_) => Ok(false),
     }

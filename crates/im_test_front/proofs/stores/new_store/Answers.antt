@@ -5,7 +5,7 @@ use Rattle.im_test_front.proofs.stores.new_store.Goals as goal
 
 -- two empty files stand for no effect, so the store is at rest
 pub returns-in-Ok : goal.returns-in-Ok
-returns-in-Ok c =
+returns-in-Ok g c =
     let seen = c.fail_call.ensures.reads.seen ∙ c.arm.ensures.reads.seen ∙ c.new-disk.ensures.seen ∙ (λ i. both (c.new.ensures.items i) (c.new-2.ensures.items i)) in
     let stands = subst (λ (s : Files). StandsFor [] s) (sym seen) c.every_list_of_lives.ensures.first in
     let kept = c.in-Ok.ensures.kept [] c.new-disk.ensures.tells (c.fail_call.ensures.synced (c.arm.ensures.synced c.new-disk.ensures.synced)) stands in

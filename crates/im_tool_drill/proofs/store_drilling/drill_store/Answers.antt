@@ -14,7 +14,7 @@ use Rattle.im_tool_answers.proofs.StoreAsked.{store_lives_push, store_answered_p
 use Rattle.im_tool_drill.proofs.store_drilling.drill_store.Goals as goal
 
 pub loop-life-init : goal.loop-life-init
-loop-life-init c = record {
+loop-life-init g c = record {
   working = c.with_log2-disk.ensures.working;
   synced = c.with_log2-disk.ensures.synced;
   run = subst (λ (l : List StoreAnswers). AreLivesRun ghosts [] l c.with_log2-disk.result c.with_log2-disk.result) (sym c.new-lives.ensures.items) refl;
@@ -32,7 +32,7 @@ loop-life-init c = record {
 }
 
 pub loop-life-preserved : goal.loop-life-preserved
-loop-life-preserved c =
+loop-life-preserved g c =
     let i = c.loop-life.life-index in
     let all = c.args.script.now.lives.items in
     let within : i < length all = subst (λ (l : List StoreLife). i < length l) c.deref-life-items.ensures.value c.loop-life-test.true in
@@ -66,18 +66,18 @@ loop-life-preserved c =
     }
 
 pub returns-clause-kept : goal.returns-clause-kept
-returns-clause-kept c before stands =
+returns-clause-kept g c before stands =
     let k = c.loop-life.invariant.kept before stands in
     let all : take c.loop-life.life-index c.args.script.now.lives.items ≡ c.args.script.now.lives.items = grind (arith, common_steps) in
     (k.0, subst (λ (l : List StoreLife). Lives before (asked_in_each l c.loop-life.lives.items) k.0) all k.2, c.last_entries-last.ensures.found k.0 k.1)
 
 pub returns-clause-answered : goal.returns-clause-answered
-returns-clause-answered c =
+returns-clause-answered g c =
     let all : take c.loop-life.life-index c.args.script.now.lives.items ≡ c.args.script.now.lives.items = grind (arith, common_steps) in
     subst (λ (l : List StoreLife). EachStoreAnswered l c.loop-life.lives.items) all c.loop-life.invariant.answered
 
 pub returns-clause-run : goal.returns-clause-run
-returns-clause-run c =
+returns-clause-run g c =
     let all : take c.loop-life.life-index c.args.script.now.lives.items ≡ c.args.script.now.lives.items = grind (arith, common_steps) in
     let log = c.in_ok-log.ensures.items ∙ c.deref.ensures.value in
     let pages = c.in_ok-pages.ensures.items ∙ c.deref-2.ensures.value in

@@ -11,7 +11,7 @@ use Rattle.im_tool_drill.proofs.store_drilling.drill_store.Given as goal
 
 -- the lives so far, and what the last of them has left
 abbrev pub invariant-loop-life : goal.invariant-loop-life
-invariant-loop-life l = record {
+invariant-loop-life g l = record {
   working : ghosts.failed l.disk ≡ false;
   synced : IsSynced ghosts l.disk;
   run : AreLivesRun ghosts (take l.life-index l.script.lives.items) l.lives.items l.initial.disk l.disk;

@@ -5,10 +5,10 @@ use Rattle.im_tool_drill.proofs.StoreLooks.{entries_match}
 use Rattle.im_tool_drill.proofs.store_lives.last_entries.Goals as goal
 
 pub returns-clause-found : goal.returns-clause-found
-returns-clause-found c after stands = entries_match (λ l. l.items) c.look.result.0 after (λ b. StandsFor b (ghosts.seen c.args.disk)) stands c.look.ensures.shows c.look.ensures.never
+returns-clause-found g c after stands = entries_match (λ l. l.items) c.look.result.0 after (λ b. StandsFor b (ghosts.seen c.args.disk)) stands c.look.ensures.shows c.look.ensures.never
 
 pub returns-clause-run : goal.returns-clause-run
-returns-clause-run c =
+returns-clause-run g c =
     let is = c.look.ensures.look in
     let e = is.opening in
     record {
@@ -20,6 +20,7 @@ returns-clause-run c =
         opened = opened_as ghosts c.config_of.result.max_pages is.result e.opened e.limit;
         pool = e.pool;
         frames = e.frames;
+        workers = e.workers;
         device = e.device;
         causes = e.causes;
         spelled = e.spelled;

@@ -3,7 +3,7 @@ use Rattle.im_tool_drill.proofs.StoreRunning.{opened_as, opened_in_group}
 use Rattle.im_tool_drill.proofs.store_lives.open_store.Goals as goal
 
 pub returns-clause-opening : goal.returns-clause-opening
-returns-clause-opening c =
+returns-clause-opening g c =
     let e = c.open_or_create.ensures in
     record {
       config = c.config_of.result;
@@ -12,6 +12,7 @@ returns-clause-opening c =
       opened = opened_as ghosts c.config_of.result.max_pages c.open_or_create.result e.opened e.limit;
       pool = e.pool;
       frames = e.frames;
+      workers = e.workers;
       device = e.device;
       causes = e.causes;
       spelled = e.spelled;
@@ -20,4 +21,4 @@ returns-clause-opening c =
     }
 
 pub returns-clause-group : goal.returns-clause-group
-returns-clause-group c = opened_in_group ghosts c.config_of.result.group _ c.open_or_create.result c.open_or_create.ensures.group c.config_of.ensures.config.group
+returns-clause-group g c = opened_in_group ghosts c.config_of.result.group _ c.open_or_create.result c.open_or_create.ensures.group c.config_of.ensures.config.group

@@ -18,28 +18,28 @@ use Rattle.im_tool_drill.proofs.StoreRunning.{lines_report}
 use Rattle.im_tool_drill.proofs.store_lives.run_store_life.Goals as goal
 
 pub returns-in_ok-replies-in-Ok-clause-answered : goal.returns-in_ok-replies-in-Ok-clause-answered
-returns-in_ok-replies-in-Ok-clause-answered c = subst (λ (l : List StoreLine). AnsweredBy IsStoreReply Stopped l c.in_ok-replies-in-Ok.replies.items) c.deref.ensures.value c.in_ok-replies-in-Ok.ensures.answered
+returns-in_ok-replies-in-Ok-clause-answered g c = subst (λ (l : List StoreLine). AnsweredBy IsStoreReply Stopped l c.in_ok-replies-in-Ok.replies.items) c.deref.ensures.value c.in_ok-replies-in-Ok.ensures.answered
 
 pub returns-in_ok-replies-in-Ok-clause-kept : goal.returns-in_ok-replies-in-Ok-clause-kept
-returns-in_ok-replies-in-Ok-clause-kept c before stands files left =
+returns-in_ok-replies-in-Ok-clause-kept g c before stands files left =
     let k = c.in-Ok.ensures.opening.kept before (subst (λ (s : Files). StandsFor before s) (sym c.in_ok-arm_life.ensures.reads.seen) stands) in
     let now = subst (λ (disk : ModelDisk). ghosts.may_leave disk files) c.into_disk-disk.ensures left in
     subst (λ (l : List StoreLine). Allowed before (shown_in nothing_shown l c.in_ok-replies-in-Ok.replies.items) files) c.deref.ensures.value
     (c.in_ok-replies-in-Ok.ensures.kept before (_, k.ok.0) files now)
 
 pub returns-in-Err-clause-kept : goal.returns-in-Err-clause-kept
-returns-in-Err-clause-kept c before stands files left =
+returns-in-Err-clause-kept g c before stands files left =
     let k = c.in-Err.ensures.opening.kept before (subst (λ (s : Files). StandsFor before s) (sym c.in_ok-arm_life.ensures.reads.seen) stands) in
     subst (λ (l : List StoreReply). Allowed before (shown_in nothing_shown c.args.life.now.lines.items l) files) (sym c.new-replies.ensures.items)
     (subst (λ (s : Shown). Allowed before s files) (sym (shown_none nothing_shown c.args.life.now.lines.items)) (k.stops.each tt files (inl left)))
 
 pub returns-in-Err-clause-opened : goal.returns-in-Err-clause-opened
-returns-in-Err-clause-opened c before stands is =
+returns-in-Err-clause-opened g c before stands is =
     let k = c.in-Err.ensures.opening.kept before (subst (λ (s : Files). StandsFor before s) (sym c.in_ok-arm_life.ensures.reads.seen) stands) in
     opened_still c.args.life.now.stop c.in-Err.disk c.refused_opening-opening.result c.in-Err.fault k.cause c.refused_opening-opening.ensures is
 
 pub returns-in_ok-replies-in-Ok-clause-run : goal.returns-in_ok-replies-in-Ok-clause-run
-returns-in_ok-replies-in-Ok-clause-run c = record {
+returns-in_ok-replies-in-Ok-clause-run g c = record {
   armed = c.arm_life.new.disk;
   arms = c.in_ok-arm_life.ensures.armed;
   result = c.open_store.result;
@@ -55,7 +55,7 @@ returns-in_ok-replies-in-Ok-clause-run c = record {
 }
 
 pub returns-in-Err-clause-run : goal.returns-in-Err-clause-run
-returns-in-Err-clause-run c = record {
+returns-in-Err-clause-run g c = record {
   armed = c.arm_life.new.disk;
   arms = c.in_ok-arm_life.ensures.armed;
   result = c.open_store.result;

@@ -5,7 +5,7 @@ use Rattle.imload.proofs.store.new_store.Goals as goal
 
 -- two empty files stand for no effect, so the store is at rest
 pub returns-in-Ok-clause-resting : goal.returns-in-Ok-clause-resting
-returns-in-Ok-clause-resting c =
+returns-in-Ok-clause-resting g c =
     let seen = c.new-disk.ensures.seen ∙ (λ i. both (c.new.ensures.items i) (c.new-2.ensures.items i)) in
     let stands = subst (λ (s : Files). StandsFor [] s) (sym seen) c.every_list_of_lives.ensures.first in
     let kept = c.in-Ok.ensures.kept [] c.new-disk.ensures.tells c.new-disk.ensures.synced stands in
