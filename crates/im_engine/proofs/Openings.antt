@@ -17,6 +17,7 @@ use Rattle.im_page_writer.specs.declared.page_writer.PageWriter.{PageWriter}
 use Rattle.im_page_writer.specs.PageWriter.{StandsAs}
 use Rattle.im_log_gate.specs.Header.{least_number}
 use Rattle.im_restart_analysis.specs.Numbers.{IsNextNumber}
+use Rattle.im_restart_analysis.proofs.Counting.{pages_some}
 use Rattle.im_theory_tree.specs.Theory.{page_tree}
 use Rattle.im_base_txn.specs.declared.transaction.Transaction.{Transaction}
 use Rattle.im_base_lock.specs.View.{View}
@@ -33,7 +34,7 @@ use Rattle.im_engine.proofs.Running.{stops_now}
 use Rattle.im_engine.proofs.Reopened.{leaves_logs, next_is_above, all_over, none_to_undo, all_closed}
 
 pub may_restart : (before : List Effect) (files : Files) (l : StandsFor before files) → MayRestart l.b l.base l.log files
-may_restart before files l = record { start = l.start; counted = l.counted; has = l.has; lawful = l.lawful }
+may_restart before files l = record { start = l.start; counted = (let some = pages_some l.base in omega (arith, l.counted, some)); has = l.has; lawful = l.lawful }
 
 module _ {D : Type 0} (d : Ghosts D) (before : List Effect) where
   -- an engine that works, between two steps

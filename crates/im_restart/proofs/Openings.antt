@@ -9,7 +9,7 @@ use Rattle.im_base_types.specs.Records.{Logged}
 use Rattle.im_theory_log.specs.Tree.{Tree, TreeLaws}
 use Rattle.im_theory_log.specs.Histories.{Base, History, IsFront}
 use Rattle.im_theory_log.specs.Lawful.{IsLawful}
-use Rattle.im_theory_log.specs.PageCounts.{count_of, first_count}
+use Rattle.im_theory_log.specs.PageCounts.{count_of}
 use Rattle.im_theory_log.proofs.Histories.{at_front}
 use Rattle.im_base_disk.specs.declared.disk.Disk.{Ghosts}
 use Rattle.im_base_disk.specs.Disk.{Files, Only}
@@ -29,7 +29,7 @@ use Rattle.im_log.specs.Kept.{HasLog, IsLogOf}
 use Rattle.im_log.proofs.Creations.{blank_has, not_both}
 use Rattle.im_log.proofs.Runs.{of_log}
 use Rattle.im_restart_analysis.specs.Analysis.{Continues}
-use Rattle.im_restart_analysis.specs.Orderly.{FitsBehind, IsOrderly, IsReadable}
+use Rattle.im_restart_analysis.specs.Orderly.{FitsBehind, IsOrderly, IsReadable, pages_at_first}
 use Rattle.im_restart_analysis.proofs.LeadingDown.{logs_are_taken}
 use Rattle.im_restart.specs.declared.found.Found.{Found}
 use Rattle.im_restart.specs.Reading.{IsReadLog, OpenKept}
@@ -93,13 +93,20 @@ made_known : (files : Files) → IsMade (files Log) → ¬ (IsFresh files)
 made_known files made fresh = not_both (files Log) made fresh.0
 
 -- an opening that did not make the log read all of it
-pub spelled_so : {D T : Type 0} (d : Ghosts D) (old mid : D) (opening : Opening) (result : Result T Fault) → (d.tells → IsFresh (d.seen old) ⊎ IsMade (d.seen old Log)) → (d.tells → ¬ (IsFresh (d.seen old)) → Reads d old mid)
-    → (d.tells → HasRead d (base_of (d.seen mid Log)) [] opening mid) → IfOk result (λ _. (base : ℕ) → HasRead d base [] opening mid → (found : History) × HasLog base found (d.seen mid Log) × (IsReadable found → IsOrderly first_count found))
+pub spelled_so : {D T : Type 0} (d : Ghosts D) (old mid : D) (opening : Opening) (pages : ℕ) (result : Result T Fault) → (d.tells → pages ≡ pages_at_first (base_of (d.seen mid Log))) → (d.tells → IsFresh (d.seen old) ⊎ IsMade (d.seen old Log)) → (d.tells → ¬ (IsFresh (d.seen old)) → Reads d old mid)
+    → (d.tells → HasRead d (base_of (d.seen mid Log)) [] opening mid) → IfOk result (λ _. (base : ℕ) → HasRead d base [] opening mid → (found : History) × HasLog base found (d.seen mid Log) × (IsReadable found → IsOrderly pages found))
     → IfOk result (λ _. d.tells → SpellsLog (d.seen old))
-spelled_so d old mid opening (Err e) store reads start spelled = tt
-spelled_so d old mid opening (Ok x) store reads start spelled = λ told. elim (store told) [
+spelled_so d old mid opening pages (Err e) counts store reads start spelled = tt
+spelled_so d old mid opening pages (Ok x) counts store reads start spelled = λ told. elim (store told) [
   | inl fresh ↦ inl fresh
-  | inr made ↦ let s = spelled (base_of (d.seen mid Log)) (start told) in inr (s.0, subst (λ (f : Files). HasLog (base_of (f Log)) s.0 (f Log)) (reads told (made_known (d.seen old) made)).seen s.1, s.2)
+  | inr made ↦
+      let s = spelled (base_of (d.seen mid Log)) (start told) in
+      let same = (reads told (made_known (d.seen old) made)).seen in
+      inr (
+        s.0,
+        subst (λ (f : Files). HasLog (base_of (f Log)) s.0 (f Log)) same s.1,
+        subst (λ (f : Files). IsReadable s.0 → IsOrderly (pages_at_first (base_of (f Log))) s.0) same (subst (λ (n : ℕ). IsReadable s.0 → IsOrderly n s.0) (counts told) s.2),
+      )
 ]
 
 -- ---- a log that is read again

@@ -4,7 +4,6 @@ ghost use Rattle.std.specs.Prelude.{◌≡◌, ◌+◌, ◌^◌, ◌≤◌, ◌�
 ghost use Rattle.im_base_types.specs.declared.fault.Fault.TheVariants.{Device, Memory, NotAStore};
 ghost use Rattle.im_base_types.specs.declared.file_id.FileId.TheVariants.{Log, Pages};
 ghost use Rattle.im_theory_log.specs.Histories.{History};
-ghost use Rattle.im_theory_log.specs.PageCounts.{first_count};
 ghost use Rattle.im_base_disk.specs.Disk.{Only};
 ghost use Rattle.im_base_disk.specs.Runs.{ChangesOnly, Reads};
 ghost use Rattle.im_log_gate.specs.Gate.{first_of, place_of, has_failed, StartsAs, IsReading};
@@ -13,17 +12,17 @@ ghost use Rattle.im_log.specs.Gates.{IsOfLog};
 ghost use Rattle.im_log.specs.Kept.{HasLog, IsLogOf};
 ghost use Rattle.im_log.specs.LogFile.{IsOpen};
 ghost use Rattle.im_log.specs.Opening.{IsBegun, IsOpening, HasRead};
-ghost use Rattle.im_restart_analysis.specs.Orderly.{IsOrderly, IsReadable};
+ghost use Rattle.im_restart_analysis.specs.Orderly.{IsOrderly, IsReadable, pages_at_first};
 ghost use Rattle.im_restart_analysis.specs.Changes.{AreChanges};
 ghost use Rattle.im_restart.specs.Restart.{AreTaken, IsFresh, SpellsLog};
 ghost use Rattle.im_restart.specs.Reading.{GateKept, IsReadLog, LogKept, OpenKept, ReadKept};
 
 use crate::found::Found;
 use im_base_disk::Disk;
-use im_base_types::{Fault, FileId, Lsn, TxnId};
+use im_base_types::{Fault, FileId, Lsn, PageNo, TxnId};
 use im_log::Opening;
 use im_log_gate::Gate;
-use im_restart_analysis::{Analysis, Changes};
+use im_restart_analysis::{Analysis, Changes, pages_at_first};
 use std::alloc::Global;
 
 // The first gate of the log, which is made where there is none yet and the file of pages is empty.
@@ -64,13 +63,15 @@ fn drop_changes(changes: &mut Changes, point: Lsn, drops: bool) -> Result<(), Fa
     }
 }
 
-// Reads the records, and takes each in turn. The numbers of transactions begin at the least. Changes below the redo point are dropped on the
-// way, where they are to be; none is answered where one of them is wanted in the end, since a later Checkpoint moved the redo point back.
+// Reads the records, and takes each in turn. The numbers of transactions begin at the least, the page counts at this one. Changes below
+// the redo point are dropped on the way, where they are to be; none is answered where one of them is wanted in the end, since a later
+// Checkpoint moved the redo point back.
 fn read_all<D: Disk>(
     alloc: Global,
     disk: &mut D,
     opening: Opening,
     least: TxnId,
+    pages: PageNo,
     drops: bool,
 ) -> Result<Option<Found>, Fault>
     requires begun { IsBegun D.Disk opening disk.old }
@@ -78,15 +79,15 @@ fn read_all<D: Disk>(
     ensures reads { Reads D.Disk disk.old disk.new }
     ensures ready { IfOk result (λ found. IfSome found (λ f. IsOpen D.Disk f.log disk.new)) }
     ensures usable { IfOk result (λ found. IfSome found (λ f. f.log.failed ≡ false)) }
-    ensures kept { (base : ℕ) (all : History) → IsOpening D.Disk base all [] opening disk.old → AreTaken first_count all → least ≡ least_number (D.seen disk.old Log) → 1 ≤ least
+    ensures kept { (base : ℕ) (all : History) → IsOpening D.Disk base all [] opening disk.old → AreTaken pages all → least ≡ least_number (D.seen disk.old Log) → 1 ≤ least
         → ReadKept D.Disk base all disk.new result }
-    ensures spelled { IfOk result (λ _. (base : ℕ) → HasRead D.Disk base [] opening disk.old → (found : History) × HasLog base found (D.seen disk.old Log) × (IsReadable found → IsOrderly first_count found)) }
+    ensures spelled { IfOk result (λ _. (base : ℕ) → HasRead D.Disk base [] opening disk.old → (found : History) × HasLog base found (D.seen disk.old Log) × (IsReadable found → IsOrderly pages found)) }
     ensures whole { result ≡ Ok None → drops ≡ true }
     ensures causes { IfErr result (λ e. (e ≡ Memory) ⊎ (e ≡ Device) ⊎ (e ≡ NotAStore)) }
     ensures device { result ≡ Err Device ↔ (D.failed disk.new ≡ true) }
 {
     let mut opening = opening;
-    let mut analysis = Analysis::new(alloc, least);
+    let mut analysis = Analysis::new(alloc, least, pages);
     let mut changes = Changes::new(alloc);
     loop {
         match opening.next(disk)? {
@@ -124,7 +125,7 @@ fn read_log<D: Disk>(
     requires durable { Only Log (D.seen disk.old) (D.may_leave disk.old) }
     ensures ready { IfOk result (λ found. IfSome found (λ f. IsOpen D.Disk f.log disk.new)) }
     ensures usable { IfOk result (λ found. IfSome found (λ f. f.log.failed ≡ false)) }
-    ensures kept { (base : ℕ) (all : History) → D.tells → IsLogOf base all (D.seen disk.old Log) → (IsUnmade (D.seen disk.old Log) → length (D.seen disk.old Pages) ≡ 0) → AreTaken first_count all
+    ensures kept { (base : ℕ) (all : History) → D.tells → IsLogOf base all (D.seen disk.old Log) → (IsUnmade (D.seen disk.old Log) → length (D.seen disk.old Pages) ≡ 0) → AreTaken (pages_at_first base) all
         → LogKept D.Disk base all disk.old disk.new result }
     ensures again { OnOk result (IsReadLog D.Disk disk.old disk.new) }
     ensures spelled { IfOk result (λ _. D.tells → SpellsLog (D.seen disk.old)) }
@@ -136,8 +137,9 @@ fn read_log<D: Disk>(
 {
     let gate = first_gate(alloc, disk)?;
     let least = gate.least_number();
+    let pages = pages_at_first(gate.base());
     let opening = Opening::start(alloc, gate, batches)?;
-    read_all(alloc, disk, opening, least, drops)
+    read_all(alloc, disk, opening, least, pages, drops)
 }
 
 // The same with each change kept until all records were read.
@@ -147,7 +149,7 @@ fn read_whole<D: Disk>(alloc: Global, disk: &mut D, batches: usize) -> Result<Fo
     requires durable { Only Log (D.seen disk.old) (D.may_leave disk.old) }
     ensures ready { IfOk result (λ found. IsOpen D.Disk found.log disk.new) }
     ensures usable { IfOk result (λ found. found.log.failed ≡ false) }
-    ensures kept { (base : ℕ) (all : History) → D.tells → IsLogOf base all (D.seen disk.old Log) → (IsUnmade (D.seen disk.old Log) → length (D.seen disk.old Pages) ≡ 0) → AreTaken first_count all
+    ensures kept { (base : ℕ) (all : History) → D.tells → IsLogOf base all (D.seen disk.old Log) → (IsUnmade (D.seen disk.old Log) → length (D.seen disk.old Pages) ≡ 0) → AreTaken (pages_at_first base) all
         → OpenKept D.Disk base all disk.old disk.new result }
     ensures spelled { IfOk result (λ _. D.tells → SpellsLog (D.seen disk.old)) }
     ensures alike { IfOk result (λ _. D.tells → StartsAlike (D.seen disk.old Log) (D.seen disk.new Log)) }
@@ -175,7 +177,7 @@ pub(crate) fn open_log<D: Disk>(alloc: Global, disk: &mut D, batches: usize) -> 
     requires durable { Only Log (D.seen disk.old) (D.may_leave disk.old) }
     ensures ready { IfOk result (λ found. IsOpen D.Disk found.log disk.new) }
     ensures usable { IfOk result (λ found. found.log.failed ≡ false) }
-    ensures kept { (base : ℕ) (all : History) → D.tells → IsLogOf base all (D.seen disk.old Log) → (IsUnmade (D.seen disk.old Log) → length (D.seen disk.old Pages) ≡ 0) → AreTaken first_count all
+    ensures kept { (base : ℕ) (all : History) → D.tells → IsLogOf base all (D.seen disk.old Log) → (IsUnmade (D.seen disk.old Log) → length (D.seen disk.old Pages) ≡ 0) → AreTaken (pages_at_first base) all
         → OpenKept D.Disk base all disk.old disk.new result }
     ensures spelled { IfOk result (λ _. D.tells → SpellsLog (D.seen disk.old)) }
     ensures alike { IfOk result (λ _. D.tells → StartsAlike (D.seen disk.old Log) (D.seen disk.new Log)) }

@@ -1,13 +1,17 @@
 -- What the records of a log have to be for analysis to take them all: chains lead down, one structure change is open at a time, and the pages
 -- that they name are below a page count that the log has said, or the count n that it begins with.
-use Rattle.std.specs.Prelude.{◌≡◌, ◌≢◌, ◌≤◌, ◌<◌, ◌⊎◌, ℕ, true, [], ◌∷◌, Result, Err, OnOk}
+use Rattle.std.specs.Prelude.{◌≡◌, ◌≢◌, ◌≤◌, ◌<◌, ◌⊎◌, ◌-◌, ◌^◌, ◌==◌, if◌then◌else◌, ℕ, true, [], ◌∷◌, Result, Err, OnOk}
 use Rattle.im_base_types.specs.declared.fault.Fault.{Fault}
 use Rattle.im_base_types.specs.declared.fault.Fault.TheVariants.{NotAStore}
 use Rattle.im_base_types.specs.Records.{Logged, Unreadable}
 use Rattle.im_theory_log.specs.Histories.{History}
-use Rattle.im_theory_log.specs.PageCounts.{greatest_count, names_page}
+use Rattle.im_theory_log.specs.PageCounts.{first_count, greatest_count, names_page}
 use Rattle.im_restart_analysis.specs.declared.analysis.Analysis.{Analysis}
 use Rattle.im_restart_analysis.specs.OpenChange.{IsOpenChange, OpensAnother}
+
+-- The page count that a log begins with at most, by the LSN of its first byte: that of a first log, which begins at 0, and the greatest that a page may say of one that goes on.
+abbrev pub pages_at_first : ℕ → ℕ
+pages_at_first base = if base == 0 then first_count else 2 ^ 32 - 1
 
 -- the LSN that a record names is none, or an earlier one
 abbrev pub IsEarlier : ℕ → ℕ → Type 0

@@ -19,7 +19,7 @@ pub struct Analysis {
     losers: BTreeMap<TxnId, Loser>,
     copies: BTreeMap<PageNo, Lsn>,
     open_change: Vec<OpenRecord>,
-    // the greatest page count that a record of page 0 said, or the pages before the first one
+    // the greatest page count that a record of page 0 said, or that the log begins with
     count: PageNo,
 }
 
@@ -43,7 +43,6 @@ impl Analysis {
     ghost use Rattle.im_base_types.specs.declared.fault.Fault.TheVariants.{Memory, NotAStore};
     ghost use Rattle.im_base_types.specs.Records.{Unreadable};
     ghost use Rattle.im_theory_log.specs.Histories.{History};
-    ghost use Rattle.im_theory_log.specs.PageCounts.{first_count};
     ghost use Rattle.im_theory_log.specs.RedoPoints.{redo_point};
     ghost use Rattle.im_log_record.specs.Entry.{view};
     ghost use Rattle.im_log.specs.Spelled.{logged_at};
@@ -52,9 +51,10 @@ impl Analysis {
     ghost use Rattle.im_restart_analysis.specs.Analysis.{Continues, IsAnalysed, TakeKept, IsUnchanged, IsAnalysis};
     ghost use Rattle.im_restart_analysis.specs.Orderly.{FitKept, Knows, LeadsDown, NamesCounted};
 
-    /// Before the first record of a log whose transaction numbers begin at this one, over the two pages that a first log finds.
-    pub fn new(alloc: Global, least: TxnId) -> Self
-        ensures { IsAnalysed least first_count [] result }
+    /// Before the first record of a log whose transaction numbers begin at the least, and whose page counts begin at this one
+    /// (`pages_at_first`).
+    pub fn new(alloc: Global, least: TxnId, pages: PageNo) -> Self
+        ensures { IsAnalysed least pages [] result }
     {
         Analysis {
             next: least,
@@ -62,7 +62,7 @@ impl Analysis {
             losers: BTreeMap::new(alloc),
             copies: BTreeMap::new(alloc),
             open_change: Vec::new(alloc),
-            count: 2,
+            count: pages,
         }
     }
 

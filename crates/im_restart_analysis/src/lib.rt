@@ -10,7 +10,7 @@
 //! (`IsAnalysed`, `IsAnalysis`), as long as each record may stand there (`Continues`), as it may in every lawful
 //! log. `take` is refused `NotAStore` just where a structure change opens while another transaction's is open, a
 //! record names its own LSN or a later one as its transaction's, or a page at or above the greatest page count that the
-//! records before it said (`FitsBehind`), also in a log that is not lawful, and `Memory`; then it changes nothing.
+//! records before it said or the log began with (`FitsBehind`), also in a log that is not lawful, and `Memory`; then it changes nothing.
 //!
 //! `laws` has what undo lives by, for every tree of pages: what the losers' chains lead to, which records may come
 //! next and what they leave, and that the tree holds the committed map alone once no loser is left. `undo_next_after` is where undo goes on
@@ -32,5 +32,6 @@ mod undo_steps;
 
 pub use analysis::{Analysed, Analysis};
 pub use changes::{Change, Changes, LastChanges};
+pub use page_counts::pages_at_first;
 pub use rows::{Loser, OpenRecord};
 pub use undo_steps::{is_key_record, undo_next_after};

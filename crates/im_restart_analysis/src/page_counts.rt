@@ -8,11 +8,19 @@ ghost use Rattle.im_theory_page.specs.Number.{u32_at};
 ghost use Rattle.im_log_record.specs.Entry.{view, page_of};
 ghost use Rattle.im_log.specs.Whats.{what_of};
 ghost use Rattle.im_log.specs.Spelled.{logged_at};
-ghost use Rattle.im_restart_analysis.specs.Orderly.{NamesCounted};
+ghost use Rattle.im_restart_analysis.specs.Orderly.{NamesCounted, pages_at_first};
 
-use im_base_types::PageNo;
+use im_base_types::{Lsn, PageNo};
 use im_log_record::Record;
 use std::cmp::max;
+
+/// The page count that a log begins with at most whose first byte has this LSN: 2 where it is the first log of its store, which begins with
+/// the meta page and the root, and no bound where it goes on, since it does not say how many pages it found.
+pub fn pages_at_first(base: Lsn) -> PageNo
+    ensures { result ≡ pages_at_first base }
+{
+    if base == 0 { 2 } else { PageNo::MAX }
+}
 
 // The byte at a place, 0 after the end.
 fn byte_at(bytes: &[u8], at: usize) -> u32

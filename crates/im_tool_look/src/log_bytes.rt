@@ -5,7 +5,7 @@ use crate::log_damage::LogDamage;
 use im_base_types::{Fault, FileId, LONGEST_BATCH, Lsn, PageNo, TxnId};
 use im_log_gate::FIRST_GATE;
 use im_log_record::{Record, decode_front};
-use im_restart_analysis::{Analysed, Analysis, Changes, LastChanges};
+use im_restart_analysis::{Analysed, Analysis, Changes, LastChanges, pages_at_first};
 use std::alloc::Global;
 
 /// The least number of a transaction.
@@ -143,7 +143,7 @@ pub fn read_log<F: Files>(alloc: Global, files: &mut F) -> Result<Survey, LogDam
     let mut log = LogPiece::new(alloc);
     let mut counts = Counts::default();
     let mut changes = Changes::new(alloc);
-    let mut analysis = Analysis::new(alloc, LEAST_NUMBER);
+    let mut analysis = Analysis::new(alloc, LEAST_NUMBER, pages_at_first(0));
     let mut gate = 0;
     if let Some(first) = log.first_gate(files)? {
         gate = first;

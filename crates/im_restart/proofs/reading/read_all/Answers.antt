@@ -2,7 +2,6 @@ use Rattle.std.proofs.Common.{rules, ◌≡◌, ◌≢◌, ◌≤◌, ℕ, ◌�
 use Rattle.im_base_types.specs.declared.fault.Fault.TheVariants.{Device, NotAStore}
 use Rattle.im_base_types.specs.declared.file_id.FileId.TheVariants.{Log}
 use Rattle.im_theory_log.specs.Histories.{History}
-use Rattle.im_theory_log.specs.PageCounts.{first_count}
 use Rattle.im_base_disk.specs.Disk.{Files}
 use Rattle.im_base_disk.proofs.Runs.{reads_then}
 use Rattle.im_log_record.specs.Entry.{view}
@@ -26,15 +25,15 @@ loop-changes-preserved g c = record {
       let n = some_kept g.D.Disk base all h.0 c.next.new.self c.next.new.disk c.in_ok-next.field-0 c.in-Some.lsn c.in-Some.is (c.in_ok-next.ensures.kept base all h.0 h.1) in
       let said = view c.in_ok-record-in-Some.record in
       let same : n.entry ≡ said = same_entry _ n.entry said n.is c.in_ok-record-in-Some.ensures.record in
-      let next = next_read g.D.Disk first_count base all h.0 c.in-Some.lsn n.entry said c.next.new.self c.next.new.disk same taken n.front n.opening in
-      (logged_at c.in-Some.lsn said ∷ h.0, next.2, (c.in_ok-take-in-Some.ensures.kept c.args.least first_count h.0 h.2 next.0 next.1.leads next.1.counted).ok, c.in_ok-drop_changes-in-Some.ensures.kept (logged_at c.in-Some.lsn said ∷ h.0) (c.in_ok-note-in-Some.ensures.kept h.0 next.0.readable h.3))
+      let next = next_read g.D.Disk c.args.pages base all h.0 c.in-Some.lsn n.entry said c.next.new.self c.next.new.disk same taken n.front n.opening in
+      (logged_at c.in-Some.lsn said ∷ h.0, next.2, (c.in_ok-take-in-Some.ensures.kept c.args.least c.args.pages h.0 h.2 next.0 next.1.leads next.1.counted).ok, c.in_ok-drop_changes-in-Some.ensures.kept (logged_at c.in-Some.lsn said ∷ h.0) (c.in_ok-note-in-Some.ensures.kept h.0 next.0.readable h.3))
       );
   back = λ base start.
       let h = c.loop-changes.invariant.back base start in
       let said = view c.in_ok-record-in-Some.record in (
         logged_at c.in-Some.lsn said ∷ h.0,
         some_read g.D.Disk base h.0 c.next.new.self c.next.new.disk c.in_ok-next.field-0 c.in-Some.lsn said c.in-Some.is (c.in_ok-next.ensures.reads_on base h.0 h.1) c.in_ok-record-in-Some.ensures.record,
-        λ readable. (let rest = h.2 readable.1 in let fits = (c.in_ok-take-in-Some.ensures.fits first_count h.0 rest.1 readable.0).ok in ((fits.0, rest.0), fits.1)),
+        λ readable. (let rest = h.2 readable.1 in let fits = (c.in_ok-take-in-Some.ensures.fits c.args.pages h.0 rest.1 readable.0).ok in ((fits.0, rest.0), fits.1)),
       );
 }
 
@@ -59,8 +58,8 @@ returns-in_err-take-in-Some-clause-kept g c base all start taken low some =
     let n = some_kept g.D.Disk base all h.0 c.next.new.self c.next.new.disk c.in_ok-next.field-0 c.in-Some.lsn c.in-Some.is (c.in_ok-next.ensures.kept base all h.0 h.1) in
     let said = view c.in_ok-record-in-Some.record in
     let same : n.entry ≡ said = same_entry _ n.entry said n.is c.in_ok-record-in-Some.ensures.record in
-    let next = next_read g.D.Disk first_count base all h.0 c.in-Some.lsn n.entry said c.next.new.self c.next.new.disk same taken n.front n.opening in
-    let k = c.in_err-take-in-Some.ensures.kept c.args.least first_count h.0 h.2 next.0 next.1.leads next.1.counted in
+    let next = next_read g.D.Disk c.args.pages base all h.0 c.in-Some.lsn n.entry said c.next.new.self c.next.new.disk same taken n.front n.opening in
+    let k = c.in_err-take-in-Some.ensures.kept c.args.least c.args.pages h.0 h.2 next.0 next.1.leads next.1.counted in
     let other : c.in_err-take-in-Some.field-0.0 ≢ NotAStore = λ e. next.1.alone (k.refused.0 (ap Rattle.std.proofs.Common.Err e)) in
     record { ok = search rules; cause = search (rules, other) }
 
@@ -68,8 +67,8 @@ pub returns-clause-kept : goal.returns-clause-kept
 returns-clause-kept g c base all start taken low some =
     let h = c.loop-changes.invariant.kept base all start taken low some in
     let e = none_kept g.D.Disk base all h.0 c.next.new.self c.next.new.disk c.in_ok-next.field-0 c.in-None.is (c.in_ok-next.ensures.kept base all h.0 h.1) in
-    let whole = subst (λ (l : History). IsAnalysed c.args.least first_count l c.loop-changes.analysis × AreChanges l c.loop-changes.changes) e.all_read (h.2, h.3) in
-    let analysis = c.finish-analysed.ensures c.args.least first_count all whole.0 in
+    let whole = subst (λ (l : History). IsAnalysed c.args.least c.args.pages l c.loop-changes.analysis × AreChanges l c.loop-changes.changes) e.all_read (h.2, h.3) in
+    let analysis = c.finish-analysed.ensures c.args.least c.args.pages all whole.0 in
     let parts = c.in_ok-last.ensures.kept (c.reaches.ensures.0 (search rules)) all whole.1 in
     let seen = c.next.ensures.reads.seen ∙ c.loop-changes.invariant.reads.seen in
     let number : c.args.least ≡ least_number (g.D.Disk.seen c.next.new.disk Log) = low ∙ sym (ap (λ (f : Files). least_number (f Log)) seen) in
