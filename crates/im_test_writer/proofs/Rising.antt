@@ -1,5 +1,5 @@
 -- Numbers that rise.
-use Rattle.std.proofs.Common.{◌≡◌, ℕ, suc, zero, ◌<◌, List, [], ◌∷◌, arith}
+use Rattle.std.proofs.Common.{ℕ, suc, zero, ◌<◌, List, [], ◌∷◌, arith}
 use Rattle.im_page_rounds.specs.Hand.{AreRising}
 
 rising_one : (p : ℕ) → AreRising (p ∷ [])
@@ -14,4 +14,4 @@ rising_more p q qs less rest (suc i) (suc j) lt within = rest i j (omega (arith,
 
 -- the pages of the round
 pub pages_rise : AreRising (2 ∷ 3 ∷ 4 ∷ 5 ∷ 6 ∷ 7 ∷ [])
-pages_rise = rising_more 2 3 _ (omega arith) (rising_more 3 4 _ (omega arith) (rising_more 4 5 _ (omega arith) (rising_more 5 6 _ (omega arith) (rising_more 6 7 _ (omega arith) (rising_one 7)))))
+pages_rise = rising_more 2 3 (4 ∷ 5 ∷ 6 ∷ 7 ∷ []) (omega arith) (rising_more 3 4 (5 ∷ 6 ∷ 7 ∷ []) (omega arith) (rising_more 4 5 (6 ∷ 7 ∷ []) (omega arith) (rising_more 5 6 (7 ∷ []) (omega arith) (rising_more 6 7 [] (omega arith) (rising_one 7)))))
