@@ -1,4 +1,4 @@
-use Rattle.std.proofs.Common.{rules, ℕ, List, ◌∷◌, ◌+◌, ◌≡◌, ◌≤◌, drop, length, get_or, Bool, true, false, arith, sym, subst, refl}
+use Rattle.std.proofs.Common.{rules, ℕ, List, ◌+◌, ◌≡◌, ◌≤◌, drop, length, Bool, true, false, arith, sym, subst, refl}
 use Rattle.std.specs.Prelude.{if◌then◌else◌}
 use Rattle.std.proofs.Math.ListN.{drop_of_length-le}
 use Rattle.std.proofs.lemmas.List.{length-map}
