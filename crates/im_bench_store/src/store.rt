@@ -53,6 +53,28 @@
 //! 1.45, 0.84, 0.84, 0.67 at 20,000 keys, 0.72, 0.44, 0.27, 0.27 at 100,000 and 0.69, 0.56, 0.38, 0.29 at a million; one a commit 0.94, 1.0, 0.42, 0.58, then
 //! 1.2, 1.7, 0.96, 2.0, then 0.57, 0.46, 0.61, 0.51; deletes 1.1, 0.69, 0.54, 0.48, then 1.2, 1.3, 0.98, 1.1, then 0.56, 0.40, 0.23, 0.29. Absent look-ups
 //! took 0.9 to 1.0 of the rate of present ones. At a million keys the 1,024 frames hold one leaf in seven, which the others' 256 MiB hold whole.
+//!
+//! # Redo after a kill
+//!
+//! Seconds of processor, and elapsed, of an opening that redoes a whole log of random inserts, keys of 8 to 16 bytes, 64 a commit: 43,264 keys (16 MiB) and
+//! 692,480 (257 MiB). Files in memory, builds that were not proved, each in turn in one run, seven rounds (three with more than one worker at 257 MiB), the
+//! middle of them; four cores, a load of 15 to 25 from proofs beside, from which elapsed times of several workers suffer most:
+//!
+//! | redo | 16 MiB, 64 frames | 16 MiB, 1,024 | 257 MiB, 64 | 257 MiB, 1,024 |
+//! |---|---|---|---|---|
+//! | record by record, three calls each | 0.113, 0.15 | 0.068, 0.097 | 2.82, 3.9 | 2.63, 3.4 |
+//! | record by record, by a window of 64 KiB | 0.073, 0.13 | 0.027, 0.033 | 2.08, 2.8 | 1.97, 2.6 |
+//! | in rounds, one worker | 0.076, 0.12 | 0.031, 0.042 | 2.16, 2.9 | 2.16, 2.8 |
+//! | in rounds, two workers | 0.131, 0.72 | 0.040, 0.075 | 3.31, 17 | 2.63, 7.5 |
+//! | in rounds, four workers | 0.169, 1.2 | 0.052, 0.12 | 4.28, 32 | 3.14, 12 |
+//! | plain C: the log read once, each change made, all pages in memory | 0.012, 0.014 | 0.012, 0.024 | 0.44, 0.55 | 0.44, 0.61 |
+//!
+//! Over files on a disk, 257 MiB in 1,024 frames: 14.8 s by three calls a record, 4.97 by the window, 6.40 in rounds. So one read for many records is what
+//! was won, and rounds add no more to it. Of one worker's opening reading the log twice takes 10 to 39 %, finding and decoding records 12 to 44 %, pages
+//! that are read, written and checked 54 to 66 % (1 % where they fit the frames), the pool and the tables 9 to 23 %. The part that workers share is 4 to
+//! 20 %: split without cost it would make an opening 1.04 to 1.17 times as fast. But each worker goes through all records of a round, and threads begin
+//! anew each round, of which 257 MiB have 2,451. A window reads the log by 7,475 calls in all at 16 MiB and 1,024 frames, rounds by 7,218, three calls a
+//! record by 97,235. Memory at its peak: 2.9 MiB by the window, 4.2 with one worker, 4.5 with four in 64 frames; 7.1, 8.8 and 9.2 in 1,024.
 
 mod options;
 

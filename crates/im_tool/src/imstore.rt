@@ -146,7 +146,7 @@ fn run_steps<D: Disk + Cause + Drop, R: LineInput, W: Write, T: Threads + Sync>(
     requires working { D.failed disk ≡ false }
     requires synced { IsSynced D.Disk disk }
 {
-    let (config, bound) = (options.config(threads), options.redo_bound());
+    let (config, bound) = (options.config(), options.redo_bound());
     let mut causes = Causes {
         writer: rt.stderr(),
         dir,

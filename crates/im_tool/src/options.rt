@@ -8,15 +8,11 @@ use im_base_types::{LEAST_FRAMES, MOST_FRAMES};
 use im_engine::{BufferSize, Config, MOST_WORKERS};
 use im_engine_upkeep::RedoBound;
 use std::alloc::Global;
-use std::thread::{Threads, available_parallelism};
 
 /// The most MiB that may be named.
 const MOST_CHECKPOINT: u64 = 1_048_576;
 
 const MIB: u64 = 1_048_576;
-
-/// The most workers where the words name none.
-const USUAL_WORKERS: usize = 4;
 
 /// What the program is asked for.
 #[derive(Clone, Copy, Debug, PartialEq, Eq)]
@@ -56,14 +52,13 @@ pub struct Options<'a> {
 }
 
 impl<'a> Options<'a> {
-    /// The limits of the engine: 1,024 frames for a folder and 64 in memory, a million pages, and workers as the machine has processors, where the
-    /// words say nothing else. The log of a store in a folder has the buffer that suits files.
-    pub(crate) fn config<T: Threads>(&self, threads: &T) -> Config {
+    /// The limits of the engine: 1,024 frames for a folder and 64 in memory, a million pages, and one worker of redo, where the words say nothing
+    /// else. The log of a store in a folder has the buffer that suits files.
+    pub(crate) fn config(&self) -> Config {
         let mut config = Config::default();
-        config.workers = match self.workers {
-            Some(workers) => workers as usize,
-            None => usual_workers(threads),
-        };
+        if let Some(workers) = self.workers {
+            config.workers = workers as usize;
+        }
         if self.dir.is_some() {
             config.frames = MOST_FRAMES;
             config.buffer = BufferSize::OVER_FILES;
@@ -85,14 +80,6 @@ impl<'a> Options<'a> {
             None if self.dir.is_some() => RedoBound::default(),
             None => RedoBound::of_bytes(0),
         }
-    }
-}
-
-/// As many workers as the machine has processors for this program, 4 at most; 4 where their number is not known.
-pub(crate) fn usual_workers<T: Threads>(threads: &T) -> usize {
-    match available_parallelism(threads) {
-        Ok(processors) => processors.get().min(USUAL_WORKERS),
-        Err(_) => USUAL_WORKERS,
     }
 }
 
@@ -173,7 +160,7 @@ fn with_numbers<'a>(alloc: Global, command: Command<'a>) -> Result<Command<'a>, 
                 .long("workers")
                 .value_parser(ValueParser::unsigned(1, MOST_WORKERS as u64))
                 .help(
-                    "Threads that share the redo of an opening, 1 to 16 [as many as there are processors, 4 at most]",
+                    "Threads that share the redo of an opening, 1 to 16 [1]",
                 ),
         )?;
     Ok(command)

@@ -1,6 +1,5 @@
 //! A store as an opening finds it, over its files, of which nothing is changed.
 
-use crate::options::usual_workers;
 use crate::scratch_disk::ScratchDisk;
 use im_base_steps::{Reply, Step};
 use im_base_types::{Fault, Key, MOST_DIRTY, MOST_FRAMES, Rid};
@@ -9,15 +8,13 @@ use std::alloc::Global;
 use std::thread::Threads;
 
 // How a store is opened that is only looked at.
-fn to_look<T: Threads>(threads: &T) -> Config {
-    Config {
-        frames: MOST_FRAMES,
-        max_pages: u32::MAX,
-        buffer: BufferSize::ONE,
-        group: false,
-        workers: usual_workers(threads),
-    }
-}
+const TO_LOOK: Config = Config {
+    frames: MOST_FRAMES,
+    max_pages: u32::MAX,
+    buffer: BufferSize::ONE,
+    group: false,
+    workers: 1,
+};
 
 /// The store of the files, opened over them. Refused as `Engine::open_or_create` is, with the disk.
 pub(crate) fn opened<T: Threads + Sync>(
@@ -28,7 +25,7 @@ pub(crate) fn opened<T: Threads + Sync>(
     if disk.has_failed() {
         return Err((Fault::Device, disk));
     }
-    Engine::open_or_create(rt, alloc, disk, to_look(rt))
+    Engine::open_or_create(rt, alloc, disk, TO_LOOK)
 }
 
 /// The entries that a look at the files finds, and the disk.
@@ -40,7 +37,7 @@ pub(crate) fn entries_of<T: Threads + Sync>(
     if disk.has_failed() {
         return (Err(Fault::Device), disk);
     }
-    look(rt, alloc, disk, to_look(rt))
+    look(rt, alloc, disk, TO_LOOK)
 }
 
 /// Writes each page that lacks changes in its file.

@@ -245,7 +245,7 @@ fn load_from<R: LineInput, W: Write, T: Threads + Sync>(
                 writer: rt.stderr(),
                 is_shown: rt.stderr().is_terminal(),
             };
-            let (config, bound) = (options.config(threads), options.redo_bound());
+            let (config, bound) = (options.config(), options.redo_bound());
             let mut causes = Causes {
                 writer: rt.stderr(),
                 dir,
