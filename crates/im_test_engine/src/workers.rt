@@ -1,10 +1,9 @@
 //! Redo shared by workers: however many there are, an opening brings the same pages back and tells the same report.
 
 use crate::said::{end, opened};
-use im_base_disk::Disk;
 use im_base_model_disk::ModelDisk;
 use im_base_steps::{Reply, Step};
-use im_base_types::{Fault, FileId, LONGEST_KEY, MOST_DIRTY, PAGE_SIZE};
+use im_base_types::{Fault, FileId, Key, LONGEST_KEY, MOST_DIRTY, PAGE_SIZE, PageKind, Rid};
 use im_engine::{Config, Engine};
 use std::alloc::Global;
 use std::test::Fail;
@@ -83,7 +82,7 @@ fn left<R: Threads + Sync>(rt: &R, alloc: Global) -> Result<ModelDisk, Fail> {
     Ok(disk?)
 }
 
-// What an opening did: redo's point and count, how many entries there are, how many pages, and a sum over the bytes of all pages once each is written.
+// What an opening did: redo's point and count, how many pages there are, and a sum over their headers and over all entries.
 #[derive(Clone, Copy, Debug, PartialEq, Eq)]
 struct Came {
     point: u64,
@@ -103,22 +102,33 @@ fn write_all(engine: &mut Engine<ModelDisk>) {
     }
 }
 
-// A sum of the bytes of a file of pages, in which each counts by its place.
-fn sum_of(alloc: Global, disk: &mut ModelDisk) -> Result<(u64, u64), Fail> {
-    let length = disk.end(FileId::Pages);
-    let mut bytes = vec![in alloc; 0; PAGE_SIZE]?;
-    let mut sum: u64 = 0;
-    for page in 0..length / PAGE_SIZE as u64 {
-        disk.read(
-            FileId::Pages,
-            page.wrapping_mul(PAGE_SIZE as u64),
-            &mut bytes,
-        )?;
-        for byte in &bytes {
-            sum = (sum ^ u64::from(*byte)).wrapping_mul(0x0000_0100_0000_01B3);
-        }
+// A sum and one number more, which counts by its place.
+fn mixed(sum: u64, number: u64) -> u64 {
+    (sum ^ number).wrapping_mul(0x0000_0100_0000_01B3)
+}
+
+// A sum over what the first pages are for.
+fn sum_of_pages(engine: &mut Engine<ModelDisk>, pages: u64) -> Result<u64, Fault> {
+    let mut sum = 0;
+    for page in 0..pages {
+        let header = engine.header(page as u32)?;
+        sum = mixed(sum, u64::from(header.kind == PageKind::Leaf));
+        sum = mixed(sum, u64::from(header.level));
+        sum = mixed(sum, header.count as u64);
     }
-    Ok((length / PAGE_SIZE as u64, sum))
+    Ok(sum)
+}
+
+// A sum over entries.
+fn sum_of_entries(entries: &[(Key, Rid)]) -> u64 {
+    let mut sum = 0;
+    for (key, rid) in entries {
+        for byte in key.bytes() {
+            sum = mixed(sum, u64::from(*byte));
+        }
+        sum = mixed(sum, *rid);
+    }
+    sum
 }
 
 // What an opening by so many workers in eight frames makes of a copy of the disk.
@@ -137,14 +147,16 @@ fn came_of<R: Threads + Sync>(
     let report = engine.redo_report();
     let entries = engine.entries(alloc);
     write_all(&mut engine);
-    let mut disk = engine.into_disk();
-    let (pages, sum) = sum_of(alloc, &mut disk)?;
+    let pages = engine.disk().end(FileId::Pages) / PAGE_SIZE as u64;
+    let sum = sum_of_pages(&mut engine, pages);
+    end(engine);
+    let entries = entries?;
     Ok(Came {
         point: report.point,
         applied: report.applied,
-        entries: entries?.len(),
+        entries: entries.len(),
         pages,
-        sum,
+        sum: mixed(sum?, sum_of_entries(&entries)),
     })
 }
 
