@@ -3,7 +3,7 @@
 use crate::said::{end, opened};
 use im_base_model_disk::ModelDisk;
 use im_base_steps::{Reply, Step};
-use im_base_types::{Fault, FileId, Key, LONGEST_KEY, MOST_DIRTY, PAGE_SIZE, PageKind, Rid};
+use im_base_types::{Fault, FileId, Key, LONGEST_KEY, MOST_DIRTY, PAGE_SIZE, PageKind, PageNo, Rid};
 use im_engine::{Config, Engine};
 use std::alloc::Global;
 use std::test::Fail;
@@ -108,10 +108,10 @@ fn mixed(sum: u64, number: u64) -> u64 {
 }
 
 // A sum over what the first pages are for.
-fn sum_of_pages(engine: &mut Engine<ModelDisk>, pages: u64) -> Result<u64, Fault> {
+fn sum_of_pages(engine: &mut Engine<ModelDisk>, pages: PageNo) -> Result<u64, Fault> {
     let mut sum = 0;
     for page in 0..pages {
-        let header = engine.header(page as u32)?;
+        let header = engine.header(page)?;
         sum = mixed(sum, u64::from(header.kind == PageKind::Leaf));
         sum = mixed(sum, u64::from(header.level));
         sum = mixed(sum, header.count as u64);
@@ -148,7 +148,7 @@ fn came_of<R: Threads + Sync>(
     let entries = engine.entries(alloc);
     write_all(&mut engine);
     let pages = engine.disk().end(FileId::Pages) / PAGE_SIZE as u64;
-    let sum = sum_of_pages(&mut engine, pages);
+    let sum = sum_of_pages(&mut engine, u32::try_from(pages).unwrap_or(u32::MAX));
     end(engine);
     let entries = entries?;
     Ok(Came {
