@@ -13,7 +13,7 @@ use std::thread::Threads;
 /// order of theirs they fill two thirds of it.
 const KEYS: u64 = 1_000;
 
-const TXNS: u64 = 30;
+const TXNS: u64 = 31;
 
 /// A step over the numbers below `KEYS * TXNS` that comes to each of them.
 const APART: u64 = 7_919;
@@ -167,7 +167,7 @@ fn workers_bring_back_what_one_does(rt: HostRuntime) -> Result<(), Fail> {
     let alone = came_of(&rt, alloc, &disk, 1)?;
     assert!(rt; alone.pages >= 3_000, "{}", alone.pages);
     assert!(rt; alone.entries as u64 == KEYS * TXNS, "{}", alone.entries);
-    assert!(rt; alone.applied > 1_000, "{}", alone.applied);
+    assert!(rt; alone.applied > 500, "{}", alone.applied);
     for workers in [2, 3, 16] {
         let came = came_of(&rt, alloc, &disk, workers)?;
         assert!(rt; came == alone, "{workers}: {came:?}, not {alone:?}");
