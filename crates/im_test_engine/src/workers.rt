@@ -3,7 +3,9 @@
 use crate::said::{end, opened};
 use im_base_model_disk::ModelDisk;
 use im_base_steps::{Reply, Step};
-use im_base_types::{Fault, FileId, Key, LONGEST_KEY, MOST_DIRTY, PAGE_SIZE, PageKind, PageNo, Rid};
+use im_base_types::{
+    Fault, FileId, Key, LONGEST_KEY, MOST_DIRTY, PAGE_SIZE, PageKind, PageNo, Rid,
+};
 use im_engine::{Config, Engine};
 use std::alloc::Global;
 use std::test::Fail;

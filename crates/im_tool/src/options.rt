@@ -159,9 +159,7 @@ fn with_numbers<'a>(alloc: Global, command: Command<'a>) -> Result<Command<'a>, 
             Arg::new(alloc, "workers")
                 .long("workers")
                 .value_parser(ValueParser::unsigned(1, MOST_WORKERS as u64))
-                .help(
-                    "Threads that share the redo of an opening, 1 to 16 [1]",
-                ),
+                .help("Threads that share the redo of an opening, 1 to 16 [1]"),
         )?;
     Ok(command)
 }
