@@ -1,1 +1,2 @@
 pub mod RealFiles
+pub mod Fronts

@@ -1,12 +1,12 @@
--- What is promised of real files: their descriptors, which beginnings of a log are gone on with, and which refusal is printed.
-use Rattle.std.specs.Prelude.{◌≡◌, ◌⊎◌, ◌≤◌, ◌<ℤ◌, ℕ, pos, Bool, true, false, IfSome}
+-- What is promised of real files: their descriptors, where the file of pages is missing, and which refusal is printed.
+use Rattle.std.specs.Prelude.{◌≡◌, ◌<ℤ◌, pos, Bool, true, false, IfSome}
 use Rattle.std.specs.declared.fs.File.{File}
 use Rattle.std.specs.Fd.{file_raw_fd}
 use Rattle.im_base_types.specs.declared.fault.Fault.{Fault}
 use Rattle.im_base_types.specs.declared.fault.Fault.TheVariants.{Device, Memory, NotAStore, Locked as LockedFault}
 use Rattle.im_base_file_disk.specs.declared.file_disk.FileDisk.{FileDisk}
 use Rattle.im_base_file_disk.specs.declared.open_error.OpenError.{OpenError}
-use Rattle.im_base_file_disk.specs.declared.open_error.OpenError.TheVariants.{NotAFile, NoFile, NoPages, NotALog, Locked, NoFolder, NotAFolder, Denied, NoDescriptor, System, Memory as NoMemory}
+use Rattle.im_base_file_disk.specs.declared.open_error.OpenError.TheVariants.{NotAFile, NoFile, NoPages, ShortPages, NotALog, NoFirstByte, Locked, NoFolder, NotAFolder, Denied, NoDescriptor, System, Memory as NoMemory}
 
 -- The file's descriptor is none of standard input, output and error.
 abbrev pub IsApart : File → Type 0
@@ -18,10 +18,6 @@ pub record HasOwnDescriptors (disk : FileDisk) : Type 0 where
   pub pages : IsApart disk.pages
   pub log2 : IfSome disk.log2 IsApart
 
--- A log says that it was made, or a stop of a creation leaves such files: by the lengths and the first bytes of both logs.
-abbrev pub MayBeStore : (long first long2 first2 : ℕ) → Type 0
-MayBeStore long first long2 first2 = (first ≡ 1) ⊎ (first2 ≡ 1) ⊎ ((long ≤ 48) × (long2 ≤ 48))
-
 -- A log says that it was made, and there is no file of pages beside it.
 abbrev pub LacksPages : (is_made has_pages : Bool) → Type 0
 LacksPages is_made has_pages = (is_made ≡ true) × (has_pages ≡ false)
@@ -31,7 +27,9 @@ abbrev pub fault_of : OpenError → Fault
 fault_of (NotAFile name) = NotAStore
 fault_of (NoFile name) = NotAStore
 fault_of NoPages = NotAStore
-fault_of NotALog = NotAStore
+fault_of ShortPages = NotAStore
+fault_of (NotALog name) = NotAStore
+fault_of (NoFirstByte name) = NotAStore
 fault_of Locked = LockedFault
 fault_of NoMemory = Memory
 fault_of (NoFolder error) = Device

@@ -11,6 +11,7 @@ pub enum DiskCall {
     Read(u64),
     Write(u64),
     Sync,
+    Empty,
 }
 
 /// A call of the disk that failed: which it was, on which file of the folder, and what the system said. Its words are one line.
@@ -46,6 +47,7 @@ impl Display for DiskError {
                 write!(f, "a write to `{name}` at byte {at} failed: {}", self.error)
             }
             DiskCall::Sync => write!(f, "a sync of `{name}` failed: {}", self.error),
+            DiskCall::Empty => write!(f, "`{name}` was not emptied: {}", self.error),
         }
     }
 }

@@ -1,20 +1,22 @@
 //! Real files. Nothing is told of their bytes.
 ghost use Rattle.std.specs.Prelude.{◌≡◌, ◌↔◌, [], true, false, IfOk, IfErr, IfSome, OnOk, Ok, Err, Some, is_err, option_map};
 ghost use Rattle.im_base_types.specs.declared.fault.Fault.TheVariants.{Device};
-ghost use Rattle.im_base_file_disk.specs.RealFiles.{IsApart, HasOwnDescriptors, LacksPages, MayBeStore};
+ghost use Rattle.im_base_disk.specs.Disk.{Answers};
+ghost use Rattle.im_base_file_disk.specs.RealFiles.{IsApart, HasOwnDescriptors, LacksPages};
 
 use crate::folders::{make_folders, sync_folders};
+use crate::fronts::{
+    FRONT, Front, UNMADE_LOG, current_base, lacks_first_byte, lacks_other, lacks_pages,
+    may_be_store,
+};
 use crate::{DiskCall, DiskError, OpenError};
 use im_base_disk::{Count, Disk};
-use im_base_types::{Fault, FileId};
+use im_base_types::{Fault, FileId, PAGE_SIZE};
 use std::fs::{self, File, OpenOptions, TryLockError};
 use std::io;
 use std::io::ErrorKind;
 use std::os::fd::AsRawFd;
 use std::os::unix::fs::FileExt;
-
-// A stop of a creation leaves no more bytes of a log that was not made: its header, and the first gate.
-const UNMADE_LOG: u64 = 48;
 
 // The greatest of the descriptors of standard input, output and error.
 const STANDARD_ERROR: i32 = 2;
@@ -42,8 +44,9 @@ impl FileDisk {
     /// program was started without one of them: what it prints there would be written over the store.
     ///
     /// Refused `NotAFile` where a name in the folder is taken by something else, `Locked` where another opening holds
-    /// the log, `NotALog` where neither log says that it was made, and they are none that a stop of a creation leaves, `NoPages` where one
-    /// says so and there is no `pages`: in these four no byte of a file was changed and none was made but an empty `log`. The other errors are the system's.
+    /// the log, `NotALog` where neither log says that it was made, and they are none that a stop of a creation leaves, `NoFirstByte` where the newer one
+    /// does not say so, `NoFile` where one says so and the other is missing, `NoPages` where one says so and there is no `pages`, `ShortPages` where that lacks
+    /// pages: in these seven no byte of a file was changed and none was made but an empty `log`. The other errors are the system's.
     pub fn open(rt: &HostRuntime, dir: &str) -> Result<FileDisk, OpenError>
         ensures working { IfOk result (λ disk. ⟦<FileDisk as Disk>⟧.failed disk ≡ false) }
         ensures descriptors { IfOk result HasOwnDescriptors }
@@ -57,15 +60,19 @@ impl FileDisk {
         options.read(true).write(true).create(true);
         let log_path = path_of_file(rt, dir, "log")?;
         let pages_path = path_of_file(rt, dir, "pages")?;
+        if !fs::exists(rt, log_path.as_str())? && has_bytes(rt, dir, "log2")? {
+            return Err(OpenError::NoFile("log"));
+        }
         let log = open_file(rt, log_path.as_str(), &options)?;
         lock(&log)?;
         let found = open_if_made(rt, dir, &options)?;
-        let is_made = has_made_log(&log, found.as_ref())?;
+        let (is_made, base) = logs_say(&log, found.as_ref())?;
         if !may_make_pages(is_made, fs::exists(rt, pages_path.as_str())?) {
             return Err(OpenError::NoPages);
         }
-        let log2 = made(rt, dir, &options, found)?;
         let pages = open_file(rt, pages_path.as_str(), &options)?;
+        has_whole_pages(&pages, base)?;
+        let log2 = made(rt, dir, &options, found)?;
         sync_all(&[&log, &log2, &pages, &folder])?;
         if !is_made {
             sync_folders(rt, dir)?;
@@ -84,32 +91,36 @@ impl FileDisk {
     /// Opens the `log` and `pages` that the folder has, and its `log2` if it has one, to be read only, and locks the log. It makes nothing and syncs
     /// nothing, and a write to what it opens is refused `Device`. The descriptors are as `open` has them.
     ///
-    /// Refused as `open` refuses, and `NoFile` where one of the two is missing.
+    /// Refused as `open` refuses, and `NoFile` where `log` or `pages` is missing.
     pub fn open_to_read(rt: &HostRuntime, dir: &str) -> Result<FileDisk, OpenError>
         ensures working { IfOk result (λ disk. ⟦<FileDisk as Disk>⟧.failed disk ≡ false) }
         ensures descriptors { IfOk result HasOwnDescriptors }
     {
-        let _first = open_folder(rt, dir)?;
-        let _second = open_folder(rt, dir)?;
-        let _third = open_folder(rt, dir)?;
         let mut options = OpenOptions::new();
         options.read(true);
-        let log_path = path_of_made_file(rt, dir, "log")?;
-        let pages_path = path_of_made_file(rt, dir, "pages")?;
-        let log = open_file(rt, log_path.as_str(), &options)?;
-        lock(&log)?;
-        let log2 = open_if_made(rt, dir, &options)?;
-        has_made_log(&log, log2.as_ref())?;
-        let pages = open_file(rt, pages_path.as_str(), &options)?;
-        Ok(FileDisk {
-            log,
-            pages,
-            log2,
-            has_failed: false,
-            last_error: None,
-            writes: Count::new(),
-            syncs: Count::new(),
-        })
+        open_files(rt, dir, &options)
+    }
+
+    /// The same, to be read and written.
+    pub fn open_made(rt: &HostRuntime, dir: &str) -> Result<FileDisk, OpenError>
+        ensures working { IfOk result (λ disk. ⟦<FileDisk as Disk>⟧.failed disk ≡ false) }
+        ensures descriptors { IfOk result HasOwnDescriptors }
+    {
+        let mut options = OpenOptions::new();
+        options.read(true).write(true);
+        open_files(rt, dir, &options)
+    }
+
+    /// Takes all bytes of a file away, and brings that to the disk. No step of a store does that: it is for a log of which its store, which is closed, has no
+    /// use.
+    ///
+    /// Refused `Device`.
+    pub fn empty(&mut self, file: FileId) -> Result<(), Fault>
+        requires working { ⟦<FileDisk as Disk>⟧.failed self.old ≡ false }
+        ensures answers { Answers (⟦<FileDisk as Disk>⟧.failed self.new) result }
+    {
+        let outcome = self.cut(file);
+        self.keep(DiskCall::Empty, file, outcome)
     }
 
     /// The last call that failed: which it was, on which file and where, and what the system said. None where none has failed.
@@ -184,6 +195,12 @@ impl FileDisk {
     fn bring(&self, file: FileId) -> io::Result<()> {
         self.file(file)?.sync_data()
     }
+
+    fn cut(&self, file: FileId) -> io::Result<()> {
+        let file = self.file(file)?;
+        file.set_len(0)?;
+        file.sync_all()
+    }
 }
 
 fn open_folder(rt: &HostRuntime, dir: &str) -> Result<File, OpenError> {
@@ -194,7 +211,40 @@ fn open_folder(rt: &HostRuntime, dir: &str) -> Result<File, OpenError> {
     Ok(File::open(rt, dir)?)
 }
 
-// The same where there is such a file.
+// The files that a folder has, and no other. The log is locked.
+fn open_files(rt: &HostRuntime, dir: &str, options: &OpenOptions) -> Result<FileDisk, OpenError>
+    ensures working { IfOk result (λ disk. ⟦<FileDisk as Disk>⟧.failed disk ≡ false) }
+    ensures descriptors { IfOk result HasOwnDescriptors }
+{
+    let _first = open_folder(rt, dir)?;
+    let _second = open_folder(rt, dir)?;
+    let _third = open_folder(rt, dir)?;
+    let log_path = path_of_made_file(rt, dir, "log")?;
+    let pages_path = path_of_made_file(rt, dir, "pages")?;
+    let log = open_file(rt, log_path.as_str(), options)?;
+    lock(&log)?;
+    let log2 = open_if_made(rt, dir, options)?;
+    let (_, base) = logs_say(&log, log2.as_ref())?;
+    let pages = open_file(rt, pages_path.as_str(), options)?;
+    has_whole_pages(&pages, base)?;
+    Ok(FileDisk {
+        log,
+        pages,
+        log2,
+        has_failed: false,
+        last_error: None,
+        writes: Count::new(),
+        syncs: Count::new(),
+    })
+}
+
+// Whether the folder has a file of this name with a byte in it.
+fn has_bytes(rt: &HostRuntime, dir: &str, name: &'static str) -> Result<bool, OpenError> {
+    let path = path_of_file(rt, dir, name)?;
+    Ok(fs::exists(rt, path.as_str())? && fs::metadata(rt, path.as_str())?.len() > 0)
+}
+
+// The path of a file that the folder has.
 fn path_of_made_file(rt: &HostRuntime, dir: &str, name: &'static str) -> Result<String, OpenError> {
     let path = path_of_file(rt, dir, name)?;
     if fs::exists(rt, path.as_str())? {
@@ -268,36 +318,56 @@ fn made(
     open_file(rt, path.as_str(), options)
 }
 
-// Whether a log says that it was made. Nothing is written.
-fn has_made_log(log: &File, log2: Option<&File>) -> Result<bool, OpenError> {
-    let (long, first) = front_of(log)?;
-    let (long2, first2) = match log2 {
+// Whether a log says that it was made, and the LSN with which the current one begins. Nothing is written.
+fn logs_say(log: &File, log2: Option<&File>) -> Result<(bool, u64), OpenError> {
+    let front = front_of(log)?;
+    let front2 = match log2 {
         Some(log2) => front_of(log2)?,
-        None => (0, 0),
+        None => Front::EMPTY,
     };
-    if may_be_store(long, first, long2, first2) {
-        Ok(first == 1 || first2 == 1)
+    if lacks_first_byte(&front.bytes, &front2.bytes) {
+        return Err(OpenError::NoFirstByte("log"));
+    }
+    if lacks_first_byte(&front2.bytes, &front.bytes) {
+        return Err(OpenError::NoFirstByte("log2"));
+    }
+    if lacks_other(&front.bytes, log2.is_some()) {
+        return Err(OpenError::NoFile("log2"));
+    }
+    if may_be_store(front.long, front.bytes[0], front2.long, front2.bytes[0]) {
+        return Ok((
+            front.is_made() || front2.is_made(),
+            current_base(&front.bytes, &front2.bytes),
+        ));
+    }
+    Err(OpenError::NotALog(if front.long > UNMADE_LOG {
+        "log"
     } else {
-        Err(OpenError::NotALog)
-    }
+        "log2"
+    }))
 }
 
-// The length of a file, and its first byte, 0 where it has none.
-fn front_of(file: &File) -> Result<(u64, u8), OpenError> {
-    let len = len_of(file)?;
-    if len == 0 {
-        return Ok((0, 0));
-    }
-    let mut first = [0];
-    file.read_exact_at(&mut first, 0)?;
-    Ok((len, first[0]))
+// The length of a file, and its first bytes.
+fn front_of(file: &File) -> Result<Front, OpenError> {
+    let mut front = Front::EMPTY;
+    front.long = len_of(file)?;
+    let size = usize::try_from(front.long).unwrap_or(FRONT).min(FRONT);
+    file.read_exact_at(&mut front.bytes[..size], 0)?;
+    Ok(front)
 }
 
-// A store that was made says so in the first byte of a log. While its current log is one of them, a stop leaves any first byte of the other.
-fn may_be_store(long: u64, first: u8, long2: u64, first2: u8) -> bool
-    ensures { (result ≡ true) ↔ MayBeStore long first long2 first2 }
-{
-    first == 1 || first2 == 1 || (long <= UNMADE_LOG && long2 <= UNMADE_LOG)
+// The file of pages has what it had when the current log began, with this LSN. Nothing is written.
+fn has_whole_pages(pages: &File, base: u64) -> Result<(), OpenError> {
+    let count = len_of(pages)? / PAGE_SIZE as u64;
+    let mut front = [0; 28];
+    if count > 0 {
+        pages.read_exact_at(&mut front, 0)?;
+    }
+    if lacks_pages(base, count, &front) {
+        Err(OpenError::ShortPages)
+    } else {
+        Ok(())
+    }
 }
 
 // A log that was made stands beside the file of pages, which a creation makes first: where that is missing it is not made anew.

@@ -1,14 +1,16 @@
 //! How are real files opened, locked, written and synced?
 //!
-//! The disk of real files: a folder with a log and pages.
+//! The disk of real files: a folder with two logs and pages.
 //!
 //! `FileDisk` is a disk in the words of `im_base_disk`. It tells no bytes: code over it is safe and total, and nothing
-//! is said of what it reads. `FileDisk::open` makes what is missing, and `OpenError` says why it refused.
+//! is said of what it reads. `FileDisk::open` makes what is missing, and `OpenError` says why it refused: which first bytes of logs may be a store's stands
+//! in functions over bytes (`fronts`). `FileDisk::empty` gives the room of a log back that its store has left.
 #![tactic(auto)]
 
 mod disk_error;
 mod file_disk;
 mod folders;
+mod fronts;
 mod open_error;
 
 pub use disk_error::{DiskCall, DiskError};

@@ -29,10 +29,17 @@ pub enum OpenError {
     /// A log says that it was made, so that there was a file of pages beside it: it is missing.
     #[error("there is no `pages` in it beside a log that was made: the pages of the store are missing")]
     NoPages,
-    /// The log does not say that it was made, and is longer than a stop leaves one of which that is true: its first
+    /// The file of pages is shorter than it was when the current log began: it was cut, or emptied.
+    #[error("`pages` in it lacks pages that the store had when its log began")]
+    ShortPages,
+    /// Neither log says that it was made, and this one is longer than a stop leaves one of which that is true: its first
     /// byte is damaged, or it is a file of another program. It is left as it is.
-    #[error("`log` in it does not begin as the log of a store")]
-    NotALog,
+    #[error("`{0}` in it does not begin as the log of a store")]
+    NotALog(&'static str),
+    /// This log is of a later generation than the other, and was made: its first byte, which does not say so, is damaged. With 1 there the folder
+    /// is the store again. It is left as it is.
+    #[error("the first byte of `{0}` in it is damaged: it is the newer log of the store")]
+    NoFirstByte(&'static str),
     /// Another opening, of this program or of another, holds the files.
     #[error("the store is open elsewhere")]
     Locked,
@@ -56,7 +63,9 @@ impl OpenError {
             OpenError::NotAFile(_) => Fault::NotAStore,
             OpenError::NoFile(_) => Fault::NotAStore,
             OpenError::NoPages => Fault::NotAStore,
-            OpenError::NotALog => Fault::NotAStore,
+            OpenError::ShortPages => Fault::NotAStore,
+            OpenError::NotALog(_) => Fault::NotAStore,
+            OpenError::NoFirstByte(_) => Fault::NotAStore,
             OpenError::Locked => Fault::Locked,
             OpenError::Memory => Fault::Memory,
             OpenError::NoFolder(_) => Fault::Device,

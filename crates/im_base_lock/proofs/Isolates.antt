@@ -5,10 +5,10 @@ use Rattle.std.specs.FinMap.{get}
 use Rattle.im_base_types.specs.Keys.{Key}
 use Rattle.im_base_types.specs.Maps.{IndexMap}
 use Rattle.im_base_types.specs.Changes.{Change, Touches, apply, apply_all, key_of}
-use Rattle.im_base_types.specs.Answers.{Going, Committing, Idle, Insert, Delete, Access, Reply, Step, answer, replay, map_after, map_after_all, is_answer, Begin, Do, Commit, Rollback, Continue, FlushPage, Force, Checkpoint, Started, Found, Absent, Entry, End, Entries, Inserted, Duplicate, Deleted, Committed, RolledBack, More, Blocked, BlockedTree, Die, Done, Refused}
+use Rattle.im_base_types.specs.Answers.{Going, Committing, Idle, Insert, Delete, Access, Reply, Step, answer, replay, map_after, map_after_all, is_answer, Begin, Do, Commit, Rollback, Continue, FlushPage, Force, Checkpoint, Switch, Started, Found, Absent, Entry, End, Entries, Inserted, Duplicate, Deleted, Committed, RolledBack, More, Blocked, BlockedTree, Die, Done, Refused}
 use Rattle.im_base_lock.specs.Rows.{asked}
 use Rattle.im_base_lock.specs.View.{View, Txn, Puts, Under, pending_of, idle, set_txn, is_among, AreDifferent, map_behind, relocked}
-use Rattle.im_base_lock.specs.Machine.{barred, Answers, Goes, Moves, begins, does, waits, dies, commits, queues, drops, turns, undoes, ends, puts_later, puts, drops_first, drops_leaf, takes_later, takes_first, takes_leaf, takes_last, logs_page, tree_blocks, tree_halts, flushes, forces, checkpoints, lacks, breaks, Run, IsReached, start}
+use Rattle.im_base_lock.specs.Machine.{barred, Answers, Goes, Moves, begins, does, waits, dies, commits, queues, drops, turns, undoes, ends, puts_later, puts, drops_first, drops_leaf, takes_later, takes_first, takes_leaf, takes_last, logs_page, tree_blocks, tree_halts, flushes, forces, checkpoints, switches, lacks, breaks, Run, IsReached, start}
 use Rattle.im_base_lock.specs.Isolation.{finished, IsReplay, queue_after, waits_in, finished_all, committed_in, serial, Isolates, GrantedChangesAreFree}
 use Rattle.im_base_lock.proofs.Changes.{same_maps}
 use Rattle.im_base_lock.proofs.Callers.{Run-push}
@@ -62,6 +62,7 @@ none_in front (Rollback t) reply other free = refl
 none_in front (Continue t) reply other free = refl
 none_in front (FlushPage p) reply other free = refl
 none_in front Checkpoint reply other free = refl
+none_in front Switch reply other free = refl
 none_in front (Commit t) Committed other free = absurd (other refl)
 none_in front (Commit t) (Started u) other free = refl
 none_in front (Commit t) (Found r) other free = refl
@@ -128,6 +129,7 @@ goes_commit v w step reply (tree_halts u x b under other d e) = inr (inr (λ q. 
 goes_commit v w step reply (flushes p a d e) = inr (inr (λ q. cc, not_force step (FlushPage p) reply a (λ x. cc x)))
 goes_commit v w step reply (forces a d e) = inr (inl (a, d))
 goes_commit v w step reply (checkpoints a d e) = inr (inr (λ q. cc, not_force step Checkpoint reply a (λ x. cc x)))
+goes_commit v w step reply (switches a d e) = inr (inr (λ q. cc, not_force step Switch reply a (λ x. cc x)))
 goes_commit v w step reply (lacks fault wants d e) = inr (inr (λ q. cc, λ x y. let never : Done ≡ Refused fault = sym y ∙ d in cc never))
 goes_commit v w step reply (breaks fault ls is d e) = inr (inr (λ q. cc, λ x y. let never : Done ≡ Refused fault = sym y ∙ d in cc never))
 
@@ -146,6 +148,7 @@ refused_queue queue (Continue t) f = refl
 refused_queue queue (FlushPage p) f = refl
 refused_queue queue Force f = refl
 refused_queue queue Checkpoint f = refl
+refused_queue queue Switch f = refl
 
 queue_by : (queue next : List ℕ) (step x : Step) (reply y : Reply) → step ≡ x → reply ≡ y → next ≡ queue_after queue x y → next ≡ queue_after queue step reply
 queue_by queue next step x reply y a b is = is ∙ ap (λ (s : Step). queue_after queue s y) (sym a) ∙ ap (queue_after queue step) (sym b)
@@ -175,6 +178,7 @@ goes_queue v w step reply (tree_halts u x b under other d e) = queue_by v.queue 
 goes_queue v w step reply (flushes p a d e) = queue_by v.queue w.queue step (FlushPage p) reply reply a refl (ap (λ (y : View). y.queue) e)
 goes_queue v w step reply (forces a d e) = queue_by v.queue w.queue step Force reply Done a d (ap (λ (y : View). y.queue) e)
 goes_queue v w step reply (checkpoints a d e) = queue_by v.queue w.queue step Checkpoint reply reply a refl (ap (λ (y : View). y.queue) e)
+goes_queue v w step reply (switches a d e) = queue_by v.queue w.queue step Switch reply reply a refl (ap (λ (y : View). y.queue) e)
 goes_queue v w step reply (lacks fault wants d e) = queue_by v.queue w.queue step step reply (Refused fault) refl d (ap (λ (y : View). y.queue) e ∙ sym (refused_queue v.queue step fault))
 goes_queue v w step reply (breaks fault ls is d e) = queue_by v.queue w.queue step step reply (Refused fault) refl d (ap (λ (y : View). y.queue) e ∙ sym (refused_queue v.queue step fault))
 

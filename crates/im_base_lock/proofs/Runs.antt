@@ -4,13 +4,13 @@ use Rattle.std.proofs.lemmas.Bool.{true≢false, cases_lt, eq-eqb, ne_eqb}
 use Rattle.std.specs.FinMap.{get}
 use Rattle.im_base_types.specs.Keys.{Key}
 use Rattle.im_base_types.specs.Maps.{IndexMap, From, Above, first}
-use Rattle.im_base_types.specs.Answers.{Access, Reply, More, RolledBack, BlockedTree, Step, answer, map_after, Mark, Idle, Going, MustRollBack, RollingBack, Committing, is_answer, Do, Commit, Rollback, Refused, Blocked, Die, Started, Found, Entry, End, Entries, Committed, Done, found, entry, Fetch, Seek, Next, Scan, Insert, Delete, Duplicate, Inserted, Deleted, Absent, Begin, Continue, FlushPage, Force, Checkpoint}
+use Rattle.im_base_types.specs.Answers.{Access, Reply, More, RolledBack, BlockedTree, Step, answer, map_after, Mark, Idle, Going, MustRollBack, RollingBack, Committing, is_answer, Do, Commit, Rollback, Refused, Blocked, Die, Started, Found, Entry, End, Entries, Committed, Done, found, entry, Fetch, Seek, Next, Scan, Insert, Delete, Duplicate, Inserted, Deleted, Absent, Begin, Continue, FlushPage, Force, Checkpoint, Switch}
 use Rattle.im_base_types.specs.Changes.{Change, undone, apply, Touches}
 use Rattle.im_base_lock.specs.Locks.{Name, Lock, Request, Holds, SameLocks, kept, IsFree}
 use Rattle.im_base_lock.specs.declared.request.Mode.{Mode}
 use Rattle.im_base_lock.specs.Rows.{asked}
 use Rattle.im_base_lock.specs.View.{Txn, View, Under, Puts, Drops, TakesBack, TookBack, pending_for, pending_of, of_others, kept_lock, own_locks, locked, with_change, change_made, idle, set_txn, did_txn, begun, did, marked, committed_by, dropped_by, undid_more, undid_last, is_among, AreDifferent, idle_all, map_behind, queued, forced_by, locks_in, MayRollBack, relocked, broken}
-use Rattle.im_base_lock.specs.Machine.{barred, Answers, Goes, Moves, begins, does, waits, dies, commits, queues, drops, turns, undoes, ends, puts_later, puts, drops_first, drops_leaf, takes_later, takes_first, takes_leaf, takes_last, logs_page, tree_blocks, tree_halts, flushes, forces, checkpoints, lacks, breaks, Run, start, or_else, fault_if}
+use Rattle.im_base_lock.specs.Machine.{barred, Answers, Goes, Moves, begins, does, waits, dies, commits, queues, drops, turns, undoes, ends, puts_later, puts, drops_first, drops_leaf, takes_later, takes_first, takes_leaf, takes_last, logs_page, tree_blocks, tree_halts, flushes, forces, checkpoints, switches, lacks, breaks, Run, start, or_else, fault_if}
 use Rattle.im_base_lock.specs.Isolation.{access_of, answered_with, is_more, pending_after}
 use Rattle.im_base_types.specs.Refusals.{failed as has_failed, unfinished}
 use Rattle.im_base_lock.proofs.Invariant.{Told, StoryHolds, Fits, by_txn, set_txn-same, set_txn-other}
@@ -380,6 +380,7 @@ queue_goes v w step reply h fresh (forces b d e) = queue_at (forced_by v) w e (r
   all = by_force_txn (λ t y. y.mark ≡ Committing → is_among t [] ≡ true) v.txns v.queue (λ t some is. cc is) (λ t none is. let never : true ≡ false = sym (h.all t is) ∙ none in cc never);
 })
 queue_goes v w step reply h fresh (checkpoints b d e) = queue_at v w e h
+queue_goes v w step reply h fresh (switches b d e) = queue_at v w e h
 queue_goes v w step reply h fresh (lacks fault want d e) = queue_at v w e h
 queue_goes v w step reply h fresh (breaks fault ls broke d e) = queue_at (broken v ls) w e (queue_breaks v ls h)
 
@@ -403,6 +404,7 @@ silent s o (Continue t) reply e = rw e
 silent s o (FlushPage p) reply e = refl
 silent s o Force reply e = refl
 silent s o Checkpoint reply e = refl
+silent s o Switch reply e = refl
 
 -- and one that is not More either leaves what goes on
 still_pending : (s : ℕ) (o : Option Access) (step : Step) (reply : Reply) → is_answer reply ≡ false → is_more reply ≡ false → pending_after s o step reply ≡ o
@@ -414,6 +416,7 @@ still_pending s o (Continue t) reply e m = rw e
 still_pending s o (FlushPage p) reply e m = refl
 still_pending s o Force reply e m = refl
 still_pending s o Checkpoint reply e m = refl
+still_pending s o Switch reply e m = refl
 
 answer_no_more : (r : Reply) → is_answer r ≡ true → is_more r ≡ false
 answer_no_more More e = absurd cc
@@ -570,6 +573,7 @@ module _ (v : View) (told : ℕ → List (Access × Reply)) (h : Stands v told) 
   Goes-upheld step reply w free (flushes p a d e) = quietly step reply w v e (none_for pend step reply (FlushPage p) a (λ s r. refl)) h
   Goes-upheld step reply w free (forces a d e) = quietly step reply w (forced_by v) e (none_for pend step reply Force a (λ s r. refl)) (force_stands v told h)
   Goes-upheld step reply w free (checkpoints a d e) = quietly step reply w v e (none_for pend step reply Checkpoint a (λ s r. refl)) h
+  Goes-upheld step reply w free (switches a d e) = quietly step reply w v e (none_for pend step reply Switch a (λ s r. refl)) h
   Goes-upheld step reply w free (lacks fault wants d e) = quietly step reply w v e (no_answer pend step reply (Refused fault) d refl) h
   Goes-upheld step reply w free (breaks fault ls is d e) =
       let kept_locks : ℕ → List Lock = λ s. (v.txns s).locks in
@@ -613,6 +617,7 @@ module _ (v : View) (told : ℕ → List (Access × Reply)) (h : Stands v told) 
   Goes-pending step reply w (flushes p a d e) s = pending_at step (FlushPage p) reply reply w v a refl e s refl
   Goes-pending step reply w (forces a d e) s = pending_at step Force reply reply w (forced_by v) a refl e s refl
   Goes-pending step reply w (checkpoints a d e) s = pending_at step Checkpoint reply reply w v a refl e s refl
+  Goes-pending step reply w (switches a d e) s = pending_at step Switch reply reply w v a refl e s refl
   Goes-pending step reply w (lacks fault wants d e) s = stays_pending step reply (Refused fault) w v d refl refl e s refl
   Goes-pending step reply w (breaks fault ls is d e) s = stays_pending step reply (Refused fault) w (broken v ls) d refl refl e s refl
 
@@ -651,6 +656,7 @@ live_at v (Continue t) e = not_failed v.failed _ e
 live_at v (FlushPage p) e = alone_failed v.failed e
 live_at v Force e = alone_failed v.failed e
 live_at v Checkpoint e = alone_failed v.failed e
+live_at v Switch e = not_failed v.failed _ e
 
 -- each step keeps it
 pub Moves-upheld : (v : View) (told : ℕ → List (Access × Reply)) (step : Step) (reply : Reply) (w : View) → Upheld v told → Moves v step reply w → OnBy v told step reply w

@@ -5,9 +5,9 @@ use Rattle.std.proofs.lemmas.List.{map-append}
 use Rattle.im_base_types.specs.Maps.{IndexMap}
 use Rattle.im_base_types.specs.Changes.{Change, apply, apply_all}
 use Rattle.im_base_lock.specs.Locks.{Lock}
-use Rattle.im_base_types.specs.Answers.{Access, Reply, Step, replay, map_after_all, Mark, Idle, Going, MustRollBack, RollingBack, Committing, is_answer, Insert, Delete, Inserted, Deleted, BlockedTree, Begin, Do, Commit, Rollback, Continue, FlushPage, Force, Checkpoint, Refused, Committed, RolledBack, More, Done}
+use Rattle.im_base_types.specs.Answers.{Access, Reply, Step, replay, map_after_all, Mark, Idle, Going, MustRollBack, RollingBack, Committing, is_answer, Insert, Delete, Inserted, Deleted, BlockedTree, Begin, Do, Commit, Rollback, Continue, FlushPage, Force, Checkpoint, Switch, Refused, Committed, RolledBack, More, Done}
 use Rattle.im_base_lock.specs.View.{Txn, View, Aim, Puts, Drops, TakesBack, TookBack, Under, pending_of, locked, with_change, change_made, idle, set_txn, did, did_txn, begun, marked, committed_by, dropped_by, undid_more, undid_last, queued, forced_by, map_behind, is_among, AreDifferent, idle_all, MayRollBack, relocked, broken}
-use Rattle.im_base_lock.specs.Machine.{barred, Answers, Goes, begins, does, waits, dies, commits, queues, drops, turns, undoes, ends, puts_later, puts, drops_first, drops_leaf, takes_later, takes_first, takes_leaf, takes_last, logs_page, tree_blocks, tree_halts, flushes, forces, checkpoints, lacks, breaks, Run, start}
+use Rattle.im_base_lock.specs.Machine.{barred, Answers, Goes, begins, does, waits, dies, commits, queues, drops, turns, undoes, ends, puts_later, puts, drops_first, drops_leaf, takes_later, takes_first, takes_leaf, takes_last, logs_page, tree_blocks, tree_halts, flushes, forces, checkpoints, switches, lacks, breaks, Run, start}
 use Rattle.im_base_lock.specs.Isolation.{answered_with, access_of, pending_after, finished_from, finished, IsReplay, IsTogether}
 use Rattle.im_base_lock.proofs.Changes.{apply-untouched}
 use Rattle.im_base_lock.proofs.Invariant.{Told, Told-replay, Told-after_all, accesses_of, replies_of, set_txn-same, set_txn-other}
@@ -37,6 +37,7 @@ pushed_accesses t o (Rollback u) reply fs = sym (append-nil (accesses_of fs))
 pushed_accesses t o (FlushPage p) reply fs = sym (append-nil (accesses_of fs))
 pushed_accesses t o Force reply fs = sym (append-nil (accesses_of fs))
 pushed_accesses t o Checkpoint reply fs = sym (append-nil (accesses_of fs))
+pushed_accesses t o Switch reply fs = sym (append-nil (accesses_of fs))
 
 pushed_replies : (t : ℕ) (o : Option Access) (step : Step) (reply : Reply) (fs : List (Access × Reply)) → replies_of (access_of t o step reply ++ fs) ≡ replies_of fs ++ map (λ f. f.1) (access_of t o step reply)
 pushed_replies t o Begin reply fs = sym (append-nil (replies_of fs))
@@ -56,6 +57,7 @@ pushed_replies t o (Rollback u) reply fs = sym (append-nil (replies_of fs))
 pushed_replies t o (FlushPage p) reply fs = sym (append-nil (replies_of fs))
 pushed_replies t o Force reply fs = sym (append-nil (replies_of fs))
 pushed_replies t o Checkpoint reply fs = sym (append-nil (replies_of fs))
+pushed_replies t o Switch reply fs = sym (append-nil (replies_of fs))
 
 pub tells-accesses : (pend : ℕ → Option Access) (told : ℕ → List (Access × Reply)) (es : List (Step × Reply)) (t : ℕ) → accesses_of (tells pend told es t) ≡ accesses_of (told t) ++ map (λ f. f.0) (finished_from t (pend t) es)
 tells-accesses pend told [] t = sym (append-nil (accesses_of (told t)))
@@ -161,6 +163,7 @@ no_answer t (Continue u) reply e o = rw e
 no_answer t (FlushPage p) reply e o = refl
 no_answer t Force reply e o = refl
 no_answer t Checkpoint reply e o = refl
+no_answer t Switch reply e o = refl
 
 module _ (v : View) (t : ℕ) (c : Closed v t) where
   abbrev Stays : Step → Reply → View → Type 0
@@ -209,6 +212,7 @@ module _ (v : View) (t : ℕ) (c : Closed v t) where
   Goes-closed step reply w (forces a d e) = at_view step reply w (forced_by v) e (quiet_for t step Force reply a (λ o. refl))
       (record { shut = by_force_txn (λ u y. IsShut ((v.txns u).mark) → IsShut y.mark) v.txns v.queue (λ u some was. tt) (λ u none was. was) t c.shut; old = c.old })
   Goes-closed step reply w (checkpoints a d e) = at_view step reply w v e (quiet_for t step Checkpoint reply a (λ o. refl)) c
+  Goes-closed step reply w (switches a d e) = at_view step reply w v e (quiet_for t step Switch reply a (λ o. refl)) c
   Goes-closed step reply w (lacks fault wants d e) = at_view step reply w v e (no_answer t step reply (ap is_answer d)) c
   Goes-closed step reply w (breaks fault ls is d e) = at_view step reply w (broken v ls) e (no_answer t step reply (ap is_answer d)) (record { shut = c.shut; old = c.old })
 
@@ -278,6 +282,7 @@ commit_end v t w (tree_halts u x b under other d e) = absurd cc
 commit_end v t w (flushes p a d e) = absurd cc
 commit_end v t w (forces a d e) = absurd cc
 commit_end v t w (checkpoints a d e) = absurd cc
+commit_end v t w (switches a d e) = absurd cc
 commit_end v t w (lacks fault wants d e) = absurd cc
 commit_end v t w (breaks fault ls is d e) = absurd cc
 
@@ -310,6 +315,7 @@ rollback_end v t reply w h (tree_halts u x b under other d e) = absurd cc
 rollback_end v t reply w h (flushes p a d e) = absurd cc
 rollback_end v t reply w h (forces a d e) = absurd cc
 rollback_end v t reply w h (checkpoints a d e) = absurd cc
+rollback_end v t reply w h (switches a d e) = absurd cc
 rollback_end v t reply w h (lacks fault wants d e) = absurd (no_refusal reply h fault d)
 rollback_end v t reply w h (breaks fault ls is d e) = absurd (no_refusal reply h fault d)
 
@@ -380,6 +386,7 @@ force_is v w (tree_halts u x b under other d e) = absurd cc
 force_is v w (flushes p a d e) = absurd cc
 force_is v w (forces a d e) = e
 force_is v w (checkpoints a d e) = absurd cc
+force_is v w (switches a d e) = absurd cc
 force_is v w (lacks fault wants d e) = absurd cc
 force_is v w (breaks fault ls is d e) = absurd cc
 
@@ -428,6 +435,7 @@ commit_adds v t w (tree_halts u x b under other d e) = absurd cc
 commit_adds v t w (flushes p a d e) = absurd cc
 commit_adds v t w (forces a d e) = absurd cc
 commit_adds v t w (checkpoints a d e) = absurd cc
+commit_adds v t w (switches a d e) = absurd cc
 commit_adds v t w (lacks fault wants d e) = absurd cc
 commit_adds v t w (breaks fault ls is d e) = absurd cc
 
@@ -457,6 +465,7 @@ goes_stays v w step reply (tree_halts u x b under other d e) ne none_waits = ap 
 goes_stays v w step reply (flushes p a d e) ne none = ap (λ (y : View). y.committed) e
 goes_stays v w step reply (forces a d e) ne none = ap (λ (y : View). y.committed) e ∙ ap (map_behind v.committed v.txns) (none a d)
 goes_stays v w step reply (checkpoints a d e) ne none = ap (λ (y : View). y.committed) e
+goes_stays v w step reply (switches a d e) ne none = ap (λ (y : View). y.committed) e
 goes_stays v w step reply (lacks fault wants d e) ne none = ap (λ (y : View). y.committed) e
 goes_stays v w step reply (breaks fault ls is d e) ne none = ap (λ (y : View). y.committed) e
 

@@ -4,7 +4,7 @@ use Rattle.std.specs.Prelude.{◌==◌}
 use Rattle.std.proofs.lemmas.Bool.{eq-eqb, ne_eqb}
 use Rattle.im_base_types.specs.Keys.{Key}
 use Rattle.im_base_types.specs.Maps.{IndexMap}
-use Rattle.im_base_types.specs.Answers.{Access, Insert, Delete, Step, Begin, Do, Commit, Rollback, Continue, FlushPage, Force, Checkpoint, Reply, Deleted, Mark, Going, Committing, map_after}
+use Rattle.im_base_types.specs.Answers.{Access, Insert, Delete, Step, Begin, Do, Commit, Rollback, Continue, FlushPage, Force, Checkpoint, Switch, Reply, Deleted, Mark, Going, Committing, map_after}
 use Rattle.im_base_types.specs.Changes.{Change, key_of, undone}
 use Rattle.im_base_lock.specs.Locks.{Name, At, Lock, Request, Holds, SameLocks, kept, IsFree}
 use Rattle.im_base_lock.specs.declared.request.Mode.{Mode}
@@ -98,6 +98,7 @@ none_owned under none step = ap (λ (u : Option Under). owns_in u step) none ∙
     by (FlushPage p) = refl
     by Force = refl
     by Checkpoint = refl
+    by Switch = refl
 
 -- ---- what is told
 

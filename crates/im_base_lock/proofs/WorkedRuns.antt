@@ -9,7 +9,7 @@ use Rattle.im_base_lock.specs.Locks.{Name, At, PastAll, Lock, Holds, SameLocks, 
 use Rattle.im_base_lock.specs.declared.request.Mode.TheVariants.{Shared, Exclusive}
 use Rattle.im_base_lock.specs.Rows.{asked, name_of, next_name, there_or_next}
 use Rattle.im_base_lock.specs.View.{View, locks_in, begun}
-use Rattle.im_base_lock.specs.Machine.{Goes, Moves, begins, does, waits, dies, commits, queues, drops, turns, undoes, ends, puts_later, puts, drops_first, drops_leaf, takes_later, takes_first, takes_leaf, takes_last, logs_page, tree_blocks, tree_halts, flushes, forces, checkpoints, lacks, breaks, Run, start}
+use Rattle.im_base_lock.specs.Machine.{Goes, Moves, begins, does, waits, dies, commits, queues, drops, turns, undoes, ends, puts_later, puts, drops_first, drops_leaf, takes_later, takes_first, takes_leaf, takes_last, logs_page, tree_blocks, tree_halts, flushes, forces, checkpoints, switches, lacks, breaks, Run, start}
 use Rattle.im_base_lock.specs.Worked.{nothing, missing, both, end_shared, read, told, AGapStays}
 use Rattle.im_base_lock.proofs.Invariant.{by_txn}
 use Rattle.im_base_lock.proofs.Search.{first-by}
@@ -101,6 +101,7 @@ never_inserted w (tree_halts u x b under other d e) = cc
 never_inserted w (flushes p e d q) = cc
 never_inserted w (forces e d q) = cc
 never_inserted w (checkpoints e d q) = cc
+never_inserted w (switches e d q) = cc
 never_inserted w (lacks fault wants d q) = cc
 never_inserted w (breaks fault ls is d q) = cc
 

@@ -4,7 +4,7 @@ use Rattle.std.specs.FinMap.{get}
 use Rattle.im_base_types.specs.Keys.{Key}
 use Rattle.im_base_types.specs.Maps.{IndexMap}
 use Rattle.im_base_types.specs.Changes.{Change, Touches, apply, key_of}
-use Rattle.im_base_types.specs.Answers.{Access, Step, Begin, Do, Commit, Rollback, Continue, FlushPage, Force, Checkpoint, Reply, Committed, RolledBack, More, Done, Going, Committing, changes, is_answer, replay, map_after_all}
+use Rattle.im_base_types.specs.Answers.{Access, Step, Begin, Do, Commit, Rollback, Continue, FlushPage, Force, Checkpoint, Switch, Reply, Committed, RolledBack, More, Done, Going, Committing, changes, is_answer, replay, map_after_all}
 use Rattle.im_base_lock.specs.Locks.{IsFree}
 use Rattle.im_base_lock.specs.Rows.{asked}
 use Rattle.im_base_lock.specs.View.{View, MayRollBack, map_behind, locks_in}
@@ -25,6 +25,7 @@ access_of t o (Rollback u) r = []
 access_of t o (FlushPage p) r = []
 access_of t o Force r = []
 access_of t o Checkpoint r = []
+access_of t o Switch r = []
 
 abbrev pub is_more : Reply → Bool
 is_more More = true
@@ -40,6 +41,7 @@ pending_after t o (Rollback u) r = o
 pending_after t o (FlushPage p) r = o
 pending_after t o Force r = o
 pending_after t o Checkpoint r = o
+pending_after t o Switch r = o
 
 -- the finished accesses of t in a trace, with their replies, in order, where this one goes on in front of it
 abbrev pub finished_from : ℕ → Option Access → List (Step × Reply) → List (Access × Reply)

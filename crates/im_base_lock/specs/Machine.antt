@@ -4,8 +4,8 @@ use Rattle.std.specs.FinMap.{get}
 use Rattle.im_base_types.specs.Keys.{Key}
 use Rattle.im_base_types.specs.Maps.{IndexMap}
 use Rattle.im_base_types.specs.Changes.{Change}
-use Rattle.im_base_types.specs.Refusals.{no_transaction, must_roll_back, key_length, rolling_back, pages_full, capacity, log_full, device, memory, failed as has_failed, too_many, unfinished}
-use Rattle.im_base_types.specs.Answers.{Access, Fetch, Seek, Next, Scan, Insert, Delete, Step, Begin, Do, Commit, Rollback, Continue, FlushPage, Force, Checkpoint, Reply, Started, Inserted, Deleted, Committed, RolledBack, More, Blocked, BlockedTree, Die, Done, Refused, Mark, Idle, Going, MustRollBack, RollingBack, Committing, answer}
+use Rattle.im_base_types.specs.Refusals.{no_transaction, must_roll_back, key_length, rolling_back, pages_full, capacity, log_full, device, memory, failed as has_failed, too_many, busy, unfinished}
+use Rattle.im_base_types.specs.Answers.{Access, Fetch, Seek, Next, Scan, Insert, Delete, Step, Begin, Do, Commit, Rollback, Continue, FlushPage, Force, Checkpoint, Switch, Reply, Started, Inserted, Deleted, Committed, RolledBack, More, Blocked, BlockedTree, Die, Done, Refused, Mark, Idle, Going, MustRollBack, RollingBack, Committing, answer}
 use Rattle.im_base_lock.specs.Locks.{Lock, kept, SameLocks, IsFree, WaitsFor, MustDie}
 use Rattle.im_base_lock.specs.Rows.{asked}
 use Rattle.im_base_lock.specs.View.{View, Under, Puts, Drops, TakesBack, TookBack, owns_in, locks_in, idle, begun, did, locked, marked, committed_by, dropped_by, undid_more, undid_last, with_change, change_made, queued, forced_by, broken, MayRollBack}
@@ -57,7 +57,7 @@ abbrev pub fault_if : Bool → ℕ → Option ℕ
 fault_if true f = Some f
 fault_if false f = None
 
--- The checks that neither pages nor locks decide, in their order: the engine has failed; 64 are active, for Begin; the mark of the step's transaction; whether an
+-- The checks that neither pages nor locks decide, in their order: the engine has failed; 64 are active, for Begin; one is, for Switch; the mark of the step's transaction; whether an
 -- Insert or a Delete of it goes on, which Continue alone serves; the length of its keys.
 abbrev pub first_check : (failed : Bool) (active : ℕ) (mark : Mark) (owns : Bool) → Step → Option ℕ
 first_check failed active mark owns Begin = or_else (fault_if failed has_failed) (fault_if (not (nat_lt active 64)) too_many)
@@ -68,6 +68,7 @@ first_check failed active mark owns (Continue t) = or_else (fault_if failed has_
 first_check failed active mark owns (FlushPage p) = fault_if failed has_failed
 first_check failed active mark owns Force = fault_if failed has_failed
 first_check failed active mark owns Checkpoint = fault_if failed has_failed
+first_check failed active mark owns Switch = or_else (fault_if failed has_failed) (fault_if (nat_lt 0 active) busy)
 
 -- the mark of the transaction that a step names
 abbrev pub mark_for : (ℕ → Mark) → Step → Mark
@@ -79,6 +80,7 @@ mark_for marks (Continue t) = marks t
 mark_for marks (FlushPage p) = Idle
 mark_for marks Force = Idle
 mark_for marks Checkpoint = Idle
+mark_for marks Switch = Idle
 
 -- the refusal that the view determines, the first of its checks
 abbrev pub barred : View → Step → Option ℕ
@@ -128,6 +130,7 @@ pub data Goes (v : View) (step : Step) (reply : Reply) (w : View) : Type 0 where
   flushes : (p : ℕ) → step ≡ FlushPage p → reply ≡ Done → w ≡ v → Goes v step reply w
   forces : step ≡ Force → reply ≡ Done → w ≡ forced_by v → Goes v step reply w
   checkpoints : step ≡ Checkpoint → reply ≡ Done → w ≡ v → Goes v step reply w
+  switches : step ≡ Switch → reply ≡ Done → w ≡ v → Goes v step reply w
   lacks : (fault : ℕ) → Wants step fault → reply ≡ Refused fault → w ≡ v → Goes v step reply w
   breaks : (fault : ℕ) (ls : ℕ → List Lock) → Breaks fault → reply ≡ Refused fault → w ≡ broken v ls → Goes v step reply w
 

@@ -3,7 +3,7 @@ use Rattle.std.specs.Prelude.{◌≡◌, ℕ, suc, ◌-◌, ◌==◌, ◌||◌, 
 use Rattle.im_base_types.specs.Keys.{Key}
 use Rattle.im_base_types.specs.Maps.{IndexMap}
 use Rattle.im_base_types.specs.Changes.{Change, Effect, apply, apply_all, undone}
-use Rattle.im_base_types.specs.Answers.{Access, Insert, Delete, Step, Begin, Do, Commit, Rollback, Continue, FlushPage, Force, Checkpoint, changes, map_after, Mark, Idle, Going, MustRollBack, Committing}
+use Rattle.im_base_types.specs.Answers.{Access, Insert, Delete, Step, Begin, Do, Commit, Rollback, Continue, FlushPage, Force, Checkpoint, Switch, changes, map_after, Mark, Idle, Going, MustRollBack, Committing}
 use Rattle.im_base_lock.specs.Locks.{Lock}
 use Rattle.im_base_lock.specs.Rows.{next_name}
 use Rattle.im_base_lock.specs.declared.request.Mode.TheVariants.{Exclusive}
@@ -89,6 +89,7 @@ owns_in under (Continue t) = is_some (pending_of under t)
 owns_in under (FlushPage p) = false
 owns_in under Force = false
 owns_in under Checkpoint = false
+owns_in under Switch = false
 
 -- a transaction that is not active
 abbrev pub idle : Txn

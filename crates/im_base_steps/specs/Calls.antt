@@ -27,6 +27,7 @@ asked_by (steps.Continue t) = answers.Continue t
 asked_by (steps.FlushPage page) = answers.FlushPage page
 asked_by steps.Force = answers.Force
 asked_by steps.Checkpoint = answers.Checkpoint
+asked_by steps.Switch = answers.Switch
 
 -- who or what blocks
 abbrev pub blocked_by : Blocker → answers.Reply

@@ -1,6 +1,6 @@
 -- What each step may be answered, whatever is known of a store's disk.
 use Rattle.std.specs.Prelude.{◌||◌, ◌≡◌, ℕ, ◌+◌, ◌≤◌, ◌==◌, Bool, true, false, length, if◌then◌else◌}
-use Rattle.im_base_types.specs.Answers.{Fetch, Seek, Next, Scan, Insert, Delete, Step, Begin, Do, Commit, Rollback, Continue, FlushPage, Force, Checkpoint, Reply, Started, Found, Absent, Entry, End, Entries, Inserted, Duplicate, Deleted, Committed, RolledBack, More, Blocked, BlockedTree, Die, Done, Refused}
+use Rattle.im_base_types.specs.Answers.{Fetch, Seek, Next, Scan, Insert, Delete, Step, Begin, Do, Commit, Rollback, Continue, FlushPage, Force, Checkpoint, Switch, Reply, Started, Found, Absent, Entry, End, Entries, Inserted, Duplicate, Deleted, Committed, RolledBack, More, Blocked, BlockedTree, Die, Done, Refused}
 use Rattle.im_base_types.specs.Refusals.{memory}
 use Rattle.im_base_steps.specs.Calls.{is_force, most_entries}
 
@@ -60,6 +60,7 @@ abbrev pub is_service : Step → Bool
 is_service (FlushPage page) = true
 is_service Force = true
 is_service Checkpoint = true
+is_service Switch = true
 is_service _ = false
 
 -- ---- replies

@@ -40,6 +40,9 @@ pub enum Step {
     Force,
     /// Asks that a restart may begin later in the log. A store whose log has no checkpoints makes every record durable, as `Force` does.
     Checkpoint,
+    /// Asks that the log goes on empty in another file, so that a restart reads nothing of it so far. Refused `Busy` while a transaction is
+    /// active, or its Commit waits for a force. A store without such a log makes every record durable, as `Force` does.
+    Switch,
 }
 
 impl Step {
@@ -63,6 +66,7 @@ impl Step {
             Step::FlushPage(page) => Step::FlushPage(*page),
             Step::Force => Step::Force,
             Step::Checkpoint => Step::Checkpoint,
+            Step::Switch => Step::Switch,
         })
     }
 

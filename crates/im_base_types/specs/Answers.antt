@@ -25,6 +25,7 @@ pub data Step : Type 0 where
   FlushPage : (page : ℕ) → Step
   Force : Step
   Checkpoint : Step
+  Switch : Step
 
 -- what it answers
 pub data Reply : Type 0 where

@@ -49,6 +49,10 @@ not_a_store = 11
 abbrev pub too_many : ℕ
 too_many = 12
 
+-- a transaction is active
+abbrev pub busy : ℕ
+busy = 15
+
 -- the transaction has an unfinished structure change
 abbrev pub unfinished : ℕ
 unfinished = 17

@@ -4,11 +4,11 @@ use Rattle.std.specs.Prelude.{if◌then◌else◌, ◌==◌, ◌||◌}
 use Rattle.im_base_types.specs.Maps.{IndexMap, first}
 use Rattle.im_base_types.specs.Changes.{Change, Effect, apply, apply_all, seen, seen_effect}
 use Rattle.im_base_types.proofs.Changes.{apply_seen, apply_all_append, apply_all_seen, seen_append}
-use Rattle.im_base_types.specs.Answers.{Insert, Delete, Inserted, Deleted, BlockedTree, Access, Step, Begin, Do, Commit, Rollback, Continue, FlushPage, Force, Checkpoint, Reply, Started, Committed, RolledBack, More, Blocked, Die, Done, Refused, Mark, Idle, Going, MustRollBack, RollingBack, Committing, answer}
+use Rattle.im_base_types.specs.Answers.{Insert, Delete, Inserted, Deleted, BlockedTree, Access, Step, Begin, Do, Commit, Rollback, Continue, FlushPage, Force, Checkpoint, Switch, Reply, Started, Committed, RolledBack, More, Blocked, Die, Done, Refused, Mark, Idle, Going, MustRollBack, RollingBack, Committing, answer}
 use Rattle.im_base_types.specs.Refusals.{memory, unfinished, failed as has_failed}
 use Rattle.im_base_types.specs.Lives.{Asked, Shown, asks, effect_asked, refused, answered, breaks, nothing_shown, shown_by, all_acked, shows, NoneAcked, effects}
 use Rattle.im_base_lock.specs.View.{View, Puts, Drops, TakesBack, TookBack, pending_of, locked, with_change, change_made, begun, did, marked, committed_by, dropped_by, undid_more, undid_last, broken, Txn, idle, set_txn, did_txn, queued, forced_by, is_among, nets_of, MayRollBack}
-use Rattle.im_base_lock.specs.Machine.{barred, barred_to, or_else, fault_if, Answers, Goes, Moves, begins, does, waits, dies, commits, queues, drops, turns, undoes, ends, puts_later, puts, drops_first, drops_leaf, takes_later, takes_first, takes_leaf, takes_last, logs_page, tree_blocks, tree_halts, flushes, forces, checkpoints, lacks, breaks as machine_breaks, Run, IsReached, start}
+use Rattle.im_base_lock.specs.Machine.{barred, barred_to, or_else, fault_if, Answers, Goes, Moves, begins, does, waits, dies, commits, queues, drops, turns, undoes, ends, puts_later, puts, drops_first, drops_leaf, takes_later, takes_first, takes_leaf, takes_last, logs_page, tree_blocks, tree_halts, flushes, forces, checkpoints, switches, lacks, breaks as machine_breaks, Run, IsReached, start}
 use Rattle.im_base_lock.proofs.Bools.{cases_test}
 use Rattle.im_base_lock.proofs.Queue.{nets_same}
 use Rattle.im_base_lock.proofs.Runs.{IsQueue, live_at, clear_commit, passes_as}
@@ -56,6 +56,7 @@ refused_acked n (Continue t) s = refl
 refused_acked n (FlushPage p) s = refl
 refused_acked n Force s = refl
 refused_acked n Checkpoint s = refl
+refused_acked n Switch s = refl
 
 -- a refusal that asks nothing
 refused_clean : (n : ℕ) (step : Step) (s : Shown) (nets : List Effect) → ((t : ℕ) → step ≡ Commit t → (asks_none n ≡ true) ⊎ ((s.running t).mark ≡ Going → ⊥)) → IsCleanBut nets s.asked → IsCleanBut nets (refused n step s).asked
@@ -81,6 +82,7 @@ refused_clean n (Continue t) s nets how h = h
 refused_clean n (FlushPage p) s nets how h = h
 refused_clean n Force s nets how h = h
 refused_clean n Checkpoint s nets how h = h
+refused_clean n Switch s nets how h = h
 
 -- what is acknowledged all of it
 acked_all : (xs : List Asked) → AllAcked xs → acked_effects xs ≡ effects xs
@@ -269,6 +271,7 @@ module _ (base : IndexMap) (s : Shown) (v : View) (h : Shows base s v) (next_fre
     λ q. record { done = all_acked s.asked; waiting = []; all = append-nil (all_acked s.asked); acked = forced_all s.asked; none = tt; are = refl },
   )
   by_goes step reply w live free (checkpoints a d e) = put_in step Checkpoint reply Done w v a d e (same v s.asked refl refl refl refl)
+  by_goes step reply w live free (switches a d e) = put_in step Switch reply Done w v a d e (same v s.asked refl refl refl refl)
   by_goes step reply w live free (lacks fault wants d e) = put_in step step reply (Refused fault) w v refl d e (
     h.commits ∙ ap (apply_all base) (sym (refused_acked fault step s)),
     λ q. refused_clean fault step s (nets_of v.txns v.queue) (λ t is. inl (commit_wants step fault t wants is)) (h.clean q),

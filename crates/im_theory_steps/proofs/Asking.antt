@@ -4,7 +4,7 @@ use Rattle.std.specs.Prelude.{if◌then◌else◌, ◌==◌, ◌||◌}
 use Rattle.std.specs.FinMap.{get}
 use Rattle.im_base_types.specs.Maps.{From, Above, first}
 use Rattle.im_base_types.specs.Changes.{Effect}
-use Rattle.im_base_types.specs.Answers.{Access, Fetch, Seek, Next, Scan, Insert, Delete, Step, Begin, Do, Commit, Rollback, Continue, FlushPage, Force, Checkpoint, Mark, Idle, Going, MustRollBack, RollingBack, Committing, Blocked, Die, Duplicate, Inserted, Deleted, Absent, answer, found, entry}
+use Rattle.im_base_types.specs.Answers.{Access, Fetch, Seek, Next, Scan, Insert, Delete, Step, Begin, Do, Commit, Rollback, Continue, FlushPage, Force, Checkpoint, Switch, Mark, Idle, Going, MustRollBack, RollingBack, Committing, Blocked, Die, Duplicate, Inserted, Deleted, Absent, answer, found, entry}
 use Rattle.im_base_types.specs.Refusals.{memory, unfinished}
 use Rattle.im_base_types.specs.Lives.{Asked, Shown, effects, effect_asked, all_acked, answered, refused, asks, breaks}
 use Rattle.im_base_lock.specs.View.{View}
@@ -118,6 +118,7 @@ refusals_ask_nothing n (Continue t) s how = refl
 refusals_ask_nothing n (FlushPage p) s how = refl
 refusals_ask_nothing n Force s how = refl
 refusals_ask_nothing n Checkpoint s how = refl
+refusals_ask_nothing n Switch s how = refl
 
 -- a Commit is refused for want of memory alone, where no check bars it and the engine does not fail
 pub commit_wants : (step : Step) (f t : ℕ) → Wants step f → step ≡ Commit t → asks_none f ≡ true

@@ -9,7 +9,7 @@ use Rattle.im_theory_log.specs.Tree.{Tree}
 use Rattle.im_theory_log.specs.Histories.{Base, History}
 use Rattle.im_theory_log.specs.Transactions.{committed, net}
 use Rattle.im_theory_log.specs.Writer.{IsLeft}
-use Rattle.im_base_types.specs.Answers.{Mark, Idle, Going, MustRollBack, RollingBack, Committing, Step, Begin, Do, Commit, Rollback, Continue, FlushPage, Force, Checkpoint}
+use Rattle.im_base_types.specs.Answers.{Mark, Idle, Going, MustRollBack, RollingBack, Committing, Step, Begin, Do, Commit, Rollback, Continue, FlushPage, Force, Checkpoint, Switch}
 use Rattle.im_base_types.specs.Refusals.{memory, unfinished}
 use Rattle.im_base_types.specs.Lives.{Asked, Shown, NoneAcked, all_acked, asks, breaks, cut_off, effects, effect_asked}
 use Rattle.im_base_types.proofs.Changes.{seen_append}
@@ -214,6 +214,7 @@ cut_other s (Continue t) other = refl
 cut_other s (FlushPage p) other = refl
 cut_other s Force other = refl
 cut_other s Checkpoint other = refl
+cut_other s Switch other = refl
 
 either_failed : (s : Shown) (t fault : ℕ) (failed : Bool) → (if failed || false || false then s else record (asks t false s) { failed = breaks fault }).asked ≡ (if failed then s else asks t false s).asked
 either_failed s t fault true = refl
@@ -240,7 +241,7 @@ none_waits [] [] all none = refl
 none_waits [] (x ∷ rest) all none = absurd (let clash : true ≡ false = sym all.0 ∙ none.0 in cc clash)
 none_waits (x ∷ front) rest all none = none_waits front rest all.1 none
 
-empty_queue : (queue : List ℕ) → ((t : ℕ) → is_among t queue ≡ true → ⊥) → queue ≡ []
+pub empty_queue : (queue : List ℕ) → ((t : ℕ) → is_among t queue ≡ true → ⊥) → queue ≡ []
 empty_queue [] none = refl
 empty_queue (t ∷ ts) none = absurd (none t (among_one t t ts refl))
 
@@ -249,7 +250,7 @@ owned_by_none : (t next : ℕ) (log : History) (rows : List Transaction) (who : 
 owned_by_none t next log [] who x is at = at
 owned_by_none t next log (row ∷ rows) who x is at = absurd (cc is)
 
-no_rows : (rows : List Transaction) → length rows ≡ 0 → rows ≡ []
+pub no_rows : (rows : List Transaction) → length rows ≡ 0 → rows ≡ []
 no_rows [] is = refl
 no_rows (row ∷ rows) is = absurd (cc is)
 

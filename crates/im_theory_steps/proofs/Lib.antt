@@ -10,6 +10,7 @@ pub mod Steps
 pub mod Logging
 pub mod WorkedSteps
 pub mod Durable
+pub mod GoingOn
 pub mod Lived
 pub mod Rolling
 pub mod Undone

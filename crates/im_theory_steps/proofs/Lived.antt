@@ -3,7 +3,7 @@ use Rattle.std.proofs.Common.{◌≡◌, ℕ, Bool, true, false, Option, None, S
 use Rattle.std.specs.Prelude.{find, ◌||◌}
 use Rattle.im_base_types.specs.Maps.{IndexMap}
 use Rattle.im_theory_log.specs.Histories.{History}
-use Rattle.im_base_types.specs.Answers.{Mark, Step, Reply, Begin, Do, Commit, Rollback, Continue, FlushPage, Force, Checkpoint, Refused}
+use Rattle.im_base_types.specs.Answers.{Mark, Step, Reply, Begin, Do, Commit, Rollback, Continue, FlushPage, Force, Checkpoint, Switch, Refused}
 use Rattle.im_base_types.specs.Refusals.{capacity, failed as has_failed}
 use Rattle.im_base_types.specs.Lives.{Shown}
 use Rattle.im_base_txn.specs.declared.transaction.Transaction.{Transaction}
@@ -33,6 +33,7 @@ named_mark one two same (Continue t) = same t
 named_mark one two same (FlushPage p) = refl
 named_mark one two same Force = refl
 named_mark one two same Checkpoint = refl
+named_mark one two same Switch = refl
 
 pub rows_tell : RowsTellChecks
 rows_tell b earlier before s v log rows next held step h =
@@ -58,6 +59,7 @@ first_failed v step failed = ap (λ (b : Bool). first_check b v.active (mark_for
     by (FlushPage p) = refl
     by Force = refl
     by Checkpoint = refl
+    by Switch = refl
 
 pub lives_go_on : LivesGoOn
 lives_go_on = record {

@@ -5,7 +5,7 @@ use Rattle.std.proofs.lemmas.Bool.{ne_eqb}
 use Rattle.im_base_types.specs.Maps.{IndexMap}
 use Rattle.im_base_types.specs.Answers.{Insert, Delete, Step, Reply, Going, MustRollBack, RollingBack, Committing}
 use Rattle.im_base_lock.specs.View.{View, Aim, Under, owner_of, Puts, Drops, TakesBack, TookBack, of_others, Txn, idle, set_txn, did_txn}
-use Rattle.im_base_lock.specs.Machine.{Answers, Goes, Run, IsReached, start, barred, begins, does, waits, dies, commits, queues, drops, turns, undoes, ends, puts_later, puts, drops_first, drops_leaf, takes_later, takes_first, takes_leaf, takes_last, logs_page, tree_blocks, tree_halts, flushes, forces, checkpoints, lacks, breaks}
+use Rattle.im_base_lock.specs.Machine.{Answers, Goes, Run, IsReached, start, barred, begins, does, waits, dies, commits, queues, drops, turns, undoes, ends, puts_later, puts, drops_first, drops_leaf, takes_later, takes_first, takes_leaf, takes_last, logs_page, tree_blocks, tree_halts, flushes, forces, checkpoints, switches, lacks, breaks}
 use Rattle.im_base_lock.proofs.Invariant.{by_txn}
 use Rattle.im_base_lock.proofs.Queue.{by_force_txn}
 
@@ -87,6 +87,7 @@ goes_on v w s r h (tree_halts t u b under other d e) = subst AllRoll (sym e) h
 goes_on v w s r h (flushes p b d e) = subst AllRoll (sym e) h
 goes_on v w s r h (forces b d e) = subst AllRoll (sym e) (by_force_txn (λ u y. Rolls v.under u y) v.txns v.queue (λ u some. idle_rolls v.under u) (λ u none. h u))
 goes_on v w s r h (checkpoints b d e) = subst AllRoll (sym e) h
+goes_on v w s r h (switches b d e) = subst AllRoll (sym e) h
 goes_on v w s r h (lacks fault want d e) = subst AllRoll (sym e) h
 goes_on v w s r h (breaks fault ls break d e) = subst AllRoll (sym e) h
 

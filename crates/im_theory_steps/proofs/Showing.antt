@@ -6,13 +6,13 @@ use Rattle.std.proofs.lemmas.Bool.{eq-eqb, ne_eqb, cond-true, cond-false}
 use Rattle.im_base_types.specs.Keys.{Key}
 use Rattle.im_base_types.specs.Maps.{From, Above, first}
 use Rattle.im_base_types.specs.Changes.{Change, Put, Drop, Effect, seen_effect, seen_change}
-use Rattle.im_base_types.specs.Answers.{Access, Fetch, Seek, Next, Scan, Insert, Delete, Step, Begin, Do, Commit, Rollback, Continue, FlushPage, Force, Checkpoint, Reply, Started, Absent, BlockedTree, Committed, RolledBack, More, Blocked, Die, Done, Refused, Duplicate, Inserted, Deleted, Mark, Idle, Going, MustRollBack, RollingBack, Committing, answer, changes, dropped, found, entry}
-use Rattle.im_base_types.specs.Refusals.{memory, unfinished, failed as has_failed, no_transaction, must_roll_back, rolling_back, key_length, too_many}
+use Rattle.im_base_types.specs.Answers.{Access, Fetch, Seek, Next, Scan, Insert, Delete, Step, Begin, Do, Commit, Rollback, Continue, FlushPage, Force, Checkpoint, Switch, Reply, Started, Absent, BlockedTree, Committed, RolledBack, More, Blocked, Die, Done, Refused, Duplicate, Inserted, Deleted, Mark, Idle, Going, MustRollBack, RollingBack, Committing, answer, changes, dropped, found, entry}
+use Rattle.im_base_types.specs.Refusals.{memory, unfinished, failed as has_failed, no_transaction, must_roll_back, rolling_back, key_length, too_many, busy}
 use Rattle.im_base_types.specs.Lives.{Shown, Running, Asked, idle, with_running, marks, adds, pends, shown_change, finishes, asks, refused, answered, breaks, all_acked}
 use Rattle.im_base_lock.specs.Locks.{Lock}
 use Rattle.im_base_lock.specs.View.{Txn, View, Under, Puts, Drops, TakesBack, TookBack, pending_of, of_others, locked, with_change, change_made, set_txn, begun, did, did_txn, marked, committed_by, dropped_by, undid_more, undid_last, broken, MayRollBack, queued, forced_by}
 use Rattle.im_base_lock.specs.View as views
-use Rattle.im_base_lock.specs.Machine.{barred, barred_to, barred_to_rollback, barred_to_continue, or_else, fault_if, keys_fit, Answers, Goes, begins, does, waits, dies, commits, queues, drops, turns, undoes, ends, puts_later, puts, drops_first, drops_leaf, takes_later, takes_first, takes_leaf, takes_last, logs_page, tree_blocks, tree_halts, flushes, forces, checkpoints, lacks, breaks as machine_breaks, Wants, Breaks}
+use Rattle.im_base_lock.specs.Machine.{barred, barred_to, barred_to_rollback, barred_to_continue, or_else, fault_if, keys_fit, Answers, Goes, begins, does, waits, dies, commits, queues, drops, turns, undoes, ends, puts_later, puts, drops_first, drops_leaf, takes_later, takes_first, takes_leaf, takes_last, logs_page, tree_blocks, tree_halts, flushes, forces, checkpoints, switches, lacks, breaks as machine_breaks, Wants, Breaks}
 use Rattle.im_base_lock.proofs.Bools.{cases_number}
 use Rattle.im_base_lock.proofs.Invariant.{by_txn}
 use Rattle.im_theory_steps.specs.Seen.{drop_of, IsMarkShown, IsShownBy}
@@ -93,6 +93,7 @@ refused_run n (Continue t) s = refl
 refused_run n (FlushPage p) s = refl
 refused_run n Force s = refl
 refused_run n Checkpoint s = refl
+refused_run n Switch s = refl
 
 -- what breaks the engine is no want of memory, nor an unfinished change
 both_false : (n : ℕ) → (n == memory) ≡ true → breaks n ≡ false
@@ -123,6 +124,7 @@ refused_failed n (Continue t) s = refl
 refused_failed n (FlushPage p) s = refl
 refused_failed n Force s = refl
 refused_failed n Checkpoint s = refl
+refused_failed n Switch s = refl
 
 shown_refused : (s : Shown) (v w : View) (step : Step) (n : ℕ) → IsShownBy s v → w.failed ≡ (v.failed || breaks n) → ((u : ℕ) → (w.txns u).mark ≡ (v.txns u).mark) → ((u : ℕ) → (w.txns u).net ≡ (v.txns u).net) → w.under ≡ v.under
     → IsShownBy (refused n step s) w
@@ -241,6 +243,7 @@ early_of v (Continue t) f e = by_check v.failed (cond (is_some (pending_of v.und
 early_of v (FlushPage p) f e = alone_ok v.failed f e
 early_of v Force f e = alone_ok v.failed f e
 early_of v Checkpoint f e = alone_ok v.failed f e
+early_of v Switch f e = by_check v.failed (fault_if (nat_lt 0 v.active) busy) f (λ g is. test_ok (nat_lt 0 v.active) busy g refl is) e
 
 early_failed : (v : View) (f : ℕ) → early f v → v.failed ≡ (v.failed || breaks f)
 early_failed v f (inl x) = x.0 ∙ sym (ap (λ (b : Bool). b || breaks f) x.0)
@@ -263,6 +266,7 @@ lacks_ok (Continue t) f is = subst (λ k. breaks k ≡ false) (sym is) refl
 lacks_ok (FlushPage p) f is = subst (λ k. breaks k ≡ false) (sym is) refl
 lacks_ok Force f is = subst (λ k. breaks k ≡ false) (sym is) refl
 lacks_ok Checkpoint f is = subst (λ k. breaks k ≡ false) (sym is) refl
+lacks_ok Switch f is = subst (λ k. breaks k ≡ false) (sym is) refl
 
 breaks_ok : (f : ℕ) → Breaks f → breaks f ≡ true
 breaks_ok f (inl is) = subst (λ k. breaks k ≡ true) (sym is) refl
@@ -430,6 +434,7 @@ module _ (s : Shown) (v : View) (queue : IsQueue v.queue v.txns) (fresh : (v.txn
     effects = by_force_txn (λ u y. MayRollBack y.mark → drop_of (pending_of v.under u) ++ (s.running u).effect ≡ seen_effect y.net) v.txns v.queue (λ u some may. absurd (idle_never may)) (λ u none may. h.effects u may);
   })
   goes_shown step reply w free (checkpoints a d e) = put_in step Checkpoint reply Done w v a d e h
+  goes_shown step reply w free (switches a d e) = put_in step Switch reply Done w v a d e h
   goes_shown step reply w free (lacks fault wants d e) = put_in step step reply (Refused fault) w v refl d e
       (shown_refused s v v step fault h (or_false v.failed ∙ sym (ap (λ (b : Bool). v.failed || b) (lacks_ok step fault wants))) (λ u. refl) (λ u. refl) refl)
   goes_shown step reply w free (machine_breaks fault ls is d e) = put_in step step reply (Refused fault) w (broken v ls) refl d e

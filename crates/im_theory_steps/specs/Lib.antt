@@ -8,3 +8,4 @@ pub mod Durable
 pub mod Checks
 pub mod Lived
 pub mod Undone
+pub mod Switching

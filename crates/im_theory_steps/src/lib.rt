@@ -33,6 +33,7 @@ mod kinds;
 mod lived_laws;
 mod marks;
 mod shown_laws;
+mod switch_laws;
 mod undone_laws;
 
 pub use durable_laws::{
@@ -53,6 +54,7 @@ pub use kinds::{
 pub use lived_laws::{lives_go_on, rows_tell_checks};
 pub use marks::may_roll_back;
 pub use shown_laws::{moves_are_shown, moves_reach, runs_commit_what_they_show};
+pub use switch_laws::switches_are_served;
 pub use undone_laws::{
     ends_leave_nothing, last_undone_changes_are_served, rolling_back_has_more, undo_takes_back,
     undone_changes_are_served,
