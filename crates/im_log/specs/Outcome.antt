@@ -6,6 +6,7 @@ use Rattle.im_base_types.specs.declared.file_id.FileId.TheVariants.{Log}
 use Rattle.im_base_types.specs.Outcomes.{CallEnds}
 use Rattle.im_base_disk.specs.declared.disk.Disk.{Ghosts}
 use Rattle.im_base_disk.specs.Runs.{ChangesOnly, CostsAtMost}
+use Rattle.im_log_gate.specs.Gate.{generation_at}
 use Rattle.im_log.specs.declared.log_file.LogFile.{LogFile}
 use Rattle.im_log.specs.LogFile.{end_with, HasNoRoom, IsOpen}
 
@@ -22,4 +23,5 @@ module _ {D : Type 0} (d : Ghosts D) where
     pub changes : ChangesOnly d Log old new
     pub few : CostsAtMost d 2 2 old new
     pub base : w.base ≡ v.base
+    pub generation : generation_at w.gate ≡ generation_at v.gate
     pub ends : CallEnds own v.failed w.failed (d.failed new) why

@@ -1,7 +1,7 @@
 //! The log file with its buffer. A record's LSN is the base and its place in the file.
 
 ghost use Rattle.std.specs.Prelude.{[], ◌∷◌, drop, ◌≡◌, ◌≢◌, ◌+◌, ◌*◌, ◌^◌, ◌<◌, ◌≤◌, ◌↔◌, ◌⊎◌, ◌++◌, false, true, not, is_ok, length, take, min, ◌-◌, IfErr, IfOk, OnOk, List, ℕ, Some};
-ghost use Rattle.im_log_gate.specs.Gate.{base_at, place_of};
+ghost use Rattle.im_log_gate.specs.Gate.{base_at, first_of, place_of};
 ghost use Rattle.im_log.specs.Gates.{IsOfLog};
 
 use crate::reading::{copy_front, read_front};
@@ -78,6 +78,20 @@ impl LogFile {
         ensures { result ≡ min (self.now.base + place_of self.now.gate) (2 ^ 64 - 1) }
     {
         self.base.saturating_add(self.gate.place())
+    }
+
+    /// Where the gate stands in the log's file, in bytes: each record below it is durable.
+    pub fn place(&self) -> u64
+        ensures { result ≡ place_of self.now.gate }
+    {
+        self.gate.place()
+    }
+
+    /// Whether it is a log of the first format.
+    pub fn is_first_format(&self) -> bool
+        ensures { result ≡ true ↔ first_of self.now.gate ≡ 31 }
+    {
+        self.gate.is_first_format()
     }
 
     /// An append of a record of this length makes no device call.

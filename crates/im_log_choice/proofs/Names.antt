@@ -37,6 +37,11 @@ module _ (files : Files) (x y : ℕ) (one : x ≡ generation_of (files Log)) (tw
       let zero = (unmade (files Log) none.0).generation in
       omega (arith, one, zero, some)
 
+-- where neither is made the other log is not the current one
+pub none_turned : (files : Files) → IsUnmade (files Log) → IsUnmade (files Log2) → IsCurrent true files → ⊥
+none_turned files log other (inl less) = let zero = (unmade (files Log2) other).generation in omega (arith, less, zero)
+none_turned files log other (inr none) = let clash : true ≡ false = none.2 in absurd (cc clash)
+
 -- a log that is of neither format
 pub no_log : (files : Files) → (IsUnmade (files Log) → ⊥) → (IsMade (files Log) → ⊥) → HasCurrent files → ⊥
 no_log files not_unmade not_made has = ⊎_elim not_unmade not_made has.log

@@ -80,6 +80,7 @@ pub fn choose<D: TwoLogs>(disk: &mut D) -> Result<(), Fault>
     ensures refused { result ≡ Err NotAStore → D.tells → ¬ (HasCurrent (D.seen disk.old)) }
     ensures reads { ReadsNamed D.Disk disk.old disk.new }
     ensures stays { OnErr result (Reads D.Disk disk.old disk.new) }
+    ensures unmade { D.tells → IsUnmade (D.seen disk.old Log) → IsUnmade (D.seen disk.old Log2) → Reads D.Disk disk.old disk.new }
     ensures causes { IfErr result (λ e. (e ≡ NotAStore) ⊎ (e ≡ Device)) }
     ensures device { result ≡ Err Device ↔ (D.failed disk.new ≡ true) }
 {

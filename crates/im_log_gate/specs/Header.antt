@@ -13,6 +13,6 @@ pub record IsMade (file : List ℕ) : Type 0 where
   pub named : (take 30 (drop 1 file) ≡ first_header) ⊎ IsSecond (take 46 (drop 1 file))
   pub low : base_of file + first_gate file ≤ 2 ^ 62
 
--- No log yet, or one of the first format with no batch.
+-- No log yet, or a first one of the second format with no batch.
 abbrev pub IsBlank : List ℕ → Type 0
-IsBlank file = IsUnmade file ⊎ (IsMade file × (batches (first_gate file) file ≡ Some []) × Says 31 1 0 1 file)
+IsBlank file = IsUnmade file ⊎ (IsMade file × (batches (first_gate file) file ≡ Some []) × Says 47 1 0 1 file)

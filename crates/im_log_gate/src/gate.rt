@@ -2,7 +2,7 @@
 
 ghost use Rattle.std.specs.Prelude.{◌≡◌, ◌+◌, ◌*◌, ◌^◌, ◌<◌, ◌≤◌, ◌↔◌, ◌⊎◌, ◌++◌, ℕ, List, false, true, not, is_ok, length, take, IfErr, IfOk, IfSome, OnOk, MatchOption, [], ◌∷◌};
 
-use crate::creation::{close_made, make};
+use crate::creation::{NEW_START, make_new};
 use crate::opening::read_start;
 use crate::put::{clear, put_behind, put_laid};
 use crate::size::batch_size;
@@ -15,16 +15,6 @@ mod going_on;
 
 /// Where a log file of the first format has its first gate, in bytes from its start: behind the header.
 pub const FIRST_GATE: u64 = 31;
-
-// Where the log of such a file starts.
-const FIRST_START: LogStart = LogStart {
-    first_gate: FIRST_GATE,
-    header: Header {
-        generation: 1,
-        base: 0,
-        next: 1,
-    },
-};
 
 /// A gate of a log file, with the room from which every batch is written. It carries its file and what that file says of where its
 /// log starts: the place of its first gate, its generation, the LSN of its first byte, and the least number of a transaction. It has failed once a call failed otherwise than for want of memory, and refuses every call from then on.
@@ -83,7 +73,7 @@ impl Gate {
         }
     }
 
-    /// Makes a log of the first format, without batches, of a file that is none yet, and answers its closed gate: by six device calls, or four where
+    /// Makes a log of the second format, of generation 1 and without batches, of a file that is none yet, and answers its closed gate: by six device calls, or four where
     /// the file has two bytes or more. It takes the room from which every batch is written, before the first call.
     ///
     /// Refused `Memory`, with no device call made, or `Device`.
@@ -105,9 +95,8 @@ impl Gate {
         ensures device { result ≡ Err Device ↔ (D.failed disk.new ≡ true) }
     {
         let room = make_room(alloc)?;
-        close_made(disk, file)?;
-        make(disk, file)?;
-        Ok(Gate::at_start(file, room, FIRST_START))
+        make_new(disk, file)?;
+        Ok(Gate::at_start(file, room, NEW_START))
     }
 
     /// Opens a made log of either format at its first gate, or answers none where no store was made yet: the log is unmade, and the file of
@@ -140,6 +129,13 @@ impl Gate {
             };
         };
         Ok(Some(Gate::at_start(file, room, start)))
+    }
+
+    /// Whether its log is one of the first format.
+    pub fn is_first_format(&self) -> bool
+        ensures { result ≡ true ↔ first_of self.now ≡ 31 }
+    {
+        self.first == FIRST_GATE
     }
 
     /// Where the gate stands in its file, in bytes.

@@ -8,7 +8,7 @@ use Rattle.std.proofs.lemmas.Nat.{from_be_bytes-to_be_bytes_8}
 use Rattle.im_log_header.specs.declared.header.Header.{Header}
 use Rattle.im_log_header.specs.Start.{IsSpelled}
 use Rattle.im_log_header.specs.Header.{IsUnmade, IsMade, IsSecond, Says, says_made, says_second, first_header, second_header}
-use Rattle.im_log_header.proofs.Saying.{gate_other, gate_second, least_gate, says_its_own, says_other}
+use Rattle.im_log_header.proofs.Saying.{gate_second, least_gate, says_its_own, says_other}
 
 -- ---- numbers
 
@@ -74,7 +74,7 @@ module _ (file : List ℕ) (long : 31 < length file) (made : slice_index file 0 
   first_says = says_other file is_other true is_made
 
   pub first_is_made : IsMade file
-  first_is_made = let gate = gate_other file is_other in record { within = omega (arith, gate, long); made = made; named = inl is }
+  first_is_made = let says = first_says in record { within = omega (arith, says.gate, long); made = made; named = inl is }
 
 -- byte 0 and what stands behind it
 pub front_second : (file h : List ℕ) → 1 ≤ length file → slice_index file 0 ≡ 1 → take 46 (drop 1 file) ≡ h → take 47 file ≡ 1 ∷ h

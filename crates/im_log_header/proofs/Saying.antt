@@ -14,9 +14,9 @@ and_false false = refl
 -- ---- files that are not of the second format
 
 module _ (file : List ℕ) (other : says_second (take 47 file) ≡ false) where
-  pub gate_other : first_gate file ≡ 31
+  gate_other : first_gate file ≡ (if says_made (take 47 file) then 31 else 47)
   unfolding first_gate
-  gate_other = cond-false (says_second (take 47 file)) 47 31 other
+  gate_other = cond-false (says_second (take 47 file)) 47 (if says_made (take 47 file) then 31 else 47) other
 
   base_other : base_of file ≡ 0
   unfolding base_of
@@ -30,8 +30,8 @@ module _ (file : List ℕ) (other : says_second (take 47 file) ≡ false) where
   unfolding generation_of
   generation_other = cond-false (says_second (take 47 file)) (number_at 16 (take 47 file)) (if says_made (take 47 file) then 1 else 0) other
 
-  pub says_other : (made : Bool) → says_made (take 47 file) ≡ made → Says 31 (if made then 1 else 0) 0 1 file
-  says_other made is = record { gate = gate_other; generation = generation_other ∙ ap (λ (t : Bool). if t then 1 else 0) is; base = base_other; number = number_other }
+  pub says_other : (made : Bool) → says_made (take 47 file) ≡ made → Says (if made then 31 else 47) (if made then 1 else 0) 0 1 file
+  says_other made is = record { gate = gate_other ∙ ap (λ (t : Bool). if t then 31 else 47) is; generation = generation_other ∙ ap (λ (t : Bool). if t then 1 else 0) is; base = base_other; number = number_other }
 
 -- ---- files that are not made
 
@@ -53,7 +53,7 @@ unmade file is = let no = not_made file is in says_other file (not_second (take 
 module _ (file : List ℕ) (g b n : ℕ) (is : take 47 file ≡ 1 ∷ second_header g b n) where
   pub gate_second : first_gate file ≡ 47
   unfolding first_gate
-  gate_second = ap (λ (h : List ℕ). if says_second h then 47 else 31) is
+  gate_second = ap (λ (h : List ℕ). if says_second h then 47 else (if says_made h then 31 else 47)) is
 
   generation_second : g < 2 ^ 64 → generation_of file ≡ g
   unfolding generation_of
@@ -128,7 +128,7 @@ alike_heads : (file c : List ℕ) → take 47 c ≡ take 47 file → StartsAlike
 unfolding first_gate base_of least_number generation_of
 alike_heads file c same = (
   record {
-    gate = ap (λ (h : List ℕ). if says_second h then 47 else 31) same;
+    gate = ap (λ (h : List ℕ). if says_second h then 47 else (if says_made h then 31 else 47)) same;
     base = ap (λ (h : List ℕ). if says_second h then number_at 24 h else 0) same;
     number = ap (λ (h : List ℕ). if says_second h then max 1 (number_at 32 h) else 1) same;
   },
@@ -137,16 +137,22 @@ alike_heads file c same = (
 
 gate_is : (file : List ℕ) → says_second (take 47 file) ≡ true → first_gate file ≡ 47
 unfolding first_gate
-gate_is file is = cond-true (says_second (take 47 file)) 47 31 is
+gate_is file is = cond-true (says_second (take 47 file)) 47 (if says_made (take 47 file) then 31 else 47) is
 
 pub fronts : FrontsSayTheSame
 fronts file c same = elim (cases_Bool (says_second (take 47 file))) [
   | inl second ↦ alike_heads file c (subst (λ (n : ℕ). take n c ≡ take n file) (gate_is file second) same)
-  | inr other ↦ alike_other file c (subst (λ (n : ℕ). take n c ≡ take n file) (gate_other file other) same) other
+  | inr other ↦ elim (cases_Bool (says_made (take 47 file))) [
+    | inl made ↦ alike_other file c (subst (λ (n : ℕ). take n c ≡ take n file) (says_other file other true made).gate same) other
+    | inr none ↦ alike_heads file c (subst (λ (n : ℕ). take n c ≡ take n file) (says_other file other false none).gate same)
+  ]
 ]
 
 pub least_gate : (file : List ℕ) → 31 ≤ first_gate file
 least_gate file = elim (cases_Bool (says_second (take 47 file))) [
   | inl second ↦ (let e = gate_is file second in omega (arith, e))
-  | inr other ↦ (let e = gate_other file other in omega (arith, e))
+  | inr other ↦ elim (cases_Bool (says_made (take 47 file))) [
+    | inl made ↦ (let says = says_other file other true made in omega (arith, says.gate))
+    | inr none ↦ (let says = says_other file other false none in omega (arith, says.gate))
+  ]
 ]

@@ -20,9 +20,9 @@ number_at at head = from_be_bytes w64 (take 8 (drop at head))
 
 -- ---- where a log starts
 
--- The place of the first gate. A file that is not made has it where the first format has it.
+-- The place of the first gate. A file that is not made has it where the second format has it: such a log is made of it.
 unfoldable pub first_gate : List ℕ → ℕ
-first_gate file = if says_second (take 47 file) then 47 else 31
+first_gate file = if says_second (take 47 file) then 47 else (if says_made (take 47 file) then 31 else 47)
 
 -- The LSN of the first byte.
 unfoldable pub base_of : List ℕ → ℕ

@@ -8,7 +8,7 @@ FrontsSayTheSame = (file c : List ℕ) → take (first_gate file) c ≡ take (fi
 
 -- A file that is not made says the same whatever stale bytes it has.
 abbrev pub UnmadeSaysNothing : Type 0
-UnmadeSaysNothing = (file : List ℕ) → IsUnmade file → Says 31 0 0 1 file
+UnmadeSaysNothing = (file : List ℕ) → IsUnmade file → Says 47 0 0 1 file
 
 -- A log that was just made is a made one, and says what its header was made with.
 pub record EmptyLogsSayTheirs : Type 0 where

@@ -1,6 +1,6 @@
 use Rattle.std.proofs.Common.{Bool, subst}
 use Rattle.im_log_choice.specs.Current.{IsCurrent}
-use Rattle.im_log_choice.proofs.Names.{current_kept, current_turned, has_kept, has_turned, reads_kept, reads_turned}
+use Rattle.im_log_choice.proofs.Names.{current_kept, current_turned, has_kept, has_turned, none_turned, reads_kept, reads_turned}
 use Rattle.im_log_choice.proofs.choosing.choose.Goals as goal
 
 pub returns-in_err-other-clause-reads : goal.returns-in_err-other-clause-reads
@@ -28,3 +28,7 @@ returns-clause-current g c told =
 
 pub returns-clause-has : goal.returns-clause-has
 returns-clause-has g c told = has_turned g.D.Disk c.args.disk.now c.is_other_current.new.disk c.in_ok-other.ensures.reads c.swap_logs.new.self c.swap_logs.ensures.seen (c.in_ok-other.ensures.has told)
+
+pub returns-clause-unmade : goal.returns-clause-unmade
+returns-clause-unmade g c told log other =
+    absurd (none_turned (g.D.Disk.seen c.args.disk.now) log other (subst (λ (s : Bool). IsCurrent s (g.D.Disk.seen c.args.disk.now)) c.if-not-other.false (c.in_ok-other.ensures.current told)))

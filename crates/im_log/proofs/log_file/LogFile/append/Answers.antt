@@ -81,7 +81,7 @@ returns-then-begins_next-clause-forces g c = forces_none g.D.Disk 1 c.args.disk.
 
 pub returns-then-self-clause-outcome : goal.returns-then-self-clause-outcome
 returns-then-self-clause-outcome g c =
-    record { ready = c.requires.ready; changes = search rules; few = most_none g.D.Disk 2 2 c.args.disk.now; base = refl; ends = (c.if-self.true, c.if-self.true) }
+    record { ready = c.requires.ready; changes = search rules; few = most_none g.D.Disk 2 2 c.args.disk.now; base = refl; generation = refl; ends = (c.if-self.true, c.if-self.true) }
 
 pub returns-in_err-force-clause-outcome : goal.returns-in_err-force-clause-outcome
 returns-in_err-force-clause-outcome g c =
@@ -93,6 +93,7 @@ returns-in_err-force-clause-outcome g c =
       changes = one.changes;
       few = one.few;
       base = one.base;
+      generation = one.generation;
       ends = end_on none_own c.args.self.now.failed w.failed lost (LacksRoom (size_of (view c.args.record.now)) w) w.failed c.in_err-force.field-0.0 c.from_residual.result c.from_residual.ensures.1 (λ e is. absurd is)
           (end_broken none_own c.args.self.now.failed w.failed lost c.in_err-force.field-0.0 one.ends) one.ends;
     }

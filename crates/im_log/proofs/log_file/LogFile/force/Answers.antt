@@ -53,7 +53,7 @@ returns-then-self-eq0-clause-kept g c base all durable h = record {
 
 pub returns-then-self-clause-outcome : goal.returns-then-self-clause-outcome
 returns-then-self-clause-outcome g c =
-    record { ready = c.requires.ready; changes = search rules; few = most_none g.D.Disk 2 2 c.args.disk.now; base = refl; ends = (c.if-self.true, c.if-self.true) }
+    record { ready = c.requires.ready; changes = search rules; few = most_none g.D.Disk 2 2 c.args.disk.now; base = refl; generation = refl; ends = (c.if-self.true, c.if-self.true) }
 
 pub returns-then-self-eq0-clause-outcome : goal.returns-then-self-eq0-clause-outcome
 returns-then-self-eq0-clause-outcome g c = record {
@@ -61,6 +61,7 @@ returns-then-self-eq0-clause-outcome g c = record {
   changes = search rules;
   few = most_none g.D.Disk 2 2 c.args.disk.now;
   base = refl;
+  generation = refl;
   ends = (c.if-self.false, c.if-self.false, c.requires.ready.ready.reading.working (c.requires.ready.working c.if-self.false));
 }
 
@@ -85,6 +86,7 @@ returns-in_err-put_batches-clause-outcome g c =
       changes = search rules;
       few = search rules;
       base = search rules;
+      generation = c.put_batches.ensures.same.generation;
       ends = end_told none_own c.args.self.now.failed true (g.D.Disk.failed new) c.from_residual.result (search rules) (search rules) (search rules) (search rules);
     }
 
@@ -112,5 +114,6 @@ returns-clause-outcome g c =
       changes = search rules;
       few = search rules;
       base = search rules;
+      generation = c.put_batches.ensures.same.generation;
       ends = (c.if-self.false, refl, search rules);
     }
