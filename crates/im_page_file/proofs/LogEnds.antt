@@ -1,6 +1,7 @@
 -- Where records of a log would end, from call to call.
-use Rattle.std.proofs.Common.{◌≡◌, ℕ, zero, suc, ◌+◌, ◌≤◌, Bool, true, false, refl, subst, sym, arith}
+use Rattle.std.proofs.Common.{◌≡◌, ℕ, zero, suc, ◌+◌, ◌≤◌, Bool, true, false, refl, subst, sym, ◌∙◌, arith}
 use Rattle.std.specs.Prelude.{◌^◌, if◌then◌else◌, nat_le, Result, Ok, Err, OnOk}
+use Rattle.im_log_gate.specs.Gate.{generation_at}
 use Rattle.im_log.specs.declared.log_file.LogFile.{LogFile}
 use Rattle.im_log.specs.LogFile.{end_with, next_lsn}
 use Rattle.im_page_file.specs.LogEnds.{EndsNoSooner}
@@ -19,7 +20,7 @@ end_high log size = elim (nat_le (log.used + size) 16384) as (λ (x : Bool). (if
 
 -- no call
 pub ends_same : (log : LogFile) → EndsNoSooner log log
-ends_same log = record { each = λ size. omega arith }
+ends_same log = record { each = λ size. omega arith; generation = refl }
 
 -- the same log
 pub ends_as : (old new : LogFile) → new ≡ old → EndsNoSooner old new
@@ -27,21 +28,25 @@ ends_as old new is = subst (λ (log : LogFile). EndsNoSooner old log) (sym is) (
 
 -- a call behind another
 pub ends_then : (old mid new : LogFile) → EndsNoSooner old mid → EndsNoSooner mid new → EndsNoSooner old new
-ends_then old mid new one two = record { each = λ size. (let a : end_with old size ≤ end_with mid size = one.each size in let b : end_with mid size ≤ end_with new size = two.each size in omega (arith, a, b)) }
+ends_then old mid new one two = record {
+  each = λ size. (let a : end_with old size ≤ end_with mid size = one.each size in let b : end_with mid size ≤ end_with new size = two.each size in omega (arith, a, b));
+  generation = two.generation ∙ one.generation;
+}
 
 -- behind an Image
-pub ends_imaged : (old new : LogFile) → next_lsn new ≡ end_with old 4129 → EndsNoSooner old new
-ends_imaged old new is = record {
+pub ends_imaged : (old new : LogFile) → next_lsn new ≡ end_with old 4129 → generation_at new.gate ≡ generation_at old.gate → EndsNoSooner old new
+ends_imaged old new is same = record {
   each = λ size.
       let a : end_with old size ≤ next_lsn old + 5 + size = end_high old size in
       let b : next_lsn old + 4129 ≤ end_with old 4129 = end_low old 4129 in
       let c : next_lsn new + size ≤ end_with new size = end_low new size in
       omega (arith, a, b, c, is);
+  generation = same;
 }
 
 -- behind a force
-pub ends_forced : (old new : LogFile) → (1 ≤ old.used → next_lsn new ≡ next_lsn old + 5) → (old.used ≡ 0 → new ≡ old) → EndsNoSooner old new
-ends_forced old new some none = by old.used some none
+pub ends_forced : (old new : LogFile) → (1 ≤ old.used → next_lsn new ≡ next_lsn old + 5) → (old.used ≡ 0 → new ≡ old) → generation_at new.gate ≡ generation_at old.gate → EndsNoSooner old new
+ends_forced old new some none same = by old.used some none
   where
     by : (used : ℕ) → (1 ≤ used → next_lsn new ≡ next_lsn old + 5) → (used ≡ 0 → new ≡ old) → EndsNoSooner old new
     by zero some none = ends_as old new (none refl)
@@ -51,6 +56,7 @@ ends_forced old new some none = by old.used some none
           let b : next_lsn new ≡ next_lsn old + 5 = some (omega arith) in
           let c : next_lsn new + size ≤ end_with new size = end_low new size in
           omega (arith, a, b, c);
+      generation = same;
     }
 
 -- what two calls say of the log, of which the second may be refused

@@ -8,7 +8,7 @@ use Rattle.im_base_disk.specs.declared.disk.Disk.{Ghosts}
 use Rattle.im_base_disk.specs.Disk.{Files}
 use Rattle.im_page_writer.specs.declared.page_writer.PageWriter.{PageWriter}
 use Rattle.im_page_writer.specs.PageWriter.{FlushedOne, StandsAs}
-use Rattle.im_page_writer.specs.Switching.{FlushedRows, FlushedAll}
+use Rattle.im_page_writer.specs.FlushedRows.{FlushedRows, FlushedAll}
 use Rattle.im_page_writer.proofs.Writers.{goes_on_start, goes_on_then}
 
 -- of the first rows one more

@@ -187,7 +187,7 @@ module _ {D : Type 0} (d : Ghosts D) where
           began = works;
           works = works;
           alive = opened.ready.reading.working (opened.working (ready.works works));
-          later = record { each = λ size. omega arith };
+          later = record { each = λ size. omega arith; generation = refl };
           goes = λ b base s is asked. record { now = s; on = goes_on_start d b base s v old (only_now old) is };
         };
       }
@@ -486,7 +486,7 @@ idle d only_now v old works ready =
         began = works;
         works = works;
         alive = opened.ready.reading.working (opened.working (ready.works works));
-        later = record { each = λ size. omega arith };
+        later = record { each = λ size. omega arith; generation = refl };
         goes = λ b base s is asked. record { now = s; on = goes_on_start d b base s v old (only_now old) is };
       };
     }
@@ -537,7 +537,7 @@ module _ {D : Type 0} (d : Ghosts D) (only_now : (disk : D) (c : Files) → d.le
     began = began;
     works = works;
     alive = alive;
-    later = subst (λ (l : LogFile). EndsNoSooner v.log l) (sym log) (record { each = λ size. omega arith });
+    later = subst (λ (l : LogFile). EndsNoSooner v.log l) (sym log) (record { each = λ size. omega arith; generation = refl });
     goes = λ b base s is ready.
         let start = (goes_on_start d b base s v old (only_now old) is).goes in
         record {

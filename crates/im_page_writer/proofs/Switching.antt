@@ -1,6 +1,6 @@
 -- How the log goes on in the other file under a writer of pages.
 use Rattle.std.proofs.Common.{◌≡◌, ◌⊎◌, inl, inr, ⊎_elim, ℕ, ◌+◌, ◌<◌, ◌≤◌, Bool, true, false, not, List, [], Option, None, Some, Result, Ok, Err, refl, sym, ◌∙◌, ap, subst, arith}
-use Rattle.std.specs.Prelude.{◌≢◌, ◌↔◌, ◌^◌, IfErr}
+use Rattle.std.specs.Prelude.{◌≢◌, ◌↔◌, ◌^◌, nat_le, nat_lt, if◌then◌else◌, IfErr, IsErrAnd}
 use Rattle.std.proofs.lemmas.Bool.{cases_lt}
 use Rattle.std.specs.Ordering.{nat_cmp}
 use Rattle.std.specs.BTreeMap.{BTreeMap, get, is_at}
@@ -27,11 +27,11 @@ use Rattle.im_base_two_logs.specs.Runs.{IsNameless, LeavesNamed}
 use Rattle.im_base_two_logs.proofs.Runs.{other_names, then_named, unnamed}
 use Rattle.im_log_header.specs.Header as headers
 use Rattle.im_log_choice.specs.Current.{HasCurrent, IsCurrent}
-use Rattle.im_log_gate.specs.Gate.{generation_at, place_of}
+use Rattle.im_log_gate.specs.Gate.{generation_at, has_failed, place_of}
 use Rattle.im_log_gate.specs.Header.{generation_of, IsMade}
 use Rattle.im_log_gate.proofs.Starts.{made_some}
 use Rattle.im_log.specs.declared.log_file.LogFile.{LogFile}
-use Rattle.im_log.specs.LogFile.{IsOpen}
+use Rattle.im_log.specs.LogFile.{HasNoRoom, IsOpen, end_with, next_lsn}
 use Rattle.im_log.specs.Kept.{HasLog}
 use Rattle.im_log.specs.GoingOn.{GoOnKept, HasEither, WentOn, next_gate}
 use Rattle.im_log.proofs.Above.{front_then}
@@ -47,9 +47,9 @@ use Rattle.im_page_writer.specs.declared.known.Known.{Known}
 use Rattle.im_page_writer.specs.declared.known.Synced.{Synced}
 use Rattle.im_page_writer.specs.declared.page_writer.PageWriter.{PageWriter}
 use Rattle.im_page_writer.specs.Outcome.{AsksNothing, Ends, Flushes, LogEnds, Logs, none_mild}
-use Rattle.im_page_writer.specs.PageWriter.{GoesOn, StandsAs}
+use Rattle.im_page_writer.specs.PageWriter.{GoesOn, IsReadyWriter, StandsAs}
 use Rattle.im_page_writer.specs.Synced.{AreSyncedWith, IsKnown, end_of_log}
-use Rattle.im_page_writer.specs.Switching.{LeftSwitching, RefusesSwitch, Switched, SwitchKept}
+use Rattle.im_page_writer.specs.Switching.{LeftSwitching, MayNotGoOn, RefusesSwitch, Switched, SwitchKept}
 use Rattle.im_page_pool.specs.Pool.{PoolView}
 use Rattle.im_page_writer.specs.Writing.{IsPooled, LeavesGrown}
 use Rattle.im_page_writer.proofs.Goings.{pooled_same}
@@ -102,7 +102,7 @@ module _ (b : Base) (base : ℕ) (s : Writer) where
 
   -- before the other log is made
   left_before : (high : History) → GrowsByImages b s.log high → (c : Files) → IsCovered b base s.durable high c → LeftSwitching b base s c
-  left_before high grows c is = record { swapped = false; high = high; grows = grows; place = end_of b high; end = omega arith; covered = inl is }
+  left_before high grows c is = record { swapped = false; high = high; grows = grows; place = end_of b high + 1; end = omega arith; covered = inl is }
 
   -- of a writer from before
   left_earlier : (t : Writer) → GrowsByImages b s.log t.log → IsFront s.durable t.durable → (c : Files) → LeftSwitching b base t c → LeftSwitching b base s c
@@ -146,6 +146,7 @@ module _ {D : Type 0} (d : Ghosts D) (b : Base) (base : ℕ) where
     end = done.end;
     stands = done.stands;
     number = done.number;
+    second = done.second;
   }
 
   pub kept_then : (s : Writer) (old : D) (t : Writer) (w : PageWriter) (mid : D) → (on : GoesOn d b base s old t w mid) → (next : ℕ) (x : PageWriter) (new : D) (result : Result Unit Fault) → SwitchKept d b base t next mid x new result
@@ -166,12 +167,15 @@ module _ {D : Type 0} (d : Ghosts D) (b : Base) (base : ℕ) where
     start = base + place_of w.log.gate
 
     -- the log ends in front of the gate
-    end_low : end_of b s.log ≤ start
+    end_low : end_of b s.log < start
     end_low =
         let low : end_of b s.durable < end_of_log w.log = under_end d base s.log s.durable w.log old is_open st.log_is b (end_of b s.durable) is.writing.based (omega arith) in
         let at : w.log.base ≡ base = st.log_is.based in
         let same : end_of b s.log ≡ end_of b s.durable = ap (end_of b) (sym durable) in
         omega (arith, low, at, same)
+
+    end_under : end_of b s.log ≤ start
+    end_under = let low = end_low in omega (arith, low)
 
     page_is : (p : ℕ) → (s.pages p).page ≡ page_at b s.log p
     page_is p =
@@ -179,7 +183,7 @@ module _ {D : Type 0} (d : Ghosts D) (b : Base) (base : ℕ) where
         reached_end b s.log (s.pages p).upto p (s.pages p).page run.1 ((st.kept.pages p).now run.0)
 
     -- each page is in the file as the log made it
-    in_file : (p : ℕ) → file_page (d.seen old Pages) p ≡ Some (page_at b s.log p)
+    pub in_file : (p : ℕ) → file_page (d.seen old Pages) p ≡ Some (page_at b s.log p)
     in_file p =
         let kept = st.kept.pages p in
         let there = kept.clean (kept.run e over).0 (clean p) in
@@ -242,12 +246,13 @@ module _ {D : Type 0} (d : Ghosts D) (b : Base) (base : ℕ) where
       place = start;
       end = end_low;
       number = went.number;
+      second = (let some = made_some (d.seen old Log) st.log_is.made in let now = went.generation in omega (arith, some, now));
       stands = record {
         working = works;
         known = unknown x.known from none;
         writing = record {
           stands = record {
-            kept = writer_switches b s e start st.kept over end_low clean;
+            kept = writer_switches b s e start st.kept over end_under clean;
             ready = opened;
             log_is = went.log;
             file = record {
@@ -257,7 +262,7 @@ module _ {D : Type 0} (d : Ghosts D) (b : Base) (base : ℕ) where
             tied = subst (λ (t : List TableEntry). (p : ℕ) → IsTied (entry_in t p) (s.pages p).entry) (sym table) st.tied;
             copies = record {
               copies = λ q ended p fresh past. absurd (
-                  let low : (page_at b s.log p).lsn ≤ start = lsns_low b s.log start st.kept.rises end_low p in
+                  let low : (page_at b s.log p).lsn ≤ start = lsns_low b s.log start st.kept.rises end_under p in
                   let same : (s.pages p).page.lsn ≡ (page_at b s.log p).lsn = ap (λ (g : Page). g.lsn) (page_is p) in
                   let at : start ≡ q = cc ended in
                   let late : q < (s.pages p).page.lsn = past in
@@ -353,10 +358,126 @@ module _ {D : Type 0} (d : Ghosts D) where
       by (inr (inr (inl is))) = to Capacity is (subst (λ (l : LogFile). 2 ^ 62 ≤ generation_at l.gate + 1) (sym (same (inr is))) (last.0 (ap refusal is)).2)
       by (inr (inr (inr is))) = to Device is ((device works).0 (ap refusal is))
 
+-- ---- refusals
+
+-- the fault that is handed on
+pub told_same : {A : Type 0} (r : Result A Fault) (f e : Fault) → IsErrAnd r (λ x. x ≡ f) → r ≡ Err e → f ≡ e
+told_same (Ok a) f e is same = absurd is
+told_same (Err x) f e is same = sym is ∙ (let told : x ≡ e = cc same in told)
+
+pub told_as : {A : Type 0} (r : Result A Fault) (f e : Fault) → IsErrAnd r (λ x. x ≡ f) → refusal f ≡ Err e → r ≡ Err e
+told_as (Ok a) f e is same = absurd is
+told_as (Err x) f e is same = ap Err (is ∙ (let told : f ≡ e = cc same in told))
+
+pub told_device : {A : Type 0} (r : Result A Fault) (f : Fault) (lost : Bool) → IsErrAnd r (λ x. x ≡ f) → (f ≡ Device) ↔ (lost ≡ true) → (r ≡ Err Device) ↔ (lost ≡ true)
+told_device r f lost is device = (λ same. device.0 (told_same r f Device is same), λ failed. told_as r f Device is (ap refusal (device.1 failed)))
+
+pub if_err : {A : Type 0} (r : Result A Fault) (P Q : Fault → Type 0) → IfErr r P → ((e : Fault) → P e → Q e) → IfErr r Q
+if_err (Ok a) P Q is to = tt
+if_err (Err e) P Q is to = to e is
+
+-- the next gate is no later than the next record
+gate_low : (log : LogFile) → next_gate log ≤ next_lsn log
+gate_low log = elim (nat_lt 0 log.used) as (λ (x : Bool). (if x then next_lsn log else log.base + place_of log.gate) ≤ next_lsn log) [
+  | true ↦ omega arith
+  | false ↦ omega arith
+]
+
+-- where a record of 16,384 bytes ends at least
+longest_end : (log : LogFile) → next_lsn log + 16384 ≤ end_with log 16384
+longest_end log = elim (nat_le (log.used + 16384) 16384) as (λ (x : Bool). next_lsn log + 16384 ≤ (if x then next_lsn log + 16384 else next_lsn log + 5 + 16384)) [
+  | true ↦ omega arith
+  | false ↦ omega arith
+]
+
+-- a log that may not go on for want of LSNs has no room; no batch waits in front of another
+pub no_room : (log : LogFile) → log.failed ≡ false → has_failed log.gate ≡ false → 2 ^ 62 < next_gate log + 47 → HasNoRoom log
+no_room log works gate_works above =
+    let low : next_gate log ≤ next_lsn log = gate_low log in
+    let late : 2 ^ 62 < next_lsn log + 47 = omega (arith, above, low) in
+    let far = longest_end log in
+    record {
+      of_gate = log.of_gate works;
+      gate = gate_works;
+      size = 16384;
+      most = omega arith;
+      above = omega (arith, late, far);
+      one = elim (cases_lt 0 log.start) [
+        | inl some ↦ absurd (let ahead = log.ahead works (omega (arith, some)) in omega (arith, late, ahead, log.sized, log.within))
+        | inr none ↦ omega (arith, none)
+      ];
+    }
+
+-- How a call of a switch is refused, which began with the one writer and left the other.
+pub record IsRefused (v w : PageWriter) (lost : Bool) (f : Fault) : Type 0 where
+  pub full : f ≡ LogFull → HasNoRoom w.log
+  pub last : f ≡ Capacity → MayNotGoOn v.log Capacity
+  pub device : (f ≡ Device) ↔ (lost ≡ true)
+  pub fails : MayNotGoOn v.log f ⊎ (w.failed ≡ true)
+
+module _ {D : Type 0} (d : Ghosts D) (v : PageWriter) where
+  lost_device : (w : PageWriter) (lost : Bool) → lost ≡ true → w.failed ≡ true → IsRefused v w lost Device
+  lost_device w lost failed broken = record { full = λ is. absurd (cc is); last = λ is. absurd (cc is); device = (λ is. failed, λ is. refl); fails = inr broken }
+
+  lost_room : (w : PageWriter) (lost : Bool) → lost ≡ false → w.failed ≡ true → HasNoRoom w.log → IsRefused v w lost LogFull
+  lost_room w lost alive broken full =
+      record { full = λ is. full; last = λ is. absurd (cc is); device = (λ is. absurd (cc is), λ failed. absurd (let clash : true ≡ false = sym failed ∙ alive in cc clash)); fails = inr broken }
+
+  -- a page could not be written
+  pub flush_refused : {x : PageWriter} {old : D} {w : PageWriter} {new : D} (f : Fault) → Flushes d x old w new (Some f) → x.failed ≡ false → IsRefused v w (d.failed new) f
+  flush_refused {x} {old} {w} {new} f one works = by f one.ends
+    where
+      by : (e : Fault) → Ends d AsksNothing none_mild x old w new (Some e) → IsRefused v w (d.failed new) e
+      by Failed ends = absurd (let clash : false ≡ true = sym works ∙ ends.0 in cc clash)
+      by Device ends = lost_device w (d.failed new) ends.1 ends.0.broken
+      by LogFull ends = lost_room w (d.failed new) ends.1 ends.0.broken ends.2
+      by e ends = absurd (let clash : false ≡ true = ends.0 in cc clash)
+
+  -- the log could not be forced, or the file of pages be synced
+  pub log_refused : {x : PageWriter} {old : D} {w : PageWriter} {new : D} (f : Fault) → Logs d false none_mild x old w new (Some f) → x.failed ≡ false → IsRefused v w (d.failed new) f
+  log_refused {x} {old} {w} {new} f one works = by f one.ends
+    where
+      by : (e : Fault) → LogEnds d false none_mild x old w new (Some e) → IsRefused v w (d.failed new) e
+      by Failed ends = absurd (let clash : false ≡ true = sym works ∙ ends.0 in cc clash)
+      by Device ends = lost_device w (d.failed new) ends.1 ends.0.broken
+      by LogFull ends = lost_room w (d.failed new) ends.1 ends.0.broken ends.2
+      by NotAStore ends = absurd (let clash : false ≡ true = ends.0 in cc clash)
+      by e ends = absurd (let clash : false ≡ true = ends.0 in cc clash)
+
+  -- the log may not go on
+  pub may_refused : (new : D) (f : Fault) → IsReadyWriter d v new → v.failed ≡ false → (f ≡ LogFull) ⊎ (f ≡ Capacity) → (refusal f ≡ Err LogFull) ↔ (2 ^ 62 < next_gate v.log + 47) → (refusal f ≡ Err Capacity) ↔ ((next_gate v.log + 47 ≤ 2 ^ 62) × (2 ^ 62 ≤ generation_at v.log.gate + 1))
+      → IsRefused v v (d.failed new) f
+  may_refused new f ready works why full last = record {
+    full = λ is. no_room v.log log_works gate_works (full.0 (ap refusal is));
+    last = λ is. last.0 (ap refusal is);
+    device = (λ is. absurd (⊎_elim (λ e. (let clash : LogFull ≡ Device = sym e ∙ is in cc clash)) (λ e. (let clash : Capacity ≡ Device = sym e ∙ is in cc clash)) why), λ failed. absurd (let clash : true ≡ false = sym failed ∙ opened.ready.reading.working gate_works in cc clash));
+    fails = inl (⊎_elim (λ e. subst (MayNotGoOn v.log) (sym e) (full.0 (ap refusal e))) (λ e. subst (MayNotGoOn v.log) (sym e) (last.0 (ap refusal e))) why);
+  }
+    where
+      log_works : v.log.failed ≡ false
+      log_works = ready.works works
+
+      opened : IsOpen d v.log new
+      opened = ready.opened works
+
+      gate_works : has_failed v.log.gate ≡ false
+      gate_works = opened.working log_works
+
+-- the refusal of a log that may not go on
+pub early_told : (log : LogFile) (f e : Fault) → (refusal f ≡ Err LogFull) ↔ (2 ^ 62 < next_gate log + 47) → (refusal f ≡ Err Capacity) ↔ ((next_gate log + 47 ≤ 2 ^ 62) × (2 ^ 62 ≤ generation_at log.gate + 1)) → MayNotGoOn log e → refusal f ≡ Err e
+early_told log f LogFull full last is = full.1 is
+early_told log f Capacity full last is = last.1 is
+early_told log f e full last is = absurd is
+
 -- where it was tested that the log may go on, it may
-pub not_early : {A : Type 0} (r : Result A Fault) (a : A) (gate generation : ℕ) → r ≡ Ok a → (r ≡ Err LogFull) ↔ (2 ^ 62 < gate + 47) → (r ≡ Err Capacity) ↔ ((gate + 47 ≤ 2 ^ 62) × (2 ^ 62 ≤ generation + 1)) → (2 ^ 62 < gate + 47) ⊎ (2 ^ 62 ≤ generation + 1) → ⊥
-not_early {A} r a gate generation ok full last (inl above) = let clash : Ok a ≡ Err LogFull = sym ok ∙ full.1 above in cc clash
-not_early {A} r a gate generation ok full last (inr used) = elim (cases_lt (2 ^ 62) (gate + 47)) [
-  | inl above ↦ let clash : Ok a ≡ Err LogFull = sym ok ∙ full.1 above in cc clash
-  | inr low ↦ let clash : Ok a ≡ Err Capacity = sym ok ∙ last.1 (omega (arith, low), used) in cc clash
+pub not_early : {A : Type 0} (r : Result A Fault) (a : A) (log : LogFile) → r ≡ Ok a → (r ≡ Err LogFull) ↔ (2 ^ 62 < next_gate log + 47) → (r ≡ Err Capacity) ↔ ((next_gate log + 47 ≤ 2 ^ 62) × (2 ^ 62 ≤ generation_at log.gate + 1)) → (e : Fault) → MayNotGoOn log e → ⊥
+not_early {A} r a log ok full last LogFull is = let clash : Ok a ≡ Err LogFull = sym ok ∙ full.1 is in cc clash
+not_early {A} r a log ok full last Capacity is = let clash : Ok a ≡ Err Capacity = sym ok ∙ last.1 is in cc clash
+not_early {A} r a log ok full last e is = is
+
+-- and its next gate is low enough
+pub gate_fits : {A : Type 0} (r : Result A Fault) (a : A) (gate : ℕ) → r ≡ Ok a → (r ≡ Err LogFull) ↔ (2 ^ 62 < gate + 47) → gate + 47 ≤ 2 ^ 62
+gate_fits {A} r a gate ok full = elim (cases_lt (2 ^ 62) (gate + 47)) [
+  | inl above ↦ absurd (let clash : Ok a ≡ Err LogFull = sym ok ∙ full.1 above in cc clash)
+  | inr low ↦ omega (arith, low)
 ]

@@ -5,7 +5,7 @@ use Rattle.std.specs.Option.{option_map_or}
 use Rattle.std.specs.Map.{lookup, remove_entry}
 use Rattle.std.proofs.lemmas.Bool.{cond-true, cond-false, eq-eqb, ne_eqb}
 use Rattle.im_theory_log.specs.Writer.{DirtyEntry, PageState, IsWritten}
-use Rattle.im_theory_log.specs.WriterSteps.{entry_since, synced_entry, synced_page}
+use Rattle.im_theory_log.specs.WriterSteps.{synced_page}
 use Rattle.im_page_pool.specs.declared.frame.Frame.{Frame}
 use Rattle.im_page_pool.specs.Pool.{Held, PoolView, frame_of, held_of, last_changed}
 use Rattle.im_page_places.proofs.PlaceLemmas.{length_remove_entry}
@@ -15,6 +15,7 @@ use Rattle.im_page_table.specs.DirtyTable.{dirty_entry, entry_in, IsRising, sync
 use Rattle.im_page_writer.specs.Writing.{IsShown, IsPooled, SameHeld}
 use Rattle.im_page_writer.specs.PageWriter.{IsOldestWritten}
 use Rattle.im_page_writer.proofs.Placing.{written_synced}
+use Rattle.im_page_writer.proofs.FlushedRows.{synced_clean}
 use Rattle.im_page_table.proofs.Tables.{above_rising, held_synced, not_below, synced_rising}
 
 -- ---- the last page of a list that was changed
@@ -100,13 +101,15 @@ shorter xs es p up all has none =
 
 -- ---- behind a sync
 
-written_gone : (o : Option DirtyEntry) → IsWritten o → synced_entry o ≡ None
-written_gone None is = refl
-written_gone (Some e) is = ap (λ (t : Option ℕ). entry_since e.copied t) is
+-- a table in which no page has an entry has none
+pub no_entries : (table : List TableEntry) → ((p : ℕ) → entry_in table p ≡ None) → length table ≡ 0
+no_entries [] none = refl
+no_entries (x ∷ xs) none =
+    absurd (let clash : Some (dirty_entry x) ≡ None = sym (cond-true (x.page == x.page) (Some (dirty_entry x)) (entry_in xs x.page) (eq-eqb x.page x.page refl)) ∙ none x.page in cc clash)
 
 module _ (table : List TableEntry) (pages : ℕ → PageState) (up : IsRising table) (has : HasEntries table pages) where
   gone : (p : ℕ) → IsWritten (pages p).entry → entry_in (synced_entries table) p ≡ None
-  gone p is = held_synced table p up ∙ written_gone (entry_in table p) (subst (λ (o : Option DirtyEntry). IsWritten o) (sym (has p)) is)
+  gone p is = held_synced table p up ∙ synced_clean (entry_in table p) (subst (λ (o : Option DirtyEntry). IsWritten o) (sym (has p)) is)
 
   -- an entry that stays is of a held page
   stays_held : (pool : PoolView) → IsPooled pool pages → (p : ℕ) (e : DirtyEntry) → entry_in (synced_entries table) p ≡ Some e → is_some (held_of pool p) ≡ true

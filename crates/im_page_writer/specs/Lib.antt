@@ -7,5 +7,6 @@ pub mod Checkpoints
 pub mod StructureChange
 pub mod Redoing
 pub mod Outcome
+pub mod FlushedRows
 pub mod Switching
 pub mod Rounds

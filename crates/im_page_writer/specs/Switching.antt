@@ -1,13 +1,11 @@
 -- What a switch keeps, by which the log goes on in the other file.
-use Rattle.std.specs.Prelude.{◌≡◌, ◌⊎◌, ◌<◌, ◌≤◌, ◌+◌, ◌^◌, ℕ, Bool, true, List, [], None, Result, OnOk}
+use Rattle.std.specs.Prelude.{◌≡◌, ◌⊎◌, ◌<◌, ◌≤◌, ◌+◌, ◌^◌, ℕ, Bool, true, [], None, Result, OnOk}
 use Rattle.im_base_types.specs.declared.fault.Fault.{Fault}
 use Rattle.im_base_types.specs.declared.fault.Fault.TheVariants.{Capacity, Device, Failed, LogFull}
 use Rattle.im_base_types.specs.declared.file_id.FileId.TheVariants.{Log}
-use Rattle.im_base_types.specs.declared.tables.DirtyPage.{DirtyPage}
 use Rattle.im_theory_log.specs.Histories.{Base, History, end_of}
 use Rattle.im_theory_log.specs.Copies.{GrowsByImages}
-use Rattle.im_theory_log.specs.Writer.{Writer, IsWritten}
-use Rattle.im_theory_log.specs.WriterSteps.{IsIn}
+use Rattle.im_theory_log.specs.Writer.{Writer}
 use Rattle.im_theory_switch.specs.Switch.{base_after, switched}
 use Rattle.im_base_disk.specs.declared.disk.Disk.{Ghosts}
 use Rattle.im_base_disk.specs.Disk.{Files}
@@ -17,11 +15,11 @@ use Rattle.im_log.specs.declared.log_file.LogFile.{LogFile}
 use Rattle.im_log.specs.GoingOn.{next_gate}
 use Rattle.im_log.specs.LogFile.{end_with}
 use Rattle.im_log_gate.specs.Gate.{generation_at}
-use Rattle.im_log_gate.specs.Header.{least_number}
+use Rattle.im_log_gate.specs.Header.{generation_of, least_number}
 use Rattle.im_page_file.specs.Stands.{IsCovered}
 use Rattle.im_page_table.specs.Growth.{Keeps}
 use Rattle.im_page_writer.specs.declared.page_writer.PageWriter.{PageWriter}
-use Rattle.im_page_writer.specs.PageWriter.{StandsAs, GoesOn}
+use Rattle.im_page_writer.specs.PageWriter.{StandsAs}
 
 -- By some names of the two logs, a stop left what redo can start from: the log as it was, or with Images more; or the next one, with no record, over the pages that this one made.
 pub record LeftSwitching (b : Base) (base : ℕ) (s : Writer) (files : Files) : Type 0 where
@@ -29,22 +27,10 @@ pub record LeftSwitching (b : Base) (base : ℕ) (s : Writer) (files : Files) : 
   pub high : History
   pub grows : GrowsByImages b s.log high
   pub place : ℕ
-  pub end : end_of b high ≤ place
+  pub end : end_of b high < place
   pub covered : IsCovered b base s.durable high (named swapped files) ⊎ IsCovered (base_after b high place) place [] [] (named swapped files)
 
 module _ {D : Type 0} (d : Ghosts D) (b : Base) (base : ℕ) where
-  -- Nothing is left to be written of the pages of these rows.
-  pub record FlushedRows (s : Writer) (rows : List DirtyPage) (old : D) (w : PageWriter) (disk : D) : Type 0 where
-    pub now : Writer
-    pub on : GoesOn d b base s old now w disk
-    pub written : (x : DirtyPage) → IsIn x rows → IsWritten (now.pages x.page).entry
-
-  -- Nothing is left to be written of any page.
-  pub record FlushedAll (s : Writer) (old : D) (w : PageWriter) (disk : D) : Type 0 where
-    pub now : Writer
-    pub on : GoesOn d b base s old now w disk
-    pub written : (p : ℕ) → IsWritten (now.pages p).entry
-
   -- The writer stands over the next log, with no record, which is over the pages as they were: the log had Images more by then, all of it was durable, and each page was in its file.
   pub record Switched (s : Writer) (next : ℕ) (w : PageWriter) (disk : D) : Type 0 where
     pub now : Writer
@@ -52,14 +38,22 @@ module _ {D : Type 0} (d : Ghosts D) (b : Base) (base : ℕ) where
     pub clean : (p : ℕ) → (now.pages p).entry ≡ None
     pub durable : now.durable ≡ now.log
     pub place : ℕ
-    pub end : end_of b now.log ≤ place
+    pub end : end_of b now.log < place
     pub stands : StandsAs d (base_after b now.log place) place (switched place now) w disk
     pub number : least_number (d.seen disk Log) ≡ next
+    -- so it is one of the second format
+    pub second : 2 ≤ generation_of (d.seen disk Log)
 
   -- what it keeps
   pub record SwitchKept (s : Writer) (next : ℕ) (old : D) (w : PageWriter) (disk : D) (result : Result Unit Fault) : Type 0 where
     pub ok : OnOk result (Switched s next w disk)
     pub stops : LeavesNamed d old disk (LeftSwitching b base s)
+
+-- Why the log may not go on, before any call: the first gate of the next log would have an LSN above 2^62, even with no Image; or, where it would not, there is no next generation.
+abbrev pub MayNotGoOn : LogFile → Fault → Type 0
+MayNotGoOn log LogFull = 2 ^ 62 < next_gate log + 47
+MayNotGoOn log Capacity = (next_gate log + 47 ≤ 2 ^ 62) × (2 ^ 62 ≤ generation_at log.gate + 1)
+MayNotGoOn log e = ⊥
 
 module _ {D : Type 0} (d : Ghosts D) where
   -- Why a switch is refused: an earlier call had failed; the log ends so near LSN 2^62 that the first gate of the next one, or an Image of a page, would lie above it; there is no next generation; or the disk failed.

@@ -22,6 +22,7 @@ use std::alloc::Global;
 
 mod changes;
 mod checkpoints;
+mod every_page;
 mod least_used;
 mod redo;
 mod round;
@@ -99,7 +100,7 @@ impl PageWriter {
     ghost use Rattle.im_log_record.specs.Entry.{view};
     ghost use Rattle.im_log_record.specs.Spelling.{IsEntry, size_of};
     ghost use Rattle.im_log.specs.Whats.{what_of};
-    ghost use Rattle.im_log_gate.specs.Gate.{place_of};
+    ghost use Rattle.im_log_gate.specs.Gate.{first_of, generation_at, place_of};
     ghost use Rattle.im_page_writer.specs.Synced.{IsForeign, IsOwn};
     ghost use Rattle.im_page_writer.specs.Writing.{SameHeld};
     ghost use Rattle.im_page_writer.specs.Outcome.{fault_of, no_page, none_mild, AllPages, AreLoadedTo, Flushes, HasPages, IsSound, Logs, Outcome};
@@ -388,6 +389,7 @@ impl PageWriter {
         ensures costs { OnOk result (1 ≤ self.old.log.used → Costs D.Disk 2 2 disk.old disk.new) }
         ensures few { CostsAtMost D.Disk 2 2 disk.old disk.new }
         ensures empty { OnOk result (self.new.log.used ≡ 0) }
+        ensures generation { generation_at self.new.log.gate ≡ generation_at self.old.log.gate }
         ensures pool { self.new.pool ≡ self.old.pool }
         ensures table { self.new.table ≡ self.old.table }
     {
@@ -430,6 +432,20 @@ impl PageWriter {
         ensures { result ≡ min (self.now.log.base + place_of self.now.log.gate) (2 ^ 64 - 1) }
     {
         self.log.durable_end()
+    }
+
+    /// Where the log's gate stands in its file, in bytes: each record below it is durable.
+    pub fn log_place(&self) -> u64
+        ensures { result ≡ place_of self.now.log.gate }
+    {
+        self.log.place()
+    }
+
+    /// Whether its log is one of the first format.
+    pub fn is_first_format(&self) -> bool
+        ensures { result ≡ true ↔ first_of self.now.log.gate ≡ 31 }
+    {
+        self.log.is_first_format()
     }
 
     /// Whether an earlier call broke it: every call is then refused `Failed`.

@@ -7,6 +7,7 @@ ghost use Rattle.im_base_types.specs.Records.{Logged};
 ghost use Rattle.im_theory_log.specs.Histories.{Base, History};
 ghost use Rattle.im_theory_log.specs.Copies.{HasCopy, onto};
 ghost use Rattle.im_theory_log.specs.Writer.{Writer};
+ghost use Rattle.im_theory_log.specs.WriterSteps.{synced};
 
 use crate::PageWriter;
 use im_base_disk::Disk;
@@ -40,7 +41,7 @@ impl PageWriter {
     ghost use Rattle.im_page_rounds.specs.Workers.{HaveRoom, SameRoom, page_in};
     ghost use Rattle.im_page_rounds.specs.Rounds.{AreFrom, HaveHad, applied_of_all, changing};
     ghost use Rattle.im_page_writer.specs.Outcome.{fault_of, mild, AllPages, AreLoaded, Flushes, HasPages, Reads, Redoes};
-    ghost use Rattle.im_page_writer.specs.PageWriter.{IsReadyWriter, StandsAs};
+    ghost use Rattle.im_page_writer.specs.PageWriter.{IsReadyWriter, StandsAs, GoesOn};
     ghost use Rattle.im_page_writer.specs.Rounds.{AreShown, IsBack, Lends, LendsAll, RoundHere, RoundKept, TakesBack, entry_after};
     ghost use Rattle.im_page_writer.specs.Writing.{SameHeld};
 
@@ -63,6 +64,7 @@ impl PageWriter {
     fn sync_written<D: Disk>(&mut self, disk: &mut D) -> Result<(), Fault>
         requires ready { IsReadyWriter D.Disk self.old disk.old }
         ensures outcome { Flushes D.Disk self.old disk.old self.new disk.new (fault_of result) }
+        ensures kept { (b : Base) (base : ℕ) (s : Writer) → StandsAs D.Disk b base s self.old disk.old → OnOk result (GoesOn D.Disk b base s disk.old (synced s) self.new disk.new) }
     {
         self.sync_pages(disk)
     }
@@ -78,17 +80,30 @@ impl PageWriter {
         count <= MOST_DIRTY - self.table.len()
     }
 
+    // Flushes each page that was changed, and syncs the file of pages: the dirty table has no entry then. Pages that go next are flushed together first, so that they
+    // share forces of the log.
+    fn flush_and_sync<D: Disk>(&mut self, disk: &mut D) -> Result<(), Fault>
+        requires ready { IsReadyWriter D.Disk self.old disk.old }
+        requires working { self.old.failed ≡ false }
+        ensures outcome { Flushes D.Disk self.old disk.old self.new disk.new (fault_of result) }
+        ensures empty { (b : Base) (base : ℕ) (s : Writer) → StandsAs D.Disk b base s self.old disk.old → OnOk result (length self.new.table ≡ 0) }
+    {
+        self.flush_all(disk)?;
+        self.flush_every(disk)?;
+        self.sync_written(disk)
+    }
+
     // Flushes each page that was changed, where the dirty table lacks room for so many entries, and syncs the file of pages.
     fn flush_for_entries<D: Disk>(&mut self, disk: &mut D, count: usize) -> Result<(), Fault>
         requires ready { IsReadyWriter D.Disk self.old disk.old }
         requires working { self.old.failed ≡ false }
         ensures outcome { Flushes D.Disk self.old disk.old self.new disk.new (fault_of result) }
+        ensures room { (b : Base) (base : ℕ) (s : Writer) → StandsAs D.Disk b base s self.old disk.old → count ≤ 1024 → OnOk result (length self.new.table + count ≤ 1024) }
     {
         if self.has_entries_room(count) {
             return Ok(());
         }
-        self.flush_all(disk)?;
-        self.sync_written(disk)
+        self.flush_and_sync(disk)
     }
 
     /// Makes room in the dirty table for so many entries, 1,024 at most: where it lacks that, the file of pages is synced, and where it
@@ -99,6 +114,7 @@ impl PageWriter {
         requires ready { IsReadyWriter D.Disk self.old disk.old }
         ensures outcome { Flushes D.Disk self.old disk.old self.new disk.new (fault_of result) }
         ensures unchanged { self.old.failed ≡ false → length self.old.table + count ≤ 1024 → (result ≡ Ok tt) × (self.new ≡ self.old) × (disk.new ≡ disk.old) }
+        ensures room { (b : Base) (base : ℕ) (s : Writer) → StandsAs D.Disk b base s self.old disk.old → count ≤ 1024 → OnOk result (length self.new.table + count ≤ 1024) }
     {
         if self.failed {
             return Err(Fault::Failed);

@@ -1,7 +1,8 @@
 //! The log goes on in the other file, once every page is in its own.
 
-ghost use Rattle.std.specs.Prelude.{◌≡◌, ◌≤◌, ◌<◌, ◌+◌, ◌^◌, ◌⊎◌, ℕ, [], None, Some, Ok, Err, false, true, length, slice_index_or, IfErr, OnOk};
-ghost use Rattle.im_base_types.specs.declared.fault.Fault.TheVariants.{Failed};
+ghost use Rattle.std.specs.Prelude.{◌≡◌, ◌≤◌, ◌+◌, ◌^◌, ◌⊎◌, ◌↔◌, ℕ, [], None, Some, Err, false, true, IfErr, OnOk};
+ghost use Rattle.im_base_types.specs.declared.fault.Fault.{Fault};
+ghost use Rattle.im_base_types.specs.declared.fault.Fault.TheVariants.{Capacity, Device, Failed, LogFull};
 ghost use Rattle.im_base_types.specs.declared.file_id.FileId.TheVariants.{Pages};
 ghost use Rattle.im_theory_log.specs.Histories.{Base};
 ghost use Rattle.im_theory_log.specs.Writer.{Writer};
@@ -11,57 +12,13 @@ ghost use Rattle.im_base_disk.specs.Runs.{CostsAtMost};
 use crate::PageWriter;
 use im_base_disk::Disk;
 use im_base_two_logs::TwoLogs;
-use im_base_types::{Fault, PageNo, TxnId};
+use im_base_types::{Fault, TxnId};
 
 impl PageWriter {
-    ghost use Rattle.im_base_types.specs.declared.tables.DirtyPage.{DirtyPage};
-    ghost use Rattle.im_page_writer.specs.Outcome.{fault_of, Flushes};
-    ghost use Rattle.im_page_writer.specs.PageWriter.{IsReadyWriter, StandsAs};
-    ghost use Rattle.im_page_writer.specs.Switching.{FlushedRows, FlushedAll, RefusesSwitch, SwitchKept};
-    ghost use Rattle.im_log.specs.GoingOn.{next_gate};
+    ghost use Rattle.im_log.specs.LogFile.{HasNoRoom};
     ghost use Rattle.im_log_gate.specs.Gate.{generation_at};
-
-    // How many rows were copied from the dirty table.
-    fn row_count(&self) -> usize
-        ensures { result ≡ length self.now.rows.items }
-    {
-        self.rows.len()
-    }
-
-    // The page of one.
-    fn row_page(&self, at: usize) -> PageNo
-        requires within { at < length self.now.rows.items }
-        ensures { (else : DirtyPage) → result ≡ (slice_index_or self.now.rows.items at else).page }
-    {
-        self.rows[at].page
-    }
-
-    // Writes the pages of the rows that a Checkpoint would have, in rising number, each as `flush_one` does.
-    fn flush_rows<D: Disk>(&mut self, disk: &mut D) -> Result<(), Fault>
-        requires ready { IsReadyWriter D.Disk self.old disk.old }
-        requires working { self.old.failed ≡ false }
-        ensures outcome { Flushes D.Disk self.old disk.old self.new disk.new (fault_of result) }
-        ensures kept { (b : Base) (base : ℕ) (s : Writer) → StandsAs D.Disk b base s self.old disk.old → OnOk result (FlushedRows D.Disk b base s self.old.rows.items disk.old self.new disk.new) }
-        ensures none { self.old.rows.items ≡ [] → (result ≡ Ok tt) × (disk.new ≡ disk.old) }
-    {
-        for i in 0..self.row_count() {
-            let number = self.row_page(i);
-            self.flush_one(disk, number)?;
-        }
-        Ok(())
-    }
-
-    // Writes every page that was changed, in rising number, each as `flush_one` does.
-    fn flush_every<D: Disk>(&mut self, disk: &mut D) -> Result<(), Fault>
-        requires ready { IsReadyWriter D.Disk self.old disk.old }
-        requires working { self.old.failed ≡ false }
-        ensures outcome { Flushes D.Disk self.old disk.old self.new disk.new (fault_of result) }
-        ensures kept { (b : Base) (base : ℕ) (s : Writer) → StandsAs D.Disk b base s self.old disk.old → OnOk result (FlushedAll D.Disk b base s disk.old self.new disk.new) }
-        ensures none { self.old.table ≡ [] → (result ≡ Ok tt) × (disk.new ≡ disk.old) }
-    {
-        self.table.copy_rows(&mut self.rows);
-        self.flush_rows(disk)
-    }
+    ghost use Rattle.im_page_writer.specs.PageWriter.{IsReadyWriter, StandsAs};
+    ghost use Rattle.im_page_writer.specs.Switching.{MayNotGoOn, RefusesSwitch, SwitchKept};
 
     // The log goes on in the other file, where nothing waits and nothing of any page is left to be written or synced.
     fn turn<D: TwoLogs>(&mut self, disk: &mut D, next: TxnId) -> Result<(), Fault>
@@ -73,7 +30,12 @@ impl PageWriter {
         ensures kept { (b : Base) (base : ℕ) (s : Writer) (e : ℕ) → StandsAs D.Disk b base s self.old disk.old → s.redo_end ≡ Some e → s.durable ≡ s.log → ((p : ℕ) → (s.pages p).entry ≡ None)
             → Only Pages (D.seen disk.old) (D.may_leave disk.old) → SwitchKept D.Disk b base s next disk.old self.new disk.new result }
         ensures causes { IfErr result (RefusesSwitch D.Disk self.old.failed self.new.log disk.new) }
+        ensures full { result ≡ Err LogFull → HasNoRoom self.new.log }
+        ensures last { result ≡ Err Capacity → 2 ^ 62 ≤ generation_at self.old.log.gate + 1 }
+        ensures device { result ≡ Err Device ↔ (D.failed disk.new ≡ true) }
         ensures failed { IfErr result (λ e. self.new.failed ≡ true) }
+        ensures works { OnOk result (self.new.failed ≡ false) }
+        ensures pool { self.new.pool ≡ self.old.pool }
         ensures few { CostsAtMost D.Disk 3 3 disk.old disk.new }
     {
         self.failed = true;
@@ -95,8 +57,14 @@ impl PageWriter {
         requires ready { IsReadyWriter D.Disk self.old disk.old }
         ensures ready { IsReadyWriter D.Disk self.new disk.new }
         ensures kept { (b : Base) (base : ℕ) (s : Writer) (e : ℕ) → StandsAs D.Disk b base s self.old disk.old → s.redo_end ≡ Some e → SwitchKept D.Disk b base s next disk.old self.new disk.new result }
-        ensures early { self.old.failed ≡ false → (2 ^ 62 < next_gate self.old.log + 47) ⊎ (2 ^ 62 ≤ generation_at self.old.log.gate + 1) → (self.new ≡ self.old) × (disk.new ≡ disk.old) }
+        ensures early { (e : Fault) → self.old.failed ≡ false → MayNotGoOn self.old.log e → (result ≡ Err e) × (self.new ≡ self.old) × (disk.new ≡ disk.old) }
         ensures causes { IfErr result (RefusesSwitch D.Disk self.old.failed self.new.log disk.new) }
+        ensures full { result ≡ Err LogFull → HasNoRoom self.new.log }
+        ensures last { result ≡ Err Capacity → MayNotGoOn self.old.log Capacity }
+        ensures device { self.old.failed ≡ false → result ≡ Err Device ↔ (D.failed disk.new ≡ true) }
+        ensures fails { IfErr result (λ e. MayNotGoOn self.old.log e ⊎ (self.new.failed ≡ true)) }
+        ensures works { OnOk result (self.new.failed ≡ false) }
+        ensures frames { self.new.pool.frames ≡ self.old.pool.frames }
         ensures few { self.old.table ≡ [] → CostsAtMost D.Disk 5 6 disk.old disk.new }
         ensures already { self.old.failed ≡ true → result ≡ Err Failed }
     {

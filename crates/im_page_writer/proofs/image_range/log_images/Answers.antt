@@ -23,7 +23,7 @@ returns-clause-outcome g c =
     let works = one.ends.0 in
     imaging_then g.D.Disk one (record {
       still = λ alive. e.outcome.ready;
-      ends = (e.outcome.ends.1, e.outcome.ends.2, ends_forced c.append_images.new.log c.force.new.self e.place (λ none. (e.same works none).1));
+      ends = (e.outcome.ends.1, e.outcome.ends.2, ends_forced c.append_images.new.log c.force.new.self e.place (λ none. (e.same works none).1) e.outcome.generation);
     })
 
 pub returns-in_err-append_images-clause-kept : goal.returns-in_err-append_images-clause-kept

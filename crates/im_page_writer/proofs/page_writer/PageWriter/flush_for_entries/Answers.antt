@@ -1,13 +1,10 @@
-use Rattle.std.proofs.Common.{rules}
-use Rattle.im_page_writer.specs.Outcome.{AsksNothing}
-use Rattle.im_page_writer.proofs.Outcomes.{behind, handed_on, idle_any, none_still}
+use Rattle.std.proofs.Common.{arith}
+use Rattle.im_page_table.proofs.Growing.{on_ok}
+use Rattle.im_page_writer.proofs.Outcomes.{idle_any}
 use Rattle.im_page_writer.proofs.page_writer.PageWriter.flush_for_entries.Goals as goal
 
-pub returns-then-has_entries_room : goal.returns-then-has_entries_room
-returns-then-has_entries_room g c = record { outcome = idle_any g.D.Disk g.met.D.Disk.only_now c.args.self.now c.args.disk.now c.requires.working c.requires.ready }
+pub returns-then-has_entries_room-clause-outcome : goal.returns-then-has_entries_room-clause-outcome
+returns-then-has_entries_room-clause-outcome g c = idle_any g.D.Disk g.met.D.Disk.only_now c.args.self.now c.args.disk.now c.requires.working c.requires.ready
 
-pub returns-in_err-flush_all : goal.returns-in_err-flush_all
-returns-in_err-flush_all g c = record { outcome = handed_on g.D.Disk c.from_residual.result c.from_residual.ensures.1 c.in_err-flush_all.ensures.outcome }
-
-pub returns : goal.returns
-returns g c = record { outcome = behind g.D.Disk AsksNothing none_still c.in_ok-flush_all.ensures.outcome c.sync_written.ensures.outcome }
+pub returns-clause-room : goal.returns-clause-room
+returns-clause-room g c b base s is few = on_ok c.flush_and_sync.result _ _ (c.flush_and_sync.ensures.empty b base s is) (λ none. omega (arith, none, few))

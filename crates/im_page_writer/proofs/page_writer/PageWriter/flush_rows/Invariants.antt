@@ -3,7 +3,7 @@ use Rattle.im_theory_log.specs.Histories.{Base}
 use Rattle.im_theory_log.specs.Writer.{Writer}
 use Rattle.im_page_writer.specs.Outcome.{Flushes}
 use Rattle.im_page_writer.specs.PageWriter.{StandsAs}
-use Rattle.im_page_writer.specs.Switching.{FlushedRows}
+use Rattle.im_page_writer.specs.FlushedRows.{FlushedRows}
 use Rattle.im_page_writer.proofs.page_writer.PageWriter.flush_rows.Given as goal
 
 abbrev pub invariant-loop-i : goal.invariant-loop-i

@@ -22,7 +22,7 @@ returns-in-Some-clause-outcome g c =
         began = c.if-self.false;
         works = c.if-self.false;
         alive = alive;
-        later = record { each = λ size. omega arith };
+        later = record { each = λ size. omega arith; generation = refl };
         goes = λ b base s is ready. record {
           now = s;
           on = record {

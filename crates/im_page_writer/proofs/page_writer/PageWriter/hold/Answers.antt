@@ -32,7 +32,7 @@ returns-then-is_own-clause-outcome g c =
         began = c.requires.working;
         works = c.requires.working;
         alive = alive;
-        later = record { each = λ size. omega arith };
+        later = record { each = λ size. omega arith; generation = refl };
         goes = λ b base s is ready. record {
           now = s;
           on = record {
@@ -69,7 +69,7 @@ returns-in-Err-clause-outcome g c =
             began = c.requires.working;
             works = working;
             alive = alive;
-            later = record { each = λ size. omega arith };
+            later = record { each = λ size. omega arith; generation = refl };
             goes = λ b base s is ready. record {
               now = s;
               on = record { working = working; known = is.known; goes = goes_refused g.D.Disk b base s w.log w.table w.pool old is.writing c.args.number ready c.get_absent.new.self c.get_absent.new.disk (g.met.D.Disk.only_now old) e.reads alive e.err };
@@ -115,7 +115,7 @@ returns-else-is_own-clause-outcome g c =
           began = c.requires.working;
           works = c.drop_page.ensures.failed ∙ c.requires.working;
           alive = alive;
-          later = subst (λ (log : LogFile). EndsNoSooner w.log log) (sym c.drop_page.ensures.log) (record { each = λ size. omega arith });
+          later = subst (λ (log : LogFile). EndsNoSooner w.log log) (sym c.drop_page.ensures.log) (record { each = λ size. omega arith; generation = refl });
           goes = λ b base s is ready.
               let got = goes_got g.D.Disk b base s w.log w.table w.pool old is.writing p ready mid disk c.in-Ok.frame (g.met.D.Disk.only_now old) e.reads
               alive (e.page is.writing.stands.log_is.tells) e.frame (λ holds. let clash : false ≡ true = subst (λ (o : Option Held). is_some o ≡ true) c.requires.absent holds in absurd cc) (λ _. e.read) in

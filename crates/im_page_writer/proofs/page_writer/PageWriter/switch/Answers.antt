@@ -1,4 +1,9 @@
-use Rattle.std.proofs.Common.{refl, ◌∙◌, subst, arith, rules}
+use Rattle.std.proofs.Common.{◌≡◌, ℕ, ◌≤◌, ◌+◌, inr, refl, ◌∙◌, ap, subst, arith, rules}
+use Rattle.std.specs.Prelude.{◌^◌}
+use Rattle.im_log_gate.specs.Gate.{generation_at}
+use Rattle.im_log.specs.declared.log_file.LogFile.{LogFile}
+use Rattle.im_log.specs.GoingOn.{next_gate}
+use Rattle.im_page_pool.specs.Pool.{PoolView}
 use Rattle.im_base_disk.specs.Runs.{CostsAtMost}
 use Rattle.im_base_disk.proofs.Costs.{most_as, most_none, most_then}
 use Rattle.im_theory_log.specs.WriterSteps.{forced, synced}
@@ -7,7 +12,7 @@ use Rattle.im_page_writer.proofs.FlushedRows.{synced_clean}
 use Rattle.im_page_writer.proofs.Goings.{leaves_of}
 use Rattle.im_page_writer.proofs.Outcomes.{stands_on}
 use Rattle.im_page_writer.proofs.LoggedChanges.{err_on}
-use Rattle.im_page_writer.proofs.Switching.{flush_left, flush_refuses, grown_switching, kept_then, log_refuses, may_refuses, not_early, refused_from, switching_then}
+use Rattle.im_page_writer.proofs.Switching.{early_told, flush_left, flush_refused, flush_refuses, gate_fits, grown_switching, if_err, kept_then, log_refused, log_refuses, may_refused, may_refuses, not_early, refused_from, switching_then, told_as, told_device, told_same}
 use Rattle.im_page_writer.proofs.Writers.{goes_on_start, goes_on_then}
 use Rattle.im_page_writer.proofs.page_writer.PageWriter.switch.Goals as goal
 
@@ -117,14 +122,161 @@ returns-clause-few g c none =
     subst (λ (from : _). CostsAtMost d 5 6 from c.turn.new.disk) (c.in_ok-flush_every.ensures.none none).1
     (most_then d 2 3 3 3 c.flush_every.new.disk c.sync_pages.new.disk c.turn.new.disk two c.turn.ensures.few)
 
+pub returns-in_err-may_go_on-clause-early : goal.returns-in_err-may_go_on-clause-early
+returns-in_err-may_go_on-clause-early g c e works early =
+    let f = c.in_err-may_go_on.field-0.0 in
+    (told_as c.from_residual.result f e c.from_residual.ensures.1 (early_told c.args.self.now.log f e c.in_err-may_go_on.ensures.full c.in_err-may_go_on.ensures.capacity early), refl, refl)
+
 pub returns-in_err-flush_every-clause-early : goal.returns-in_err-flush_every-clause-early
-returns-in_err-flush_every-clause-early g c works early = absurd (not_early _ _ _ _ refl c.in_ok-may_go_on.ensures.full c.in_ok-may_go_on.ensures.capacity early)
+returns-in_err-flush_every-clause-early g c e works early = absurd (not_early _ _ c.args.self.now.log refl c.in_ok-may_go_on.ensures.full c.in_ok-may_go_on.ensures.capacity e early)
 
 pub returns-in_err-force-clause-early : goal.returns-in_err-force-clause-early
-returns-in_err-force-clause-early g c works early = absurd (not_early _ _ _ _ refl c.in_ok-may_go_on.ensures.full c.in_ok-may_go_on.ensures.capacity early)
+returns-in_err-force-clause-early g c e works early = absurd (not_early _ _ c.args.self.now.log refl c.in_ok-may_go_on.ensures.full c.in_ok-may_go_on.ensures.capacity e early)
 
 pub returns-in_err-sync_pages-clause-early : goal.returns-in_err-sync_pages-clause-early
-returns-in_err-sync_pages-clause-early g c works early = absurd (not_early _ _ _ _ refl c.in_ok-may_go_on.ensures.full c.in_ok-may_go_on.ensures.capacity early)
+returns-in_err-sync_pages-clause-early g c e works early = absurd (not_early _ _ c.args.self.now.log refl c.in_ok-may_go_on.ensures.full c.in_ok-may_go_on.ensures.capacity e early)
 
 pub returns-clause-early : goal.returns-clause-early
-returns-clause-early g c works early = absurd (not_early _ _ _ _ refl c.in_ok-may_go_on.ensures.full c.in_ok-may_go_on.ensures.capacity early)
+returns-clause-early g c e works early = absurd (not_early _ _ c.args.self.now.log refl c.in_ok-may_go_on.ensures.full c.in_ok-may_go_on.ensures.capacity e early)
+
+pub returns-in_err-may_go_on-clause-full : goal.returns-in_err-may_go_on-clause-full
+returns-in_err-may_go_on-clause-full g c is =
+    let d = g.D.Disk in
+    let w = c.args.self.now in
+    let f = c.in_err-may_go_on.field-0.0 in
+    let one = may_refused d w c.args.disk.now f c.requires.ready c.if-self.false c.in_err-may_go_on.ensures.causes c.in_err-may_go_on.ensures.full c.in_err-may_go_on.ensures.capacity in
+    one.full (told_same c.from_residual.result f _ c.from_residual.ensures.1 is)
+
+pub returns-in_err-may_go_on-clause-last : goal.returns-in_err-may_go_on-clause-last
+returns-in_err-may_go_on-clause-last g c is =
+    let d = g.D.Disk in
+    let w = c.args.self.now in
+    let f = c.in_err-may_go_on.field-0.0 in
+    let one = may_refused d w c.args.disk.now f c.requires.ready c.if-self.false c.in_err-may_go_on.ensures.causes c.in_err-may_go_on.ensures.full c.in_err-may_go_on.ensures.capacity in
+    one.last (told_same c.from_residual.result f _ c.from_residual.ensures.1 is)
+
+pub returns-in_err-may_go_on-clause-device : goal.returns-in_err-may_go_on-clause-device
+returns-in_err-may_go_on-clause-device g c works =
+    let d = g.D.Disk in
+    let w = c.args.self.now in
+    let f = c.in_err-may_go_on.field-0.0 in
+    let one = may_refused d w c.args.disk.now f c.requires.ready c.if-self.false c.in_err-may_go_on.ensures.causes c.in_err-may_go_on.ensures.full c.in_err-may_go_on.ensures.capacity in
+    told_device c.from_residual.result f _ c.from_residual.ensures.1 one.device
+
+pub returns-in_err-may_go_on-clause-fails : goal.returns-in_err-may_go_on-clause-fails
+returns-in_err-may_go_on-clause-fails g c =
+    let d = g.D.Disk in
+    let w = c.args.self.now in
+    let f = c.in_err-may_go_on.field-0.0 in
+    let one = may_refused d w c.args.disk.now f c.requires.ready c.if-self.false c.in_err-may_go_on.ensures.causes c.in_err-may_go_on.ensures.full c.in_err-may_go_on.ensures.capacity in
+    err_on c.from_residual.result f _ c.from_residual.ensures.1 one.fails
+
+pub returns-in_err-flush_every-clause-full : goal.returns-in_err-flush_every-clause-full
+returns-in_err-flush_every-clause-full g c is =
+    let d = g.D.Disk in
+    let w = c.args.self.now in
+    let f = c.in_err-flush_every.field-0.0 in
+    let one = flush_refused d w f c.in_err-flush_every.ensures.outcome c.if-self.false in
+    one.full (told_same c.from_residual-in_err-flush_every.result f _ c.from_residual-in_err-flush_every.ensures.1 is)
+
+pub returns-in_err-flush_every-clause-last : goal.returns-in_err-flush_every-clause-last
+returns-in_err-flush_every-clause-last g c is =
+    let d = g.D.Disk in
+    let w = c.args.self.now in
+    let f = c.in_err-flush_every.field-0.0 in
+    let one = flush_refused d w f c.in_err-flush_every.ensures.outcome c.if-self.false in
+    one.last (told_same c.from_residual-in_err-flush_every.result f _ c.from_residual-in_err-flush_every.ensures.1 is)
+
+pub returns-in_err-flush_every-clause-device : goal.returns-in_err-flush_every-clause-device
+returns-in_err-flush_every-clause-device g c works =
+    let d = g.D.Disk in
+    let w = c.args.self.now in
+    let f = c.in_err-flush_every.field-0.0 in
+    let one = flush_refused d w f c.in_err-flush_every.ensures.outcome c.if-self.false in
+    told_device c.from_residual-in_err-flush_every.result f _ c.from_residual-in_err-flush_every.ensures.1 one.device
+
+pub returns-in_err-flush_every-clause-fails : goal.returns-in_err-flush_every-clause-fails
+returns-in_err-flush_every-clause-fails g c =
+    let d = g.D.Disk in
+    let w = c.args.self.now in
+    let f = c.in_err-flush_every.field-0.0 in
+    let one = flush_refused d w f c.in_err-flush_every.ensures.outcome c.if-self.false in
+    err_on c.from_residual-in_err-flush_every.result f _ c.from_residual-in_err-flush_every.ensures.1 one.fails
+
+pub returns-in_err-force-clause-full : goal.returns-in_err-force-clause-full
+returns-in_err-force-clause-full g c is =
+    let d = g.D.Disk in
+    let w = c.args.self.now in
+    let f = c.in_err-force.field-0.0 in
+    let one = log_refused d w f c.in_err-force.ensures.outcome c.in_ok-flush_every.ensures.outcome.ends.works in
+    one.full (told_same c.from_residual-in_err-force.result f _ c.from_residual-in_err-force.ensures.1 is)
+
+pub returns-in_err-force-clause-last : goal.returns-in_err-force-clause-last
+returns-in_err-force-clause-last g c is =
+    let d = g.D.Disk in
+    let w = c.args.self.now in
+    let f = c.in_err-force.field-0.0 in
+    let one = log_refused d w f c.in_err-force.ensures.outcome c.in_ok-flush_every.ensures.outcome.ends.works in
+    one.last (told_same c.from_residual-in_err-force.result f _ c.from_residual-in_err-force.ensures.1 is)
+
+pub returns-in_err-force-clause-device : goal.returns-in_err-force-clause-device
+returns-in_err-force-clause-device g c works =
+    let d = g.D.Disk in
+    let w = c.args.self.now in
+    let f = c.in_err-force.field-0.0 in
+    let one = log_refused d w f c.in_err-force.ensures.outcome c.in_ok-flush_every.ensures.outcome.ends.works in
+    told_device c.from_residual-in_err-force.result f _ c.from_residual-in_err-force.ensures.1 one.device
+
+pub returns-in_err-force-clause-fails : goal.returns-in_err-force-clause-fails
+returns-in_err-force-clause-fails g c =
+    let d = g.D.Disk in
+    let w = c.args.self.now in
+    let f = c.in_err-force.field-0.0 in
+    let one = log_refused d w f c.in_err-force.ensures.outcome c.in_ok-flush_every.ensures.outcome.ends.works in
+    err_on c.from_residual-in_err-force.result f _ c.from_residual-in_err-force.ensures.1 one.fails
+
+pub returns-in_err-sync_pages-clause-full : goal.returns-in_err-sync_pages-clause-full
+returns-in_err-sync_pages-clause-full g c is =
+    let d = g.D.Disk in
+    let w = c.args.self.now in
+    let f = c.in_err-sync_pages.field-0.0 in
+    let one = log_refused d w f c.in_err-sync_pages.ensures.outcome c.in_ok-force.ensures.outcome.ends.works in
+    one.full (told_same c.from_residual-in_err-sync_pages.result f _ c.from_residual-in_err-sync_pages.ensures.1 is)
+
+pub returns-in_err-sync_pages-clause-last : goal.returns-in_err-sync_pages-clause-last
+returns-in_err-sync_pages-clause-last g c is =
+    let d = g.D.Disk in
+    let w = c.args.self.now in
+    let f = c.in_err-sync_pages.field-0.0 in
+    let one = log_refused d w f c.in_err-sync_pages.ensures.outcome c.in_ok-force.ensures.outcome.ends.works in
+    one.last (told_same c.from_residual-in_err-sync_pages.result f _ c.from_residual-in_err-sync_pages.ensures.1 is)
+
+pub returns-in_err-sync_pages-clause-device : goal.returns-in_err-sync_pages-clause-device
+returns-in_err-sync_pages-clause-device g c works =
+    let d = g.D.Disk in
+    let w = c.args.self.now in
+    let f = c.in_err-sync_pages.field-0.0 in
+    let one = log_refused d w f c.in_err-sync_pages.ensures.outcome c.in_ok-force.ensures.outcome.ends.works in
+    told_device c.from_residual-in_err-sync_pages.result f _ c.from_residual-in_err-sync_pages.ensures.1 one.device
+
+pub returns-in_err-sync_pages-clause-fails : goal.returns-in_err-sync_pages-clause-fails
+returns-in_err-sync_pages-clause-fails g c =
+    let d = g.D.Disk in
+    let w = c.args.self.now in
+    let f = c.in_err-sync_pages.field-0.0 in
+    let one = log_refused d w f c.in_err-sync_pages.ensures.outcome c.in_ok-force.ensures.outcome.ends.works in
+    err_on c.from_residual-in_err-sync_pages.result f _ c.from_residual-in_err-sync_pages.ensures.1 one.fails
+
+pub returns-clause-last : goal.returns-clause-last
+returns-clause-last g c is =
+    let log = c.args.self.now.log in
+    let w = c.flush_every.new.self in
+    let same : generation_at c.sync_pages.new.self.log.gate ≡ generation_at log.gate = ap (λ (l : LogFile). generation_at l.gate) c.sync_pages.ensures.log ∙ c.force.ensures.generation ∙ c.in_ok-flush_every.ensures.outcome.ends.later.generation in
+    (gate_fits _ _ (next_gate log) refl c.in_ok-may_go_on.ensures.full, subst (λ (n : ℕ). 2 ^ 62 ≤ n + 1) same (c.turn.ensures.last is))
+
+pub returns-clause-fails : goal.returns-clause-fails
+returns-clause-fails g c = if_err c.turn.result _ _ c.turn.ensures.failed (λ e broken. inr broken)
+
+pub returns-clause-frames : goal.returns-clause-frames
+returns-clause-frames g c =
+    ap (λ (p : PoolView). p.frames) (c.turn.ensures.pool ∙ c.sync_pages.ensures.pool ∙ c.force.ensures.pool) ∙ c.in_ok-flush_every.ensures.outcome.frames

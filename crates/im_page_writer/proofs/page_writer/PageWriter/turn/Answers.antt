@@ -1,6 +1,9 @@
-use Rattle.std.proofs.Common.{refl, inl, inr, ⊎_elim, rules}
+use Rattle.std.proofs.Common.{◌≡◌, ◌+◌, Err, refl, sym, ap, subst, inl, inr, ⊎_elim, arith, rules}
+use Rattle.im_log_gate.specs.Gate.{place_of}
+use Rattle.im_log.specs.LogFile.{HasNoRoom}
+use Rattle.im_log.specs.GoingOn.{next_gate}
 use Rattle.im_page_writer.proofs.LoggedChanges.{err_on}
-use Rattle.im_page_writer.proofs.Switching.{turn_refuses, turn_stops, turned}
+use Rattle.im_page_writer.proofs.Switching.{no_room, told_device, told_same, turn_refuses, turn_stops, turned}
 use Rattle.im_page_writer.proofs.page_writer.PageWriter.turn.Goals as goal
 
 pub returns-in_err-go_on-clause-kept : goal.returns-in_err-go_on-clause-kept
@@ -26,3 +29,25 @@ returns-in_err-go_on-clause-causes g c =
     let f = c.in_err-go_on.field-0.0 in
     err_on c.from_residual.result f _ c.from_residual.ensures.1
     (turn_refuses g.D.Disk c.args.self.now.failed c.args.self.now.log c.go_on.new.self c.go_on.new.disk f c.requires.empty (c.requires.ready.works c.requires.working) c.in_err-go_on.ensures.causes c.in_err-go_on.ensures.full c.in_err-go_on.ensures.capacity c.in_err-go_on.ensures.already c.in_err-go_on.ensures.device (λ cause. (c.in_err-go_on.ensures.nothing (⊎_elim (λ e. inl e) (λ e. inr (inl e)) cause)).1))
+
+pub returns-in_err-go_on-clause-full : goal.returns-in_err-go_on-clause-full
+returns-in_err-go_on-clause-full g c is =
+    let e = c.in_err-go_on.ensures in
+    let f = c.in_err-go_on.field-0.0 in
+    let full = told_same c.from_residual.result f _ c.from_residual.ensures.1 is in
+    let log = c.args.self.now.log in
+    let works = c.requires.ready.works c.requires.working in
+    let gate : next_gate log ≡ log.base + place_of log.gate = rw c.requires.empty refl in
+    let above = (e.full.0 (ap Err full)).1 in
+    subst HasNoRoom (sym (e.nothing (inl full)).1) (no_room log works ((c.requires.ready.opened c.requires.working).working works) (omega (arith, gate, above)))
+
+pub returns-in_err-go_on-clause-last : goal.returns-in_err-go_on-clause-last
+returns-in_err-go_on-clause-last g c is = (c.in_err-go_on.ensures.capacity.0 (ap Err (told_same c.from_residual.result c.in_err-go_on.field-0.0 _ c.from_residual.ensures.1 is))).2
+
+pub returns-in_err-go_on-clause-device : goal.returns-in_err-go_on-clause-device
+returns-in_err-go_on-clause-device g c =
+    let device = c.in_err-go_on.ensures.device (c.requires.ready.works c.requires.working) in
+    told_device c.from_residual.result c.in_err-go_on.field-0.0 _ c.from_residual.ensures.1 (λ is. device.0 (ap Err is), λ failed. (let same = device.1 failed in cc same))
+
+pub returns-clause-device : goal.returns-clause-device
+returns-clause-device g c = c.in_ok-go_on.ensures.device (c.requires.ready.works c.requires.working)
