@@ -14,5 +14,5 @@ pub mod OpenChanges
 pub mod Orders
 pub mod Latest
 mod SyncedFiles
-mod FullLog
+pub mod FullLog
 pub mod Ends

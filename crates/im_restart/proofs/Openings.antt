@@ -9,7 +9,6 @@ use Rattle.im_base_types.specs.Records.{Logged}
 use Rattle.im_theory_log.specs.Tree.{Tree, TreeLaws}
 use Rattle.im_theory_log.specs.Histories.{Base, History, IsFront}
 use Rattle.im_theory_log.specs.Lawful.{IsLawful}
-use Rattle.im_theory_log.specs.PageCounts.{count_of}
 use Rattle.im_theory_log.proofs.Histories.{at_front}
 use Rattle.im_base_disk.specs.declared.disk.Disk.{Ghosts}
 use Rattle.im_base_disk.specs.Disk.{Files, Only}
@@ -29,7 +28,7 @@ use Rattle.im_log.specs.Kept.{HasLog, IsLogOf}
 use Rattle.im_log.proofs.Creations.{blank_has, not_both}
 use Rattle.im_log.proofs.Runs.{of_log}
 use Rattle.im_restart_analysis.specs.Analysis.{Continues}
-use Rattle.im_restart_analysis.specs.Orderly.{FitsBehind, IsOrderly, IsReadable, pages_at_first}
+use Rattle.im_restart_analysis.specs.Orderly.{FitsBehind, IsCountedBy, IsOrderly, IsReadable, pages_at_first}
 use Rattle.im_restart_analysis.proofs.LeadingDown.{logs_are_taken}
 use Rattle.im_restart.specs.declared.found.Found.{Found}
 use Rattle.im_restart.specs.Reading.{IsReadLog, OpenKept}
@@ -66,7 +65,7 @@ pub same_entry : (read : Option Entry) (some other : Entry) → read ≡ Some so
 same_entry read some other first second = let e : Some some ≡ Some other = sym first ∙ second in cc e
 
 -- each record of a lawful log is taken
-pub lawful_taken : (b : Base) (tree : Tree) (n : ℕ) → TreeLaws tree → count_of b ≤ n → (log : History) → IsLawful b tree log → AreTaken n log
+pub lawful_taken : (b : Base) (tree : Tree) (n : ℕ) → TreeLaws tree → IsCountedBy n b → (log : History) → IsLawful b tree log → AreTaken n log
 lawful_taken b tree n laws first [] law = tt
 lawful_taken b tree n laws first (r ∷ older) law = let this = logs_are_taken tree laws b n older r first law in (this.0, this.1, lawful_taken b tree n laws first older law.0)
 

@@ -3,7 +3,6 @@ use Rattle.std.specs.Prelude.{◌≡◌, ◌⊎◌, ◌+◌, ◌<◌, ◌≤◌,
 use Rattle.im_base_types.specs.declared.fault.Fault.{Fault}
 use Rattle.im_base_types.specs.declared.file_id.FileId.TheVariants.{Log, Pages}
 use Rattle.im_theory_log.specs.Histories.{Base, History, Rises, page_at}
-use Rattle.im_theory_log.specs.PageCounts.{count_of}
 use Rattle.im_theory_log.specs.Structure.{open_smo, settled}
 use Rattle.im_theory_log.specs.Transactions.{to_undo}
 use Rattle.im_base_types.specs.Keys.{Key}
@@ -26,7 +25,7 @@ use Rattle.im_theory_tree.specs.Theory.{page_tree}
 use Rattle.im_restart_analysis.specs.Analysis.{Continues}
 use Rattle.im_restart_analysis.specs.Losers.{is_loser}
 use Rattle.im_restart_analysis.specs.Numbers.{IsNextNumber}
-use Rattle.im_restart_analysis.specs.Orderly.{FitsBehind, IsOrderly, IsReadable, pages_at_first}
+use Rattle.im_restart_analysis.specs.Orderly.{FitsBehind, IsCounted, IsOrderly, IsReadable, pages_at_first}
 use Rattle.im_restart_redo.specs.Redo.{AreApplicable, applied_in, first_lsn}
 use Rattle.im_restart_undo.specs.Undoing.{CanNotSplit}
 use Rattle.im_restart.specs.declared.redo_report.RedoReport.{RedoReport}
@@ -48,7 +47,7 @@ IsFresh files = IsUnmade (files Log) × (length (files Pages) ≡ 0)
 abbrev pub SpellsLog : Files → Type 0
 SpellsLog files = IsFresh files ⊎ ((found : History) × HasLog (base_of (files Log)) found (files Log) × (IsReadable found → IsOrderly (pages_at_first (base_of (files Log))) found))
 
--- Analysis takes each record of the log: its LSN is above those before it, its page images are pages, nothing of its transaction has ended, it leads to earlier records alone, it opens no structure change beside another's, and a page that it names is below a page count that was said before it, or the count n that the log begins with.
+-- Analysis takes each record of the log: its LSN is above those before it, its page images are pages, nothing of its transaction has ended, it leads to earlier records alone, it opens no structure change beside another's, and a page that it names is below a page count that was said before it, or the count n that the log begins with, where that bounds it.
 abbrev pub AreTaken : ℕ → History → Type 0
 AreTaken n [] = Unit {0}
 AreTaken n (r ∷ older) = Continues r older × FitsBehind n r older × AreTaken n older
@@ -69,10 +68,10 @@ pub record HasStore (b : Base) (base : ℕ) (all : History) (files : Files) : Ty
   pub covers : Covers b all (file_page (files Pages))
   pub newest : IsNewest files
 
--- What a restart can start from: a lawful log that covers the pages. What the log is over has no LSN above its first byte, and says no more pages than such a log begins with.
+-- What a restart can start from: a lawful log that covers the pages. What the log is over has no LSN above its first byte, and, of a first log, says no more pages than such a one begins with.
 pub record MayRestart (b : Base) (base : ℕ) (all : History) (files : Files) : Type 0 where
   pub start : b.start ≤ base
-  pub counted : count_of b ≤ pages_at_first base
+  pub counted : IsCounted b base
   pub has : HasStore b base all files
   pub lawful : IsLawful b page_tree all
 

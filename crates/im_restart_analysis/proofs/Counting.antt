@@ -4,8 +4,9 @@ use Rattle.std.proofs.lemmas.Bool.{cases_eq, cond-true, cond-false, eq-eqb, ne_e
 use Rattle.std.proofs.lemmas.List.{get_or-append-add}
 use Rattle.im_base_types.specs.Pages.{Page}
 use Rattle.im_base_types.specs.Records.{Unreadable}
+use Rattle.im_theory_log.specs.Histories.{Base}
 use Rattle.im_theory_log.specs.PageCounts.{count_in, first_count}
-use Rattle.im_restart_analysis.specs.Orderly.{pages_at_first}
+use Rattle.im_restart_analysis.specs.Orderly.{IsCounted, IsCountedBy, pages_at_first}
 use Rattle.im_theory_page.specs.Number.{u32_at}
 use Rattle.im_theory_page.specs.Page.{is_form, page_of, said_by}
 use Rattle.im_log_record.specs.Entry as entries
@@ -14,11 +15,11 @@ use Rattle.im_log.specs.Whats.{page_behind, smo_of, undo_smo_of, what_of}
 
 -- ---- what a log begins with
 
--- no log begins with fewer pages than a first one
-pub pages_some : (base : ℕ) → first_count ≤ pages_at_first base
-pages_some base = elim (cases_eq base 0) [
-  | inl first ↦ (let is : pages_at_first base ≡ first_count = cond-true (base == 0) first_count (2 ^ 32 - 1) (eq-eqb base 0 first) in omega (arith, is))
-  | inr other ↦ (let is : pages_at_first base ≡ 2 ^ 32 - 1 = cond-false (base == 0) first_count (2 ^ 32 - 1) (ne_eqb base 0 other) in omega (arith, is))
+-- a log that goes on is bounded by nothing
+pub counted_by : (b : Base) (base : ℕ) → IsCounted b base → IsCountedBy (pages_at_first base) b
+counted_by b base counted = elim (cases_eq base 0) [
+  | inl first ↦ (let is : pages_at_first base ≡ first_count = cond-true (base == 0) first_count (2 ^ 32 - 1) (eq-eqb base 0 first) in let few = counted first in inl (omega (arith, is, few)))
+  | inr other ↦ (let is : pages_at_first base ≡ 2 ^ 32 - 1 = cond-false (base == 0) first_count (2 ^ 32 - 1) (ne_eqb base 0 other) in inr (omega (arith, is)))
 ]
 
 -- ---- what page 0 says, by the bytes behind its LSN

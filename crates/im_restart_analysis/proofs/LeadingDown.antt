@@ -1,16 +1,16 @@
 -- Each record of a lawful log leads to earlier ones.
-use Rattle.std.proofs.Common.{◌≡◌, ◌⊎◌, ◌<◌, ◌≤◌, ℕ, [], ◌∷◌, true, inl, inr, refl, ◌∙◌, ap, arith}
+use Rattle.std.proofs.Common.{◌≡◌, ◌⊎◌, ◌<◌, ◌≤◌, ◌-◌, ◌^◌, ℕ, [], ◌∷◌, true, inl, inr, refl, ◌∙◌, ap, arith}
 use Rattle.std.specs.Prelude.{◌==◌}
 use Rattle.std.proofs.lemmas.Bool.{cases_eq, cond-true, cond-false, eq-eqb, ne_eqb}
 use Rattle.im_base_types.specs.Records.{What, InsertKey, DeleteKey, UndoInsert, UndoDelete, Smo, UndoSmo, DummyClr, Commit, End, Image, Checkpoint, Unreadable, Logged}
 use Rattle.im_theory_log.specs.Tree.{Tree, TreeLaws}
 use Rattle.im_theory_log.specs.Histories.{Base, History, Rises, end_of}
-use Rattle.im_theory_log.specs.PageCounts.{count_of}
+use Rattle.im_theory_log.specs.PageCounts.{count_of, greatest_count}
 use Rattle.im_theory_log.specs.Transactions.{last_of}
 use Rattle.im_theory_log.specs.Lawful.{IsLawful, MayCome, has_owner}
 use Rattle.im_theory_log.proofs.Fronts.{rises}
-use Rattle.im_theory_log.proofs.PageCounts.{count_grows, record_within}
-use Rattle.im_restart_analysis.specs.Orderly.{IsEarlier, LeadsDown}
+use Rattle.im_theory_log.proofs.PageCounts.{count_begun, count_grows, record_within}
+use Rattle.im_restart_analysis.specs.Orderly.{IsCountedBy, IsEarlier, LeadsDown}
 use Rattle.im_restart_analysis.specs.Undo.{LawfulLogsAreTaken}
 use Rattle.im_restart_analysis.proofs.LawfulLogs.{taken_when_lawful}
 use Rattle.im_restart_analysis.proofs.Readings.{falls}
@@ -67,6 +67,11 @@ module _ (b : Base) (tree : Tree) (r : Logged) (older : History) (law : IsLawful
   pub lawful_leads_down : LeadsDown r
   lawful_leads_down = by_kind r.what refl law.1.may
 
+-- a page below what a log over b has said is below what one that begins with n has
+within_count : (b : Base) (n : ℕ) (r : Logged) (older : History) → IsCountedBy n b → r.page < greatest_count (count_of b) older → (r.page < greatest_count n older) ⊎ (2 ^ 32 - 1 ≤ greatest_count n older)
+within_count b n r older (inl first) within = let grows = count_grows (count_of b) n older first in inl (omega (arith, within, grows))
+within_count b n r older (inr last) within = let begun = count_begun n older in inr (omega (arith, last, begun))
+
 -- so analysis takes it
 pub logs_are_taken : (tree : Tree) → TreeLaws tree → LawfulLogsAreTaken tree
 logs_are_taken tree laws b n older r first law =
@@ -75,6 +80,6 @@ logs_are_taken tree laws b n older r first law =
       record {
         leads = lawful_leads_down b tree r older law;
         alone = taken.1;
-        counted = λ names. (let within = record_within b tree laws r older law names in let grows = count_grows (count_of b) n older first in omega (arith, within, grows));
+        counted = λ names. within_count b n r older first (record_within b tree laws r older law names);
       },
     )

@@ -1,15 +1,15 @@
 -- What the records of a log have to be for analysis to take them all: chains lead down, one structure change is open at a time, and the pages
--- that they name are below a page count that the log has said, or the count n that it begins with.
+-- that they name are below a page count that the log has said, or the count n that it begins with, where that bounds them.
 use Rattle.std.specs.Prelude.{◌≡◌, ◌≢◌, ◌≤◌, ◌<◌, ◌⊎◌, ◌-◌, ◌^◌, ◌==◌, if◌then◌else◌, ℕ, true, [], ◌∷◌, Result, Err, OnOk}
 use Rattle.im_base_types.specs.declared.fault.Fault.{Fault}
 use Rattle.im_base_types.specs.declared.fault.Fault.TheVariants.{NotAStore}
 use Rattle.im_base_types.specs.Records.{Logged, Unreadable}
-use Rattle.im_theory_log.specs.Histories.{History}
-use Rattle.im_theory_log.specs.PageCounts.{first_count, greatest_count, names_page}
+use Rattle.im_theory_log.specs.Histories.{Base, History}
+use Rattle.im_theory_log.specs.PageCounts.{count_of, first_count, greatest_count, names_page}
 use Rattle.im_restart_analysis.specs.declared.analysis.Analysis.{Analysis}
 use Rattle.im_restart_analysis.specs.OpenChange.{IsOpenChange, OpensAnother}
 
--- The page count that a log begins with at most, by the LSN of its first byte: that of a first log, which begins at 0, and the greatest that a page may say of one that goes on.
+-- The page count that a log begins with at most, by the LSN of its first byte: that of a first log, which begins at 0, and the greatest that a page can say, which bounds nothing, of one that goes on.
 abbrev pub pages_at_first : ℕ → ℕ
 pages_at_first base = if base == 0 then first_count else 2 ^ 32 - 1
 
@@ -21,9 +21,17 @@ IsEarlier named lsn = (named ≡ 0) ⊎ (named < lsn)
 abbrev pub LeadsDown : Logged → Type 0
 LeadsDown r = 1 ≤ r.txn → IsEarlier r.prev r.lsn × IsEarlier r.undo_next r.lsn
 
--- A record that names a page names one below a page count that was said before it.
+-- What a log is over says no more pages than a first log begins with, where it is one.
+abbrev pub IsCounted : Base → ℕ → Type 0
+IsCounted b base = base ≡ 0 → count_of b ≤ first_count
+
+-- What a log is over says no more pages than n, where that bounds them.
+abbrev pub IsCountedBy : ℕ → Base → Type 0
+IsCountedBy n b = (count_of b ≤ n) ⊎ (2 ^ 32 - 1 ≤ n)
+
+-- A record that names a page names one below a page count that was said before it. The greatest that a page can say bounds nothing.
 abbrev pub NamesCounted : ℕ → Logged → History → Type 0
-NamesCounted n r older = names_page r.what ≡ true → r.page < greatest_count n older
+NamesCounted n r older = names_page r.what ≡ true → (r.page < greatest_count n older) ⊎ (2 ^ 32 - 1 ≤ greatest_count n older)
 
 -- The record leads down, opens no structure change beside another transaction's, and names no page that no page count has.
 pub record FitsBehind (n : ℕ) (r : Logged) (older : History) : Type 0 where

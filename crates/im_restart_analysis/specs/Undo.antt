@@ -4,7 +4,6 @@ use Rattle.im_base_types.specs.Pages.{Body}
 use Rattle.im_base_types.specs.Records.{What, InsertKey, DeleteKey, UndoInsert, UndoDelete, Smo, UndoSmo, DummyClr, End, Unreadable, Logged}
 use Rattle.im_theory_log.specs.Tree.{Tree}
 use Rattle.im_theory_log.specs.Histories.{History, Base, IsRecordOf, end_of}
-use Rattle.im_theory_log.specs.PageCounts.{count_of}
 use Rattle.im_theory_log.specs.Structure.{open_smo}
 use Rattle.im_theory_log.specs.Transactions.{last_of, undo_next_of, to_undo, undo_reads, reads_on, is_key, committed}
 use Rattle.im_theory_log.specs.Lawful.{IsLawful}
@@ -13,7 +12,7 @@ use Rattle.im_log_record.specs.Entry.{Entry, prev_of, undo_next_of as named_next
 use Rattle.im_log.specs.Whats.{what_of}
 use Rattle.im_restart_analysis.specs.Losers.{is_loser, row_of}
 use Rattle.im_restart_analysis.specs.Analysis.{Continues}
-use Rattle.im_restart_analysis.specs.Orderly.{FitsBehind}
+use Rattle.im_restart_analysis.specs.Orderly.{FitsBehind, IsCountedBy}
 
 -- ---- what is left
 
@@ -151,6 +150,6 @@ pub record UndoGoesOn (tree : Tree) : Type 0 where
   -- no loser is left: the tree has the committed effects alone
   pub finishes : (b : Base) (log : History) → IsLawful b tree log → ((t : ℕ) → is_loser t log ≡ false) → HoldsCommitted b tree log
 
--- Each record of a lawful log is taken by analysis, and never refused as no store, where the page count that analysis begins with is no less than that of the pages that the log is over.
+-- Each record of a lawful log is taken by analysis, and never refused as no store, where the page count that analysis begins with is no less than that of the pages that the log is over, or bounds nothing.
 abbrev pub LawfulLogsAreTaken : Tree → Type 0
-LawfulLogsAreTaken tree = (b : Base) (n : ℕ) (older : History) (r : Logged) → count_of b ≤ n → IsLawful b tree (r ∷ older) → Continues r older × FitsBehind n r older
+LawfulLogsAreTaken tree = (b : Base) (n : ℕ) (older : History) (r : Logged) → IsCountedBy n b → IsLawful b tree (r ∷ older) → Continues r older × FitsBehind n r older

@@ -1,6 +1,6 @@
 //! The page count that the records so far said, and the pages that records name.
 
-ghost use Rattle.std.specs.Prelude.{◌≡◌, ◌≢◌, ◌<◌, ◌↔◌, ◌==◌, ℕ, ◌∷◌, if◌then◌else◌, IsTrue, Some, None, slice_index};
+ghost use Rattle.std.specs.Prelude.{◌≡◌, ◌≢◌, ◌⊎◌, ◌<◌, ◌≤◌, ◌-◌, ◌^◌, ◌↔◌, ◌==◌, ℕ, ◌∷◌, if◌then◌else◌, IsTrue, Some, None, slice_index};
 ghost use Rattle.im_base_types.specs.Records.{Unreadable};
 ghost use Rattle.im_theory_log.specs.Histories.{History};
 ghost use Rattle.im_theory_log.specs.PageCounts.{count_in, greatest_count, names_page};
@@ -96,13 +96,20 @@ fn named_page(record: &Record) -> Option<PageNo>
     }
 }
 
-/// Whether the page that the record names, if it names one, is below the page count.
+// Whether a page is below a page count; the greatest one bounds nothing.
+fn is_below(page: PageNo, count: PageNo) -> bool
+    ensures { IsTrue result ↔ ((page < count) ⊎ (2 ^ 32 - 1 ≤ count)) }
+{
+    page < count || count == PageNo::MAX
+}
+
+/// Whether the page that the record names, if it names one, is below the page count, where that bounds it.
 pub fn names_counted(count: PageNo, record: &Record) -> bool
     ensures { (n lsn : ℕ) (older : History) → count ≡ greatest_count n older → what_of (view record.now) ≢ Unreadable
         → IsTrue result ↔ NamesCounted n (logged_at lsn (view record.now)) older }
 {
     match named_page(record) {
         None => true,
-        Some(page) => page < count,
+        Some(page) => is_below(page, count),
     }
 }

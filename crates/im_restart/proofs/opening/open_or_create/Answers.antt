@@ -6,6 +6,7 @@ use Rattle.im_page_writer.proofs.Outcomes.{sound_also, sound_on}
 use Rattle.im_theory_tree.specs.Theory.{page_tree}
 use Rattle.im_theory_tree.proofs.TheoryLaws.{page_tree_laws}
 use Rattle.im_restart_analysis.specs.Orderly.{pages_at_first}
+use Rattle.im_restart_analysis.proofs.Counting.{counted_by}
 use Rattle.im_restart.specs.Restart.{RunsOut}
 use Rattle.im_restart.proofs.Ends.{opens_read, opens_refused, read_cause}
 use Rattle.im_restart.proofs.Openings.{holds_if_ok, lawful_taken}
@@ -22,7 +23,7 @@ pub returns-in_err-found-clause-kept : goal.returns-in_err-found-clause-kept
 returns-in_err-found-clause-kept g c b base all told may =
     let d = g.D.Disk in
     let old = c.args.disk.now in
-    let k = c.in_err-found.ensures.kept base all told may.has.log may.has.bare (lawful_taken b page_tree (pages_at_first base) page_tree_laws may.counted all may.lawful) in
+    let k = c.in_err-found.ensures.kept base all told may.has.log may.has.bare (lawful_taken b page_tree (pages_at_first base) page_tree_laws (counted_by b base may.counted) all may.lawful) in
     record {
       sound = sound_on c.from_residual.result _ _ c.from_residual.ensures.1 k.cause;
       stops = left_opening d b base all old c.open_log.new.disk (g.met.D.Disk.only_now old) told (c.requires.synced Log) (c.requires.synced Pages) (c.requires.synced Log2) may k.stops c.in_err-found.ensures.reads;
@@ -33,7 +34,7 @@ returns-clause-kept g c b base all told may =
     let d = g.D.Disk in
     let old = c.args.disk.now in
     let mid = c.open_log.new.disk in
-    let k = c.in_ok-found.ensures.kept base all told may.has.log may.has.bare (lawful_taken b page_tree (pages_at_first base) page_tree_laws may.counted all may.lawful) in
+    let k = c.in_ok-found.ensures.kept base all told may.has.log may.has.bare (lawful_taken b page_tree (pages_at_first base) page_tree_laws (counted_by b base may.counted) all may.lawful) in
     let opening = left_opening d b base all old mid (g.met.D.Disk.only_now old) told (c.requires.synced Log) (c.requires.synced Pages) (c.requires.synced Log2) may k.stops c.in_ok-found.ensures.reads in
     let behind = may_behind d b base all old mid c.in_ok-found.found.log may c.in_ok-found.ensures.changes c.in_ok-found.ensures.reads k.ok.log in
     let r = c.restart_tested.ensures.kept b base all behind (pages_synced d b base all old mid c.in_ok-found.ensures.changes (c.requires.synced Pages)) (other_synced d b base all old mid c.in_ok-found.ensures.changes (c.requires.synced Log2)) k.ok in
@@ -81,6 +82,6 @@ returns-clause-used_up g c b base all told may =
     let d = g.D.Disk in
     let old = c.args.disk.now in
     let mid = c.open_log.new.disk in
-    let k = c.in_ok-found.ensures.kept base all told may.has.log may.has.bare (lawful_taken b page_tree (pages_at_first base) page_tree_laws may.counted all may.lawful) in
+    let k = c.in_ok-found.ensures.kept base all told may.has.log may.has.bare (lawful_taken b page_tree (pages_at_first base) page_tree_laws (counted_by b base may.counted) all may.lawful) in
     let behind = may_behind d b base all old mid c.in_ok-found.found.log may c.in_ok-found.ensures.changes c.in_ok-found.ensures.reads k.ok.log in
     c.restart_tested.ensures.used_up b base all behind (pages_synced d b base all old mid c.in_ok-found.ensures.changes (c.requires.synced Pages)) (other_synced d b base all old mid c.in_ok-found.ensures.changes (c.requires.synced Log2)) k.ok
