@@ -2,7 +2,7 @@
 use Rattle.std.proofs.Common.{◌≡◌, ◌⊎◌, inl, inr, ⊎_elim, ℕ, Bool, true, false, true≢false, List, [], ◌∷◌, ◌++◌, Contains, None, refl, sym, ◌∙◌, ap, subst, arith}
 use Rattle.std.specs.Prelude.{if◌then◌else◌, ◌||◌, ◌==◌}
 use Rattle.std.proofs.lemmas.List.Elements.{Contains-append_left, Contains-append_right, Contains-append_cases, Contains-push_cases}
-use Rattle.im_base_types.specs.Answers.{Insert, Delete, Step, Begin, Do, Commit, Rollback, Continue, FlushPage, Force, Checkpoint, Reply, Started, Inserted, Deleted, Committed, RolledBack, More, Die, Done, Refused}
+use Rattle.im_base_types.specs.Answers.{Insert, Delete, Step, Begin, Do, Commit, Rollback, Continue, FlushPage, Force, Checkpoint, Switch, Reply, Started, Inserted, Deleted, Committed, RolledBack, More, Die, Done, Refused}
 use Rattle.im_base_types.specs.Lives.{Asked, Shown, NoneAcked, all_acked, answered, asks, breaks, cut_off, effect_asked, refused, shows}
 use Rattle.im_base_types.specs.Refusals.{memory, unfinished}
 
@@ -62,6 +62,7 @@ cut_stays t s = go s.failed
 pub answered_stays : (step : Step) (reply : Reply) (s : Shown) → StayAcked s.asked (answered step reply s).asked
 answered_stays (FlushPage p) (Refused n) s = all_stay s.asked
 answered_stays Checkpoint (Refused n) s = all_stay s.asked
+answered_stays Switch (Refused n) s = all_stay s.asked
 answered_stays (Commit t) (Refused n) s = refused_stays t n s
 answered_stays (Commit t) Committed s = asking_stays t true s
 answered_stays (Commit t) More s = asking_stays t false s

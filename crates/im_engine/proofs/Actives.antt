@@ -10,7 +10,7 @@ use Rattle.im_base_types.specs.declared.fault.Fault.TheVariants.{Failed}
 use Rattle.im_base_lock.specs.Locks.{Lock}
 use Rattle.im_base_lock.specs.View.{View, broken}
 use Rattle.im_base_steps.specs.Store as front
-use Rattle.im_base_lock.specs.Machine.{barred, Answers, Goes, Moves, begins, does, waits, dies, commits, queues, drops, turns, undoes, ends, puts_later, puts, drops_first, drops_leaf, takes_later, takes_first, takes_leaf, takes_last, logs_page, tree_blocks, tree_halts, flushes, forces, checkpoints, lacks, breaks}
+use Rattle.im_base_lock.specs.Machine.{barred, Answers, Goes, Moves, begins, does, waits, dies, commits, queues, drops, turns, undoes, ends, puts_later, puts, drops_first, drops_leaf, takes_later, takes_first, takes_leaf, takes_last, logs_page, tree_blocks, tree_halts, flushes, forces, checkpoints, switches, lacks, breaks}
 use Rattle.im_base_steps.specs.declared.step.Step as steps
 use Rattle.im_base_types.specs.declared.fault.Fault.{Fault}
 use Rattle.im_base_types.specs.declared.fault.Fault.TheVariants as faults
@@ -55,6 +55,7 @@ refused_goes v w step n (tree_halts u x b under other d e) = cc d
 refused_goes v w step n (flushes p s r e) = ap (λ (x : View). x.active) e
 refused_goes v w step n (forces s r e) = cc r
 refused_goes v w step n (checkpoints s r e) = ap (λ (x : View). x.active) e
+refused_goes v w step n (switches s r e) = ap (λ (x : View). x.active) e
 refused_goes v w step n (lacks f wants r e) = ap (λ (x : View). x.active) e
 refused_goes v w step n (breaks f ls is r e) = ap (λ (x : View). x.active) e
 

@@ -6,12 +6,12 @@ use Rattle.std.proofs.lemmas.Bool.{eq-eqb}
 use Rattle.im_base_types.specs.Maps.{IndexMap}
 use Rattle.im_base_types.specs.Changes.{Effect, apply, apply_all}
 use Rattle.im_base_types.proofs.Changes.{apply_all_append, apply_seen}
-use Rattle.im_base_types.specs.Answers.{Access, Step, Begin, Do, Commit, Rollback, Continue, FlushPage, Force, Checkpoint, Reply, Refused, Done, Going, Committing, answer, is_answer, map_after, map_after_all, replay, Insert, Delete, More, BlockedTree}
+use Rattle.im_base_types.specs.Answers.{Access, Step, Begin, Do, Commit, Rollback, Continue, FlushPage, Force, Checkpoint, Switch, Reply, Refused, Done, Going, Committing, answer, is_answer, map_after, map_after_all, replay, Insert, Delete, More, BlockedTree}
 use Rattle.im_base_types.specs.Lives.{Asked, Shown, effects, shows}
 use Rattle.im_base_lock.specs.Locks.{Lock}
 use Rattle.im_base_types.specs.Refusals.{failed as has_failed}
 use Rattle.im_base_lock.specs.View.{View, pending_of, Txn, did, did_txn, forced_by, is_among, nets_of}
-use Rattle.im_base_lock.specs.Machine.{Moves, Answers, Goes, begins, does, waits, dies, commits, queues, drops, turns, undoes, ends, puts_later, puts, drops_first, drops_leaf, takes_later, takes_first, takes_leaf, takes_last, logs_page, tree_blocks, tree_halts, flushes, forces, checkpoints, lacks, breaks, barred, fault_if, Run, start}
+use Rattle.im_base_lock.specs.Machine.{Moves, Answers, Goes, begins, does, waits, dies, commits, queues, drops, turns, undoes, ends, puts_later, puts, drops_first, drops_leaf, takes_later, takes_first, takes_leaf, takes_last, logs_page, tree_blocks, tree_halts, flushes, forces, checkpoints, switches, lacks, breaks, barred, fault_if, Run, start}
 use Rattle.im_base_lock.specs.Isolation.{access_of, pending_after, finished_from, finished, IsReplay}
 use Rattle.im_base_lock.proofs.Callers.{Run-push}
 use Rattle.im_base_lock.proofs.Theorem.{going_replay, after_story}
@@ -80,6 +80,7 @@ goes_granted v w t a reply is (tree_halts u x b under other d e) = absurd (cc b)
 goes_granted v w t a reply is (flushes p same told next) = absurd (cc same)
 goes_granted v w t a reply is (forces same told next) = absurd (cc same)
 goes_granted v w t a reply is (checkpoints same told next) = absurd (cc same)
+goes_granted v w t a reply is (switches same told next) = absurd (cc same)
 goes_granted v w t a reply is (lacks fault wants told next) = no_answer reply _ told refl is
 goes_granted v w t a reply is (breaks fault ls broke told next) = no_answer reply _ told refl is
 
@@ -177,3 +178,4 @@ module _ (before : List Effect) (s : Shown) (v w : View) (lived : IsLived (apply
   answers_alone (FlushPage p) reply moves = tt
   answers_alone Force reply moves = tt
   answers_alone Checkpoint reply moves = tt
+  answers_alone Switch reply moves = tt

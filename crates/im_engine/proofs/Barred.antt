@@ -3,7 +3,7 @@ use Rattle.std.proofs.Common.{◌≡◌, ◌⊎◌, inl, inr, ℕ, List, Bool, t
 use Rattle.std.specs.Prelude.{◌||◌, ◌==◌, if◌then◌else◌}
 use Rattle.std.specs.FinMap.{empty}
 use Rattle.im_base_types.specs.Answers as answers
-use Rattle.im_base_types.specs.Answers.{Step, Begin, Do, Commit, Rollback, Continue, FlushPage, Force, Checkpoint, Reply, Refused, Mark}
+use Rattle.im_base_types.specs.Answers.{Step, Begin, Do, Commit, Rollback, Continue, FlushPage, Force, Checkpoint, Switch, Reply, Refused, Mark}
 use Rattle.im_base_types.specs.Changes.{Effect, apply_all}
 use Rattle.im_theory_log.specs.Histories.{Base}
 use Rattle.im_base_types.specs.Refusals.{memory, unfinished, failed as has_failed}
@@ -28,6 +28,8 @@ use Rattle.im_engine.specs.Running.{IsRunning, IsLife}
 use Rattle.im_engine.specs.Kept.{StepKept}
 use Rattle.im_engine.proofs.Running.{allowed_as, idle_stops, runs_on, checks_tell}
 use Rattle.im_engine.proofs.Grown.{no_images}
+use Rattle.im_base_two_logs.proofs.Runs.{unnamed}
+use Rattle.im_engine.proofs.Named.{allowed_nameless}
 use Rattle.im_engine.proofs.Made.{step_made}
 use Rattle.im_engine.proofs.Refused.{none_done}
 use Rattle.im_engine.proofs.Ending.{cut_leaves}
@@ -42,6 +44,7 @@ cut_any d before s (Continue t) old new leaves = leaves
 cut_any d before s (FlushPage p) old new leaves = leaves
 cut_any d before s Force old new leaves = leaves
 cut_any d before s Checkpoint old new leaves = leaves
+cut_any d before s Switch old new leaves = leaves
 
 -- an engine that has failed asks nothing
 failed_asks : (s : Shown) (step : Step) → s.failed ≡ true → (shows s step (Some (Refused has_failed))).asked ≡ s.asked
@@ -53,6 +56,7 @@ failed_asks s (Continue t) is = refl
 failed_asks s (FlushPage p) is = refl
 failed_asks s Force is = refl
 failed_asks s Checkpoint is = refl
+failed_asks s Switch is = refl
 
 pub first_failed : (active : ℕ) (mark : Mark) (owns : Bool) (step : Step) → first_check true active mark owns step ≡ Some has_failed
 first_failed active mark owns Begin = refl
@@ -63,6 +67,7 @@ first_failed active mark owns (Continue t) = refl
 first_failed active mark owns (FlushPage p) = refl
 first_failed active mark owns Force = refl
 first_failed active mark owns Checkpoint = refl
+first_failed active mark owns Switch = refl
 
 module _ {D : Type 0} (d : Ghosts D) (before : List Effect) (s : Shown) (v : View) (step : Step) (e : Engine D d) (life : IsLife d before s v e) (only_now : (c : Files) → d.left_since e.disk (d.moment e.disk) c → d.may_leave e.disk c) where
   stops_here : LeavesOnly d e.disk e.disk (Allowed before s)
@@ -82,7 +87,7 @@ module _ {D : Type 0} (d : Ghosts D) (before : List Effect) (s : Shown) (v : Vie
           lived = on.1;
           running = λ works. let never : true ≡ false = sym fails ∙ works in cc;
         };
-        stops = cut_any d before s step e.disk e.disk stops_here;
+        stops = unnamed d (Allowed before (shows s step None)) (allowed_nameless before (shows s step None)) e.disk e.disk (cut_any d before s step e.disk e.disk stops_here);
         done = none_done d before (shows s step (Some (Refused has_failed))) v step has_failed e;
         grown = λ works. let never : true ≡ false = sym fails ∙ works in cc;
       }

@@ -1,27 +1,32 @@
 -- Why a step is refused, from how the calls within it ended.
-use Rattle.std.proofs.Common.{◌≡◌, ◌≢◌, ◌⊎◌, inl, inr, ⊎_elim, ℕ, ◌^◌, ◌<◌, ◌≤◌, Bool, true, false, length, Option, None, Some, refl, sym, ap, subst, ◌∙◌, arith}
+use Rattle.std.proofs.Common.{◌≡◌, ◌≢◌, ◌⊎◌, inl, inr, ⊎_elim, ℕ, ◌+◌, ◌^◌, ◌<◌, ◌≤◌, Bool, true, false, length, Option, None, Some, refl, sym, ap, subst, ◌∙◌, arith}
 use Rattle.std.specs.Prelude.{◌↔◌, find}
+use Rattle.std.proofs.lemmas.Bool.{cases_lt}
 use Rattle.im_base_types.specs.Answers as answers
 use Rattle.im_base_types.specs.declared.fault.Fault.{Fault}
 use Rattle.im_base_types.specs.declared.fault.Fault.TheVariants.{PagesFull, Capacity, LogFull, Device, Memory, Failed, NotAStore}
 use Rattle.im_base_types.specs.Keys.{Key}
 use Rattle.im_base_disk.specs.declared.disk.Disk.{Ghosts}
+use Rattle.im_log_gate.specs.Gate.{generation_at}
 use Rattle.im_log_record.specs.Spelling.{size_of}
+use Rattle.im_log.specs.GoingOn.{next_gate}
 use Rattle.im_log.specs.declared.log_file.LogFile.{LogFile}
 use Rattle.im_log.specs.LogFile.{end_with}
 use Rattle.im_page_writer.specs.declared.page_writer.PageWriter.{PageWriter}
 use Rattle.im_page_writer.specs.Outcome.{AreLoaded, AsksNothing, Ends, LogEnds, mild, none_mild}
+use Rattle.im_page_writer.specs.Switching.{MayNotGoOn, RefusesSwitch}
 use Rattle.im_engine_index.specs.Outcomes.{seek_at}
 use Rattle.im_base_txn.specs.declared.transaction.Transaction.{Transaction}
 use Rattle.im_base_txn.specs.Rows.{is_of}
-use Rattle.im_base_lock.specs.Machine.{first_check, mark_for}
+use Rattle.im_base_types.specs.Faults.{number_of}
+use Rattle.im_base_lock.specs.Machine.{Breaks, first_check, mark_for}
 use Rattle.im_theory_steps.specs.Checks.{checked_by, marks_in}
 use Rattle.im_base_types.specs.declared.fault.Fault.TheVariants as faults
 use Rattle.im_base_steps.specs.declared.reply.Reply.{Reply}
 use Rattle.im_base_steps.specs.declared.reply.Reply.TheVariants.{Refused}
 use Rattle.im_engine.specs.declared.engine.Engine.{Engine}
-use Rattle.im_engine.specs.Faults.{told_as}
-use Rattle.im_engine.specs.Told.{Where, Checked, HasLogged, IsFor, OfForce, Refuses, ReadCause, FlushCause, DeleteCause, InsertCause, check_of, checkpoint_of}
+use Rattle.im_engine.specs.Faults.{told_as, ends_engine}
+use Rattle.im_engine.specs.Told.{Where, Checked, HasLogged, IsFor, OfForce, Refuses, ReadCause, FlushCause, DeleteCause, InsertCause, SwitchCause, CallsDevice, EndsNearTop, IsLastLog, check_of, checkpoint_of}
 use Rattle.im_engine.proofs.Telling.{not_true}
 
 -- ---- one check after another
@@ -210,3 +215,66 @@ module _ {D : Type 0} (d : Ghosts D) (old : Engine D d) (log : LogFile) (disk : 
       → ((Refused told ≡ Refused fault) ↔ Refuses d (Refused told) old log disk fault answers.Checkpoint)
   checkpoint_lost f told is (inl full) over fault = past (not_true (d.failed disk) full.1) (here (over full.0) (named told fault faults.LogFull (is ∙ ap told_as full.0)))
   checkpoint_lost f told is (inr lost) over fault = here lost.1 (named told fault faults.Device (is ∙ ap told_as lost.0))
+
+-- ---- a Switch
+
+module _ {D : Type 0} (d : Ghosts D) (old : Engine D d) (log : LogFile) (disk : D) where
+  -- whether a next log may come, before any call
+  may_go_on : EndsNearTop d old ⊎ (IsLastLog d old × (next_gate old.writer.log + 47 ≤ 2 ^ 62)) ⊎ ((EndsNearTop d old → ⊥) × (IsLastLog d old → ⊥))
+  may_go_on = elim (cases_lt (2 ^ 62) (next_gate old.writer.log + 47)) [
+    | inl over ↦ inl over
+    | inr under ↦ elim (cases_lt (generation_at old.writer.log.gate + 1) (2 ^ 62)) [
+      | inl more ↦ inr (inr ((λ over. omega (arith, under, over)), (λ last. omega (arith, more, last))))
+      | inr last ↦ inr (inl (last, under))
+    ]
+  ]
+
+  -- none came for which this was so
+  pub goes_on : ((e : Fault) → MayNotGoOn old.writer.log e → ⊥) → (EndsNearTop d old → ⊥) × (IsLastLog d old → ⊥)
+  goes_on early = elim may_go_on [
+    | inl over ↦ absurd (early LogFull over)
+    | inr (inl last) ↦ absurd (early Capacity (last.1, last.0))
+    | inr (inr both) ↦ both
+  ]
+
+  -- no call was made where none may come
+  pub switch_quiet : ((e : Fault) → MayNotGoOn old.writer.log e → disk ≡ old.disk) → (CallsDevice d answers.Switch old → ⊥) → disk ≡ old.disk
+  switch_quiet early idle = elim may_go_on [
+    | inl over ↦ early LogFull over
+    | inr (inl last) ↦ early Capacity (last.1, last.0)
+    | inr (inr both) ↦ absurd (idle both)
+  ]
+
+  -- the log went on
+  pub switch_made : (reply : Reply) → (EndsNearTop d old → ⊥) × (IsLastLog d old → ⊥) → ((x : Fault) → reply ≢ Refused x) → (fault : Fault) → ((reply ≡ Refused fault) ↔ Refuses d reply old log disk fault answers.Switch)
+  switch_made reply may not fault = past may.0 (past may.1 (λ e. absurd (not fault e), λ y. y.0))
+
+  -- and where it was refused
+  module _ (f : Fault) (told : Fault) (is : told ≡ told_as f) (early : (e : Fault) → MayNotGoOn old.writer.log e → f ≡ e) (last : f ≡ Capacity → MayNotGoOn old.writer.log Capacity) (causes : RefusesSwitch d false log disk f) where
+    begun_cause : (IsLastLog d old → ⊥) → (g : Fault) → f ≡ g → RefusesSwitch d false log disk g → SwitchCause d log disk (told_as g)
+    begun_cause more Device same cause = cause
+    begun_cause more LogFull same cause = cause
+    begun_cause more Capacity same cause = absurd (more (last same).1)
+    begun_cause more Failed same cause = absurd (not_true false refl cause)
+    begun_cause more g same cause = absurd cause
+
+    pub switch_lost : (fault : Fault) → ((Refused told ≡ Refused fault) ↔ Refuses d (Refused told) old log disk fault answers.Switch)
+    switch_lost fault = elim may_go_on [
+      | inl over ↦ here over (named told fault faults.LogFull (is ∙ ap told_as (early LogFull over)))
+      | inr (inl top) ↦ past (λ over. (let under = top.1 in omega (arith, under, over))) (here top.0 (named told fault faults.Capacity (is ∙ ap told_as (early Capacity (top.1, top.0)))))
+      | inr (inr both) ↦ past both.0 (past both.1 (λ e. (e, subst (SwitchCause d log disk) (sym is ∙ refused_inj told fault e) (begun_cause both.1 f refl causes)), λ y. y.0))
+    ]
+
+-- how it ends, where it was refused
+module _ {D : Type 0} (d : Ghosts D) (log : LogFile) (disk : D) where
+  pub switch_ends : (f : Fault) → RefusesSwitch d false log disk f → true ≡ ends_engine f
+  switch_ends PagesFull cause = absurd cause
+  switch_ends Memory cause = absurd cause
+  switch_ends f cause = refl
+
+  pub switch_breaks : (f : Fault) → RefusesSwitch d false log disk f → Breaks (number_of (told_as f))
+  switch_breaks Capacity cause = inl refl
+  switch_breaks LogFull cause = inr (inl refl)
+  switch_breaks Device cause = inr (inr (inl refl))
+  switch_breaks Failed cause = absurd (not_true false refl cause)
+  switch_breaks f cause = absurd cause

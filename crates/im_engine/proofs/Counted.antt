@@ -6,7 +6,7 @@ use Rattle.im_theory_log.proofs.LogLaws.{at_most_once}
 use Rattle.std.specs.Prelude.{None}
 use Rattle.im_base_disk.specs.declared.disk.Disk.{Ghosts}
 use Rattle.im_base_disk.specs.Disk.{Files}
-use Rattle.im_base_disk.proofs.Runs.{weakened}
+use Rattle.im_engine.proofs.NamedRuns.{named_weakened}
 use Rattle.im_theory_tree.specs.Theory.{page_tree}
 use Rattle.im_engine.specs.Stands.{Allowed}
 use Rattle.im_engine.specs.Kept.{disk_of}
@@ -23,8 +23,8 @@ lives_counted d before s v e life c left = allowed_counted before s c (life.stop
 
 pub steps_counted : {D : Type 0} (d : Ghosts D) → StepsAreCounted d
 steps_counted d before s v step reply old new kept =
-    weakened d old.disk new.disk (Allowed before (shows s step None)) AreCountedFiles kept.stops (λ told c is. allowed_counted before (shows s step None) c is)
+    named_weakened d old.disk new.disk (Allowed before (shows s step None)) AreCountedFiles kept.stops (λ told c is. allowed_counted before (shows s step None) c is)
 
 pub openings_counted : {D : Type 0} (d : Ghosts D) → OpeningsAreCounted d
 openings_counted d before old stands result kept =
-    weakened d old (disk_of d result) (Allowed before nothing_shown) AreCountedFiles kept.stops (λ told c is. allowed_counted before nothing_shown c is)
+    named_weakened d old (disk_of d result) (Allowed before nothing_shown) AreCountedFiles kept.stops (λ told c is. allowed_counted before nothing_shown c is)

@@ -10,6 +10,7 @@ use Rattle.im_base_types.specs.declared.page_kind.PageKind.TheVariants.{Free, Me
 use Rattle.im_base_types.specs.declared.file_id.FileId.TheVariants.{Log, Pages, Log2}
 use Rattle.im_theory_log.specs.Histories.{Base}
 use Rattle.im_theory_log.specs.LogLaws.{bodies}
+use Rattle.im_theory_log.specs.PageCounts.{first_count}
 use Rattle.im_theory_log.specs.Lawful.{IsLawful}
 use Rattle.im_theory_log.proofs.RedoPoints.{covers_base}
 use Rattle.im_base_disk.specs.Disk.{Files}
@@ -21,6 +22,7 @@ use Rattle.im_restart.specs.Restart.{IsFresh, HasStore}
 use Rattle.im_theory_tree.specs.Good.{times, IsGoodTree}
 use Rattle.im_theory_tree.specs.Theory.{page_tree}
 use Rattle.im_engine.specs.Stands.{StandsFor}
+use Rattle.im_engine.proofs.Named.{newest_current}
 
 -- ---- what a new store finds
 
@@ -92,13 +94,18 @@ fresh_store files fresh other = record {
   newest = inr (fresh.0, other);
 }
 
+begun : first_count ≤ first_count
+begun = omega arith
+
 -- they stand for no effect
 pub fresh_stands : (files : Files) → IsFresh files → IsUnmade (files Log2) → StandsFor [] files
 fresh_stands files fresh other = record {
+  swapped = false;
+  current = newest_current files (inr (fresh.0, other));
   b = new_from (base_of (files Log));
   base = base_of (files Log);
   start = omega arith;
-  counted = omega arith;
+  counted = λ first. begun;
   log = [];
   has = fresh_store files fresh other;
   lawful = empty_log (base_of (files Log));

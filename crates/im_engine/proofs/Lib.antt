@@ -1,3 +1,5 @@
+pub mod Named
+pub mod NamedRuns
 pub mod Stands
 pub mod Numbers
 pub mod Checked
@@ -16,8 +18,12 @@ pub mod Counted
 pub mod Turning
 pub mod Alone
 pub mod Forcing
+mod Switching
 pub mod Reopened
+pub mod AtRest
+pub mod Upgrading
 pub mod Openings
+pub mod CurrentLogs
 pub mod Looked
 pub mod TurnLemmas
 pub mod Acknowledging
@@ -26,6 +32,7 @@ pub mod LivedLives
 pub mod OneLife
 pub mod AllFiles
 pub mod Fresh
+mod FirstFormat
 pub mod Actives
 pub mod Replying
 pub mod Edited

@@ -14,6 +14,9 @@ use Rattle.im_base_types.specs.declared.fault.Fault.TheVariants.{Failed, LogFull
 use Rattle.im_base_disk.specs.declared.disk.Disk.{Ghosts}
 use Rattle.im_base_disk.specs.Disk.{Files}
 use Rattle.im_base_disk.specs.Runs.{LeavesOnly}
+use Rattle.im_base_two_logs.specs.Runs.{LeavesNamed}
+use Rattle.im_base_two_logs.proofs.Runs.{unnamed}
+use Rattle.im_engine.proofs.Named.{allowed_nameless}
 use Rattle.im_base_disk.proofs.Runs.{started}
 use Rattle.im_log.proofs.Above.{left_now}
 use Rattle.im_theory_log.specs.Writer.{Writer}
@@ -39,7 +42,7 @@ use Rattle.im_engine.specs.Running.{IsRunning, IsLife}
 use Rattle.im_engine.specs.Kept.{LookKept, EntriesKept}
 use Rattle.im_engine.specs.Looking.{Looks, broken_by}
 use Rattle.im_engine.proofs.Running.{tells, read_on, read_stops, runs_on}
-use Rattle.im_engine.proofs.Openings.{lives_on}
+use Rattle.im_engine.proofs.AtRest.{lives_on}
 
 pub not_true : (b : Bool) → b ≡ false → b ≡ true → ⊥
 not_true b off on = let never : false ≡ true = sym off ∙ on in cc never
@@ -149,6 +152,9 @@ looks_failed d e was = record {
 }
 
 module _ {D : Type 0} (d : Ghosts D) (before : List Effect) (s : Shown) (v : View) where
+  by_no_names : (old new : D) → LeavesOnly d old new (Allowed before s) → LeavesNamed d old new (Allowed before s)
+  by_no_names old new run = unnamed d (Allowed before s) (allowed_nameless before s) old new run
+
   -- one that has failed stays as it was
   pub look_barred : (e : Engine D d) → IsLife d before s v e → e.failed ≡ true → ((c : Files) → d.left_since e.disk (d.moment e.disk) c → d.may_leave e.disk c) → LookKept d before s v e e
   look_barred e life was only_now =
@@ -157,7 +163,7 @@ module _ {D : Type 0} (d : Ghosts D) (before : List Effect) (s : Shown) (v : Vie
       let here : IsLife d before (record s { failed = true }) v e = subst (λ (b : Bool). IsLife d before (record s { failed = b }) v e) told life in
       record {
         after = inr (own_locks v, subst (λ (b : Bool). IsLife d before (record s { failed = true }) (record v { failed = b }) e) gone here);
-        stops = started d e.disk (Allowed before s) (λ on c left. life.stops c (only_now c left));
+        stops = by_no_names e.disk e.disk (started d e.disk (Allowed before s) (λ on c left. life.stops c (only_now c left)));
       }
 
   module _ (old new : Engine D d) (life : IsLife d before s v old) (works : old.failed ≡ false) where
@@ -184,7 +190,7 @@ module _ {D : Type 0} (d : Ghosts D) (before : List Effect) (s : Shown) (v : Vie
     pub look_kept : SearchedBy d old new None → LookKept d before s v old new
     look_kept one = record {
       after = inl (one.failed, lives_on d before s v new one.failed (still_runs (read_on d before s v old run.1 new.writer new.disk one.writer.ends) one.txns one.locks));
-      stops = read_stops d before s v old run.1 new.writer new.disk one.writer;
+      stops = by_no_names old.disk new.disk (read_stops d before s v old run.1 new.writer new.disk one.writer);
     }
 
     -- one that was refused
@@ -205,11 +211,11 @@ module _ {D : Type 0} (d : Ghosts D) (before : List Effect) (s : Shown) (v : Vie
               running = λ on. absurd (not_true new.failed on fails);
             },
           );
-          stops = leaves;
+          stops = by_no_names old.disk new.disk leaves;
         }
 
         by : (g : Fault) → Ends d AreLoaded mild old.writer old.disk new.writer new.disk (Some g) → new.failed ≡ ends_engine g → LookKept d before s v old new
-        by Memory x on = record { after = inl (on, lives_on d before s v new on (still_runs (read_on d before s v old run.1 new.writer new.disk x.1) one.txns one.locks)); stops = leaves }
+        by Memory x on = record { after = inl (on, lives_on d before s v new on (still_runs (read_on d before s v old run.1 new.writer new.disk x.1) one.txns one.locks)); stops = by_no_names old.disk new.disk leaves }
         by LogFull x on = broke on
         by Device x on = broke on
         by NotAStore x on = broke on

@@ -1,5 +1,5 @@
 -- A step that was made, and one that broke the engine.
-use Rattle.std.proofs.Common.{◌≡◌, ◌≢◌, ℕ, ◌≤◌, ◌^◌, List, [], true, false, None, Some, refl, sym, ap, subst, ◌∙◌}
+use Rattle.std.proofs.Common.{◌≡◌, ◌≢◌, inl, ℕ, ◌≤◌, ◌^◌, List, [], true, false, None, Some, refl, sym, ap, subst, ◌∙◌}
 use Rattle.std.specs.Prelude.{find}
 use Rattle.std.specs.FinMap.{empty}
 use Rattle.im_base_types.specs.Answers as answers
@@ -14,6 +14,8 @@ use Rattle.im_base_disk.specs.declared.disk.Disk.{Ghosts}
 use Rattle.im_base_disk.specs.Disk.{Files}
 use Rattle.im_base_disk.specs.Runs.{LeavesOnly}
 use Rattle.im_base_disk.proofs.Runs.{weakened}
+use Rattle.im_base_two_logs.specs.Runs.{LeavesNamed}
+use Rattle.im_base_two_logs.proofs.Runs.{unnamed}
 use Rattle.im_page_writer.specs.PageWriter.{StandsAs, GoesOn, Evicted}
 use Rattle.im_theory_tree.specs.Theory.{page_tree}
 use Rattle.im_base_txn.specs.declared.transaction.Mark.TheVariants.{Going}
@@ -39,6 +41,7 @@ use Rattle.im_engine.specs.Numbered.{Numbered}
 use Rattle.im_engine.specs.Running.{IsRunning, IsLife}
 use Rattle.im_engine.specs.Growing.{GrowsAs}
 use Rattle.im_engine.specs.Kept.{StepKept, IsDone}
+use Rattle.im_engine.proofs.Named.{allowed_nameless}
 use Rattle.im_engine.proofs.Running.{allowed_as, grown_stops, runs_on, stops_now}
 
 module _ {D : Type 0} (d : Ghosts D) (before : List Effect) where
@@ -59,9 +62,9 @@ module _ {D : Type 0} (d : Ghosts D) (before : List Effect) where
         lived = record { shows = running.serving.shows; reached = running.serving.reached };
         running = λ _. (b, running);
       };
-      stops = stops;
+      stops = unnamed d (Allowed before (shows s step None)) (allowed_nameless before (shows s step None)) old.disk new.disk stops;
       done = done;
-      grown = λ _. record { b = b; was = was; now = running; grows = grows };
+      grown = λ _. inl (record { b = b; was = was; now = running; grows = grows });
     }
 
   -- a step behind calls that added no more than Images, which asks no effect
@@ -85,11 +88,11 @@ module _ {D : Type 0} (d : Ghosts D) (before : List Effect) where
         step_made s v step reply old new w served.0 running works (leaves_as s (shows s step None) old.disk new.disk cut stops) done r
         (bare is.now.log is.on.goes.keeps.log)
 
-  -- a step that broke the engine: no Commit, or one whose record is not in the log
-  pub step_broke : (s : Shown) (v : View) (step : Step) (fault : ℕ) (old new : Engine D d) (ls : ℕ → List Lock) → IsLife d before s v old → barred v step ≡ None → Breaks fault → new.failed ≡ true
-      → LeavesOnly d old.disk new.disk (Allowed before (shows s step None)) → ((c : Files) → d.may_leave new.disk c → Allowed before (shows s step (Some (Refused fault))) c)
+  -- a step that broke the engine: no Commit, or one whose record is not in the log; the logs may have changed names
+  pub step_broke_named : (s : Shown) (v : View) (step : Step) (fault : ℕ) (old new : Engine D d) (ls : ℕ → List Lock) → IsLife d before s v old → barred v step ≡ None → Breaks fault → new.failed ≡ true
+      → LeavesNamed d old.disk new.disk (Allowed before (shows s step None)) → ((c : Files) → d.may_leave new.disk c → Allowed before (shows s step (Some (Refused fault))) c)
       → IsDone d before (shows s step (Some (Refused fault))) (broken v ls) step (Refused fault) new → StepKept d before s v step (Refused fault) old new
-  step_broke s v step fault old new ls life checked is fails stops now done =
+  step_broke_named s v step fault old new ls life checked is fails stops now done =
       let on = lives_go_on.breaks (apply_all empty before) s v step fault ls life.lived checked is in
       record {
         next = broken v ls;
@@ -104,3 +107,10 @@ module _ {D : Type 0} (d : Ghosts D) (before : List Effect) where
         done = done;
         grown = λ works. let never : true ≡ false = sym fails ∙ works in cc;
       }
+
+  -- and where they have not
+  pub step_broke : (s : Shown) (v : View) (step : Step) (fault : ℕ) (old new : Engine D d) (ls : ℕ → List Lock) → IsLife d before s v old → barred v step ≡ None → Breaks fault → new.failed ≡ true
+      → LeavesOnly d old.disk new.disk (Allowed before (shows s step None)) → ((c : Files) → d.may_leave new.disk c → Allowed before (shows s step (Some (Refused fault))) c)
+      → IsDone d before (shows s step (Some (Refused fault))) (broken v ls) step (Refused fault) new → StepKept d before s v step (Refused fault) old new
+  step_broke s v step fault old new ls life checked is fails stops now done =
+      step_broke_named s v step fault old new ls life checked is fails (unnamed d (Allowed before (shows s step None)) (allowed_nameless before (shows s step None)) old.disk new.disk stops) now done

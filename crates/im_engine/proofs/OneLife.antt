@@ -5,13 +5,15 @@ use Rattle.im_base_steps.specs.declared.step.Step.{Step}
 use Rattle.im_base_steps.specs.declared.reply.Reply.{Reply}
 use Rattle.im_base_disk.specs.declared.disk.Disk.{Ghosts}
 use Rattle.im_base_disk.specs.Disk.{Files}
-use Rattle.im_base_disk.proofs.Runs.{weakened, then_on}
+use Rattle.im_base_two_logs.proofs.Runs.{then_named}
 use Rattle.im_engine.specs.declared.config.Config.{Config}
 use Rattle.im_engine.specs.declared.engine.Engine.{Engine}
 use Rattle.im_engine.specs.Opening.{IsOpening}
 use Rattle.im_engine.specs.Stands.{Allowed}
 use Rattle.im_engine.specs.Turns.{behind, AreSteps, IsCutOff}
 use Rattle.im_engine.specs.Lived.{TakesFiles, IsLived, disk_at}
+use Rattle.im_engine.proofs.Named.{cut_nameless}
+use Rattle.im_engine.proofs.NamedRuns.{named_weakened}
 use Rattle.im_engine.proofs.LivedLives.{left_before, runs_on}
 use Rattle.im_engine.proofs.Stopping.{alive_at_end, cut_behind, cut_between, cut_at_end}
 
@@ -21,9 +23,9 @@ module _ {D : Type 0} (d : Ghosts D) (only_now : (disk : D) (c : Files) → d.le
     stops_since told zero le c left before stands =
         let kept = opening.kept before told stands in
         let cut = IsCutOff before nothing_shown steps replies in
-        (then_on d old opened.disk last.disk cut cut
-        (weakened d old opened.disk (Allowed before nothing_shown) cut kept.stops (λ on x h. left_before before nothing_shown steps replies x h))
-        (cut_behind d only_now before steps replies nothing_shown _ opened last turns kept.ok.0 zero (omega arith)) (λ on x h. h)).each told c left
+        (then_named d cut (cut_nameless before nothing_shown steps replies) old opened.disk last.disk
+        (named_weakened d old opened.disk (Allowed before nothing_shown) cut kept.stops (λ on x h. left_before before nothing_shown steps replies x h))
+        (cut_behind d only_now before steps replies nothing_shown _ opened last turns kept.ok.0 zero (omega arith))).each told c left
     stops_since told (suc n) le c left before stands =
         let kept = opening.kept before told stands in
         (cut_behind d only_now before steps replies nothing_shown _ opened last turns kept.ok.0 (suc n) le).each told c left
@@ -33,9 +35,9 @@ module _ {D : Type 0} (d : Ghosts D) (only_now : (disk : D) (c : Files) → d.le
     stops_within told zero m le most c left before stands =
         let kept = opening.kept before told stands in
         let cut = IsCutOff before nothing_shown (take m steps) (take m replies) in
-        (then_on d old opened.disk (behind d m steps replies opened last turns).disk cut cut
-        (weakened d old opened.disk (Allowed before nothing_shown) cut kept.stops (λ on x h. left_before before nothing_shown (take m steps) (take m replies) x h))
-        (cut_between d only_now before steps replies nothing_shown _ opened last turns kept.ok.0 zero m le most) (λ on x h. h)).each told c left
+        (then_named d cut (cut_nameless before nothing_shown (take m steps) (take m replies)) old opened.disk (behind d m steps replies opened last turns).disk
+        (named_weakened d old opened.disk (Allowed before nothing_shown) cut kept.stops (λ on x h. left_before before nothing_shown (take m steps) (take m replies) x h))
+        (cut_between d only_now before steps replies nothing_shown _ opened last turns kept.ok.0 zero m le most)).each told c left
     stops_within told (suc n) m le most c left before stands =
         let kept = opening.kept before told stands in
         (cut_between d only_now before steps replies nothing_shown _ opened last turns kept.ok.0 (suc n) m le most).each told c left

@@ -10,7 +10,7 @@ use Rattle.im_base_types.specs.Lives.{Shown, nothing_shown}
 use Rattle.im_base_types.specs.Pages.{Entry}
 use Rattle.im_base_disk.specs.declared.disk.Disk.{Ghosts}
 use Rattle.im_base_disk.specs.Disk.{Files}
-use Rattle.im_base_disk.proofs.Runs.{then_on}
+use Rattle.im_base_two_logs.proofs.Runs.{then_named}
 use Rattle.im_base_lock.specs.View.{View}
 use Rattle.im_base_lock.specs.Machine.{start}
 use Rattle.im_engine.specs.declared.config.Config.{Config}
@@ -21,6 +21,7 @@ use Rattle.im_engine.specs.Opening.{IsOpening}
 use Rattle.im_engine.specs.Promise.{IsRunOn}
 use Rattle.im_engine.specs.Running.{IsLife}
 use Rattle.im_engine.specs.Stands.{StandsFor, Allowed}
+use Rattle.im_engine.proofs.Named.{allowed_nameless}
 use Rattle.im_engine.proofs.LivedLives.{runs_on, takes_on}
 
 module _ {D : Type 0} (d : Ghosts D) (config : Config) (old : D) where
@@ -46,7 +47,7 @@ module _ {D : Type 0} (d : Ghosts D) (config : Config) (old : D) where
           (λ before stands.
           let kept = opening.kept before told stands in
           let allowed = Allowed before nothing_shown in
-          (then_on d old opened.disk listed.disk allowed allowed kept.stops (listing.kept before nothing_shown (start (apply_all empty before) opened.txns.next) kept.ok.0).stops (λ on x h. h)).each told c left);
+          (then_named d allowed (allowed_nameless before nothing_shown) old opened.disk listed.disk kept.stops (listing.kept before nothing_shown (start (apply_all empty before) opened.txns.next) kept.ok.0).stops).each told c left);
       shows = shows_so found listing.entries;
     }
 

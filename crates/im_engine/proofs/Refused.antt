@@ -1,6 +1,6 @@
 -- Steps that calls of the writer refuse.
 use Rattle.std.proofs.Common.{◌≡◌, ◌≢◌, ◌⊎◌, inl, inr, ℕ, ◌≤◌, List, Bool, true, false, not, Option, Some, None, refl, sym, ap, subst, ◌∙◌}
-use Rattle.im_base_types.specs.Answers.{Step, Begin, Do, Commit, Rollback, Continue, FlushPage, Force, Checkpoint, Reply, Refused}
+use Rattle.im_base_types.specs.Answers.{Step, Begin, Do, Commit, Rollback, Continue, FlushPage, Force, Checkpoint, Switch, Reply, Refused}
 use Rattle.im_base_types.specs.Changes.{Effect}
 use Rattle.im_theory_log.specs.Histories.{Base, History}
 use Rattle.im_base_types.specs.Refusals.{memory}
@@ -44,6 +44,7 @@ none_done d before s v (Continue t) n e = tt
 none_done d before s v (FlushPage p) n e = tt
 none_done d before s v Force n e = tt
 none_done d before s v Checkpoint n e = tt
+none_done d before s v Switch n e = tt
 
 -- another table with the same locks
 pub serving_with : (b : Base) (earlier before : List Effect) (s : Shown) (v : View) (log : History) (rows : List _) (next : ℕ) (old new : Table) → SameTable old new → IsServing b earlier before s v log rows next old → IsServing b earlier before s v log rows next new

@@ -22,7 +22,7 @@ use Rattle.im_base_steps.specs.Replies.{is_commit, takes_back, is_full, SuitsAtO
 use Rattle.im_engine.specs.declared.engine.Engine.{Engine}
 use Rattle.im_engine.specs.Looking.{Looks}
 use Rattle.im_engine.specs.Numbered.{Numbered}
-use Rattle.im_engine.specs.Told.{Known, Where, Checked, Refuses, after, check_of, known_of, IsStep}
+use Rattle.im_engine.specs.Told.{Known, Where, Checked, IsFor, Refuses, SwitchCause, after, check_of, known_of, IsStep}
 use Rattle.im_engine.proofs.Causes.{refused_inj}
 use Rattle.im_engine.proofs.Stepping.{by_check}
 
@@ -47,18 +47,26 @@ module _ {D : Type 0} (d : Ghosts D) (reply : Reply) (old : Engine D d) (log : L
   no_cause (answers.FlushPage p) is = is.1
   no_cause answers.Force is = no_where (λ e. cc e) (λ e. e) is
   no_cause answers.Checkpoint is = no_where (λ e. cc e) (no_where (λ e. cc e) (λ e. e)) is
+  no_cause answers.Switch is = no_where (λ e. cc e) (no_where (λ e. cc e) (λ (h : IsFor d reply old log disk faults.TraceFull (SwitchCause d log disk)). h.1)) is
+
+-- neither by a check nor after the checks
+never_checked : (o : Option ℕ) (Cause : Type 0) → (Cause → ⊥) → ((n : ℕ) → o ≡ Some n → number_of faults.TraceFull ≡ n → ⊥) → Checked o faults.TraceFull Cause → ⊥
+never_checked None Cause none some cause = none cause
+never_checked (Some n) Cause none some same = some n refl same
 
 module _ {D : Type 0} (d : Ghosts D) (step : Step) (reply : Reply) (old new : Engine D d) (one : IsStep d step reply old new) where
   -- the first check, of an engine that works
   checked_now : old.failed ≡ false → check_of d (asked_by step) old ≡ first_check false (length old.txns.rows) (mark_for (marks_in old.txns.rows) (asked_by step)) false (asked_by step)
   checked_now works = ap (λ (b : Bool). first_check b (length old.txns.rows) (mark_for (marks_in old.txns.rows) (asked_by step)) false (asked_by step)) works
 
+  -- no check refuses so
+  unchecked : old.failed ≡ false → (n : ℕ) → check_of d (asked_by step) old ≡ Some n → number_of faults.TraceFull ≡ n → ⊥
+  unchecked works n some same =
+      by_check (λ (k : ℕ). 14 ≡ k → ⊥) n (λ e. cc e) (λ e. cc e) (λ e. cc e) (λ e. cc e) (λ e. cc e) (λ e. cc e) false (λ q. absurd (let never : false ≡ true = q in cc never)) (length old.txns.rows) (mark_for (marks_in old.txns.rows) (asked_by step)) (asked_by step) (sym (checked_now works) ∙ some) same
+
   not_full : old.failed ≡ false → reply ≡ replies.Refused faults.TraceFull → ⊥
-  not_full works is = by (check_of d (asked_by step) old) refl ((one.answered faults.TraceFull).0 is)
-    where
-      by : (o : Option ℕ) → check_of d (asked_by step) old ≡ o → Checked o faults.TraceFull (Refuses d reply old new.writer.log new.disk faults.TraceFull (asked_by step)) → ⊥
-      by None none cause = no_cause d reply old new.writer.log new.disk (asked_by step) cause
-      by (Some n) some same = by_check (λ (k : ℕ). 14 ≡ k → ⊥) n (λ e. cc e) (λ e. cc e) (λ e. cc e) (λ e. cc e) (λ e. cc e) false (λ q. absurd (let never : false ≡ true = q in cc never)) (length old.txns.rows) (mark_for (marks_in old.txns.rows) (asked_by step)) (asked_by step) (sym (checked_now works) ∙ some) same
+  not_full works is =
+      never_checked (check_of d (asked_by step) old) (Refuses d reply old new.writer.log new.disk faults.TraceFull (asked_by step)) (no_cause d reply old new.writer.log new.disk (asked_by step)) (unchecked works) ((one.answered faults.TraceFull).0 is)
 
   never_full : (fault : Fault) → reply ≡ replies.Refused fault → is_full (told_by (replies.Refused fault)) ≡ false
   never_full faults.TraceFull is = absurd (elim (cases_Bool old.failed) [
@@ -123,7 +131,9 @@ no_row (answers.FlushPage p) (inr e) = absurd (true≢false (sym e))
 no_row answers.Force (inl e) = absurd (true≢false (sym e))
 no_row answers.Force (inr e) = absurd (true≢false (sym e))
 no_row answers.Checkpoint (inl e) = absurd (true≢false (sym e))
+no_row answers.Switch (inl e) = absurd (true≢false (sym e))
 no_row answers.Checkpoint (inr e) = absurd (true≢false (sym e))
+no_row answers.Switch (inr e) = absurd (true≢false (sym e))
 
 module _ {D : Type 0} (d : Ghosts D) (step : Step) (reply : Reply) (old new : Engine D d) (one : IsStep d step reply old new) (few : old.txns.waiting ≤ length old.txns.rows) where
   -- where a reply that is no refusal ended a transaction, there was one

@@ -1,8 +1,8 @@
 -- A step behind its checks, and one that a check refuses.
 use Rattle.std.proofs.Common.{◌≡◌, ◌≢◌, ◌⊎◌, inl, inr, ⊎_elim, ℕ, Bool, true, false, List, length, Option, None, Some, refl, sym, ap, subst, ◌∙◌, cond}
-use Rattle.std.specs.Prelude.{◌||◌, ◌==◌, ◌+◌, ◌-◌, if◌then◌else◌, ◌↔◌, not}
+use Rattle.std.specs.Prelude.{◌||◌, ◌==◌, ◌+◌, ◌-◌, if◌then◌else◌, ◌↔◌, nat_lt, not}
 use Rattle.im_base_types.specs.Answers as answers
-use Rattle.im_base_types.specs.Answers.{Step, Begin, Do, Commit, Rollback, Continue, FlushPage, Force, Checkpoint, Access, Mark, Idle, Going, MustRollBack, RollingBack, Committing}
+use Rattle.im_base_types.specs.Answers.{Step, Begin, Do, Commit, Rollback, Continue, FlushPage, Force, Checkpoint, Switch, Access, Mark, Idle, Going, MustRollBack, RollingBack, Committing}
 use Rattle.im_base_types.specs.Changes.{Effect}
 use Rattle.im_theory_log.specs.Histories.{Base}
 use Rattle.im_base_types.specs.Keys.{Key}
@@ -16,7 +16,7 @@ use Rattle.im_theory_tree.specs.Levels.{Pages}
 use Rattle.im_base_lock.specs.Locks.{Lock}
 use Rattle.im_base_lock.specs.Table.{locks_of}
 use Rattle.im_base_lock.specs.View.{View, owns_in}
-use Rattle.im_base_lock.specs.Machine.{Moves, Answers, Goes, begins, does, waits, dies, commits, queues, drops, turns, undoes, ends, puts_later, puts, drops_first, drops_leaf, takes_later, takes_first, takes_leaf, takes_last, logs_page, tree_blocks, tree_halts, flushes, forces, checkpoints, lacks, breaks as breaks_it, Breaks, Wants, barred, barred_to, barred_to_rollback, barred_to_continue, first_check, mark_for, or_else, fault_if, keys_fit}
+use Rattle.im_base_lock.specs.Machine.{Moves, Answers, Goes, begins, does, waits, dies, commits, queues, drops, turns, undoes, ends, puts_later, puts, drops_first, drops_leaf, takes_later, takes_first, takes_leaf, takes_last, logs_page, tree_blocks, tree_halts, flushes, forces, checkpoints, switches, lacks, breaks as breaks_it, Breaks, Wants, barred, barred_to, barred_to_rollback, barred_to_continue, first_check, mark_for, or_else, fault_if, keys_fit}
 use Rattle.im_base_lock.proofs.Runs.{reply_answers}
 use Rattle.im_theory_steps.specs.Checks.{marks_in}
 use Rattle.im_base_types.specs.declared.fault.Fault.{Fault}
@@ -111,17 +111,18 @@ module _ (P : ℕ → Type 0) (n : ℕ) where
     by_unowned true m is = absurd (cc is)
     by_unowned false m is = by_continue m is
 
-    -- a check of an engine that works gives one of five, or of six where an access goes on
-    pub by_check : P 3 → P 12 → (owns : Bool) → (owns ≡ true → P 17) → (active : ℕ) (mark : Mark) (step : Step) → first_check false active mark owns step ≡ Some n → P n
-    by_check three twelve owns seventeen active mark Begin is = by_test _ 12 twelve is
-    by_check three twelve owns seventeen active mark (Do t a) is = by_or (barred_to mark) (or_else (fault_if owns unfinished) (fault_if (not (keys_fit a)) key_length)) (by_mark mark)
+    -- a check of an engine that works gives one of six, or of seven where an access goes on
+    pub by_check : P 3 → P 12 → P 15 → (owns : Bool) → (owns ≡ true → P 17) → (active : ℕ) (mark : Mark) (step : Step) → first_check false active mark owns step ≡ Some n → P n
+    by_check three twelve fifteen owns seventeen active mark Begin is = by_test _ 12 twelve is
+    by_check three twelve fifteen owns seventeen active mark (Do t a) is = by_or (barred_to mark) (or_else (fault_if owns unfinished) (fault_if (not (keys_fit a)) key_length)) (by_mark mark)
         (by_or (fault_if owns unfinished) (fault_if (not (keys_fit a)) key_length) (by_owned owns seventeen) (by_test (not (keys_fit a)) 3 three)) is
-    by_check three twelve owns seventeen active mark (Commit t) is = by_or (barred_to mark) (fault_if owns unfinished) (by_mark mark) (by_owned owns seventeen) is
-    by_check three twelve owns seventeen active mark (Rollback t) is = by_or (barred_to_rollback mark) (fault_if owns unfinished) (by_rollback mark) (by_owned owns seventeen) is
-    by_check three twelve owns seventeen active mark (Continue t) is = by_unowned owns mark is
-    by_check three twelve owns seventeen active mark (FlushPage p) is = absurd (cc is)
-    by_check three twelve owns seventeen active mark Force is = absurd (cc is)
-    by_check three twelve owns seventeen active mark Checkpoint is = absurd (cc is)
+    by_check three twelve fifteen owns seventeen active mark (Commit t) is = by_or (barred_to mark) (fault_if owns unfinished) (by_mark mark) (by_owned owns seventeen) is
+    by_check three twelve fifteen owns seventeen active mark (Rollback t) is = by_or (barred_to_rollback mark) (fault_if owns unfinished) (by_rollback mark) (by_owned owns seventeen) is
+    by_check three twelve fifteen owns seventeen active mark (Continue t) is = by_unowned owns mark is
+    by_check three twelve fifteen owns seventeen active mark (FlushPage p) is = absurd (cc is)
+    by_check three twelve fifteen owns seventeen active mark Force is = absurd (cc is)
+    by_check three twelve fifteen owns seventeen active mark Checkpoint is = absurd (cc is)
+    by_check three twelve fifteen owns seventeen active mark Switch is = by_test (nat_lt 0 active) 15 fifteen is
 
 -- ---- the machine has no refusal for bytes that are no store's
 
@@ -140,6 +141,7 @@ wants_store (Continue t) is = cc is
 wants_store (FlushPage p) is = cc is
 wants_store Force is = cc is
 wants_store Checkpoint is = cc is
+wants_store Switch is = cc is
 
 breaks_store : Breaks not_a_store → ⊥
 breaks_store (inl is) = cc is
@@ -176,6 +178,7 @@ goes_store v w step (tree_halts u x b under other d e) = cc d
 goes_store v w step (flushes p x is q) = cc is
 goes_store v w step (forces x is q) = cc is
 goes_store v w step (checkpoints x is q) = cc is
+goes_store v w step (switches x is q) = cc is
 goes_store v w step (lacks fault wants is q) = wants_store step (subst (Wants step) (sym (ap number_in is)) wants)
 goes_store v w step (breaks_it fault ls broke is q) = breaks_store (subst Breaks (sym (ap number_in is)) broke)
 
@@ -187,7 +190,7 @@ moves_store v w step works m = by (barred v step) refl m
     by (Some n) is go =
         let same : not_a_store ≡ n = ap number_in go.0 in
         let checked : first_check false v.active (mark_for (λ t. (v.txns t).mark) step) (owns_in v.under step) step ≡ Some not_a_store = sym (ap (λ (b : Bool). first_check b v.active (mark_for (λ t. (v.txns t).mark) step) (owns_in v.under step) step) works) ∙ is ∙ ap (λ (k : ℕ). Some k) (sym same) in
-        by_check (λ (k : ℕ). k ≡ not_a_store → ⊥) not_a_store (λ e. cc e) (λ e. cc e) (λ e. cc e) (λ e. cc e) (λ e. cc e) (owns_in v.under step) (λ q e. cc e) v.active (mark_for (λ t. (v.txns t).mark) step) step checked refl
+        by_check (λ (k : ℕ). k ≡ not_a_store → ⊥) not_a_store (λ e. cc e) (λ e. cc e) (λ e. cc e) (λ e. cc e) (λ e. cc e) (λ e. cc e) (owns_in v.under step) (λ q e. cc e) v.active (mark_for (λ t. (v.txns t).mark) step) step checked refl
 
 -- ---- a step that was made
 
@@ -200,6 +203,7 @@ refused_alone before s (Continue t) n = tt
 refused_alone before s (FlushPage p) n = tt
 refused_alone before s Force n = tt
 refused_alone before s Checkpoint n = tt
+refused_alone before s Switch n = tt
 
 keeps_fixed : (step : Step) (reply : Reply) (k : Known) → (after step reply k).fixed ≡ k.fixed
 keeps_fixed step (Started n) k = refl
@@ -287,10 +291,10 @@ module _ {D : Type 0} (d : Ghosts D) (step : Asked) (e : Engine D d) (only_now :
       let number : number_of fault ≡ number_of faults.Failed = cc same in
       same_fault fault faults.Failed number
 
-  -- and of one that works one of five
-  works_so : (P : ℕ → Type 0) → P 1 → P 2 → P 3 → P 4 → P 12 → e.failed ≡ false → P (number_of fault)
-  works_so P one two three four twelve works =
-      by_check P (number_of fault) one two four three twelve false (λ q. absurd (let never : false ≡ true = q in cc never)) (length e.txns.rows) (mark_for (marks_in e.txns.rows) (asked_by step)) (asked_by step)
+  -- and of one that works one of six
+  works_so : (P : ℕ → Type 0) → P 1 → P 2 → P 3 → P 4 → P 12 → P 15 → e.failed ≡ false → P (number_of fault)
+  works_so P one two three four twelve fifteen works =
+      by_check P (number_of fault) one two four three twelve fifteen false (λ q. absurd (let never : false ≡ true = q in cc never)) (length e.txns.rows) (mark_for (marks_in e.txns.rows) (asked_by step)) (asked_by step)
       (sym (is ∙ ap (λ (b : Bool). first_check b (length e.txns.rows) (mark_for (marks_in e.txns.rows) (asked_by step)) false (asked_by step)) works))
 
   stays_so : e.failed ≡ (e.failed || breaks (number_of fault))
@@ -298,15 +302,15 @@ module _ {D : Type 0} (d : Ghosts D) (step : Asked) (e : Engine D d) (only_now :
     where
       by : (b : Bool) → e.failed ≡ b → e.failed ≡ (e.failed || breaks (number_of fault))
       by true was = was ∙ sym (ap (λ (b : Bool). b || breaks (number_of fault)) was)
-      by false works = works ∙ sym (ap (λ (b : Bool). b || breaks (number_of fault)) works ∙ works_so (λ (n : ℕ). breaks n ≡ false) refl refl refl refl refl works)
+      by false works = works ∙ sym (ap (λ (b : Bool). b || breaks (number_of fault)) works ∙ works_so (λ (n : ℕ). breaks n ≡ false) refl refl refl refl refl refl works)
 
   asks_none : e.failed ≡ false → AsksChange (Refused fault) → ⊥
-  asks_none works (wants_pages so) = works_so (λ (n : ℕ). n ≡ 5 → ⊥) (λ e. cc e) (λ e. cc e) (λ e. cc e) (λ e. cc e) (λ e. cc e) works (ap number_of (refused_inj fault faults.PagesFull so))
-  asks_none works (wants_numbers so) = works_so (λ (n : ℕ). n ≡ 6 → ⊥) (λ e. cc e) (λ e. cc e) (λ e. cc e) (λ e. cc e) (λ e. cc e) works (ap number_of (refused_inj fault faults.Capacity so))
-  asks_none works (wants_memory so) = works_so (λ (n : ℕ). n ≡ 10 → ⊥) (λ e. cc e) (λ e. cc e) (λ e. cc e) (λ e. cc e) (λ e. cc e) works (ap number_of (refused_inj fault faults.Failed so))
+  asks_none works (wants_pages so) = works_so (λ (n : ℕ). n ≡ 5 → ⊥) (λ e. cc e) (λ e. cc e) (λ e. cc e) (λ e. cc e) (λ e. cc e) (λ e. cc e) works (ap number_of (refused_inj fault faults.PagesFull so))
+  asks_none works (wants_numbers so) = works_so (λ (n : ℕ). n ≡ 6 → ⊥) (λ e. cc e) (λ e. cc e) (λ e. cc e) (λ e. cc e) (λ e. cc e) (λ e. cc e) works (ap number_of (refused_inj fault faults.Capacity so))
+  asks_none works (wants_memory so) = works_so (λ (n : ℕ). n ≡ 10 → ⊥) (λ e. cc e) (λ e. cc e) (λ e. cc e) (λ e. cc e) (λ e. cc e) (λ e. cc e) works (ap number_of (refused_inj fault faults.Failed so))
 
   memory_none : e.failed ≡ false → Refused fault ≡ Refused faults.Memory → ⊥
-  memory_none works so = works_so (λ (n : ℕ). n ≡ 9 → ⊥) (λ e. cc e) (λ e. cc e) (λ e. cc e) (λ e. cc e) (λ e. cc e) works (ap number_of (refused_inj fault faults.Memory so))
+  memory_none works so = works_so (λ (n : ℕ). n ≡ 9 → ⊥) (λ e. cc e) (λ e. cc e) (λ e. cc e) (λ e. cc e) (λ e. cc e) (λ e. cc e) works (ap number_of (refused_inj fault faults.Memory so))
 
   wants_none : e.failed ≡ false → (pages : Pages) (map : IndexMap) (Still : Type 0) (Begun : ℕ → Type 0) (nets : ℕ → Effect) (locks : ℕ → List Lock) (max : ℕ) (s : Step) → WantsOf pages map Still Begun nets locks max s (Refused fault)
   wants_none works pages map Still Begun nets locks max (Do t (answers.Insert key rid)) = record {
@@ -330,6 +334,7 @@ module _ {D : Type 0} (d : Ghosts D) (step : Asked) (e : Engine D d) (only_now :
   wants_none works pages map Still Begun nets locks max (FlushPage p) = tt
   wants_none works pages map Still Begun nets locks max Force = tt
   wants_none works pages map Still Begun nets locks max Checkpoint = tt
+  wants_none works pages map Still Begun nets locks max Switch = tt
 
   -- a refusal by a check costs nothing
   costs_none : (step : Step) → StepCosts d step (Refused fault) e e
@@ -341,6 +346,7 @@ module _ {D : Type 0} (d : Ghosts D) (step : Asked) (e : Engine D d) (only_now :
   costs_none (FlushPage p) = λ is. absurd (cc is)
   costs_none Force = record { most = most_none d 2 2 e.disk; one = λ is. absurd (cc is) }
   costs_none Checkpoint = most_none d 4 5 e.disk
+  costs_none Switch = λ _. most_none d 5 6 e.disk
 
   -- and lets nobody wait
   waits_none : (step : Step) → SuitsGroup step (Refused fault) e.txns
@@ -352,6 +358,7 @@ module _ {D : Type 0} (d : Ghosts D) (step : Asked) (e : Engine D d) (only_now :
   waits_none (FlushPage p) = tt
   waits_none Force = tt
   waits_none Checkpoint = tt
+  waits_none Switch = tt
 
   told_so : IsTold d (asked_by step) (Refused fault) e e
   told_so = record {

@@ -15,8 +15,10 @@ use Rattle.im_base_steps.specs.declared.step.Step.{Step}
 use Rattle.im_base_steps.specs.declared.reply.Reply.{Reply}
 use Rattle.im_base_disk.specs.declared.disk.Disk.{Ghosts}
 use Rattle.im_base_disk.specs.Disk.{Files}
-use Rattle.im_base_disk.specs.Runs.{LeavesOnly}
-use Rattle.im_base_disk.proofs.Runs.{weakened, then_on}
+use Rattle.im_base_two_logs.specs.Runs.{LeavesNamed}
+use Rattle.im_base_two_logs.proofs.Runs.{then_named}
+use Rattle.im_engine.proofs.Named.{cut_nameless}
+use Rattle.im_engine.proofs.NamedRuns.{named_weakened}
 use Rattle.im_engine.specs.declared.engine.Engine.{Engine}
 use Rattle.im_engine.specs.Stands.{StandsFor, Allowed}
 use Rattle.im_engine.specs.Running.{IsLife}
@@ -100,6 +102,7 @@ module _ (before : List Effect) (s : Shown) (c : Files) where
   allowed_within (answers.FlushPage p) h = h
   allowed_within answers.Force h = h
   allowed_within answers.Checkpoint h = h
+  allowed_within answers.Switch h = h
 
 -- with one step more: a stop before it, or within it
 cut_longer : (before : List Effect) (steps : List Step) (replies : List Reply) (s : Shown) (step : Step) (reply : Reply) (c : Files) → length replies ≡ length steps → IsCutOff before s steps replies c
@@ -119,13 +122,14 @@ cut_within before (x ∷ steps) (r ∷ replies) s step reply c e h = inr (cut_wi
 
 -- steps in a row
 pub cut_one_more : {D : Type 0} (d : Ghosts D) (before : List Effect) (s : Shown) (steps : List Step) (replies now : List Reply) (i : ℕ) (none : Step) (step : Step) (reply : Reply) (old mid new : D) → length replies ≡ i
-    → i < length steps → now ≡ replies ++ reply ∷ [] → step ≡ get_or steps i none → LeavesOnly d old mid (IsCutOff before s (take i steps) replies)
-    → LeavesOnly d mid new (Allowed before (shows (shown_by s (answered_by (take i steps) replies)) (asked_by step) None)) → LeavesOnly d old new (IsCutOff before s (take (i + 1) steps) now)
+    → i < length steps → now ≡ replies ++ reply ∷ [] → step ≡ get_or steps i none → LeavesNamed d old mid (IsCutOff before s (take i steps) replies)
+    → LeavesNamed d mid new (Allowed before (shows (shown_by s (answered_by (take i steps) replies)) (asked_by step) None)) → LeavesNamed d old new (IsCutOff before s (take (i + 1) steps) now)
 cut_one_more d before s steps replies now i none step reply old mid new len lt is at first second =
     let long : length replies ≡ length (take i steps) = len ∙ sym (length-take-le i steps (omega (arith, lt))) in
-    let here = then_on d old mid new (IsCutOff before s (take i steps ++ step ∷ []) (replies ++ reply ∷ [])) (Allowed before (shows (shown_by s (answered_by (take i steps) replies)) (asked_by step) None))
-    (weakened d old mid (IsCutOff before s (take i steps) replies) (IsCutOff before s (take i steps ++ step ∷ []) (replies ++ reply ∷ [])) first (λ told c h. cut_longer before (take i steps) replies s step reply c long h))
-    second (λ told c h. cut_within before (take i steps) replies s step reply c long h) in
-    let there = subst (λ (x : Step). LeavesOnly d old new (IsCutOff before s (take i steps ++ x ∷ []) (replies ++ reply ∷ []))) at here in
-    subst (λ (l : List Step). LeavesOnly d old new (IsCutOff before s l now)) (sym (take_more steps i none lt))
-    (subst (λ (l : List Reply). LeavesOnly d old new (IsCutOff before s (take i steps ++ get_or steps i none ∷ []) l)) (sym is) there)
+    let cut = IsCutOff before s (take i steps ++ step ∷ []) (replies ++ reply ∷ []) in
+    let here = then_named d cut (cut_nameless before s (take i steps ++ step ∷ []) (replies ++ reply ∷ [])) old mid new
+    (named_weakened d old mid (IsCutOff before s (take i steps) replies) cut first (λ told c h. cut_longer before (take i steps) replies s step reply c long h))
+    (named_weakened d mid new (Allowed before (shows (shown_by s (answered_by (take i steps) replies)) (asked_by step) None)) cut second (λ told c h. cut_within before (take i steps) replies s step reply c long h)) in
+    let there = subst (λ (x : Step). LeavesNamed d old new (IsCutOff before s (take i steps ++ x ∷ []) (replies ++ reply ∷ []))) at here in
+    subst (λ (l : List Step). LeavesNamed d old new (IsCutOff before s l now)) (sym (take_more steps i none lt))
+    (subst (λ (l : List Reply). LeavesNamed d old new (IsCutOff before s (take i steps ++ get_or steps i none ∷ []) l)) (sym is) there)

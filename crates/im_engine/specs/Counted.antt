@@ -9,7 +9,7 @@ use Rattle.im_base_types.specs.Records.{Logged}
 use Rattle.im_theory_log.specs.Transactions.{is_key, IsCounted}
 use Rattle.im_base_disk.specs.declared.disk.Disk.{Ghosts}
 use Rattle.im_base_disk.specs.Disk.{Files}
-use Rattle.im_base_disk.specs.Runs.{LeavesOnly}
+use Rattle.im_base_two_logs.specs.Runs.{LeavesNamed}
 use Rattle.im_base_lock.specs.View.{View}
 use Rattle.im_engine.specs.declared.engine.Engine.{Engine}
 use Rattle.im_engine.specs.Stands.{StandsFor}
@@ -40,8 +40,8 @@ module _ {D : Type 0} (d : Ghosts D) where
 
   -- what one within a step leaves, also where a transaction is half rolled back
   abbrev pub StepsAreCounted : Type 0
-  StepsAreCounted = (before : List Effect) (s : Shown) (v : View) (step : Step) (reply : Reply) (old new : Engine D d) → StepKept d before s v step reply old new → LeavesOnly d old.disk new.disk AreCountedFiles
+  StepsAreCounted = (before : List Effect) (s : Shown) (v : View) (step : Step) (reply : Reply) (old new : Engine D d) → StepKept d before s v step reply old new → LeavesNamed d old.disk new.disk AreCountedFiles
 
   -- and what one within an opening leaves
   abbrev pub OpeningsAreCounted : Type 0
-  OpeningsAreCounted = (before : List Effect) (old : D) (stands : StandsFor before (d.seen old)) (result : Result (Engine D d) (Fault × D)) → OpenKept d before old stands result → LeavesOnly d old (disk_of d result) AreCountedFiles
+  OpeningsAreCounted = (before : List Effect) (old : D) (stands : StandsFor before (d.seen old)) (result : Result (Engine D d) (Fault × D)) → OpenKept d before old stands result → LeavesNamed d old (disk_of d result) AreCountedFiles

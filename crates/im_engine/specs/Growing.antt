@@ -1,6 +1,6 @@
 -- Which records join the log in a step.
 use Rattle.std.specs.Prelude.{◌≡◌, ◌≤◌, ℕ, ◌∷◌, length}
-use Rattle.im_base_types.specs.Answers.{Step, Reply, Do, Insert, Delete, Commit, Rollback, Continue, Force, Checkpoint, Started, Inserted, Deleted, Committed, RolledBack, More, Done}
+use Rattle.im_base_types.specs.Answers.{Step, Reply, Do, Insert, Delete, Commit, Rollback, Continue, Force, Checkpoint, Switch, Started, Inserted, Deleted, Committed, RolledBack, More, Done}
 use Rattle.im_base_types.specs.Keys.{Key}
 use Rattle.im_base_types.specs.Records.{InsertKey, DeleteKey, Logged}
 use Rattle.im_theory_log.specs.Histories.{Base, History}
@@ -76,4 +76,5 @@ GrowsAs b RolledBack (Continue t) older longer = TakesLastBack t older longer
 GrowsAs b (Started n) step older longer = longer ≡ older
 GrowsAs b Done Force older longer = longer ≡ older
 GrowsAs b Done Checkpoint older longer = AddsCheckpoint older longer
+GrowsAs b Done Switch older longer = ⊥  -- the log goes on in the other file
 GrowsAs b reply step older longer = GrowsByImages b older longer

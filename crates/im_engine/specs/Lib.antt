@@ -1,6 +1,7 @@
 pub mod Numbered
 pub mod Faults
 pub mod Stands
+pub mod FirstFormat
 pub mod Promise
 pub mod Running
 pub mod Growing
@@ -11,6 +12,7 @@ pub mod Looking
 pub mod Counted
 pub mod Turns
 pub mod Opening
+pub mod Restarting
 pub mod Listing
 pub mod Lived
 pub mod Serves

@@ -1,6 +1,6 @@
 -- THE PROMISE
 --
--- A store is two files: a log, and pages. It lives again and again. A life is an opening, steps of any transactions in any order, and a stop: at the end, or at any moment before, within a step or within the opening. The next life begins with what the stop left of the two files.
+-- A store is three files: two logs, of which one is the current one, and pages. It lives again and again. A life is an opening, steps of any transactions in any order, and a stop: at the end, or at any moment before, within a step or within the opening. The next life begins with what the stop left of the three files.
 --
 -- What a transaction did is its effect: keys put with a number, keys dropped. Its commit is asked when the step Commit is made, and acknowledged when `Committed` has been handed out, or, where it was answered `More`, when `Done` of the next Force has been.
 use Rattle.std.specs.Prelude.{◌≡◌, ◌⊎◌, ◌++◌, ℕ, zero, suc, true, List, [], ◌∷◌, map, take, Option, None, Some, IfSome}
@@ -71,7 +71,7 @@ abbrev pub AreRun : {F : Type 0} → (List Effect → F → Type 0) → F → Li
 AreRun StandsFor files [] = Unit {0}
 AreRun StandsFor files (life ∷ later) = IsRunOn StandsFor files life × AreRun StandsFor life.left later
 
--- So it is of every list of lives from two new files, which stand for no effect, wherever each stops.
+-- So it is of every list of lives from new files, which stand for no effect, wherever each stops.
 abbrev pub Promise : {F : Type 0} → (List Effect → F → Type 0) → F → Type 0
 Promise {F} StandsFor new = (lives : List (Life F)) → AreRun StandsFor new lives → OneList [] lives
 

@@ -4,13 +4,13 @@ use Rattle.std.specs.FinMap.{empty}
 use Rattle.im_base_types.specs.Changes.{Effect, apply_all}
 use Rattle.im_theory_log.specs.Histories.{Base}
 use Rattle.im_theory_log.specs.Lawful.{IsLawful}
-use Rattle.im_theory_log.specs.PageCounts.{count_of, first_count}
 use Rattle.im_theory_log.specs.Structure.{open_smo}
 use Rattle.im_theory_log.specs.Writer.{Writer}
 use Rattle.im_base_types.specs.Lives.{Shown}
 use Rattle.im_base_disk.specs.declared.disk.Disk.{Ghosts}
 use Rattle.im_base_disk.specs.Disk.{Files}
 use Rattle.im_page_writer.specs.PageWriter.{StandsAs}
+use Rattle.im_restart_analysis.specs.Orderly.{IsCounted}
 use Rattle.im_theory_tree.specs.Theory.{page_tree}
 use Rattle.im_base_lock.specs.View.{View}
 use Rattle.im_theory_steps.specs.Growth.{AreBelow}
@@ -26,7 +26,7 @@ module _ {D : Type 0} (d : Ghosts D) where
   pub record IsRunning (b : Base) (before : List Effect) (s : Shown) (v : View) (e : Engine D d) : Type 0 where
     pub base : ℕ
     pub start : b.start ≤ base
-    pub counted : count_of b ≤ first_count
+    pub counted : IsCounted b base
     pub earlier : List Effect
     pub now : Writer
     pub stands : StandsAs d b base now e.writer e.disk

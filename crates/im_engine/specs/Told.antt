@@ -15,7 +15,9 @@ use Rattle.im_log_record.specs.Entry as entries
 use Rattle.im_log_record.specs.Entry.{Entry}
 use Rattle.im_log_record.specs.Spelling.{size_of}
 use Rattle.im_log.specs.declared.log_file.LogFile.{LogFile}
+use Rattle.im_log.specs.GoingOn.{next_gate}
 use Rattle.im_log.specs.LogFile.{HasNoRoom, end_with}
+use Rattle.im_log_gate.specs.Gate.{generation_at}
 use Rattle.im_theory_page.specs.PageFile.{page_count}
 use Rattle.im_page_pool.specs.Pool.{is_changed}
 use Rattle.im_page_writer.specs.Costs.{PageCosts}
@@ -38,7 +40,7 @@ use Rattle.im_base_lock.specs.Machine.{first_check, mark_for}
 use Rattle.im_theory_steps.specs.Checks.{marks_in}
 use Rattle.im_restart.specs.declared.redo_report.RedoReport.{RedoReport}
 use Rattle.im_base_types.specs.declared.fault.Fault.{Fault}
-use Rattle.im_base_types.specs.declared.fault.Fault.TheVariants.{NoTransaction, MustRollBack, KeyLength, RollingBack, PagesFull, Capacity, LogFull, Device, Memory, Failed, NotAStore, TooMany}
+use Rattle.im_base_types.specs.declared.fault.Fault.TheVariants.{NoTransaction, MustRollBack, KeyLength, RollingBack, PagesFull, Capacity, LogFull, Device, Memory, Failed, NotAStore, TooMany, Busy}
 use Rattle.im_base_steps.specs.declared.step.Step.{Step}
 use Rattle.im_base_steps.specs.declared.reply.Reply.{Reply}
 use Rattle.im_base_steps.specs.declared.reply.Reply.TheVariants.{Started, Inserted, Committed, RolledBack, More, Done, Refused}
@@ -97,6 +99,7 @@ is_early (Refused MustRollBack) = true
 is_early (Refused KeyLength) = true
 is_early (Refused RollingBack) = true
 is_early (Refused TooMany) = true
+is_early (Refused Busy) = true
 is_early _ = false
 
 module _ {D : Type 0} (d : Ghosts D) where
@@ -161,6 +164,12 @@ module _ {D : Type 0} (d : Ghosts D) (log : LogFile) (disk : D) where
   DeleteCause Failed = Unit {0}
   DeleteCause fault = ReadCause fault
 
+  -- and a Switch, once it has begun: the disk fails, or an Image, or the first gate of the next log after the Images, would lie above the greatest LSN
+  abbrev pub SwitchCause : Fault → Type 0
+  SwitchCause Device = d.failed disk ≡ true
+  SwitchCause LogFull = (2 ^ 62 < next_gate log + 47) ⊎ (2 ^ 62 < end_with log 4129)
+  SwitchCause _ = ⊥
+
   -- and a change that is taken back, where a key that comes back may want pages
   abbrev pub TurnCause : Fault → Type 0
   TurnCause Failed = Unit {0}
@@ -173,7 +182,15 @@ module _ {D : Type 0} (d : Ghosts D) (log : LogFile) (disk : D) where
   InsertCause fault = TurnCause fault
 
 module _ {D : Type 0} (d : Ghosts D) where
-  -- Steps that make no device call: a Begin, a Rollback, a Commit of a transaction that has no records, or one that waits for a force and whose record fits into the buffer, the flush of a page that was not changed, a force where nothing is buffered.
+  -- the first gate of the next log would lie above the greatest LSN, even with no Image
+  abbrev pub EndsNearTop : Engine D d → Type 0
+  EndsNearTop e = 2 ^ 62 < next_gate e.writer.log + 47
+
+  -- there is no next generation of the log
+  abbrev pub IsLastLog : Engine D d → Type 0
+  IsLastLog e = 2 ^ 62 ≤ generation_at e.writer.log.gate + 1
+
+  -- Steps that make no device call: a Begin, a Rollback, a Commit of a transaction that has no records, or one that waits for a force and whose record fits into the buffer, the flush of a page that was not changed, a force where nothing is buffered, a Switch of a log after which there is no other.
   abbrev pub CallsDevice : answers.Step → Engine D d → Type 0
   CallsDevice answers.Begin e = ⊥
   CallsDevice (answers.Do t access) e = Unit {0}
@@ -183,6 +200,7 @@ module _ {D : Type 0} (d : Ghosts D) where
   CallsDevice (answers.FlushPage page) e = is_changed e.writer.pool page ≡ true
   CallsDevice answers.Force e = 1 ≤ e.writer.log.used
   CallsDevice answers.Checkpoint e = Unit {0}
+  CallsDevice answers.Switch e = (EndsNearTop e → ⊥) × (IsLastLog e → ⊥)
 
   -- what a step costs that is asked for to bring records or a page to the disk
   abbrev pub StepCosts : answers.Step → Reply → Engine D d → Engine D d → Type 0
@@ -191,6 +209,7 @@ module _ {D : Type 0} (d : Ghosts D) where
   StepCosts (answers.FlushPage page) reply old new =
       reply ≡ Done → is_changed old.writer.pool page ≡ true → PageCosts d page (page_count (d.seen old.disk PagesFile)) (has_room page old.writer.table) old.disk new.disk
   StepCosts answers.Checkpoint reply old new = CostsAtMost d 4 5 old.disk new.disk
+  StepCosts answers.Switch reply old new = old.writer.table ≡ [] → CostsAtMost d 5 6 old.disk new.disk
   StepCosts _ reply old new = Unit {0}
 
   -- the record of a Checkpoint that is taken now
@@ -225,6 +244,7 @@ module _ {D : Type 0} (d : Ghosts D) where
     Refuses (answers.FlushPage page) = IsFor (FlushCause d log disk)
     Refuses answers.Force = OfForce
     Refuses answers.Checkpoint = Where (d.failed disk ≡ true) (fault ≡ Device) (Where (2 ^ 62 < end_with old.writer.log (size_of (checkpoint_of old))) (fault ≡ LogFull) ⊥)
+    Refuses answers.Switch = Where (EndsNearTop old) (fault ≡ LogFull) (Where (IsLastLog old) (fault ≡ Capacity) (IsFor (SwitchCause d log disk)))
 
   -- A step is refused exactly by the first check that it fails, or else for its cause.
   abbrev pub IsAnswered : answers.Step → Reply → Engine D d → Engine D d → Type 0

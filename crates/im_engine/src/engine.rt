@@ -13,6 +13,7 @@ use crate::transactions::Transactions;
 use im_base_disk::Disk;
 use im_base_lock::LockTable;
 use im_base_steps::{Reply, Step};
+use im_base_two_logs::TwoLogs;
 use im_base_types::{Fault, PageNo};
 use im_page_writer::PageWriter;
 use im_restart::RedoReport;
@@ -45,7 +46,6 @@ impl<D: Disk> Engine<D> {
     ghost use Rattle.im_base_steps.specs.Calls.{asked_by};
     ghost use Rattle.im_theory_steps.specs.Checks.{marks_in};
     ghost use Rattle.im_engine.specs.Kept.{numbered};
-    ghost use Rattle.im_engine.specs.Told.{IsStep};
 
     // The first refusal that a check gives to a step.
     fn refusal(&self, step: &Step) -> Option<Fault>
@@ -77,44 +77,13 @@ impl<D: Disk> Engine<D> {
             Step::FlushPage(_) => None,
             Step::Force => None,
             Step::Checkpoint => None,
-        }
-    }
-
-    /// Makes a step, and answers it. A step by a key reads the pages on the key's way, which makes device calls where the pool does not
-    /// hold them; what is read needs a frame, so a page that was changed may be written to make one free. A Commit of a transaction that
-    /// has records forces the log, once where its record fits into the buffer and twice at most; with `Config.group` it is only logged and
-    /// answered `More`, and its transaction keeps its locks up to the next `Force` that is answered `Done`, which commits all that wait.
-    /// `Force` forces the log where records are buffered, and `FlushPage` writes a page that was changed. `Checkpoint` syncs the file of
-    /// pages, logs one record with the active transactions and the pages that lack changes in their file, and forces the log: redo of a
-    /// restart begins at the least of that record's LSN and the LSNs that it lists of pages.
-    ///
-    /// Refused by the first of these that holds: `Failed` where an earlier step broke the engine; `TooMany` at Begin where 64 transactions
-    /// are active; `NoTransaction` where none of that number is active or it waits for a force, or at Continue where it has nothing to go
-    /// on with; `MustRollBack` where it was answered `Die`; `RollingBack` where it is taking back; `KeyLength`; `PagesFull` where an insert
-    /// needs pages past the limit; `Capacity` where page numbers, levels or transaction numbers are used up. In between come `LogFull`
-    /// where the log has no room below LSN 2^62, `Device`, `NotAStore` where a page's bytes are none, `Memory`, and `Failed` where memory
-    /// was wanted too late. `LogFull`, `Capacity`, `Device`, `NotAStore` and `Failed` break the engine; after every other refusal the
-    /// entries, the locks and the transactions are as they were.
-    pub fn step(&mut self, step: &Step) -> Reply
-        ensures { IsStep D.Disk step.now result self.old self.new }
-    {
-        if let Some(fault) = self.refusal(step) {
-            return Reply::Refused(fault);
-        }
-        match step {
-            Step::Begin => self.begin(),
-            Step::Fetch(t, key) => self.fetch(*t, key),
-            Step::Seek(t, key) => self.seek(*t, key, true),
-            Step::Next(t, key) => self.seek(*t, key, false),
-            Step::Scan(t, lo, hi, limit) => self.scan(*t, lo, hi, *limit),
-            Step::Commit(t) => self.commit(*t),
-            Step::Rollback(t) => self.roll_back(*t),
-            Step::Continue(t) => self.go_on(*t),
-            Step::Force => self.force(),
-            Step::FlushPage(page) => self.flush_page(*page),
-            Step::Checkpoint => self.checkpoint(),
-            Step::Insert(t, key, rid) => self.insert(*t, key, *rid),
-            Step::Delete(t, key) => self.delete(*t, key),
+            Step::Switch => {
+                if self.txns.len() > 0 {
+                    Some(Fault::Busy)
+                } else {
+                    None
+                }
+            }
         }
     }
 
@@ -137,5 +106,49 @@ impl<D: Disk> Engine<D> {
         ensures { result ≡ self.now.failed }
     {
         self.failed
+    }
+}
+
+impl<D: TwoLogs> Engine<D> {
+    ghost use Rattle.im_engine.specs.Told.{IsStep};
+
+    /// Makes a step, and answers it. A step by a key reads the pages on the key's way, which makes device calls where the pool does not
+    /// hold them; what is read needs a frame, so a page that was changed may be written to make one free. A Commit of a transaction that
+    /// has records forces the log, once where its record fits into the buffer and twice at most; with `Config.group` it is only logged and
+    /// answered `More`, and its transaction keeps its locks up to the next `Force` that is answered `Done`, which commits all that wait.
+    /// `Force` forces the log where records are buffered, and `FlushPage` writes a page that was changed. `Checkpoint` syncs the file of
+    /// pages, logs one record with the active transactions and the pages that lack changes in their file, and forces the log: redo of a
+    /// restart begins at the least of that record's LSN and the LSNs that it lists of pages. `Switch` writes every page that was changed, forces the log, syncs the file
+    /// of pages, and makes the other log file one of the next generation, with no record: a restart reads nothing of the log from before.
+    ///
+    /// Refused by the first of these that holds: `Failed` where an earlier step broke the engine; `TooMany` at Begin where 64 transactions
+    /// are active; `Busy` at Switch where one is, or waits for a force; `NoTransaction` where none of that number is active or it waits for a force, or at Continue where it has nothing to go
+    /// on with; `MustRollBack` where it was answered `Die`; `RollingBack` where it is taking back; `KeyLength`; `PagesFull` where an insert
+    /// needs pages past the limit; `Capacity` where page numbers, levels, transaction numbers or generations of the log are used up. In between come `LogFull`
+    /// where the log has no room below LSN 2^62, `Device`, `NotAStore` where a page's bytes are none, `Memory`, and `Failed` where memory
+    /// was wanted too late. `LogFull`, `Capacity`, `Device`, `NotAStore` and `Failed` break the engine; after every other refusal the
+    /// entries, the locks and the transactions are as they were.
+    pub fn step(&mut self, step: &Step) -> Reply
+        ensures { IsStep D.Disk step.now result self.old self.new }
+    {
+        if let Some(fault) = self.refusal(step) {
+            return Reply::Refused(fault);
+        }
+        match step {
+            Step::Begin => self.begin(),
+            Step::Fetch(t, key) => self.fetch(*t, key),
+            Step::Seek(t, key) => self.seek(*t, key, true),
+            Step::Next(t, key) => self.seek(*t, key, false),
+            Step::Scan(t, lo, hi, limit) => self.scan(*t, lo, hi, *limit),
+            Step::Commit(t) => self.commit(*t),
+            Step::Rollback(t) => self.roll_back(*t),
+            Step::Continue(t) => self.go_on(*t),
+            Step::Force => self.force(),
+            Step::FlushPage(page) => self.flush_page(*page),
+            Step::Checkpoint => self.checkpoint(),
+            Step::Switch => self.switch(),
+            Step::Insert(t, key, rid) => self.insert(*t, key, *rid),
+            Step::Delete(t, key) => self.delete(*t, key),
+        }
     }
 }

@@ -14,16 +14,17 @@ use crate::config::Config;
 use crate::engine::Engine;
 use im_base_disk::Disk;
 use im_base_steps::{Reply, Step};
+use im_base_two_logs::TwoLogs;
 use im_base_types::Fault;
 use std::alloc::Global;
 use std::thread::Threads;
 
-impl<D: Disk> Engine<D> {
+impl<D: TwoLogs> Engine<D> {
     ghost use Rattle.std.specs.Prelude.{OnErr};
     ghost use Rattle.im_base_types.specs.Changes.{Effect};
     ghost use Rattle.im_base_types.specs.Lives.{Shown};
     ghost use Rattle.im_base_types.specs.declared.fault.Fault.TheVariants.{Memory};
-    ghost use Rattle.im_base_disk.specs.Runs.{LeavesOnly};
+    ghost use Rattle.im_base_two_logs.specs.Runs.{LeavesNamed};
     ghost use Rattle.im_base_lock.specs.View.{View};
     ghost use Rattle.im_engine.specs.Running.{IsLife};
     ghost use Rattle.im_engine.specs.Promise.{answered_by};
@@ -35,7 +36,7 @@ impl<D: Disk> Engine<D> {
         ensures kept { IfOk result (λ replies. (before : List Effect) (s : Shown) (v : View) → IsLife D.Disk before s v self.old → LivesOn D.Disk before s v (answered_by steps.now replies.items) self.new) }
         ensures each { IfOk result (λ replies. length replies.items ≡ length steps.now) }
         ensures turns { IfOk result (λ replies. AreSteps D.Disk steps.now replies.items self.old self.new) }
-        ensures stops { IfOk result (λ replies. (before : List Effect) (s : Shown) (v : View) → IsLife D.Disk before s v self.old → LeavesOnly D.Disk self.old.disk self.new.disk (IsCutOff before s steps.now replies.items)) }
+        ensures stops { IfOk result (λ replies. (before : List Effect) (s : Shown) (v : View) → IsLife D.Disk before s v self.old → LeavesNamed D.Disk self.old.disk self.new.disk (IsCutOff before s steps.now replies.items)) }
         ensures max_pages { self.new.max_pages ≡ self.old.max_pages }
         ensures frames { self.new.writer.pool.frames ≡ self.old.writer.pool.frames }
         ensures none { OnErr result (self.new ≡ self.old) }
@@ -62,7 +63,7 @@ impl<D: Disk> Engine<D> {
 ///
 /// Refused as an opening is, and for its causes, with no step made, and `Memory` where there is no room for the replies: then the files
 /// stand for what they stood for.
-pub fn live<D: Disk, R: Threads + Sync>(
+pub fn live<D: TwoLogs, R: Threads + Sync>(
     rt: &R,
     alloc: Global,
     disk: D,

@@ -12,7 +12,7 @@ ghost use Rattle.im_engine.specs.Listing.{IsLook, handed_out};
 
 use crate::config::Config;
 use crate::engine::Engine;
-use im_base_disk::Disk;
+use im_base_two_logs::TwoLogs;
 use im_base_types::{Fault, Key, Rid};
 use std::alloc::Global;
 use std::thread::Threads;
@@ -22,7 +22,7 @@ use std::thread::Threads;
 /// (`run`, `the_promise`): whatever a stop at any moment of it leaves stands for what the files stood for.
 ///
 /// Refused as an opening is, or as `Engine::entries` is; the files are then not shown.
-pub fn look<D: Disk, R: Threads + Sync>(
+pub fn look<D: TwoLogs, R: Threads + Sync>(
     rt: &R,
     alloc: Global,
     disk: D,

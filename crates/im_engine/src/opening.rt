@@ -6,10 +6,12 @@ ghost use Rattle.im_base_types.specs.declared.fault.Fault.TheVariants.{Memory};
 
 use crate::config::{Config, MOST_WORKERS};
 use crate::engine::Engine;
+use crate::restarting::restart_current;
 use crate::syncing::sync_files;
 use crate::transactions::Transactions;
 use im_base_disk::Disk;
 use im_base_lock::LockTable;
+use im_base_two_logs::TwoLogs;
 use im_base_types::{Fault, LEAST_FRAMES, LONGEST_BATCH, MOST_FRAMES};
 use im_restart::{Alone, ByThreads, Redoes};
 use std::alloc::Global;
@@ -23,25 +25,24 @@ fn make_room(alloc: Global) -> Result<Vec<u8>, Fault>
     vec![in alloc; 0; LONGEST_BATCH].map_err(|_| Fault::Memory)
 }
 
-impl<D: Disk> Engine<D> {
+impl<D: TwoLogs> Engine<D> {
     ghost use Rattle.im_base_types.specs.Changes.{Effect};
-    ghost use Rattle.std.specs.Prelude.{OnOk};
-    ghost use Rattle.im_base_types.specs.declared.fault.Fault.TheVariants.{LogFull, Capacity, Device, Failed, Memory, NotAStore, PoolSize, Workers};
-    ghost use Rattle.im_base_disk.specs.Disk.{Files};
-    ghost use Rattle.im_base_disk.specs.Runs.{IsSynced, LeavesOnly, Reads};
-    ghost use Rattle.im_restart.specs.Restart.{IsFullLog, SpellsLog};
-    ghost use Rattle.im_engine.specs.Stands.{StandsFor};
+    ghost use Rattle.im_base_types.specs.declared.fault.Fault.TheVariants.{LogFull, Capacity, Device, Memory, NotAStore, PoolSize, Workers};
+    ghost use Rattle.im_base_disk.specs.Runs.{IsSynced};
+    ghost use Rattle.im_log_choice.specs.Turning.{ReadsNamed};
+    ghost use Rattle.im_restart.specs.Restart.{IsFullLog};
+    ghost use Rattle.im_engine.specs.Stands.{StandsFor, SpellsCurrent};
     ghost use Rattle.im_engine.specs.Kept.{OpenKept, disk_of};
     ghost use Rattle.im_engine.specs.Opening.{IsOpening};
 
-    /// Opens the store of a disk, or makes a new one where both files are empty: what was committed is there, and what was not is
-    /// taken back. No transaction is active, and nothing is locked. Redo is shared by the workers of the configuration, in threads that the
-    /// runtime starts. Gives the disk back with a refusal.
+    /// Opens the store of a disk, or makes a new one where all its files are empty: what was committed is there, and what was not is
+    /// taken back. No transaction is active, and nothing is locked. From there on the current one of the two logs has the name `Log`. Redo is
+    /// shared by the workers of the configuration, in threads that the runtime starts. Gives the disk back with a refusal.
     ///
     /// Refused, with no device call, `PoolSize` where the frames are not 8 to 1,024, and behind that `Workers` where the workers are not 1 to 16;
-    /// `NotAStore` where the bytes are no store;
+    /// `NotAStore` where the bytes are no store, or nothing says which of two logs is the current one;
     /// `LogFull` only where the log's file then ends less than 32,778 bytes below LSN 2^62; `Capacity` where what is taken back needs
-    /// a page and page numbers or levels are used up; `Memory`; `Device`. Where the log's bytes are no log's, one of its records leads to a
+    /// a page and page numbers or levels are used up; `Memory`; `Device`. Where the current log's bytes are no log's, one of its records leads to a
     /// later one or names a page that no page count before it has, or one opens a structure change beside another's, nothing is written.
     pub fn open_or_create<R: Threads + Sync>(
         rt: &R,
@@ -59,9 +60,9 @@ impl<D: Disk> Engine<D> {
         ensures limit { IfOk result (λ e. e.max_pages ≡ config.max_pages) }
         ensures group { IfOk result (λ e. e.txns.group ≡ config.group) }
         ensures pool { IfOk result (λ e. e.writer.pool.frames ≡ config.frames) }
-        ensures spelled { IfOk result (λ _. D.tells → SpellsLog (D.seen disk)) }
+        ensures spelled { IfOk result (λ _. D.tells → SpellsCurrent (D.seen disk)) }
         ensures causes { IfErr result (λ x. (x.0 ≡ PoolSize) ⊎ (x.0 ≡ Workers) ⊎ (x.0 ≡ Memory) ⊎ (x.0 ≡ Device) ⊎ (x.0 ≡ NotAStore) ⊎ (x.0 ≡ LogFull) ⊎ (x.0 ≡ Capacity)) }
-        ensures unspelled { D.tells → ¬ (SpellsLog (D.seen disk)) → Reads D.Disk disk (disk_of D.Disk result) × IfErr result (λ x. (x.0 ≡ PoolSize) ⊎ (x.0 ≡ Workers) ⊎ (x.0 ≡ Memory) ⊎ (x.0 ≡ Device) ⊎ (x.0 ≡ NotAStore)) }
+        ensures unspelled { D.tells → ¬ (SpellsCurrent (D.seen disk)) → ReadsNamed D.Disk disk (disk_of D.Disk result) × IfErr result (λ x. (x.0 ≡ PoolSize) ⊎ (x.0 ≡ Workers) ⊎ (x.0 ≡ Memory) ⊎ (x.0 ≡ Device) ⊎ (x.0 ≡ NotAStore)) }
         ensures full { IfErr result (λ x. x.0 ≡ LogFull → D.tells → IsFullLog (D.seen x.1)) }
         ensures device { IsErrAnd result (λ x. x.0 ≡ Device) ↔ (D.failed (disk_of D.Disk result) ≡ true) }
     {
@@ -96,9 +97,9 @@ impl<D: Disk> Engine<D> {
         ensures limit { IfOk result (λ e. e.max_pages ≡ config.max_pages) }
         ensures group { IfOk result (λ e. e.txns.group ≡ config.group) }
         ensures pool { IfOk result (λ e. e.writer.pool.frames ≡ config.frames) }
-        ensures spelled { IfOk result (λ _. D.tells → SpellsLog (D.seen disk)) }
+        ensures spelled { IfOk result (λ _. D.tells → SpellsCurrent (D.seen disk)) }
         ensures causes { IfErr result (λ x. (x.0 ≡ PoolSize) ⊎ (x.0 ≡ Workers) ⊎ (x.0 ≡ Memory) ⊎ (x.0 ≡ Device) ⊎ (x.0 ≡ NotAStore) ⊎ (x.0 ≡ LogFull) ⊎ (x.0 ≡ Capacity)) }
-        ensures unspelled { D.tells → ¬ (SpellsLog (D.seen disk)) → Reads D.Disk disk (disk_of D.Disk result) × IfErr result (λ x. (x.0 ≡ PoolSize) ⊎ (x.0 ≡ Workers) ⊎ (x.0 ≡ Memory) ⊎ (x.0 ≡ Device) ⊎ (x.0 ≡ NotAStore)) }
+        ensures unspelled { D.tells → ¬ (SpellsCurrent (D.seen disk)) → ReadsNamed D.Disk disk (disk_of D.Disk result) × IfErr result (λ x. (x.0 ≡ PoolSize) ⊎ (x.0 ≡ Workers) ⊎ (x.0 ≡ Memory) ⊎ (x.0 ≡ Device) ⊎ (x.0 ≡ NotAStore)) }
         ensures full { IfErr result (λ x. x.0 ≡ LogFull → D.tells → IsFullLog (D.seen x.1)) }
         ensures device { IsErrAnd result (λ x. x.0 ≡ Device) ↔ (D.failed (disk_of D.Disk result) ≡ true) }
     {
@@ -113,7 +114,7 @@ impl<D: Disk> Engine<D> {
             Err(fault) => return Err((fault, disk)),
         };
         let mut disk = disk;
-        match im_restart::open_or_create(
+        match restart_current(
             how,
             alloc,
             &mut disk,
@@ -135,6 +136,13 @@ impl<D: Disk> Engine<D> {
             }),
         }
     }
+}
+
+impl<D: Disk> Engine<D> {
+    ghost use Rattle.std.specs.Prelude.{OnOk};
+    ghost use Rattle.im_base_types.specs.declared.fault.Fault.TheVariants.{Device, Failed};
+    ghost use Rattle.im_base_disk.specs.Disk.{Files};
+    ghost use Rattle.im_base_disk.specs.Runs.{IsSynced, LeavesOnly};
 
     /// The disk, for reading.
     pub fn disk(&self) -> &D
@@ -143,7 +151,7 @@ impl<D: Disk> Engine<D> {
         &self.disk
     }
 
-    /// Closes the store: ends the engine, brings both files to the disk, and hands it back, so that the store may be opened again. The
+    /// Closes the store: ends the engine, brings its files to the disk, and hands it back, so that the store may be opened again. The
     /// files read as they did. Refused `Failed`, with no device call, where an earlier step broke the engine; `Device`.
     pub fn close(self) -> (Result<(), Fault>, D)
         ensures synced { OnOk result.0 ((self.failed ≡ false) × IsSynced D.Disk result.1 × (D.failed result.1 ≡ false)) }
@@ -162,7 +170,7 @@ impl<D: Disk> Engine<D> {
     }
 
     /// Ends the engine, with no device call, and hands the disk back. What was written and not synced is not on the disk then: before its
-    /// store is opened again, both files are synced (`close`, `sync_files`), or it is a disk of the files anew.
+    /// store is opened again, its files are synced (`close`, `sync_files`), or it is a disk of the files anew.
     pub fn into_disk(self) -> D
         ensures { result ≡ self.disk }
     {

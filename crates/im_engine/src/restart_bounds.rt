@@ -18,6 +18,14 @@ impl<D: Disk> Engine<D> {
         self.writer.durable_end()
     }
 
+    /// How many bytes of the current log's file are durable records with their gates: an opening reads so many, and begins anew with them behind a
+    /// `Switch`.
+    pub fn log_length(&self) -> u64
+        ensures { result ≡ place_of self.now.writer.log.gate }
+    {
+        self.writer.log_place()
+    }
+
     /// How many pages may lack changes in their file, or have a write that is not synced: at most 1,024. An opening redoes none but these,
     /// where a Checkpoint has just been taken.
     pub fn dirty_count(&self) -> usize

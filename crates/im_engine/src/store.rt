@@ -3,12 +3,12 @@
 
 use crate::accesses::told;
 use crate::engine::Engine;
-use im_base_disk::Disk;
 use im_base_steps::{Reply, Step, Store};
+use im_base_two_logs::TwoLogs;
 use im_base_types::{Fault, Key, Rid};
 use std::alloc::Global;
 
-impl<D: Disk + Drop> Store for Engine<D> {
+impl<D: TwoLogs + Drop> Store for Engine<D> {
     ghost use Rattle.std.specs.Prelude.{length};
     ghost use Rattle.im_base_txn.specs.Rows.{waiting_in};
     ghost use Rattle.im_base_txn.proofs.LookUps.{few_waiting};

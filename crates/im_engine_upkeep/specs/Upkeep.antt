@@ -9,11 +9,7 @@ use Rattle.im_engine.specs.declared.engine.Engine.{Engine}
 use Rattle.im_engine.specs.Told.{IsStep}
 
 module _ {D : Type 0} (d : Ghosts D) where
-  -- The engine made steps that are of no transaction, one after another: page writes, forces, Checkpoints.
+  -- The engine made steps that are of no transaction, one after another: page writes, forces, Checkpoints, Switches.
   pub data IsKeptUp (old : Engine D d) : Engine D d → Type 0 where
     none : IsKeptUp old old
     more : (mid new : Engine D d) (step : Step) (reply : Reply) → IsKeptUp old mid → is_service (asked_by step) ≡ true → IsStep d step reply mid new → IsKeptUp old new
-
-  -- what was kept up so far still is
-  abbrev pub GoesOnKeepingUp : Engine D d → Engine D d → Type 0
-  GoesOnKeepingUp old new = (first : Engine D d) → IsKeptUp first old → IsKeptUp first new

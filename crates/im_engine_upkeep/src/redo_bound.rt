@@ -87,13 +87,14 @@ impl RedoBound {
         self.bytes > 0
     }
 
-    /// Whether a Checkpoint is due, of a log that is durable up to an end and that an opening would redo from an LSN on: once seven
-    /// eighths of the bound are reached, where each page that may lack changes in its file is counted with the full copy that the log may
-    /// get of it before the Checkpoint. The last eighth is left for what one step logs, and for the Checkpoint.
-    pub(crate) fn is_due(&self, from: Lsn, end: Lsn, pages: usize) -> bool
-        ensures { IsTrue result ↔ ((1 ≤ self.now.bytes) × (7 * self.now.bytes ≤ 8 * redo_length from end pages)) }
+    /// Whether so many eighths of the bound are reached, of a log that is durable up to an end and that an opening would redo from an LSN on,
+    /// where each page that may lack changes in its file is counted with the full copy that the log may get of it before a Checkpoint. A Checkpoint is due
+    /// at seven: the last eighth is left for what one step logs, and for the Checkpoint.
+    pub(crate) fn is_reached(&self, eighths: u64, from: Lsn, end: Lsn, pages: usize) -> bool
+        requires few { eighths ≤ 8 }
+        ensures { IsTrue result ↔ ((1 ≤ self.now.bytes) × (eighths * self.now.bytes ≤ 8 * redo_length from end pages)) }
     {
-        self.bytes > 0 && 7 * self.bytes as u128 <= 8 * redo_length(from, end, pages)
+        self.bytes > 0 && eighths as u128 * self.bytes as u128 <= 8 * redo_length(from, end, pages)
     }
 
     /// Whether the page with the oldest change is written before a Checkpoint: where from the LSN of that change on, with a full copy of

@@ -1,11 +1,13 @@
 use Rattle.std.proofs.Common.{rules, ◌≡◌, List, take, arith, subst, sym, refl, ◌∙◌}
 use Rattle.std.proofs.lemmas.List.{take_all}
-use Rattle.im_base_disk.specs.Runs.{LeavesOnly}
+use Rattle.im_base_two_logs.specs.Runs.{LeavesNamed}
+use Rattle.im_base_two_logs.proofs.Runs.{unnamed}
 use Rattle.im_base_disk.proofs.Runs.{started}
 use Rattle.im_engine.specs.Stands.{Allowed}
 use Rattle.im_base_steps.specs.declared.step.Step.{Step}
 use Rattle.im_engine.specs.Promise.{answered_by}
 use Rattle.im_engine.specs.Turns.{LivesOn, IsCutOff}
+use Rattle.im_engine.proofs.Named.{allowed_nameless}
 use Rattle.im_engine.proofs.TurnLemmas.{one_turn_more, lives_more, cut_one_more}
 use Rattle.im_engine.proofs.engine.Engine.life.Goals as goal
 
@@ -15,7 +17,9 @@ loop-step-init g c = record {
   len = search rules;
   room = search rules;
   turns = search rules;
-  stops = λ before s v life. started g.D.Disk c.args.self.now.disk (Allowed before s) (λ told left_now left. life.stops left_now (g.met.D.Disk.only_now c.args.self.now.disk left_now left));
+  stops = λ before s v life.
+      unnamed g.D.Disk (Allowed before s) (allowed_nameless before s) c.args.self.now.disk c.args.self.now.disk
+      (started g.D.Disk c.args.self.now.disk (Allowed before s) (λ told left_now left. life.stops left_now (g.met.D.Disk.only_now c.args.self.now.disk left_now left)));
   max_pages = refl;
   frames = refl;
   kept = λ before s v life. record { next = v; run = refl; after = life };
@@ -54,4 +58,4 @@ pub returns-clause-stops : goal.returns-clause-stops
 returns-clause-stops g c before s v life =
     let l = c.loop-step in
     let all : take l.step-index c.args.steps.now ≡ c.args.steps.now = take_all l.step-index c.args.steps.now (omega (arith, c.loop-step-test.false)) in
-    subst (λ (steps : List Step). LeavesOnly g.D.Disk c.args.self.now.disk l.self.disk (IsCutOff before s steps l.replies.items)) all (l.invariant.stops before s v life)
+    subst (λ (steps : List Step). LeavesNamed g.D.Disk c.args.self.now.disk l.self.disk (IsCutOff before s steps l.replies.items)) all (l.invariant.stops before s v life)

@@ -57,6 +57,10 @@ pub returns-in-Checkpoint : goal.returns-in-Checkpoint
 returns-in-Checkpoint g c =
     step_as g.D.Disk c.args.step.now _ c.in-Checkpoint.is c.checkpoint.result c.args.self.now c.checkpoint.new.self c.in_default.ensures c.checkpoint.ensures
 
+pub returns-in-Switch : goal.returns-in-Switch
+returns-in-Switch g c =
+    step_as g.D.Disk c.args.step.now _ c.in-Switch.is c.switch.result c.args.self.now c.switch.new.self c.in_default.ensures c.switch.ensures
+
 pub returns-in-Insert : goal.returns-in-Insert
 returns-in-Insert g c =
     step_as g.D.Disk c.args.step.now _ c.in-Insert.is c.insert.result c.args.self.now c.insert.new.self c.in_default.ensures

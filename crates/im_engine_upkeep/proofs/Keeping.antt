@@ -1,0 +1,140 @@
+-- What was made is upkeep.
+use Rattle.std.proofs.Common.{◌∙◌, refl, sym}
+use Rattle.std.specs.Prelude.{◌≡◌, ℕ, true, false, Result, OnOk, IfErr, Ok, Err, ◌≤◌, IsTrue}
+use Rattle.im_base_disk.specs.declared.disk.Disk.{Ghosts}
+use Rattle.im_base_types.specs.declared.fault.Fault.{Fault}
+use Rattle.im_base_steps.specs.declared.step.Step.{Step}
+use Rattle.im_base_steps.specs.declared.step.Step.TheVariants.{FlushPage, Force, Checkpoint, Switch}
+use Rattle.im_base_steps.specs.declared.reply.Reply.TheVariants.{Refused}
+use Rattle.im_base_steps.specs.Calls.{asked_by}
+use Rattle.im_base_steps.specs.Replies.{is_service}
+use Rattle.im_engine.specs.declared.engine.Engine.{Engine}
+use Rattle.im_engine.specs.Told.{IsStep}
+use Rattle.im_engine_upkeep.specs.declared.upkeep.Upkeep.{Upkeep}
+use Rattle.im_engine_upkeep.specs.declared.due.Due.TheVariants as due
+use Rattle.im_engine_upkeep.specs.Upkeep.{IsKeptUp, none, more}
+use Rattle.im_engine_upkeep.specs.Rule.{IsByRule, IsDue, IsEnded, IsLongAtEnd, IsWritten, IsTaken, MadeLast, WasForced, WasRefused}
+use Rattle.im_engine_upkeep.specs.Rule as rule
+
+-- what follows where it was made
+pub ok_on : {T A B : Type 0} (r : Result T Fault) → OnOk r A → (A → B) → OnOk r B
+ok_on (Ok _) on f = f on
+ok_on (Err _) on f = on
+
+-- what follows where it was refused
+pub err_on : {T : Type 0} {A B : Fault → Type 0} (r : Result T Fault) → IfErr r A → ((e : Fault) → A e → B e) → IfErr r B
+err_on (Ok _) on f = on
+err_on (Err e) on f = f e on
+
+-- what follows either way
+pub either_way : {T A K : Type 0} {B : Fault → Type 0} (r : Result T Fault) → OnOk r A → IfErr r B → (A → K) → ((e : Fault) → B e → K) → K
+either_way (Ok _) on if_err so not_so = so on
+either_way (Err e) on if_err so not_so = not_so e if_err
+
+module _ {D : Type 0} (d : Ghosts D) where
+  pub kept_none : (e : Engine D d) → IsKeptUp d e e
+  kept_none e = none
+
+  pub written_none : (e : Engine D d) → IsWritten d e e
+  written_none e = rule.none
+
+  -- writes of pages are upkeep
+  pub written_kept : (old new : Engine D d) → IsWritten d old new → IsKeptUp d old new
+  written_kept old _ rule.none = none
+  written_kept old _ (rule.more mid new page reply before made) = more mid new (FlushPage page) reply (written_kept old mid before) refl made
+
+  -- a step after upkeep is
+  pub taken_kept : (old mid new : Engine D d) (step : Step) → is_service (asked_by step) ≡ true → IsKeptUp d old mid → IsTaken d step mid new → IsKeptUp d old new
+  taken_kept old mid new step service before taken = more mid new step taken.reply before service taken.made
+
+  -- and the first one
+  pub first_kept : (old new : Engine D d) (step : Step) → is_service (asked_by step) ≡ true → IsTaken d step old new → IsKeptUp d old new
+  first_kept old new step service taken = taken_kept old old new step service none taken
+
+  -- and a step after writes of pages
+  pub last_kept : (old new : Engine D d) (step : Step) → is_service (asked_by step) ≡ true → MadeLast d step old new → IsKeptUp d old new
+  last_kept old new step service made = taken_kept old made.mid new step service (written_kept old made.mid made.written) made.taken
+
+  pub last_kept_on : {T : Type 0} (r : Result T Fault) (old new : Engine D d) → OnOk r (MadeLast d Checkpoint old new) → OnOk r (IsKeptUp d old new)
+  last_kept_on r old new made = ok_on r made (last_kept old new Checkpoint refl)
+
+  pub taken_last : (old mid new : Engine D d) (step : Step) → IsWritten d old mid → IsTaken d step mid new → MadeLast d step old new
+  taken_last old mid new step written taken = record { mid = mid; written = written; taken = taken }
+
+  -- a page more was written
+  pub page_written : (old mid new : Engine D d) (page : ℕ) → IsWritten d old mid → IsTaken d (FlushPage page) mid new → IsWritten d old new
+  page_written old mid new page before taken = rule.more mid new page taken.reply before taken.made
+
+  -- a step that was refused is upkeep too
+  pub refused_kept : (old new : Engine D d) (fault : Fault) → WasRefused d old new fault → IsKeptUp d old new
+  refused_kept old new fault was = more was.mid new was.step (Refused fault) was.before was.service was.made
+
+  -- it was refused after upkeep
+  pub refused_after : (old mid new : Engine D d) (step : Step) (fault : Fault) → is_service (asked_by step) ≡ true → IsKeptUp d old mid → IsStep d step (Refused fault) mid new → WasRefused d old new fault
+  refused_after old mid new step fault service before made = record { mid = mid; step = step; before = before; service = service; made = made }
+
+  pub refused_after_writes : (old mid new : Engine D d) (step : Step) (fault : Fault) → is_service (asked_by step) ≡ true → IsWritten d old mid → IsStep d step (Refused fault) mid new → WasRefused d old new fault
+  refused_after_writes old mid new step fault service before made = refused_after old mid new step fault service (written_kept old mid before) made
+
+  pub first_refused : (old new : Engine D d) (step : Step) (fault : Fault) → is_service (asked_by step) ≡ true → IsStep d step (Refused fault) old new → WasRefused d old new fault
+  first_refused old new step fault service made = refused_after old old new step fault service none made
+
+  pub page_refused : (old mid new : Engine D d) (page : ℕ) (fault : Fault) → IsWritten d old mid → IsStep d (FlushPage page) (Refused fault) mid new → WasRefused d old new fault
+  page_refused old mid new page fault before made = refused_after_writes old mid new (FlushPage page) fault refl before made
+
+  -- upkeep after upkeep
+  pub kept_then : (old mid new : Engine D d) → IsKeptUp d old mid → IsKeptUp d mid new → IsKeptUp d old new
+  kept_then old mid _ before none = before
+  kept_then old mid _ before (more last new step reply later service made) = more last new step reply (kept_then old mid last before later) service made
+
+  -- a refusal after upkeep
+  pub refused_then : (old mid new : Engine D d) (fault : Fault) → IsKeptUp d old mid → WasRefused d mid new fault → WasRefused d old new fault
+  refused_then old mid new fault before was = record { mid = was.mid; step = was.step; before = kept_then old mid was.mid before was.before; service = was.service; made = was.made }
+
+  -- ---- by the rule
+
+  pub failed_by_rule : (u : Upkeep) (e : Engine D d) → e.failed ≡ true → IsByRule d u e e
+  failed_by_rule u e fails = record {
+    failed = λ _. refl;
+    switched = λ works is. absurd (let never : true ≡ false = sym fails ∙ works in cc never);
+    taken = λ works is. absurd (let never : true ≡ false = sym fails ∙ works in cc never);
+    nothing = λ works is. absurd (let never : true ≡ false = sym fails ∙ works in cc never);
+  }
+
+  pub switched_by_rule : (u : Upkeep) (old new : Engine D d) → old.failed ≡ false → IsDue d u old due.Switch → IsTaken d Switch old new → IsByRule d u old new
+  switched_by_rule u old new works is made = record {
+    failed = λ fails. absurd (let never : true ≡ false = sym fails ∙ works in cc never);
+    switched = λ _ _. made;
+    taken = λ _ other. absurd (other.0 is);
+    nothing = λ _ other. absurd (other.0 is);
+  }
+
+  pub taken_by_rule : (u : Upkeep) (old new : Engine D d) → old.failed ≡ false → IsDue d u old due.Checkpoint → MadeLast d Checkpoint old new → IsByRule d u old new
+  taken_by_rule u old new works is made = record {
+    failed = λ fails. absurd (let never : true ≡ false = sym fails ∙ works in cc never);
+    switched = λ _ other. absurd (is.0 other);
+    taken = λ _ _. made;
+    nothing = λ _ other. absurd (other.1 is.1);
+  }
+
+  pub written_by_rule : (u : Upkeep) (old new : Engine D d) → old.failed ≡ false → IsDue d u old due.Nothing → IsWritten d old new → IsByRule d u old new
+  written_by_rule u old new works is made = record {
+    failed = λ fails. absurd (let never : true ≡ false = sym fails ∙ works in cc never);
+    switched = λ _ other. absurd (is.0 other);
+    taken = λ _ other. absurd (is.1 other.1);
+    nothing = λ _ _. made;
+  }
+
+  -- ---- at the end
+
+  pub failed_is_ended : (u : Upkeep) (e : Engine D d) → e.failed ≡ true → IsEnded d u e e
+  failed_is_ended u e fails = record { failed = λ _. refl; forced = λ works is. absurd (let never : true ≡ false = sym fails ∙ works in cc never) }
+
+  pub unset_is_ended : (u : Upkeep) (e : Engine D d) → e.failed ≡ false → (1 ≤ u.bounds.log.bytes → IsTrue false) → IsEnded d u e e
+  unset_is_ended u e works unset = record { failed = λ _. refl; forced = λ _ is. absurd (let never : false ≡ true = unset is in cc never) }
+
+  pub forced_is_ended : (u : Upkeep) (old mid new : Engine D d) → old.failed ≡ false → IsTaken d Force old mid → (IsLongAtEnd d u.bounds.log.bytes mid → IsTaken d Switch mid new) → IsEnded d u old new
+  forced_is_ended u old mid new works forced switched = record {
+    failed = λ fails. absurd (let never : true ≡ false = sym fails ∙ works in cc never);
+    forced = λ _ _. record { mid = mid; reply = forced.reply; forced = forced.made; switched = switched };
+  }

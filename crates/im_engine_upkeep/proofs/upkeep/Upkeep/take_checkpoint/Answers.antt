@@ -1,0 +1,12 @@
+use Rattle.std.proofs.Common.{refl}
+use Rattle.im_base_steps.specs.declared.step.Step.TheVariants as steps
+use Rattle.im_engine_upkeep.proofs.Keeping.{err_on, ok_on, refused_after_writes, taken_last}
+use Rattle.im_engine_upkeep.proofs.upkeep.Upkeep.take_checkpoint.Goals as goal
+
+pub returns-clause-refused : goal.returns-clause-refused
+returns-clause-refused g c =
+    err_on c.make.result c.make.ensures.refused (λ fault. refused_after_writes g.D.Disk c.args.engine.now c.write_oldest.new.engine c.make.new.engine steps.Checkpoint fault refl c.in_default.ensures.written)
+
+pub returns-clause-taken : goal.returns-clause-taken
+returns-clause-taken g c =
+    ok_on c.make.result c.make.ensures.taken (taken_last g.D.Disk c.args.engine.now c.write_oldest.new.engine c.make.new.engine steps.Checkpoint c.in_default.ensures.written)

@@ -1,0 +1,20 @@
+use Rattle.im_engine_upkeep.specs.Rule as rule
+use Rattle.im_engine_upkeep.proofs.Keeping.{err_on, ok_on, page_refused, page_written}
+use Rattle.im_engine_upkeep.proofs.upkeep.Upkeep.write_ahead.Goals as goal
+
+pub returns-then-not-is_near-clause-written : goal.returns-then-not-is_near-clause-written
+returns-then-not-is_near-clause-written g c = rule.none
+
+pub returns-in_default-clause-written : goal.returns-in_default-clause-written
+returns-in_default-clause-written g c = rule.none
+
+pub returns-then-change-begun-clause-written : goal.returns-then-change-begun-clause-written
+returns-then-change-begun-clause-written g c =
+    ok_on c.make.result c.make.ensures.taken (page_written g.D.Disk c.args.engine.now c.args.engine.now c.make.new.engine c.in-Some-oldest_change.change.page rule.none)
+
+pub returns-then-change-begun-clause-refused : goal.returns-then-change-begun-clause-refused
+returns-then-change-begun-clause-refused g c =
+    err_on c.make.result c.make.ensures.refused (λ fault. page_refused g.D.Disk c.args.engine.now c.args.engine.now c.make.new.engine c.in-Some-oldest_change.change.page fault rule.none)
+
+pub returns-else-change-begun-clause-written : goal.returns-else-change-begun-clause-written
+returns-else-change-begun-clause-written g c = rule.none
