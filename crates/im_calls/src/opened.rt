@@ -1,25 +1,28 @@
 //! A store that is open, over any disk.
 
-ghost use Rattle.std.specs.Prelude.{◌≡◌, ◌↔◌, ◌⊎◌, [], false, true, IfOk, IfErr};
+ghost use Rattle.std.specs.Prelude.{◌≡◌, ◌↔◌, ◌⊎◌, ◌≤◌, [], false, true, IfOk, IfErr};
 ghost use Rattle.im_base_disk.specs.Runs.{IsSynced};
+ghost use Rattle.im_base_disk.specs.Runs.{Reads};
+ghost use Rattle.im_base_types.specs.declared.fault.Fault.TheVariants.{Device};
 ghost use Rattle.im_calls.specs.Sessions.{RefusesOpening};
 
 use im_base_disk::Disk;
 use im_base_steps::{Reply, Step};
-use im_base_types::Fault;
+use im_base_two_logs::TwoLogs;
+use im_base_types::{Fault, LEAST_FRAMES, MOST_FRAMES};
 use im_calls_form::{Call, answer, refuse, step_of, tell, tell_numbers};
 use im_engine::{BufferSize, Config, Engine};
-use im_engine_upkeep::{Checkpoints, RedoBound};
+use im_engine_upkeep::{Bounds, LogBound, RedoBound, Upkeep, has_first_format};
 use std::alloc::Global;
 
 /// A store that is open: its engine, and the upkeep that its next opening wants.
 #[derive(Drop)]
 pub struct Opened<D: Disk> {
     engine: Engine<D>,
-    checkpoints: Checkpoints,
+    upkeep: Upkeep,
 }
 
-impl<D: Disk + Drop> Opened<D> {
+impl<D: TwoLogs + Drop> Opened<D> {
     ghost use Rattle.im_base_disk.specs.Runs.{IsSynced};
     ghost use Rattle.im_calls_form.specs.Calls.{IsAnswered, Asks, Says};
     ghost use Rattle.im_base_steps.specs.Calls.{asked_by};
@@ -27,8 +30,8 @@ impl<D: Disk + Drop> Opened<D> {
     ghost use Rattle.im_calls.specs.Sessions.{IsMade, Serves, IsOpening, IsRefused};
 
     /// Opens the store of a disk as a call asks it: `limit` frames, `txn` pages at most, `number` bytes of log that the opening after this one
-    /// may have to redo, or with the greatest number the usual bound, which grows with the file of pages; with 1 as `word` a Commit waits for
-    /// a Force. The log's buffer is of the size that programs take.
+    /// may have to redo, and `out_len` bytes that it may have to read, or with the greatest number the usual bounds, which grow with the file of pages; with 1 as
+    /// `word` a Commit waits for a Force. The log's buffer is of the size that programs take.
     ///
     /// Refused `Capacity` where more pages are asked for than have numbers, and else as `Engine::open_alone` is with one worker: a library that is
     /// called from C can start no threads.
@@ -38,14 +41,15 @@ impl<D: Disk + Drop> Opened<D> {
         ensures opening { IsOpening D.Disk call.old call.new result }
         ensures question { IsAnswered call.old call.new }
     {
+        let bounds = bounds_of(call);
         match engine_of(alloc, disk, call) {
-            Ok(engine) => {
-                let checkpoints = Checkpoints::of(&engine, bound_of(call.number));
+            Ok((engine, has_first_format)) => {
+                let mut upkeep = Upkeep::of(&engine, bounds);
+                if has_first_format {
+                    upkeep.leave_first_format();
+                }
                 tell(call, 14, 0);
-                Some(Opened {
-                    engine,
-                    checkpoints,
-                })
+                Some(Opened { engine, upkeep })
             }
             Err(fault) => {
                 refuse(call, fault);
@@ -54,7 +58,7 @@ impl<D: Disk + Drop> Opened<D> {
         }
     }
 
-    /// Makes the step that a call asks, answers it, and takes a Checkpoint where one is due.
+    /// Makes the step that a call asks, answers it, and takes a Checkpoint or goes on in the other log where that is due.
     pub fn step(&mut self, alloc: Global, call: &mut Call)
         ensures served { Serves D.Disk call.old call.new self.old.engine self.new.engine }
         ensures question { IsAnswered call.old call.new }
@@ -71,19 +75,19 @@ impl<D: Disk + Drop> Opened<D> {
         ensures made { IsMade D.Disk call.old call.new self.old.engine self.new.engine }
         ensures question { IsAnswered call.old call.new }
     {
-        let reply = self.checkpoints.step(&mut self.engine, step);
+        let reply = self.upkeep.step(&mut self.engine, step);
         answer(call, &reply);
         self.keep_up(&reply);
     }
 
-    // Takes a Checkpoint after a step, where one is due.
+    // Makes what is due after a step.
     fn keep_up(&mut self, reply: &Reply)
         ensures { IsKeptUp D.Disk self.old.engine self.new.engine }
     {
         if !logs(reply) {
             return;
         }
-        let _kept = self.checkpoints.keep(&mut self.engine);
+        let _kept = self.upkeep.keep(&mut self.engine);
     }
 
     /// Answers how the store stands, in six numbers: active transactions, pages whose file lacks changes, where the durable log ends, where redo
@@ -104,16 +108,16 @@ impl<D: Disk + Drop> Opened<D> {
         tell_numbers(call, &numbers);
     }
 
-    /// Writes all pages, takes a Checkpoint, and ends the store.
+    /// Leaves a long log for an empty one, or writes all pages and takes a Checkpoint, and ends the store.
     pub fn close(self, call: &mut Call)
         ensures told { Says call.new 14 0 ⊎ IsRefused call.new }
         ensures question { IsAnswered call.old call.new }
     {
         let Opened {
             mut engine,
-            mut checkpoints,
+            mut upkeep,
         } = self;
-        let kept = checkpoints.close(&mut engine);
+        let kept = upkeep.close(&mut engine);
         let (synced, _disk) = engine.close();
         match (kept, synced) {
             (Ok(()), Ok(())) => tell(call, 14, 0),
@@ -123,16 +127,21 @@ impl<D: Disk + Drop> Opened<D> {
     }
 }
 
-// The engine of a disk, opened with the limits that a call asks.
-fn engine_of<D: Disk + Drop>(alloc: Global, disk: D, call: &Call) -> Result<Engine<D>, Fault>
+// The engine of a disk, opened with the limits that a call asks, and whether one of its logs was of the first format.
+fn engine_of<D: TwoLogs + Drop>(
+    alloc: Global,
+    disk: D,
+    call: &Call,
+) -> Result<(Engine<D>, bool), Fault>
     requires working { D.failed disk ≡ false }
     requires synced { IsSynced D.Disk disk }
-    ensures opened { IfOk result (λ e. (e.failed ≡ false) × (e.txns.rows ≡ [])) }
-    ensures pages { IfOk result (λ e. e.max_pages ≡ call.now.txn) }
-    ensures pool { IfOk result (λ e. e.writer.pool.frames ≡ call.now.limit) }
-    ensures group { IfOk result (λ e. (e.txns.group ≡ true) ↔ (call.now.word ≡ 1)) }
+    ensures opened { IfOk result (λ x. (x.0.failed ≡ false) × (x.0.txns.rows ≡ [])) }
+    ensures pages { IfOk result (λ x. x.0.max_pages ≡ call.now.txn) }
+    ensures pool { IfOk result (λ x. x.0.writer.pool.frames ≡ call.now.limit) }
+    ensures group { IfOk result (λ x. (x.0.txns.group ≡ true) ↔ (call.now.word ≡ 1)) }
     ensures causes { IfErr result (RefusesOpening call.now) }
 {
+    let mut disk = disk;
     let Ok(max_pages) = u32::try_from(call.txn) else {
         return Err(Fault::Capacity);
     };
@@ -143,10 +152,25 @@ fn engine_of<D: Disk + Drop>(alloc: Global, disk: D, call: &Call) -> Result<Engi
         group: waits(call),
         workers: 1,
     };
+    let has_first_format = is_upgrade(&mut disk, call)?;
     match Engine::open_alone(alloc, disk, config) {
-        Ok(engine) => Ok(engine),
+        Ok(engine) => Ok((engine, has_first_format)),
         Err((fault, _disk)) => Err(fault),
     }
+}
+
+// Whether one of the logs is one of the first format. Where the frames will be refused nothing is read.
+fn is_upgrade<D: Disk>(disk: &mut D, call: &Call) -> Result<bool, Fault>
+    requires working { D.failed disk.old ≡ false }
+    ensures reads { Reads D.Disk disk.old disk.new }
+    ensures synced { IsSynced D.Disk disk.old → IsSynced D.Disk disk.new }
+    ensures causes { IfErr result (λ e. (e ≡ Device) × ((8 ≤ call.now.limit) × (call.now.limit ≤ 1024))) }
+    ensures device { result ≡ Err Device ↔ (D.failed disk.new ≡ true) }
+{
+    if call.limit < LEAST_FRAMES as u32 || call.limit > MOST_FRAMES as u32 {
+        return Ok(false);
+    }
+    has_first_format(disk)
 }
 
 // Whether a Commit of the store that is to be opened waits for a Force.
@@ -156,8 +180,15 @@ fn waits(call: &Call) -> bool
     call.word == 1
 }
 
-// How much log an opening may have to redo: so many bytes, or the usual bound where they are the greatest number.
-fn bound_of(bytes: u64) -> RedoBound {
+// How much log an opening may have to redo, and to read: so many bytes, or the usual bound where they are the greatest number.
+fn bounds_of(call: &Call) -> Bounds {
+    Bounds {
+        redo: redo_bound_of(call.number),
+        log: log_bound_of(call.out_len),
+    }
+}
+
+fn redo_bound_of(bytes: u64) -> RedoBound {
     if bytes == u64::MAX {
         RedoBound::default()
     } else {
@@ -165,10 +196,23 @@ fn bound_of(bytes: u64) -> RedoBound {
     }
 }
 
-// Whether records may have joined the log.
+fn log_bound_of(bytes: u64) -> LogBound {
+    if bytes == u64::MAX {
+        LogBound::default()
+    } else {
+        LogBound::of_bytes(bytes)
+    }
+}
+
+// Whether records may have joined the log, or a transaction has ended, so that there may be none.
 fn logs(reply: &Reply) -> bool {
     matches!(
         reply,
-        Reply::Inserted | Reply::Deleted | Reply::Committed | Reply::RolledBack | Reply::More
+        Reply::Inserted
+            | Reply::Deleted
+            | Reply::Committed
+            | Reply::RolledBack
+            | Reply::More
+            | Reply::Done
     )
 }

@@ -31,6 +31,7 @@ Asks c (answers.Continue t) = (c.step ≡ 9) × (t ≡ c.txn)
 Asks c (answers.FlushPage page) = (c.step ≡ 10) × (page ≡ c.limit)
 Asks c answers.Force = c.step ≡ 11
 Asks c answers.Checkpoint = c.step ≡ 12
+Asks c answers.Switch = c.step ≡ 16
 
 -- ---- what is told
 

@@ -20,7 +20,7 @@ pub struct Call {
     pub key_len: u32,
     /// How many bytes of `hi` are asked for, or at an opening the descriptor to be answered.
     pub hi_len: u32,
-    /// How many bytes of `out` were answered.
+    /// How many bytes of `out` were answered; at an opening, when it is asked, how much log the next one may have to read.
     pub out_len: u64,
     /// A key, or the lower bound of a scan. One byte more than a key may have, so that a longer one is refused.
     pub key: [u8; 256],

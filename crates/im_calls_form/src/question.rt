@@ -1,6 +1,6 @@
 //! Questions as steps.
 
-ghost use Rattle.std.specs.Prelude.{◌≡◌, ◌<◌, ◌≤◌, ◌⊎◌, ◌↔◌, IfOk, IfErr};
+ghost use Rattle.std.specs.Prelude.{◌≡◌, ◌≢◌, ◌<◌, ◌≤◌, ◌⊎◌, ◌↔◌, IfOk, IfErr};
 ghost use Rattle.im_base_types.specs.declared.fault.Fault.TheVariants.{Memory, BadScript};
 ghost use Rattle.im_base_steps.specs.Calls.{asked_by};
 ghost use Rattle.im_calls_form.specs.Calls.{front, Asks};
@@ -13,7 +13,7 @@ use std::alloc::Global;
 /// The step that is asked. Refused `BadScript` where the number is no step's, and `Memory` where a step by a key finds none.
 pub fn step_of(alloc: Global, call: &Call) -> Result<Step, Fault>
     ensures asked { IfOk result (λ step. Asks call.now (asked_by step)) }
-    ensures unknown { result ≡ Err BadScript ↔ 12 < call.now.step }
+    ensures unknown { result ≡ Err BadScript ↔ ((12 < call.now.step) × (call.now.step ≢ 16)) }
     ensures causes { IfErr result (λ e. (e ≡ Memory) ⊎ (e ≡ BadScript)) }
     ensures memory { result ≡ Err Memory → (1 ≤ call.now.step) × (call.now.step ≤ 6) }
 {
@@ -37,6 +37,7 @@ pub fn step_of(alloc: Global, call: &Call) -> Result<Step, Fault>
         10 => Ok(Step::FlushPage(call.limit)),
         11 => Ok(Step::Force),
         12 => Ok(Step::Checkpoint),
+        16 => Ok(Step::Switch),
         _ => Err(Fault::BadScript),
     }
 }

@@ -5,13 +5,13 @@ use Rattle.std.specs.Prelude.{cond, is_some, ◌==◌}
 use Rattle.std.specs.FinMap.{get}
 use Rattle.im_base_types.specs.Keys.{Key}
 use Rattle.im_base_types.specs.Maps.{IndexMap, From, Above, first}
-use Rattle.im_base_types.specs.Answers.{Access, Fetch, Seek, Next, Scan, Insert, Delete, Step, Begin, Do, Commit, Rollback, Continue, FlushPage, Force, Checkpoint, Reply, Started, Committed, RolledBack, More, Blocked, BlockedTree, Die, Done, Refused, Absent, Inserted, Duplicate, Deleted, Mark, Idle, Going, MustRollBack, RollingBack, Committing, found, entry, answer}
+use Rattle.im_base_types.specs.Answers.{Access, Fetch, Seek, Next, Scan, Insert, Delete, Step, Begin, Do, Commit, Rollback, Continue, FlushPage, Force, Checkpoint, Switch, Reply, Started, Committed, RolledBack, More, Blocked, BlockedTree, Die, Done, Refused, Absent, Inserted, Duplicate, Deleted, Mark, Idle, Going, MustRollBack, RollingBack, Committing, found, entry, answer}
 use Rattle.im_base_lock.specs.Locks.{Lock}
 use Rattle.im_base_lock.specs.View.{Txn, View, Puts, Drops, TakesBack, TookBack, locked, with_change, change_made, idle, set_txn, begun, did, did_txn, marked, committed_by, dropped_by, undid_more, undid_last, broken, queued, forced_by, is_among, idle_all, AreDifferent, MayRollBack}
 use Rattle.im_base_lock.proofs.Bools.{or_true}
 use Rattle.im_base_lock.proofs.Queue.{among_one}
 use Rattle.im_base_lock.proofs.Runs.{IsQueue, queue_goes, queue_breaks}
-use Rattle.im_base_lock.specs.Machine.{barred, Answers, Goes, Moves, begins, does, waits, dies, commits, queues, drops, turns, undoes, ends, puts_later, puts, drops_first, drops_leaf, takes_later, takes_first, takes_leaf, takes_last, logs_page, tree_blocks, tree_halts, flushes, forces, checkpoints, lacks, breaks, start}
+use Rattle.im_base_lock.specs.Machine.{barred, Answers, Goes, Moves, begins, does, waits, dies, commits, queues, drops, turns, undoes, ends, puts_later, puts, drops_first, drops_leaf, takes_later, takes_first, takes_leaf, takes_last, logs_page, tree_blocks, tree_halts, flushes, forces, checkpoints, switches, lacks, breaks, start}
 use Rattle.im_base_steps.specs.Replies.{started_in, commits_in, rolled_back_in, waits_after, IsCounted}
 use Rattle.im_front.specs.Events.{Event, Made, Broke, Runs}
 
@@ -252,6 +252,7 @@ goes_leaves v w s r b (forces x d e) =
     let few : length v.queue ≤ v.active = all.1 in
     leaves_at v w (forced_by v) s Force r Done x d e (all.0, (omega arith, refl))
 goes_leaves v w s r b (checkpoints x d e) = leaves_at v w v s Checkpoint r Done x d e (b.0, (refl, refl))
+goes_leaves v w s r b (switches x d e) = leaves_at v w v s Switch r Done x d e (b.0, (refl, refl))
 goes_leaves v w s r b (lacks fault want d e) = leaves_at v w v s s r (Refused fault) refl d e (b.0, (refl, refl))
 goes_leaves v w s r b (breaks fault ls break d e) = leaves_at v w (broken v ls) s s r (Refused fault) refl d e (broken_busy v ls b.0, (refl, refl))
 

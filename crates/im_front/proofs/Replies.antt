@@ -5,10 +5,10 @@ use Rattle.std.specs.FinMap.{get}
 use Rattle.im_base_types.specs.Pages as pages
 use Rattle.im_base_types.specs.Maps.{IndexMap, From, Above, first}
 use Rattle.im_base_types.specs.Refusals.{failed as has_failed}
-use Rattle.im_base_types.specs.Answers.{Access, Fetch, Seek, Next, Scan, Insert, Delete, Step, Begin, Do, Commit, Rollback, Continue, FlushPage, Force, Checkpoint, Reply, Started, Found, Absent, Entry, End, Entries, Inserted, Duplicate, Deleted, Committed, RolledBack, More, Blocked, BlockedTree, Die, Done, Refused, Mark, Idle, Going, MustRollBack, RollingBack, Committing, found, entry, answer, limit_of}
+use Rattle.im_base_types.specs.Answers.{Access, Fetch, Seek, Next, Scan, Insert, Delete, Step, Begin, Do, Commit, Rollback, Continue, FlushPage, Force, Checkpoint, Switch, Reply, Started, Found, Absent, Entry, End, Entries, Inserted, Duplicate, Deleted, Committed, RolledBack, More, Blocked, BlockedTree, Die, Done, Refused, Mark, Idle, Going, MustRollBack, RollingBack, Committing, found, entry, answer, limit_of}
 use Rattle.im_base_types.specs.Lives.{Shown, shows, accessed}
 use Rattle.im_base_lock.specs.View.{View, pending_of}
-use Rattle.im_base_lock.specs.Machine.{keys_fit, barred, barred_to, barred_to_rollback, barred_to_continue, or_else, fault_if, Answers, Goes, Moves, Wants, Breaks, begins, does, waits, dies, commits, queues, drops, turns, undoes, ends, puts_later, puts, drops_first, drops_leaf, takes_later, takes_first, takes_leaf, takes_last, logs_page, tree_blocks, tree_halts, flushes, forces, checkpoints, lacks, breaks}
+use Rattle.im_base_lock.specs.Machine.{keys_fit, barred, barred_to, barred_to_rollback, barred_to_continue, or_else, fault_if, Answers, Goes, Moves, Wants, Breaks, begins, does, waits, dies, commits, queues, drops, turns, undoes, ends, puts_later, puts, drops_first, drops_leaf, takes_later, takes_first, takes_leaf, takes_last, logs_page, tree_blocks, tree_halts, flushes, forces, checkpoints, switches, lacks, breaks}
 use Rattle.im_base_steps.specs.Calls.{most_entries, entries_in, most_key, has_entry, is_blocked}
 use Rattle.im_base_steps.specs.Replies.{is_full, is_search, Suits, IsReply, IsCounted}
 
@@ -47,6 +47,7 @@ barred-full v (Continue t) = or_else-full _ _ (fault_if-full v.failed 10 refl) (
 barred-full v (FlushPage p) = fault_if-full v.failed 10 refl
 barred-full v Force = fault_if-full v.failed 10 refl
 barred-full v Checkpoint = fault_if-full v.failed 10 refl
+barred-full v Switch = or_else-full _ _ (fault_if-full v.failed 10 refl) (fault_if-full _ 15 refl)
 
 wants-full : (s : Step) (f : ℕ) → Wants s f → (f == 14) ≡ false
 wants-full (Do t (Insert k r)) f (inl e) = ap (λ n. n == 14) e
@@ -63,6 +64,7 @@ wants-full (Continue t) f e = ap (λ n. n == 14) e
 wants-full (FlushPage p) f e = ap (λ n. n == 14) e
 wants-full Force f e = ap (λ n. n == 14) e
 wants-full Checkpoint f e = ap (λ n. n == 14) e
+wants-full Switch f e = ap (λ n. n == 14) e
 
 breaks-full : (f : ℕ) → Breaks f → (f == 14) ≡ false
 breaks-full f (inl e) = ap (λ n. n == 14) e
@@ -119,6 +121,7 @@ goes-full v w s r (tree_halts u x b under other d e) = ap is_full d
 goes-full v w s r (flushes p b d e) = ap is_full d
 goes-full v w s r (forces b d e) = ap is_full d
 goes-full v w s r (checkpoints b d e) = ap is_full d
+goes-full v w s r (switches b d e) = ap is_full d
 goes-full v w s r (lacks fault want d e) = ap is_full d ∙ wants-full s fault want
 goes-full v w s r (breaks fault ls break d e) = ap is_full d ∙ breaks-full fault break
 
@@ -188,6 +191,7 @@ goes_suits v w s r (tree_halts u x b under other d e) = suits_at s (Continue u) 
 goes_suits v w s r (flushes p b d e) = suits_at s (FlushPage p) r Done b d refl
 goes_suits v w s r (forces b d e) = suits_at s Force r Done b d refl
 goes_suits v w s r (checkpoints b d e) = suits_at s Checkpoint r Done b d refl
+goes_suits v w s r (switches b d e) = suits_at s Switch r Done b d refl
 goes_suits v w s r (lacks fault want d e) = suits_at s s r (Refused fault) refl d tt
 goes_suits v w s r (breaks fault ls break d e) = suits_at s s r (Refused fault) refl d tt
 
@@ -237,6 +241,7 @@ search_most (Continue t) h = absurd (true≢false (sym h))
 search_most (FlushPage p) h = absurd (true≢false (sym h))
 search_most Force h = absurd (true≢false (sym h))
 search_most Checkpoint h = absurd (true≢false (sym h))
+search_most Switch h = absurd (true≢false (sym h))
 
 pub entry_asked : (s : Step) (r : Reply) → Suits s r → has_entry r ≡ true → most_key s ≡ 255
 entry_asked s (Entry k r) h e = search_most s h
@@ -274,6 +279,7 @@ barred-failed v (Continue t) e = or_else-first _ _ _ e
 barred-failed v (FlushPage p) e = fault_if-true _ _ e
 barred-failed v Force e = fault_if-true _ _ e
 barred-failed v Checkpoint e = fault_if-true _ _ e
+barred-failed v Switch e = or_else-first _ _ _ e
 
 pub stays_failed : (v w : View) (s : Step) (r : Reply) → Moves v s r w → v.failed ≡ true → w.failed ≡ true
 stays_failed v w s r m e =
@@ -334,6 +340,7 @@ goes-blocked v w s r (tree_halts u x b under other d e) = λ q. e
 goes-blocked v w s r (flushes p b d e) = λ q. e
 goes-blocked v w s r (forces b d e) = unblocked v w r _ d refl
 goes-blocked v w s r (checkpoints b d e) = λ q. e
+goes-blocked v w s r (switches b d e) = λ q. e
 goes-blocked v w s r (lacks fault want d e) = λ q. e
 goes-blocked v w s r (breaks fault ls break d e) = unblocked v w r (Refused fault) d refl
 
@@ -361,6 +368,7 @@ at_blocked (Continue t) s h = (refl, refl)
 at_blocked (FlushPage p) s h = (refl, refl)
 at_blocked Force s h = (refl, refl)
 at_blocked Checkpoint s h = (refl, refl)
+at_blocked Switch s h = (refl, refl)
 
 pub blocked_shows : (step : Step) (r : Reply) (s : Shown) → is_blocked r ≡ true → shows s step (Some r) ≡ s
 blocked_shows step (Blocked h) s b = (at_blocked step s h).0

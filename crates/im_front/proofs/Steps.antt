@@ -117,6 +117,7 @@ at_most_one n (answers.Continue t) answers.More = (omega arith, omega arith, ome
 at_most_one n (answers.FlushPage p) answers.More = (omega arith, omega arith, omega arith)
 at_most_one n answers.Force answers.More = (omega arith, omega arith, omega arith)
 at_most_one n answers.Checkpoint answers.More = (omega arith, omega arith, omega arith)
+at_most_one n answers.Switch answers.More = (omega arith, omega arith, omega arith)
 at_most_one n answers.Begin answers.Done = (omega arith, omega arith, omega arith)
 at_most_one n (answers.Do t a) answers.Done = (omega arith, omega arith, omega arith)
 at_most_one n (answers.Commit t) answers.Done = (omega arith, omega arith, omega arith)
@@ -125,6 +126,7 @@ at_most_one n (answers.Continue t) answers.Done = (omega arith, omega arith, ome
 at_most_one n (answers.FlushPage p) answers.Done = (omega arith, omega arith, omega arith)
 at_most_one n answers.Force answers.Done = (omega arith, omega arith, omega arith)
 at_most_one n answers.Checkpoint answers.Done = (omega arith, omega arith, omega arith)
+at_most_one n answers.Switch answers.Done = (omega arith, omega arith, omega arith)
 
 -- ---- counts
 

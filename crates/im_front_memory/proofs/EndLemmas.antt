@@ -6,7 +6,7 @@ use Rattle.std.specs.Cmp.Lexicographic.{nat_list_cmp_total}
 use Rattle.im_base_types.proofs.Maps.{entries_drop}
 use Rattle.im_base_types.specs.Maps.{with_key, without_key}
 use Rattle.im_base_types.specs.Changes.{Change, Put, Drop, Effect, seen_effect, undone}
-use Rattle.im_base_types.specs.Answers.{Mark, Idle, Going, MustRollBack, RollingBack, Committing, Begin, Started, Commit, Committed, Rollback, RolledBack, Continue, More, FlushPage, Force, Checkpoint, Done, Refused}
+use Rattle.im_base_types.specs.Answers.{Mark, Idle, Going, MustRollBack, RollingBack, Committing, Begin, Started, Commit, Committed, Rollback, RolledBack, Continue, More, FlushPage, Force, Checkpoint, Switch, Done, Refused}
 use Rattle.im_base_types.specs.Lives.{Shown, effects, effect_asked}
 use Rattle.im_base_types.specs.Refusals.{failed as has_failed, capacity}
 use Rattle.im_base_txn.specs.declared.transaction.Mark as code
@@ -20,7 +20,7 @@ use Rattle.im_base_lock.specs.Table.{Table, locks_of, IsReleased, AreReleased}
 use Rattle.im_base_lock.specs.Serving.{Matches}
 use Rattle.im_theory_steps.proofs.Showing.{shown_is as is_as_shown, effect_shown}
 use Rattle.im_base_lock.specs.View.{View, Under, pending_of, Txn, idle, set_txn, is_among, queued, forced_by, begun, marked, committed_by, dropped_by, undid_more, undid_last, broken, own_locks, of_others, MayRollBack}
-use Rattle.im_base_lock.specs.Machine.{begins, commits, queues, drops, turns, undoes, ends, flushes, forces, checkpoints, breaks, barred_to, barred_to_rollback, barred_to_continue, or_else, fault_if}
+use Rattle.im_base_lock.specs.Machine.{begins, commits, queues, drops, turns, undoes, ends, flushes, forces, checkpoints, switches, breaks, barred_to, barred_to_rollback, barred_to_continue, or_else, fault_if}
 use Rattle.im_base_lock.proofs.Bools.{cases_test}
 use Rattle.im_base_lock.proofs.Queue.{among_pushed, pushed_last, pushed_more, by_force_txn}
 use Rattle.im_base_lock.proofs.Serving.{keeps_none, table-serves}
@@ -363,6 +363,10 @@ module _ (before : List Effect) (s : Shown) (v : View) (st : State) (h : IsStore
       (h.numbers ∙ sym next)
       (h.failing ∙ sym (ap (λ (x : Bool × Bool). x.0) failed))
       (journal ∙ h.kept ∙ ap (λ (l : List Effect). before ++ l) (sym (effects_acked s.asked)))
+
+  pub switched_kept : checked st Switch ≡ None → Kept before s v Switch Done st
+  switched_kept passes =
+      moved before s v st h Switch Done v st refl refl h.unowned (moves_by v v Switch Done (barred_is before s v st h Switch ∙ passes) (switches refl refl refl)) h.walk h.marks h.nets h.locks h.active h.numbers h.failing h.kept
 
   pub checkpointed_kept : checked st Checkpoint ≡ None → Kept before s v Checkpoint Done st
   checkpointed_kept passes =

@@ -3,7 +3,7 @@ use Rattle.std.proofs.Common.{◌≡◌, inl, inr, ℕ, List, ◌++◌, [], ◌�
 use Rattle.std.specs.Prelude.{cond, find, if◌then◌else◌, ◌==◌, ◌||◌}
 use Rattle.std.specs.FinMap.{entries, empty}
 use Rattle.im_base_types.specs.Changes.{Effect, apply_all}
-use Rattle.im_base_types.specs.Answers.{Step, Reply, Mark, Going, Committing, Begin, Do, Commit, Rollback, Continue, FlushPage, Force, Checkpoint, Refused, Fetch, Seek, Next, Scan, Insert, Delete}
+use Rattle.im_base_types.specs.Answers.{Step, Reply, Mark, Going, Committing, Begin, Do, Commit, Rollback, Continue, FlushPage, Force, Checkpoint, Switch, Refused, Fetch, Seek, Next, Scan, Insert, Delete}
 use Rattle.im_base_types.specs.Refusals.{unfinished, memory}
 use Rattle.im_base_types.specs.Lives.{asks, breaks as breaking, Shown, effects, nothing_shown, shown_by, shows, refused}
 use Rattle.im_base_txn.specs.declared.transaction.Transaction.{Transaction}
@@ -45,6 +45,7 @@ mark_for-same f g same (Continue t) = same t
 mark_for-same f g same (FlushPage p) = refl
 mark_for-same f g same Force = refl
 mark_for-same f g same Checkpoint = refl
+mark_for-same f g same Switch = refl
 
 same_tests : (a b : Bool) → (a ≡ true → b ≡ true) → (b ≡ true → a ≡ true) → a ≡ b
 same_tests true b there back = sym (there refl)
@@ -164,6 +165,7 @@ barred_asks before s v st h (Continue t) n e = refl
 barred_asks before s v st h (FlushPage p) n e = refl
 barred_asks before s v st h Force n e = refl
 barred_asks before s v st h Checkpoint n e = refl
+barred_asks before s v st h Switch n e = refl
 
 pub barred_kept : (before : List Effect) (s : Shown) (v : View) (st : State) → IsStored before s v st → (step : Step) (n : ℕ) (reply : Reply) → checked st step ≡ Some n → reply ≡ Refused n → Kept before s v step reply st
 barred_kept before s v st h step n reply e told =
@@ -184,6 +186,7 @@ wants_memory (Continue t) = refl
 wants_memory (FlushPage p) = refl
 wants_memory Force = refl
 wants_memory Checkpoint = refl
+wants_memory Switch = refl
 
 memory_asks : (s : Shown) (step : Step) → effects (refused memory step s).asked ≡ effects s.asked
 memory_asks s step = ap effects (refusals_ask_nothing memory step s (λ t e. inl refl))

@@ -1,7 +1,7 @@
 //! The checks of each step that neither locks nor entries decide.
 
 ghost use Rattle.std.specs.Prelude.{◌≡◌, not, nat_lt, length};
-ghost use Rattle.im_base_types.specs.Refusals.{key_length, too_many};
+ghost use Rattle.im_base_types.specs.Refusals.{key_length, too_many, busy};
 ghost use Rattle.im_base_lock.specs.Machine.{barred_to, barred_to_rollback, barred_to_continue, fits, or_else, fault_if};
 ghost use Rattle.im_theory_steps.specs.Serving.{mark_of};
 ghost use Rattle.im_base_steps.specs.Calls.{asked_by};
@@ -37,6 +37,17 @@ impl MemoryStore {
             Step::FlushPage(_) => None,
             Step::Force => None,
             Step::Checkpoint => None,
+            Step::Switch => self.refusal_of_switch(),
+        }
+    }
+
+    fn refusal_of_switch(&self) -> Option<Fault>
+        ensures { numbered result ≡ fault_if (nat_lt 0 (length self.now.txns.rows)) busy }
+    {
+        if self.txns.len() > 0 {
+            Some(Fault::Busy)
+        } else {
+            None
         }
     }
 

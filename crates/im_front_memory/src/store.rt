@@ -62,6 +62,7 @@ impl MemoryStore {
             Step::FlushPage(_) => Reply::Done,
             Step::Force => self.force(),
             Step::Checkpoint => Reply::Done,
+            Step::Switch => Reply::Done,
         }
     }
 }

@@ -7,6 +7,7 @@ ghost use Rattle.im_open.specs.Refusals.{IsRefusal};
 use crate::not_opened::NotOpened;
 use im_base_file_disk::FileDisk;
 use im_base_steps::Store;
+use im_base_two_logs::Renamed;
 use im_engine::{Config, Engine};
 use im_front::Rested;
 use std::thread::Threads;
@@ -18,7 +19,7 @@ pub fn open<R: Threads + Sync>(
     threads: &R,
     folder: &str,
     config: Config,
-) -> Result<Rested<Engine<FileDisk>>, NotOpened>
+) -> Result<Rested<Engine<Renamed<FileDisk>>>, NotOpened>
     ensures group { IfOk result (λ e. e.txns.group ≡ config.group) }
     ensures frames { IfOk result (λ e. e.writer.pool.frames ≡ config.frames) }
     ensures limit { IfOk result (λ e. e.max_pages ≡ config.max_pages) }
@@ -37,8 +38,8 @@ fn opened<R: Threads + Sync>(
     threads: &R,
     folder: &str,
     config: Config,
-) -> Result<Engine<FileDisk>, NotOpened>
-    ensures rests { IfOk result (λ engine. IsResting ⟦<Engine<FileDisk> as Store>⟧ engine) }
+) -> Result<Engine<Renamed<FileDisk>>, NotOpened>
+    ensures rests { IfOk result (λ engine. IsResting ⟦<Engine<Renamed<FileDisk>> as Store>⟧ engine) }
     ensures group { IfOk result (λ e. e.txns.group ≡ config.group) }
     ensures frames { IfOk result (λ e. e.writer.pool.frames ≡ config.frames) }
     ensures limit { IfOk result (λ e. e.max_pages ≡ config.max_pages) }
@@ -49,7 +50,7 @@ fn opened<R: Threads + Sync>(
         Ok(disk) => disk,
         Err(error) => return Err(NotOpened::Files(error)),
     };
-    match Engine::open_or_create(threads, rt.alloc(), disk, config) {
+    match Engine::open_or_create(threads, rt.alloc(), Renamed::new(disk, false), config) {
         Ok(engine) => Ok(engine),
         Err((fault, _disk)) => Err(NotOpened::Store(fault)),
     }

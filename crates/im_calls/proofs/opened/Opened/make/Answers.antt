@@ -6,7 +6,7 @@ returns-clause-made g c = record {
   reply = c.step-reply.result;
   between = c.step-reply.new.engine;
   asks = c.requires;
-  made = c.step-reply.ensures;
+  made = c.step-reply.ensures.made;
   kept = c.keep_up.ensures;
   tells = c.answer.ensures.told;
 }

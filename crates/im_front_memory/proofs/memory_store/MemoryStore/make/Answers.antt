@@ -6,7 +6,7 @@ use Rattle.im_base_steps.specs.Calls.{asked_by, told_by}
 use Rattle.im_base_types.specs.Faults.{number_of}
 use Rattle.im_front_memory.specs.Stored.{checked, state_of, Serves}
 use Rattle.im_front_memory.proofs.Moving.{barred_kept}
-use Rattle.im_front_memory.proofs.EndLemmas.{flushed_kept, checkpointed_kept}
+use Rattle.im_front_memory.proofs.EndLemmas.{flushed_kept, checkpointed_kept, switched_kept}
 use Rattle.im_front_memory.proofs.memory_store.MemoryStore.make.Goals as goal
 
 pub returns-in-Some : goal.returns-in-Some
@@ -77,3 +77,8 @@ pub returns-in-Checkpoint : goal.returns-in-Checkpoint
 returns-in-Checkpoint c =
     let passes = ap (λ (x : Step). checked (state_of c.args.self.now) (asked_by x)) (sym c.in-Checkpoint.is) ∙ sym c.in_default.ensures in
     subst (λ (x : Step). Serves (state_of c.args.self.now) (asked_by x) Done (state_of c.args.self.now)) (sym c.in-Checkpoint.is) (λ before s v h. checkpointed_kept before s v (state_of c.args.self.now) h passes)
+
+pub returns-in-Switch : goal.returns-in-Switch
+returns-in-Switch c =
+    let passes = ap (λ (x : Step). checked (state_of c.args.self.now) (asked_by x)) (sym c.in-Switch.is) ∙ sym c.in_default.ensures in
+    subst (λ (x : Step). Serves (state_of c.args.self.now) (asked_by x) Done (state_of c.args.self.now)) (sym c.in-Switch.is) (λ before s v h. switched_kept before s v (state_of c.args.self.now) h passes)
