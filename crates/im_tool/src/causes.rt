@@ -3,6 +3,7 @@
 use im_base_disk::Disk;
 use im_base_file_disk::{DiskError, FileDisk};
 use im_base_model_disk::ModelDisk;
+use im_base_two_logs::Renamed;
 use std::io::Write;
 
 /// A disk that may say why its last call failed.
@@ -14,6 +15,12 @@ pub trait Cause {
 impl Cause for FileDisk {
     fn cause(&self) -> Option<&DiskError> {
         self.last_error()
+    }
+}
+
+impl<D: Disk + Cause> Cause for Renamed<D> {
+    fn cause(&self) -> Option<&DiskError> {
+        self.disk().cause()
     }
 }
 

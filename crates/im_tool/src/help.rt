@@ -4,7 +4,7 @@ use std::io;
 use std::io::Write;
 
 /// Each line that asks for something: how it is written, what it does, and what else is to be known of it.
-static LINES: [(&str, &str, &str); 17] = [
+static LINES: [(&str, &str, &str); 18] = [
     (
         "begin",
         "a transaction begins; its number is answered",
@@ -74,6 +74,11 @@ static LINES: [(&str, &str, &str); 17] = [
         "checkpoint",
         "makes the log durable, with a record that says where a restart begins to redo",
         "One is taken as the option --checkpoint says, and one at the end.",
+    ),
+    (
+        "switch",
+        "goes on in the other log, empty, so that the next opening reads nothing of this one",
+        "One is made as the option --switch says, and a long log is left so at the end. Refused while a transaction is active.",
     ),
     (
         "redo",

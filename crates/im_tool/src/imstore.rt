@@ -8,10 +8,12 @@ use crate::line_input::LineInput;
 use crate::options::{Options, Task, parse_options};
 use crate::store::{Manner, StoreEnd, print_refused_opening, store_text};
 use crate::tasks::{load_program, look_program, tell_damage};
+use crate::trim::trim_program;
 use clap::Error;
 use im_base_disk::Disk;
 use im_base_file_disk::{FileDisk, OpenError};
 use im_base_model_disk::ModelDisk;
+use im_base_two_logs::Renamed;
 use im_base_types::Fault;
 use std::alloc::AllocError;
 use std::fmt::Display;
@@ -60,6 +62,7 @@ fn run_task<T: Threads + Sync>(rt: &HostRuntime, threads: &T, options: &Options)
     match options.task {
         Task::Steps => run_in_folder(rt, threads, dir, options),
         Task::Load => load_program(rt, threads, dir, options),
+        Task::Trim => trim_program(rt, dir),
         task => look_program(rt, threads, dir, task),
     }
 }
@@ -146,7 +149,7 @@ fn run_steps<D: Disk + Cause + Drop, R: LineInput, W: Write, T: Threads + Sync>(
     requires working { D.failed disk ≡ false }
     requires synced { IsSynced D.Disk disk }
 {
-    let (config, bound) = (options.config(), options.redo_bound());
+    let (config, bounds) = (options.config(), options.bounds());
     let mut causes = Causes {
         writer: rt.stderr(),
         dir,
@@ -155,9 +158,9 @@ fn run_steps<D: Disk + Cause + Drop, R: LineInput, W: Write, T: Threads + Sync>(
     store_text(
         threads,
         rt.alloc(),
-        disk,
+        Renamed::new(disk, false),
         config,
-        bound,
+        bounds,
         manner_of(rt, options),
         reader,
         writer,

@@ -2,8 +2,8 @@
 //!
 //! `store_program` is all of `imstore` but its `main`: it opens the folder that its words name, or an
 //! empty model disk, and hands the disk on to `store_text`, which opens the store of any disk, makes the steps that a
-//! reader's lines ask for, and has written and flushed all replies before it waits for a line. Checkpoints are taken after the steps as a
-//! `RedoBound` of `im_engine_upkeep` wants them, and one after the last line, so that the next opening has little to redo, or nothing. What goes to which
+//! reader's lines ask for, and has written and flushed all replies before it waits for a line. After the steps
+//! Checkpoints are taken, and the log goes on in the other file, as the `Bounds` of `im_engine_upkeep` want it, and after the last line, so that the next opening has little to read and little to redo, or nothing. What goes to which
 //! stream is tested, by stored outputs word for word among other tests, and stands in no clause.
 //!
 //! It stands on `im_tool_words` for the lines of steps and the words of replies, on the engine, and on `clap` for command lines. Scripts are none
@@ -23,6 +23,7 @@ mod scratch_disk;
 mod store;
 mod tasks;
 mod transfer;
+mod trim;
 mod version;
 mod words_step;
 

@@ -5,10 +5,10 @@ ghost use Rattle.std.specs.Prelude.{◌≤◌, IfOk};
 use crate::recovered::{opened, write_changed};
 use crate::scratch_disk::ScratchDisk;
 use crate::store::print_refused_opening;
-use im_base_types::{Fault, FileId, PAGE_ROOM};
+use im_base_types::{Fault, PAGE_ROOM};
 use im_tool_look::{
     BatchesBehind, Compared, Files, LogDamage, Survey, TreeSurvey, batches_behind, check_pages,
-    compare_pages, read_log,
+    compare_pages, file_name, read_log,
 };
 use std::alloc::{AllocError, Global};
 use std::io;
@@ -27,8 +27,9 @@ enum Broken {
 #[derive(Drop)]
 struct Surveyed {
     said: Survey,
-    // How long the file of the log is.
+    // How long the file of the current log is, and that of the other one.
     file: u64,
+    other: u64,
     behind: Option<BatchesBehind>,
     compared: Compared,
 }
@@ -62,8 +63,9 @@ fn look<T: Threads + Sync>(
 // What the files say as they stand.
 fn read_files(alloc: Global, disk: &mut ScratchDisk) -> Result<Surveyed, Broken> {
     let said = read_log(alloc, disk).map_err(Broken::Log)?;
-    let behind = batches_behind(alloc, disk, said.end).map_err(Broken::Log)?;
-    let file = disk.length(FileId::Log).map_err(Broken::Opening)?;
+    let behind = batches_behind(alloc, disk, &said).map_err(Broken::Log)?;
+    let file = disk.length(said.log.file).map_err(Broken::Opening)?;
+    let other = disk.length(said.log.other_file()).map_err(Broken::Opening)?;
     let compared = compare_pages(alloc, &said, disk).map_err(Broken::Opening)?;
     if !compared.damages.is_empty() {
         return Err(Broken::Pages(compared));
@@ -74,11 +76,13 @@ fn read_files(alloc: Global, disk: &mut ScratchDisk) -> Result<Surveyed, Broken>
         .saturating_add(said.records)
         .saturating_add(2);
     if u64::from(said.greatest_page) > most {
-        return Err(Broken::Log(LogDamage::NoPage(said.greatest_page)));
+        let name = file_name(said.log.file);
+        return Err(Broken::Log(LogDamage::NoPage(name, said.greatest_page)));
     }
     Ok(Surveyed {
         said,
         file,
+        other,
         behind,
         compared,
     })
@@ -95,7 +99,7 @@ fn tree_behind<T: Threads + Sync>(
         Err((fault, disk)) => return (Err(Broken::Opening(fault)), disk),
     };
     let written = write_changed(&mut engine);
-    let mut disk = engine.into_disk();
+    let mut disk = engine.into_disk().into_disk();
     let tree = match written {
         Ok(()) => check_pages(alloc, &mut disk),
         Err(fault) => Err(fault),
@@ -103,7 +107,7 @@ fn tree_behind<T: Threads + Sync>(
     (tree.map_err(Broken::Opening), disk)
 }
 
-/// Checks a store: the records of its log, the file of pages beside them, the whole batches after the log's end, and the tree and the free list as an opening
+/// Checks a store: the records of its current log, the file of pages beside them, the whole batches after the log's end, and the tree and the free list as an opening
 /// finds them. Writes `ok`, or a line for each rule that does not hold, and answers the exit status, 0 or 1, and the disk. Whole batches after the log's end
 /// are told, and are no damage as long as one put can have left them.
 pub fn check_text<W: Write, T: Threads + Sync>(
@@ -144,8 +148,10 @@ fn behind_text<W: Write>(writer: &mut W, surveyed: &Surveyed) -> io::Result<bool
     };
     write!(
         writer,
-        "log: {} whole batches behind the closed gate at {}",
-        behind.batches, surveyed.said.end
+        "{}: {} whole batches behind the closed gate at {}",
+        file_name(surveyed.said.log.file),
+        behind.batches,
+        surveyed.said.end
     )?;
     if behind.are_damage() {
         writeln!(writer)?;
@@ -202,7 +208,8 @@ fn numbers_text<W: Write>(writer: &mut W, looked: &Looked) -> io::Result<u8>
     ensures { IfOk result (λ status. status ≤ 1) }
 {
     tree_text(writer, &looked.tree)?;
-    survey_text(writer, &looked.surveyed.said, looked.surveyed.file)?;
+    logs_text(writer, &looked.surveyed)?;
+    survey_text(writer, &looked.surveyed.said)?;
     compared_text(writer, &looked.surveyed.compared)?;
     Ok(0)
 }
@@ -228,8 +235,30 @@ fn tree_text<W: Write>(writer: &mut W, tree: &TreeSurvey) -> io::Result<()> {
     writeln!(writer, "free pages {}", tree.free)
 }
 
-fn survey_text<W: Write>(writer: &mut W, said: &Survey, file: u64) -> io::Result<()> {
-    writeln!(writer, "log bytes {} of {file} in the file", said.end)?;
+// Which log is the current one, and how much of the files there is.
+fn logs_text<W: Write>(writer: &mut W, surveyed: &Surveyed) -> io::Result<()> {
+    let log = &surveyed.said.log;
+    writeln!(
+        writer,
+        "log generation {} in {}, from LSN {}",
+        log.header().generation,
+        file_name(log.file),
+        log.header().base
+    )?;
+    writeln!(
+        writer,
+        "log bytes {} of {} in the file",
+        surveyed.said.end, surveyed.file
+    )?;
+    writeln!(
+        writer,
+        "other log generation {} bytes {}",
+        log.other_header().generation,
+        surveyed.other
+    )
+}
+
+fn survey_text<W: Write>(writer: &mut W, said: &Survey) -> io::Result<()> {
     writeln!(
         writer,
         "log batches {} records {}",
@@ -240,6 +269,11 @@ fn survey_text<W: Write>(writer: &mut W, said: &Survey, file: u64) -> io::Result
     writeln!(
         writer,
         "transactions to be undone {}",
+        said.analysed.losers.len()
+    )?;
+    writeln!(
+        writer,
+        "switch waits for {} transactions",
         said.analysed.losers.len()
     )?;
     writeln!(writer, "next transaction {}", said.analysed.next)

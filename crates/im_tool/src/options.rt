@@ -6,11 +6,11 @@ use clap::builder::ValueParser;
 use clap::{Arg, ArgAction, ArgMatches, Command, Error};
 use im_base_types::{LEAST_FRAMES, MOST_FRAMES};
 use im_engine::{BufferSize, Config, MOST_WORKERS};
-use im_engine_upkeep::RedoBound;
+use im_engine_upkeep::{Bounds, LogBound, RedoBound};
 use std::alloc::Global;
 
 /// The most MiB that may be named.
-const MOST_CHECKPOINT: u64 = 1_048_576;
+const MOST_MIB: u64 = 1_048_576;
 
 const MIB: u64 = 1_048_576;
 
@@ -29,6 +29,8 @@ pub enum Task {
     Dump(Form),
     /// Entries put in, as `Dump` wrote them.
     Load,
+    /// The log that the store has left, emptied.
+    Trim,
 }
 
 /// What the words of the command line say.
@@ -43,6 +45,8 @@ pub struct Options<'a> {
     pub pages: Option<u64>,
     /// The MiB of log that an opening redoes at most, 0 to 1,048,576; with 0 no Checkpoint is taken.
     pub checkpoint: Option<u64>,
+    /// The MiB of log from which on it goes on in the other file, 0 to 1,048,576; with 0 it never does.
+    pub switch: Option<u64>,
     /// The workers that share redo, 1 to 16.
     pub workers: Option<u64>,
     /// Refusals are told in words, and keys are written and read so that they can be typed.
@@ -74,11 +78,29 @@ impl<'a> Options<'a> {
 
     /// How much log an opening may have to redo: as many MiB as the words say. Where they say nothing, 16 MiB for a folder, or seven times as much as the
     /// file of pages has, whichever is more. A store in memory is never opened again, and takes no Checkpoint then.
-    pub(crate) fn redo_bound(&self) -> RedoBound {
+    fn redo_bound(&self) -> RedoBound {
         match self.checkpoint {
-            Some(mib) => RedoBound::of_bytes(mib.min(MOST_CHECKPOINT) * MIB),
+            Some(mib) => RedoBound::of_bytes(mib.min(MOST_MIB) * MIB),
             None if self.dir.is_some() => RedoBound::default(),
             None => RedoBound::of_bytes(0),
+        }
+    }
+
+    /// How long the log may get that an opening reads: as many MiB as the words say. Where they say nothing, 64 MiB for a folder, or eight times as much as the
+    /// file of pages has, whichever is more. A store in memory is never opened again.
+    fn log_bound(&self) -> LogBound {
+        match self.switch {
+            Some(mib) => LogBound::of_bytes(mib.min(MOST_MIB) * MIB),
+            None if self.dir.is_some() => LogBound::default(),
+            None => LogBound::of_bytes(0),
+        }
+    }
+
+    /// What an opening may cost.
+    pub(crate) fn bounds(&self) -> Bounds {
+        Bounds {
+            redo: self.redo_bound(),
+            log: self.log_bound(),
         }
     }
 }
@@ -92,6 +114,7 @@ pub(crate) fn parse_options<'a>(alloc: Global, words: &'a [String]) -> Result<Op
         frames: matches.get_one::<u64>("frames"),
         pages: matches.get_one::<u64>("pages"),
         checkpoint: matches.get_one::<u64>("checkpoint"),
+        switch: matches.get_one::<u64>("switch"),
         workers: matches.get_one::<u64>("workers"),
         has_words: matches.get_flag("words"),
         is_batch: matches.get_flag("batch"),
@@ -109,6 +132,8 @@ fn task_of(matches: &ArgMatches) -> Task {
         Task::Dump(form_of(matches))
     } else if matches.get_flag("load") {
         Task::Load
+    } else if matches.get_flag("trim") {
+        Task::Trim
     } else {
         Task::Steps
     }
@@ -150,9 +175,17 @@ fn with_numbers<'a>(alloc: Global, command: Command<'a>) -> Result<Command<'a>, 
         .arg(
             Arg::new(alloc, "checkpoint")
                 .long("checkpoint")
-                .value_parser(ValueParser::unsigned(0, MOST_CHECKPOINT))
+                .value_parser(ValueParser::unsigned(0, MOST_MIB))
                 .help(
                     "MiB of log that an opening redoes at most, also after a kill, 0 to 1048576; smaller ones open sooner and write more, 0 takes no Checkpoint [with DIR 16, or 7 times the file of pages, 0 without]",
+                ),
+        )?
+        .arg(
+            Arg::new(alloc, "switch")
+                .long("switch")
+                .value_parser(ValueParser::unsigned(0, MOST_MIB))
+                .help(
+                    "MiB of log that an opening reads at most, 0 to 1048576: from there on the log goes on in the other file as soon as no transaction is active; 0 lets it grow for ever [with DIR 64, or 8 times the file of pages, 0 without]",
                 ),
         )?
         .arg(
@@ -208,11 +241,17 @@ fn with_tasks<'a>(alloc: Global, command: Command<'a>) -> Result<Command<'a>, Er
         "Dump them as LMDB and Berkeley DB do, with row ids of 8 bytes",
     )
     .requires_arg("dump")?)?;
-    with_task(
+    command = with_task(
         alloc,
         command,
         "load",
         "Put in the entries that standard input has, as --dump prints them, in either form",
+    )?;
+    with_task(
+        alloc,
+        command,
+        "trim",
+        "Empty the log file that the store has left and does not read any more",
     )
 }
 
@@ -235,7 +274,7 @@ fn flag<'a>(alloc: Global, name: &'a str, help: &'a str) -> Arg<'a> {
 // A flag of which one at most is given, which needs the folder, and which takes no option of steps that it would not heed.
 fn task_flag<'a>(alloc: Global, name: &'a str, help: &'a str) -> Result<Arg<'a>, Error> {
     let mut arg = flag(alloc, name, help).requires_arg("DIR")?;
-    for other in ["check", "stat", "log", "dump", "load"] {
+    for other in ["check", "stat", "log", "dump", "load", "trim"] {
         if other != name {
             arg = arg.conflicts_with(other)?;
         }
@@ -246,6 +285,7 @@ fn task_flag<'a>(alloc: Global, name: &'a str, help: &'a str) -> Result<Arg<'a>,
             .conflicts_with("frames")?
             .conflicts_with("pages")?
             .conflicts_with("checkpoint")?
+            .conflicts_with("switch")?
             .conflicts_with("workers")?;
     }
     Ok(arg)

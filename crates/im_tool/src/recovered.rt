@@ -2,6 +2,7 @@
 
 use crate::scratch_disk::ScratchDisk;
 use im_base_steps::{Reply, Step};
+use im_base_two_logs::Renamed;
 use im_base_types::{Fault, Key, MOST_DIRTY, MOST_FRAMES, Rid};
 use im_engine::{BufferSize, Config, Engine, look};
 use std::alloc::Global;
@@ -21,11 +22,14 @@ pub(crate) fn opened<T: Threads + Sync>(
     rt: &T,
     alloc: Global,
     disk: ScratchDisk,
-) -> Result<Engine<ScratchDisk>, (Fault, ScratchDisk)> {
+) -> Result<Engine<Renamed<ScratchDisk>>, (Fault, ScratchDisk)> {
     if disk.has_failed() {
         return Err((Fault::Device, disk));
     }
-    Engine::open_or_create(rt, alloc, disk, TO_LOOK)
+    Engine::open_or_create(rt, alloc, Renamed::new(disk, false), TO_LOOK).map_err(|refused| (
+        refused.0,
+        refused.1.into_disk(),
+    ))
 }
 
 /// The entries that a look at the files finds, and the disk.
@@ -37,11 +41,12 @@ pub(crate) fn entries_of<T: Threads + Sync>(
     if disk.has_failed() {
         return (Err(Fault::Device), disk);
     }
-    look(rt, alloc, disk, TO_LOOK)
+    let (found, named) = look(rt, alloc, Renamed::new(disk, false), TO_LOOK);
+    (found, named.into_disk())
 }
 
 /// Writes each page that lacks changes in its file.
-pub(crate) fn write_changed(engine: &mut Engine<ScratchDisk>) -> Result<(), Fault> {
+pub(crate) fn write_changed(engine: &mut Engine<Renamed<ScratchDisk>>) -> Result<(), Fault> {
     for _written in 0..MOST_DIRTY {
         let Some(change) = engine.oldest_change() else {
             break;

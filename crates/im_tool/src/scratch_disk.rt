@@ -161,6 +161,11 @@ impl ScratchDisk {
         }
     }
 
+    /// The files of the folder, as they are. None where there is no folder.
+    pub(crate) fn into_files(self) -> Option<FileDisk> {
+        self.files.base
+    }
+
     /// Whether the last call failed, after which there is no other.
     pub fn has_failed(&self) -> bool
         ensures { result ≡ ⟦<ScratchDisk as Disk>⟧.failed self.now }

@@ -7,11 +7,11 @@ use crate::causes::{Cause, Causes};
 use crate::help::{write_help, write_help_on};
 use crate::line_input::{LineInput, without_newline};
 use crate::words_step::words_step;
-use im_base_disk::Disk;
 use im_base_steps::{Reply, Step};
+use im_base_two_logs::TwoLogs;
 use im_base_types::{Fault, Key, MOST_ENTRIES, Rid, TxnId};
 use im_engine::{Config, Engine};
-use im_engine_upkeep::{Checkpoints, RedoBound};
+use im_engine_upkeep::{Bounds, Due, Upkeep, has_first_format};
 use im_tool_look::write_key;
 use im_tool_words::{entries_text, reply_text, report_text, step_line};
 use std::alloc::{AllocError, Global};
@@ -50,15 +50,15 @@ pub enum StoreEnd {
 /// many entries there are, and each; `redo` what redo did in the opening. A bad line is answered `refused 16`, and the store goes on. Empty lines are passed over,
 /// and a carriage return in front of a newline is left out. An error is of the program's own memory, input or output.
 ///
-/// Checkpoints are taken after the opening and after the steps, as the bound wants them. At the end of the input all changed
-/// pages are written and a last one is taken, so that the next opening has nothing to redo. Where such a step is refused, a line
-/// `checkpoint refused N` or `close refused N` says so. Where a call of the disk failed, what failed stands in a line of `causes`, once.
-pub fn store_text<D: Disk + Cause + Drop, R: LineInput, W: Write, E: Write, T: Threads + Sync>(
+/// Checkpoints are taken after the opening and after the steps, and the log goes on in the other file, as the bounds want it. At the end of the input a long
+/// log is left for an empty one, or all changed pages are written and a last Checkpoint is taken, so that the next opening has nothing to redo. Where such a step is
+/// refused, a line `checkpoint refused N`, `switch refused N` or `close refused N` says so. Where a call of the disk failed, what failed stands in a line of `causes`, once.
+pub fn store_text<D: TwoLogs + Cause + Drop, R: LineInput, W: Write, E: Write, T: Threads + Sync>(
     rt: &T,
     alloc: Global,
     disk: D,
     config: Config,
-    bound: RedoBound,
+    bounds: Bounds,
     manner: Manner,
     reader: &mut R,
     writer: &mut W,
@@ -67,9 +67,30 @@ pub fn store_text<D: Disk + Cause + Drop, R: LineInput, W: Write, E: Write, T: T
     requires working { D.failed disk ≡ false }
     requires synced { IsSynced D.Disk disk }
 {
+    let mut disk = disk;
+    let has_first_format = match has_first_format(&mut disk) {
+        Ok(is_so) => is_so,
+        Err(fault) => {
+            print_refused_opening(writer, fault)?;
+            causes.tell(&disk);
+            return Ok(StoreEnd::RefusedOpening(fault));
+        }
+    };
     match Engine::open_or_create(rt, alloc, disk, config) {
         Ok(mut engine) => {
-            let run = run_to_close(alloc, &mut engine, bound, manner, reader, writer, causes);
+            let mut upkeep = Upkeep::of(&engine, bounds);
+            if has_first_format {
+                upkeep.leave_first_format();
+            }
+            let run = run_to_close(
+                alloc,
+                &mut engine,
+                &mut upkeep,
+                manner,
+                reader,
+                writer,
+                causes,
+            );
             let _disk = engine.into_disk();
             let end = run?;
             writer.flush()?;
@@ -90,34 +111,25 @@ pub(crate) fn print_refused_opening<W: Write>(writer: &mut W, fault: Fault) -> i
 }
 
 // Makes the steps that the lines ask for, and closes the store after them.
-fn run_to_close<D: Disk + Cause, R: LineInput, W: Write, E: Write>(
+fn run_to_close<D: TwoLogs + Cause, R: LineInput, W: Write, E: Write>(
     alloc: Global,
     engine: &mut Engine<D>,
-    bound: RedoBound,
+    upkeep: &mut Upkeep,
     manner: Manner,
     reader: &mut R,
     writer: &mut W,
     causes: &mut Causes<E>,
 ) -> io::Result<StoreEnd> {
-    let mut checkpoints = Checkpoints::of(engine, bound);
-    let is_unkept = keep(engine, &mut checkpoints, manner, writer)?;
+    let is_unkept = keep(engine, upkeep, manner, writer)?;
     causes.tell(engine.disk());
     if is_unkept && manner.is_batch {
         return Ok(StoreEnd::RefusedLine);
     }
-    let end = run_all_lines(
-        alloc,
-        engine,
-        &mut checkpoints,
-        manner,
-        reader,
-        writer,
-        causes,
-    )?;
+    let end = run_all_lines(alloc, engine, upkeep, manner, reader, writer, causes)?;
     if end != StoreEnd::Input {
         return Ok(end);
     }
-    match checkpoints.close(engine) {
+    match upkeep.close(engine) {
         Ok(()) => Ok(end),
         Err(fault) => {
             write!(writer, "close ")?;
@@ -128,10 +140,10 @@ fn run_to_close<D: Disk + Cause, R: LineInput, W: Write, E: Write>(
     }
 }
 
-fn run_all_lines<D: Disk + Cause, R: LineInput, W: Write, E: Write>(
+fn run_all_lines<D: TwoLogs + Cause, R: LineInput, W: Write, E: Write>(
     alloc: Global,
     engine: &mut Engine<D>,
-    checkpoints: &mut Checkpoints,
+    upkeep: &mut Upkeep,
     manner: Manner,
     reader: &mut R,
     writer: &mut W,
@@ -139,28 +151,22 @@ fn run_all_lines<D: Disk + Cause, R: LineInput, W: Write, E: Write>(
 ) -> io::Result<StoreEnd> {
     let mut line = Vec::new(alloc);
     run_lines(
-        alloc,
-        engine,
-        checkpoints,
-        manner,
-        reader,
-        &mut line,
-        writer,
-        causes,
+        alloc, engine, upkeep, manner, reader, &mut line, writer, causes,
     )
 }
 
 // Reads line by line into the room for one.
-fn run_lines<D: Disk + Cause, R: LineInput, W: Write, E: Write>(
+fn run_lines<D: TwoLogs + Cause, R: LineInput, W: Write, E: Write>(
     alloc: Global,
     engine: &mut Engine<D>,
-    checkpoints: &mut Checkpoints,
+    upkeep: &mut Upkeep,
     manner: Manner,
     reader: &mut R,
     line: &mut Vec<u8>,
     writer: &mut W,
     causes: &mut Causes<E>,
 ) -> io::Result<StoreEnd> {
+    let mut is_told = false;
     for _count in 0..u64::MAX {
         if !reader.has_line() {
             print_prompt(manner, writer)?;
@@ -176,8 +182,9 @@ fn run_lines<D: Disk + Cause, R: LineInput, W: Write, E: Write>(
             return Ok(StoreEnd::Input);
         }
         if !text.is_empty() {
-            let is_refused = run_line(alloc, engine, checkpoints, manner, text, writer)?;
-            let is_unkept = keep(engine, checkpoints, manner, writer)?;
+            let is_refused = run_line(alloc, engine, upkeep, manner, text, writer)?;
+            let is_unkept = keep(engine, upkeep, manner, writer)?;
+            is_told = tell_held_up(engine, upkeep, manner, is_told, writer)?;
             causes.tell(engine.disk());
             if (is_refused || is_unkept) && manner.is_batch {
                 return Ok(StoreEnd::RefusedLine);
@@ -187,19 +194,46 @@ fn run_lines<D: Disk + Cause, R: LineInput, W: Write, E: Write>(
     Ok(StoreEnd::Input)
 }
 
-// Takes a Checkpoint where one is due, and answers whether that was refused.
-fn keep<D: Disk, W: Write>(
+// Makes what is due, and answers whether that was refused.
+fn keep<D: TwoLogs, W: Write>(
     engine: &mut Engine<D>,
-    checkpoints: &mut Checkpoints,
+    upkeep: &mut Upkeep,
     manner: Manner,
     writer: &mut W,
 ) -> io::Result<bool> {
-    match checkpoints.keep(engine) {
+    let name = name_of(upkeep.due(engine));
+    match upkeep.keep(engine) {
         Ok(()) => Ok(false),
         Err(fault) => {
-            write!(writer, "checkpoint ")?;
+            write!(writer, "{name} ")?;
             print_refused(writer, manner, fault.number(), &fault)
         }
+    }
+}
+
+// Says once, where words are wanted, that the log is past its bound while a transaction is active. It answers whether that is so.
+fn tell_held_up<D: TwoLogs, W: Write>(
+    engine: &Engine<D>,
+    upkeep: &Upkeep,
+    manner: Manner,
+    is_told: bool,
+    writer: &mut W,
+) -> io::Result<bool> {
+    let is_so = manner.has_words && upkeep.is_held_up(engine);
+    if is_so && !is_told {
+        writeln!(
+            writer,
+            "the log is past its bound: it goes on in the other file once no transaction is active"
+        )?;
+    }
+    Ok(is_so)
+}
+
+// What a refusal of what is due is told of. A page that is written when nothing is due is written for the next Checkpoint too.
+fn name_of(due: Due) -> &'static str {
+    match due {
+        Due::Switch => "switch",
+        Due::Checkpoint | Due::Nothing => "checkpoint",
     }
 }
 
@@ -219,10 +253,10 @@ fn end_prompt<W: Write>(manner: Manner, writer: &mut W) -> io::Result<()> {
 }
 
 // Makes what a line asks for, and answers whether it was refused.
-fn run_line<D: Disk, W: Write>(
+fn run_line<D: TwoLogs, W: Write>(
     alloc: Global,
     engine: &mut Engine<D>,
-    checkpoints: &mut Checkpoints,
+    upkeep: &mut Upkeep,
     manner: Manner,
     line: &[u8],
     writer: &mut W,
@@ -250,7 +284,7 @@ fn run_line<D: Disk, W: Write>(
         step_line(alloc, line)
     };
     match step {
-        Ok(step) => run_step(alloc, engine, checkpoints, manner, &step, writer),
+        Ok(step) => run_step(alloc, engine, upkeep, manner, &step, writer),
         Err(Fault::BadScript) => print_refused(
             writer,
             manner,
@@ -278,15 +312,15 @@ fn run_help<W: Write>(manner: Manner, line: &[u8], writer: &mut W) -> io::Result
     print_refused(writer, manner, Fault::BadScript.number(), &Fault::BadScript)
 }
 
-fn run_step<D: Disk, W: Write>(
+fn run_step<D: TwoLogs, W: Write>(
     alloc: Global,
     engine: &mut Engine<D>,
-    checkpoints: &mut Checkpoints,
+    upkeep: &mut Upkeep,
     manner: Manner,
     step: &Step,
     writer: &mut W,
 ) -> io::Result<bool> {
-    let reply = checkpoints.step(engine, step);
+    let reply = upkeep.step(engine, step);
     if let Reply::Refused(fault) = reply {
         return print_refused(writer, manner, fault.number(), &fault);
     }

@@ -14,6 +14,7 @@ use crate::scratch_disk::ScratchDisk;
 use crate::store::print_refused_opening;
 use crate::transfer::{Loaded, load_text};
 use im_base_file_disk::{FileDisk, OpenError};
+use im_base_two_logs::Renamed;
 use im_base_types::{Fault, Key, Rid};
 use im_tool_look::{LogDamage, log_text, read_log};
 use std::fmt::{Display, Formatter};
@@ -80,12 +81,12 @@ fn look_at<W: Write, T: Threads + Sync>(
         Task::Stat => stat_text(threads, rt.alloc(), writer, disk),
         Task::Log => print_log(rt, dir, writer, disk),
         Task::Dump(form) => dump(rt, threads, dir, writer, form, disk),
-        Task::Steps | Task::Load => (Ok(0), disk),
+        Task::Steps | Task::Load | Task::Trim => (Ok(0), disk),
     }
 }
 
-// Says on standard error why a store is not looked at. No folder is made for that.
-fn tell_unread(rt: &HostRuntime, dir: &str, error: &OpenError) {
+/// Says on standard error why the files of a store were not opened that it has. No folder is made for that.
+pub(crate) fn tell_unread(rt: &HostRuntime, dir: &str, error: &OpenError) {
     match error {
         OpenError::NoFolder(_) => tell(rt, dir, &"there is no such folder"),
         _ => tell_unopened(rt, dir, error),
@@ -245,7 +246,7 @@ fn load_from<R: LineInput, W: Write, T: Threads + Sync>(
                 writer: rt.stderr(),
                 is_shown: rt.stderr().is_terminal(),
             };
-            let (config, bound) = (options.config(), options.redo_bound());
+            let (config, bounds) = (options.config(), options.bounds());
             let mut causes = Causes {
                 writer: rt.stderr(),
                 dir,
@@ -254,9 +255,9 @@ fn load_from<R: LineInput, W: Write, T: Threads + Sync>(
             let loaded = load_text(
                 threads,
                 rt.alloc(),
-                disk,
+                Renamed::new(disk, false),
                 config,
-                bound,
+                bounds,
                 reader,
                 &mut progress,
                 &mut causes,

@@ -7,11 +7,11 @@ use crate::causes::{Cause, Causes};
 use crate::entry_text::{EntryText, Next};
 use crate::line_input::LineInput;
 use crate::progress::Progress;
-use im_base_disk::Disk;
 use im_base_steps::{Reply, Step};
+use im_base_two_logs::TwoLogs;
 use im_base_types::{Fault, Rid, TxnId};
 use im_engine::{Config, Engine};
-use im_engine_upkeep::{Checkpoints, RedoBound};
+use im_engine_upkeep::{Bounds, Upkeep, has_first_format};
 use std::alloc::Global;
 use std::io;
 use std::io::Write;
@@ -37,14 +37,14 @@ pub enum Loaded {
     RefusedClose(u64, Fault),
 }
 
-/// Puts the entries of such a text into a store, commits them a thousand at a time, and tells of each commit. Checkpoints are taken in
-/// between, as the bound wants them, and one after the last entry, so that the next opening has nothing to redo.
-pub fn load_text<D: Disk + Cause + Drop, R: LineInput, P: Write, E: Write, T: Threads + Sync>(
+/// Puts the entries of such a text into a store, commits them a thousand at a time, and tells of each commit. Checkpoints are taken in between, and the log goes on in
+/// the other file, as the bounds want it; after the last entry a long log is left for an empty one, or a Checkpoint is taken, so that the next opening has nothing to redo.
+pub fn load_text<D: TwoLogs + Cause + Drop, R: LineInput, P: Write, E: Write, T: Threads + Sync>(
     rt: &T,
     alloc: Global,
     disk: D,
     config: Config,
-    bound: RedoBound,
+    bounds: Bounds,
     reader: &mut R,
     progress: &mut Progress<P>,
     causes: &mut Causes<E>,
@@ -52,9 +52,21 @@ pub fn load_text<D: Disk + Cause + Drop, R: LineInput, P: Write, E: Write, T: Th
     requires working { D.failed disk ≡ false }
     requires synced { IsSynced D.Disk disk }
 {
+    let mut disk = disk;
+    let has_first_format = match has_first_format(&mut disk) {
+        Ok(is_so) => is_so,
+        Err(fault) => {
+            causes.tell(&disk);
+            return Ok(Loaded::RefusedOpening(fault));
+        }
+    };
     match Engine::open_or_create(rt, alloc, disk, config) {
         Ok(mut engine) => {
-            let loaded = load_to_close(alloc, &mut engine, bound, reader, progress);
+            let mut upkeep = Upkeep::of(&engine, bounds);
+            if has_first_format {
+                upkeep.leave_first_format();
+            }
+            let loaded = load_to_close(alloc, &mut engine, &mut upkeep, reader, progress);
             let disk = engine.into_disk();
             progress.end();
             causes.tell(&disk);
@@ -68,31 +80,30 @@ pub fn load_text<D: Disk + Cause + Drop, R: LineInput, P: Write, E: Write, T: Th
 }
 
 // Loads the lines, and closes the store after them.
-fn load_to_close<D: Disk, R: LineInput, P: Write>(
+fn load_to_close<D: TwoLogs, R: LineInput, P: Write>(
     alloc: Global,
     engine: &mut Engine<D>,
-    bound: RedoBound,
+    upkeep: &mut Upkeep,
     reader: &mut R,
     progress: &mut Progress<P>,
 ) -> io::Result<Loaded> {
-    let mut checkpoints = Checkpoints::of(engine, bound);
-    if let Err(fault) = checkpoints.keep(engine) {
+    if let Err(fault) = upkeep.keep(engine) {
         return Ok(Loaded::Refused(1, fault));
     }
-    let loaded = load_all_lines(alloc, engine, &mut checkpoints, reader, progress)?;
+    let loaded = load_all_lines(alloc, engine, upkeep, reader, progress)?;
     let Loaded::All(count) = loaded else {
         return Ok(loaded);
     };
-    match checkpoints.close(engine) {
+    match upkeep.close(engine) {
         Ok(()) => Ok(loaded),
         Err(fault) => Ok(Loaded::RefusedClose(count, fault)),
     }
 }
 
-fn load_all_lines<D: Disk, R: LineInput, P: Write>(
+fn load_all_lines<D: TwoLogs, R: LineInput, P: Write>(
     alloc: Global,
     engine: &mut Engine<D>,
-    checkpoints: &mut Checkpoints,
+    upkeep: &mut Upkeep,
     reader: &mut R,
     progress: &mut Progress<P>,
 ) -> io::Result<Loaded> {
@@ -100,14 +111,14 @@ fn load_all_lines<D: Disk, R: LineInput, P: Write>(
     if !text.read_head(reader)? {
         return Ok(Loaded::BadLine(text.number()));
     }
-    load_entries(alloc, engine, checkpoints, reader, &mut text, progress)
+    load_entries(alloc, engine, upkeep, reader, &mut text, progress)
 }
 
 // Puts in one entry after another, and commits the last ones.
-fn load_entries<D: Disk, R: LineInput, P: Write>(
+fn load_entries<D: TwoLogs, R: LineInput, P: Write>(
     alloc: Global,
     engine: &mut Engine<D>,
-    checkpoints: &mut Checkpoints,
+    upkeep: &mut Upkeep,
     reader: &mut R,
     text: &mut EntryText,
     progress: &mut Progress<P>,
@@ -116,7 +127,7 @@ fn load_entries<D: Disk, R: LineInput, P: Write>(
     for done in 0..u64::MAX {
         let (key, rid, at) = match text.next_entry(alloc, reader)? {
             Next::Entry(key, rid, at) => (key, rid, at),
-            Next::End => return Ok(end_load(engine, checkpoints, number, done, text, progress)),
+            Next::End => return Ok(end_load(engine, upkeep, number, done, text, progress)),
             Next::Bad(at) => return Ok(Loaded::BadLine(at)),
             Next::Memory(at) => return Ok(Loaded::Refused(at, Fault::Memory)),
         };
@@ -135,7 +146,7 @@ fn load_entries<D: Disk, R: LineInput, P: Write>(
             }
             progress.show(done.saturating_add(1), text.all());
         }
-        if let Err(fault) = checkpoints.keep(engine) {
+        if let Err(fault) = upkeep.keep(engine) {
             return Ok(Loaded::Refused(at, fault));
         }
     }
@@ -143,9 +154,9 @@ fn load_entries<D: Disk, R: LineInput, P: Write>(
 }
 
 // Commits what was put in since the last commit.
-fn end_load<D: Disk, P: Write>(
+fn end_load<D: TwoLogs, P: Write>(
     engine: &mut Engine<D>,
-    checkpoints: &mut Checkpoints,
+    upkeep: &mut Upkeep,
     number: TxnId,
     done: u64,
     text: &EntryText,
@@ -157,20 +168,20 @@ fn end_load<D: Disk, P: Write>(
         }
         progress.show(done, text.all());
     }
-    match checkpoints.keep(engine) {
+    match upkeep.keep(engine) {
         Ok(()) => Loaded::All(done),
         Err(fault) => Loaded::Refused(text.number(), fault),
     }
 }
 
-fn begun<D: Disk>(engine: &mut Engine<D>) -> Result<TxnId, Fault> {
+fn begun<D: TwoLogs>(engine: &mut Engine<D>) -> Result<TxnId, Fault> {
     match engine.step(&Step::Begin) {
         Reply::Started(number) => Ok(number),
         reply => Err(fault_of(reply)),
     }
 }
 
-fn committed<D: Disk>(engine: &mut Engine<D>, number: TxnId) -> Result<(), Fault> {
+fn committed<D: TwoLogs>(engine: &mut Engine<D>, number: TxnId) -> Result<(), Fault> {
     match engine.step(&Step::Commit(number)) {
         Reply::Committed => Ok(()),
         reply => Err(fault_of(reply)),
@@ -178,7 +189,7 @@ fn committed<D: Disk>(engine: &mut Engine<D>, number: TxnId) -> Result<(), Fault
 }
 
 // Puts in an entry. It answers how the load ends where that is refused.
-fn load_entry<D: Disk>(
+fn load_entry<D: TwoLogs>(
     engine: &mut Engine<D>,
     number: TxnId,
     key: Vec<u8>,

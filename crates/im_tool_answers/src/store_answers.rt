@@ -1,7 +1,7 @@
 //! What a life of a store answers.
 
 use im_base_steps::Reply;
-use im_base_types::{Fault, Lsn, PageNo};
+use im_base_types::{Fault, PageNo};
 use im_page::Header;
 use im_restart::RedoReport;
 use im_tool_raw::Opening;
@@ -17,8 +17,8 @@ pub enum StoreReply {
     Page(PageNo, Header),
     /// What redo did in the life's opening: where it began, and how many records it applied. Without any record it began at 0.
     Redo(RedoReport),
-    /// The LSN of the gate at which the durable log ends.
-    Log(Lsn),
+    /// Where the gate stands in the file of the current log, in bytes: what is durable of it ends there.
+    Log(u64),
     /// What a page is for can't be told.
     Refused(Fault),
     /// The stop fell into it. The life's other lines answer nothing.

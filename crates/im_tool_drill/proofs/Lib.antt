@@ -1,2 +1,3 @@
+pub mod NamedDisk
 pub mod StoreLooks
 pub mod StoreRunning

@@ -25,9 +25,9 @@ pub record LineKept {D : Type 0} (d : Ghosts D) (before : List Effect) (s : Show
   pub after : reply ≢ replies.Stopped → GoesOn d before (shown_after s line reply) new
   pub stops : (c : Files) → d.may_leave new.disk c → Allowed before (shown_after s line reply) c
 
--- the LSN of the gate at which the durable log ends
+-- where the gate stands in the file of the current log, at which what is durable of it ends
 abbrev pub gate_of : {D : Type 0} (d : Ghosts D) → Engine D d → ℕ
-gate_of d e = min (e.writer.log.base + place_of e.writer.log.gate) (2 ^ 64 - 1)
+gate_of d e = place_of e.writer.log.gate
 
 -- an option's number, or this one where it is left out
 abbrev pub number_or : ℕ → Option ℕ → ℕ

@@ -14,6 +14,7 @@ use crate::store_drilled::StoreDrilled;
 use crate::store_lives::{last_entries, run_store_life};
 use im_base_disk::Disk;
 use im_base_model_disk::ModelDisk;
+use im_base_two_logs::Renamed;
 use im_engine::BufferSize;
 use im_tool_lines::StoreScript;
 use std::alloc::{AllocError, Global};
@@ -38,7 +39,7 @@ pub fn drill_store<T: Threads + Sync>(
     script: &StoreScript,
     buffer: BufferSize,
 ) -> Result<StoreDrilled, AllocError>
-    ensures run { IfOk result (λ told. IsRun ⟦<ModelDisk as Disk>⟧ script.now told) }
+    ensures run { IfOk result (λ told. IsRun ⟦<ModelDisk as Disk>⟧ ⟦<Renamed<ModelDisk> as Disk>⟧ script.now told) }
     ensures answered { IfOk result (λ told. EachStoreAnswered script.now.lives.items told.lives.items) }
     ensures kept { IfOk result (λ told. (before : List Effect) → StandsFor before (three script.now.log.items script.now.pages.items script.now.log2.items)
         → (after : List Effect) × Lives before (asked_in_each script.now.lives.items told.lives.items) after

@@ -17,6 +17,7 @@ ghost use Rattle.im_tool_drill.specs.StoreRuns.{IsOpening, IsLifeRun, AreLinesRu
 use im_base_disk::Disk;
 use im_base_model_disk::{ModelDisk, Stop};
 use im_base_steps::Step;
+use im_base_two_logs::Renamed;
 use im_base_types::{Fault, Key, PageNo, Rid};
 use im_engine::{BufferSize, Config, Engine, look};
 use im_tool_answers::{StoreAnswers, StoreReply};
@@ -40,7 +41,7 @@ pub fn run_store_life<T: Threads + Sync>(
 ) -> Result<(StoreAnswers, ModelDisk), AllocError>
     requires working { ⟦<ModelDisk as Disk>⟧.failed disk ≡ false }
     requires synced { IsSynced ⟦<ModelDisk as Disk>⟧ disk }
-    ensures run { IfOk result (λ run. IsLifeRun ⟦<ModelDisk as Disk>⟧ life.now run.0 disk run.1) }
+    ensures run { IfOk result (λ run. IsLifeRun ⟦<Renamed<ModelDisk> as Disk>⟧ life.now run.0 disk run.1) }
     ensures answered { IfOk result (λ run. StoreAnswered run.0.opening life.now.lines.items run.0.replies.items) }
     ensures opened { IfOk result (λ run. (before : List Effect) → StandsFor before (⟦<ModelDisk as Disk>⟧.seen disk) → run.0.opening ≢ Opening.Refused NotAStore) }
     ensures kept { IfOk result (λ run. (before : List Effect) → StandsFor before (⟦<ModelDisk as Disk>⟧.seen disk)
@@ -48,15 +49,16 @@ pub fn run_store_life<T: Threads + Sync>(
 {
     let mut disk = disk;
     arm_life(alloc, &mut disk, life)?;
-    match open_store(rt, alloc, disk, life.options, buffer) {
+    match open_store(rt, alloc, Renamed::new(disk, false), life.options, buffer) {
         Ok(mut engine) => {
-            let opening = Opening::Open(engine.disk().calls());
+            let opening = Opening::Open(engine.disk().disk().calls());
             let replies = run_store_lines(alloc, &mut engine, &life.lines, &life.stop);
-            let disk = engine.into_disk();
+            let disk = engine.into_disk().into_disk();
             let replies = replies?;
             Ok((StoreAnswers { opening, replies }, disk))
         }
-        Err((fault, disk)) => {
+        Err((fault, named)) => {
+            let disk = named.into_disk();
             let opening = refused_opening(&disk, &life.stop, fault);
             let replies = Vec::new(alloc);
             Ok((StoreAnswers { opening, replies }, disk))
@@ -68,13 +70,13 @@ pub fn run_store_life<T: Threads + Sync>(
 pub fn open_store<T: Threads + Sync>(
     rt: &T,
     alloc: Global,
-    disk: ModelDisk,
+    disk: Renamed<ModelDisk>,
     options: LifeOptions,
     buffer: BufferSize,
-) -> Result<Engine<ModelDisk>, (Fault, ModelDisk)>
-    requires working { ⟦<ModelDisk as Disk>⟧.failed disk ≡ false }
-    requires synced { IsSynced ⟦<ModelDisk as Disk>⟧ disk }
-    ensures opening { IsOpening ⟦<ModelDisk as Disk>⟧ options disk result }
+) -> Result<Engine<Renamed<ModelDisk>>, (Fault, Renamed<ModelDisk>)>
+    requires working { ⟦<Renamed<ModelDisk> as Disk>⟧.failed disk ≡ false }
+    requires synced { IsSynced ⟦<Renamed<ModelDisk> as Disk>⟧ disk }
+    ensures opening { IsOpening ⟦<Renamed<ModelDisk> as Disk>⟧ options disk result }
     ensures group { IfOk result (λ e. e.txns.group ≡ options.group) }
 {
     Engine::open_or_create(rt, alloc, disk, config_of(options, buffer))
@@ -122,14 +124,14 @@ fn in_32_bits(number: u64) -> u32
 
 fn run_store_lines(
     alloc: Global,
-    engine: &mut Engine<ModelDisk>,
+    engine: &mut Engine<Renamed<ModelDisk>>,
     lines: &[StoreLine],
     stop: &Option<Stop>,
 ) -> Result<Vec<StoreReply>, AllocError>
-    ensures run { IfOk result (λ told. AreLinesRun ⟦<ModelDisk as Disk>⟧ stop.now lines.now told.items engine.old engine.new) }
+    ensures run { IfOk result (λ told. AreLinesRun ⟦<Renamed<ModelDisk> as Disk>⟧ stop.now lines.now told.items engine.old engine.new) }
     ensures answered { IfOk result (λ told. AnsweredBy IsStoreReply Stopped lines.now told.items) }
-    ensures kept { IfOk result (λ told. (before : List Effect) → GoesOn ⟦<ModelDisk as Disk>⟧ before nothing_shown engine.old
-        → (c : Files) → ⟦<ModelDisk as Disk>⟧.may_leave engine.new.disk c → Allowed before (shown_in nothing_shown lines.now told.items) c) }
+    ensures kept { IfOk result (λ told. (before : List Effect) → GoesOn ⟦<Renamed<ModelDisk> as Disk>⟧ before nothing_shown engine.old
+        → (c : Files) → ⟦<Renamed<ModelDisk> as Disk>⟧.may_leave engine.new.disk c → Allowed before (shown_in nothing_shown lines.now told.items) c) }
 {
     let mut replies = Vec::new(alloc);
     for line in lines {
@@ -144,32 +146,32 @@ fn run_store_lines(
 }
 
 fn run_store_line(
-    engine: &mut Engine<ModelDisk>,
+    engine: &mut Engine<Renamed<ModelDisk>>,
     line: &StoreLine,
     stop: &Option<Stop>,
 ) -> StoreReply
-    ensures run { IsLineRun ⟦<ModelDisk as Disk>⟧ stop.now line.now result engine.old engine.new }
+    ensures run { IsLineRun ⟦<Renamed<ModelDisk> as Disk>⟧ stop.now line.now result engine.old engine.new }
     ensures fits { (result ≡ Stopped) ⊎ IsStoreReply line.now result }
-    ensures kept { (before : List Effect) (s : Shown) → GoesOn ⟦<ModelDisk as Disk>⟧ before s engine.old
-        → LineKept ⟦<ModelDisk as Disk>⟧ before s line.now result engine.new }
+    ensures kept { (before : List Effect) (s : Shown) → GoesOn ⟦<Renamed<ModelDisk> as Disk>⟧ before s engine.old
+        → LineKept ⟦<Renamed<ModelDisk> as Disk>⟧ before s line.now result engine.new }
 {
     match line {
-        StoreLine::Calls => StoreReply::Calls(engine.disk().calls()),
+        StoreLine::Calls => StoreReply::Calls(engine.disk().disk().calls()),
         StoreLine::Step(step) => run_step(engine, step, stop),
         StoreLine::Page(page) => look_at(engine, *page, stop),
         StoreLine::Redo => StoreReply::Redo(engine.redo_report()),
-        StoreLine::Log => StoreReply::Log(engine.durable_end()),
+        StoreLine::Log => StoreReply::Log(engine.log_length()),
     }
 }
 
-fn run_step(engine: &mut Engine<ModelDisk>, step: &Step, stop: &Option<Stop>) -> StoreReply
-    ensures run { IsStepRun ⟦<ModelDisk as Disk>⟧ stop.now step.now result engine.old engine.new }
+fn run_step(engine: &mut Engine<Renamed<ModelDisk>>, step: &Step, stop: &Option<Stop>) -> StoreReply
+    ensures run { IsStepRun ⟦<Renamed<ModelDisk> as Disk>⟧ stop.now step.now result engine.old engine.new }
     ensures fits { (result ≡ Stopped) ⊎ IsStoreReply (StoreLine.Step step.now) result }
-    ensures kept { (before : List Effect) (s : Shown) → GoesOn ⟦<ModelDisk as Disk>⟧ before s engine.old
-        → LineKept ⟦<ModelDisk as Disk>⟧ before s (StoreLine.Step step.now) result engine.new }
+    ensures kept { (before : List Effect) (s : Shown) → GoesOn ⟦<Renamed<ModelDisk> as Disk>⟧ before s engine.old
+        → LineKept ⟦<Renamed<ModelDisk> as Disk>⟧ before s (StoreLine.Step step.now) result engine.new }
 {
     let reply = engine.step(step);
-    if has_come(stop, engine.disk()) {
+    if has_come(stop, engine.disk().disk()) {
         StoreReply::Stopped
     } else {
         StoreReply::Step(reply)
@@ -177,14 +179,14 @@ fn run_step(engine: &mut Engine<ModelDisk>, step: &Step, stop: &Option<Stop>) ->
 }
 
 // What a page is for.
-fn look_at(engine: &mut Engine<ModelDisk>, page: PageNo, stop: &Option<Stop>) -> StoreReply
-    ensures run { IsLookRun ⟦<ModelDisk as Disk>⟧ stop.now page result engine.old engine.new }
+fn look_at(engine: &mut Engine<Renamed<ModelDisk>>, page: PageNo, stop: &Option<Stop>) -> StoreReply
+    ensures run { IsLookRun ⟦<Renamed<ModelDisk> as Disk>⟧ stop.now page result engine.old engine.new }
     ensures fits { (result ≡ Stopped) ⊎ IsStoreReply (StoreLine.Page page) result }
-    ensures kept { (before : List Effect) (s : Shown) → GoesOn ⟦<ModelDisk as Disk>⟧ before s engine.old
-        → LineKept ⟦<ModelDisk as Disk>⟧ before s (StoreLine.Page page) result engine.new }
+    ensures kept { (before : List Effect) (s : Shown) → GoesOn ⟦<Renamed<ModelDisk> as Disk>⟧ before s engine.old
+        → LineKept ⟦<Renamed<ModelDisk> as Disk>⟧ before s (StoreLine.Page page) result engine.new }
 {
     let header = engine.header(page);
-    if has_come(stop, engine.disk()) {
+    if has_come(stop, engine.disk().disk()) {
         return StoreReply::Stopped;
     }
     match header {
@@ -209,7 +211,7 @@ pub(crate) fn last_entries<T: Threads + Sync>(
 ) -> (Result<Vec<(Key, Rid)>, Fault>, ModelDisk)
     requires working { ⟦<ModelDisk as Disk>⟧.failed disk ≡ false }
     requires synced { IsSynced ⟦<ModelDisk as Disk>⟧ disk }
-    ensures run { IsLastRun ⟦<ModelDisk as Disk>⟧ disk result.0 result.1 }
+    ensures run { IsLastRun ⟦<Renamed<ModelDisk> as Disk>⟧ disk result.0 result.1 }
     ensures found { (after : List Effect) → StandsFor after (⟦<ModelDisk as Disk>⟧.seen disk)
         → MatchResult result.0 (λ found. found.items ≡ entries (apply_all empty after)) (λ fault. fault ≢ NotAStore) }
 {
@@ -221,5 +223,11 @@ pub(crate) fn last_entries<T: Threads + Sync>(
         group: false,
         workers: None,
     };
-    look(rt, alloc, disk, config_of(options, buffer))
+    let (found, named) = look(
+        rt,
+        alloc,
+        Renamed::new(disk, false),
+        config_of(options, buffer),
+    );
+    (found, named.into_disk())
 }

@@ -9,6 +9,7 @@ ghost use Rattle.im_tool_every.specs.Opened.{IsJudged, IsJudgedBy, IsStopped};
 
 use im_base_disk::Disk;
 use im_base_model_disk::{ModelDisk, Stop};
+use im_base_two_logs::Renamed;
 use im_engine::{BufferSize, Engine};
 use im_tool_drill::open_store;
 use im_tool_judge::{AskedEffect, is_good, is_passed_over};
@@ -34,16 +35,17 @@ pub(crate) fn judge_opening<T: Threads + Sync>(
 ) -> Result<(Judged, ModelDisk), AllocError>
     requires working { ⟦<ModelDisk as Disk>⟧.failed disk ≡ false }
     requires synced { IsSynced ⟦<ModelDisk as Disk>⟧ disk }
-    ensures { IfOk result (λ told. IsJudged ⟦<ModelDisk as Disk>⟧ options asked.now disk told.1 told.0) }
+    ensures { IfOk result (λ told. IsJudged ⟦<Renamed<ModelDisk> as Disk>⟧ options asked.now disk told.1 told.0) }
 {
-    match open_store(rt, alloc, disk, options, buffer) {
+    match open_store(rt, alloc, Renamed::new(disk, false), options, buffer) {
         Ok(mut engine) => {
-            let calls = engine.disk().calls();
+            let calls = engine.disk().disk().calls();
             let good = judge_entries(alloc, &mut engine, asked)?;
-            let disk = engine.into_disk();
+            let disk = engine.into_disk().into_disk();
             Ok((Judged { calls, good }, disk))
         }
-        Err((fault, disk)) => {
+        Err((fault, named)) => {
+            let disk = named.into_disk();
             let calls = disk.calls();
             let good = is_passed_over(fault);
             Ok((Judged { calls, good }, disk))
@@ -54,10 +56,10 @@ pub(crate) fn judge_opening<T: Threads + Sync>(
 // Judges the entries that an engine hands out.
 fn judge_entries(
     alloc: Global,
-    engine: &mut Engine<ModelDisk>,
+    engine: &mut Engine<Renamed<ModelDisk>>,
     asked: &[AskedEffect],
 ) -> Result<bool, AllocError>
-    ensures { IfOk result (λ good. IsJudgedBy ⟦<ModelDisk as Disk>⟧ asked.now engine.old engine.new good) }
+    ensures { IfOk result (λ good. IsJudgedBy ⟦<Renamed<ModelDisk> as Disk>⟧ asked.now engine.old engine.new good) }
 {
     let found = engine.entries(alloc);
     let good = is_good(alloc, asked, found)?;
@@ -77,17 +79,18 @@ pub(crate) fn stop_opening<T: Threads + Sync>(
     requires synced { IsSynced ⟦<ModelDisk as Disk>⟧ disk }
     ensures working { IfOk result (λ next. ⟦<ModelDisk as Disk>⟧.failed next ≡ false) }
     ensures synced { IfOk result (λ next. IsSynced ⟦<ModelDisk as Disk>⟧ next) }
-    ensures stopped { IfOk result (λ next. IsStopped ⟦<ModelDisk as Disk>⟧ options stop disk next) }
+    ensures stopped { IfOk result (λ next. IsStopped ⟦<ModelDisk as Disk>⟧ ⟦<Renamed<ModelDisk> as Disk>⟧ options stop disk next) }
 {
     let mut disk = disk;
     disk.arm(stop);
-    match open_store(rt, alloc, disk, options, buffer) {
+    match open_store(rt, alloc, Renamed::new(disk, false), options, buffer) {
         Ok(engine) => {
-            let disk = engine.into_disk();
+            let disk = engine.into_disk().into_disk();
             let next = left_by(alloc, &disk)?;
             Ok(next)
         }
-        Err((_fault, disk)) => {
+        Err((_fault, named)) => {
+            let disk = named.into_disk();
             let left = left_by(alloc, &disk)?;
             Ok(left)
         }

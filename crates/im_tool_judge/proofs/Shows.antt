@@ -294,6 +294,7 @@ died (answers.Continue u) t new s is shown = absurd (cc)
 died (answers.FlushPage p) t new s is shown = absurd (cc)
 died answers.Force t new s is shown = absurd (cc)
 died answers.Checkpoint t new s is shown = absurd (cc)
+died answers.Switch t new s is shown = absurd (cc)
 
 pub none_died : (step : answers.Step) (w : Showing) (s : Shown) → access_of step ≡ None → IsShown w s → IsShown w (answered step answers.Die s)
 none_died (answers.Do u a) w s is shown = absurd (cc)
@@ -304,6 +305,7 @@ none_died (answers.Continue u) w s is shown = shown
 none_died (answers.FlushPage p) w s is shown = shown
 none_died answers.Force w s is shown = shown
 none_died answers.Checkpoint w s is shown = shown
+none_died answers.Switch w s is shown = shown
 
 -- ---- what else changes
 

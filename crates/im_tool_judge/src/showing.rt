@@ -595,6 +595,7 @@ fn access_of(step: &Step) -> Option<TxnId>
         Step::FlushPage(_) => None,
         Step::Force => None,
         Step::Checkpoint => None,
+        Step::Switch => None,
     }
 }
 

@@ -42,6 +42,7 @@ step_kind text (steps.Continue t) s = sym (ap store_text_kind s.1)
 step_kind text (steps.FlushPage page) s = sym (ap store_text_kind s.1)
 step_kind text steps.Force s = sym (ap store_text_kind s)
 step_kind text steps.Checkpoint s = sym (ap store_text_kind s)
+step_kind text steps.Switch s = sym (ap store_text_kind s)
 
 store_kind : (text : List ℕ) (said : StoreScriptLine) → SpellsStore text said → store_kind_of said ≡ store_text_kind text
 store_kind text (lines.Life options) s = sym (ap store_text_kind s.1)

@@ -63,6 +63,7 @@ fn usage_of(word: &[u8]) -> &'static str {
         b"force" => "`force` stands alone, in a life",
         b"flush" => "`flush PAGE`, in a life",
         b"checkpoint" => "`checkpoint` stands alone, in a life",
+        b"switch" => "`switch` stands alone, in a life",
         b"page" => "`page PAGE`, in a life",
         b"redo" => "`redo` stands alone, in a life",
         b"log" => "`log` stands alone, in a life",

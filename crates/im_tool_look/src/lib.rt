@@ -1,15 +1,17 @@
 //! What is broken in these files, and what do they hold?
 //!
-//! What the bytes of a store's files say, to whoever looks at a store that is not open: the log as its batches and records, with what is
+//! What the bytes of a store's files say, to whoever looks at a store that is not open: the current log as its batches and records, with what is
 //! broken in it; the tree and the free list of a file of pages, rule by rule; and keys as users type them.
 //!
 //! The files are read by pieces (`Files`), the log 256 KiB at a time, so that a look takes no more memory over a longer log but for what its records
-//! say. `read_log` counts what a log has and analyses it as an opening does, `batches_behind` looks for whole batches behind the log's end,
+//! say. `current_log` finds the log that the store has, as an opening chooses it. `read_log` counts what that has and analyses it as an opening does,
+//! `batches_behind` looks for whole batches of it after its end,
 //! `log_text` prints a line for each record. `compare_pages` tells where the file of pages is not one of this log. `check_pages` goes over the pages and lists each rule that does not hold. `write_key` and
 //! `noted_key` are the notation of keys, `x'6100'` and `"a b"` among them. No store is opened here, and nothing is written but text. What
 //! is found and printed is tested, and stands in no clause: every call is safe and ends, on any bytes.
 #![tactic(auto)]
 
+mod current;
 mod files;
 mod key_notation;
 mod log_bytes;
@@ -20,6 +22,7 @@ mod record_lines;
 mod tree_check;
 mod tree_damage;
 
+pub use current::{CurrentLog, current_log, file_name};
 pub use files::Files;
 pub use key_notation::{noted_key, write_key};
 pub use log_bytes::{BatchesBehind, Survey, batches_behind, read_log};

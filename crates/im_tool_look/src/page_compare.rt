@@ -7,7 +7,6 @@ use im_base_types::{Fault, FileId, Lsn, PAGE_SIZE, PageNo};
 use im_page::Page;
 use im_restart_analysis::LastChanges;
 use std::alloc::Global;
-use std::collections::BTreeMap;
 
 /// The most damages that are listed.
 const MOST: usize = 20;
@@ -54,8 +53,7 @@ pub fn compare_pages<F: Files>(
         damages: Vec::new(alloc),
         more: 0,
     };
-    let copies = &said.analysed.copies;
-    lengths(&mut compared, &said.last, copies, whole)?;
+    lengths(&mut compared, said, whole)?;
     let mut piece = Piece::new(alloc, FileId::Pages);
     let mut place = 0u64;
     for number in 0..PageNo::MAX {
@@ -69,28 +67,31 @@ pub fn compare_pages<F: Files>(
     Ok(compared)
 }
 
-// A file that is shorter than what it was synced with, or has pages that no record names.
-fn lengths(
-    compared: &mut Compared,
-    last: &LastChanges,
-    copies: &BTreeMap<PageNo, Lsn>,
-    whole: u64,
-) -> Result<(), Fault> {
-    let mut greatest = None;
-    for (page, _) in &last.lsns {
-        if copies.get(page).is_none() {
-            greatest = Some(*page);
-        }
+// A file that is shorter than what it was synced with, or has pages that no record of a store's first log names.
+fn lengths(compared: &mut Compared, said: &Survey, whole: u64) -> Result<(), Fault> {
+    let mut least = synced_pages(said, &said.last);
+    if let Some(before) = &said.before {
+        least = least.max(synced_pages(said, before));
     }
-    if let Some(page) = greatest {
-        if u64::from(page) >= whole {
-            compared.note(PageDamage::Short(whole, page))?;
-        }
+    if least > whole {
+        compared.note(PageDamage::Short(whole, least.saturating_sub(1)))?;
     }
-    if whole > last.named.max(2) {
-        compared.note(PageDamage::Long(whole, last.named))?;
+    let named = said.last.named;
+    if whole > named.max(u64::from(said.log.pages())) {
+        compared.note(PageDamage::Long(whole, named))?;
     }
     Ok(())
+}
+
+// How many pages a file has at least that was synced with these changes: those with a copy in the log it may lack.
+fn synced_pages(said: &Survey, last: &LastChanges) -> u64 {
+    let mut least = 0u64;
+    for (page, _) in &last.lsns {
+        if said.analysed.copies.get(page).is_none() {
+            least = least.max(u64::from(*page).saturating_add(1));
+        }
+    }
+    least
 }
 
 // One page. Of its LSN a torn write leaves the old or the new one, and both are of this log.
@@ -100,7 +101,7 @@ fn compare(
     number: PageNo,
     bytes: &[u8],
 ) -> Result<(), Fault> {
-    let end = said.end;
+    let end = said.end_lsn();
     let is_copied = said.analysed.copies.get(&number).is_some();
     if is_copied {
         compared.copied = compared.copied.saturating_add(1);
@@ -112,22 +113,26 @@ fn compare(
     if is_copied {
         return Ok(());
     }
-    let Some(least) = said.last.lsns.get(&number) else {
+    let Some((least, count)) = said.synced(number) else {
         return Ok(());
     };
     compared.with_synced = compared.with_synced.saturating_add(1);
-    if lsn < *least {
-        return compared.note(PageDamage::Older(number, lsn, *least));
+    if lsn < least {
+        return compared.note(PageDamage::Older(number, lsn, least));
     }
-    if number == 0 && lsn == *least {
-        return compare_count(compared, said, bytes);
+    if number == 0 && lsn == least {
+        return compare_count(compared, count, bytes);
     }
     Ok(())
 }
 
 // The page count of page 0, as the record left it that the file was synced with.
-fn compare_count(compared: &mut Compared, said: &Survey, bytes: &[u8]) -> Result<(), Fault> {
-    let (Some(said), Ok(page)) = (said.last.count, Page::read(bytes)) else {
+fn compare_count(
+    compared: &mut Compared,
+    count: Option<PageNo>,
+    bytes: &[u8],
+) -> Result<(), Fault> {
+    let (Some(said), Ok(page)) = (count, Page::read(bytes)) else {
         return Ok(());
     };
     if page.leftmost() != said {

@@ -7,7 +7,7 @@ use thiserror::Error;
 #[derive(Clone, Copy, Debug, PartialEq, Eq, Error)]
 pub enum PageDamage {
     #[error("pages: the file has {0} whole pages, and it was synced with page {1}: pages are missing")]
-    Short(u64, PageNo),
+    Short(u64, u64),
     #[error("pages: the file has {0} whole pages, and the log names none from {1} on: the log was cut, or is older than the pages")]
     Long(u64, u64),
     #[error("page {0}: its LSN is {1}, and the log ends at {2}: the log was cut, or is older than the page")]

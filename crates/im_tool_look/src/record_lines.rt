@@ -1,5 +1,6 @@
 //! The records of a log as text.
 
+use crate::current::{CurrentLog, current_log, file_name};
 use crate::files::Files;
 use crate::key_notation::write_key;
 use crate::log_bytes::{LogPiece, first_record, next_gate, place_in};
@@ -10,27 +11,29 @@ use std::alloc::Global;
 use std::io;
 use std::io::Write;
 
-/// Writes a line for each record: its LSN, kind, transaction, prev, undo_next and page, and of a key record the key and its row
+/// Writes a line for each record of the current log: its LSN, kind, transaction, prev, undo_next and page, and of a key record the key and its row
 /// id. Answers the damage that it ended at, if any.
 pub fn log_text<F: Files, W: Write>(
     alloc: Global,
     writer: &mut W,
     files: &mut F,
 ) -> io::Result<Result<(), LogDamage>> {
-    let mut log = LogPiece::new(alloc);
-    let mut gate = match log.first_gate(files) {
-        Ok(Some(gate)) => gate,
-        Ok(None) => return Ok(Ok(())),
+    let log = match current_log(alloc, files) {
+        Ok(log) => log,
         Err(damage) => return Ok(Err(damage)),
     };
+    let Some(mut gate) = log.first_gate() else {
+        return Ok(Ok(()));
+    };
+    let mut piece = LogPiece::new(alloc, log.file);
     for _count in 0..u64::MAX {
-        let size = match log.open_batch(files, gate) {
+        let size = match piece.open_batch(files, gate) {
             Ok(Some(size)) => size,
             Ok(None) => return Ok(Ok(())),
             Err(damage) => return Ok(Err(damage)),
         };
-        let records = log.records(gate, size);
-        if let Err(damage) = batch_text(alloc, writer, first_record(gate), records)? {
+        let records = piece.records(gate, size);
+        if let Err(damage) = batch_text(alloc, writer, log, first_record(gate), records)? {
             return Ok(Err(damage));
         }
         gate = next_gate(gate, size);
@@ -41,7 +44,8 @@ pub fn log_text<F: Files, W: Write>(
 fn batch_text<W: Write>(
     alloc: Global,
     writer: &mut W,
-    lsn: Lsn,
+    log: CurrentLog,
+    place: u64,
     records: &[u8],
 ) -> io::Result<Result<(), LogDamage>> {
     let mut left = records;
@@ -49,11 +53,11 @@ fn batch_text<W: Write>(
         if left.is_empty() {
             break;
         }
-        let at = place_in(lsn, records, left);
+        let at = place_in(place, records, left);
         let Ok((record, rest)) = decode_front(left) else {
-            return Ok(Err(LogDamage::NoRecord(at)));
+            return Ok(Err(LogDamage::NoRecord(file_name(log.file), at)));
         };
-        record_text(alloc, writer, at, &record)?;
+        record_text(alloc, writer, log.lsn(at), &record)?;
         left = rest;
     }
     Ok(Ok(()))

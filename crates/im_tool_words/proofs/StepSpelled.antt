@@ -22,6 +22,7 @@ word_of (steps.Continue t) = codes "continue"
 word_of (steps.FlushPage page) = codes "flush"
 word_of steps.Force = codes "force"
 word_of steps.Checkpoint = codes "checkpoint"
+word_of steps.Switch = codes "switch"
 
 -- what stands behind the word and a space
 abbrev pub SpellsRest : Step → List ℕ → Type 0
@@ -38,6 +39,7 @@ SpellsRest (steps.Continue t) rest = IsNumber rest t
 SpellsRest (steps.FlushPage page) rest = IsPageNumber rest page
 SpellsRest steps.Force rest = ⊥
 SpellsRest steps.Checkpoint rest = ⊥
+SpellsRest steps.Switch rest = ⊥
 
 begin_lacks : Lacks 32 (codes "begin")
 begin_lacks = (λ x. omega arith, (λ x. omega arith, (λ x. omega arith, (λ x. omega arith, (λ x. omega arith, tt)))))
@@ -78,6 +80,9 @@ force_lacks = (λ x. omega arith, (λ x. omega arith, (λ x. omega arith, (λ x.
 checkpoint_lacks : Lacks 32 (codes "checkpoint")
 checkpoint_lacks = (λ x. omega arith, (λ x. omega arith, (λ x. omega arith, (λ x. omega arith, (λ x. omega arith, (λ x. omega arith, (λ x. omega arith, (λ x. omega arith, (λ x. omega arith, (λ x. omega arith, tt))))))))))
 
+switch_lacks : Lacks 32 (codes "switch")
+switch_lacks = (λ x. omega arith, (λ x. omega arith, (λ x. omega arith, (λ x. omega arith, (λ x. omega arith, (λ x. omega arith, tt))))))
+
 -- a line is cut in one way at its first space
 pub words_said : (word rest : List ℕ) (step : Step) → SpellsStep (word ++ 32 ∷ rest) step → Lacks 32 word → (word ≡ word_of step) × SpellsRest step rest
 words_said word rest steps.Begin s l = absurd (lacks_mid 32 word rest (subst (λ (x : List ℕ). Lacks 32 x) (sym s) begin_lacks))
@@ -113,22 +118,24 @@ words_said word rest (steps.FlushPage page) s l =
     (e.0, subst (λ (x : List ℕ). IsPageNumber x page) (sym e.1) s.2)
 words_said word rest steps.Force s l = absurd (lacks_mid 32 word rest (subst (λ (x : List ℕ). Lacks 32 x) (sym s) force_lacks))
 words_said word rest steps.Checkpoint s l = absurd (lacks_mid 32 word rest (subst (λ (x : List ℕ). Lacks 32 x) (sym s) checkpoint_lacks))
+words_said word rest steps.Switch s l = absurd (lacks_mid 32 word rest (subst (λ (x : List ℕ). Lacks 32 x) (sym s) switch_lacks))
 
--- a word alone is `begin`, `force` or `checkpoint`, or asks for no step
-pub lone_step_bad : (word : List ℕ) (step : Step) → SpellsStep word step → Lacks 32 word → word ≢ codes "begin" → word ≢ codes "force" → word ≢ codes "checkpoint" → ⊥
-lone_step_bad word steps.Begin s l b f c = b s
-lone_step_bad word (steps.Fetch t key) s l b f c = lacks_mid 32 (codes "fetch") s.0 (subst (λ (t : List ℕ). Lacks 32 t) s.1 l)
-lone_step_bad word (steps.Seek t key) s l b f c = lacks_mid 32 (codes "seek") s.0 (subst (λ (t : List ℕ). Lacks 32 t) s.1 l)
-lone_step_bad word (steps.Next t key) s l b f c = lacks_mid 32 (codes "next") s.0 (subst (λ (t : List ℕ). Lacks 32 t) s.1 l)
-lone_step_bad word (steps.Scan t lo hi limit) s l b f c = lacks_mid 32 (codes "scan") s.0 (subst (λ (t : List ℕ). Lacks 32 t) s.1 l)
-lone_step_bad word (steps.Insert t key rid) s l b f c = lacks_mid 32 (codes "insert") s.0 (subst (λ (t : List ℕ). Lacks 32 t) s.1 l)
-lone_step_bad word (steps.Delete t key) s l b f c = lacks_mid 32 (codes "delete") s.0 (subst (λ (t : List ℕ). Lacks 32 t) s.1 l)
-lone_step_bad word (steps.Commit t) s l b f c = lacks_mid 32 (codes "commit") s.0 (subst (λ (t : List ℕ). Lacks 32 t) s.1 l)
-lone_step_bad word (steps.Rollback t) s l b f c = lacks_mid 32 (codes "rollback") s.0 (subst (λ (t : List ℕ). Lacks 32 t) s.1 l)
-lone_step_bad word (steps.Continue t) s l b f c = lacks_mid 32 (codes "continue") s.0 (subst (λ (t : List ℕ). Lacks 32 t) s.1 l)
-lone_step_bad word (steps.FlushPage page) s l b f c = lacks_mid 32 (codes "flush") s.0 (subst (λ (t : List ℕ). Lacks 32 t) s.1 l)
-lone_step_bad word steps.Force s l b f c = f s
-lone_step_bad word steps.Checkpoint s l b f c = c s
+-- a word alone is `begin`, `force`, `checkpoint` or `switch`, or asks for no step
+pub lone_step_bad : (word : List ℕ) (step : Step) → SpellsStep word step → Lacks 32 word → word ≢ codes "begin" → word ≢ codes "force" → word ≢ codes "checkpoint" → word ≢ codes "switch" → ⊥
+lone_step_bad word steps.Begin s l b f c w = b s
+lone_step_bad word (steps.Fetch t key) s l b f c w = lacks_mid 32 (codes "fetch") s.0 (subst (λ (t : List ℕ). Lacks 32 t) s.1 l)
+lone_step_bad word (steps.Seek t key) s l b f c w = lacks_mid 32 (codes "seek") s.0 (subst (λ (t : List ℕ). Lacks 32 t) s.1 l)
+lone_step_bad word (steps.Next t key) s l b f c w = lacks_mid 32 (codes "next") s.0 (subst (λ (t : List ℕ). Lacks 32 t) s.1 l)
+lone_step_bad word (steps.Scan t lo hi limit) s l b f c w = lacks_mid 32 (codes "scan") s.0 (subst (λ (t : List ℕ). Lacks 32 t) s.1 l)
+lone_step_bad word (steps.Insert t key rid) s l b f c w = lacks_mid 32 (codes "insert") s.0 (subst (λ (t : List ℕ). Lacks 32 t) s.1 l)
+lone_step_bad word (steps.Delete t key) s l b f c w = lacks_mid 32 (codes "delete") s.0 (subst (λ (t : List ℕ). Lacks 32 t) s.1 l)
+lone_step_bad word (steps.Commit t) s l b f c w = lacks_mid 32 (codes "commit") s.0 (subst (λ (t : List ℕ). Lacks 32 t) s.1 l)
+lone_step_bad word (steps.Rollback t) s l b f c w = lacks_mid 32 (codes "rollback") s.0 (subst (λ (t : List ℕ). Lacks 32 t) s.1 l)
+lone_step_bad word (steps.Continue t) s l b f c w = lacks_mid 32 (codes "continue") s.0 (subst (λ (t : List ℕ). Lacks 32 t) s.1 l)
+lone_step_bad word (steps.FlushPage page) s l b f c w = lacks_mid 32 (codes "flush") s.0 (subst (λ (t : List ℕ). Lacks 32 t) s.1 l)
+lone_step_bad word steps.Force s l b f c w = f s
+lone_step_bad word steps.Checkpoint s l b f c w = c s
+lone_step_bad word steps.Switch s l b f c w = w s
 
 -- a line of several words that asks for a step begins with one of ten
 pub step_word_said : (word rest : List ℕ) (step : Step) → SpellsStep (word ++ 32 ∷ rest) step → Lacks 32 word → word ≢ codes "commit" → word ≢ codes "rollback" → word ≢ codes "continue" → word ≢ codes "flush" → word ≢ codes "fetch" → word ≢ codes "seek" → word ≢ codes "next" → word ≢ codes "scan" → word ≢ codes "insert" → word ≢ codes "delete" → ⊥
@@ -145,6 +152,7 @@ step_word_said word rest (steps.Continue t) q l c r o u f s n a i d = o (words_s
 step_word_said word rest (steps.FlushPage page) q l c r o u f s n a i d = u (words_said word rest (steps.FlushPage page) q l).0
 step_word_said word rest steps.Force q l c r o u f s n a i d = (words_said word rest steps.Force q l).1
 step_word_said word rest steps.Checkpoint q l c r o u f s n a i d = (words_said word rest steps.Checkpoint q l).1
+step_word_said word rest steps.Switch q l c r o u f s n a i d = (words_said word rest steps.Switch q l).1
 
 -- what stands behind the first word
 commit_rest : (rest : List ℕ) (step : Step) → codes "commit" ≡ word_of step → SpellsRest step rest → (n : ℕ) × IsNumber rest n
@@ -161,6 +169,7 @@ commit_rest rest (steps.Continue t) w b = let e = ap (λ (x : List ℕ). slice_i
 commit_rest rest (steps.FlushPage page) w b = let e = ap (λ (x : List ℕ). slice_index x 0) w in absurd (omega (arith, e))
 commit_rest rest steps.Force w b = absurd b
 commit_rest rest steps.Checkpoint w b = absurd b
+commit_rest rest steps.Switch w b = absurd b
 
 pub commit_said : (rest : List ℕ) (step : Step) → SpellsStep (codes "commit " ++ rest) step → (n : ℕ) × IsNumber rest n
 commit_said rest step s = let e = words_said (codes "commit") rest step s commit_lacks in commit_rest rest step e.0 e.1
@@ -179,6 +188,7 @@ rollback_rest rest (steps.Continue t) w b = let e = ap (λ (x : List ℕ). slice
 rollback_rest rest (steps.FlushPage page) w b = let e = ap (λ (x : List ℕ). slice_index x 0) w in absurd (omega (arith, e))
 rollback_rest rest steps.Force w b = absurd b
 rollback_rest rest steps.Checkpoint w b = absurd b
+rollback_rest rest steps.Switch w b = absurd b
 
 pub rollback_said : (rest : List ℕ) (step : Step) → SpellsStep (codes "rollback " ++ rest) step → (n : ℕ) × IsNumber rest n
 rollback_said rest step s = let e = words_said (codes "rollback") rest step s rollback_lacks in rollback_rest rest step e.0 e.1
@@ -197,6 +207,7 @@ continue_rest rest (steps.Continue t) w b = (t, b)
 continue_rest rest (steps.FlushPage page) w b = let e = ap (λ (x : List ℕ). slice_index x 0) w in absurd (omega (arith, e))
 continue_rest rest steps.Force w b = absurd b
 continue_rest rest steps.Checkpoint w b = absurd b
+continue_rest rest steps.Switch w b = absurd b
 
 pub continue_said : (rest : List ℕ) (step : Step) → SpellsStep (codes "continue " ++ rest) step → (n : ℕ) × IsNumber rest n
 continue_said rest step s = let e = words_said (codes "continue") rest step s continue_lacks in continue_rest rest step e.0 e.1
@@ -215,6 +226,7 @@ flush_rest rest (steps.Continue t) w b = let e = ap (λ (x : List ℕ). slice_in
 flush_rest rest (steps.FlushPage page) w b = (page, b)
 flush_rest rest steps.Force w b = absurd b
 flush_rest rest steps.Checkpoint w b = absurd b
+flush_rest rest steps.Switch w b = absurd b
 
 pub flush_said : (rest : List ℕ) (step : Step) → SpellsStep (codes "flush " ++ rest) step → (n : ℕ) × IsPageNumber rest n
 flush_said rest step s = let e = words_said (codes "flush") rest step s flush_lacks in flush_rest rest step e.0 e.1
@@ -233,6 +245,7 @@ fetch_rest rest (steps.Continue t) w b = let e = ap (λ (x : List ℕ). slice_in
 fetch_rest rest (steps.FlushPage page) w b = let e = ap (λ (x : List ℕ). slice_index x 1) w in absurd (omega (arith, e))
 fetch_rest rest steps.Force w b = absurd b
 fetch_rest rest steps.Checkpoint w b = absurd b
+fetch_rest rest steps.Switch w b = absurd b
 
 pub fetch_said : (rest : List ℕ) (step : Step) → SpellsStep (codes "fetch " ++ rest) step → (t : ℕ) × (key : List ℕ) × IsKeyed rest t key
 fetch_said rest step s = let e = words_said (codes "fetch") rest step s fetch_lacks in fetch_rest rest step e.0 e.1
@@ -251,6 +264,7 @@ seek_rest rest (steps.Continue t) w b = let e = ap (λ (x : List ℕ). slice_ind
 seek_rest rest (steps.FlushPage page) w b = let e = ap (λ (x : List ℕ). slice_index x 0) w in absurd (omega (arith, e))
 seek_rest rest steps.Force w b = absurd b
 seek_rest rest steps.Checkpoint w b = absurd b
+seek_rest rest steps.Switch w b = absurd b
 
 pub seek_said : (rest : List ℕ) (step : Step) → SpellsStep (codes "seek " ++ rest) step → (t : ℕ) × (key : List ℕ) × IsKeyed rest t key
 seek_said rest step s = let e = words_said (codes "seek") rest step s seek_lacks in seek_rest rest step e.0 e.1
@@ -269,6 +283,7 @@ next_rest rest (steps.Continue t) w b = let e = ap (λ (x : List ℕ). slice_ind
 next_rest rest (steps.FlushPage page) w b = let e = ap (λ (x : List ℕ). slice_index x 0) w in absurd (omega (arith, e))
 next_rest rest steps.Force w b = absurd b
 next_rest rest steps.Checkpoint w b = absurd b
+next_rest rest steps.Switch w b = absurd b
 
 pub next_said : (rest : List ℕ) (step : Step) → SpellsStep (codes "next " ++ rest) step → (t : ℕ) × (key : List ℕ) × IsKeyed rest t key
 next_said rest step s = let e = words_said (codes "next") rest step s next_lacks in next_rest rest step e.0 e.1
@@ -287,6 +302,7 @@ scan_rest rest (steps.Continue t) w b = let e = ap (λ (x : List ℕ). slice_ind
 scan_rest rest (steps.FlushPage page) w b = let e = ap (λ (x : List ℕ). slice_index x 0) w in absurd (omega (arith, e))
 scan_rest rest steps.Force w b = absurd b
 scan_rest rest steps.Checkpoint w b = absurd b
+scan_rest rest steps.Switch w b = absurd b
 
 pub scan_said : (rest : List ℕ) (step : Step) → SpellsStep (codes "scan " ++ rest) step → (t : ℕ) × (lo : List ℕ) × (hi : List ℕ) × (limit : ℕ) × IsRanged rest t lo hi limit
 scan_said rest step s = let e = words_said (codes "scan") rest step s scan_lacks in scan_rest rest step e.0 e.1
@@ -305,6 +321,7 @@ insert_rest rest (steps.Continue t) w b = let e = ap (λ (x : List ℕ). slice_i
 insert_rest rest (steps.FlushPage page) w b = let e = ap (λ (x : List ℕ). slice_index x 0) w in absurd (omega (arith, e))
 insert_rest rest steps.Force w b = absurd b
 insert_rest rest steps.Checkpoint w b = absurd b
+insert_rest rest steps.Switch w b = absurd b
 
 pub insert_said : (rest : List ℕ) (step : Step) → SpellsStep (codes "insert " ++ rest) step → (t : ℕ) × (key : List ℕ) × (rid : ℕ) × IsKeyedWith rest t key rid
 insert_said rest step s = let e = words_said (codes "insert") rest step s insert_lacks in insert_rest rest step e.0 e.1
@@ -323,6 +340,7 @@ delete_rest rest (steps.Continue t) w b = let e = ap (λ (x : List ℕ). slice_i
 delete_rest rest (steps.FlushPage page) w b = let e = ap (λ (x : List ℕ). slice_index x 0) w in absurd (omega (arith, e))
 delete_rest rest steps.Force w b = absurd b
 delete_rest rest steps.Checkpoint w b = absurd b
+delete_rest rest steps.Switch w b = absurd b
 
 pub delete_said : (rest : List ℕ) (step : Step) → SpellsStep (codes "delete " ++ rest) step → (t : ℕ) × (key : List ℕ) × IsKeyed rest t key
 delete_said rest step s = let e = words_said (codes "delete") rest step s delete_lacks in delete_rest rest step e.0 e.1

@@ -94,3 +94,4 @@ SpellsStep text (steps.Continue t) = (rest : List ℕ) × (text ≡ codes "conti
 SpellsStep text (steps.FlushPage page) = (rest : List ℕ) × (text ≡ codes "flush " ++ rest) × IsPageNumber rest page
 SpellsStep text steps.Force = text ≡ codes "force"
 SpellsStep text steps.Checkpoint = text ≡ codes "checkpoint"
+SpellsStep text steps.Switch = text ≡ codes "switch"

@@ -86,6 +86,9 @@ fn lone_step(word: &[u8]) -> Result<Step, Fault>
     if word == b"checkpoint".as_slice() {
         return Ok(Step::Checkpoint);
     }
+    if word == b"switch".as_slice() {
+        return Ok(Step::Switch);
+    }
     Err(Fault::BadScript)
 }
 

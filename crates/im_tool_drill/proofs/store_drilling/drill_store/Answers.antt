@@ -9,6 +9,7 @@ use Rattle.im_tool_lines.specs.declared.store_life.StoreLife.{StoreLife}
 use Rattle.im_tool_answers.specs.declared.store_answers.StoreAnswers.{StoreAnswers}
 use Rattle.im_tool_answers.specs.StoreShown.{asked_in_each, EachStoreAnswered, AreStores}
 use Rattle.im_tool_drill.specs.StoreRuns.{AreLivesRun}
+use Rattle.im_tool_drill.proofs.NamedDisk.{named_ghosts}
 use Rattle.im_tool_drill.proofs.StoreRunning.{lives_run_push}
 use Rattle.im_tool_answers.proofs.StoreAsked.{store_lives_push, store_answered_push, stores_push}
 use Rattle.im_tool_drill.proofs.store_drilling.drill_store.Goals as goal
@@ -17,7 +18,7 @@ pub loop-life-init : goal.loop-life-init
 loop-life-init g c = record {
   working = c.with_log2-disk.ensures.working;
   synced = c.with_log2-disk.ensures.synced;
-  run = subst (λ (l : List StoreAnswers). AreLivesRun ghosts [] l c.with_log2-disk.result c.with_log2-disk.result) (sym c.new-lives.ensures.items) refl;
+  run = subst (λ (l : List StoreAnswers). AreLivesRun ghosts named_ghosts [] l c.with_log2-disk.result c.with_log2-disk.result) (sym c.new-lives.ensures.items) refl;
   answered = subst (λ (l : List StoreAnswers). EachStoreAnswered [] l) (sym c.new-lives.ensures.items) tt;
   kept = λ before stands.
       let log = c.in_ok-log.ensures.items ∙ c.deref.ensures.value in
@@ -42,9 +43,9 @@ loop-life-preserved g c =
       working = c.in-Ok.ensures.working;
       synced = c.in-Ok.ensures.synced;
       run =
-          subst (λ (l : List StoreLife). AreLivesRun ghosts l c.push.new.self.items c.with_log2-disk.result c.in-Ok.left) (sym more)
-          (subst (λ (l : List StoreAnswers). AreLivesRun ghosts (take i all ++ c.life-item.result ∷ []) l c.with_log2-disk.result c.in-Ok.left) (sym c.in_ok-push.ensures.items)
-          (lives_run_push ghosts (take i all) c.loop-life.lives.items c.life-item.result c.in_ok-told.told c.with_log2-disk.result c.loop-life.disk c.in_ok-told.after c.in-Ok.left c.loop-life.invariant.run c.in_ok-told.ensures.run
+          subst (λ (l : List StoreLife). AreLivesRun ghosts named_ghosts l c.push.new.self.items c.with_log2-disk.result c.in-Ok.left) (sym more)
+          (subst (λ (l : List StoreAnswers). AreLivesRun ghosts named_ghosts (take i all ++ c.life-item.result ∷ []) l c.with_log2-disk.result c.in-Ok.left) (sym c.in_ok-push.ensures.items)
+          (lives_run_push ghosts named_ghosts (take i all) c.loop-life.lives.items c.life-item.result c.in_ok-told.told c.with_log2-disk.result c.loop-life.disk c.in_ok-told.after c.in-Ok.left c.loop-life.invariant.run c.in_ok-told.ensures.run
           (record { bytes = c.in-Ok.ensures.bytes; fresh = c.in-Ok.ensures.fresh })));
       answered =
           subst (λ (l : List StoreLife). EachStoreAnswered l c.push.new.self.items) (sym more)
@@ -87,6 +88,6 @@ returns-clause-run g c =
       fresh = c.with_log2-disk.ensures.fresh;
       seen = c.with_log2-disk.ensures.seen ∙ ap (λ (l : List ℕ). three l c.in_ok-pages.pages.items c.in_ok-log2.log2.items) log ∙ ap (λ (l : List ℕ). three c.args.script.now.log.items l c.in_ok-log2.log2.items) pages ∙ ap (λ (l : List ℕ). three c.args.script.now.log.items c.args.script.now.pages.items l) log2;
       end = c.loop-life.disk;
-      lives = subst (λ (l : List StoreLife). AreLivesRun ghosts l c.loop-life.lives.items c.with_log2-disk.result c.loop-life.disk) all c.loop-life.invariant.run;
+      lives = subst (λ (l : List StoreLife). AreLivesRun ghosts named_ghosts l c.loop-life.lives.items c.with_log2-disk.result c.loop-life.disk) all c.loop-life.invariant.run;
       last = c.last_entries-last.ensures.run;
     }

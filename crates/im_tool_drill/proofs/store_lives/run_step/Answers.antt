@@ -1,5 +1,6 @@
-use Rattle.std.proofs.Common.{◌≡◌, true, refl, inl, inr, sym, subst}
+use Rattle.std.proofs.Common.{◌≡◌, true, refl, inl, inr, sym, ap, subst, ◌∙◌}
 use Rattle.im_base_model_disk.specs.declared.model_disk.ModelDisk.{ModelDisk}
+use Rattle.im_base_two_logs.specs.declared.renamed.Renamed.{Renamed}
 use Rattle.im_tool_raw.specs.Stops.{HasCome}
 use Rattle.im_tool_drill.proofs.store_lives.run_step.Goals as goal
 
@@ -8,7 +9,7 @@ returns-then-has_come-clause-run c =
     record {
       reply = c.step-reply.result;
       made = c.step-reply.ensures;
-      says = inl (subst (λ (disk : ModelDisk). HasCome c.args.stop.now disk) c.disk.ensures (c.has_come.ensures.0 c.if-has_come.true), refl);
+      says = inl (subst (λ (disk : ModelDisk). HasCome c.args.stop.now disk) (c.disk-2.ensures ∙ ap (λ (n : Renamed ModelDisk). n.disk) c.disk.ensures) (c.has_come.ensures.0 c.if-has_come.true), refl);
     }
 
 pub returns-else-has_come-clause-run : goal.returns-else-has_come-clause-run
@@ -18,7 +19,7 @@ returns-else-has_come-clause-run c =
       made = c.step-reply.ensures;
       says = inr (
         (λ come.
-            let yes : c.has_come.result ≡ true = c.has_come.ensures.1 (subst (λ (disk : ModelDisk). HasCome c.args.stop.now disk) (sym c.disk.ensures) come) in
+            let yes : c.has_come.result ≡ true = c.has_come.ensures.1 (subst (λ (disk : ModelDisk). HasCome c.args.stop.now disk) (sym (c.disk-2.ensures ∙ ap (λ (n : Renamed ModelDisk). n.disk) c.disk.ensures)) come) in
             let no = c.if-has_come.false in absurd (cc)),
         refl,
       );

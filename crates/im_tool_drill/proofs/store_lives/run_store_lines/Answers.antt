@@ -1,7 +1,6 @@
 use Rattle.std.proofs.lemmas.List.{take_more}
 use Rattle.std.proofs.Common.{inl, inr, ◌++◌, ◌≡◌, List, ℕ, ◌+◌, [], ◌∷◌, length, take, sym, ◌∙◌, ap, subst, length-append}
 use Rattle.im_base_types.specs.Lives.{Shown, nothing_shown}
-use Rattle.im_base_model_disk.specs.contracts.model_disk.ModelDiskDisk.TheImpl.{ghosts}
 use Rattle.im_engine.specs.Stands.{Allowed}
 use Rattle.im_tool_answers.specs.declared.store_answers.StoreReply.{StoreReply}
 use Rattle.im_tool_lines.specs.declared.store_life.StoreLine.{StoreLine}
@@ -13,14 +12,15 @@ use Rattle.im_tool_raw.proofs.Replied.{replied_push}
 use Rattle.im_tool_drill.specs.StoreRuns.{AreLinesRun}
 use Rattle.im_tool_answers.proofs.StoreShown.{shown_to, shown_whole}
 use Rattle.im_tool_drill.proofs.StoreRunning.{no_line_run, lines_run_push}
+use Rattle.im_tool_drill.proofs.NamedDisk.{named_ghosts}
 use Rattle.im_tool_drill.proofs.store_lives.run_store_lines.Goals as goal
 
 pub loop-line-init : goal.loop-line-init
 loop-line-init c = record {
   replied = subst (λ (l : List StoreReply). RepliedBy IsStoreReply [] l) (sym c.new-replies.ensures.items) tt;
   count = ap length c.new-replies.ensures.items;
-  run = subst (λ (l : List StoreReply). AreLinesRun ghosts c.args.stop.now c.args.lines.now l c.args.engine.now c.args.engine.now) (sym c.new-replies.ensures.items) (no_line_run ghosts c.args.stop.now c.args.lines.now c.args.engine.now);
-  life = λ before living. subst (λ (l : List StoreReply). GoesOn ghosts before (shown_in nothing_shown [] l) c.args.engine.now) (sym c.new-replies.ensures.items) living;
+  run = subst (λ (l : List StoreReply). AreLinesRun named_ghosts c.args.stop.now c.args.lines.now l c.args.engine.now c.args.engine.now) (sym c.new-replies.ensures.items) (no_line_run named_ghosts c.args.stop.now c.args.lines.now c.args.engine.now);
+  life = λ before living. subst (λ (l : List StoreReply). GoesOn named_ghosts before (shown_in nothing_shown [] l) c.args.engine.now) (sym c.new-replies.ensures.items) living;
 }
 
 pub loop-line-preserved : goal.loop-line-preserved
@@ -39,12 +39,12 @@ loop-line-preserved c =
           (replied_push IsStoreReply (take i all) told c.line-item.result reply c.loop-line.invariant.replied fits));
       count = ap length c.in_ok-push.ensures.items ∙ length-append told (reply ∷ []) ∙ ap (λ (n : ℕ). n + 1) c.loop-line.invariant.count;
       run =
-          subst (λ (l : List StoreReply). AreLinesRun ghosts c.args.stop.now all l c.args.engine.now c.run_store_line-reply.new.engine) (sym c.in_ok-push.ensures.items)
-          (lines_run_push ghosts c.args.stop.now all told i c.line-item.result reply c.args.engine.now c.loop-line.engine c.run_store_line-reply.new.engine c.line-item.is c.loop-line.invariant.count c.loop-line-test.true
+          subst (λ (l : List StoreReply). AreLinesRun named_ghosts c.args.stop.now all l c.args.engine.now c.run_store_line-reply.new.engine) (sym c.in_ok-push.ensures.items)
+          (lines_run_push named_ghosts c.args.stop.now all told i c.line-item.result reply c.args.engine.now c.loop-line.engine c.run_store_line-reply.new.engine c.line-item.is c.loop-line.invariant.count c.loop-line-test.true
           c.loop-line.invariant.run c.run_store_line-reply.ensures.run);
       life = λ before living.
           let k = c.run_store_line-reply.ensures.kept before (shown_in nothing_shown (take i all) told) (c.loop-line.invariant.life before living) in
-          subst (λ (s : Shown). GoesOn ghosts before s c.run_store_line-reply.new.engine)
+          subst (λ (s : Shown). GoesOn named_ghosts before s c.run_store_line-reply.new.engine)
           (sym (ap (λ (l : List StoreReply). shown_in nothing_shown (take (i + 1) all) l) c.in_ok-push.ensures.items ∙ shown_to nothing_shown all i told c.line-item.result reply c.line-item.is c.loop-line.invariant.count c.loop-line-test.true))
           (k.after some);
     }
@@ -64,8 +64,8 @@ pub returns-then-stopped-clause-run : goal.returns-then-stopped-clause-run
 returns-then-stopped-clause-run c =
     let told = c.loop-line.replies.items in
     let reply = c.run_store_line-reply.result in
-    subst (λ (l : List StoreReply). AreLinesRun ghosts c.args.stop.now c.args.lines.now l c.args.engine.now c.run_store_line-reply.new.engine) (sym c.in_ok-push.ensures.items)
-    (lines_run_push ghosts c.args.stop.now c.args.lines.now told c.loop-line.line-index c.line-item.result reply c.args.engine.now c.loop-line.engine c.run_store_line-reply.new.engine c.line-item.is c.loop-line.invariant.count c.loop-line-test.true
+    subst (λ (l : List StoreReply). AreLinesRun named_ghosts c.args.stop.now c.args.lines.now l c.args.engine.now c.run_store_line-reply.new.engine) (sym c.in_ok-push.ensures.items)
+    (lines_run_push named_ghosts c.args.stop.now c.args.lines.now told c.loop-line.line-index c.line-item.result reply c.args.engine.now c.loop-line.engine c.run_store_line-reply.new.engine c.line-item.is c.loop-line.invariant.count c.loop-line-test.true
     c.loop-line.invariant.run c.run_store_line-reply.ensures.run)
 
 pub returns-then-stopped-clause-kept : goal.returns-then-stopped-clause-kept

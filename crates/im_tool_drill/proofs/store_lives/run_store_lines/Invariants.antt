@@ -1,11 +1,11 @@
 use Rattle.std.proofs.Common.{◌≡◌, List, length, take}
 use Rattle.im_base_types.specs.Changes.{Effect}
 use Rattle.im_base_types.specs.Lives.{nothing_shown}
-use Rattle.im_base_model_disk.specs.contracts.model_disk.ModelDiskDisk.TheImpl.{ghosts}
 use Rattle.im_tool_raw.specs.Answered.{RepliedBy}
 use Rattle.im_tool_answers.specs.StoreShown.{shown_in, IsStoreReply}
 use Rattle.im_tool_drill.specs.StoreLives.{GoesOn}
 use Rattle.im_tool_drill.specs.StoreRuns.{AreLinesRun}
+use Rattle.im_tool_drill.proofs.NamedDisk.{named_ghosts}
 use Rattle.im_tool_drill.proofs.store_lives.run_store_lines.Given as goal
 
 -- each line so far was answered, and the life goes on
@@ -13,6 +13,6 @@ abbrev pub invariant-loop-line : goal.invariant-loop-line
 invariant-loop-line l = record {
   replied : RepliedBy IsStoreReply (take l.line-index l.lines) l.replies.items;
   count : length l.replies.items ≡ l.line-index;
-  run : AreLinesRun ghosts l.stop l.lines l.replies.items l.fn.engine l.engine;
-  life : (before : List Effect) → GoesOn ghosts before nothing_shown l.fn.engine → GoesOn ghosts before (shown_in nothing_shown (take l.line-index l.lines) l.replies.items) l.engine;
+  run : AreLinesRun named_ghosts l.stop l.lines l.replies.items l.fn.engine l.engine;
+  life : (before : List Effect) → GoesOn named_ghosts before nothing_shown l.fn.engine → GoesOn named_ghosts before (shown_in nothing_shown (take l.line-index l.lines) l.replies.items) l.engine;
 }
