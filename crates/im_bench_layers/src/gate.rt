@@ -9,6 +9,7 @@ ghost use Rattle.im_base_disk.specs.Runs.{IsSynced};
 ghost use Rattle.im_log_gate.specs.Gate.{IsReading, IsReady};
 
 use crate::figures::{is_timed, nanos_since, per_second};
+use crate::places::FIRST_GATE;
 use im_base_disk::Disk;
 use im_base_file_disk::FileDisk;
 use im_base_model_disk::ModelDisk;
@@ -101,7 +102,7 @@ fn hand_rate(rt: &HostRuntime, dir: &str) -> anyhow::Result<u64> {
         .open(rt, path.as_str())?;
     let start = Instant::now(rt)?;
     for put in 0..MANY {
-        put_by_hand(&file, 31 + put * 81)?;
+        put_by_hand(&file, FIRST_GATE as u64 + put * 81)?;
     }
     let rate = per_second(MANY, nanos_since(rt, &start)?);
     fs::remove_dir_all(rt, dir)?;

@@ -29,8 +29,8 @@ pub fn is_in_page_number(places: &[usize], at: usize) -> bool {
     places.iter().any(|place| *place <= at && at - *place < 4)
 }
 
-// Where the first batch's gate is.
-const FIRST_GATE: usize = im_log_gate::FIRST_GATE as usize;
+/// Where the first gate of a new log is.
+pub(crate) const FIRST_GATE: usize = 47;
 
 // Where a record has its page number.
 const PAGE_FIELD: usize = 29;

@@ -23,6 +23,7 @@ use crate::opening::opened;
 use anyhow::Result;
 use im_base_disk::Disk;
 use im_base_model_disk::ModelDisk;
+use im_base_two_logs::Renamed;
 use im_base_types::{FileId, MOST_FRAMES, PAGE_SIZE};
 use im_bench_layers::counted::{Counted, show_calls};
 use im_bench_layers::kinds::{Kinds, show_kinds};
@@ -154,24 +155,28 @@ fn lived<R: Threads + Sync>(
 {
     let mut engine = opened(threads, rt.alloc(), Counted::new(disk), opening.frames)?;
     each_done(rt, &mut engine, opening)?;
-    Ok(engine.into_disk().into_disk())
+    Ok(engine.into_disk().into_disk().into_disk())
 }
 
 // Says what the opening took, and does the parts.
 fn each_done(
     rt: &HostRuntime,
-    engine: &mut Engine<Counted<MemoryDisk>>,
+    engine: &mut Engine<Renamed<Counted<MemoryDisk>>>,
     opening: &Opening,
 ) -> Result<()> {
     println!(rt; "{} in {} frames", opening.name, opening.frames)?;
-    show_calls(rt, engine.disk().calls())?;
+    show_calls(rt, engine.disk().disk().calls())?;
     for part in opening.parts {
         done(rt, engine, part)?;
     }
     Ok(())
 }
 
-fn done(rt: &HostRuntime, engine: &mut Engine<Counted<MemoryDisk>>, part: &Part) -> Result<()> {
+fn done(
+    rt: &HostRuntime,
+    engine: &mut Engine<Renamed<Counted<MemoryDisk>>>,
+    part: &Part,
+) -> Result<()> {
     match part {
         Part::Fill => {
             each_transaction(rt, engine, "filled", Work::Insert, Order::Rising)?;
@@ -191,17 +196,21 @@ fn done(rt: &HostRuntime, engine: &mut Engine<Counted<MemoryDisk>>, part: &Part)
 }
 
 // The steps of a transaction that never commits, and a force after them.
-fn lose(rt: &HostRuntime, engine: &mut Engine<Counted<MemoryDisk>>, losing: &Losing) -> Result<()> {
+fn lose(
+    rt: &HostRuntime,
+    engine: &mut Engine<Renamed<Counted<MemoryDisk>>>,
+    losing: &Losing,
+) -> Result<()> {
     let tally = worked_and_forced(rt.alloc(), engine, losing.work, losing.span)?;
     println!(rt; "{}", losing.name)?;
     show_tally(rt, tally)?;
-    show_calls(rt, engine.disk().calls())
+    show_calls(rt, engine.disk().disk().calls())
 }
 
 // Makes a work of all keys, by transactions that commit.
 fn each_transaction(
     rt: &HostRuntime,
-    engine: &mut Engine<Counted<MemoryDisk>>,
+    engine: &mut Engine<Renamed<Counted<MemoryDisk>>>,
     name: &str,
     work: Work,
     order: Order,
@@ -209,7 +218,7 @@ fn each_transaction(
     let tally = all_committed(rt.alloc(), engine, work, KEYS, order)?;
     println!(rt; "{name}")?;
     show_tally(rt, tally)?;
-    show_calls(rt, engine.disk().calls())
+    show_calls(rt, engine.disk().disk().calls())
 }
 
 // Stops of a life whose transaction never commits, and of the opening that takes it back.
@@ -228,21 +237,21 @@ fn stopped_on<R: Threads + Sync>(rt: &HostRuntime, threads: &R, base: &ModelDisk
 // ---- lines
 
 // What the store has, and what its pages are for.
-fn show_all(rt: &HostRuntime, engine: &mut Engine<Counted<MemoryDisk>>) -> Result<()> {
+fn show_all(rt: &HostRuntime, engine: &mut Engine<Renamed<Counted<MemoryDisk>>>) -> Result<()> {
     show_entries(rt, engine)?;
     show_pages(rt, engine)
 }
 
-fn show_entries(rt: &HostRuntime, engine: &mut Engine<Counted<MemoryDisk>>) -> Result<()> {
+fn show_entries(rt: &HostRuntime, engine: &mut Engine<Renamed<Counted<MemoryDisk>>>) -> Result<()> {
     let (entries, right) = listed(rt.alloc(), engine)?;
     println!(rt; "  entries: {entries}, right {right}")?;
     Ok(())
 }
 
-fn show_pages(rt: &HostRuntime, engine: &mut Engine<Counted<MemoryDisk>>) -> Result<()> {
+fn show_pages(rt: &HostRuntime, engine: &mut Engine<Renamed<Counted<MemoryDisk>>>) -> Result<()> {
     let kinds = pages_by_kind(engine, PAGES)?;
-    let pages = engine.disk().disk().size(FileId::Pages) / PAGE_SIZE;
-    let log = engine.disk().disk().size(FileId::Log);
+    let pages = engine.disk().disk().disk().size(FileId::Pages) / PAGE_SIZE;
+    let log = engine.disk().disk().disk().size(FileId::Log);
     show_kinds(rt, kinds)?;
     println!(rt; "  files: {pages} pages, log {log} bytes")?;
     Ok(())

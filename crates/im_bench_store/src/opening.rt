@@ -4,6 +4,7 @@ ghost use Rattle.std.specs.Prelude.{◌≡◌, false};
 ghost use Rattle.im_base_disk.specs.Runs.{IsSynced};
 
 use im_base_disk::Disk;
+use im_base_two_logs::Renamed;
 use im_base_types::Fault;
 use im_engine::{BufferSize, Config, Engine};
 use std::alloc::Global;
@@ -15,7 +16,7 @@ pub fn opened<D: Disk + Drop, R: Threads + Sync>(
     alloc: Global,
     disk: D,
     frames: usize,
-) -> Result<Engine<D>, Fault>
+) -> Result<Engine<Renamed<D>>, Fault>
     requires working { D.failed disk ≡ false }
     requires synced { IsSynced D.Disk disk }
 {
@@ -26,7 +27,7 @@ pub fn opened<D: Disk + Drop, R: Threads + Sync>(
         group: false,
         workers: 1,
     };
-    match Engine::open_or_create(rt, alloc, disk, config) {
+    match Engine::open_or_create(rt, alloc, Renamed::new(disk, false), config) {
         Ok(engine) => Ok(engine),
         Err((fault, _disk)) => Err(fault),
     }

@@ -85,6 +85,7 @@ use crate::opening::opened;
 use anyhow::Result;
 use im_base_disk::Disk;
 use im_base_file_disk::FileDisk;
+use im_base_two_logs::Renamed;
 use im_bench_layers::counted::{Calls, Counted, show_costs};
 use im_bench_layers::figures::show_of;
 use im_bench_layers::memory::MemoryDisk;
@@ -234,19 +235,19 @@ fn lived<D: Disk + Drop, R: Threads + Sync>(
     let start = Instant::now(rt)?;
     let mut engine = opened(threads, rt.alloc(), Counted::new(disk), frames)?;
     each_done(rt, options, &mut engine, &start, parts)?;
-    Ok(engine.into_disk().into_disk())
+    Ok(engine.into_disk().into_disk().into_disk())
 }
 
 // Says what the opening took that began at the start, and does parts in turn.
 fn each_done<D: Disk + Drop>(
     rt: &HostRuntime,
     options: &Options<'_>,
-    engine: &mut Engine<Counted<D>>,
+    engine: &mut Engine<Renamed<Counted<D>>>,
     start: &Instant,
     parts: &[Named],
 ) -> Result<()> {
     let nanos = start.elapsed(rt)?.as_nanos();
-    let mut before = engine.disk().calls();
+    let mut before = engine.disk().disk().calls();
     show_of(rt, "opened:", 1, 1, nanos, options.timed)?;
     show_costs(rt, before)?;
     for part in parts {
@@ -259,7 +260,7 @@ fn each_done<D: Disk + Drop>(
 fn done<D: Disk + Drop>(
     rt: &HostRuntime,
     options: &Options<'_>,
-    engine: &mut Engine<Counted<D>>,
+    engine: &mut Engine<Renamed<Counted<D>>>,
     part: &Named,
     before: Calls,
 ) -> Result<Calls> {
@@ -274,7 +275,7 @@ fn done<D: Disk + Drop>(
     let start = Instant::now(rt)?;
     let right = worked(rt.alloc(), engine, span)?;
     let nanos = start.elapsed(rt)?.as_nanos();
-    let calls = engine.disk().calls();
+    let calls = engine.disk().disk().calls();
     show_of(rt, part.name, right, keys, nanos, options.timed)?;
     show_costs(rt, calls.since(before))?;
     Ok(calls)

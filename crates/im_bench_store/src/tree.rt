@@ -42,6 +42,7 @@
 use crate::opening::opened;
 use anyhow::Result;
 use im_base_model_disk::ModelDisk;
+use im_base_two_logs::Renamed;
 use im_base_types::MOST_FRAMES;
 use im_bench_layers::figures::{is_timed, show_of};
 use im_bench_layers::works::{Order, Part, Work, worked};
@@ -82,7 +83,7 @@ fn fill<R: Threads + Sync>(rt: &HostRuntime, threads: &R, order: Order, timed: b
 /// Each work in turn over a new store.
 fn each_done(
     rt: &HostRuntime,
-    engine: &mut Engine<ModelDisk>,
+    engine: &mut Engine<Renamed<ModelDisk>>,
     order: Order,
     timed: bool,
 ) -> Result<()> {
@@ -96,11 +97,11 @@ fn each_done(
             keys,
             each: STEPS,
         };
-        let before = engine.disk().calls();
+        let before = engine.disk().disk().calls();
         let start = Instant::now(rt)?;
         let sum = worked(rt.alloc(), engine, part)?;
         let nanos = start.elapsed(rt)?.as_nanos();
-        let calls = engine.disk().calls().wrapping_sub(before);
+        let calls = engine.disk().disk().calls().wrapping_sub(before);
         show_of(rt, name, sum, keys, nanos, timed)?;
         println!(rt; "device calls {calls}")?;
     }

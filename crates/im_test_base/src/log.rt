@@ -50,14 +50,14 @@ fn is_log<D: Disk>(alloc: Global, disk: &mut D, expected: &[u8], size: usize) ->
 }
 
 #[test]
-fn one_insert_and_commit_are_113_bytes(rt: HostRuntime) -> Result<(), Fail> {
+fn one_insert_and_commit_are_129_bytes(rt: HostRuntime) -> Result<(), Fail> {
     let alloc = rt.alloc();
     let mut disk = ModelDisk::new(Vec::new(alloc), Vec::new(alloc));
-    assert!(rt; commit_once(alloc, &mut disk)? == 112);
+    assert!(rt; commit_once(alloc, &mut disk)? == 128);
     let expected =
-        *b"\x01ARIESIM1\0\0\x10\0\0\0\0\0\0\0\0\0\0\0\0\0\0\0\0\0\0\0\x01\0\0\0\x4c\0\0\0\x2b\x01\0\0\0\0\0\0\0\x01\0\0\0\0\0\0\0\0\0\0\0\0\0\0\0\0\0\0\0\x01\x01a\0\0\0\0\0\0\0\x07\0\0\0\x21\x08\0\0\0\0\0\0\0\x01\0\0\0\0\0\0\0\x24\0\0\0\0\0\0\0\0\0\0\0\0\0";
+        *b"\x01ARIESIM2\0\0\x10\0\0\0\0\0\0\0\0\0\0\0\x01\0\0\0\0\0\0\0\0\0\0\0\0\0\0\0\x01\0\0\0\0\0\0\0\x01\0\0\0\x4c\0\0\0\x2b\x01\0\0\0\0\0\0\0\x01\0\0\0\0\0\0\0\0\0\0\0\0\0\0\0\0\0\0\0\x01\x01a\0\0\0\0\0\0\0\x07\0\0\0\x21\x08\0\0\0\0\0\0\0\x01\0\0\0\0\0\0\0\x34\0\0\0\0\0\0\0\0\0\0\0\0\0";
     // The first batch makes the file longer by the room of a batch, from after its gate on.
-    assert!(rt; is_log(alloc, &mut disk, &expected, 32 + 16_389)?);
+    assert!(rt; is_log(alloc, &mut disk, &expected, 48 + 16_389)?);
     Ok(())
 }
 
@@ -134,9 +134,9 @@ fn filled(alloc: Global, batches: usize) -> Result<(u64, u64), Fault>
 
 #[test]
 fn a_buffer_of_several_batches_is_forced_at_once(rt: HostRuntime) -> Result<(), Fail> {
-    assert!(rt; filled(rt.alloc(), 1)? == (6 + 28, 82_646));
-    assert!(rt; filled(rt.alloc(), 2)? == (6 + 16, 82_646));
-    assert!(rt; filled(rt.alloc(), 64)? == (6 + 4, 82_646));
+    assert!(rt; filled(rt.alloc(), 1)? == (6 + 28, 82_662));
+    assert!(rt; filled(rt.alloc(), 2)? == (6 + 16, 82_662));
+    assert!(rt; filled(rt.alloc(), 64)? == (6 + 4, 82_662));
     Ok(())
 }
 
@@ -171,8 +171,8 @@ fn a_stop_leaves_none_of_them_or_all(rt: HostRuntime) -> Result<(), Fail> {
             let byte = if kind < 2 { 0 } else { 1 };
             let fill = Fill::Bytes(vec![in alloc; byte; 1]?);
             let end = left_by(alloc, Stop { call, length, fill })?;
-            assert!(rt; end == 31 || end == 82_646);
-            assert!(rt; call < 11 || end == 82_646);
+            assert!(rt; end == 47 || end == 82_662);
+            assert!(rt; call < 11 || end == 82_662);
         }
     }
     Ok(())

@@ -6,6 +6,7 @@ ghost use Rattle.im_base_disk.specs.Runs.{IsSynced};
 use im_base_disk::Disk;
 use im_base_model_disk::ModelDisk;
 use im_base_steps::{Reply, Step};
+use im_base_two_logs::Renamed;
 use im_base_types::Fault;
 use im_engine::{Config, Engine};
 use im_tool_lines::StoreScript;
@@ -53,11 +54,11 @@ fn open<R: Threads + Sync>(
     rt: &R,
     alloc: Global,
     disk: ModelDisk,
-) -> Result<Engine<ModelDisk>, Fault>
+) -> Result<Engine<Renamed<ModelDisk>>, Fault>
     requires working { ⟦<ModelDisk as Disk>⟧.failed disk ≡ false }
     requires synced { IsSynced ⟦<ModelDisk as Disk>⟧ disk }
 {
-    match Engine::open_or_create(rt, alloc, disk, Config::default()) {
+    match Engine::open_or_create(rt, alloc, Renamed::new(disk, false), Config::default()) {
         Ok(engine) => Ok(engine),
         Err((fault, _disk)) => Err(fault),
     }
@@ -83,7 +84,7 @@ static STEPS: [Ask; 6] = [
     Ask::Commit,
 ];
 
-fn make_steps(alloc: Global, engine: &mut Engine<ModelDisk>) -> Result<(), AllocError> {
+fn make_steps(alloc: Global, engine: &mut Engine<Renamed<ModelDisk>>) -> Result<(), AllocError> {
     let number = match engine.step(&Step::Begin) {
         Reply::Started(number) => number,
         _ => 1,

@@ -72,7 +72,7 @@ static STORE: [(&str, &str); 12] = [
     ),
     (
         "life\nredo\nbegin\ninsert 1 a 7\ncommit 1\nredo\nlife\nredo\nlife\nbegin\ninsert 2 b 8\nforce\nflush 1\nlife\nredo\n",
-        "open ok 6\nredo 0 0\nstarted 1\ninserted\ncommitted\nredo 0 0\nopen ok 0\nredo 36 1\nopen ok 0\nstarted 2\ninserted\ndone\ndone\nopen ok 4\nredo 36 0\nfinal 1\n61 7\n",
+        "open ok 6\nredo 0 0\nstarted 1\ninserted\ncommitted\nredo 0 0\nopen ok 0\nredo 52 1\nopen ok 0\nstarted 2\ninserted\ndone\ndone\nopen ok 4\nredo 52 0\nfinal 1\n61 7\n",
     ),
     ("set log 00\nset log 01\n", "final 0\n"),
     (

@@ -250,9 +250,120 @@ static STORED: [(&str, &str, &str, u8); 40] = [
     ),
 ];
 
+// The same of stores whose log goes on in the other file, of logs of the first format, and of logs near the greatest LSN.
+static OF_TWO_LOGS: [(&str, &str, &str, u8); 17] = [
+    (
+        "switch_goes_on_in_the_other_log",
+        "life\nbegin\ninsert 1 a 7\nswitch\ncommit 1\nswitch\ncalls\nlog\nlife\nbegin\n",
+        "open ok 6\nstarted 1\ninserted\nrefused 15\ncommitted\ndone\ncalls 23\nlog 48\nopen ok 0\nstarted 2\nfinal 1\n61 7\n",
+        0,
+    ),
+    (
+        "two_switches",
+        "life\nbegin\ninsert 1 a 7\ncommit 1\nswitch\nswitch\nbegin\ninsert 2 b 8\ncommit 2\nlife\nswitch\ncalls\nbegin\n",
+        "open ok 6\nstarted 1\ninserted\ncommitted\ndone\ndone\nstarted 2\ninserted\ncommitted\nopen ok 0\ndone\ncalls 12\nstarted 3\nfinal 2\n61 7\n62 8\n",
+        0,
+    ),
+    (
+        "stop_in_a_second_switch_00",
+        "life\nbegin\ninsert 1 a 7\ncommit 1\nswitch\nbegin\ninsert 2 b 8\ncommit 2\nswitch\nstop 35 long 00\nlife\nfetch 1 a\nbegin\n",
+        "open ok 6\nstarted 1\ninserted\ncommitted\ndone\nstarted 2\ninserted\ncommitted\nstopped\nopen ok 0\nrefused 1\nstarted 3\nfinal 2\n61 7\n62 8\n",
+        0,
+    ),
+    (
+        "old_log_is_switched",
+        "set log 014152494553494d3100001000000000000000000000000000000000000000010000004c0000002b01000000000000000100000000000000000000000000000000000000010161000000000000000700000021080000000000000001000000000000002400000000000000000000000000\nlife\n",
+        "open ok 13\nfinal 1\n61 7\n",
+        0,
+    ),
+    (
+        "old_log_in_the_other_file",
+        "set log2 014152494553494d3100001000000000000000000000000000000000000000010000004c0000002b01000000000000000100000000000000000000000000000000000000010161000000000000000700000021080000000000000001000000000000002400000000000000000000000000\nlife\nbegin\ncalls\n",
+        "open ok 13\nstarted 2\ncalls 13\nfinal 1\n61 7\n",
+        0,
+    ),
+    (
+        "loser_in_a_log_of_the_first_format",
+        "set log 014152494553494d3100001000000000000000000000000000000000000000010000002b0000002b01000000000000000100000000000000000000000000000000000000010161000000000000000700\nlife\nlog\nbegin\nredo\n",
+        "open ok 17\nlog 48\nstarted 2\nredo 36 1\nfinal 0\n",
+        0,
+    ),
+    (
+        "switch_stopped_at_made_byte_00",
+        "set log 014152494553494d3100001000000000000000000000000000000000000000010000004c0000002b01000000000000000100000000000000000000000000000000000000010161000000000000000700000021080000000000000001000000000000002400000000000000000000000000\nlife\nstop 12 long 00\nlife\n",
+        "open stopped\nopen ok 7\nfinal 1\n61 7\n",
+        0,
+    ),
+    (
+        "switch_stopped_at_made_byte_01",
+        "set log 014152494553494d3100001000000000000000000000000000000000000000010000004c0000002b01000000000000000100000000000000000000000000000000000000010161000000000000000700000021080000000000000001000000000000002400000000000000000000000000\nlife\nstop 12 long 01\nlife\n",
+        "open stopped\nopen ok 0\nfinal 1\n61 7\n",
+        0,
+    ),
+    (
+        "greater_generation_is_current",
+        "set log 014152494553494d3200001000000000000000000000000200000000000003e800000000000000050000000000000000\nset log2 014152494553494d3200001000000000000000000000000300000000000007d000000000000000090000000000000000\nlife\nbegin\n",
+        "open ok 0\nstarted 9\nfinal 0\n",
+        0,
+    ),
+    (
+        "two_logs_of_one_generation",
+        "set log 014152494553494d32000010000000000000000000000002000000000000000000000000000000010000000000000000\nset log2 014152494553494d32000010000000000000000000000002000000000000006400000000000000010000000000000000\nlife\n",
+        "open refused 11\nfinal refused 11\n",
+        0,
+    ),
+    (
+        "other_log_with_a_damaged_header",
+        "set log 014152494553494d32000010000000000000000000000002000000000000000000000000000000010000000000000000\nset log2 014100494553494d32000010000000000000000000000001000000000000000000000000000000010000000000000000\nlife\n",
+        "open refused 11\nfinal refused 11\n",
+        0,
+    ),
+    (
+        "log_of_no_generation",
+        "set log 014152494553494d32000010000000000000000000000000000000000000000000000000000000010000000000000000\nlife\n",
+        "open refused 11\nfinal refused 11\n",
+        0,
+    ),
+    (
+        "last_generation_is_not_left",
+        "set log 014152494553494d32000010000000003fffffffffffffff000000000000000000000000000000010000000000000000\nlife\nswitch\nbegin\nlife\n",
+        "open ok 0\nrefused 6\nrefused 10\nopen ok 0\nfinal 0\n",
+        0,
+    ),
+    (
+        "log_based_above_the_greatest_lsn",
+        "set log 014152494553494d32000010000000000000000000000001400000000000000100000000000000010000000000000000\nlife\n",
+        "open refused 11\nfinal refused 11\n",
+        0,
+    ),
+    (
+        "rollback_in_a_full_log",
+        "set log 014152494553494d320000100000000000000000000000013fffffffffffff9c00000000000000010000000000000000\nlife\nbegin\ninsert 1 a 7\nrollback 1\ncontinue 1\nbegin\n",
+        "open ok 0\nstarted 1\ninserted\nmore\nrefused 7\nrefused 10\nfinal 0\n",
+        0,
+    ),
+    (
+        "rollback_in_a_full_log_of_what_is_durable",
+        "set log 014152494553494d320000100000000000000000000000013fffffffffffff9c00000000000000010000000000000000\nlife\nbegin\ninsert 1 a 7\nforce\nrollback 1\ncontinue 1\nbegin\nlife\n",
+        "open ok 0\nstarted 1\ninserted\ndone\nmore\nrefused 7\nrefused 10\nopen refused 7\nfinal refused 7\n",
+        0,
+    ),
+    (
+        "full_log_keeps_what_was_committed",
+        "set log 014152494553494d320000100000000000000000000000013fffffffffffff3800000000000000010000000000000000\nlife\nbegin\ninsert 1 a 7\ncommit 1\nbegin\ninsert 2 b 8\nrollback 2\ncontinue 2\nbegin\nlife\nbegin\n",
+        "open ok 0\nstarted 1\ninserted\ncommitted\nstarted 2\ninserted\nmore\nrefused 7\nrefused 10\nopen ok 0\nstarted 2\nfinal 1\n61 7\n",
+        0,
+    ),
+];
+
 #[test]
 fn scripts_print_their_stored_outputs(rt: HostRuntime) -> Result<(), Fail> {
     each_prints(&rt, rt.alloc(), &STORED)
+}
+
+#[test]
+fn scripts_of_two_logs_print_their_stored_outputs(rt: HostRuntime) -> Result<(), Fail> {
+    each_prints(&rt, rt.alloc(), &OF_TWO_LOGS)
 }
 
 // The rows are lent: a proof about a function that names so long a table has all of it at each step.

@@ -23,7 +23,7 @@ static WAITING: [(&str, &[Part], &[Part]); 13] = [
         &[
             Text("open ok 6\nstarted 1\n"),
             Each(0, 28, "inserted\ndeleted\n"),
-            Text("inserted\nmore\ncalls 6\nlog 32\ndone\ncalls 10\nlog 16421\nfinal 1\n61 7\n"),
+            Text("inserted\nmore\ncalls 6\nlog 48\ndone\ncalls 10\nlog 16437\nfinal 1\n61 7\n"),
         ],
     ),
     // Two bytes more: what is buffered is forced, and then the Commit waits.
@@ -40,7 +40,7 @@ static WAITING: [(&str, &[Part], &[Part]); 13] = [
             Text("open ok 6\nstarted 1\n"),
             Each(0, 28, "inserted\ndeleted\n"),
             Text(
-                "inserted\nmore\ncalls 10\nlog 16390\nrefused 1\ndone\ncalls 14\nlog 16428\nfinal 1\n61 7\n",
+                "inserted\nmore\ncalls 10\nlog 16406\nrefused 1\ndone\ncalls 14\nlog 16444\nfinal 1\n61 7\n",
             ),
         ],
     ),
@@ -134,7 +134,7 @@ static WAITING: [(&str, &[Part], &[Part]); 13] = [
             "life\nlog\nbegin\ninsert 1 a 7\nlog\ncommit 1\nlog\nlife group\nlog\nbegin\ninsert 2 b 8\ncommit 2\nlog\nforce\nlog\n",
         )],
         &[Text(
-            "open ok 6\nlog 32\nstarted 1\ninserted\nlog 32\ncommitted\nlog 113\nopen ok 0\nlog 113\nstarted 2\ninserted\nmore\nlog 113\ndone\nlog 194\nfinal 2\n61 7\n62 8\n",
+            "open ok 6\nlog 48\nstarted 1\ninserted\nlog 48\ncommitted\nlog 129\nopen ok 0\nlog 129\nstarted 2\ninserted\nmore\nlog 129\ndone\nlog 210\nfinal 2\n61 7\n62 8\n",
         )],
     ),
     (

@@ -4,6 +4,7 @@ use crate::said::{Said, are_said, created, end, make};
 use im_base_disk::Disk;
 use im_base_model_disk::ModelDisk;
 use im_base_steps::Step;
+use im_base_two_logs::{Renamed, TwoLogs};
 use im_base_types::{FileId, PageKind, PageNo};
 use im_engine::{BufferSize, Config, Engine, live};
 use std::alloc::Global;
@@ -36,7 +37,7 @@ fn found<D: Disk>(alloc: Global, engine: &mut Engine<D>) -> Result<(usize, u8, u
 }
 
 // Whether a life of one insert is answered so.
-fn insert_is_said<D: Disk>(
+fn insert_is_said<D: TwoLogs>(
     alloc: Global,
     engine: &mut Engine<D>,
     said: &[Said],
@@ -56,15 +57,19 @@ fn one_insert_is_committed(rt: HostRuntime) -> Result<(), Fail> {
     let alloc = rt.alloc();
     let mut engine = created(&rt, alloc, Config::default())?;
     let told = commit_one(&rt, alloc, &mut engine);
-    let left = left_on(engine.into_disk());
+    let left = left_on(engine.into_disk().into_disk());
     told?;
-    // The log is 113 bytes; its first batch makes the file longer by the room of a batch, from behind its gate on.
-    assert!(rt; left == (10, 32 + 16_389));
+    // The log is 129 bytes; its first batch makes the file longer by the room of a batch, from behind its gate on.
+    assert!(rt; left == (10, 48 + 16_389));
     Ok(())
 }
 
-fn commit_one(rt: &impl Abort, alloc: Global, engine: &mut Engine<ModelDisk>) -> Result<(), Fail> {
-    assert!(rt; engine.disk().calls() == 6);
+fn commit_one(
+    rt: &impl Abort,
+    alloc: Global,
+    engine: &mut Engine<Renamed<ModelDisk>>,
+) -> Result<(), Fail> {
+    assert!(rt; engine.disk().disk().calls() == 6);
     let said = [Said::Started(1), Said::Inserted, Said::Committed];
     assert!(rt; insert_is_said(alloc, engine, &said)?);
     assert!(rt; found(alloc, engine)? == (1, b'a', 7));
@@ -75,10 +80,10 @@ fn commit_one(rt: &impl Abort, alloc: Global, engine: &mut Engine<ModelDisk>) ->
 #[test]
 fn a_life_gives_its_disk_back(rt: HostRuntime) -> Result<(), Fail> {
     let alloc = rt.alloc();
-    let disk = ModelDisk::new(Vec::new(alloc), Vec::new(alloc));
+    let disk = Renamed::new(ModelDisk::new(Vec::new(alloc), Vec::new(alloc)), false);
     let steps = one_insert(alloc, b'a', 7)?;
     let (replies, disk) = live(&rt, alloc, disk, Config::default(), &steps);
-    let (calls, _) = left_on(disk);
+    let (calls, _) = left_on(disk.into_disk());
     assert!(rt; (replies?.len(), calls) == (3, 10));
     Ok(())
 }
@@ -93,7 +98,7 @@ fn shape_of<D: Disk>(engine: &mut Engine<D>, page: PageNo) -> Result<Shape, Fail
 }
 
 // The key of four digits.
-fn short_key(alloc: Global, number: u32) -> Result<Vec<u8>, Fail> {
+pub(crate) fn short_key(alloc: Global, number: u32) -> Result<Vec<u8>, Fail> {
     let mut key = Vec::new(alloc);
     key.push(b'0' + (number / 1000 % 10) as u8)?;
     key.push(b'0' + (number / 100 % 10) as u8)?;
@@ -103,7 +108,7 @@ fn short_key(alloc: Global, number: u32) -> Result<Vec<u8>, Fail> {
 }
 
 // How many steps of a thousand, each on the next key, are answered so.
-fn count_of<D: Disk>(
+fn count_of<D: TwoLogs>(
     alloc: Global,
     engine: &mut Engine<D>,
     insert: bool,
@@ -125,7 +130,7 @@ fn count_of<D: Disk>(
 }
 
 // What there is behind a thousand inserts, how many of them put a key, and what a Fetch finds.
-fn a_thousand_come<D: Disk>(
+fn a_thousand_come<D: TwoLogs>(
     alloc: Global,
     engine: &mut Engine<D>,
 ) -> Result<(u32, (usize, u8, u64), Said), Fail> {
@@ -137,7 +142,7 @@ fn a_thousand_come<D: Disk>(
 }
 
 // What there is behind a thousand deletes, how many of them took a key out, and what page 1 is for.
-fn a_thousand_go<D: Disk>(
+fn a_thousand_go<D: TwoLogs>(
     alloc: Global,
     engine: &mut Engine<D>,
 ) -> Result<(u32, (usize, u8, u64), Shape), Fail> {
@@ -163,7 +168,7 @@ fn a_thousand_keys_come_and_go(rt: HostRuntime) -> Result<(), Fail> {
     told
 }
 
-fn come_and_go<D: Disk>(
+fn come_and_go<D: TwoLogs>(
     rt: &impl Abort,
     alloc: Global,
     engine: &mut Engine<D>,

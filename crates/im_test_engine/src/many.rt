@@ -1,9 +1,9 @@
 //! Many transactions at once.
 
 use crate::said::{Said, created, end, make, opened_after_stop};
-use im_base_disk::Disk;
 use im_base_model_disk::ModelDisk;
 use im_base_steps::Step;
+use im_base_two_logs::{Renamed, TwoLogs};
 use im_engine::{Config, Engine};
 use std::alloc::Global;
 use std::process::Abort;
@@ -20,7 +20,7 @@ fn key_of(alloc: Global, number: u64) -> Result<Vec<u8>, Fail> {
 }
 
 // Transaction t inserts the key of a number.
-fn insert<D: Disk>(
+fn insert<D: TwoLogs>(
     alloc: Global,
     engine: &mut Engine<D>,
     t: u64,
@@ -31,7 +31,7 @@ fn insert<D: Disk>(
 }
 
 // How many of 64 transactions begin, insert a key of their own, and commit, each step for all of them before the next; and what a 65th is answered.
-fn count_all<D: Disk>(
+fn count_all<D: TwoLogs>(
     alloc: Global,
     engine: &mut Engine<D>,
 ) -> Result<(usize, Said, usize, usize), Fail> {
@@ -69,7 +69,7 @@ fn sixty_four_are_active_and_commit(rt: HostRuntime) -> Result<(), Fail> {
 fn commit_all<R: Abort + Threads + Sync>(
     rt: &R,
     alloc: Global,
-    engine: &mut Engine<ModelDisk>,
+    engine: &mut Engine<Renamed<ModelDisk>>,
 ) -> Result<(), Fail> {
     assert!(rt; count_all(alloc, engine)? == (64, Said::Refused(12), 64, 64));
     assert!(rt; engine.active() == 0);
@@ -81,7 +81,7 @@ fn commit_all<R: Abort + Threads + Sync>(
 fn left_after_stop<R: Threads + Sync>(
     rt: &R,
     alloc: Global,
-    engine: &Engine<ModelDisk>,
+    engine: &Engine<Renamed<ModelDisk>>,
 ) -> Result<usize, Fail> {
     let mut next = opened_after_stop(rt, alloc, engine, Config::default())?;
     let entries = next.entries(alloc);
@@ -90,7 +90,7 @@ fn left_after_stop<R: Threads + Sync>(
 }
 
 // Puts 300 keys into the store by one transaction, and commits it.
-fn put_many<D: Disk>(alloc: Global, engine: &mut Engine<D>) -> Result<Said, Fail> {
+fn put_many<D: TwoLogs>(alloc: Global, engine: &mut Engine<D>) -> Result<Said, Fail> {
     let _ = make(engine, Step::Begin);
     for number in 0..300u64 {
         let said = insert(alloc, engine, 1, number)?;
@@ -102,7 +102,7 @@ fn put_many<D: Disk>(alloc: Global, engine: &mut Engine<D>) -> Result<Said, Fail
 }
 
 // A scan of transaction 2 over all of them.
-fn scan<D: Disk>(alloc: Global, engine: &mut Engine<D>, limit: u64) -> Result<Said, Fail> {
+fn scan<D: TwoLogs>(alloc: Global, engine: &mut Engine<D>, limit: u64) -> Result<Said, Fail> {
     let from = key_of(alloc, 0)?;
     let to = key_of(alloc, 999)?;
     Ok(make(engine, Step::Scan(2, from, to, limit)))
@@ -120,7 +120,11 @@ fn a_scan_lists_as_many_as_its_limit(rt: HostRuntime) -> Result<(), Fail> {
 // Limits, and how many entries a scan then lists.
 static LIMITS: [(u64, usize); 3] = [(256, 256), (1000, 256), (3, 3)];
 
-fn scan_many<D: Disk>(rt: &impl Abort, alloc: Global, engine: &mut Engine<D>) -> Result<(), Fail> {
+fn scan_many<D: TwoLogs>(
+    rt: &impl Abort,
+    alloc: Global,
+    engine: &mut Engine<D>,
+) -> Result<(), Fail> {
     assert!(rt; put_many(alloc, engine)? == Said::Committed);
     assert!(rt; make(engine, Step::Begin) == Said::Started(2));
     for (limit, count) in &LIMITS {

@@ -4,6 +4,7 @@ use crate::said::{Said, end, make, opened, opened_after_stop};
 use im_base_disk::Disk;
 use im_base_model_disk::ModelDisk;
 use im_base_steps::Step;
+use im_base_two_logs::{Renamed, TwoLogs};
 use im_base_types::Fault;
 use im_engine::{Config, Engine};
 use std::alloc::Global;
@@ -29,7 +30,7 @@ fn key_of(alloc: Global, number: u64) -> Result<Vec<u8>, Fail> {
 }
 
 // Inserts keys by one transaction, and commits it.
-fn put_some<D: Disk>(
+fn put_some<D: TwoLogs>(
     alloc: Global,
     engine: &mut Engine<D>,
     t: u64,
@@ -48,7 +49,7 @@ fn put_some<D: Disk>(
 }
 
 // Inserts the keys of all.
-fn put_all<D: Disk>(alloc: Global, engine: &mut Engine<D>) -> Result<Said, Fail> {
+fn put_all<D: TwoLogs>(alloc: Global, engine: &mut Engine<D>) -> Result<Said, Fail> {
     let mut said = Said::Committed;
     for t in 0..TXNS {
         said = put_some(alloc, engine, t + 1, t * KEYS)?;
@@ -60,10 +61,10 @@ fn put_all<D: Disk>(alloc: Global, engine: &mut Engine<D>) -> Result<Said, Fail>
 fn opens<R: Threads + Sync>(
     rt: &R,
     alloc: Global,
-    engine: &Engine<ModelDisk>,
+    engine: &Engine<Renamed<ModelDisk>>,
     read: u64,
 ) -> Result<bool, Fail> {
-    let mut left = engine.disk().after_stop(alloc)?;
+    let mut left = engine.disk().disk().after_stop(alloc)?;
     left.fail_read(read);
     match opened(rt, alloc, left, few_frames()) {
         Ok(next) => {
@@ -86,7 +87,7 @@ fn few_frames() -> Config {
 fn reads_of<R: Threads + Sync>(
     rt: &R,
     alloc: Global,
-    engine: &Engine<ModelDisk>,
+    engine: &Engine<Renamed<ModelDisk>>,
 ) -> Result<u64, Fail> {
     let mut low: u64 = 0;
     let mut high: u64 = 65_536;
@@ -121,7 +122,7 @@ fn an_opening_reads_the_log_in_pieces(rt: HostRuntime) -> Result<(), Fail> {
 fn count<R: Abort + Threads + Sync>(
     rt: &R,
     alloc: Global,
-    engine: &mut Engine<ModelDisk>,
+    engine: &mut Engine<Renamed<ModelDisk>>,
 ) -> Result<(), Fail> {
     assert!(rt; put_all(alloc, engine)? == Said::Committed);
     let mut next = opened_after_stop(rt, alloc, engine, few_frames())?;

@@ -4,6 +4,7 @@ use crate::said::{Said, created, end, make, opened, opened_after_stop};
 use im_base_disk::Disk;
 use im_base_model_disk::ModelDisk;
 use im_base_steps::Step;
+use im_base_two_logs::{Renamed, TwoLogs};
 use im_base_types::LONGEST_KEY;
 use im_engine::{BufferSize, Config, Engine};
 use std::alloc::Global;
@@ -23,7 +24,7 @@ fn key_of(alloc: Global, number: u64) -> Result<Vec<u8>, Fail> {
 }
 
 // Transaction t inserts every second key from this one on, in no order of theirs, so that a rollback goes from leaf to leaf; the reply to the last.
-fn insert_keys<D: Disk>(
+fn insert_keys<D: TwoLogs>(
     alloc: Global,
     engine: &mut Engine<D>,
     t: u64,
@@ -39,7 +40,7 @@ fn insert_keys<D: Disk>(
 }
 
 // Transaction 1 commits keys, and 2 inserts as many between them, forces the log, and begins to roll back.
-fn many_to_undo<D: Disk>(alloc: Global, engine: &mut Engine<D>) -> Result<Said, Fail> {
+fn many_to_undo<D: TwoLogs>(alloc: Global, engine: &mut Engine<D>) -> Result<Said, Fail> {
     let _ = insert_keys(alloc, engine, 1, 0)?;
     let _ = make(engine, Step::Commit(1));
     if insert_keys(alloc, engine, 2, 1)? != Said::Inserted {
@@ -50,7 +51,7 @@ fn many_to_undo<D: Disk>(alloc: Global, engine: &mut Engine<D>) -> Result<Said, 
 }
 
 // How often transaction 2 goes on and has more to take back, and what ends that.
-fn go_on<D: Disk>(engine: &mut Engine<D>) -> (u64, Said) {
+fn go_on<D: TwoLogs>(engine: &mut Engine<D>) -> (u64, Said) {
     let mut times = 0;
     for _ in 0..KEYS {
         let said = make(engine, Step::Continue(2));
@@ -129,7 +130,7 @@ fn came_of<R: Threads + Sync>(rt: &R, alloc: Global, call: u64, read: u64) -> Re
 fn roll_back<R: Threads + Sync>(
     rt: &R,
     alloc: Global,
-    engine: &mut Engine<ModelDisk>,
+    engine: &mut Engine<Renamed<ModelDisk>>,
 ) -> Result<Came, Fail> {
     let begun = many_to_undo(alloc, engine)?;
     let (times, failing) = go_on(engine);
@@ -149,7 +150,7 @@ fn roll_back<R: Threads + Sync>(
 fn found_after_stop<R: Threads + Sync>(
     rt: &R,
     alloc: Global,
-    engine: &Engine<ModelDisk>,
+    engine: &Engine<Renamed<ModelDisk>>,
 ) -> Result<((usize, bool), Said), Fail> {
     let mut next = opened_after_stop(rt, alloc, engine, few_frames())?;
     let found = are_committed(alloc, &mut next);
@@ -162,9 +163,9 @@ fn found_after_stop<R: Threads + Sync>(
 fn calls_within<R: Threads + Sync>(rt: &R, alloc: Global) -> Result<(u64, u64), Fail> {
     let mut engine = created(rt, alloc, few_frames())?;
     let begun = many_to_undo(alloc, &mut engine);
-    let before = engine.disk().calls();
+    let before = engine.disk().disk().calls();
     let _ = go_on(&mut engine);
-    let behind = engine.disk().calls();
+    let behind = engine.disk().disk().calls();
     end(engine);
     let _ = begun?;
     Ok((before, behind))

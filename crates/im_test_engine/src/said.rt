@@ -7,6 +7,7 @@ ghost use Rattle.im_base_disk.specs.Runs.{IsSynced};
 use im_base_disk::Disk;
 use im_base_model_disk::ModelDisk;
 use im_base_steps::{Blocker, Reply, Step};
+use im_base_two_logs::{Renamed, TwoLogs};
 use im_base_types::Fault;
 use im_engine::{Config, Engine};
 use std::alloc::Global;
@@ -72,7 +73,7 @@ pub fn are_said(replies: &[Reply], said: &[Said]) -> bool {
 }
 
 /// Makes a step, and says what was answered.
-pub fn make<D: Disk>(engine: &mut Engine<D>, step: Step) -> Said {
+pub fn make<D: TwoLogs>(engine: &mut Engine<D>, step: Step) -> Said {
     let reply = engine.step(&step);
     as_said(&reply)
 }
@@ -83,11 +84,11 @@ pub fn opened<D: Disk + Drop, R: Threads + Sync>(
     alloc: Global,
     disk: D,
     config: Config,
-) -> Result<Engine<D>, Fault>
+) -> Result<Engine<Renamed<D>>, Fault>
     requires working { D.failed disk ≡ false }
     requires synced { IsSynced D.Disk disk }
 {
-    match Engine::open_or_create(rt, alloc, disk, config) {
+    match Engine::open_or_create(rt, alloc, Renamed::new(disk, false), config) {
         Ok(engine) => Ok(engine),
         Err((fault, _disk)) => Err(fault),
     }
@@ -98,7 +99,7 @@ pub fn created<R: Threads + Sync>(
     rt: &R,
     alloc: Global,
     config: Config,
-) -> Result<Engine<ModelDisk>, Fault> {
+) -> Result<Engine<Renamed<ModelDisk>>, Fault> {
     let disk = ModelDisk::new(Vec::new(alloc), Vec::new(alloc));
     opened(rt, alloc, disk, config)
 }
@@ -107,12 +108,12 @@ pub fn created<R: Threads + Sync>(
 pub fn opened_after_stop<R: Threads + Sync>(
     rt: &R,
     alloc: Global,
-    engine: &Engine<ModelDisk>,
+    engine: &Engine<Renamed<ModelDisk>>,
     config: Config,
-) -> Result<Engine<ModelDisk>, Fault> {
-    let left = engine.disk().after_stop(alloc)?;
+) -> Result<Engine<Renamed<ModelDisk>>, Fault> {
+    let left = engine.disk().disk().after_stop(alloc)?;
     opened(rt, alloc, left, config)
 }
 
 /// Ends an engine, and its disk.
-pub fn end(_engine: Engine<ModelDisk>) {}
+pub fn end(_engine: Engine<Renamed<ModelDisk>>) {}

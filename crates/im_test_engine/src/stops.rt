@@ -7,6 +7,7 @@ use crate::said::{end, opened};
 use crate::threads::both_shares;
 use im_base_model_disk::{Fill, Length, ModelDisk, Stop};
 use im_base_steps::{Reply, Step, Store};
+use im_base_two_logs::Renamed;
 use im_base_types::{Fault, Key, Rid, TxnId};
 use im_engine::{Config, Engine, every_list_of_lives};
 use im_front::{Closed, Front, Recorded, Share, Told};
@@ -60,13 +61,13 @@ fn new_store<R: Threads + Sync>(
     rt: &R,
     alloc: Global,
     stop: Stop,
-) -> Result<Engine<ModelDisk>, Fault>
-    ensures resting { IfOk result (λ e. IsResting ⟦<Engine<ModelDisk> as Store>⟧ e) }
+) -> Result<Engine<Renamed<ModelDisk>>, Fault>
+    ensures resting { IfOk result (λ e. IsResting ⟦<Engine<Renamed<ModelDisk>> as Store>⟧ e) }
 {
     every_list_of_lives();
     let mut disk = ModelDisk::new(Vec::new(alloc), Vec::new(alloc));
     disk.arm(stop);
-    match Engine::open_or_create(rt, alloc, disk, Config::default()) {
+    match Engine::open_or_create(rt, alloc, Renamed::new(disk, false), Config::default()) {
         Ok(engine) => Ok(engine),
         Err(_) => Err(Fault::Device),
     }
@@ -177,10 +178,10 @@ fn work_at_once<E: Store + Send, L: Ledger + Send + Sync, R: Threads + Wait + Sy
 fn reopened<R: Threads + Sync>(
     rt: &R,
     alloc: Global,
-    closed: Closed<Engine<ModelDisk>>,
+    closed: Closed<Engine<Renamed<ModelDisk>>>,
 ) -> Result<Left, Fault> {
     let Closed { engine, trace, .. } = closed;
-    let (stopped, entries) = left_on(rt, alloc, engine.into_disk());
+    let (stopped, entries) = left_on(rt, alloc, engine.into_disk().into_disk());
     Ok(Left {
         trace,
         entries: entries?,
@@ -227,7 +228,7 @@ fn stopped_at<L: Ledger + Send + Sync, R: Threads + Wait + Sync>(
     requires blank { (blank.name ≡ L.name) × (blank.parts ≡ L.parts) × (blank.parts ≡ 1024) }
 {
     let engine = new_store(rt, alloc, stop_at(alloc, call)?)?;
-    let closed = both::<Engine<ModelDisk>, L, R>(rt, alloc, engine, blank)?;
+    let closed = both::<Engine<Renamed<ModelDisk>>, L, R>(rt, alloc, engine, blank)?;
     reopened(rt, alloc, closed)
 }
 

@@ -3,6 +3,7 @@
 use crate::said::{Said, created, end, make};
 use im_base_model_disk::ModelDisk;
 use im_base_steps::Step;
+use im_base_two_logs::Renamed;
 use im_engine::{BufferSize, Config, Engine};
 use std::alloc::Global;
 use std::process::Abort;
@@ -16,7 +17,7 @@ fn key_of(alloc: Global, byte: u8) -> Result<Vec<u8>, Fail> {
 }
 
 // A new store in which Commits wait.
-fn grouped<R: Threads + Sync>(rt: &R, alloc: Global) -> Result<Engine<ModelDisk>, Fail> {
+fn grouped<R: Threads + Sync>(rt: &R, alloc: Global) -> Result<Engine<Renamed<ModelDisk>>, Fail> {
     let config = Config {
         frames: 64,
         max_pages: 1_000,
@@ -30,7 +31,7 @@ fn grouped<R: Threads + Sync>(rt: &R, alloc: Global) -> Result<Engine<ModelDisk>
 // A transaction of this number begins, and inserts a key.
 fn insert_one(
     alloc: Global,
-    engine: &mut Engine<ModelDisk>,
+    engine: &mut Engine<Renamed<ModelDisk>>,
     number: u64,
     byte: u8,
 ) -> Result<Said, Fail> {
@@ -40,12 +41,16 @@ fn insert_one(
 }
 
 // Two Commits wait, and call no device; then neither is active for a step, and a third transaction waits for the lock of one.
-fn two_wait(rt: &impl Abort, alloc: Global, engine: &mut Engine<ModelDisk>) -> Result<(), Fail> {
+fn two_wait(
+    rt: &impl Abort,
+    alloc: Global,
+    engine: &mut Engine<Renamed<ModelDisk>>,
+) -> Result<(), Fail> {
     let _ = insert_one(alloc, engine, 1, b'a')?;
     let _ = insert_one(alloc, engine, 2, b'b')?;
     assert!(rt; make(engine, Step::Commit(1)) == Said::More);
     assert!(rt; make(engine, Step::Commit(2)) == Said::More);
-    assert!(rt; engine.disk().calls() == 6 && engine.active() == 2);
+    assert!(rt; engine.disk().disk().calls() == 6 && engine.active() == 2);
     assert!(rt; make(engine, Step::Commit(1)) == Said::Refused(1));
     Ok(())
 }
@@ -54,11 +59,11 @@ fn two_wait(rt: &impl Abort, alloc: Global, engine: &mut Engine<ModelDisk>) -> R
 fn both_are_committed(
     rt: &impl Abort,
     alloc: Global,
-    engine: &mut Engine<ModelDisk>,
+    engine: &mut Engine<Renamed<ModelDisk>>,
 ) -> Result<(), Fail> {
     assert!(rt; insert_one(alloc, engine, 3, b'a')? == Said::Die);
     assert!(rt; make(engine, Step::Force) == Said::Done);
-    assert!(rt; engine.disk().calls() == 10 && engine.active() == 1);
+    assert!(rt; engine.disk().disk().calls() == 10 && engine.active() == 1);
     assert!(rt; make(engine, Step::Rollback(3)) == Said::RolledBack);
     assert!(rt; insert_one(alloc, engine, 4, b'a')? == Said::Duplicate);
     Ok(())
@@ -67,7 +72,7 @@ fn both_are_committed(
 fn wait_and_force(
     rt: &impl Abort,
     alloc: Global,
-    engine: &mut Engine<ModelDisk>,
+    engine: &mut Engine<Renamed<ModelDisk>>,
 ) -> Result<(), Fail> {
     two_wait(rt, alloc, engine)?;
     both_are_committed(rt, alloc, engine)

@@ -3,6 +3,7 @@
 use crate::said::{end, opened};
 use im_base_model_disk::ModelDisk;
 use im_base_steps::{Reply, Step};
+use im_base_two_logs::Renamed;
 use im_base_types::{
     Fault, FileId, Key, LONGEST_KEY, MOST_DIRTY, PAGE_SIZE, PageKind, PageNo, Rid,
 };
@@ -33,7 +34,11 @@ fn key_of(alloc: Global, number: u64) -> Result<Vec<u8>, Fail> {
 }
 
 // Makes a transaction that inserts the keys behind a number, and answers the last one; none where a step is answered otherwise.
-fn commit(alloc: Global, engine: &mut Engine<ModelDisk>, behind: u64) -> Result<Option<u64>, Fail> {
+fn commit(
+    alloc: Global,
+    engine: &mut Engine<Renamed<ModelDisk>>,
+    behind: u64,
+) -> Result<Option<u64>, Fail> {
     let mut number = behind;
     let Reply::Started(t) = engine.step(&Step::Begin) else {
         return Ok(None);
@@ -52,7 +57,7 @@ fn commit(alloc: Global, engine: &mut Engine<ModelDisk>, behind: u64) -> Result<
 }
 
 // Makes all transactions, and brings what all but the last two did to the file of pages. Whether each was committed.
-fn fill(alloc: Global, engine: &mut Engine<ModelDisk>) -> Result<bool, Fail> {
+fn fill(alloc: Global, engine: &mut Engine<Renamed<ModelDisk>>) -> Result<bool, Fail> {
     let mut last = 0;
     for made in 0..TXNS {
         if made == TXNS - 2 {
@@ -76,7 +81,7 @@ fn left<R: Threads + Sync>(rt: &R, alloc: Global) -> Result<ModelDisk, Fail> {
     let disk = ModelDisk::new(Vec::new(alloc), Vec::new(alloc));
     let mut engine = opened(rt, alloc, disk, config)?;
     let filled = fill(alloc, &mut engine);
-    let disk = engine.disk().after_stop(alloc);
+    let disk = engine.disk().disk().after_stop(alloc);
     end(engine);
     if !filled? {
         return Err(Fail::from(Fault::Failed));
@@ -95,7 +100,7 @@ struct Came {
 }
 
 // Writes each page that lacks changes in its file.
-fn write_all(engine: &mut Engine<ModelDisk>) {
+fn write_all(engine: &mut Engine<Renamed<ModelDisk>>) {
     for _ in 0..MOST_DIRTY {
         let Some(change) = engine.oldest_change() else {
             return;
@@ -110,7 +115,7 @@ fn mixed(sum: u64, number: u64) -> u64 {
 }
 
 // A sum over what the first pages are for.
-fn sum_of_pages(engine: &mut Engine<ModelDisk>, pages: PageNo) -> Result<u64, Fault> {
+fn sum_of_pages(engine: &mut Engine<Renamed<ModelDisk>>, pages: PageNo) -> Result<u64, Fault> {
     let mut sum = 0;
     for page in 0..pages {
         let header = engine.header(page)?;
@@ -149,7 +154,7 @@ fn came_of<R: Threads + Sync>(
     let report = engine.redo_report();
     let entries = engine.entries(alloc);
     write_all(&mut engine);
-    let pages = engine.disk().end(FileId::Pages) / PAGE_SIZE as u64;
+    let pages = engine.disk().disk().end(FileId::Pages) / PAGE_SIZE as u64;
     let sum = sum_of_pages(&mut engine, u32::try_from(pages).unwrap_or(u32::MAX));
     end(engine);
     let entries = entries?;
@@ -185,13 +190,13 @@ fn refused<R: Threads + Sync>(rt: &R, alloc: Global, frames: usize, workers: usi
         ..Config::default()
     };
     let disk = ModelDisk::new(Vec::new(alloc), Vec::new(alloc));
-    match Engine::open_or_create(rt, alloc, disk, config) {
+    match Engine::open_or_create(rt, alloc, Renamed::new(disk, false), config) {
         Ok(engine) => {
-            let calls = engine.disk().calls();
+            let calls = engine.disk().disk().calls();
             end(engine);
             (0, calls)
         }
-        Err((fault, disk)) => (fault.number(), disk.calls()),
+        Err((fault, named)) => (fault.number(), named.disk().calls()),
     }
 }
 
@@ -217,10 +222,10 @@ fn an_opening_alone_finds_the_same(rt: HostRuntime) -> Result<(), Fail> {
     let key = key_of(alloc, 1)?;
     let _ = engine.step(&Step::Insert(1, key, 7));
     let committed = matches!(&engine.step(&Step::Commit(1)), Reply::Committed);
-    let left = engine.disk().after_stop(alloc);
+    let left = engine.disk().disk().after_stop(alloc);
     end(engine);
     assert!(rt; committed);
-    match Engine::open_alone(alloc, left?, Config::default()) {
+    match Engine::open_alone(alloc, Renamed::new(left?, false), Config::default()) {
         Ok(mut again) => {
             let found = (again.redo_report().applied, again.entries(alloc));
             end(again);

@@ -5,6 +5,7 @@ ghost use Rattle.im_front.specs.Held.{IsResting};
 
 use im_base_model_disk::{Fill, Length, ModelDisk, Stop};
 use im_base_steps::{Reply, Step, Store};
+use im_base_two_logs::Renamed;
 use im_base_types::{Fault, Key, Rid, TxnId};
 use im_engine::{BufferSize, Config, Engine, every_list_of_lives};
 use im_front::{Left, Open, Rested};
@@ -59,8 +60,8 @@ pub fn new_store<R: Threads + Sync>(
     group: bool,
     stop: Stop,
     failing: u64,
-) -> Result<Engine<ModelDisk>, Fault>
-    ensures rests { IfOk result (λ e. IsResting ⟦<Engine<ModelDisk> as Store>⟧ e) }
+) -> Result<Engine<Renamed<ModelDisk>>, Fault>
+    ensures rests { IfOk result (λ e. IsResting ⟦<Engine<Renamed<ModelDisk>> as Store>⟧ e) }
 {
     every_list_of_lives();
     let mut disk = ModelDisk::new(Vec::new(alloc), Vec::new(alloc));
@@ -73,7 +74,7 @@ pub fn new_store<R: Threads + Sync>(
         group,
         workers: 1,
     };
-    match Engine::open_or_create(rt, alloc, disk, config) {
+    match Engine::open_or_create(rt, alloc, Renamed::new(disk, false), config) {
         Ok(engine) => Ok(engine),
         Err((fault, _disk)) => Err(fault),
     }
@@ -86,7 +87,7 @@ pub fn front_over<R: Threads + Sync>(
     group: bool,
     stop: Stop,
     failing: u64,
-) -> Result<Open<Engine<ModelDisk>>, Fault> {
+) -> Result<Open<Engine<Renamed<ModelDisk>>>, Fault> {
     let engine = new_store(rt, alloc, group, stop, failing)?;
     opened(alloc, Rested::new(engine))
 }
@@ -100,7 +101,10 @@ pub fn opened<E: Store>(alloc: Global, at_rest: Rested<E>) -> Result<Open<E>, Fa
 }
 
 /// A front over a store with group commit, on a disk that neither stops nor fails.
-pub fn grouped<R: Threads + Sync>(rt: &R, alloc: Global) -> Result<Open<Engine<ModelDisk>>, Fault> {
+pub fn grouped<R: Threads + Sync>(
+    rt: &R,
+    alloc: Global,
+) -> Result<Open<Engine<Renamed<ModelDisk>>>, Fault> {
     front_over(rt, alloc, true, stop_at(NEVER), NEVER)
 }
 
@@ -152,10 +156,10 @@ pub fn key_of(alloc: Global, byte: u8) -> Result<Vec<u8>, Fault> {
 pub fn look_behind<R: Threads + Sync>(
     rt: &R,
     alloc: Global,
-    front: Open<Engine<ModelDisk>>,
+    front: Open<Engine<Renamed<ModelDisk>>>,
 ) -> Result<Found, Fault> {
     let Left { engine, made, .. } = front.close();
-    look_at(rt, alloc, made, engine.into_disk())
+    look_at(rt, alloc, made, engine.into_disk().into_disk())
 }
 
 fn look_at<R: Threads + Sync>(
@@ -182,13 +186,13 @@ fn entries_left<R: Threads + Sync>(
     disk: &ModelDisk,
 ) -> Result<Vec<(Key, Rid)>, Fault> {
     let left = disk.after_stop(alloc)?;
-    match Engine::open_or_create(rt, alloc, left, Config::default()) {
+    match Engine::open_or_create(rt, alloc, Renamed::new(left, false), Config::default()) {
         Ok(engine) => entries_of(alloc, engine),
         Err((fault, _disk)) => Err(fault),
     }
 }
 
-fn entries_of(alloc: Global, engine: Engine<ModelDisk>) -> Result<Vec<(Key, Rid)>, Fault> {
+fn entries_of(alloc: Global, engine: Engine<Renamed<ModelDisk>>) -> Result<Vec<(Key, Rid)>, Fault> {
     let mut engine = engine;
     engine.entries(alloc)
 }

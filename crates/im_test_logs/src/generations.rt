@@ -2,6 +2,7 @@
 ghost use Rattle.std.specs.Prelude.{◌≡◌, ◌≤◌, false, OnOk, IfOk};
 ghost use Rattle.im_log.specs.LogFile.{IsOpen};
 
+use crate::headers::FIRST;
 use im_base_disk::Disk;
 use im_base_model_disk::{Fill, Length, ModelDisk, Stop};
 use im_base_two_logs::{Renamed, TwoLogs};
@@ -38,7 +39,7 @@ fn open_current<D: TwoLogs>(alloc: Global, disk: &mut D) -> Result<LogFile, Faul
     open_or_create(alloc, disk, 1)
 }
 
-// Makes a log of the first format with a commit, and goes on in the other file, which has a commit too. It answers the LSNs of
+// A commit joins the log that is current, or a new one, and another the log of the other file, in which it goes on. It answers the LSNs of
 // the two.
 fn turn<D: TwoLogs>(alloc: Global, disk: &mut D) -> Result<(Lsn, Lsn), Fault>
     requires working { D.failed disk.old ≡ false }
@@ -78,15 +79,27 @@ fn left(alloc: Global, disk: &ModelDisk) -> Result<(u64, Lsn), Fault> {
 fn a_log_goes_on_in_the_other_file(rt: HostRuntime) -> Result<(), Fail> {
     let alloc = rt.alloc();
     let (first, told) = turned(alloc, ModelDisk::new(Vec::new(alloc), Vec::new(alloc)));
-    // The first format has its first gate at 31, the second at 47; the second log begins where the first one ends, at 69.
-    assert!(rt; told? == (36, 121));
+    // A new log has its first gate at 47; the second log begins where the first one ends, at 85.
+    assert!(rt; told? == (52, 137));
     assert!(rt; first.calls() == 1 + 6 + 4 + 6 + 4);
-    assert!(rt; left(alloc, &first)? == (2, 154));
+    assert!(rt; left(alloc, &first)? == (2, 170));
     // The file of the first log is used again.
     let (second, told) = turned(alloc, first.after_stop(alloc)?);
-    assert!(rt; told? == (159, 244));
+    assert!(rt; told? == (175, 260));
     assert!(rt; second.calls() == 1 + 4 + 6 + 4);
-    assert!(rt; left(alloc, &second)? == (3, 277));
+    assert!(rt; left(alloc, &second)? == (3, 293));
+    Ok(())
+}
+
+#[test]
+fn a_log_of_the_first_format_goes_on_as_one_of_the_second(rt: HostRuntime) -> Result<(), Fail> {
+    let alloc = rt.alloc();
+    let log = Vec::from_slice(alloc, &FIRST)?;
+    let (disk, told) = turned(alloc, ModelDisk::new(log, Vec::new(alloc)));
+    // The first format has its first gate at 31, and the second log begins where the first one ends, at 69.
+    assert!(rt; told? == (36, 121));
+    assert!(rt; disk.calls() == 1 + 4 + 6 + 4);
+    assert!(rt; left(alloc, &disk)? == (2, 154));
     Ok(())
 }
 
@@ -111,9 +124,9 @@ fn a_stop_leaves_the_one_log_or_the_other(rt: HostRuntime) -> Result<(), Fail> {
             let byte = if kind < 2 { 0 } else { 1 };
             let fill = Fill::Bytes(vec![in alloc; byte; 1]?);
             let log = left_by(alloc, Stop { call, length, fill })?;
-            assert!(rt; log == (1, 69) || log == (2, 116));
-            assert!(rt; call > 15 || log == (1, 69));
-            assert!(rt; call < 18 || log == (2, 116));
+            assert!(rt; log == (1, 85) || log == (2, 132));
+            assert!(rt; call > 15 || log == (1, 85));
+            assert!(rt; call < 18 || log == (2, 132));
         }
     }
     Ok(())

@@ -12,7 +12,8 @@ use std::alloc::Global;
 use std::test::Fail;
 
 // A log of the first format with no batch.
-static FIRST: [u8; 32] = *b"\x01ARIESIM1\0\0\x10\0\0\0\0\0\0\0\0\0\0\0\0\0\0\0\0\0\0\0\0";
+pub(crate) static FIRST: [u8; 32] =
+    *b"\x01ARIESIM1\0\0\x10\0\0\0\0\0\0\0\0\0\0\0\0\0\0\0\0\0\0\0\0";
 
 // A log of the second format of generation 1 with no batch, 100 below the greatest base.
 static SECOND: [u8; 48] =

@@ -6,9 +6,10 @@ ghost use Rattle.im_base_disk.specs.Runs.{IsSynced};
 use im_base_disk::Disk;
 use im_base_file_disk::FileDisk;
 use im_base_model_disk::ModelDisk;
+use im_base_two_logs::Renamed;
 use im_base_types::Fault;
 use im_engine::Config;
-use im_engine_upkeep::RedoBound;
+use im_engine_upkeep::Bounds;
 use im_tool::{Cause, Causes, Manner, StoreEnd, store_text};
 use std::alloc::Global;
 use std::io::BufReader;
@@ -154,9 +155,9 @@ fn answers<D: Disk + Cause + Drop, R: Threads + Sync>(
     let end = store_text(
         rt,
         alloc,
-        disk,
+        Renamed::new(disk, false),
         Config::default(),
-        RedoBound::of_bytes(bound),
+        Bounds::of_bytes(bound, 0),
         manner,
         &mut reader,
         &mut printed,
@@ -266,7 +267,7 @@ fn is_left<R: Threads + Sync>(rt: &HostRuntime, threads: &R, bound: u64) -> Resu
 // Three inserts are redone where nothing bounds that, and none after a close.
 #[test]
 fn a_closed_store_has_nothing_to_redo(rt: HostRuntime) -> Result<(), Fail> {
-    for (bound, want) in [(0, "redo 36 3\n"), (16_777_216, " 0\n")] {
+    for (bound, want) in [(0, "redo 52 3\n"), (16_777_216, " 0\n")] {
         let _ = fs::remove_dir_all(&rt, "im_tool_closed");
         assert!(rt;
             is_kept(&rt, &rt, bound, THREE, "", "committed\nredo 0 0\n")?,

@@ -8,20 +8,26 @@ use std::fs;
 use std::test::Fail;
 use std::thread::Threads;
 
-// The bytes of both files.
+/// Where a store's first log has its first gate.
+pub(crate) const FIRST_GATE: usize = 47;
+
+// The bytes of the three files.
 #[derive(Drop)]
 pub(crate) struct Copies {
     pub(crate) log: Vec<u8>,
     pub(crate) pages: Vec<u8>,
+    pub(crate) log2: Vec<u8>,
 }
 
 // The files of the store that a folder has.
 pub(crate) fn copies_in(rt: &HostRuntime, folder: &str) -> Result<Copies, Fail> {
     let log = format!(in rt.alloc(); "{folder}/log")?;
     let pages = format!(in rt.alloc(); "{folder}/pages")?;
+    let log2 = format!(in rt.alloc(); "{folder}/log2")?;
     Ok(Copies {
         log: fs::read(rt, log.as_str())?,
         pages: fs::read(rt, pages.as_str())?,
+        log2: fs::read(rt, log2.as_str())?,
     })
 }
 
@@ -34,7 +40,9 @@ pub(crate) fn copies_of(alloc: Global, disk: &mut ScratchDisk) -> Result<Copies,
     let log = read_vec(alloc, disk, FileId::Log, 0, log as usize)?;
     let pages = disk.len(FileId::Pages)?;
     let pages = read_vec(alloc, disk, FileId::Pages, 0, pages as usize)?;
-    Ok(Copies { log, pages })
+    let log2 = disk.len(FileId::Log2)?;
+    let log2 = read_vec(alloc, disk, FileId::Log2, 0, log2 as usize)?;
+    Ok(Copies { log, pages, log2 })
 }
 
 // A disk with these files.
@@ -42,7 +50,36 @@ pub(crate) fn scratch(alloc: Global, copies: &Copies) -> Result<ScratchDisk, Fai
     let mut disk = ScratchDisk::new(alloc, None);
     disk.write_at(FileId::Log, 0, &copies.log)?;
     disk.write_at(FileId::Pages, 0, &copies.pages)?;
+    disk.write_at(FileId::Log2, 0, &copies.log2)?;
     Ok(disk)
+}
+
+// The same bytes once more.
+pub(crate) fn copied(alloc: Global, copies: &Copies) -> Result<Copies, Fail> {
+    Ok(Copies {
+        log: Vec::from_slice(alloc, &copies.log)?,
+        pages: Vec::from_slice(alloc, &copies.pages)?,
+        log2: Vec::from_slice(alloc, &copies.log2)?,
+    })
+}
+
+// Lays bytes over others from a place on, as far as both go.
+pub(crate) fn lay(over: &mut [u8], at: usize, bytes: &[u8]) {
+    if let Some(room) = over.get_mut(at..) {
+        let size = room.len().min(bytes.len());
+        room[..size].copy_from_slice(&bytes[..size]);
+    }
+}
+
+// What the check says of files, with its status.
+pub(crate) fn said_of<R: Threads + Sync>(
+    rt: &R,
+    alloc: Global,
+    copies: &Copies,
+) -> Result<(u8, Vec<u8>), Fail> {
+    let mut printed = Vec::new(alloc);
+    let (status, _disk) = check_text(rt, alloc, &mut printed, scratch(alloc, copies)?);
+    Ok((status?, printed))
 }
 
 // Whether the check of a store finds no damage.
@@ -51,7 +88,6 @@ pub(crate) fn is_whole<R: Threads + Sync>(
     alloc: Global,
     copies: &Copies,
 ) -> Result<bool, Fail> {
-    let mut printed = Vec::new(alloc);
-    let (status, _disk) = check_text(rt, alloc, &mut printed, scratch(alloc, copies)?);
-    Ok(status? == 0 && printed.as_slice() == b"ok\n".as_slice())
+    let (status, printed) = said_of(rt, alloc, copies)?;
+    Ok(status == 0 && printed.as_slice() == b"ok\n".as_slice())
 }

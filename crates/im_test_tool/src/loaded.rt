@@ -1,9 +1,10 @@
 //! What a load tells of how far it is, and what it takes of the portable form.
 
 use im_base_model_disk::ModelDisk;
+use im_base_two_logs::Renamed;
 use im_base_types::push_entry;
 use im_engine::Config;
-use im_engine_upkeep::RedoBound;
+use im_engine_upkeep::Bounds;
 use im_tool::{Causes, Form, Loaded, Progress, dump_text, load_text};
 use std::alloc::{AllocError, Global};
 use std::io;
@@ -41,9 +42,9 @@ fn loaded<R: Threads + Sync>(
     let end = load_text(
         rt,
         alloc,
-        disk,
+        Renamed::new(disk, false),
         Config::default(),
-        RedoBound::of_bytes(0),
+        Bounds::of_bytes(0, 0),
         &mut reader,
         &mut progress,
         &mut causes,

@@ -1,13 +1,13 @@
 //! A look at a store whose opening takes pages, and at one that a stop left with an empty leaf.
 
-use crate::copies::{Copies, copies_in, copies_of, is_whole, scratch};
+use crate::copies::{Copies, FIRST_GATE, copied, copies_in, copies_of, is_whole, said_of, scratch};
 use im_base_file_disk::FileDisk;
 use im_base_steps::{Reply, Step};
+use im_base_two_logs::Renamed;
 use im_base_types::{Fault, LONGEST_KEY};
 use im_engine::{Config, Engine};
-use im_engine_upkeep::RedoBound;
-use im_log_gate::FIRST_GATE;
-use im_tool::{Causes, Manner, ScratchDisk, check_text, stat_text, store_text};
+use im_engine_upkeep::Bounds;
+use im_tool::{Causes, Manner, ScratchDisk, stat_text, store_text};
 use std::alloc::Global;
 use std::io::{BufReader, Write};
 use std::process::Abort;
@@ -28,7 +28,7 @@ fn write_lines(lines: &mut Vec<u8>) -> io::Result<()> {
 }
 
 // Makes the steps of these lines in the store of a folder.
-fn fill<R: Threads + Sync>(
+pub(crate) fn fill<R: Threads + Sync>(
     rt: &HostRuntime,
     threads: &R,
     folder: &str,
@@ -45,9 +45,9 @@ fn fill<R: Threads + Sync>(
     let _end = store_text(
         threads,
         rt.alloc(),
-        disk,
+        Renamed::new(disk, false),
         Config::default(),
-        RedoBound::of_bytes(0),
+        Bounds::of_bytes(0, 0),
         Manner::default(),
         &mut reader,
         &mut printed,
@@ -57,7 +57,7 @@ fn fill<R: Threads + Sync>(
 }
 
 // The numbers of a store, with the status.
-fn numbers_of<R: Threads + Sync>(
+pub(crate) fn numbers_of<R: Threads + Sync>(
     rt: &R,
     alloc: Global,
     copies: &Copies,
@@ -115,13 +115,10 @@ fn write_emptying_lines(lines: &mut Vec<u8>) -> io::Result<()> {
 
 // The files as a stop leaves them by which the gate at this place is closed.
 fn cut_at(alloc: Global, copies: &Copies, gate: usize) -> Result<Copies, Fail> {
-    let mut log = Vec::new(alloc);
-    if let Some(front) = copies.log.get(..gate) {
-        log.extend_from_slice(front)?;
-    }
-    log.push(0)?;
-    let pages = Vec::from_slice(alloc, &copies.pages)?;
-    Ok(Copies { log, pages })
+    let mut cut = copied(alloc, copies)?;
+    cut.log.truncate(gate);
+    cut.log.push(0)?;
+    Ok(cut)
 }
 
 // The place of the gate behind the open one at a place.
@@ -150,7 +147,7 @@ fn stop_at_each_gate<R: Abort + Threads + Sync>(
     alloc: Global,
     copies: &Copies,
 ) -> Result<(), Fail> {
-    let mut gate = FIRST_GATE as usize;
+    let mut gate = FIRST_GATE;
     let mut emptied = 0u64;
     for _batch in 0..100u32 {
         let Some(next) = next_gate(&copies.log, gate) else {
@@ -175,10 +172,10 @@ fn filled<R: Threads + Sync>(
     together: u64,
 ) -> Result<Copies, Fail> {
     let disk = ScratchDisk::new(alloc, None);
-    match Engine::open_or_create(rt, alloc, disk, Config::default()) {
+    match Engine::open_or_create(rt, alloc, Renamed::new(disk, false), Config::default()) {
         Ok(mut engine) => {
             let put = put_all(alloc, &mut engine, count, together);
-            let mut disk = engine.into_disk();
+            let mut disk = engine.into_disk().into_disk();
             put?;
             copies_of(alloc, &mut disk)
         }
@@ -188,7 +185,7 @@ fn filled<R: Threads + Sync>(
 
 fn put_all(
     alloc: Global,
-    engine: &mut Engine<ScratchDisk>,
+    engine: &mut Engine<Renamed<ScratchDisk>>,
     count: u64,
     together: u64,
 ) -> Result<(), Fail> {
@@ -216,30 +213,16 @@ fn put_all(
 
 // The files as they are where the gate at this place is closed, and all after it is left.
 fn closed_at(alloc: Global, copies: &Copies, gate: usize) -> Result<Copies, Fail> {
-    let mut log = Vec::from_slice(alloc, &copies.log)?;
-    if let Some(byte) = log.get_mut(gate) {
+    let mut closed = copied(alloc, copies)?;
+    if let Some(byte) = closed.log.get_mut(gate) {
         *byte = 0;
     }
-    let pages = Vec::from_slice(alloc, &copies.pages)?;
-    Ok(Copies { log, pages })
-}
-
-// What the check says of such files.
-fn said_at<R: Threads + Sync>(
-    rt: &R,
-    alloc: Global,
-    copies: &Copies,
-    gate: usize,
-) -> Result<(u8, Vec<u8>), Fail> {
-    let closed = closed_at(alloc, copies, gate)?;
-    let mut printed = Vec::new(alloc);
-    let (status, _disk) = check_text(rt, alloc, &mut printed, scratch(alloc, &closed)?);
-    Ok((status?, printed))
+    Ok(closed)
 }
 
 // The gate before which so many batches stand.
 fn gate_after(log: &[u8], batches: u32) -> usize {
-    let mut gate = FIRST_GATE as usize;
+    let mut gate = FIRST_GATE;
     for _batch in 0..batches {
         gate = next_gate(log, gate).unwrap_or(gate);
     }
@@ -257,7 +240,8 @@ fn batches_that_a_stop_left_are_no_damage(rt: HostRuntime) -> Result<(), Fail> {
     for (count, together, closed, status, end) in &BEHIND {
         let copies = filled(&rt, rt.alloc(), *count, *together)?;
         let gate = gate_after(&copies.log, *closed);
-        let (found, printed) = said_at(&rt, rt.alloc(), &copies, gate)?;
+        let closed = closed_at(rt.alloc(), &copies, gate)?;
+        let (found, printed) = said_of(&rt, rt.alloc(), &closed)?;
         let said = format!(in rt.alloc(); " whole batches behind the closed gate at {gate}{end}")?;
         assert!(rt; found == *status, "{count}");
         assert!(rt; printed.ends_with(said.as_bytes()), "{count}");

@@ -2,14 +2,14 @@
 
 ghost use Rattle.std.specs.Prelude.{◌≡◌, false};
 
-use crate::copies::{Copies, copies_in, scratch};
+use crate::copies::{Copies, FIRST_GATE, copied, copies_in, scratch};
 use im_base_disk::Disk;
 use im_base_file_disk::FileDisk;
 use im_base_model_disk::ModelDisk;
+use im_base_two_logs::Renamed;
 use im_base_types::{Fault, PAGE_SIZE};
 use im_engine::{Config, Engine};
-use im_engine_upkeep::RedoBound;
-use im_log_gate::FIRST_GATE;
+use im_engine_upkeep::Bounds;
 use im_tool::{Causes, Manner, check_text, stat_text, store_text};
 use std::alloc::Global;
 use std::io::{BufReader, Write};
@@ -82,9 +82,9 @@ fn answered<R: Threads + Sync>(
     let _end = store_text(
         rt,
         alloc,
-        disk,
+        Renamed::new(disk, false),
         Config::default(),
-        RedoBound::of_bytes(1_048_576),
+        Bounds::of_bytes(1_048_576, 0),
         Manner::default(),
         &mut reader,
         &mut printed,
@@ -103,26 +103,25 @@ fn make_store<R: Threads + Sync>(rt: &HostRuntime, threads: &R, folder: &str) ->
 }
 
 fn damaged(alloc: Global, copies: &Copies, damage: Damage) -> Result<Copies, Fail> {
-    let mut log = Vec::from_slice(alloc, &copies.log)?;
-    let mut pages = Vec::from_slice(alloc, &copies.pages)?;
+    let mut files = copied(alloc, copies)?;
     match damage {
-        Damage::Emptied => pages.clear(),
-        Damage::Cut => pages.truncate(PAGE_SIZE),
+        Damage::Emptied => files.pages.clear(),
+        Damage::Cut => files.pages.truncate(PAGE_SIZE),
         Damage::Counted => {
-            if pages.len() > 24 {
-                pages[24] = pages[24] ^ 1;
+            if let Some(byte) = files.pages.get_mut(24) {
+                *byte = *byte ^ 1;
             }
         }
         Damage::Unlogged => {
-            log.truncate(FIRST_GATE as usize);
-            log.push(0)?;
+            files.log.truncate(FIRST_GATE);
+            files.log.push(0)?;
         }
-        Damage::Overwritten => pages.fill(0x7f),
+        Damage::Overwritten => files.pages.fill(0x7f),
     }
-    Ok(Copies { log, pages })
+    Ok(files)
 }
 
-fn has_part(text: &[u8], part: &str) -> bool {
+pub(crate) fn has_part(text: &[u8], part: &str) -> bool {
     text.windows(part.len().max(1))
         .any(|words| words == part.as_bytes())
 }
@@ -145,8 +144,8 @@ fn is_named<R: Threads + Sync>(
 
 // Whether the opening is refused, or the first look at page 0 is.
 fn is_refused<R: Threads + Sync>(rt: &R, alloc: Global, copies: Copies, in_opening: bool) -> bool {
-    let disk = ModelDisk::new(copies.log, copies.pages);
-    match Engine::open_or_create(rt, alloc, disk, Config::default()) {
+    let disk = ModelDisk::with_log2(copies.log, copies.pages, copies.log2);
+    match Engine::open_or_create(rt, alloc, Renamed::new(disk, false), Config::default()) {
         Ok(mut engine) => {
             let looked = matches!(&engine.header(0), Err(Fault::NotAStore));
             let _disk = engine.into_disk();

@@ -13,9 +13,14 @@ static DRILLS: [(&[&str], u8); 4] = [
     (&["imdrill", "im_tool_script", "two"], 2),
 ];
 
-static STORES: [(&[&str], u8); 6] = [
+static STORES: [(&[&str], u8); 11] = [
     (&["imstore", "im_tool_store"], 0),
     (&["imstore", "im_tool_store", "--workers", "16"], 0),
+    (&["imstore", "im_tool_store", "--switch", "0"], 0),
+    (&["imstore", "im_tool_store", "--switch", "1048576"], 0),
+    (&["imstore", "--switch", "1048577"], 2),
+    (&["imstore", "--switch", "-1"], 2),
+    (&["imstore", "im_tool_store", "--check", "--switch", "1"], 2),
     (&["imstore", "--workers", "0"], 2),
     (&["imstore", "--workers", "17"], 2),
     (&["imstore", "im_tool_no_folder"], 1),

@@ -1,47 +1,51 @@
-//! What an opening redoes, within a bound.
+//! What an opening redoes, and what it reads, within bounds.
 
 use im_base_model_disk::ModelDisk;
 use im_base_steps::{Reply, Step};
+use im_base_two_logs::Renamed;
 use im_base_types::LONGEST_KEY;
 use im_engine::{Config, Engine};
-use im_engine_upkeep::{Checkpoints, RedoBound};
+use im_engine_upkeep::{Bounds, Upkeep};
 use std::alloc::Global;
 use std::process::Abort;
 use std::test::Fail;
 use std::thread::Threads;
 
-// How long the log is that an opening would read which follows a stop now, from its redo point on.
-fn redo_length<R: Threads + Sync>(
+// How much of the log an opening would redo which follows a stop now, and how long the log is that it would read.
+fn lengths<R: Threads + Sync>(
     rt: &R,
     alloc: Global,
-    engine: &Engine<ModelDisk>,
-) -> Result<u64, Fail> {
-    let disk = engine.disk().after_stop(alloc)?;
-    match Engine::open_or_create(rt, alloc, disk, Config::default()) {
-        Ok(engine) => Ok(
-            engine
+    engine: &Engine<Renamed<ModelDisk>>,
+) -> Result<(u64, u64), Fail> {
+    let disk = engine.disk().disk().after_stop(alloc)?;
+    match Engine::open_or_create(rt, alloc, Renamed::new(disk, false), Config::default()) {
+        Ok(engine) => {
+            let read = engine.log_length();
+            let behind = engine
                 .durable_end()
-                .saturating_sub(engine.redo_report().point),
-        ),
+                .saturating_sub(engine.redo_report().point);
+            // A log without a record has no redo point.
+            Ok((behind.min(read), read))
+        }
         Err((fault, _disk)) => Err(Fail::from(fault)),
     }
 }
 
-// Makes a step, and takes the Checkpoint that is due after it. Whether that was not refused.
+// Makes a step, and what is due after it. Whether that was not refused.
 fn made(
-    engine: &mut Engine<ModelDisk>,
-    checkpoints: &mut Checkpoints,
+    engine: &mut Engine<Renamed<ModelDisk>>,
+    upkeep: &mut Upkeep,
     step: &Step,
 ) -> (Reply, bool) {
-    let reply = checkpoints.step(engine, step);
-    (reply, checkpoints.keep(engine).is_ok())
+    let reply = upkeep.step(engine, step);
+    (reply, upkeep.keep(engine).is_ok())
 }
 
 // Puts the n-th key in and commits it. Whether all of that was done.
 fn is_put(
     alloc: Global,
-    engine: &mut Engine<ModelDisk>,
-    checkpoints: &mut Checkpoints,
+    engine: &mut Engine<Renamed<ModelDisk>>,
+    upkeep: &mut Upkeep,
     n: u64,
 ) -> Result<bool, Fail> {
     let Reply::Started(txn) = engine.step(&Step::Begin) else {
@@ -49,36 +53,67 @@ fn is_put(
     };
     let mut key = vec![in alloc; b'z'; LONGEST_KEY]?;
     key[0] = (n % 90 * 37 % 90) as u8;
-    let insert = made(engine, checkpoints, &Step::Insert(txn, key, n));
-    let commit = made(engine, checkpoints, &Step::Commit(txn));
+    key[1] = (n / 90 % 256) as u8;
+    let insert = made(engine, upkeep, &Step::Insert(txn, key, n));
+    let commit = made(engine, upkeep, &Step::Commit(txn));
     Ok(matches!(&insert, (Reply::Inserted, true)) && matches!(&commit, (Reply::Committed, true)))
 }
 
 // How much an opening may have to redo, in bytes.
 const MOST: u64 = 131_072;
 
+// How much it may have to read, where the log goes on in the other file.
+const LONGEST: u64 = 65_536;
+
 #[test]
 fn what_is_redone_stays_within_the_bound(rt: HostRuntime) -> Result<(), Fail> {
-    let alloc = rt.alloc();
+    opened_and_stopped(&rt, rt.alloc(), 90, Bounds::of_bytes(MOST, 0))
+}
+
+#[test]
+fn what_is_read_stays_within_the_bound(rt: HostRuntime) -> Result<(), Fail> {
+    opened_and_stopped(&rt, rt.alloc(), 180, Bounds::of_bytes(0, LONGEST))
+}
+
+#[test]
+fn what_is_redone_and_what_is_read_stay_within_both(rt: HostRuntime) -> Result<(), Fail> {
+    opened_and_stopped(&rt, rt.alloc(), 180, Bounds::of_bytes(MOST, LONGEST))
+}
+
+// A store that has so many keys, and stops after each commit.
+fn opened_and_stopped<R: Abort + Threads + Sync>(
+    rt: &R,
+    alloc: Global,
+    keys: u64,
+    bounds: Bounds,
+) -> Result<(), Fail> {
     let disk = ModelDisk::new(Vec::new(alloc), Vec::new(alloc));
-    match Engine::open_or_create(&rt, alloc, disk, Config::default()) {
-        Ok(mut engine) => stop_behind_each(&rt, alloc, &mut engine),
+    match Engine::open_or_create(rt, alloc, Renamed::new(disk, false), Config::default()) {
+        Ok(mut engine) => stop_behind_each(rt, alloc, &mut engine, keys, bounds),
         Err((fault, _disk)) => Err(Fail::from(fault)),
     }
 }
 
-// Keys of 255 bytes, each committed, over leaves of fifteen: the store stops after each commit.
+// Keys of 255 bytes, each committed, over leaves of fifteen: the store stops after each commit, and an opening keeps within the bounds.
 fn stop_behind_each<R: Abort + Threads + Sync>(
     rt: &R,
     alloc: Global,
-    engine: &mut Engine<ModelDisk>,
+    engine: &mut Engine<Renamed<ModelDisk>>,
+    keys: u64,
+    bounds: Bounds,
 ) -> Result<(), Fail> {
-    let mut checkpoints = Checkpoints::of(engine, RedoBound::of_bytes(MOST));
-    for n in 0..90u64 {
-        assert!(rt; is_put(alloc, engine, &mut checkpoints, n)?, "{n}");
-        assert!(rt; redo_length(rt, alloc, engine)? <= MOST, "{n}");
+    let is_switched = bounds != Bounds::of_bytes(MOST, 0);
+    let mut upkeep = Upkeep::of(engine, bounds);
+    for n in 0..keys {
+        assert!(rt; is_put(alloc, engine, &mut upkeep, n)?, "{n}");
+        let (redone, read) = lengths(rt, alloc, engine)?;
+        assert!(rt; redone <= MOST, "{n}");
+        assert!(rt; !is_switched || read <= LONGEST, "{n}");
     }
-    assert!(rt; checkpoints.close(engine).is_ok());
-    assert!(rt; redo_length(rt, alloc, engine)? <= 4_096);
+    // A log of a later file begins above the LSN 0.
+    assert!(rt; (engine.durable_end() > engine.log_length()) == is_switched);
+    assert!(rt; upkeep.close(engine).is_ok());
+    let (redone, read) = lengths(rt, alloc, engine)?;
+    assert!(rt; redone <= 4_096 || is_switched && read <= LONGEST);
     Ok(())
 }

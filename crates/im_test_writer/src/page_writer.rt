@@ -148,9 +148,9 @@ fn flush_behind_checkpoint(
     log_insert(writer, disk, b"a")?;
     writer.flush_one(disk, 1)?;
     log_insert(writer, disk, b"b")?;
-    assert!(rt; writer.log_checkpoint(disk, 2, &[])? == 4_256);
-    assert!(rt; writer.durable_end() == 4_313);
+    assert!(rt; writer.log_checkpoint(disk, 2, &[])? == 4_272);
+    assert!(rt; writer.durable_end() == 4_329);
     writer.flush_one(disk, 1)?;
-    assert!(rt; writer.durable_end() == 8_447);
+    assert!(rt; writer.durable_end() == 8_463);
     Ok(())
 }

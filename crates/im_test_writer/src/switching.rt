@@ -62,13 +62,13 @@ fn left(alloc: Global, disk: &ModelDisk) -> Result<(Lsn, Lsn, usize), Fault> {
 fn a_writer_goes_on_in_the_other_log(rt: HostRuntime) -> Result<(), Fail> {
     let alloc = rt.alloc();
     let (disk, told) = turned(alloc, new_disk(alloc));
-    // The record of the insert has LSN 36 and 43 bytes. The Images of pages 0 and 1, 4,129 bytes each, join it, and the gate behind them has LSN 8,337, where the
+    // The record of the insert has LSN 52 and 43 bytes. The Images of pages 0 and 1, 4,129 bytes each, join it, and the gate behind them has LSN 8,353, where the
     // second log begins, with its first gate at 47.
-    assert!(rt; told? == 8_389);
+    assert!(rt; told? == 8_405);
     // The log is synced, made and forced, two pages are written and synced, the other log is made, and forced.
     assert!(rt; disk.calls() == 1 + 6 + 4 + 2 + 1 + 6 + 4);
     // The second insert is in the log alone.
-    assert!(rt; left(alloc, &disk)? == (8_432, 36, 1));
+    assert!(rt; left(alloc, &disk)? == (8_448, 52, 1));
     Ok(())
 }
 
@@ -93,10 +93,10 @@ fn a_stop_in_a_switch_leaves_the_one_log_or_the_other(rt: HostRuntime) -> Result
             let byte = if kind < 2 { 0 } else { 1 };
             let fill = Fill::Bytes(vec![in alloc; byte; 1]?);
             let (end, lsn, count) = left_by(alloc, Stop { call, length, fill })?;
-            assert!(rt; (lsn, count) == (36, 1));
-            assert!(rt; end == 8_337 || end == 8_384);
-            assert!(rt; call > 18 || end == 8_337);
-            assert!(rt; call < 21 || end == 8_384);
+            assert!(rt; (lsn, count) == (52, 1));
+            assert!(rt; end == 8_353 || end == 8_400);
+            assert!(rt; call > 18 || end == 8_353);
+            assert!(rt; call < 21 || end == 8_400);
         }
     }
     Ok(())

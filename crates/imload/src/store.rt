@@ -5,6 +5,7 @@ ghost use Rattle.im_front.specs.Held.{IsResting};
 
 use im_base_model_disk::ModelDisk;
 use im_base_steps::Store;
+use im_base_two_logs::Renamed;
 use im_base_types::Fault;
 use im_engine::{Config, Engine, every_list_of_lives};
 use std::alloc::Global;
@@ -15,15 +16,15 @@ pub(crate) fn new_store<R: Threads + Sync>(
     rt: &R,
     alloc: Global,
     group: bool,
-) -> Result<Engine<ModelDisk>, Fault>
-    ensures resting { IfOk result (λ e. IsResting ⟦<Engine<ModelDisk> as Store>⟧ e) }
+) -> Result<Engine<Renamed<ModelDisk>>, Fault>
+    ensures resting { IfOk result (λ e. IsResting ⟦<Engine<Renamed<ModelDisk>> as Store>⟧ e) }
     ensures group { IfOk result (λ e. e.txns.group ≡ group) }
 {
     every_list_of_lives();
     let disk = ModelDisk::new(Vec::new(alloc), Vec::new(alloc));
     let mut config = Config::default();
     config.group = group;
-    match Engine::open_or_create(rt, alloc, disk, config) {
+    match Engine::open_or_create(rt, alloc, Renamed::new(disk, false), config) {
         Ok(engine) => Ok(engine),
         Err((fault, _disk)) => Err(fault),
     }

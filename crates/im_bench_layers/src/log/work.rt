@@ -4,10 +4,10 @@ ghost use Rattle.std.specs.Prelude.{◌≡◌, ◌≤◌, false, length, OnOk};
 ghost use Rattle.im_base_disk.specs.Runs.{IsSynced};
 ghost use Rattle.im_log.specs.LogFile.{IsOpen};
 
+use crate::places::FIRST_GATE;
 use im_base_disk::Disk;
 use im_base_types::{Fault, FileId, LONGEST_BATCH, Lsn};
 use im_log::{LogFile, open_or_create};
-use im_log_gate::FIRST_GATE;
 use im_log_record::Record;
 use std::alloc::Global;
 
@@ -24,7 +24,7 @@ pub fn lsn_of(number: u64) -> Lsn {
     let place = number % BATCH * 50;
     batch
         .saturating_mul(16_355)
-        .saturating_add(FIRST_GATE + 5 + place)
+        .saturating_add(FIRST_GATE as u64 + 5 + place)
 }
 
 // Appends the insert of a key of eight bytes, and answers its LSN.

@@ -2,6 +2,7 @@
 
 use crate::opening::opened;
 use im_base_steps::Step;
+use im_base_two_logs::Renamed;
 use im_base_types::{Fault, FileId, Key, PAGE_SIZE, Rid};
 use im_bench_layers::bounded::{BoundedDisk, Files};
 use im_bench_layers::founding::{are_committed, found, make_each};
@@ -74,10 +75,10 @@ pub fn judged<R: Threads + Sync>(
 }
 
 // What the entries, and the steps after them, come to.
-fn used(alloc: Global, engine: &mut Engine<BoundedDisk>) -> Result<Outcome, Fault> {
+fn used(alloc: Global, engine: &mut Engine<Renamed<BoundedDisk>>) -> Result<Outcome, Fault> {
     let outcome = listed(alloc, engine)?;
     make_each(alloc, engine)?;
-    Ok(if engine.disk().is_at_bound() {
+    Ok(if engine.disk().disk().is_at_bound() {
         Outcome::Bad
     } else {
         outcome
@@ -85,7 +86,7 @@ fn used(alloc: Global, engine: &mut Engine<BoundedDisk>) -> Result<Outcome, Faul
 }
 
 // What the list of the entries comes to.
-fn listed(alloc: Global, engine: &mut Engine<BoundedDisk>) -> Result<Outcome, Fault> {
+fn listed(alloc: Global, engine: &mut Engine<Renamed<BoundedDisk>>) -> Result<Outcome, Fault> {
     match engine.entries(alloc) {
         Ok(entries) => judged_by(alloc, &entries),
         Err(Fault::NotAStore) => Ok(Outcome::Others),
@@ -111,14 +112,14 @@ pub fn founded<R: Threads + Sync>(rt: &R, alloc: Global) -> Result<Files, Fault>
     };
     let mut engine = opened(rt, alloc, BoundedDisk::new(files), FRAMES)?;
     found(alloc, &mut engine)?;
-    Ok(engine.into_disk().into_files())
+    Ok(engine.into_disk().into_disk().into_files())
 }
 
 // More pages than the store has.
 const PAGES: u32 = 64;
 
 // Writes each page, and takes a Checkpoint after that.
-fn write_all(engine: &mut Engine<BoundedDisk>) {
+fn write_all(engine: &mut Engine<Renamed<BoundedDisk>>) {
     for page in 0..PAGES {
         let _reply = engine.step(&Step::FlushPage(page));
     }
@@ -130,7 +131,7 @@ pub fn closed<R: Threads + Sync>(rt: &R, alloc: Global, files: &Files) -> Result
     let files = files.copy(alloc).map_err(|_| Fault::Memory)?;
     let mut engine = opened(rt, alloc, BoundedDisk::new(files), FRAMES)?;
     write_all(&mut engine);
-    Ok(engine.into_disk().into_files())
+    Ok(engine.into_disk().into_disk().into_files())
 }
 
 // Keys after all others, by which leaves split.
@@ -150,6 +151,10 @@ pub fn pages_taken<R: Threads + Sync>(rt: &R, alloc: Global, files: Files) -> Re
     let mut tally = Tally::default();
     committed(alloc, &mut engine, Work::Insert, MORE, &mut tally)?;
     write_all(&mut engine);
-    let behind = engine.into_disk().into_files().size(FileId::Pages);
+    let behind = engine
+        .into_disk()
+        .into_disk()
+        .into_files()
+        .size(FileId::Pages);
     Ok((behind.saturating_sub(before) / PAGE_SIZE) as u64)
 }

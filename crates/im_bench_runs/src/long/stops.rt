@@ -11,6 +11,7 @@ use crate::long::looks::{listed, pages_by_kind};
 use crate::opening::opened;
 use im_base_disk::Disk;
 use im_base_model_disk::{Fill, Length, ModelDisk, Stop};
+use im_base_two_logs::Renamed;
 use im_base_types::Fault;
 use im_bench_layers::kinds::Kinds;
 use im_bench_layers::spans::{Order, Span, Work, committed, lose};
@@ -87,7 +88,7 @@ pub fn founded<R: Threads + Sync>(rt: &R, alloc: Global) -> Result<ModelDisk, Fa
     let mut engine = opened(rt, alloc, disk, CONFIG.frames)?;
     let mut tally = Tally::default();
     committed(alloc, &mut engine, Work::Insert, FOUNDED, &mut tally)?;
-    Ok(engine.into_disk())
+    Ok(engine.into_disk().into_disk())
 }
 
 /// What the transaction's steps came to, and what the pages are for behind them.
@@ -99,10 +100,10 @@ pub fn losing<R: Threads + Sync>(
     let disk = base.after_stop(alloc)?;
     let mut engine = opened(rt, alloc, disk, CONFIG.frames)?;
     let (tally, kinds) = lost(alloc, &mut engine)?;
-    Ok((tally, kinds, engine.into_disk()))
+    Ok((tally, kinds, engine.into_disk().into_disk()))
 }
 
-fn lost(alloc: Global, engine: &mut Engine<ModelDisk>) -> Result<(Tally, Kinds), Fault> {
+fn lost(alloc: Global, engine: &mut Engine<Renamed<ModelDisk>>) -> Result<(Tally, Kinds), Fault> {
     let mut tally = Tally::default();
     lose(alloc, engine, INSERTED, DELETED, &mut tally)?;
     let kinds = pages_by_kind(engine, 64)?;
@@ -179,15 +180,15 @@ fn run<R: Threads + Sync>(
     requires working { ⟦<ModelDisk as Disk>⟧.failed disk ≡ false }
     requires synced { IsSynced ⟦<ModelDisk as Disk>⟧ disk }
 {
-    let mut engine = match Engine::open_or_create(rt, alloc, disk, CONFIG) {
+    let mut engine = match Engine::open_or_create(rt, alloc, Renamed::new(disk, false), CONFIG) {
         Ok(engine) => engine,
-        Err((_fault, disk)) => return Ok(disk),
+        Err((_fault, named)) => return Ok(named.into_disk()),
     };
     if matches!(life, Life::Losing) {
         let mut tally = Tally::default();
         lose(alloc, &mut engine, INSERTED, DELETED, &mut tally)?;
     }
-    Ok(engine.into_disk())
+    Ok(engine.into_disk().into_disk())
 }
 
 // An opening on what the stop has left finds just what is committed.

@@ -1,0 +1,94 @@
+//! A log that goes on over a tree that has split.
+
+use crate::lives::short_key;
+use crate::said::{Said, created, end, make, opened, opened_after_stop};
+use im_base_disk::read_vec;
+use im_base_model_disk::ModelDisk;
+use im_base_steps::Step;
+use im_base_two_logs::{Renamed, TwoLogs};
+use im_base_types::FileId;
+use im_engine::{Config, Engine};
+use std::alloc::Global;
+use std::process::Abort;
+use std::test::Fail;
+use std::thread::Threads;
+
+// A log of the second format with no batch. Its first byte has LSN 2^20, and the numbers of its transactions begin at 2.
+static SECOND: [u8; 48] =
+    *b"\x01ARIESIM2\0\0\x10\0\0\0\0\0\0\0\0\0\0\0\x02\0\0\0\0\0\x10\0\0\0\0\0\0\0\0\0\x02\0\0\0\0\0\0\0\0";
+
+// Inserts a key in a transaction of its own, and answers what was said of the insert and of the Commit.
+fn insert<D: TwoLogs>(
+    alloc: Global,
+    engine: &mut Engine<D>,
+    t: u64,
+    number: u32,
+) -> Result<(Said, Said), Fail> {
+    let key = short_key(alloc, number)?;
+    let _ = make(engine, Step::Begin);
+    let said = make(engine, Step::Insert(t, key, number as u64));
+    Ok((said, make(engine, Step::Commit(t))))
+}
+
+// The bytes of the pages of a store with three hundred keys, all of them written.
+fn pages_of_many<R: Threads + Sync>(rt: &R, alloc: Global) -> Result<Vec<u8>, Fail> {
+    let mut engine = created(rt, alloc, Config::default())?;
+    let _ = make(&mut engine, Step::Begin);
+    for number in 0..300u32 {
+        let key = short_key(alloc, number)?;
+        let _ = make(&mut engine, Step::Insert(1, key, number as u64));
+    }
+    let _ = make(&mut engine, Step::Commit(1));
+    for page in 0..4u32 {
+        let _ = make(&mut engine, Step::FlushPage(page));
+    }
+    let mut left = engine.into_disk().into_disk().after_stop(alloc)?;
+    let long = left.end(FileId::Pages) as usize;
+    Ok(read_vec(alloc, &mut left, FileId::Pages, 0, long)?)
+}
+
+// A store whose log goes on over these pages.
+fn goes_on<R: Threads + Sync>(
+    rt: &R,
+    alloc: Global,
+    pages: Vec<u8>,
+) -> Result<Engine<Renamed<ModelDisk>>, Fail> {
+    let log = Vec::from_slice(alloc, &SECOND)?;
+    Ok(opened(rt, alloc, ModelDisk::new(log, pages), Config::default())?)
+}
+
+#[test]
+fn a_log_goes_on_over_a_tree_that_has_split(rt: HostRuntime) -> Result<(), Fail> {
+    let alloc = rt.alloc();
+    let pages = pages_of_many(&rt, alloc)?;
+    assert!(rt; pages.len() == 4 * 4096);
+    let mut engine = goes_on(&rt, alloc, pages)?;
+    let told = insert_last(&rt, alloc, &mut engine);
+    let next = opened_after_stop(&rt, alloc, &engine, Config::default());
+    end(engine);
+    told?;
+    let mut again = next?;
+    let told = look_again(&rt, alloc, &mut again);
+    end(again);
+    told
+}
+
+// The new key lies in a page that neither the log nor its header says that there is.
+fn insert_last<D: TwoLogs>(
+    rt: &impl Abort,
+    alloc: Global,
+    engine: &mut Engine<D>,
+) -> Result<(), Fail> {
+    assert!(rt; insert(alloc, engine, 2, 300)? == (Said::Inserted, Said::Committed));
+    Ok(())
+}
+
+fn look_again<D: TwoLogs>(
+    rt: &impl Abort,
+    alloc: Global,
+    engine: &mut Engine<D>,
+) -> Result<(), Fail> {
+    assert!(rt; engine.entries(alloc)?.len() == 301);
+    assert!(rt; insert(alloc, engine, 3, 301)? == (Said::Inserted, Said::Committed));
+    Ok(())
+}
