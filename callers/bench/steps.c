@@ -50,7 +50,7 @@ int main(int argc, char **argv)
 	if (!(handle = malloc(im_size()))) return 1;
 	im_init(handle);
 	vah_device_serve(&device);
-	call = (struct call){ .step = OPEN, .limit = config.frames, .txn = config.max_pages, .number = config.redo_bytes,
+	call = (struct call){ .step = OPEN, .limit = config.frames, .txn = config.max_pages, .number = config.redo_bytes, .out_len = config.log_bytes,
 		.key_len = 0 };
 	im_step(handle, &call);
 	IS((int)call.word, DONE);

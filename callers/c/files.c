@@ -152,7 +152,7 @@ ssize_t vah_device_read(int fd, void *to, size_t len)
 /* ---- the opening ---- */
 
 /* A stop of a creation leaves no more bytes of a log that was not made: its header, and the first gate. */
-enum { UNMADE_LOG = 48 };
+enum { UNMADE_LOG = 48, PAGE_SIZE = 4096 };
 
 /* Where an opening is: the folder, where its refusal's words go, and the code. */
 struct opening { const char *path; char *text; size_t size; int code, why; };
@@ -233,8 +233,8 @@ static int sync_folders(struct opening *o, char *path)
 	}
 }
 
-/* Whether the folder has a plain file of this name; -1 where the name is taken by something else. */
-static int has_file(struct opening *o, const char *name)
+/* Whether the folder has a plain file of this name, of so many bytes at least; -1 where the name is taken by something else. */
+static int has_bytes(struct opening *o, const char *name, off_t least)
 {
 	char words[64], *path;
 	struct stat st;
@@ -246,10 +246,12 @@ static int has_file(struct opening *o, const char *name)
 	if (!is_there)
 		return errno == ENOENT ? 0 : refuse_system(o);
 	if (S_ISREG(st.st_mode))
-		return 1;
+		return st.st_size >= least;
 	snprintf(words, sizeof words, "`%s` in it is no plain file", name);
 	return refuse(o, VAH_NOT_A_STORE, words);
 }
+
+static int has_file(struct opening *o, const char *name) { return has_bytes(o, name, 0); }
 
 /* Opens a file of the folder, made where it is missing; -1 where it is refused. It must not have the descriptor of a standard stream: what the
  * program prints there would be written over the store. */
@@ -269,28 +271,91 @@ static int open_file(struct opening *o, const char *name)
 	return refuse(o, VAH_DEVICE, "no descriptor is left but those of the standard streams");
 }
 
-/* The length of a file, and its first byte, 0 where it has none. */
-static int front_of(struct opening *o, int fd, uint64_t *len, uint8_t *first)
+/* How long a log is, and its first bytes, zeros where it has no more: up to the number of the transaction that its first record is of. */
+struct front { uint64_t len; uint8_t bytes[65]; };
+
+static int front_of(struct opening *o, int fd, struct front *front)
 {
 	struct stat st;
-	*first = 0;
 	if (fstat(fd, &st))
 		return refuse_system(o);
-	*len = (uint64_t)st.st_size;
-	return *len && whole_at(fd, 0, first, 1, 0) ? refuse_system(o) : 0;
+	front->len = (uint64_t)st.st_size;
+	size_t size = front->len < sizeof front->bytes ? (size_t)front->len : sizeof front->bytes;
+	return whole_at(fd, 0, front->bytes, size, 0) ? refuse_system(o) : 0;
 }
 
-/* Whether the logs may be those of a store: one says that it was made, or a stop of a creation leaves such logs. Nothing is written. It
- * stands for FileDisk's has_made_log. */
-static int guard(struct opening *o, const int *files, int *is_made)
+/* The number in so many bytes, the greatest first. */
+static uint64_t number_of(const uint8_t *bytes, size_t size)
 {
-	uint64_t len = 0, len2 = 0;
-	uint8_t first = 0, first2 = 0;
-	if (front_of(o, files[LOG], &len, &first) || (files[LOG2] >= 0 && front_of(o, files[LOG2], &len2, &first2)))
+	uint64_t number = 0;
+	for (size_t i = 0; i < size; i++)
+		number = number << 8 | bytes[i];
+	return number;
+}
+
+/* Whether a log says that it was made, and is of the second format. */
+static int is_of_second_format(const uint8_t *front) { return front[0] == 1 && front[8] == '2'; }
+
+/* The generation of a log: 0 where it is not made, and 1 in the first format. */
+static uint64_t generation_of(const uint8_t *front)
+{
+	return front[0] != 1 ? 0 : is_of_second_format(front) ? number_of(front + 16, 8) : 1;
+}
+
+/* The LSN of a log's first byte: 0 in the first format. */
+static uint64_t base_of(const uint8_t *front) { return is_of_second_format(front) ? number_of(front + 24, 8) : 0; }
+
+/* Whether a log was made, and its first byte does not say so any more: it has a whole header of a later generation than the other log and of a
+ * greater base, its first gate is open, and the record after it is its own. */
+static int lacks_first_byte(const uint8_t *front, const uint8_t *other)
+{
+	static const char name[] = "ARIESIM2\0\0\x10\0\0\0\0";
+	static const uint8_t zeros[7];
+	uint64_t txn = number_of(front + 57, 8);
+	return front[0] != 1 && !memcmp(front + 1, name, 15) && !memcmp(front + 40, zeros, 7)
+		&& generation_of(other) < number_of(front + 16, 8) && base_of(other) < number_of(front + 24, 8)
+		&& front[47] == 1 && (txn == 0 || number_of(front + 32, 8) <= txn);
+}
+
+/* Refuses for what is wrong with the file of this name: the words have its name once. */
+static int refuse_file(struct opening *o, const char *format, const char *name)
+{
+	char words[96];
+	snprintf(words, sizeof words, format, name);
+	return refuse(o, VAH_NOT_A_STORE, words);
+}
+
+/* Whether a log says that it was made, and the LSN with which the current one begins; refused where the two are no logs of a store, nor what a
+ * stop of a creation leaves. Nothing is written. It stands for FileDisk's logs_say. */
+static int guard(struct opening *o, const int *files, int *is_made, uint64_t *base)
+{
+	struct front log = { 0 }, log2 = { 0 };
+	if (front_of(o, files[LOG], &log) || (files[LOG2] >= 0 && front_of(o, files[LOG2], &log2)))
 		return -1;
-	*is_made = first == 1 || first2 == 1;
-	if (!*is_made && (len > UNMADE_LOG || len2 > UNMADE_LOG))
-		return refuse(o, VAH_NOT_A_STORE, "`log` in it does not begin as the log of a store");
+	const char *damaged = lacks_first_byte(log.bytes, log2.bytes) ? "log" : lacks_first_byte(log2.bytes, log.bytes) ? "log2" : NULL;
+	if (damaged)
+		return refuse_file(o, "the first byte of `%s` in it is damaged: it is the newer log of the store", damaged);
+	if (is_of_second_format(log.bytes) && files[LOG2] < 0)
+		return refuse_file(o, "there is no `%s` in it", "log2");
+	*is_made = log.bytes[0] == 1 || log2.bytes[0] == 1;
+	*base = generation_of(log2.bytes) < generation_of(log.bytes) ? base_of(log.bytes) : base_of(log2.bytes);
+	if (!*is_made && (log.len > UNMADE_LOG || log2.len > UNMADE_LOG))
+		return refuse_file(o, "`%s` in it does not begin as the log of a store", log.len > UNMADE_LOG ? "log" : "log2");
+	return 0;
+}
+
+/* Refused where the file of pages lacks pages that it had when the current log began, with this LSN. It stands for FileDisk's has_whole_pages. */
+static int guard_pages(struct opening *o, int fd, uint64_t base)
+{
+	struct stat st;
+	uint8_t front[28] = { 0 };
+	if (fstat(fd, &st))
+		return refuse_system(o);
+	uint64_t pages = (uint64_t)st.st_size / PAGE_SIZE;
+	if (pages && whole_at(fd, 0, front, sizeof front, 0))
+		return refuse_system(o);
+	if (pages ? number_of(front, 8) < base && pages < number_of(front + 24, 4) : base > 4096)
+		return refuse(o, VAH_NOT_A_STORE, "`pages` in it lacks pages that the store had when its log began");
 	return 0;
 }
 
@@ -298,19 +363,24 @@ static int guard(struct opening *o, const int *files, int *is_made)
 static int open_files(struct opening *o, int *files, int folder, char *path)
 {
 	int is_made, is_there;
-	if (has_file(o, "log") < 0 || has_file(o, "pages") < 0 || (files[LOG] = open_file(o, "log")) < 0)
+	uint64_t base = 0;
+	if ((is_there = has_file(o, "log")) < 0 || has_file(o, "pages") < 0)
+		return -1;
+	if (!is_there && (is_there = has_bytes(o, "log2", 1)))
+		return is_there < 0 ? -1 : refuse_file(o, "there is no `%s` in it", "log");
+	if ((files[LOG] = open_file(o, "log")) < 0)
 		return -1;
 	if (flock(files[LOG], LOCK_EX | LOCK_NB))
 		return errno == EWOULDBLOCK ? refuse(o, VAH_LOCKED, "the store is open elsewhere") : refuse_system(o);
 	if ((is_there = has_file(o, "log2")) < 0 || (is_there && (files[LOG2] = open_file(o, "log2")) < 0))
 		return -1;
-	if (guard(o, files, &is_made) || (is_there = has_file(o, "pages")) < 0)
+	if (guard(o, files, &is_made, &base) || (is_there = has_file(o, "pages")) < 0)
 		return -1;
 	if (is_made && !is_there)
 		return refuse(o, VAH_NOT_A_STORE, "there is no `pages` in it beside a log that was made: the pages of the store are missing");
-	if (files[LOG2] < 0 && (files[LOG2] = open_file(o, "log2")) < 0)
+	if ((files[PAGES] = open_file(o, "pages")) < 0 || guard_pages(o, files[PAGES], base))
 		return -1;
-	if ((files[PAGES] = open_file(o, "pages")) < 0)
+	if (files[LOG2] < 0 && (files[LOG2] = open_file(o, "log2")) < 0)
 		return -1;
 	if (fsync(files[LOG]) || fsync(files[LOG2]) || fsync(files[PAGES]) || fsync(folder))
 		return refuse_system(o);

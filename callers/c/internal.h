@@ -18,7 +18,8 @@ _Static_assert(sizeof(struct call) == 68144 && offsetof(struct call, txn) == 16 
 	&& offsetof(struct call, out_len) == 40 && offsetof(struct call, key) == 48 && offsetof(struct call, hi) == 304
 	&& offsetof(struct call, out) == 560, "the call is laid out as im_calls_form has it");
 _Static_assert(sizeof(vah_entry) == 264 && offsetof(vah_entry, key) == 9, "bindings know the entry by these");
-_Static_assert(sizeof(vah_config) == 24 && offsetof(vah_config, redo_bytes) == 16, "bindings know the config by these");
+_Static_assert(sizeof(vah_config) == 32 && offsetof(vah_config, redo_bytes) == 16 && offsetof(vah_config, log_bytes) == 24,
+	"bindings know the config by these");
 _Static_assert(sizeof(vah_info) == 48, "bindings know the info by this");
 
 /* The files of a store, as the proved library numbers them. */

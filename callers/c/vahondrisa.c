@@ -13,7 +13,8 @@ void im_init(struct handle *at);
 void im_step(struct handle *at, struct call *call);
 
 /* What is asked, and what is answered, by number: crates/im_calls_form; from STAT on crates/im_calls. */
-enum { BEGIN, FETCH, SEEK, NEXT, SCAN, INSERT, DELETE, COMMIT, ROLLBACK, CONTINUE, FLUSH_PAGE, FORCE, CHECKPOINT, STAT, OPEN, CLOSE };
+enum { BEGIN, FETCH, SEEK, NEXT, SCAN, INSERT, DELETE, COMMIT, ROLLBACK, CONTINUE, FLUSH_PAGE, FORCE, CHECKPOINT, STAT, OPEN, CLOSE, SWITCH };
+enum { STORE_BUSY = 15 }; /* the refusal of a switch while a transaction is active */
 enum { STARTED, FOUND, ABSENT, ENTRY, END, ENTRIES, INSERTED, DUPLICATE, DELETED, COMMITTED, ROLLED_BACK, MORE, BLOCKED, DIE, DONE, REFUSED, BLOCKED_TREE };
 
 struct vah_store {
@@ -146,7 +147,7 @@ static int told_code(const struct told *told)
 	case DUPLICATE: return VAH_EXISTS;
 	case DIE: return VAH_GIVE_WAY;
 	case BLOCKED: case BLOCKED_TREE: return VAH_BUSY;
-	case REFUSED: return (int)told->fault;
+	case REFUSED: return told->fault == STORE_BUSY ? VAH_ACTIVE : (int)told->fault;
 	default: return VAH_OK;
 	}
 }
@@ -297,18 +298,18 @@ static int check_txn(const vah_txn *txn) { return txn && IS_LIVE(txn) ? check_st
 
 /* ---- a store ---- */
 
-/* The fields of a config that this version knows, over the defaults. */
+/* The fields of a config that this version knows, over the defaults: one of the first version ends before the bound of the log. */
 static int read_config(const vah_config *given, vah_config *config)
 {
 	*config = (vah_config)VAH_CONFIG_INIT;
 	if (!given)
 		return VAH_OK;
-	if (given->size < sizeof *config)
+	if (given->size != offsetof(vah_config, log_bytes) && given->size < sizeof *config)
 		return VAH_INVALID;
 	for (size_t i = sizeof *config; i < given->size; i++)
 		if (((const uint8_t *)given)[i])
 			return VAH_INVALID; /* a later version's field that is not left at 0 */
-	*config = *given;
+	memcpy(config, given, given->size < sizeof *config ? given->size : sizeof *config);
 	return VAH_OK;
 }
 
@@ -331,6 +332,7 @@ static int open_session(vah_store *store, const vah_config *config)
 	store->call.limit = config->frames;
 	store->call.txn = config->max_pages;
 	store->call.number = config->redo_bytes;
+	store->call.out_len = config->log_bytes;
 	store->call.key_len = store->call.hi_len = 0; /* descriptors: any, since vah_device_write and _read stand for them */
 	step(store);
 	return store->call.word == REFUSED ? fail(store, (int)store->call.fault) : VAH_OK;
@@ -418,6 +420,8 @@ static int of_store(vah_store *store, uint32_t what)
 int vah_checkpoint(vah_store *store) { return of_store(store, CHECKPOINT); }
 
 int vah_flush(vah_store *store) { return of_store(store, FORCE); }
+
+int vah_switch(vah_store *store) { return of_store(store, SWITCH); }
 
 int vah_stat(vah_store *store, vah_info *info)
 {

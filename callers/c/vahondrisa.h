@@ -27,7 +27,7 @@
  *  The store below these functions is proved: each call answers what one
  *  caller alone would be answered in some order of the commits, and a stop at
  *  any moment leaves each transaction whole or absent. The functions of this
- *  header are some 1,000 lines of C over three exports of the proved library, and
+ *  header are some 1,100 lines of C over three exports of the proved library, and
  *  are tested. They hold one lock around each call, and keep the duties that
  *  the proofs ask of a caller in C. So do not write past the memory that you
  *  hand in, and do not use a store or a transaction after its end: then nothing
@@ -93,19 +93,25 @@ typedef struct vah_config {
 	uint32_t frames;          /**< pages of 4 KiB kept in memory, 8 to 1024 */
 	uint32_t max_pages;       /**< the most pages of the store */
 	uint64_t redo_bytes;      /**< the most log that an opening has to redo; 0: any */
+	uint64_t log_bytes;       /**< the most log that an opening has to read, where
+	                           *   now and then nothing is active; 0: any */
 } vah_config;
 
 /** For redo_bytes, and the default: 16 MiB, or 7 times the bytes of the file of
  *  pages, whichever is more. */
 #define VAH_REDO_GROWS UINT64_MAX
-#define VAH_CONFIG_INIT { sizeof(vah_config), 1024, 1000000, VAH_REDO_GROWS }
+/** For log_bytes, and the default: 64 MiB, or 8 times the bytes of the file of
+ *  pages, whichever is more. */
+#define VAH_LOG_GROWS UINT64_MAX
+#define VAH_CONFIG_INIT { sizeof(vah_config), 1024, 1000000, VAH_REDO_GROWS, VAH_LOG_GROWS }
 
 /** What vah_stat tells. */
 typedef struct vah_info {
 	uint64_t active;          /**< transactions */
 	uint64_t dirty_pages;     /**< pages whose file lacks changes */
 	uint64_t durable_end;     /**< the log is on the disk up to here */
-	uint64_t redo_from;       /**< where the opening began to redo the log */
+	uint64_t redo_from;       /**< where the opening began to redo the log; 0 where
+	                           *   the log had no record */
 	uint64_t redone;          /**< how many records it applied */
 	uint64_t has_failed;      /**< 1: only vah_close is of use */
 } vah_info;
@@ -126,7 +132,7 @@ typedef struct vah_info {
 #define VAH_BUSY 103
 /** An argument is NULL, or a flag or a size is not known. */
 #define VAH_INVALID 104
-/** Transactions of the store are active: it was not closed. */
+/** Transactions of the store are active: it was not closed, or not switched. */
 #define VAH_ACTIVE 105
 /** The store was opened by the process that this one was forked from. */
 #define VAH_FORKED 106
@@ -168,9 +174,9 @@ int vah_version(void);
  *  @return VAH_LOCKED, VAH_NOT_A_STORE, VAH_POOL_SIZE, VAH_DEVICE, VAH_MEMORY */
 int vah_open(const char *path, const vah_config *config, vah_store **store);
 
-/** Write all pages, take a checkpoint, and end the store. What was committed is
- *  kept whatever this returns, and `store` is freed on each code but VAH_ACTIVE.
- *  NULL is taken. */
+/** Write all pages, leave a long log for an empty one or take a checkpoint, and
+ *  end the store. What was committed is kept whatever this returns, and `store`
+ *  is freed on each code but VAH_ACTIVE. NULL is taken. */
 int vah_close(vah_store *store);
 
 /** Begin a transaction.
@@ -221,6 +227,13 @@ int vah_scan(vah_txn *txn, const void *lo, size_t lo_len, const void *hi,
 /** Bound what the next opening has to redo. Taken by itself as
  *  config.redo_bytes asks. */
 int vah_checkpoint(vah_store *store);
+
+/** Write all pages, and go on in the other log, which is empty: the next opening
+ *  reads nothing of this one. Made by itself as config.log_bytes asks, at a
+ *  moment when no transaction is active. Where threads leave no such moment, the
+ *  log grows on: make one, now and then, and call this.
+ *  @return VAH_ACTIVE where a transaction is active: nothing was done */
+int vah_switch(vah_store *store);
 
 /** Make all records so far durable, those of active transactions too. */
 int vah_flush(vah_store *store);

@@ -5,6 +5,7 @@
 #include <pthread.h>
 #include <stdatomic.h>
 #include <signal.h>
+#include <sys/stat.h>
 #include <sys/time.h>
 #include <sys/wait.h>
 #include <unistd.h>
@@ -48,6 +49,11 @@ static void refusals(const char *dir)
 	IS(vah_open(dir, &config, &store), VAH_POOL_SIZE);
 	config.frames = 1025;
 	IS(vah_open(dir, &config, &store), VAH_POOL_SIZE);
+	config = (vah_config)VAH_CONFIG_INIT;
+	config.size = offsetof(vah_config, log_bytes); /* a config of the first version */
+	OK(vah_open(dir, &config, &store));
+	OK(vah_close(store));
+	store = NULL;
 	longer.known.size = sizeof longer;
 	longer.later = 1;
 	IS(vah_open(dir, &longer.known, &store), VAH_INVALID);
@@ -69,6 +75,7 @@ static void refusals(const char *dir)
 	IS(vah_stat(store, NULL), VAH_INVALID);
 	IS(vah_stat(NULL, &info), VAH_INVALID);
 	IS(vah_checkpoint(NULL), VAH_INVALID);
+	IS(vah_switch(NULL), VAH_INVALID);
 	IS(vah_flush(NULL), VAH_INVALID);
 
 	OK(vah_begin(store, &txn));
@@ -95,9 +102,13 @@ static void refusals(const char *dir)
 	OK(vah_scan(txn, hi, 255, large, 1, entries, 2, &count));
 	HOLDS(count == 0);
 	IS(vah_close(store), VAH_ACTIVE);
+	IS(vah_switch(store), VAH_ACTIVE);
 	OK(vah_stat(store, &info));
 	HOLDS(info.active == 1 && !info.has_failed);
 	OK(vah_commit(txn));
+	OK(vah_switch(store));
+	OK(vah_stat(store, &info));
+	HOLDS(!info.active && !info.dirty_pages && !info.has_failed);
 
 	/* one thread with two transactions: the older would wait for the younger, and the younger must give way */
 	OK(vah_begin_with(store, VAH_NO_WAIT, &old));
@@ -155,6 +166,7 @@ static void on_a_table(const char *dir, int steps)
 	size_t count;
 	config.frames = 16;
 	config.redo_bytes = 1 << 20;
+	config.log_bytes = 1 << 20;
 	memset(kept, 0xff, sizeof kept);
 	OK(vah_open(dir, &config, &store));
 	for (int life = 0; steps > 0; life++) {
@@ -207,15 +219,26 @@ static void on_a_table(const char *dir, int steps)
 		case 0: OK(vah_checkpoint(store)); break;
 		case 1: OK(vah_flush(store)); break;
 		case 2: OK(vah_close(store)); OK(vah_open(dir, &config, &store)); break;
+		case 3: OK(vah_switch(store)); break;
 		}
 	}
 	OK(vah_close(store));
 }
 
-/* ---- the bound of redo ---- */
+/* ---- the bounds of redo and of the log ---- */
 
-/* One key is put in and taken out until the log has more than 32 MiB, and the program ends there. Returns how much of it the next opening reads for redo. */
-static uint64_t redone_of(const char *dir, uint64_t redo_bytes)
+/* The length of a file of a store. */
+static long long length_of(const char *dir, const char *name)
+{
+	char at[4200];
+	struct stat stat_of;
+	snprintf(at, sizeof at, "%.4000s/%s", dir, name);
+	return stat(at, &stat_of) ? -1 : (long long)stat_of.st_size;
+}
+
+/* One key is put in and taken out until the log has had more than 32 MiB, and the program ends there. Returns how much of it the next opening reads for redo:
+ * nothing of a log without a record, of which redo_from is 0. */
+static uint64_t redone_of(const char *dir, uint64_t redo_bytes, uint64_t log_bytes)
 {
 	vah_config config = VAH_CONFIG_INIT;
 	vah_store *store;
@@ -223,8 +246,9 @@ static uint64_t redone_of(const char *dir, uint64_t redo_bytes)
 	vah_info info = { 0 };
 	char key[VAH_KEY_MAX];
 	int status;
-	HOLDS(config.redo_bytes == VAH_REDO_GROWS);
+	HOLDS(config.redo_bytes == VAH_REDO_GROWS && config.log_bytes == VAH_LOG_GROWS);
 	config.redo_bytes = redo_bytes;
+	config.log_bytes = log_bytes;
 	memset(key, 'k', sizeof key);
 	pid_t child = fork();
 	if (child == 0) {
@@ -244,19 +268,23 @@ static uint64_t redone_of(const char *dir, uint64_t redo_bytes)
 	OK(vah_open(dir, &config, &store));
 	OK(vah_stat(store, &info));
 	OK(vah_close(store));
-	return info.durable_end - info.redo_from;
+	return info.redo_from || info.redone ? info.durable_end - info.redo_from : 0;
 }
 
-/* The file of pages is short, so what grows with it is 16 MiB. */
+/* The file of pages is short, so what grows with it is 16 MiB, and 64 MiB of log. A transaction logs some 3 MiB here, and within it nothing is switched. */
 static void bounds(const char *dir)
 {
 	char at[4096];
 	snprintf(at, sizeof at, "%.4000s/any", dir);
-	HOLDS(redone_of(at, 0) > 32 << 20);
+	HOLDS(redone_of(at, 0, 0) > 32 << 20);
+	HOLDS(length_of(at, "log") > 32 << 20);
 	snprintf(at, sizeof at, "%.4000s/grows", dir);
-	HOLDS(redone_of(at, VAH_REDO_GROWS) <= 16 << 20);
+	HOLDS(redone_of(at, VAH_REDO_GROWS, VAH_LOG_GROWS) <= 16 << 20);
 	snprintf(at, sizeof at, "%.4000s/little", dir);
-	HOLDS(redone_of(at, 4 << 20) <= 4 << 20);
+	HOLDS(redone_of(at, 4 << 20, 0) <= 4 << 20);
+	snprintf(at, sizeof at, "%.4000s/short", dir);
+	HOLDS(redone_of(at, 0, 4 << 20) <= 8 << 20);
+	HOLDS(length_of(at, "log") <= 8 << 20 && length_of(at, "log2") <= 8 << 20);
 }
 
 /* ---- threads ---- */

@@ -1,4 +1,5 @@
-/* A life whose device calls fail, or within which the process is killed: splits, rollbacks half way, checkpoints, a page pool that is small. */
+/* A life whose device calls fail, or within which the process is killed: splits, rollbacks half way, a checkpoint, a log that goes on in the other file, a page pool
+ * that is small. */
 #ifndef LIFE_H
 #define LIFE_H
 #include "test.h"
@@ -44,6 +45,7 @@ static inline int life(const char *dir, void (*acked)(int turn, void *with), voi
 		}
 		if (!(rc = vah_commit(txn))) acked(t, with);
 		if (!rc && t == 1) rc = vah_checkpoint(store);
+		if (!rc && t == 3) rc = vah_switch(store);
 	}
 	int end = vah_close(store);
 	return rc ? rc : end;

@@ -7,8 +7,9 @@ static const char *name;
 
 static int refused(int code)
 {
-	fprintf(stderr, "imstore: %s\n", vah_last_error());
 	printf("open refused %d\n", code);
+	fflush(stdout);
+	fprintf(stderr, "imstore: %s\n", vah_last_error());
 	return 1;
 }
 

@@ -29,6 +29,8 @@ def life(folder: str, acked: set) -> None:
             acked.add(turn)
             if turn == 1:
                 store.checkpoint()
+            if turn == 3:
+                store.switch()
 
 
 @unittest.skipUnless(os.environ.get("VAHONDRISA_FAILS"), "over a library whose device fails: make -C callers test")

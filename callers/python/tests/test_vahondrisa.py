@@ -76,6 +76,15 @@ class Stores(unittest.TestCase):
             self.assertIsNone(txn.next((999).to_bytes(8, "big")))
             self.assertEqual(next(iter(txn)), bytes(8))
 
+    def test_a_switch_is_made_where_nothing_is_active(self):
+        with vahondrisa.open(self.dir, log_bytes=1 << 20) as store:
+            with store.begin() as txn:
+                txn[b"a"] = 1
+                self.assertFalse(store.switch())
+            self.assertTrue(store.switch())
+        with vahondrisa.open(self.dir) as store, store.begin() as txn:
+            self.assertEqual(txn[b"a"], 1)
+
     def test_the_recipes_of_callers(self):
         with vahondrisa.open(self.dir) as store, store.begin() as txn:
             # a prefix, and the count of a range

@@ -8,7 +8,7 @@ from ctypes import POINTER, c_char_p, c_int, c_size_t, c_uint, c_uint8, c_uint32
 KEY_MAX = 255
 SCAN_MAX = 256
 NO_WAIT = 1
-REDO_GROWS = (1 << 64) - 1
+REDO_GROWS = LOG_GROWS = (1 << 64) - 1
 NOT_FOUND, EXISTS, GIVE_WAY, BUSY, INVALID, ACTIVE, FORKED = 100, 101, 102, 103, 104, 105, 106
 MUST_ROLL_BACK, KEY_LENGTH, ROLLING_BACK, CAPACITY, LOG_FULL, DEVICE, MEMORY = 2, 3, 4, 6, 7, 8, 9
 FAILED, NOT_A_STORE, POOL_SIZE, LOCKED = 10, 11, 13, 19
@@ -25,7 +25,7 @@ def entries(count: int) -> struct.Struct:
 
 
 class Config(ctypes.Structure):
-    _fields_ = [("size", c_size_t), ("frames", c_uint32), ("max_pages", c_uint32), ("redo_bytes", c_uint64)]
+    _fields_ = [("size", c_size_t), ("frames", c_uint32), ("max_pages", c_uint32), ("redo_bytes", c_uint64), ("log_bytes", c_uint64)]
 
 
 class Info(ctypes.Structure):
@@ -33,7 +33,7 @@ class Info(ctypes.Structure):
 
 
 # The library's own build tests these sizes too.
-assert (ctypes.sizeof(Entry), ctypes.sizeof(Config), ctypes.sizeof(Info)) == (264, 24, 48) and entries(1).size == 264
+assert (ctypes.sizeof(Entry), ctypes.sizeof(Config), ctypes.sizeof(Info)) == (264, 32, 48) and entries(1).size == 264
 
 
 def _load() -> ctypes.CDLL:
@@ -64,6 +64,7 @@ _FUNCTIONS = {
     "vah_next": (c_void_p, c_char_p, c_size_t, POINTER(Entry)),
     "vah_scan": (c_void_p, c_char_p, c_size_t, c_char_p, c_size_t, c_void_p, c_size_t, POINTER(c_size_t)),
     "vah_checkpoint": (c_void_p,),
+    "vah_switch": (c_void_p,),
     "vah_flush": (c_void_p,),
     "vah_stat": (c_void_p, POINTER(Info)),
     "vah_version": (),

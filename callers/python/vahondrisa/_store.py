@@ -15,21 +15,25 @@ T = TypeVar("T")
 Entry = Tuple[bytes, int]
 
 
-def open(path: Union[str, bytes, "os.PathLike[str]"], *, frames: int = 1024, max_pages: int = 1_000_000, redo_bytes: int = c.REDO_GROWS) -> "Store":
+def open(
+    path: Union[str, bytes, "os.PathLike[str]"], *, frames: int = 1024, max_pages: int = 1_000_000, redo_bytes: int = c.REDO_GROWS,
+    log_bytes: int = c.LOG_GROWS,
+) -> "Store":
     """Opens the store in a folder, or makes one, with the folder and those above it.
 
     `frames` are pages of 4 KiB kept in memory, 8 to 1,024; `max_pages` the most that the store may have; `redo_bytes` the most log that the next
-    opening has to redo, 0 for any, and by default 16 MiB, or 7 times the file of pages. Raises Locked, NotAStore, Failed where a call of the
-    system failed, ValueError, MemoryError.
+    opening has to redo, 0 for any, and by default 16 MiB, or 7 times the file of pages; `log_bytes` the most that it has to read, where now and then
+    no transaction is active, 0 for any, and by default 64 MiB, or 8 times. Raises Locked, NotAStore, Failed where a call of the system failed,
+    ValueError, MemoryError.
     """
     name = os.fsencode(path)
     if b"\0" in name:
         raise ValueError("the path has a byte 0")
-    for value, bits in ((frames, 32), (max_pages, 32), (redo_bytes, 64)):
+    for value, bits in ((frames, 32), (max_pages, 32), (redo_bytes, 64), (log_bytes, 64)):
         if not 0 <= value < 1 << bits:
             raise ValueError(f"{value} is no number of {bits} bits")
     at = c_void_p()
-    code = c.lib.vah_open(name, byref(c.Config(ctypes.sizeof(c.Config), frames, max_pages, redo_bytes)), byref(at))
+    code = c.lib.vah_open(name, byref(c.Config(ctypes.sizeof(c.Config), frames, max_pages, redo_bytes, log_bytes)), byref(at))
     if code:
         refuse(code)
     return Store(at)
@@ -71,6 +75,15 @@ class Store:
     def checkpoint(self) -> None:
         """Bounds what the next opening has to redo. Taken by itself as `redo_bytes` asks."""
         self._call(c.lib.vah_checkpoint)
+
+    def switch(self) -> bool:
+        """Writes all pages, and goes on in the other log, which is empty: the next opening reads nothing of this one. Made by itself as `log_bytes` asks.
+        Whether it was made: not while a transaction is active.
+        """
+        code = c.lib.vah_switch(self._opened())
+        if code and code != c.ACTIVE:
+            refuse(code)
+        return not code
 
     def flush(self) -> None:
         """Makes all records so far durable, those of active transactions too."""

@@ -31,6 +31,7 @@ pub struct vah_config {
     pub frames: u32,
     pub max_pages: u32,
     pub redo_bytes: u64,
+    pub log_bytes: u64,
 }
 
 #[repr(C)]
@@ -68,10 +69,12 @@ pub const VAH_POOL_SIZE: c_int = 13;
 pub const VAH_LOCKED: c_int = 19;
 pub const VAH_NO_WAIT: c_uint = 1;
 pub const VAH_REDO_GROWS: u64 = u64::MAX;
+pub const VAH_LOG_GROWS: u64 = u64::MAX;
 
 // The library's own build tests these sizes and places too.
 const _: () = assert!(core::mem::size_of::<vah_entry>() == 264 && core::mem::offset_of!(vah_entry, key) == 9);
-const _: () = assert!(core::mem::size_of::<vah_config>() == 24 && core::mem::offset_of!(vah_config, redo_bytes) == 16);
+const _: () = assert!(core::mem::size_of::<vah_config>() == 32 && core::mem::offset_of!(vah_config, redo_bytes) == 16);
+const _: () = assert!(core::mem::offset_of!(vah_config, log_bytes) == 24);
 const _: () = assert!(core::mem::size_of::<vah_info>() == 48);
 
 extern "C" {
@@ -94,6 +97,7 @@ extern "C" {
         entries: *mut vah_entry, max: usize, count: *mut usize,
     ) -> c_int;
     pub fn vah_checkpoint(store: *mut vah_store) -> c_int;
+    pub fn vah_switch(store: *mut vah_store) -> c_int;
     pub fn vah_flush(store: *mut vah_store) -> c_int;
     pub fn vah_stat(store: *mut vah_store, info: *mut vah_info) -> c_int;
 }

@@ -23,16 +23,17 @@ pub struct Options {
     frames: u32,
     max_pages: u32,
     redo_bytes: u64,
+    log_bytes: u64,
 }
 
 impl Default for Options {
     fn default() -> Options {
-        Options { frames: 1_024, max_pages: 1_000_000, redo_bytes: sys::VAH_REDO_GROWS }
+        Options { frames: 1_024, max_pages: 1_000_000, redo_bytes: sys::VAH_REDO_GROWS, log_bytes: sys::VAH_LOG_GROWS }
     }
 }
 
 impl Options {
-    /// 1,024 frames, a million pages at most, 16 MiB of log to redo, or 7 times the file of pages.
+    /// 1,024 frames, a million pages at most, 16 MiB of log to redo, or 7 times the file of pages, and 64 MiB to read, or 8 times.
     pub fn new() -> Options {
         Options::default()
     }
@@ -55,6 +56,12 @@ impl Options {
         self
     }
 
+    /// The most bytes of log that an opening has to read, where now and then no transaction is active; 0: any.
+    pub fn log_bytes(mut self, bytes: u64) -> Options {
+        self.log_bytes = bytes;
+        self
+    }
+
     /// Opens the store in a folder, or makes one, with the folder and those above it.
     pub fn open(&self, path: impl AsRef<Path>) -> Result<Store> {
         let path = CString::new(path.as_ref().as_os_str().as_bytes()).map_err(|it| Error::of_path(it.into()))?;
@@ -63,6 +70,7 @@ impl Options {
             frames: self.frames,
             max_pages: self.max_pages,
             redo_bytes: self.redo_bytes,
+            log_bytes: self.log_bytes,
         };
         let mut at = ptr::null_mut();
         // SAFETY: the path ends with 0, and both pointers are to what lives over the call.
@@ -127,6 +135,16 @@ impl Store {
         done(unsafe { sys::vah_checkpoint(self.at.as_ptr()) })
     }
 
+    /// Writes all pages, and goes on in the other log, which is empty: the next opening reads nothing of this one. Made by itself as `log_bytes` asks. Answers
+    /// whether it was made: not while a transaction is active.
+    pub fn switch(&self) -> Result<bool> {
+        // SAFETY: as in `begin_with`.
+        match unsafe { sys::vah_switch(self.at.as_ptr()) } {
+            sys::VAH_ACTIVE => Ok(false),
+            code => done(code).map(|()| true),
+        }
+    }
+
     /// Makes all records so far durable, those of active transactions too.
     pub fn flush(&self) -> Result<()> {
         // SAFETY: as in `begin_with`.
@@ -141,7 +159,7 @@ impl Store {
         Ok(info)
     }
 
-    /// Writes all pages, takes a checkpoint, and ends the store. What was committed is kept whatever it answers.
+    /// Writes all pages, leaves a long log for an empty one or takes a checkpoint, and ends the store. What was committed is kept whatever it answers.
     pub fn close(self) -> Result<()> {
         let at = self.at.as_ptr();
         std::mem::forget(self);

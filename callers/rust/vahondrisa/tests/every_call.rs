@@ -28,6 +28,9 @@ fn life(dir: &Path, acked: &mut Vec<u8>) -> Result<()> {
         if turn == 1 {
             store.checkpoint()?;
         }
+        if turn == 3 {
+            assert!(store.switch()?);
+        }
     }
     store.close()
 }

@@ -45,6 +45,21 @@ fn a_dropped_transaction_is_rolled_back() {
 }
 
 #[test]
+fn a_switch_is_made_where_nothing_is_active() {
+    let dir = Folder::new("switch");
+    let store = Store::options().log_bytes(1 << 20).open(&dir.0).unwrap();
+    let txn = store.begin().unwrap();
+    assert!(txn.insert(b"a", 1).unwrap());
+    assert!(!store.switch().unwrap());
+    txn.commit().unwrap();
+    assert!(store.switch().unwrap());
+    store.close().unwrap();
+    let store = Store::open(&dir.0).unwrap();
+    let txn = store.begin().unwrap();
+    assert_eq!(txn.get(b"a").unwrap(), Some(1));
+}
+
+#[test]
 fn refusals_have_their_kinds() {
     let dir = Folder::new("refusals");
     let store = Store::open(&dir.0).unwrap();
