@@ -8,6 +8,7 @@ use Rattle.im_base_types.specs.declared.file_id.FileId.TheVariants.{Log, Pages, 
 use Rattle.im_base_types.specs.Pages.{Page}
 use Rattle.im_theory_log.specs.Histories.{Base, History, Rises, end_of}
 use Rattle.im_theory_log.specs.Copies.{GrowsByImages}
+use Rattle.im_theory_log.specs.PageCounts.{named_to}
 use Rattle.im_theory_log.specs.RedoPoints.{Covers, redo_point}
 use Rattle.im_theory_log.specs.Lawful.{IsLawful}
 use Rattle.im_theory_log.specs.Writer.{Writer}
@@ -37,6 +38,7 @@ use Rattle.im_page_writer.proofs.OwnPages.{under_end}
 use Rattle.im_page_writer.proofs.Restarting.{writer_opens}
 use Rattle.im_restart_analysis.specs.Analysis.{IsAnalysis}
 use Rattle.im_restart_analysis.specs.Numbers.{IsNextNumber}
+use Rattle.im_restart_analysis.specs.Within.{IsWithin, greatest_said}
 use Rattle.im_restart_redo.specs.Redo.{LeavesRedoing, Redone}
 use Rattle.im_restart_analysis.specs.Losers.{AreLosers, LoserMap}
 use Rattle.im_restart_analysis.specs.declared.rows.OpenRecord.{OpenRecord}
@@ -122,7 +124,7 @@ module _ {D : Type 0} (d : Ghosts D) (b : Base) (base : ℕ) (all : History) whe
 
   pub redo_behind : (old mid : D) (file : LogFile) → MayRedo b base all (d.seen old) → ChangesOnly d Log old mid → (d.tells → ¬ (IsFresh (d.seen old)) → Reads d old mid) → IsLog d base all all file mid → MayRedo b base all (d.seen mid)
   redo_behind old mid file may changes reads log =
-      record { start = may.start; has = has_behind old mid file may.has changes reads log; rises = may.rises; taken = may.taken; can = may.can; done = may.done }
+      record { start = may.start; has = has_behind old mid file may.has changes reads log; rises = may.rises; taken = may.taken; within = subst (λ (f : List ℕ). IsWithin (named_to all) (greatest_said all) (file_page f 0)) (sym (changes.seen Pages (λ same. cc same))) may.within; can = may.can; done = may.done }
 
   pub pages_synced : (old mid : D) → ChangesOnly d Log old mid → Only Pages (d.seen old) (d.may_leave old) → Only Pages (d.seen mid) (d.may_leave mid)
   pages_synced old mid changes pages c left =

@@ -8,6 +8,7 @@ use Rattle.im_theory_log.specs.Transactions.{to_undo}
 use Rattle.im_base_types.specs.Keys.{Key}
 use Rattle.im_base_types.specs.Pages.{Page}
 use Rattle.im_base_types.specs.Records.{DeleteKey, Logged}
+use Rattle.im_theory_log.specs.PageCounts.{named_to}
 use Rattle.im_theory_log.specs.RedoPoints.{Covers, redo_point}
 use Rattle.im_theory_log.specs.Lawful.{IsLawful}
 use Rattle.im_theory_log.specs.Writer.{Writer}
@@ -26,6 +27,7 @@ use Rattle.im_restart_analysis.specs.Analysis.{Continues}
 use Rattle.im_restart_analysis.specs.Losers.{is_loser}
 use Rattle.im_restart_analysis.specs.Numbers.{IsNextNumber}
 use Rattle.im_restart_analysis.specs.Orderly.{FitsBehind, IsCounted, IsOrderly, IsReadable, pages_at_first}
+use Rattle.im_restart_analysis.specs.Within.{IsWithin, greatest_said}
 use Rattle.im_restart_redo.specs.Redo.{AreApplicable, applied_in, first_lsn}
 use Rattle.im_restart_undo.specs.Undoing.{CanNotSplit}
 use Rattle.im_restart.specs.declared.redo_report.RedoReport.{RedoReport}
@@ -68,6 +70,10 @@ pub record HasStore (b : Base) (base : ℕ) (all : History) (files : Files) : Ty
   pub covers : Covers b all (file_page (files Pages))
   pub newest : IsNewest files
 
+-- The pages that the records name are below a page count that an image of page 0 in the log says, or page 0 of the file: a log that goes on does not say how many pages it found.
+abbrev pub NamesWithin : History → Files → Type 0
+NamesWithin all files = IsWithin (named_to all) (greatest_said all) (file_page (files Pages) 0)
+
 -- What a restart can start from: a lawful log that covers the pages. What the log is over has no LSN above its first byte, and, of a first log, says no more pages than such a one begins with.
 pub record MayRestart (b : Base) (base : ℕ) (all : History) (files : Files) : Type 0 where
   pub start : b.start ≤ base
@@ -75,12 +81,13 @@ pub record MayRestart (b : Base) (base : ℕ) (all : History) (files : Files) : 
   pub has : HasStore b base all files
   pub lawful : IsLawful b page_tree all
 
--- What redo alone brings back, whether the log is lawful or not: a log that covers the pages, each of whose records can be applied to its page as the records before it left that, and that leaves nothing to undo.
+-- What redo alone brings back, whether the log is lawful or not: a log that covers the pages, each of whose records can be applied to its page as the records before it left that, that names no page above the page counts said, and that leaves nothing to undo.
 pub record MayRedo (b : Base) (base : ℕ) (all : History) (files : Files) : Type 0 where
   pub start : b.start ≤ base
   pub has : HasStore b base all files
   pub rises : Rises b all
   pub taken : AreTaken (pages_at_first base) all
+  pub within : NamesWithin all files
   pub can : AreApplicable b all
   pub done : LeavesNoUndo all
 

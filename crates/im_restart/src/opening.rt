@@ -9,7 +9,7 @@ ghost use Rattle.im_theory_log.specs.Writer.{Writer};
 ghost use Rattle.im_theory_log.specs.WriterSteps.{opened};
 ghost use Rattle.im_base_disk.specs.Disk.{Only};
 ghost use Rattle.im_base_disk.specs.Runs.{IsSynced, Reads};
-ghost use Rattle.im_log_gate.specs.Header.{IsMade};
+ghost use Rattle.im_log_gate.specs.Header.{IsMade, IsUnmade};
 ghost use Rattle.im_theory_page.specs.PageFile.{file_page};
 ghost use Rattle.im_log.specs.LogFile.{IsOpen};
 ghost use Rattle.im_restart_analysis.specs.Analysis.{IsAnalysis};
@@ -25,7 +25,9 @@ ghost use Rattle.im_restart.specs.Opening.{Opens};
 ghost use Rattle.im_restart.specs.Reading.{IsFound};
 ghost use Rattle.im_restart.specs.StructureChange.{IsTakingBack};
 ghost use Rattle.im_restart.specs.Undoing.{UndoKept};
-ghost use Rattle.im_restart.specs.Restart.{IsFresh, SpellsLog, LeavesNoUndo, MayRedo, MayRestart, RestartKept, RunsOut, SettleKept};
+ghost use Rattle.im_log.specs.Kept.{IsLogOf};
+ghost use Rattle.im_restart_analysis.specs.Orderly.{pages_at_first};
+ghost use Rattle.im_restart.specs.Restart.{AreTaken, IsFresh, SpellsLog, LeavesNoUndo, MayRedo, MayRestart, NamesWithin, RestartKept, RunsOut, SettleKept};
 
 use crate::found::Found;
 use crate::reading::open_log;
@@ -225,6 +227,7 @@ fn restart_tested<D: Disk, H: Redoes>(
         → IfErr result (λ e. e ≡ Capacity → RunsOut b all) }
     ensures redoes { (b : Base) (base : ℕ) (all : History) → MayRedo b base all (D.seen disk.old) → Only Pages (D.seen disk.old) (D.may_leave disk.old) → Only Log2 (D.seen disk.old) (D.may_leave disk.old) → IsFound D.Disk base all found disk.old
         → IfErr result (λ e. e ≢ NotAStore) }
+    ensures within { (base : ℕ) (all : History) → IsFound D.Disk base all found disk.old → IfOk result (λ _. NamesWithin all (D.seen disk.old)) }
 {
     check_file(
         disk,
@@ -242,8 +245,9 @@ fn restart_tested<D: Disk, H: Redoes>(
 /// Refused `NotAStore` where the bytes are no store, or there are pages without a log; `Capacity` where the key of a delete is put back into
 /// a full leaf, and page numbers or levels are used up, so that the leaf can't be split; `LogFull` only where the log's file then ends less
 /// than 32,778 bytes below LSN 2^62; `Memory`; `Device`. Where the log's bytes are no log's, one of its records leads to a later one
-/// or names a page that no page count before it has, or one opens a structure change beside another's, nothing is written. A log that leaves nothing to undo is refused `NotAStore` only where
-/// analysis does not take one of its records, it does not cover the pages, or a page does not take its record.
+/// or names a page that no page count before it has, or one opens a structure change beside another's, nothing is written. Where a log that goes on names a page that no image of
+/// page 0 in it counts, and page 0 of the file does not, it is refused `NotAStore`. A log that leaves nothing to undo is refused `NotAStore` only where
+/// analysis does not take one of its records, it names such a page, it does not cover the pages, or a page does not take its record.
 pub fn open_or_create<D: Disk, H: Redoes>(
     how: &H,
     alloc: Global,
@@ -268,6 +272,8 @@ pub fn open_or_create<D: Disk, H: Redoes>(
     ensures kept { (b : Base) (base : ℕ) (all : History) → D.tells → MayRestart b base all (D.seen disk.old) → RestartKept D.Disk b base all disk.old disk.new result }
     ensures used_up { (b : Base) (base : ℕ) (all : History) → D.tells → MayRestart b base all (D.seen disk.old) → IfErr result (λ e. e ≡ Capacity → RunsOut b all) }
     ensures redoes { (b : Base) (base : ℕ) (all : History) → D.tells → MayRedo b base all (D.seen disk.old) → IfErr result (λ e. e ≢ NotAStore) }
+    ensures within { (base : ℕ) (all : History) → D.tells → IsLogOf base all (D.seen disk.old Log) → (IsUnmade (D.seen disk.old Log) → length (D.seen disk.old Pages) ≡ 0) → AreTaken (pages_at_first base) all
+        → IfOk result (λ _. NamesWithin all (D.seen disk.old)) }
     ensures unspelled { D.tells → ¬ (SpellsLog (D.seen disk.old)) → Reads D.Disk disk.old disk.new × IfErr result (λ e. (e ≡ Memory) ⊎ (e ≡ Device) ⊎ (e ≡ NotAStore)) }
 {
     let found = open_log(alloc, disk, batches)?;

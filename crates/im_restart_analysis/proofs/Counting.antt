@@ -1,17 +1,18 @@
 -- Page counts that records say, and the pages that they name.
-use Rattle.std.proofs.Common.{◌≡◌, ◌≢◌, ◌≤◌, ◌-◌, ◌^◌, inl, inr, ℕ, ◌++◌, Bool, true, false, List, Option, None, Some, refl, sym, ◌∙◌, ap, arith, replicate, if◌then◌else◌, ◌==◌}
+use Rattle.std.proofs.Common.{◌≡◌, ◌≢◌, ◌-◌, ◌^◌, inl, inr, ℕ, ◌∷◌, ◌++◌, max, Bool, true, false, List, Option, None, Some, refl, sym, ◌∙◌, ap, arith, replicate, if◌then◌else◌, ◌==◌}
 use Rattle.std.proofs.lemmas.Bool.{cases_eq, cond-true, cond-false, eq-eqb, ne_eqb}
 use Rattle.std.proofs.lemmas.List.{get_or-append-add}
 use Rattle.im_base_types.specs.Pages.{Page}
-use Rattle.im_base_types.specs.Records.{Unreadable}
-use Rattle.im_theory_log.specs.Histories.{Base}
+use Rattle.im_base_types.specs.Records.{Logged, Unreadable}
+use Rattle.im_theory_log.specs.Histories.{Base, History}
 use Rattle.im_theory_log.specs.PageCounts.{count_in, first_count}
 use Rattle.im_restart_analysis.specs.Orderly.{IsCounted, IsCountedBy, pages_at_first}
+use Rattle.im_restart_analysis.specs.Within.{greatest_in, greatest_said}
 use Rattle.im_theory_page.specs.Number.{u32_at}
 use Rattle.im_theory_page.specs.Page.{is_form, page_of, said_by}
 use Rattle.im_log_record.specs.Entry as entries
 use Rattle.im_log_record.specs.Entry.{Entry}
-use Rattle.im_log.specs.Whats.{page_behind, smo_of, undo_smo_of, what_of}
+use Rattle.im_log.specs.Whats.{image_of, page_behind, smo_of, undo_smo_of, what_of}
 
 -- ---- what a log begins with
 
@@ -56,3 +57,41 @@ pub said_at : (entry : Entry) (p : ℕ) (body : List ℕ) (result : ℕ) → res
     → result ≡ (if entries.page_of entry == 0 then count_in (what_of entry) else 0)
 said_at entry p body result says page count =
     says ∙ ap (λ (n : ℕ). if p == 0 then n else 0) (sym count) ∙ ap (λ (q : ℕ). if q == 0 then count_in (what_of entry) else 0) (sym page)
+
+-- ---- the greatest page count that images of page 0 say
+
+-- of the images of a structure change
+pub smo_greatest : (before after : Option Page) (old new : List ℕ) → before ≡ page_behind old → after ≡ page_behind new → smo_of before after ≢ Unreadable → greatest_in (smo_of before after) ≡ max (u32_at old 16) (u32_at new 16)
+smo_greatest None after old new was is readable = absurd (readable refl)
+smo_greatest (Some b) None old new was is readable = absurd (readable refl)
+smo_greatest (Some b) (Some a) old new was is readable =
+    let low = behind_count old b (sym was) in
+    let high = behind_count new a (sym is) in
+    ap (λ (n : ℕ). max n a.body.leftmost) low ∙ ap (λ (n : ℕ). max (u32_at old 16) n) high
+
+pub undo_greatest : (after : Option Page) (bytes : List ℕ) → after ≡ page_behind bytes → undo_smo_of after ≢ Unreadable → greatest_in (undo_smo_of after) ≡ u32_at bytes 16
+undo_greatest None bytes is readable = absurd (readable refl)
+undo_greatest (Some a) bytes is readable = behind_count bytes a (sym is)
+
+pub image_greatest : (copy : Option Page) (bytes : List ℕ) → copy ≡ page_of bytes → image_of copy ≢ Unreadable → greatest_in (image_of copy) ≡ u32_at bytes 24
+image_greatest None bytes is readable = absurd (readable refl)
+image_greatest (Some c) bytes is readable = ap (λ (g : Page). g.body.leftmost) (sym (said_is bytes c (sym is)))
+
+-- a record of this page, whose images say this
+pub greatest_at : (entry : Entry) (p n result : ℕ) → result ≡ (if p == 0 then n else 0) → entries.page_of entry ≡ p → greatest_in (what_of entry) ≡ n
+    → result ≡ (if entries.page_of entry == 0 then greatest_in (what_of entry) else 0)
+greatest_at entry p n result says page count =
+    says ∙ ap (λ (m : ℕ). if p == 0 then m else 0) (sym count) ∙ ap (λ (q : ℕ). if q == 0 then greatest_in (what_of entry) else 0) (sym page)
+
+-- with a record more
+pub said_more : (r : Logged) (older : History) (old n : ℕ) → old ≡ greatest_said older → n ≡ (if r.page == 0 then greatest_in r.what else 0) → max old n ≡ greatest_said (r ∷ older)
+said_more r older old n was says = elim (cases_eq r.page 0) [
+  | inl here ↦ (
+      let one : greatest_said (r ∷ older) ≡ max (greatest_in r.what) (greatest_said older) = cond-true (r.page == 0) (max (greatest_in r.what) (greatest_said older)) (greatest_said older) (eq-eqb r.page 0 here) in
+      let two : n ≡ greatest_in r.what = says ∙ cond-true (r.page == 0) (greatest_in r.what) 0 (eq-eqb r.page 0 here) in
+      omega (arith, one, two, was))
+  | inr other ↦ (
+      let one : greatest_said (r ∷ older) ≡ greatest_said older = cond-false (r.page == 0) (max (greatest_in r.what) (greatest_said older)) (greatest_said older) (ne_eqb r.page 0 other) in
+      let two : n ≡ 0 = says ∙ cond-false (r.page == 0) (greatest_in r.what) 0 (ne_eqb r.page 0 other) in
+      omega (arith, one, two, was))
+]

@@ -8,6 +8,7 @@ use Rattle.im_theory_log.specs.PageCounts.{count_in, named_to}
 use Rattle.im_restart_analysis.specs.declared.changes.Change.{Change}
 use Rattle.im_restart_analysis.specs.declared.changes.Changes.{Changes}
 use Rattle.im_restart_analysis.specs.declared.changes.LastChanges.{LastChanges}
+use Rattle.im_restart_analysis.specs.Within.{greatest_said}
 
 -- an LSN for each of some pages
 abbrev pub LastMap : Type 0
@@ -45,13 +46,15 @@ pub record IsChangedAt (log : History) (point : ℕ) (count : Option ℕ) (p l :
 abbrev pub AreChangedAt : History → ℕ → Option ℕ → LastMap → Type 0
 AreChangedAt log point count lsns = (p l : ℕ) → get nat_cmp lsns p ≡ Some l → IsChangedAt log point count p l
 
--- From its start on each change of the log is kept, and below it LSNs at which records changed pages; the pages that records name are below this number.
+-- From its start on each change of the log is kept, and below it LSNs at which records changed pages; the pages that records name are below this number, and this is the greatest page count that images of page 0 say.
 pub record AreChanges (log : History) (c : Changes) : Type 0 where
   pub all : c.all.items ≡ changes_from c.start log
   pub lsns : AreChangedAt log c.start c.count c.lsns
   pub named : c.named ≡ named_to log
+  pub said : c.said ≡ greatest_said log
 
 -- Each LSN is that of a record below the redo point that changed the page.
 pub record AreLastBelow (log : History) (point : ℕ) (last : LastChanges) : Type 0 where
   pub lsns : AreChangedAt log point last.count last.lsns
   pub named : last.named ≡ named_to log
+  pub said : last.said ≡ greatest_said log

@@ -1,9 +1,10 @@
-pub mod Losers
-pub mod Numbers
-pub mod CopyLsns
-pub mod OpenChange
-pub mod Records
 pub mod Analysis
 pub mod Changes
-pub mod Undo
+pub mod CopyLsns
+pub mod Losers
+pub mod Numbers
+pub mod OpenChange
 pub mod Orderly
+pub mod Records
+pub mod Undo
+pub mod Within

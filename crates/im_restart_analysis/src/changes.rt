@@ -10,7 +10,7 @@ ghost use Rattle.im_log.specs.Spelled.{logged_at};
 ghost use Rattle.im_log.specs.Whats.{what_of};
 ghost use Rattle.im_restart_analysis.specs.Changes.{AreChangedAt, AreChanges, AreLastBelow, IsChange, changes_from};
 
-use crate::page_counts::said_count;
+use crate::page_counts::{greatest_in, said_count};
 use im_base_types::{Fault, Lsn, PageNo};
 use im_log_record::Record;
 use std::alloc::Global;
@@ -39,6 +39,8 @@ pub struct Changes {
     /// The page count that page 0 says after its own, where that record says one.
     count: Option<PageNo>,
     named: u64,
+    /// The greatest page count that images of page 0 say, 0 without one.
+    said: PageNo,
 }
 
 /// The last change of each page below a redo point. The file of pages was synced with it, or the log has a full copy of the page.
@@ -50,6 +52,8 @@ pub struct LastChanges {
     pub count: Option<PageNo>,
     /// The least number above all pages that records of the whole log name.
     pub named: u64,
+    /// The greatest page count that images of page 0 in the whole log say, 0 where it has none.
+    pub said: PageNo,
 }
 
 // Whether a record's kind is one that changes its page.
@@ -159,6 +163,7 @@ impl Changes {
             lsns: BTreeMap::new(alloc),
             count: None,
             named: 0,
+            said: 0,
         }
     }
 
@@ -169,6 +174,7 @@ impl Changes {
         ensures causes { IfErr result (λ e. e ≡ Memory) }
     {
         self.named = max(self.named, above_named(record));
+        self.said = max(self.said, greatest_in(record));
         if !changes_since(self.start, lsn, record) {
             return Ok(());
         }
@@ -218,8 +224,15 @@ impl Changes {
             lsns,
             count,
             named,
+            said,
             ..
         } = changes;
-        Ok((LastChanges { lsns, count, named }, all))
+        let last = LastChanges {
+            lsns,
+            count,
+            named,
+            said,
+        };
+        Ok((last, all))
     }
 }

@@ -1,6 +1,6 @@
 //! The page count that the records so far said, and the pages that records name.
 
-ghost use Rattle.std.specs.Prelude.{◌≡◌, ◌≢◌, ◌⊎◌, ◌<◌, ◌≤◌, ◌-◌, ◌^◌, ◌↔◌, ◌==◌, ℕ, ◌∷◌, if◌then◌else◌, IsTrue, Some, None, slice_index};
+ghost use Rattle.std.specs.Prelude.{◌≡◌, ◌≢◌, ◌⊎◌, ◌<◌, ◌≤◌, ◌-◌, ◌^◌, ◌↔◌, ◌==◌, ℕ, ◌∷◌, max, if◌then◌else◌, IsTrue, Some, None, slice_index};
 ghost use Rattle.im_base_types.specs.Records.{Unreadable};
 ghost use Rattle.im_theory_log.specs.Histories.{History};
 ghost use Rattle.im_theory_log.specs.PageCounts.{count_in, greatest_count, names_page};
@@ -9,6 +9,7 @@ ghost use Rattle.im_log_record.specs.Entry.{view, page_of};
 ghost use Rattle.im_log.specs.Whats.{what_of};
 ghost use Rattle.im_log.specs.Spelled.{logged_at};
 ghost use Rattle.im_restart_analysis.specs.Orderly.{NamesCounted, pages_at_first};
+ghost use Rattle.im_restart_analysis.specs.Within.{greatest_in};
 
 use im_base_types::{Lsn, PageNo};
 use im_log_record::Record;
@@ -65,6 +66,57 @@ pub(crate) fn said_count(record: &Record) -> PageNo
         | Record::Commit { .. }
         | Record::End { .. }
         | Record::Image { .. }
+        | Record::Checkpoint { .. } => 0,
+    }
+}
+
+// The field of a page's bytes in which page 0 says its page count.
+fn count_in_page(bytes: &[u8]) -> PageNo
+    ensures { result ≡ u32_at bytes.now 24 }
+{
+    let high = byte_at(bytes, 24) * 256 + byte_at(bytes, 25);
+    let low = byte_at(bytes, 26) * 256 + byte_at(bytes, 27);
+    high * 65536 + low
+}
+
+// The greatest page count of two images of a page, 0 for other pages than page 0.
+fn greater_at(page: PageNo, before: &[u8], after: &[u8]) -> PageNo
+    ensures { result ≡ (if page == 0 then max (u32_at before.now 16) (u32_at after.now 16) else 0) }
+{
+    if page == 0 {
+        max(count_behind(before), count_behind(after))
+    } else {
+        0
+    }
+}
+
+// What a full copy of a page says, 0 for other pages than page 0.
+fn copied_count(page: PageNo, bytes: &[u8]) -> PageNo
+    ensures { result ≡ (if page == 0 then u32_at bytes.now 24 else 0) }
+{
+    if page == 0 { count_in_page(bytes) } else { 0 }
+}
+
+/// The greatest page count that the images of page 0 in a record say, 0 for other records: of the page as it was and as it is after, and of a full copy.
+pub(crate) fn greatest_in(record: &Record) -> PageNo
+    ensures { what_of (view record.now) ≢ Unreadable → result ≡ (if page_of (view record.now) == 0 then greatest_in (what_of (view record.now)) else 0) }
+{
+    match record {
+        Record::Smo {
+            page,
+            before,
+            after,
+            ..
+        } => greater_at(*page, before, after),
+        Record::UndoSmo { page, after, .. } => count_at(*page, after),
+        Record::Image { page, bytes } => copied_count(*page, bytes),
+        Record::InsertKey { .. }
+        | Record::DeleteKey { .. }
+        | Record::UndoInsert { .. }
+        | Record::UndoDelete { .. }
+        | Record::DummyClr { .. }
+        | Record::Commit { .. }
+        | Record::End { .. }
         | Record::Checkpoint { .. } => 0,
     }
 }

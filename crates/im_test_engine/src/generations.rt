@@ -6,7 +6,7 @@ use im_base_disk::read_vec;
 use im_base_model_disk::ModelDisk;
 use im_base_steps::Step;
 use im_base_two_logs::{Renamed, TwoLogs};
-use im_base_types::FileId;
+use im_base_types::{Fault, FileId};
 use im_engine::{Config, Engine};
 use std::alloc::Global;
 use std::process::Abort;
@@ -90,5 +90,45 @@ fn look_again<D: TwoLogs>(
 ) -> Result<(), Fail> {
     assert!(rt; engine.entries(alloc)?.len() == 301);
     assert!(rt; insert(alloc, engine, 3, 301)? == (Said::Inserted, Said::Committed));
+    Ok(())
+}
+
+// The place in that log of the page that its first record names.
+const NAMED: usize = 73;
+
+// What an opening is refused for of these files, where the first record of their log names this page.
+fn refused_with<R: Threads + Sync>(
+    rt: &R,
+    alloc: Global,
+    log: &[u8],
+    pages: &[u8],
+    page: u32,
+) -> Result<Option<Fault>, Fail> {
+    let mut log = Vec::from_slice(alloc, log)?;
+    let pages = Vec::from_slice(alloc, pages)?;
+    for (byte, new) in log.iter_mut().skip(NAMED).zip(page.to_be_bytes()) {
+        *byte = new;
+    }
+    Ok(opened(rt, alloc, ModelDisk::new(log, pages), Config::default()).err())
+}
+
+// Page 0 of the file says four pages, and no record of the log says a page count.
+#[test]
+fn a_page_that_no_page_count_has_is_refused(rt: HostRuntime) -> Result<(), Fail> {
+    let alloc = rt.alloc();
+    let pages = pages_of_many(&rt, alloc)?;
+    let mut engine = goes_on(&rt, alloc, pages)?;
+    let told = insert(alloc, &mut engine, 2, 300);
+    let disk = engine.into_disk().into_disk();
+    assert!(rt; told? == (Said::Inserted, Said::Committed));
+    let mut left = disk.after_stop(alloc)?;
+    let long = left.end(FileId::Log) as usize;
+    let log = read_vec(alloc, &mut left, FileId::Log, 0, long)?;
+    let long = left.end(FileId::Pages) as usize;
+    let pages = read_vec(alloc, &mut left, FileId::Pages, 0, long)?;
+    assert!(rt; log[NAMED..NAMED + 4] == [0, 0, 0, 3][..]);
+    assert!(rt; refused_with(&rt, alloc, &log, &pages, 3)?.is_none());
+    assert!(rt; refused_with(&rt, alloc, &log, &pages, 4)? == Some(Fault::NotAStore));
+    assert!(rt; refused_with(&rt, alloc, &log, &pages, 1 << 31)? == Some(Fault::NotAStore));
     Ok(())
 }

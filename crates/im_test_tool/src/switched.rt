@@ -68,7 +68,14 @@ enum Log {
 }
 
 // What is written at a place of a log, and what the check says of the files then.
-static DAMAGES: [(Log, usize, &[u8], &str); 7] = [
+static DAMAGES: [(Log, usize, &[u8], &str); 8] = [
+    // The first record names page 4096.
+    (
+        Log::Newer,
+        73,
+        &[0, 0, 0x10, 0],
+        "page 0: it says 2 pages, and the log names page 4096: a record of the log is damaged, or the page is older than the log\n",
+    ),
     (
         Log::Newer,
         16,

@@ -5,7 +5,7 @@ use crate::log_bytes::Survey;
 use crate::page_damage::PageDamage;
 use im_base_types::{Fault, FileId, Lsn, PAGE_SIZE, PageNo};
 use im_page::Page;
-use im_restart_analysis::LastChanges;
+use im_restart_analysis::{LastChanges, pages_at_first};
 use std::alloc::Global;
 
 /// The most damages that are listed.
@@ -61,7 +61,11 @@ pub fn compare_pages<F: Files>(
             break;
         }
         piece.hold(files, place, PAGE_SIZE)?;
-        compare(&mut compared, said, number, piece.held(place, PAGE_SIZE))?;
+        let bytes = piece.held(place, PAGE_SIZE);
+        compare(&mut compared, said, number, bytes)?;
+        if number == 0 {
+            compare_names(&mut compared, &said.last, bytes)?;
+        }
         place = place.saturating_add(PAGE_SIZE as u64);
     }
     Ok(compared)
@@ -122,6 +126,21 @@ fn compare(
     }
     if number == 0 && lsn == least {
         return compare_count(compared, count, bytes);
+    }
+    Ok(())
+}
+
+// The pages that records name, with the page counts that the log says, and else with that of page 0.
+fn compare_names(compared: &mut Compared, last: &LastChanges, bytes: &[u8]) -> Result<(), Fault> {
+    if last.named <= u64::from(pages_at_first(0).max(last.said)) {
+        return Ok(());
+    }
+    let count = match Page::read(bytes) {
+        Ok(page) => page.leftmost(),
+        Err(_) => 0,
+    };
+    if last.named > u64::from(count) {
+        return compared.note(PageDamage::Names(count, last.named.saturating_sub(1)));
     }
     Ok(())
 }

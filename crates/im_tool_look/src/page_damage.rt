@@ -16,4 +16,6 @@ pub enum PageDamage {
     Older(PageNo, Lsn, Lsn),
     #[error("page 0: it says {0} pages, and the record that wrote it says {1}")]
     Count(PageNo, PageNo),
+    #[error("page 0: it says {0} pages, and the log names page {1}: a record of the log is damaged, or the page is older than the log")]
+    Names(PageNo, u64),
 }

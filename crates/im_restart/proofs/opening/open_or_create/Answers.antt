@@ -1,11 +1,15 @@
-use Rattle.std.proofs.Common.{rules, ◌≡◌, ◌≢◌, refl, inl}
+use Rattle.std.proofs.Common.{rules, ◌≡◌, ◌≢◌, ℕ, List, refl, inl, subst}
+use Rattle.std.specs.Prelude.{IfOk}
 use Rattle.im_base_types.specs.declared.fault.Fault.TheVariants.{Capacity, NotAStore}
 use Rattle.im_base_types.specs.declared.file_id.FileId.TheVariants.{Log, Pages, Log2}
 use Rattle.im_page_writer.proofs.LoggedChanges.{err_on}
 use Rattle.im_page_writer.proofs.Outcomes.{sound_also, sound_on}
+use Rattle.im_theory_log.specs.PageCounts.{named_to}
+use Rattle.im_theory_page.specs.PageFile.{file_page}
 use Rattle.im_theory_tree.specs.Theory.{page_tree}
 use Rattle.im_theory_tree.proofs.TheoryLaws.{page_tree_laws}
 use Rattle.im_restart_analysis.specs.Orderly.{pages_at_first}
+use Rattle.im_restart_analysis.specs.Within.{IsWithin, greatest_said}
 use Rattle.im_restart_analysis.proofs.Counting.{counted_by}
 use Rattle.im_restart.specs.Restart.{RunsOut}
 use Rattle.im_restart.proofs.Ends.{opens_read, opens_refused, read_cause}
@@ -85,3 +89,8 @@ returns-clause-used_up g c b base all told may =
     let k = c.in_ok-found.ensures.kept base all told may.has.log may.has.bare (lawful_taken b page_tree (pages_at_first base) page_tree_laws (counted_by b base may.counted) all may.lawful) in
     let behind = may_behind d b base all old mid c.in_ok-found.found.log may c.in_ok-found.ensures.changes c.in_ok-found.ensures.reads k.ok.log in
     c.restart_tested.ensures.used_up b base all behind (pages_synced d b base all old mid c.in_ok-found.ensures.changes (c.requires.synced Pages)) (other_synced d b base all old mid c.in_ok-found.ensures.changes (c.requires.synced Log2)) k.ok
+
+pub returns-clause-within : goal.returns-clause-within
+returns-clause-within g c base all told of bare taken =
+    let k = c.in_ok-found.ensures.kept base all told of bare taken in
+    subst (λ (f : List ℕ). IfOk c.restart_tested.result (λ _. IsWithin (named_to all) (greatest_said all) (file_page f 0))) (c.in_ok-found.ensures.changes.seen Pages (λ e. cc e)) (c.restart_tested.ensures.within base all k.ok)

@@ -4,14 +4,19 @@ use Rattle.im_base_types.specs.declared.file_id.FileId.TheVariants.{Log, Pages, 
 use Rattle.im_base_disk.specs.Disk.{Files}
 use Rattle.im_base_disk.proofs.Runs.{only_reads, spares_reads}
 use Rattle.im_theory_log.proofs.Fronts.{rises}
+use Rattle.im_theory_log.specs.RedoPoints.{redo_point}
 use Rattle.im_log.proofs.Above.{open_spared}
 use Rattle.im_log_gate.specs.Header.{least_number}
 use Rattle.im_page_file.proofs.LogEnds.{still_working}
 use Rattle.im_page_writer.proofs.LoggedChanges.{err_on}
 use Rattle.im_page_writer.proofs.Outcomes.{sound_also, sound_on}
+use Rattle.im_theory_page.specs.PageFile.{file_page}
 use Rattle.im_theory_tree.specs.Theory.{page_tree}
+use Rattle.im_theory_tree.proofs.TheoryLaws.{page_tree_laws}
+use Rattle.im_restart_analysis.proofs.CountedPages.{names_within, noted_within}
 use Rattle.im_restart.specs.Restart.{MayRedo, MayRestart, RunsOut}
 use Rattle.im_restart.proofs.Ends.{opens_read, opens_refused, read_cause}
+use Rattle.im_restart.proofs.Openings.{holds_if_ok}
 use Rattle.im_restart.proofs.Restarts.{found_read, left_reading, log_over, log_synced, opened_behind, pages_read}
 use Rattle.im_restart.proofs.Steps.{left_then}
 use Rattle.im_restart.proofs.opening.restart_tested.Goals as goal
@@ -27,7 +32,8 @@ returns-in_err-check_file-clause-kept g c b base all may pages other is =
     let old = c.args.disk.now in
     let log = c.args.found.log in
     let over = log_over d b base all log old c.durable_end.result may.start c.requires.ready is.log c.durable_end.ensures in
-    let sound = c.in_err-check_file.ensures.sound b all is.log.tells (rises b page_tree all may.lawful) over may.has.covers is.last is.analysis.copies in
+    let within = names_within b page_tree page_tree_laws all (file_page (d.seen old Pages)) may.lawful may.has.covers in
+    let sound = c.in_err-check_file.ensures.sound b all is.log.tells (rises b page_tree all may.lawful) over may.has.covers is.last is.analysis.copies within in
     record {
       sound = sound_on c.from_residual.result _ _ c.from_residual.ensures.1 sound;
       stops = left_reading d b base all old c.check_file.new.disk (g.met.D.Disk.only_now old) (log_synced d b base all log old c.requires.ready c.requires.usable) pages other may.has may.lawful c.in_err-check_file.ensures.reads;
@@ -36,7 +42,7 @@ returns-in_err-check_file-clause-kept g c b base all may pages other is =
 pub returns-in_err-check_file-clause-redoes : goal.returns-in_err-check_file-clause-redoes
 returns-in_err-check_file-clause-redoes g c b base all may pages other is =
     let over = log_over g.D.Disk b base all c.args.found.log c.args.disk.now c.durable_end.result may.start c.requires.ready is.log c.durable_end.ensures in
-    let sound = c.in_err-check_file.ensures.sound b all is.log.tells may.rises over may.has.covers is.last is.analysis.copies in
+    let sound = c.in_err-check_file.ensures.sound b all is.log.tells may.rises over may.has.covers is.last is.analysis.copies may.within in
     err_on c.from_residual.result c.in_err-check_file.field-0.0 (λ e. e ≢ NotAStore) c.from_residual.ensures.1 sound
 
 pub restart-requires-clause-ready : goal.restart-requires-clause-ready
@@ -83,3 +89,7 @@ returns-clause-used_up g c b base all may pages other is =
     let reads = c.in_ok-check_file.ensures.reads in
     let again = subst (λ (f : Files). MayRestart b base all f) (sym reads.seen) may in
     c.restart.ensures.used_up b base all again (pages_read d b base all old mid reads pages) (only_reads d Log2 old mid reads other) (found_read d b base all c.args.found old mid reads is)
+
+pub returns-clause-within : goal.returns-clause-within
+returns-clause-within g c base all is =
+    holds_if_ok c.restart.result (noted_within all (redo_point all) c.args.found.last (file_page (g.D.Disk.seen c.args.disk.now Pages) 0) is.last (c.in_ok-check_file.ensures.within is.log.tells))

@@ -16,4 +16,5 @@ returns-clause-kept c log is =
       all = left ∙ ap (λ xs. filter (λ (x : Change). nat_le c.args.point x.lsn) xs) is.all ∙ changes_since old.start c.args.point log le;
       lsns = c.in_ok-self.ensures.kept log logged (changed_below log old.start c.args.point old.count old.lsns le is.lsns);
       named = is.named;
+      said = is.said;
     }
