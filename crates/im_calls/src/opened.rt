@@ -108,7 +108,7 @@ impl<D: TwoLogs + Drop> Opened<D> {
         tell_numbers(call, &numbers);
     }
 
-    /// Leaves a long log for an empty one, or writes all pages and takes a Checkpoint, and ends the store.
+    /// Leaves a log of the first format, then a long log for an empty one, or writes all pages and takes a Checkpoint, and ends the store.
     pub fn close(self, call: &mut Call)
         ensures told { Says call.new 14 0 ⊎ IsRefused call.new }
         ensures question { IsAnswered call.old call.new }
@@ -117,7 +117,10 @@ impl<D: TwoLogs + Drop> Opened<D> {
             mut engine,
             mut upkeep,
         } = self;
-        let kept = upkeep.close(&mut engine);
+        let kept = match upkeep.keep(&mut engine) {
+            Ok(()) => upkeep.close(&mut engine),
+            Err(fault) => Err(fault),
+        };
         let (synced, _disk) = engine.close();
         match (kept, synced) {
             (Ok(()), Ok(())) => tell(call, 14, 0),

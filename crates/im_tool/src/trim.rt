@@ -1,6 +1,6 @@
 //! The log that a store has left, emptied.
 
-ghost use Rattle.std.specs.Prelude.{◌≢◌, ◌≤◌, IfOk, IfSome};
+ghost use Rattle.std.specs.Prelude.{◌≡◌, ◌≢◌, ◌≤◌, false, IfOk, IfSome};
 ghost use Rattle.im_base_types.specs.declared.file_id.FileId.TheVariants.{Pages};
 
 use crate::causes::Cause;
@@ -8,6 +8,7 @@ use crate::imstore::tell;
 use crate::scratch_disk::ScratchDisk;
 use crate::store::print_refused_opening;
 use crate::tasks::tell_unread;
+use im_base_disk::Disk;
 use im_base_file_disk::FileDisk;
 use im_base_types::{Fault, FileId};
 use im_tool_look::{Files, LogDamage, current_log, file_name};
@@ -68,9 +69,10 @@ fn trim<W: Write>(rt: &HostRuntime, dir: &str, writer: &mut W, files: FileDisk) 
     }
 }
 
-// A log that is not the current one, and how many bytes it has.
+// A log that is not the current one, and how many bytes it has; and the file of the current one.
 #[derive(Clone, Copy)]
 struct LeftLog {
+    current: FileId,
     file: FileId,
     bytes: u64,
 }
@@ -85,7 +87,19 @@ fn left_log(alloc: Global, disk: &mut ScratchDisk) -> Result<Option<LeftLog>, Lo
     if log.start.is_none() || bytes == 0 {
         return Ok(None);
     }
-    Ok(Some(LeftLog { file, bytes }))
+    Ok(Some(LeftLog {
+        current: log.file,
+        file,
+        bytes,
+    }))
+}
+
+// Takes the bytes of the log away that was left. The current one is brought to the disk first: a program that was stopped may have made it a log in the
+// system's memory alone, and without the other there would be none.
+fn is_emptied(files: &mut FileDisk, left: LeftLog) -> bool
+    requires working { ⟦<FileDisk as Disk>⟧.failed files.old ≡ false }
+{
+    files.sync(left.current).is_ok() && files.empty(left.file).is_ok()
 }
 
 // Empties it, and says how many bytes it had.
@@ -101,7 +115,7 @@ fn empty<W: Write>(
     let Some(mut files) = disk.into_files() else {
         return Ok(1);
     };
-    if !files.has_failed() && files.empty(left.file).is_ok() {
+    if !files.has_failed() && is_emptied(&mut files, left) {
         writeln!(writer, "trimmed {}", left.bytes)?;
         return Ok(0);
     }
