@@ -94,7 +94,7 @@ fn look_again<D: TwoLogs>(
 }
 
 // The place in that log of the page that its first record names.
-const NAMED: usize = 73;
+const NAMED: usize = 81;
 
 // What an opening is refused for of these files, where the first record of their log names this page.
 fn refused_with<R: Threads + Sync>(

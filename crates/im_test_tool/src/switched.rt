@@ -72,7 +72,7 @@ static DAMAGES: [(Log, usize, &[u8], &str); 8] = [
     // The first record names page 4096.
     (
         Log::Newer,
-        73,
+        81,
         &[0, 0, 0x10, 0],
         "page 0: it says 2 pages, and the log names page 4096: a record of the log is damaged, or the page is older than the log\n",
     ),
