@@ -31,4 +31,4 @@ returns-in_err-check_named-clause-sound g c b all told up over covers changed co
     let last = c.args.last.now in
     let noted = within_noted all (redo_point all) last (file_page (g.D.Disk.seen c.args.disk.now Pages) 0) changed within in
     let here = subst (λ (f : Files). IsWithin last.named last.said (file_page (f Pages) 0)) (sym c.in_ok-len.ensures.reads.seen) noted in
-    err_on c.from_residual.result c.in_err-check_named.field-0.0 (λ e. e ≢ NotAStore) c.from_residual.ensures.1 (c.in_err-check_named.ensures.sound told here)
+    err_on c.from_residual-in_err-check_named.result c.in_err-check_named.field-0.0 (λ e. e ≢ NotAStore) c.from_residual-in_err-check_named.ensures.1 (c.in_err-check_named.ensures.sound told here)
