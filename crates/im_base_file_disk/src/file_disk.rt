@@ -6,8 +6,8 @@ ghost use Rattle.im_base_file_disk.specs.RealFiles.{IsApart, HasOwnDescriptors, 
 
 use crate::folders::{make_folders, sync_folders};
 use crate::fronts::{
-    FRONT, Front, UNMADE_LOG, current_base, lacks_first_byte, lacks_other, lacks_pages,
-    may_be_store,
+    FRONT, Front, Logs, UNMADE_LOG, current_base, lacks_first_byte, lacks_other, lacks_pages,
+    left_front, may_be_store,
 };
 use crate::{DiskCall, DiskError, OpenError};
 use im_base_disk::{Count, Disk};
@@ -66,15 +66,15 @@ impl FileDisk {
         let log = open_file(rt, log_path.as_str(), &options)?;
         lock(&log)?;
         let found = open_if_made(rt, dir, &options)?;
-        let (is_made, base) = logs_say(&log, found.as_ref())?;
-        if !may_make_pages(is_made, fs::exists(rt, pages_path.as_str())?) {
+        let logs = logs_say(&log, found.as_ref())?;
+        if !may_make_pages(logs.is_made, fs::exists(rt, pages_path.as_str())?) {
             return Err(OpenError::NoPages);
         }
         let pages = open_file(rt, pages_path.as_str(), &options)?;
-        has_whole_pages(&pages, base)?;
+        has_whole_pages(&pages, &logs)?;
         let log2 = made(rt, dir, &options, found)?;
         sync_all(&[&log, &log2, &pages, &folder])?;
-        if !is_made {
+        if !logs.is_made {
             sync_folders(rt, dir)?;
         }
         Ok(FileDisk {
@@ -224,9 +224,9 @@ fn open_files(rt: &HostRuntime, dir: &str, options: &OpenOptions) -> Result<File
     let log = open_file(rt, log_path.as_str(), options)?;
     lock(&log)?;
     let log2 = open_if_made(rt, dir, options)?;
-    let (_, base) = logs_say(&log, log2.as_ref())?;
+    let logs = logs_say(&log, log2.as_ref())?;
     let pages = open_file(rt, pages_path.as_str(), options)?;
-    has_whole_pages(&pages, base)?;
+    has_whole_pages(&pages, &logs)?;
     Ok(FileDisk {
         log,
         pages,
@@ -318,8 +318,8 @@ fn made(
     open_file(rt, path.as_str(), options)
 }
 
-// Whether a log says that it was made, and the LSN with which the current one begins. Nothing is written.
-fn logs_say(log: &File, log2: Option<&File>) -> Result<(bool, u64), OpenError> {
+// What the two logs say, where they are those of a store, or what a stop of a creation leaves. Nothing is written.
+fn logs_say(log: &File, log2: Option<&File>) -> Result<Logs, OpenError> {
     let front = front_of(log)?;
     let front2 = match log2 {
         Some(log2) => front_of(log2)?,
@@ -335,10 +335,11 @@ fn logs_say(log: &File, log2: Option<&File>) -> Result<(bool, u64), OpenError> {
         return Err(OpenError::NoFile("log2"));
     }
     if may_be_store(front.long, front.bytes[0], front2.long, front2.bytes[0]) {
-        return Ok((
-            front.is_made() || front2.is_made(),
-            current_base(&front.bytes, &front2.bytes),
-        ));
+        return Ok(Logs {
+            is_made: front.is_made() || front2.is_made(),
+            base: current_base(&front.bytes, &front2.bytes),
+            left: left_front(&front.bytes, &front2.bytes),
+        });
     }
     Err(OpenError::NotALog(if front.long > UNMADE_LOG {
         "log"
@@ -356,14 +357,14 @@ fn front_of(file: &File) -> Result<Front, OpenError> {
     Ok(front)
 }
 
-// The file of pages has what it had when the current log began, with this LSN. Nothing is written.
-fn has_whole_pages(pages: &File, base: u64) -> Result<(), OpenError> {
+// The file of pages has what it had when the current log began. Nothing is written.
+fn has_whole_pages(pages: &File, logs: &Logs) -> Result<(), OpenError> {
     let count = len_of(pages)? / PAGE_SIZE as u64;
     let mut front = [0; 28];
     if count > 0 {
         pages.read_exact_at(&mut front, 0)?;
     }
-    if lacks_pages(base, count, &front) {
+    if lacks_pages(logs.base, count, &front, &logs.left) {
         Err(OpenError::ShortPages)
     } else {
         Ok(())

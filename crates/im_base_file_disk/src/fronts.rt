@@ -1,7 +1,7 @@
 //! What the first bytes of the two logs say of a folder.
 ghost use Rattle.std.specs.Prelude.{◌≡◌, ◌↔◌, ◌<◌, ◌≤◌, ◌==◌, if◌then◌else◌, true, length, take, drop, slice_index, replicate};
 ghost use Rattle.std.specs.Int.{w32, w64, from_be_bytes};
-ghost use Rattle.im_base_file_disk.specs.Fronts.{MayBeStore, LacksOther, LacksFirstByte, HasOwnRecord, IsCut, second_name, generation_of, base_of, current_base};
+ghost use Rattle.im_base_file_disk.specs.Fronts.{MayBeStore, LacksOther, LacksFirstByte, HasOwnRecord, HasChangeAt, BeginsWithChange, LacksCounted, IsCut, second_name, generation_of, base_of, least_of, current_base, left_front};
 
 /// So many bytes a log of the second format has up to the number of the transaction that its first record is of, and with it.
 pub(crate) const FRONT: usize = 65;
@@ -11,6 +11,9 @@ pub(crate) const UNMADE_LOG: u64 = 48;
 
 // Bytes 1 to 15 of a log of the second format: its name, the size of a page, and zeros.
 const SECOND_NAME: [u8; 15] = *b"ARIESIM2\0\0\x10\0\0\0\0";
+
+// Bytes 1 to 8 of a log of the first format.
+const FIRST_NAME: [u8; 8] = *b"ARIESIM1";
 
 /// How long a log is, and its first bytes, zeros where it has no more.
 #[derive(Clone, Copy)]
@@ -30,6 +33,17 @@ impl Front {
     pub(crate) fn is_made(&self) -> bool {
         self.bytes[0] == 1
     }
+}
+
+/// What the two logs of a folder say of it.
+#[derive(Clone, Copy)]
+pub(crate) struct Logs {
+    /// One of them says that it was made.
+    pub(crate) is_made: bool,
+    /// The LSN with which the current one begins.
+    pub(crate) base: u64,
+    /// The first bytes of the other one.
+    pub(crate) left: [u8; 65],
 }
 
 /// A store that was made says so in the first byte of a log. While its current log is one of them, a stop leaves any first byte of the other.
@@ -80,12 +94,24 @@ fn base(front: &[u8; 65]) -> u64
     }
 }
 
-// The first record is of no transaction, or of one that the header allows.
-fn has_own_record(front: &[u8; 65]) -> bool
-    ensures { (result ≡ true) ↔ HasOwnRecord front.now }
+// The least number that a transaction of a log may have: 0 where it does not say one.
+fn least(front: &[u8; 65]) -> u64
+    ensures { result ≡ least_of front.now }
 {
+    if front[0] == 1 && front[8] == b'2' {
+        number_at(front, 32)
+    } else {
+        0
+    }
+}
+
+// The first record is of a transaction that the header allows, and the header allows none that is older than the other log.
+fn has_own_record(front: &[u8; 65], other: &[u8; 65]) -> bool
+    ensures { (result ≡ true) ↔ HasOwnRecord front.now other.now }
+{
+    let allowed = number_at(front, 32);
     let txn = number_at(front, 57);
-    txn == 0 || number_at(front, 32) <= txn
+    txn > 0 && allowed <= txn && least(other) <= allowed
 }
 
 // The generation and the base that the header says are greater than the other log's.
@@ -96,10 +122,10 @@ fn is_later(front: &[u8; 65], other: &[u8; 65]) -> bool
 }
 
 // The first gate is open, and the record after it is the log's own.
-fn has_open_gate(front: &[u8; 65]) -> bool
-    ensures { (result ≡ true) ↔ (slice_index front.now 47 ≡ 1) × HasOwnRecord front.now }
+fn has_open_gate(front: &[u8; 65], other: &[u8; 65]) -> bool
+    ensures { (result ≡ true) ↔ (slice_index front.now 47 ≡ 1) × HasOwnRecord front.now other.now }
 {
-    front[47] == 1 && has_own_record(front)
+    front[47] == 1 && has_own_record(front, other)
 }
 
 /// A log of the second format was made, and there is no other log beside it. An opening makes both before it makes one of them a log.
@@ -110,8 +136,9 @@ pub(crate) fn lacks_other(front: &[u8; 65], has_other: bool) -> bool
 }
 
 /// The log was made, and its first byte does not say so any more: it has a whole header of a later generation than the other log and of a greater base, its first
-/// gate is open, and the record after it is its own. A stop while a log goes on in this file leaves that gate closed, as it is written with the header; where that write was cut,
-/// what stands there is the base, or the record, of the log that the file had before.
+/// gate is open, and the record after it is of a transaction that the header allows, which is not older than the other log. A stop while a log goes on in this file
+/// leaves that gate closed, as it is written with the header; where that write was cut, what stands there is the record of the log that the file had before, whose transaction is
+/// older than the other log, whatever the cut has left of the two headers. Where the first record is of no transaction, as a Checkpoint is, a damaged first byte is not found.
 pub(crate) fn lacks_first_byte(front: &[u8; 65], other: &[u8; 65]) -> bool
     ensures { (result ≡ true) ↔ LacksFirstByte front.now other.now }
 {
@@ -124,7 +151,7 @@ pub(crate) fn lacks_first_byte(front: &[u8; 65], other: &[u8; 65]) -> bool
     if !is_later(front, other) {
         return false;
     }
-    has_open_gate(front)
+    has_open_gate(front, other)
 }
 
 /// The LSN with which the current one of two logs begins.
@@ -136,6 +163,33 @@ pub(crate) fn current_base(front: &[u8; 65], other: &[u8; 65]) -> u64
     } else {
         base(other)
     }
+}
+
+/// The first bytes of the log that is not the current one of two.
+pub(crate) fn left_front(front: &[u8; 65], other: &[u8; 65]) -> [u8; 65]
+    ensures { result ≡ left_front front.now other.now }
+{
+    if generation(other) < generation(front) {
+        *other
+    } else {
+        *front
+    }
+}
+
+// The first gate, at this place, is open, and the record after it changes a page, as those of the kinds 1 to 6 do.
+fn has_change_at(front: &[u8; 65], gate: usize) -> bool
+    requires within { gate < 56 }
+    ensures { (result ≡ true) ↔ HasChangeAt gate front.now }
+{
+    front[gate] == 1 && front[gate + 9] >= 1 && front[gate + 9] <= 6
+}
+
+// The log, of either format, begins with a record that changes a page.
+fn begins_with_change(front: &[u8; 65]) -> bool
+    ensures { (result ≡ true) ↔ BeginsWithChange front.now }
+{
+    (front[1..9] == FIRST_NAME[..] && has_change_at(front, 31))
+        || (front[1..9] == SECOND_NAME[..8] && has_change_at(front, 47))
 }
 
 // The LSN of page 0.
@@ -156,15 +210,20 @@ fn page_count(front: &[u8; 28]) -> u32
     u32::from_be_bytes(number)
 }
 
-/// The file of pages, of so many whole pages, whose first has these first bytes, was cut. A log goes on in the other file once every page that was ever changed is in its own, and no write
-/// makes a file shorter: so that file has each page that page 0 counts, as long as page 0 is as it was then; and where it has none at all, no key was ever there, and the
-/// logs have had little more than a few Checkpoints.
-pub(crate) fn lacks_pages(base: u64, pages: u64, front: &[u8; 28]) -> bool
-    ensures { (result ≡ true) ↔ IsCut base pages front.now }
+// Page 0 is older than the log, and counts more pages than the file has, and than the two that count from the start.
+fn lacks_counted(base: u64, pages: u64, front: &[u8; 28]) -> bool
+    ensures { (result ≡ true) ↔ LacksCounted base pages front.now }
 {
-    if pages == 0 {
-        base > 4096
-    } else {
-        page_lsn(front) < base && pages < u64::from(page_count(front))
-    }
+    let count = u64::from(page_count(front));
+    page_lsn(front) < base && count > 2 && pages < count
+}
+
+/// The file of pages, of so many whole pages, whose first has these first bytes, was cut. A log goes on in the other file once every page that was ever changed is in its own, and no write
+/// makes a file shorter. So that file has each page that page 0 counts, as long as page 0 is as it was then; but two count from the start, whether a key was ever there or not. And it has
+/// these two where the log that was left begins with a record that changes a page: the first such record of a store changes page 1. Also where a stop has left a later header before that record, it is of an
+/// older log. One that was left with another record or none, or was emptied, says nothing.
+pub(crate) fn lacks_pages(base: u64, pages: u64, front: &[u8; 28], left: &[u8; 65]) -> bool
+    ensures { (result ≡ true) ↔ IsCut base pages front.now left.now }
+{
+    lacks_counted(base, pages, front) || (base > 0 && pages < 2 && begins_with_change(left))
 }
