@@ -305,16 +305,54 @@ static uint64_t generation_of(const uint8_t *front)
 /* The LSN of a log's first byte: 0 in the first format. */
 static uint64_t base_of(const uint8_t *front) { return is_of_second_format(front) ? number_of(front + 24, 8) : 0; }
 
+/* The least number that a transaction of a log may have: 0 where it does not say one. */
+static uint64_t least_of(const uint8_t *front) { return is_of_second_format(front) ? number_of(front + 32, 8) : 0; }
+
+/* Whether the first record is of a transaction that the header allows, and the header allows none that is older than the other log. */
+static int has_own_record(const uint8_t *front, const uint8_t *other)
+{
+	uint64_t allowed = number_of(front + 32, 8), txn = number_of(front + 57, 8);
+	return txn > 0 && allowed <= txn && least_of(other) <= allowed;
+}
+
 /* Whether a log was made, and its first byte does not say so any more: it has a whole header of a later generation than the other log and of a
- * greater base, its first gate is open, and the record after it is its own. */
+ * greater base, its first gate is open, and the record after it is of a transaction that the header allows, which is not older than the other log.
+ * Where a stop has cut the header of a switch, what stands there is the record of the log that the file had before, whose transaction is older than
+ * the other log. Where the first record is of no transaction, as a Checkpoint is, a damaged first byte is not found. */
 static int lacks_first_byte(const uint8_t *front, const uint8_t *other)
 {
 	static const char name[] = "ARIESIM2\0\0\x10\0\0\0\0";
 	static const uint8_t zeros[7];
-	uint64_t txn = number_of(front + 57, 8);
 	return front[0] != 1 && !memcmp(front + 1, name, 15) && !memcmp(front + 40, zeros, 7)
 		&& generation_of(other) < number_of(front + 16, 8) && base_of(other) < number_of(front + 24, 8)
-		&& front[47] == 1 && (txn == 0 || number_of(front + 32, 8) <= txn);
+		&& front[47] == 1 && has_own_record(front, other);
+}
+
+/* Whether the first gate, at this place, is open, and the record after it changes a page, as those of the kinds 1 to 6 do. */
+static int has_change_at(const uint8_t *front, size_t gate)
+{
+	return front[gate] == 1 && front[gate + 9] >= 1 && front[gate + 9] <= 6;
+}
+
+/* Whether the log, of either format, begins with a record that changes a page. */
+static int begins_with_change(const uint8_t *front)
+{
+	return (!memcmp(front + 1, "ARIESIM1", 8) && has_change_at(front, 31)) || (!memcmp(front + 1, "ARIESIM2", 8) && has_change_at(front, 47));
+}
+
+/* Whether page 0 is older than the log, and counts more pages than the file has, and than the two that count from the start. */
+static int lacks_counted(uint64_t base, uint64_t pages, const uint8_t *front)
+{
+	uint64_t count = number_of(front + 24, 4);
+	return number_of(front, 8) < base && count > 2 && pages < count;
+}
+
+/* Whether the file of pages, of so many whole pages, whose first has these first bytes, was cut. At a switch every page that was ever changed is
+ * written, and no write makes a file shorter: it has each page that page 0 counts, as long as page 0 is as it was then, but for the two that count
+ * from the start; and it has these two where the log that was left begins with a record that changes a page. */
+static int lacks_pages(uint64_t base, uint64_t pages, const uint8_t *front, const uint8_t *left)
+{
+	return lacks_counted(base, pages, front) || (base > 0 && pages < 2 && begins_with_change(left));
 }
 
 /* Refuses for what is wrong with the file of this name: the words have its name once. */
@@ -325,9 +363,12 @@ static int refuse_file(struct opening *o, const char *format, const char *name)
 	return refuse(o, VAH_NOT_A_STORE, words);
 }
 
-/* Whether a log says that it was made, and the LSN with which the current one begins; refused where the two are no logs of a store, nor what a
- * stop of a creation leaves. Nothing is written. It stands for FileDisk's logs_say. */
-static int guard(struct opening *o, const int *files, int *is_made, uint64_t *base)
+/* What the two logs of a folder say of it: whether one of them was made, the LSN with which the current one begins, and the first bytes of the other. */
+struct logs { int is_made; uint64_t base; uint8_t left[65]; };
+
+/* What the two logs say; refused where they are no logs of a store, nor what a stop of a creation leaves. Nothing is written. It stands for
+ * FileDisk's logs_say. */
+static int guard(struct opening *o, const int *files, struct logs *logs)
 {
 	struct front log = { 0 }, log2 = { 0 };
 	if (front_of(o, files[LOG], &log) || (files[LOG2] >= 0 && front_of(o, files[LOG2], &log2)))
@@ -337,15 +378,17 @@ static int guard(struct opening *o, const int *files, int *is_made, uint64_t *ba
 		return refuse_file(o, "the first byte of `%s` in it is damaged: it is the newer log of the store", damaged);
 	if (is_of_second_format(log.bytes) && files[LOG2] < 0)
 		return refuse_file(o, "there is no `%s` in it", "log2");
-	*is_made = log.bytes[0] == 1 || log2.bytes[0] == 1;
-	*base = generation_of(log2.bytes) < generation_of(log.bytes) ? base_of(log.bytes) : base_of(log2.bytes);
-	if (!*is_made && (log.len > UNMADE_LOG || log2.len > UNMADE_LOG))
+	int is_first = generation_of(log2.bytes) < generation_of(log.bytes);
+	logs->is_made = log.bytes[0] == 1 || log2.bytes[0] == 1;
+	logs->base = base_of(is_first ? log.bytes : log2.bytes);
+	memcpy(logs->left, is_first ? log2.bytes : log.bytes, sizeof logs->left);
+	if (!logs->is_made && (log.len > UNMADE_LOG || log2.len > UNMADE_LOG))
 		return refuse_file(o, "`%s` in it does not begin as the log of a store", log.len > UNMADE_LOG ? "log" : "log2");
 	return 0;
 }
 
-/* Refused where the file of pages lacks pages that it had when the current log began, with this LSN. It stands for FileDisk's has_whole_pages. */
-static int guard_pages(struct opening *o, int fd, uint64_t base)
+/* Refused where the file of pages lacks pages that it had when the current log began. It stands for FileDisk's has_whole_pages. */
+static int guard_pages(struct opening *o, int fd, const struct logs *logs)
 {
 	struct stat st;
 	uint8_t front[28] = { 0 };
@@ -354,7 +397,7 @@ static int guard_pages(struct opening *o, int fd, uint64_t base)
 	uint64_t pages = (uint64_t)st.st_size / PAGE_SIZE;
 	if (pages && whole_at(fd, 0, front, sizeof front, 0))
 		return refuse_system(o);
-	if (pages ? number_of(front, 8) < base && pages < number_of(front + 24, 4) : base > 4096)
+	if (lacks_pages(logs->base, pages, front, logs->left))
 		return refuse(o, VAH_NOT_A_STORE, "`pages` in it lacks pages that the store had when its log began");
 	return 0;
 }
@@ -362,8 +405,8 @@ static int guard_pages(struct opening *o, int fd, uint64_t base)
 /* Opens, locks, guards, makes and syncs, in the order of FileDisk::open. */
 static int open_files(struct opening *o, int *files, int folder, char *path)
 {
-	int is_made, is_there;
-	uint64_t base = 0;
+	int is_there;
+	struct logs logs = { 0 };
 	if ((is_there = has_file(o, "log")) < 0 || has_file(o, "pages") < 0)
 		return -1;
 	if (!is_there && (is_there = has_bytes(o, "log2", 1)))
@@ -374,17 +417,17 @@ static int open_files(struct opening *o, int *files, int folder, char *path)
 		return errno == EWOULDBLOCK ? refuse(o, VAH_LOCKED, "the store is open elsewhere") : refuse_system(o);
 	if ((is_there = has_file(o, "log2")) < 0 || (is_there && (files[LOG2] = open_file(o, "log2")) < 0))
 		return -1;
-	if (guard(o, files, &is_made, &base) || (is_there = has_file(o, "pages")) < 0)
+	if (guard(o, files, &logs) || (is_there = has_file(o, "pages")) < 0)
 		return -1;
-	if (is_made && !is_there)
+	if (logs.is_made && !is_there)
 		return refuse(o, VAH_NOT_A_STORE, "there is no `pages` in it beside a log that was made: the pages of the store are missing");
-	if ((files[PAGES] = open_file(o, "pages")) < 0 || guard_pages(o, files[PAGES], base))
+	if ((files[PAGES] = open_file(o, "pages")) < 0 || guard_pages(o, files[PAGES], &logs))
 		return -1;
 	if (files[LOG2] < 0 && (files[LOG2] = open_file(o, "log2")) < 0)
 		return -1;
 	if (fsync(files[LOG]) || fsync(files[LOG2]) || fsync(files[PAGES]) || fsync(folder))
 		return refuse_system(o);
-	return is_made ? 0 : sync_folders(o, path);
+	return logs.is_made ? 0 : sync_folders(o, path);
 }
 
 int vah_device_open(struct device *device, const char *path, char *text, size_t size)

@@ -70,6 +70,9 @@ int main(int argc, char **argv)
 			OK(vah_commit(txns[t]));
 			txns[t] = NULL;
 			printf("committed\n");
+		} else if (!strcmp(line, "switch\n")) {
+			OK(vah_switch(store));
+			printf("done\n");
 		}
 		fflush(stdout);
 	}
