@@ -4,7 +4,7 @@ use crate::copies::{Copies, copied, copies_in, is_whole, lay, said_of};
 use crate::looked::{fill, numbers_of};
 use crate::mixed::has_part;
 use im_base_file_disk::FileDisk;
-use im_base_types::Fault;
+use im_base_types::{Fault, PAGE_SIZE};
 use std::alloc::Global;
 use std::fs;
 use std::test::Fail;
@@ -212,6 +212,64 @@ fn a_damaged_first_byte_opens_no_older_log(rt: HostRuntime) -> Result<(), Fail> 
     make_store(&rt, &rt, dir, 0)?;
     fs::remove_file(&rt, "im_tool_first_byte/log2")?;
     assert!(rt; is_refused(&rt, dir, "there is no `log2` in it")?);
+    fs::remove_dir_all(&rt, dir)?;
+    Ok(())
+}
+
+// Bytes 1 to 47 of a log of generation 4 that begins with the LSN 8,192, and allows transactions from 7 on.
+static HEADER: [u8; 47] =
+    *b"ARIESIM2\0\0\x10\0\0\0\0\0\0\0\0\0\0\0\x04\0\0\0\0\0\0\x20\0\0\0\0\0\0\0\0\x07\0\0\0\0\0\0\0\0";
+
+// A stop within the write of a switch's header leaves bytes of it, and after them a record of the log before the current one.
+#[test]
+fn a_header_that_was_cut_is_no_damage(rt: HostRuntime) -> Result<(), Fail> {
+    let dir = "im_tool_header";
+    make_store(&rt, &rt, dir, 2)?;
+    let copies = copies_in(&rt, dir)?;
+    for (cut, _) in HEADER.iter().enumerate() {
+        let mut files = copied(rt.alloc(), &copies)?;
+        lay(&mut files.log2, 0, &[0]);
+        lay(&mut files.log2, 1, HEADER.get(..cut).unwrap_or(&[]));
+        fs::write(&rt, "im_tool_header/log2", &files.log2)?;
+        assert!(rt; refused(&rt, dir)?.is_none(), "{cut}");
+    }
+    fs::remove_dir_all(&rt, dir)?;
+    Ok(())
+}
+
+// Both of the first two pages were written before the log went on, as the one before has keys.
+#[test]
+fn pages_that_were_cut_are_missed(rt: HostRuntime) -> Result<(), Fail> {
+    let dir = "im_tool_cut";
+    let words = "`pages` in it lacks pages that the store had when its log began";
+    make_store(&rt, &rt, dir, 1)?;
+    let mut copies = copies_in(&rt, dir)?;
+    copies.pages.truncate(PAGE_SIZE);
+    fs::write(&rt, "im_tool_cut/pages", &copies.pages)?;
+    assert!(rt; is_refused(&rt, dir, words)?);
+    fs::write(&rt, "im_tool_cut/pages", "")?;
+    assert!(rt; is_refused(&rt, dir, words)?);
+    fs::remove_dir_all(&rt, dir)?;
+    Ok(())
+}
+
+// A store without keys has no pages, however often its log goes on; and the first that it writes may be there alone.
+#[test]
+fn a_store_without_keys_lacks_no_pages(rt: HostRuntime) -> Result<(), Fail> {
+    let dir = "im_tool_no_keys";
+    let _ = fs::remove_dir_all(&rt, dir);
+    let mut lines = Vec::new(rt.alloc());
+    for _ in 0..100u32 {
+        lines.extend_from_slice(b"switch\n")?;
+    }
+    fill(&rt, &rt, dir, &lines)?;
+    assert!(rt; copies_in(&rt, dir)?.pages.is_empty());
+    assert!(rt; refused(&rt, dir)?.is_none());
+    fill(&rt, &rt, dir, b"begin\ninsert 1 a 1\ncommit 1\n")?;
+    let mut copies = copies_in(&rt, dir)?;
+    copies.pages.truncate(PAGE_SIZE);
+    fs::write(&rt, "im_tool_no_keys/pages", &copies.pages)?;
+    assert!(rt; refused(&rt, dir)?.is_none());
     fs::remove_dir_all(&rt, dir)?;
     Ok(())
 }
