@@ -216,9 +216,9 @@ fn a_damaged_first_byte_opens_no_older_log(rt: HostRuntime) -> Result<(), Fail> 
     Ok(())
 }
 
-// Bytes 1 to 47 of a log of generation 4 that begins with the LSN 8,192, and allows transactions from 7 on.
+// Bytes 1 to 47 of a log of generation 4 that begins with the LSN 65,536, and allows transactions from 7 on.
 static HEADER: [u8; 47] =
-    *b"ARIESIM2\0\0\x10\0\0\0\0\0\0\0\0\0\0\0\x04\0\0\0\0\0\0\x20\0\0\0\0\0\0\0\0\x07\0\0\0\0\0\0\0\0";
+    *b"ARIESIM2\0\0\x10\0\0\0\0\0\0\0\0\0\0\0\x04\0\0\0\0\0\x01\0\0\0\0\0\0\0\0\0\x07\0\0\0\0\0\0\0\0";
 
 // A stop within the write of a switch's header leaves bytes of it, and after them a record of the log before the current one.
 #[test]
