@@ -263,7 +263,8 @@ fn a_store_without_keys_lacks_no_pages(rt: HostRuntime) -> Result<(), Fail> {
         lines.extend_from_slice(b"switch\n")?;
     }
     fill(&rt, &rt, dir, &lines)?;
-    assert!(rt; copies_in(&rt, dir)?.pages.is_empty());
+    let empty = copies_in(&rt, dir)?;
+    assert!(rt; empty.pages.is_empty());
     assert!(rt; refused(&rt, dir)?.is_none());
     fill(&rt, &rt, dir, b"begin\ninsert 1 a 1\ncommit 1\n")?;
     let mut copies = copies_in(&rt, dir)?;
