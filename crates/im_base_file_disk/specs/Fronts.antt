@@ -43,6 +43,14 @@ pub record LacksFirstByte (front other : List ℕ) : Type 0 where
 abbrev pub current_base : List ℕ → List ℕ → ℕ
 current_base front other = if nat_lt (generation_of other) (generation_of front) then base_of front else base_of other
 
+-- The first bytes of the current one of two logs.
+abbrev pub current_front : List ℕ → List ℕ → List ℕ
+current_front front other = if nat_lt (generation_of other) (generation_of front) then front else other
+
+-- A log of the second format with these first bytes has a record: its first gate is open.
+abbrev pub HasRecord : List ℕ → Type 0
+HasRecord front = slice_index front 47 ≡ 1
+
 -- The first bytes of the log that is not the current one of two.
 abbrev pub left_front : List ℕ → List ℕ → List ℕ
 left_front front other = if nat_lt (generation_of other) (generation_of front) then other else front
@@ -51,14 +59,19 @@ left_front front other = if nat_lt (generation_of other) (generation_of front) t
 abbrev pub HasChangeAt : ℕ → List ℕ → Type 0
 HasChangeAt gate front = (slice_index front gate ≡ 1) × (1 ≤ slice_index front (gate + 9)) × (slice_index front (gate + 9) ≤ 6)
 
--- A log of the first format, or of the second, begins with a record that changes a page.
+-- Bytes that are named as a log of the first format, or of the second, begin with a record that changes a page.
+abbrev pub NamesChange : List ℕ → Type 0
+NamesChange front = ((take 8 (drop 1 front) ≡ codes "ARIESIM1") × HasChangeAt 31 front) ⊎ ((take 8 (drop 1 front) ≡ codes "ARIESIM2") × HasChangeAt 47 front)
+
+-- A log that was made begins so.
 abbrev pub BeginsWithChange : List ℕ → Type 0
-BeginsWithChange front = ((take 8 (drop 1 front) ≡ codes "ARIESIM1") × HasChangeAt 31 front) ⊎ ((take 8 (drop 1 front) ≡ codes "ARIESIM2") × HasChangeAt 47 front)
+BeginsWithChange front = (slice_index front 0 ≡ 1) × NamesChange front
 
 -- Page 0, with these first bytes, is older than the log with this base, and counts more pages than so many, and than two.
 abbrev pub LacksCounted : (base pages : ℕ) → List ℕ → Type 0
 LacksCounted base pages front = (from_be_bytes w64 (take 8 front) < base) × (2 < from_be_bytes w32 (take 4 (drop 24 front))) × (pages < from_be_bytes w32 (take 4 (drop 24 front)))
 
--- A file of so many whole pages lacks one that page 0 counts; or one of the first two, though the log that was left begins with a record that changes a page.
-abbrev pub IsCut : (base pages : ℕ) → (front left : List ℕ) → Type 0
-IsCut base pages front left = LacksCounted base pages front ⊎ ((0 < base) × (pages < 2) × BeginsWithChange left)
+-- A file of so many whole pages lacks one that page 0 counts, where the current log has no record, so that page 0 is as the log found it; or one of the first
+-- two, though the log that was left begins with a record that changes a page.
+abbrev pub IsCut : (base pages : ℕ) → (front left : List ℕ) → (has_record : Bool) → Type 0
+IsCut base pages front left has_record = ((has_record ≡ false) × LacksCounted base pages front) ⊎ ((0 < base) × (pages < 2) × BeginsWithChange left)

@@ -4,14 +4,14 @@ use im_base_types::FileId;
 use std::fmt::{Display, Formatter, Write};
 use std::{fmt, io};
 
-/// A call of the disk. A read and a write have the place of their first byte.
+/// A call of the disk. A read and a write have the place of their first byte, a cut the place of the first byte that goes.
 #[derive(Clone, Copy, Debug, PartialEq, Eq)]
 pub enum DiskCall {
     Len,
     Read(u64),
     Write(u64),
     Sync,
-    Empty,
+    Cut(u64),
 }
 
 /// A call of the disk that failed: which it was, on which file of the folder, and what the system said. Its words are one line.
@@ -47,7 +47,9 @@ impl Display for DiskError {
                 write!(f, "a write to `{name}` at byte {at} failed: {}", self.error)
             }
             DiskCall::Sync => write!(f, "a sync of `{name}` failed: {}", self.error),
-            DiskCall::Empty => write!(f, "`{name}` was not emptied: {}", self.error),
+            DiskCall::Cut(end) => {
+                write!(f, "`{name}` was not cut to {end} bytes: {}", self.error)
+            }
         }
     }
 }

@@ -6,8 +6,8 @@ ghost use Rattle.im_base_file_disk.specs.RealFiles.{IsApart, HasOwnDescriptors, 
 
 use crate::folders::{make_folders, sync_folders};
 use crate::fronts::{
-    FRONT, Front, Logs, UNMADE_LOG, current_base, lacks_first_byte, lacks_other, lacks_pages,
-    left_front, may_be_store,
+    FRONT, Front, Logs, UNMADE_LOG, current_base, has_record, lacks_first_byte, lacks_other,
+    lacks_pages, left_front, may_be_store,
 };
 use crate::{DiskCall, DiskError, OpenError};
 use im_base_disk::{Count, Disk};
@@ -119,8 +119,18 @@ impl FileDisk {
         requires working { ⟦<FileDisk as Disk>⟧.failed self.old ≡ false }
         ensures answers { Answers (⟦<FileDisk as Disk>⟧.failed self.new) result }
     {
-        let outcome = self.cut(file);
-        self.keep(DiskCall::Empty, file, outcome)
+        self.cut(file, 0)
+    }
+
+    /// Takes all bytes of a file away that stand at a place or after it, and brings that to the disk, as `empty` does.
+    ///
+    /// Refused `Device`.
+    pub fn cut(&mut self, file: FileId, end: u64) -> Result<(), Fault>
+        requires working { ⟦<FileDisk as Disk>⟧.failed self.old ≡ false }
+        ensures answers { Answers (⟦<FileDisk as Disk>⟧.failed self.new) result }
+    {
+        let outcome = self.shorten(file, end);
+        self.keep(DiskCall::Cut(end), file, outcome)
     }
 
     /// The last call that failed: which it was, on which file and where, and what the system said. None where none has failed.
@@ -196,9 +206,9 @@ impl FileDisk {
         self.file(file)?.sync_data()
     }
 
-    fn cut(&self, file: FileId) -> io::Result<()> {
+    fn shorten(&self, file: FileId, end: u64) -> io::Result<()> {
         let file = self.file(file)?;
-        file.set_len(0)?;
+        file.set_len(end)?;
         file.sync_all()
     }
 }
@@ -339,6 +349,7 @@ fn logs_say(log: &File, log2: Option<&File>) -> Result<Logs, OpenError> {
             is_made: front.is_made() || front2.is_made(),
             base: current_base(&front.bytes, &front2.bytes),
             left: left_front(&front.bytes, &front2.bytes),
+            has_record: has_record(&front.bytes, &front2.bytes),
         });
     }
     Err(OpenError::NotALog(if front.long > UNMADE_LOG {
@@ -364,7 +375,7 @@ fn has_whole_pages(pages: &File, logs: &Logs) -> Result<(), OpenError> {
     if count > 0 {
         pages.read_exact_at(&mut front, 0)?;
     }
-    if lacks_pages(logs.base, count, &front, &logs.left) {
+    if lacks_pages(logs.base, count, &front, &logs.left, logs.has_record) {
         Err(OpenError::ShortPages)
     } else {
         Ok(())

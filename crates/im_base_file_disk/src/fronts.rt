@@ -1,7 +1,7 @@
 //! What the first bytes of the two logs say of a folder.
 ghost use Rattle.std.specs.Prelude.{◌≡◌, ◌↔◌, ◌<◌, ◌≤◌, ◌==◌, if◌then◌else◌, true, length, take, drop, slice_index, replicate};
 ghost use Rattle.std.specs.Int.{w32, w64, from_be_bytes};
-ghost use Rattle.im_base_file_disk.specs.Fronts.{MayBeStore, LacksOther, LacksFirstByte, HasOwnRecord, HasChangeAt, BeginsWithChange, LacksCounted, IsCut, second_name, generation_of, base_of, least_of, current_base, left_front};
+ghost use Rattle.im_base_file_disk.specs.Fronts.{MayBeStore, LacksOther, LacksFirstByte, HasOwnRecord, HasRecord, HasChangeAt, NamesChange, BeginsWithChange, LacksCounted, IsCut, second_name, generation_of, base_of, least_of, current_base, current_front, left_front};
 
 /// So many bytes a log of the second format has up to the number of the transaction that its first record is of, and with it.
 pub(crate) const FRONT: usize = 65;
@@ -44,6 +44,8 @@ pub(crate) struct Logs {
     pub(crate) base: u64,
     /// The first bytes of the other one.
     pub(crate) left: [u8; 65],
+    /// The current one has a record.
+    pub(crate) has_record: bool,
 }
 
 /// A store that was made says so in the first byte of a log. While its current log is one of them, a stop leaves any first byte of the other.
@@ -165,6 +167,18 @@ pub(crate) fn current_base(front: &[u8; 65], other: &[u8; 65]) -> u64
     }
 }
 
+/// The current one of two logs, if it goes on from another, has a record: its first gate is open.
+pub(crate) fn has_record(front: &[u8; 65], other: &[u8; 65]) -> bool
+    ensures { (result ≡ true) ↔ HasRecord (current_front front.now other.now) }
+{
+    let current = if generation(other) < generation(front) {
+        front
+    } else {
+        other
+    };
+    current[47] == 1
+}
+
 /// The first bytes of the log that is not the current one of two.
 pub(crate) fn left_front(front: &[u8; 65], other: &[u8; 65]) -> [u8; 65]
     ensures { result ≡ left_front front.now other.now }
@@ -184,12 +198,19 @@ fn has_change_at(front: &[u8; 65], gate: usize) -> bool
     front[gate] == 1 && front[gate + 9] >= 1 && front[gate + 9] <= 6
 }
 
-// The log, of either format, begins with a record that changes a page.
-fn begins_with_change(front: &[u8; 65]) -> bool
-    ensures { (result ≡ true) ↔ BeginsWithChange front.now }
+// After the name of either format, a record comes first that changes a page.
+fn names_change(front: &[u8; 65]) -> bool
+    ensures { (result ≡ true) ↔ NamesChange front.now }
 {
     (front[1..9] == FIRST_NAME[..] && has_change_at(front, 31))
         || (front[1..9] == SECOND_NAME[..8] && has_change_at(front, 47))
+}
+
+// The log, of either format, was made, and begins with a record that changes a page.
+fn begins_with_change(front: &[u8; 65]) -> bool
+    ensures { (result ≡ true) ↔ BeginsWithChange front.now }
+{
+    front[0] == 1 && names_change(front)
 }
 
 // The LSN of page 0.
@@ -219,11 +240,19 @@ fn lacks_counted(base: u64, pages: u64, front: &[u8; 28]) -> bool
 }
 
 /// The file of pages, of so many whole pages, whose first has these first bytes, was cut. A log goes on in the other file once every page that was ever changed is in its own, and no write
-/// makes a file shorter. So that file has each page that page 0 counts, as long as page 0 is as it was then; but two count from the start, whether a key was ever there or not. And it has
-/// these two where the log that was left begins with a record that changes a page: the first such record of a store changes page 1. Also where a stop has left a later header before that record, it is of an
-/// older log. One that was left with another record or none, or was emptied, says nothing.
-pub(crate) fn lacks_pages(base: u64, pages: u64, front: &[u8; 28], left: &[u8; 65]) -> bool
-    ensures { (result ≡ true) ↔ IsCut base pages front.now left.now }
+/// makes a file shorter. So that file has each page that page 0 counts, as long as page 0 is as it was then: it is while the log has no record, and after that a stop may leave it with
+/// bytes of which each is old or new. But two count from the start, whether a key was ever there or not. And it has these two where the log that was left begins with a record that changes
+/// a page: the first such record of a store changes page 1. Also where a stop has left a later header before that record, it is of an older log; one whose first byte says that it was not
+/// made is being made anew, and one that was left with another record or none, or was emptied, says nothing.
+pub(crate) fn lacks_pages(
+    base: u64,
+    pages: u64,
+    front: &[u8; 28],
+    left: &[u8; 65],
+    has_record: bool,
+) -> bool
+    ensures { (result ≡ true) ↔ IsCut base pages front.now left.now has_record }
 {
-    lacks_counted(base, pages, front) || (base > 0 && pages < 2 && begins_with_change(left))
+    (!has_record && lacks_counted(base, pages, front))
+        || (base > 0 && pages < 2 && begins_with_change(left))
 }

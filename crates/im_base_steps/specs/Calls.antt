@@ -18,6 +18,7 @@ asked_by steps.Begin = answers.Begin
 asked_by (steps.Fetch t key) = answers.Do t (answers.Fetch key.items)
 asked_by (steps.Seek t key) = answers.Do t (answers.Seek key.items)
 asked_by (steps.Next t key) = answers.Do t (answers.Next key.items)
+asked_by (steps.Prev t key) = answers.Do t (answers.Prev key.items)
 asked_by (steps.Scan t lo hi limit) = answers.Do t (answers.Scan lo.items hi.items limit)
 asked_by (steps.Insert t key rid) = answers.Do t (answers.Insert key.items rid)
 asked_by (steps.Delete t key) = answers.Do t (answers.Delete key.items)
@@ -84,6 +85,7 @@ entries_in _ = []
 abbrev pub key_of : answers.Access → ℕ
 key_of (answers.Seek key) = 255
 key_of (answers.Next key) = 255
+key_of (answers.Prev key) = 255
 key_of _ = 0
 
 -- the same of a step

@@ -1,6 +1,6 @@
 -- What each step may be answered, whatever is known of a store's disk.
 use Rattle.std.specs.Prelude.{◌||◌, ◌≡◌, ℕ, ◌+◌, ◌≤◌, ◌==◌, Bool, true, false, length, if◌then◌else◌}
-use Rattle.im_base_types.specs.Answers.{Fetch, Seek, Next, Scan, Insert, Delete, Step, Begin, Do, Commit, Rollback, Continue, FlushPage, Force, Checkpoint, Switch, Reply, Started, Found, Absent, Entry, End, Entries, Inserted, Duplicate, Deleted, Committed, RolledBack, More, Blocked, BlockedTree, Die, Done, Refused}
+use Rattle.im_base_types.specs.Answers.{Fetch, Seek, Next, Prev, Scan, Insert, Delete, Step, Begin, Do, Commit, Rollback, Continue, FlushPage, Force, Checkpoint, Switch, Reply, Started, Found, Absent, Entry, End, Entries, Inserted, Duplicate, Deleted, Committed, RolledBack, More, Blocked, BlockedTree, Die, Done, Refused}
 use Rattle.im_base_types.specs.Refusals.{memory}
 use Rattle.im_base_steps.specs.Calls.{is_force, most_entries}
 
@@ -21,6 +21,7 @@ is_fetch _ = false
 abbrev pub is_search : Step → Bool
 is_search (Do t (Seek key)) = true
 is_search (Do t (Next key)) = true
+is_search (Do t (Prev key)) = true
 is_search _ = false
 
 abbrev pub is_scan : Step → Bool
@@ -75,7 +76,7 @@ abbrev pub lacks_memory : Reply → Bool
 lacks_memory (Refused fault) = fault == memory
 lacks_memory _ = false
 
--- What a step may be answered: a Begin a number; a Fetch a row id, a Seek or Next an entry, a Scan entries up to its limit; and so on. An Insert or a Delete that
+-- What a step may be answered: a Begin a number; a Fetch a row id, a Seek, Next or Prev an entry, a Scan entries up to its limit; and so on. An Insert or a Delete that
 -- goes on is answered More, and ends with a Continue. A refusal is of any step.
 abbrev pub Suits : Step → Reply → Type 0
 Suits step (Started t) = is_begin step ≡ true

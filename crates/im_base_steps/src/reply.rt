@@ -23,9 +23,9 @@ pub enum Reply {
     Found(Rid),
     /// The key is not there.
     Absent,
-    /// The least key that was asked for is there, with its row id.
+    /// The least key that was asked for is there, or the greatest, with its row id.
     Entry(Key, Rid),
-    /// No key is there after the one that was named.
+    /// No key is there after the one that was named, or before it.
     End,
     /// The entries of a range, in rising order.
     Entries(Vec<(Key, Rid)>),

@@ -22,6 +22,8 @@ pub enum Step {
     Seek(TxnId, Vec<u8>),
     /// The entry of the least key above this one.
     Next(TxnId, Vec<u8>),
+    /// The entry of the greatest key below this one.
+    Prev(TxnId, Vec<u8>),
     /// The first entries from the first key to the second, as many as the limit, which is brought into 1 to 256.
     Scan(TxnId, Vec<u8>, Vec<u8>, u64),
     /// Puts a key with its row id, where it is not there yet.
@@ -55,6 +57,7 @@ impl Step {
             Step::Fetch(t, key) => Step::Fetch(*t, copied(alloc, key)?),
             Step::Seek(t, key) => Step::Seek(*t, copied(alloc, key)?),
             Step::Next(t, key) => Step::Next(*t, copied(alloc, key)?),
+            Step::Prev(t, key) => Step::Prev(*t, copied(alloc, key)?),
             Step::Scan(t, lo, hi, limit) => {
                 Step::Scan(*t, copied(alloc, lo)?, copied(alloc, hi)?, *limit)
             }
@@ -122,7 +125,7 @@ impl Step {
         ensures { result ≡ most_key (asked_by self.now) }
     {
         match self {
-            Step::Seek(..) | Step::Next(..) => LONGEST_KEY,
+            Step::Seek(..) | Step::Next(..) | Step::Prev(..) => LONGEST_KEY,
             _ => 0,
         }
     }

@@ -3,7 +3,7 @@ use Rattle.std.specs.Prelude.{ℕ, ◌==◌, nat_lt, Bool, true, false, not, ◌
 use Rattle.std.specs.List.{filter}
 use Rattle.std.specs.FinMap.{entries, get}
 use Rattle.im_base_types.specs.Keys.{Key}
-use Rattle.im_base_types.specs.Maps.{IndexMap, From, Above, is_below, first}
+use Rattle.im_base_types.specs.Maps.{IndexMap, From, Above, is_below, first, last_below}
 use Rattle.im_base_types.specs.Changes.{Effect, Put, Drop, apply}
 
 -- what a transaction asks of the index
@@ -11,6 +11,7 @@ pub data Access : Type 0 where
   Fetch : (key : Key) → Access
   Seek : (key : Key) → Access
   Next : (key : Key) → Access
+  Prev : (key : Key) → Access
   Scan : (lo hi : Key) (limit : ℕ) → Access
   Insert : (key : Key) (rid : ℕ) → Access
   Delete : (key : Key) → Access
@@ -83,6 +84,7 @@ abbrev pub answer : Access → IndexMap → Reply
 answer (Fetch k) m = found (get m k)
 answer (Seek k) m = entry (first (From k) m)
 answer (Next k) m = entry (first (Above k) m)
+answer (Prev k) m = entry (last_below k m)
 answer (Scan lo hi n) m = Entries (scan lo hi (limit_of n) m)
 answer (Insert k r) m = cond (is_some (get m k)) Duplicate Inserted
 answer (Delete k) m = cond (is_some (get m k)) Deleted Absent
@@ -96,6 +98,7 @@ abbrev pub changes : Access → IndexMap → Effect
 changes (Fetch k) m = []
 changes (Seek k) m = []
 changes (Next k) m = []
+changes (Prev k) m = []
 changes (Scan lo hi n) m = []
 changes (Insert k r) m = cond (is_some (get m k)) [] (Put k r ∷ [])
 changes (Delete k) m = dropped k (get m k)

@@ -33,6 +33,19 @@ first_in s (e ∷ es) = cond (is_past s e.0) (Some e) (first_in s es)
 unfoldable pub first : Start → IndexMap → Option Entry
 first s m = first_in s (entries m)
 
+abbrev pub or_this : Entry → Option Entry → Option Entry
+or_this e None = Some e
+or_this e (Some l) = Some l
+
+-- the last of these rising entries that is below a key
+abbrev pub last_in : Key → List Entry → Option Entry
+last_in k [] = None
+last_in k (e ∷ es) = cond (is_below e.0 k) (or_this e (last_in k es)) None
+
+-- the entry with the greatest key below this one
+unfoldable pub last_below : Key → IndexMap → Option Entry
+last_below k m = last_in k (entries m)
+
 -- the entries with a key put in at its place
 abbrev pub with_key : Key → ℕ → List Entry → List Entry
 with_key k i es = put key_order k i es

@@ -16,19 +16,23 @@ mod file_id;
 mod key;
 mod order;
 mod page_kind;
+mod redo_report;
 mod sizes;
 mod tables;
+mod worker_start;
 
 pub use fault::Fault;
 pub use file_id::FileId;
 pub use key::{Key, push_entry};
 pub use order::compare;
 pub use page_kind::PageKind;
+pub use redo_report::RedoReport;
 pub use sizes::{
     BATCH_ROOM, IMAGE_SIZE, LAST_LSN, LAST_TRANSACTION, LEAST_FRAMES, LONGEST_BATCH, LONGEST_KEY,
     MOST_ACTIVE, MOST_DIRTY, MOST_ENTRIES, MOST_FRAMES, PAGE_BODY, PAGE_ROOM, PAGE_SIZE,
 };
 pub use tables::{ActiveTransaction, DirtyPage};
+pub use worker_start::{StartAtOnce, WorkerStart};
 
 /// The number that an index keeps with a key, to name a record of the store's own.
 pub type Rid = u64;

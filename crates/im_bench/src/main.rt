@@ -1,7 +1,7 @@
 //! `im_bench [NAME] [WORDS]`: what the layers and the store do, in counts, and with `--time` in figures.
 //!
 //! Without words it does each bench in turn, each under a line with its name, and prints what came out, the same each run. With a
-//! name it does that one, with the words after its name: `im_bench gate --time keys`. Each module says what its bench does, which
+//! name it does that one, with the words after its name: `im_bench store --time --keys 100000`. Each module says what its bench does, which
 //! words it takes, and what its figures were.
 //!
 //! The last two are runs of whole stores, for what no contract can say, and have no figures: `long` is one long run of a store of ten
@@ -12,18 +12,15 @@
 #![tactic(auto)]
 
 use anyhow::{Result, bail};
-use im_bench_layers::{flush, front, gate, lock, log, page, pool, record};
+use im_bench_layers::{flush, log, page, pool};
 use im_bench_runs::{damage, long};
 use im_bench_store::{store, tree};
 use std::env;
-use std::sync::Wait;
 use std::thread::Threads;
-use std::time::Clock;
 
 /// The names, in the order of the layers.
-const NAMES: [&str; 12] = [
-    "gate", "record", "page", "log", "pool", "flush", "tree", "store", "lock", "front", "long",
-    "damage",
+const NAMES: [&str; 8] = [
+    "page", "log", "pool", "flush", "tree", "store", "long", "damage",
 ];
 
 fn main(rt: HostRuntime) -> Result<()> {
@@ -38,28 +35,22 @@ fn main(rt: HostRuntime) -> Result<()> {
     Ok(())
 }
 
-// Does the bench of this name, with the words after it. Threads are started, and waited for, by `threads` alone.
-fn run<R: Threads + Wait + Clock + Print + Sync>(
+// Does the bench of this name, with the words after it. Threads are started by `threads` alone.
+fn run<R: Threads + Sync>(
     rt: &HostRuntime,
     threads: &R,
     name: &str,
     words: &[String],
 ) -> Result<()> {
     match name {
-        "gate" => gate::run(rt, words),
-        "record" => record::run(rt, words),
         "page" => page::run(rt, words),
         "log" => log::run(rt, words),
         "pool" => pool::run(rt, words),
         "flush" => flush::run(rt, words),
         "tree" => tree::run(rt, threads, words),
         "store" => store::run(rt, threads, words),
-        "lock" => lock::run(rt, words),
-        "front" => front::run(threads, rt.alloc(), words),
         "long" => long::run(rt, threads),
         "damage" => damage::run(rt, threads, words),
-        _ => bail!(
-            "no bench {name}; there are gate, record, page, log, pool, flush, tree, store, lock, front, long, damage"
-        ),
+        _ => bail!("no bench {name}; there are page, log, pool, flush, tree, store, long, damage"),
     }
 }

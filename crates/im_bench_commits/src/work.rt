@@ -1,9 +1,10 @@
 //! What the threads do.
 
 use crate::asked::{Asked, Mode};
-use im_base_steps::{Reply, Step, Store};
+use im_base_steps::{Reply, Step};
 use im_base_types::{Fault, TxnId};
 use im_front::Open;
+use im_theory_store::Store;
 use std::alloc::Global;
 use std::sync::Wait;
 use std::thread::{Threads, map_vec};

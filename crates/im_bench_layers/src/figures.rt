@@ -1,23 +1,10 @@
 //! Whether figures are asked for, and how they are taken and printed.
 
 use anyhow::Result;
-use std::time::{Clock, Instant};
 
 /// Whether the first word asks for figures.
 pub fn is_timed(words: &[String]) -> bool {
     !words.is_empty() && words[0].as_str() == "--time"
-}
-
-/// The nanoseconds since the start.
-pub fn nanos_since(clock: &impl Clock, start: &Instant) -> Result<u64> {
-    let nanos = start.elapsed(clock)?.as_nanos();
-    Ok(u64::try_from(nanos).unwrap_or(u64::MAX))
-}
-
-/// Calls a second, rounded down.
-pub fn per_second(count: u64, nanos: u64) -> u64 {
-    let rate = u128::from(count) * 1_000_000_000 / u128::from(nanos.max(1));
-    u64::try_from(rate).unwrap_or(u64::MAX)
 }
 
 /// One line: what came out, or how long a call took.

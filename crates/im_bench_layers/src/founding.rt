@@ -1,8 +1,9 @@
 //! The store of `im_bench damage`, whose files are damaged: its keys, and the steps that fill it.
 
 use crate::making::make;
-use im_base_steps::{Step, Store};
+use im_base_steps::Step;
 use im_base_types::{Fault, Key, LONGEST_KEY, Rid};
+use im_theory_store::Store;
 use std::alloc::Global;
 
 // How many keys a first transaction inserts, and commits.

@@ -1,7 +1,8 @@
 //! Steps that are made, and what is seen of their replies.
 
-use im_base_steps::{Reply, Step, Store};
+use im_base_steps::{Reply, Step};
 use im_base_types::TxnId;
+use im_theory_store::Store;
 
 /// Makes a step, whatever it answers.
 pub fn make<E: Store>(store: &mut E, step: Step) {

@@ -3,8 +3,9 @@
 use crate::long_keys::{key_of, scattered};
 use crate::making::{begun, make};
 use crate::tally::Tally;
-use im_base_steps::{Reply, Step, Store};
+use im_base_steps::{Reply, Step};
 use im_base_types::{Fault, Key, LONGEST_KEY, Rid, TxnId};
+use im_theory_store::Store;
 use std::alloc::Global;
 
 /// How many keys a transaction takes.

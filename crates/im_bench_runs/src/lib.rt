@@ -6,4 +6,4 @@
 
 pub mod damage;
 pub mod long;
-mod opening;
+mod opened;

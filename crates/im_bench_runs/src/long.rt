@@ -19,15 +19,15 @@ ghost use Rattle.std.specs.Prelude.{◌≡◌, false};
 
 use crate::long::looks::{listed, pages_by_kind};
 use crate::long::stops::{Doubt, Life, founded, losing, stopped_at_each};
-use crate::opening::opened;
+use crate::opened::opened;
 use anyhow::Result;
 use im_base_disk::Disk;
 use im_base_model_disk::ModelDisk;
 use im_base_two_logs::Renamed;
 use im_base_types::{FileId, MOST_FRAMES, PAGE_SIZE};
 use im_bench_layers::counted::{Counted, show_calls};
-use im_bench_layers::kinds::{Kinds, show_kinds};
 use im_bench_layers::memory::MemoryDisk;
+use im_bench_layers::page_kinds::{Kinds, show_kinds};
 use im_bench_layers::spans::{Order, Span, Work, all_committed, worked_and_forced};
 use im_bench_layers::tally::{Tally, show_tally};
 use im_engine::Engine;

@@ -4,6 +4,6 @@
 //! and stands in no clause.
 #![tactic(auto)]
 
-mod opening;
+mod opened;
 pub mod store;
 pub mod tree;

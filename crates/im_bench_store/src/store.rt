@@ -81,7 +81,7 @@ mod options;
 ghost use Rattle.std.specs.Prelude.{◌≡◌, false};
 ghost use Rattle.im_base_disk.specs.Runs.{IsSynced};
 
-use crate::opening::opened;
+use crate::opened::opened;
 use anyhow::Result;
 use im_base_disk::Disk;
 use im_base_file_disk::FileDisk;

@@ -39,7 +39,7 @@
 //! | rising | 1,000 | 120 to 260 | 207 | 132 to 203 | 1,100 | 180 to 380 |
 //! | scattered | 1,300 | 310 to 500 | 369 | 310 to 497 | 1,500 | 520 to 730 |
 
-use crate::opening::opened;
+use crate::opened::opened;
 use anyhow::Result;
 use im_base_model_disk::ModelDisk;
 use im_base_two_logs::Renamed;

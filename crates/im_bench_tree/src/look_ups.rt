@@ -6,8 +6,8 @@ use crate::pages::{keys_in, tree};
 use crate::work::{disk_of, found, found_locked, opened};
 use anyhow::Result;
 use im_base_disk::Disk;
-use im_base_lock::LockTable;
 use im_bench_layers::figures::show_of;
+use im_engine_locks::LockTable;
 use im_page_writer::PageWriter;
 use std::time::Instant;
 

@@ -5,11 +5,11 @@ ghost use Rattle.im_base_disk.specs.Runs.{IsSynced};
 ghost use Rattle.im_page_writer.specs.PageWriter.{IsReadyWriter};
 
 use im_base_disk::{Disk, read_vec};
-use im_base_lock::LockTable;
 use im_base_model_disk::ModelDisk;
 use im_base_types::{Fault, FileId, MOST_FRAMES};
 use im_bench_layers::keys::{key_of, scattered};
-use im_engine_index::{Outcome, fetch};
+use im_engine_index::{LockAnswer, fetch};
+use im_engine_locks::LockTable;
 use im_log::open_or_create;
 use im_page_writer::PageWriter;
 use im_tree_search::locate;
@@ -83,7 +83,7 @@ pub fn found_locked<D: Disk>(
     for round in 0..rounds {
         let number = scattered(round) % keys.max(1);
         match fetch(writer, disk, locks, 1, &key_of(number))? {
-            Outcome::Granted(Some(rid)) if rid == number => found = found.wrapping_add(1),
+            LockAnswer::Granted(Some(rid)) if rid == number => found = found.wrapping_add(1),
             _ => {}
         }
         if round % LOOK_UPS == LOOK_UPS - 1 {

@@ -5,8 +5,8 @@ ghost use Rattle.im_calls_form.specs.Calls.{IsAnswered, Refuses, Says};
 ghost use Rattle.im_calls.specs.Sessions.{IsOpeningOver, IsServed, IsOther};
 
 use crate::opened::Opened;
+use im_base_caller_disk::CallerDisk;
 use im_base_disk::Disk;
-use im_base_pipe_disk::PipeDisk;
 use im_base_two_logs::Renamed;
 use im_base_types::Fault;
 use im_calls_form::{Call, refuse};
@@ -23,7 +23,7 @@ const CLOSE: u32 = 15;
 #[derive(Drop)]
 pub struct Session {
     alloc: Global,
-    store: Option<Opened<Renamed<PipeDisk>>>,
+    store: Option<Opened<Renamed<CallerDisk>>>,
 }
 
 /// A store that is not open.
@@ -38,11 +38,11 @@ pub fn blank(alloc: Global) -> Session
 pub fn made(session: &mut Session, call: &mut Call)
     ensures question { IsAnswered call.old call.new }
     ensures closed { session.old.store ≡ None → call.old.step ≢ 14 → Refuses call.new 10 × (session.new.store ≡ None) }
-    ensures opening { session.old.store ≡ None → call.old.step ≡ 14 → IsOpeningOver ⟦<Renamed<PipeDisk> as Disk>⟧ call.old call.new session.new.store }
+    ensures opening { session.old.store ≡ None → call.old.step ≡ 14 → IsOpeningOver ⟦<Renamed<CallerDisk> as Disk>⟧ call.old call.new session.new.store }
     ensures twice { IfSome session.old.store (λ store. call.old.step ≡ 14 → Refuses call.new 10 × (session.new.store ≡ Some store)) }
     ensures ended { call.old.step ≡ 15 → session.new.store ≡ None }
     ensures stat { IfSome session.old.store (λ store. call.old.step ≡ 13 → Says call.new 14 6 × (session.new.store ≡ Some store)) }
-    ensures served { IfSome session.old.store (λ store. IsOther call.old.step → IsServed ⟦<Renamed<PipeDisk> as Disk>⟧ call.old call.new store session.new.store) }
+    ensures served { IfSome session.old.store (λ store. IsOther call.old.step → IsServed ⟦<Renamed<CallerDisk> as Disk>⟧ call.old call.new store session.new.store) }
 {
     match call.step {
         OPEN => open(session, call),
@@ -54,7 +54,7 @@ pub fn made(session: &mut Session, call: &mut Call)
 
 fn open(session: &mut Session, call: &mut Call)
     ensures question { IsAnswered call.old call.new }
-    ensures opening { session.old.store ≡ None → IsOpeningOver ⟦<Renamed<PipeDisk> as Disk>⟧ call.old call.new session.new.store }
+    ensures opening { session.old.store ≡ None → IsOpeningOver ⟦<Renamed<CallerDisk> as Disk>⟧ call.old call.new session.new.store }
     ensures twice { IfSome session.old.store (λ store. Refuses call.new 10 × (session.new.store ≡ Some store)) }
 {
     if session.store.is_some() {
@@ -65,15 +65,19 @@ fn open(session: &mut Session, call: &mut Call)
 }
 
 // Opens the store over the descriptors that are `key_len` and `hi_len`.
-fn opened(alloc: Global, call: &mut Call) -> Option<Opened<Renamed<PipeDisk>>>
+fn opened(alloc: Global, call: &mut Call) -> Option<Opened<Renamed<CallerDisk>>>
     ensures question { IsAnswered call.old call.new }
-    ensures opening { IsOpeningOver ⟦<Renamed<PipeDisk> as Disk>⟧ call.old call.new result }
+    ensures opening { IsOpeningOver ⟦<Renamed<CallerDisk> as Disk>⟧ call.old call.new result }
 {
     let (Ok(ask), Ok(answer)) = (i32::try_from(call.key_len), i32::try_from(call.hi_len)) else {
         refuse(call, Fault::Device);
         return None;
     };
-    Opened::open(alloc, Renamed::new(PipeDisk::new(ask, answer), false), call)
+    Opened::open(
+        alloc,
+        Renamed::new(CallerDisk::new(ask, answer), false),
+        call,
+    )
 }
 
 fn close(session: &mut Session, call: &mut Call)
@@ -101,7 +105,7 @@ fn stat(session: &Session, call: &mut Call)
 fn step(session: &mut Session, call: &mut Call)
     ensures question { IsAnswered call.old call.new }
     ensures closed { session.old.store ≡ None → Refuses call.new 10 × (session.new.store ≡ None) }
-    ensures served { IfSome session.old.store (λ store. IsServed ⟦<Renamed<PipeDisk> as Disk>⟧ call.old call.new store session.new.store) }
+    ensures served { IfSome session.old.store (λ store. IsServed ⟦<Renamed<CallerDisk> as Disk>⟧ call.old call.new store session.new.store) }
 {
     match &mut session.store {
         Some(store) => store.step(session.alloc, call),

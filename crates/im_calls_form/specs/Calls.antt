@@ -17,6 +17,7 @@ abbrev pub AsksAccess : Call → answers.Access → Type 0
 AsksAccess c (answers.Fetch key) = (c.step ≡ 1) × (key ≡ front c.key_len c.key)
 AsksAccess c (answers.Seek key) = (c.step ≡ 2) × (key ≡ front c.key_len c.key)
 AsksAccess c (answers.Next key) = (c.step ≡ 3) × (key ≡ front c.key_len c.key)
+AsksAccess c (answers.Prev key) = (c.step ≡ 17) × (key ≡ front c.key_len c.key)
 AsksAccess c (answers.Scan lo hi limit) = (c.step ≡ 4) × (lo ≡ front c.key_len c.key) × (hi ≡ front c.hi_len c.hi) × (limit ≡ c.limit)
 AsksAccess c (answers.Insert key rid) = (c.step ≡ 5) × (key ≡ front c.key_len c.key) × (rid ≡ c.number)
 AsksAccess c (answers.Delete key) = (c.step ≡ 6) × (key ≡ front c.key_len c.key)

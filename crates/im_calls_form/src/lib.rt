@@ -8,16 +8,16 @@
 //! form has the entries that were told (`entries_are_read_again`).
 //!
 //! Steps by their numbers: 0 Begin, 1 Fetch, 2 Seek, 3 Next, 4 Scan, 5 Insert, 6 Delete, 7 Commit, 8 Rollback, 9 Continue, 10 FlushPage,
-//! 11 Force, 12 Checkpoint, 16 Switch. Replies: 0 Started, 1 Found, 2 Absent, 3 Entry, 4 End, 5 Entries, 6 Inserted, 7 Duplicate, 8 Deleted,
+//! 11 Force, 12 Checkpoint, 16 Switch, 17 Prev. Replies: 0 Started, 1 Found, 2 Absent, 3 Entry, 4 End, 5 Entries, 6 Inserted, 7 Duplicate, 8 Deleted,
 //! 9 Committed, 10 RolledBack, 11 More, 12 Blocked by a lock, 13 Die, 14 Done, 15 Refused, 16 Blocked by a structure change.
 #![tactic(auto)]
 
 mod call;
-mod laws;
+mod entries_read_again;
 mod question;
 mod telling;
 
 pub use call::Call;
-pub use laws::entries_are_read_again;
+pub use entries_read_again::entries_are_read_again;
 pub use question::step_of;
 pub use telling::{answer, refuse, tell, tell_numbers};

@@ -7,10 +7,10 @@ use Rattle.im_base_types.specs.Answers.{Step, Refused}
 use Rattle.im_base_types.specs.Lives.{Shown}
 use Rattle.im_base_disk.specs.declared.disk.Disk.{Ghosts}
 use Rattle.im_base_types.specs.declared.fault.Fault.TheVariants.{Failed}
-use Rattle.im_base_lock.specs.Locks.{Lock}
-use Rattle.im_base_lock.specs.View.{View, broken}
-use Rattle.im_base_steps.specs.Store as front
-use Rattle.im_base_lock.specs.Machine.{barred, Answers, Goes, Moves, begins, does, waits, dies, commits, queues, drops, turns, undoes, ends, puts_later, puts, drops_first, drops_leaf, takes_later, takes_first, takes_leaf, takes_last, logs_page, tree_blocks, tree_halts, flushes, forces, checkpoints, switches, lacks, breaks}
+use Rattle.im_theory_machine.specs.Locks.{Lock}
+use Rattle.im_theory_machine.specs.View.{View, broken}
+use Rattle.im_theory_store.specs.Store as front
+use Rattle.im_theory_machine.specs.Machine.{barred, Answers, Goes, Moves, begins, does, waits, dies, commits, queues, drops, turns, undoes, ends, puts_later, puts, drops_first, drops_leaf, takes_later, takes_first, takes_leaf, takes_last, logs_page, tree_blocks, tree_halts, flushes, forces, checkpoints, switches, lacks, breaks}
 use Rattle.im_base_steps.specs.declared.step.Step as steps
 use Rattle.im_base_types.specs.declared.fault.Fault.{Fault}
 use Rattle.im_base_types.specs.declared.fault.Fault.TheVariants as faults

@@ -8,18 +8,18 @@ use Rattle.im_base_types.specs.Changes.{Effect, apply, apply_all}
 use Rattle.im_base_types.proofs.Changes.{apply_all_append, apply_seen}
 use Rattle.im_base_types.specs.Answers.{Access, Step, Begin, Do, Commit, Rollback, Continue, FlushPage, Force, Checkpoint, Switch, Reply, Refused, Done, Going, Committing, answer, is_answer, map_after, map_after_all, replay, Insert, Delete, More, BlockedTree}
 use Rattle.im_base_types.specs.Lives.{Asked, Shown, effects, shows}
-use Rattle.im_base_lock.specs.Locks.{Lock}
+use Rattle.im_theory_machine.specs.Locks.{Lock}
 use Rattle.im_base_types.specs.Refusals.{failed as has_failed}
-use Rattle.im_base_lock.specs.View.{View, pending_of, Txn, did, did_txn, forced_by, is_among, nets_of}
-use Rattle.im_base_lock.specs.Machine.{Moves, Answers, Goes, begins, does, waits, dies, commits, queues, drops, turns, undoes, ends, puts_later, puts, drops_first, drops_leaf, takes_later, takes_first, takes_leaf, takes_last, logs_page, tree_blocks, tree_halts, flushes, forces, checkpoints, switches, lacks, breaks, barred, fault_if, Run, start}
-use Rattle.im_base_lock.specs.Isolation.{access_of, pending_after, finished_from, finished, IsReplay}
-use Rattle.im_base_lock.proofs.Callers.{Run-push}
-use Rattle.im_base_lock.proofs.Theorem.{going_replay, after_story}
-use Rattle.im_base_lock.proofs.Runs.{clear_do}
+use Rattle.im_theory_machine.specs.View.{View, pending_of, Txn, did, did_txn, forced_by, is_among, nets_of}
+use Rattle.im_theory_machine.specs.Machine.{Moves, Answers, Goes, begins, does, waits, dies, commits, queues, drops, turns, undoes, ends, puts_later, puts, drops_first, drops_leaf, takes_later, takes_first, takes_leaf, takes_last, logs_page, tree_blocks, tree_halts, flushes, forces, checkpoints, switches, lacks, breaks, barred, fault_if, Run, start}
+use Rattle.im_theory_machine.specs.Isolation.{access_of, pending_after, finished_from, finished, IsReplay}
+use Rattle.im_theory_machine.proofs.Callers.{Run-push}
+use Rattle.im_theory_machine.proofs.Theorem.{going_replay, after_story}
+use Rattle.im_theory_machine.proofs.Runs.{clear_do}
 use Rattle.im_theory_steps.proofs.Showing.{effect_shown}
-use Rattle.im_base_lock.proofs.Bools.{cases_test}
-use Rattle.im_base_lock.proofs.Queue.{idle_others}
-use Rattle.im_base_lock.proofs.Isolates.{queue_marks}
+use Rattle.im_theory_machine.proofs.Bools.{cases_test}
+use Rattle.im_theory_machine.proofs.Queue.{idle_others}
+use Rattle.im_theory_machine.proofs.Isolates.{queue_marks}
 use Rattle.im_theory_steps.proofs.Together.{nets_else}
 use Rattle.im_theory_steps.proofs.Acknowledged.{no_effects, step_shows}
 use Rattle.im_theory_steps.proofs.Asking.{effects_acked}

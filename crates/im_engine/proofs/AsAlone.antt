@@ -3,10 +3,10 @@ use Rattle.std.proofs.Common.{◌≡◌, ◌⊎◌, inl, inr, ⊎_elim, ℕ, tru
 use Rattle.im_base_types.specs.Maps.{IndexMap}
 use Rattle.im_base_types.specs.Answers.{Step, Reply, Rollback, More, RolledBack, Mark, Committing, Going, MustRollBack}
 use Rattle.im_base_types.specs.Lives.{nothing_shown, shown_by}
-use Rattle.im_base_lock.specs.View.{View, MayRollBack, is_among}
-use Rattle.im_base_lock.specs.Machine.{Moves, Run, start}
-use Rattle.im_base_lock.specs.Isolation.{IsReplay, finished, waits_in, Isolates}
-use Rattle.im_base_lock.proofs.Isolates.{queue_marks, isolates}
+use Rattle.im_theory_machine.specs.View.{View, MayRollBack, is_among}
+use Rattle.im_theory_machine.specs.Machine.{Moves, Run, start}
+use Rattle.im_theory_machine.specs.Isolation.{IsReplay, finished, waits_in, Isolates}
+use Rattle.im_theory_machine.proofs.Isolates.{queue_marks, isolates}
 use Rattle.im_theory_steps.specs.Seen.{IsMarkShown}
 use Rattle.im_theory_steps.proofs.Acknowledged.{runs_commit}
 use Rattle.im_engine.specs.Promise.{IsAsAlone, committed_map}

@@ -23,9 +23,9 @@ use Rattle.im_page_writer.specs.PageWriter.{StandsAs}
 use Rattle.im_page_writer.specs.Switching.{LeftSwitching, Switched}
 use Rattle.im_theory_tree.specs.Theory.{page_tree}
 use Rattle.im_base_txn.specs.declared.transaction.Transaction.{Transaction}
-use Rattle.im_base_lock.specs.Machine.{start}
-use Rattle.im_base_lock.specs.Table.{Table}
-use Rattle.im_base_lock.specs.View.{View}
+use Rattle.im_theory_machine.specs.Machine.{start}
+use Rattle.im_theory_machine.specs.Table.{Table}
+use Rattle.im_theory_machine.specs.View.{View}
 use Rattle.im_theory_steps.specs.Growth.{AreBelow}
 use Rattle.im_theory_steps.specs.Durable.{AreCommitted}
 use Rattle.im_theory_steps.specs.Serving.{IsServing}

@@ -9,17 +9,17 @@ use Rattle.im_base_types.specs.Keys.{Key}
 use Rattle.im_base_disk.specs.declared.disk.Disk.{Ghosts}
 use Rattle.im_log_gate.specs.Gate.{generation_at}
 use Rattle.im_log_record.specs.Spelling.{size_of}
-use Rattle.im_log.specs.GoingOn.{next_gate}
+use Rattle.im_log.specs.Switching.{next_gate}
 use Rattle.im_log.specs.declared.log_file.LogFile.{LogFile}
 use Rattle.im_log.specs.LogFile.{end_with}
 use Rattle.im_page_writer.specs.declared.page_writer.PageWriter.{PageWriter}
 use Rattle.im_page_writer.specs.Outcome.{AreLoaded, AsksNothing, Ends, LogEnds, mild, none_mild}
-use Rattle.im_page_writer.specs.Switching.{MayNotGoOn, RefusesSwitch}
-use Rattle.im_engine_index.specs.Outcomes.{seek_at}
+use Rattle.im_page_writer.specs.Switching.{MayNotSwitch, RefusesSwitch}
+use Rattle.im_engine_index.specs.LockAnswers.{seek_at}
 use Rattle.im_base_txn.specs.declared.transaction.Transaction.{Transaction}
 use Rattle.im_base_txn.specs.Rows.{is_of}
 use Rattle.im_base_types.specs.Faults.{number_of}
-use Rattle.im_base_lock.specs.Machine.{Breaks, first_check, mark_for}
+use Rattle.im_theory_machine.specs.Machine.{Breaks, first_check, mark_for}
 use Rattle.im_theory_steps.specs.Checks.{checked_by, marks_in}
 use Rattle.im_base_types.specs.declared.fault.Fault.TheVariants as faults
 use Rattle.im_base_steps.specs.declared.reply.Reply.{Reply}
@@ -134,6 +134,7 @@ module _ {D : Type 0} (d : Ghosts D) (old : Engine D d) (log : LogFile) (disk : 
   reading_is (answers.Fetch key) is reply fault h = h
   reading_is (answers.Seek key) is reply fault h = h
   reading_is (answers.Next key) is reply fault h = h
+  reading_is (answers.Prev key) is reply fault h = h
   reading_is (answers.Scan lo hi limit) is reply fault h = h
   reading_is (answers.Insert key rid) is reply fault h = absurd (cc is)
   reading_is (answers.Delete key) is reply fault h = absurd (cc is)
@@ -220,8 +221,8 @@ module _ {D : Type 0} (d : Ghosts D) (old : Engine D d) (log : LogFile) (disk : 
 
 module _ {D : Type 0} (d : Ghosts D) (old : Engine D d) (log : LogFile) (disk : D) where
   -- whether a next log may come, before any call
-  may_go_on : EndsNearTop d old ⊎ (IsLastLog d old × (next_gate old.writer.log + 47 ≤ 2 ^ 62)) ⊎ ((EndsNearTop d old → ⊥) × (IsLastLog d old → ⊥))
-  may_go_on = elim (cases_lt (2 ^ 62) (next_gate old.writer.log + 47)) [
+  may_switch : EndsNearTop d old ⊎ (IsLastLog d old × (next_gate old.writer.log + 47 ≤ 2 ^ 62)) ⊎ ((EndsNearTop d old → ⊥) × (IsLastLog d old → ⊥))
+  may_switch = elim (cases_lt (2 ^ 62) (next_gate old.writer.log + 47)) [
     | inl over ↦ inl over
     | inr under ↦ elim (cases_lt (generation_at old.writer.log.gate + 1) (2 ^ 62)) [
       | inl more ↦ inr (inr ((λ over. omega (arith, under, over)), (λ last. omega (arith, more, last))))
@@ -230,16 +231,16 @@ module _ {D : Type 0} (d : Ghosts D) (old : Engine D d) (log : LogFile) (disk : 
   ]
 
   -- none came for which this was so
-  pub goes_on : ((e : Fault) → MayNotGoOn old.writer.log e → ⊥) → (EndsNearTop d old → ⊥) × (IsLastLog d old → ⊥)
-  goes_on early = elim may_go_on [
+  pub goes_on : ((e : Fault) → MayNotSwitch old.writer.log e → ⊥) → (EndsNearTop d old → ⊥) × (IsLastLog d old → ⊥)
+  goes_on early = elim may_switch [
     | inl over ↦ absurd (early LogFull over)
     | inr (inl last) ↦ absurd (early Capacity (last.1, last.0))
     | inr (inr both) ↦ both
   ]
 
   -- no call was made where none may come
-  pub switch_quiet : ((e : Fault) → MayNotGoOn old.writer.log e → disk ≡ old.disk) → (CallsDevice d answers.Switch old → ⊥) → disk ≡ old.disk
-  switch_quiet early idle = elim may_go_on [
+  pub switch_quiet : ((e : Fault) → MayNotSwitch old.writer.log e → disk ≡ old.disk) → (CallsDevice d answers.Switch old → ⊥) → disk ≡ old.disk
+  switch_quiet early idle = elim may_switch [
     | inl over ↦ early LogFull over
     | inr (inl last) ↦ early Capacity (last.1, last.0)
     | inr (inr both) ↦ absurd (idle both)
@@ -250,7 +251,7 @@ module _ {D : Type 0} (d : Ghosts D) (old : Engine D d) (log : LogFile) (disk : 
   switch_made reply may not fault = past may.0 (past may.1 (λ e. absurd (not fault e), λ y. y.0))
 
   -- and where it was refused
-  module _ (f : Fault) (told : Fault) (is : told ≡ told_as f) (early : (e : Fault) → MayNotGoOn old.writer.log e → f ≡ e) (last : f ≡ Capacity → MayNotGoOn old.writer.log Capacity) (causes : RefusesSwitch d false log disk f) where
+  module _ (f : Fault) (told : Fault) (is : told ≡ told_as f) (early : (e : Fault) → MayNotSwitch old.writer.log e → f ≡ e) (last : f ≡ Capacity → MayNotSwitch old.writer.log Capacity) (causes : RefusesSwitch d false log disk f) where
     begun_cause : (IsLastLog d old → ⊥) → (g : Fault) → f ≡ g → RefusesSwitch d false log disk g → SwitchCause d log disk (told_as g)
     begun_cause more Device same cause = cause
     begun_cause more LogFull same cause = cause
@@ -259,7 +260,7 @@ module _ {D : Type 0} (d : Ghosts D) (old : Engine D d) (log : LogFile) (disk : 
     begun_cause more g same cause = absurd cause
 
     pub switch_lost : (fault : Fault) → ((Refused told ≡ Refused fault) ↔ Refuses d (Refused told) old log disk fault answers.Switch)
-    switch_lost fault = elim may_go_on [
+    switch_lost fault = elim may_switch [
       | inl over ↦ here over (named told fault faults.LogFull (is ∙ ap told_as (early LogFull over)))
       | inr (inl top) ↦ past (λ over. (let under = top.1 in omega (arith, under, over))) (here top.0 (named told fault faults.Capacity (is ∙ ap told_as (early Capacity (top.1, top.0)))))
       | inr (inr both) ↦ past both.0 (past both.1 (λ e. (e, subst (SwitchCause d log disk) (sym is ∙ refused_inj told fault e) (begun_cause both.1 f refl causes)), λ y. y.0))

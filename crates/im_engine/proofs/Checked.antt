@@ -7,7 +7,7 @@ use Rattle.im_base_txn.specs.declared.transaction.Mark.{Mark}
 use Rattle.im_base_txn.specs.declared.transaction.Mark.TheVariants.{Going, MustRollBack, RollingBack, Committing}
 use Rattle.im_base_txn.specs.declared.transaction.Transaction.{Transaction}
 use Rattle.im_base_txn.specs.Rows.{is_of, is_committing, waits_at}
-use Rattle.im_base_lock.specs.Machine.{keys_fit, barred_to, barred_to_rollback, or_else, fault_if}
+use Rattle.im_theory_machine.specs.Machine.{keys_fit, barred_to, barred_to_rollback, or_else, fault_if}
 use Rattle.im_theory_steps.specs.Checks.{mark_at, checked_by}
 
 -- the row of a step's transaction

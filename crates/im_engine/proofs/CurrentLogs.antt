@@ -5,7 +5,7 @@ use Rattle.im_base_types.specs.declared.fault.Fault.TheVariants.{Capacity, Devic
 use Rattle.im_base_disk.specs.declared.disk.Disk.{Ghosts}
 use Rattle.im_base_disk.specs.Disk.{Files}
 use Rattle.im_log_choice.specs.Current.{IsCurrent, HasCurrent}
-use Rattle.im_log_choice.specs.Turning.{ReadsNamed}
+use Rattle.im_log_choice.specs.Switching.{ReadsNamed}
 use Rattle.im_restart.specs.Restart.{SpellsLog}
 use Rattle.im_engine.specs.Stands.{SpellsCurrent}
 use Rattle.im_engine.proofs.Named.{spells_by}

@@ -36,15 +36,15 @@ use Rattle.im_base_txn.specs.declared.transaction.Mark.TheVariants.{Going, MustR
 use Rattle.im_base_txn.specs.declared.transaction.Transaction.{Transaction}
 use Rattle.im_base_txn.specs.Rows.{is_of, changed, with_mark, with_record}
 use Rattle.im_base_txn.proofs.LookUps.{look_ups_follow}
-use Rattle.im_base_lock.specs.Locks.{Lock, Request, Holds}
-use Rattle.im_base_lock.specs.Locks as locks
-use Rattle.im_base_lock.specs.Rows.{asked}
-use Rattle.im_base_lock.specs.Serving.{Matches}
-use Rattle.im_base_lock.specs.Table.{Table, Decides, SameTable, locks_of}
-use Rattle.im_base_lock.specs.declared.verdict.Verdict.{Verdict}
-use Rattle.im_base_lock.specs.declared.verdict.Verdict.TheVariants.{Granted, Wait, Die as MustDie}
-use Rattle.im_base_lock.specs.View.{View, did, locks_in, marked, owner_in}
-use Rattle.im_base_lock.specs.Machine.{Wants, barred, keys_fit}
+use Rattle.im_theory_machine.specs.Locks.{Lock, Request, Holds}
+use Rattle.im_theory_machine.specs.Locks as locks
+use Rattle.im_theory_machine.specs.Rows.{asked}
+use Rattle.im_theory_machine.specs.Changing.{MatchesWithKept}
+use Rattle.im_theory_machine.specs.Table.{Table, Decides, locks_of, lasting_of}
+use Rattle.im_theory_machine.specs.declared.verdict.Verdict.{Verdict}
+use Rattle.im_theory_machine.specs.declared.verdict.Verdict.TheVariants.{Granted, Wait, Die as MustDie}
+use Rattle.im_theory_machine.specs.View.{View, did, locks_in, marked, owner_in}
+use Rattle.im_theory_machine.specs.Machine.{Wants, barred, keys_fit}
 use Rattle.im_base_types.specs.declared.fault.Fault.TheVariants as faults
 use Rattle.im_base_types.specs.Faults.{number_of}
 use Rattle.im_theory_steps.specs.Checks.{checked_by}
@@ -55,7 +55,6 @@ use Rattle.im_theory_steps.specs.Durable.{AreCommitted}
 use Rattle.im_theory_steps.proofs.Asking.{asks_nothing, dies_ask_nothing, waits_ask_nothing}
 use Rattle.im_theory_steps.proofs.Durable.{commits_stand}
 use Rattle.im_theory_steps.proofs.Growth.{copies_are_images, images_change_nothing, numbers_stay_new, within_leaves_others}
-use Rattle.im_base_lock.proofs.Serving.{all_held}
 use Rattle.im_theory_steps.proofs.Logging.{deletes_served}
 use Rattle.im_theory_steps.proofs.Promises.{granted_keys_free}
 use Rattle.im_theory_steps.proofs.Steps.{at, dies_served, mark_free, reads_served, structure_keeps, waits_served, ways_lead_on}
@@ -75,7 +74,7 @@ use Rattle.im_engine.specs.Faults.{told_as, ends_engine}
 use Rattle.im_engine.proofs.Running.{outside, not_in, not_owner, checks_tell, left_on, read_on}
 use Rattle.im_engine.proofs.Grown.{read_grows}
 use Rattle.im_engine.proofs.Made.{grown_made, leaves_as, step_made}
-use Rattle.im_engine.proofs.Refused.{breaks_with, lacks_with}
+use Rattle.im_engine.proofs.Refused.{KeepsLocks, breaks_with, lacks_with}
 
 -- ---- logs
 
@@ -121,14 +120,14 @@ noted_twice t a b l u (row ∷ rows) =
     ∙ ap (λ (xs : List Transaction). changed t (with_record a b) row ∷ xs) (noted_twice t a b l u rows)
 
 -- what is free by the table is free for the machine
-free_in : (v : View) (table : Table) (t : ℕ) (row : List Request) → Matches v table → locks.IsFree (locks_of table) t row → locks.IsFree (locks_in v) t row
+free_in : (v : View) (table : Table) (t : ℕ) (row : List Request) → MatchesWithKept v table → locks.IsFree (locks_of table) t row → locks.IsFree (locks_in v) t row
 free_in v table t row h free s p = free s (record {
   name = p.name;
   mode = p.mode;
   theirs = p.theirs;
   other = p.other;
   ask = p.ask;
-  held = subst (λ (ls : List Lock). Holds ls p.name p.theirs) (all_held v table h s) p.held;
+  held = (h.held s p.name p.theirs).0 p.held;
   exclusive = p.exclusive;
 })
 
@@ -240,7 +239,7 @@ module _ {D : Type 0} (d : Ghosts D) {b : Base} (before : List Effect) (s : Show
     abbrev record_rows : List Transaction
     record_rows = map (changed t (with_record taken.undo_next taken.undo_next)) old.txns.rows
 
-    after_record : IsServed b r.earlier before s v (Do t (Delete key)) answers.Deleted (did v t (Delete key) (locks_of new.locks t)) mid record_rows old.txns.next new.locks
+    after_record : IsServed b r.earlier before s v (Do t (Delete key)) answers.Deleted (did v t (Delete key) (lasting_of new.locks t)) mid record_rows old.txns.next new.locks
     after_record = (deletes_served page_tree page_tree_laws b r.earlier before s v r.now.log is.before old.txns.rows old.txns.next old.locks new.locks t row.last taken.undo_next is.page row key is.rid r.serving found mark (not_owner d before s v old r t) fits
         (way_by_images is.before is.images) law.0 (outside t (open_smo is.before) closed_before) (not_in is.page (open_smo is.before) closed_before) is.there (decided_here (Delete key) Granted new.locks decides) may.can_drop law.1.rises).served
 
@@ -256,9 +255,9 @@ module _ {D : Type 0} (d : Ghosts D) {b : Base} (before : List Effect) (s : Show
     some_record : 1 ≤ taken.undo_next
     some_record = let rises : end_of b is.before < taken.undo_next = law.1.rises in omega (arith, rises)
 
-    in_full : IsServing b r.earlier before (shows s (Do t (Delete key)) (Some answers.Deleted)) (did v t (Delete key) (locks_of new.locks t)) is.now.log (map (changed t (with_record taken.last taken.undo_next)) old.txns.rows) old.txns.next new.locks
-    in_full = subst (λ (rows : List Transaction). IsServing b r.earlier before (shows s (Do t (Delete key)) (Some answers.Deleted)) (did v t (Delete key) (locks_of new.locks t)) is.now.log rows old.txns.next new.locks) rows_now
-        (structure_keeps b r.earlier before (shows s (Do t (Delete key)) (Some answers.Deleted)) (did v t (Delete key) (locks_of new.locks t)) mid is.now.log record_rows old.txns.next new.locks t (with_record taken.undo_next taken.undo_next row) after_record.1
+    in_full : IsServing b r.earlier before (shows s (Do t (Delete key)) (Some answers.Deleted)) (did v t (Delete key) (lasting_of new.locks t)) is.now.log (map (changed t (with_record taken.last taken.undo_next)) old.txns.rows) old.txns.next new.locks
+    in_full = subst (λ (rows : List Transaction). IsServing b r.earlier before (shows s (Do t (Delete key)) (Some answers.Deleted)) (did v t (Delete key) (lasting_of new.locks t)) is.now.log rows old.txns.next new.locks) rows_now
+        (structure_keeps b r.earlier before (shows s (Do t (Delete key)) (Some answers.Deleted)) (did v t (Delete key) (lasting_of new.locks t)) mid is.now.log record_rows old.txns.next new.locks t (with_record taken.undo_next taken.undo_next row) after_record.1
         (look_ups_follow.changed_own t (with_record taken.undo_next taken.undo_next) (λ x. refl) old.txns.rows row found) (mark_free row.mark Going mark (λ x. cc x)) (inl some_record) (by_structure t mid is.now.log is.change))
 
     grown : GrowsWithin t r.now.log is.now.log
@@ -273,7 +272,7 @@ module _ {D : Type 0} (d : Ghosts D) {b : Base} (before : List Effect) (s : Show
     pub deleted : new.txns ≡ record old.txns { rows = map (changed t (with_record taken.last taken.undo_next)) old.txns.rows } → LeavesEdit d b r.base r.now t old.disk new.disk → new.failed ≡ false
         → StepKept d before s v (Do t (Delete key)) answers.Deleted old new
     deleted table stops works =
-        let w = did v t (Delete key) (locks_of new.locks t) in
+        let w = did v t (Delete key) (lasting_of new.locks t) in
         let rows = map (changed t (with_record taken.last taken.undo_next)) old.txns.rows in
         subst (λ (reply : Reply). StepKept d before s v (Do t (Delete key)) reply old new) says
         (edited (Delete key) new is.now r.redo_end taken.last taken.undo_next is.stands is.durable grown rows table w
@@ -287,7 +286,7 @@ module _ {D : Type 0} (d : Ghosts D) {b : Base} (before : List Effect) (s : Show
         → new.txns ≡ old.txns → new.failed ≡ false → StepKept d before s v (Do t a) reply old new
     unchanged none decides ev reply says table works =
         subst (λ (y : Reply). StepKept d before s v (Do t a) y old new) (ap (answer a) walk_of ∙ says)
-        (grown_made d before s v (did v t a (locks_of new.locks t)) (Do t a) (answer a v.walk) old new r old.txns r.unowned ev
+        (grown_made d before s v (did v t a (lasting_of new.locks t)) (Do t a) (answer a v.walk) old new r old.txns r.unowned ev
         (λ longer stays all. reads_served b r.earlier before s v r.now.log longer old.txns.rows old.txns.next old.locks new.locks t row a r.serving found mark (not_owner d before s v old r t) fits (ap (changes a) walk_of ∙ none) (decided_here a Granted new.locks decides) stays all)
         (asks_nothing s t a v) refl table refl (edit_stops new.disk stops) works tt (λ longer images. read_grows b t r.now.log longer images a v.walk (ap (changes a) walk_of ∙ none)))
 
@@ -321,10 +320,10 @@ module _ {D : Type 0} (d : Ghosts D) (before : List Effect) (s : Shown) (v : Vie
 
   -- a change that a call refused which may be refused late
   pub edit_refused : (f : Fault) → Wants (Do t a) memory → LogEnds d true mild old.writer old.disk new.writer new.disk (Some f) → LeavesOnly d old.disk new.disk (Allowed before s) → f ≢ NotAStore → new.failed ≡ ends_engine f → new.txns ≡ old.txns
-      → (f ≡ Memory → SameTable old.locks new.locks) → (told : Fault) → told ≡ told_as f → StepKept d before s v (Do t a) (Refused (number_of told)) old new
+      → (f ≡ Memory → KeepsLocks old.locks new.locks) → (told : Fault) → told ≡ told_as f → StepKept d before s v (Do t a) (Refused (number_of told)) old new
   edit_refused f wants ends leaves sound fails table same told is = subst (λ (y : Fault). StepKept d before s v (Do t a) (Refused (number_of y)) old new) (sym is) (by f ends sound fails same)
     where
-      by : (g : Fault) → LogEnds d true mild old.writer old.disk new.writer new.disk (Some g) → g ≢ NotAStore → new.failed ≡ ends_engine g → (g ≡ Memory → SameTable old.locks new.locks) → StepKept d before s v (Do t a) (Refused (number_of (told_as g))) old new
+      by : (g : Fault) → LogEnds d true mild old.writer old.disk new.writer new.disk (Some g) → g ≢ NotAStore → new.failed ≡ ends_engine g → (g ≡ Memory → KeepsLocks old.locks new.locks) → StepKept d before s v (Do t a) (Refused (number_of (told_as g))) old new
       by Memory x other on same_locks = lacks_with d before s v (Do t a) (no_commit t a) bars old new life works counts_now wants (read_on d before s v old run.1 new.writer new.disk x.1) leaves table (same_locks refl) on
       by LogFull x other on same_locks = breaks_with d before s v (Do t a) (no_commit t a) bars old new life works counts_now 7 (inr (inl refl)) on leaves
       by Device x other on same_locks = breaks_with d before s v (Do t a) (no_commit t a) bars old new life works counts_now 8 (inr (inr (inl refl))) on leaves

@@ -41,9 +41,9 @@ use Rattle.im_base_txn.specs.Rows.{AreRising, begun as row_begun, is_of, is_comm
 use Rattle.im_base_txn.specs.LookUps.{without}
 use Rattle.im_base_txn.specs.declared.transaction.Mark.TheVariants.{Going, MustRollBack, RollingBack, Committing}
 use Rattle.im_base_txn.specs.declared.transaction.Transaction.{Transaction}
-use Rattle.im_base_lock.specs.Table.{Table, AreReleased, IsReleased, locks_of}
-use Rattle.im_base_lock.specs.View.{View, begun, marked, committed_by, dropped_by, queued, forced_by, is_among}
-use Rattle.im_base_lock.specs.Machine.{Breaks, barred, fault_if}
+use Rattle.im_theory_machine.specs.Table.{Table, AreReleased, IsReleased, locks_of}
+use Rattle.im_theory_machine.specs.View.{View, begun, marked, committed_by, dropped_by, queued, forced_by, is_among}
+use Rattle.im_theory_machine.specs.Machine.{Breaks, barred, fault_if}
 use Rattle.im_theory_steps.specs.Checks.{checked_by}
 use Rattle.im_theory_steps.specs.Durable.{AreCommitted}
 use Rattle.im_theory_steps.specs.Growth.{AreBelow, Stays, IsOfAll}

@@ -21,7 +21,7 @@ use Rattle.im_page_file.specs.Stands.{IsCovered}
 use Rattle.im_theory_tree.specs.Theory.{page_tree}
 use Rattle.im_engine_checkpoint.specs.Rows.{listed}
 use Rattle.im_base_types.specs.Faults.{number_of}
-use Rattle.im_base_lock.specs.View.{View}
+use Rattle.im_theory_machine.specs.View.{View}
 use Rattle.im_theory_steps.specs.Growth.{AreBelow, IsCheckpointed}
 use Rattle.im_theory_steps.specs.Serving.{IsServing}
 use Rattle.im_theory_steps.proofs.Growth.{checkpoints_change_nothing}

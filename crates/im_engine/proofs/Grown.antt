@@ -2,10 +2,10 @@
 use Rattle.std.proofs.Common.{◌≡◌, ℕ, [], ◌∷◌, cond, is_some, Option, Some, None, refl}
 use Rattle.std.specs.FinMap.{get}
 use Rattle.im_base_types.specs.Answers as answers
-use Rattle.im_base_types.specs.Answers.{Access, Fetch, Seek, Next, Scan, Insert, Delete, Do, answer, changes}
+use Rattle.im_base_types.specs.Answers.{Access, Fetch, Seek, Next, Prev, Scan, Insert, Delete, Do, answer, changes}
 use Rattle.im_base_types.specs.Changes.{Put}
 use Rattle.im_base_types.specs.Keys.{Key}
-use Rattle.im_base_types.specs.Maps.{IndexMap, From, Above, first}
+use Rattle.im_base_types.specs.Maps.{IndexMap, From, Above, first, last_below}
 use Rattle.im_theory_log.specs.Histories.{Base, History}
 use Rattle.im_theory_log.specs.Copies.{GrowsByImages}
 use Rattle.im_engine.specs.Growing.{GrowsAs}
@@ -36,6 +36,7 @@ module _ (b : Base) (t : ℕ) (older longer : History) (images : GrowsByImages b
   read_grows (Fetch k) m none = found_grows (Fetch k) (get m k)
   read_grows (Seek k) m none = entry_grows (Seek k) (first (From k) m)
   read_grows (Next k) m none = entry_grows (Next k) (first (Above k) m)
+  read_grows (Prev k) m none = entry_grows (Prev k) (last_below k m)
   read_grows (Scan lo hi n) m none = images
   read_grows (Insert k r) m none = put_grows k r (get m k) none
   read_grows (Delete k) m none = drop_grows k (get m k) none

@@ -37,12 +37,12 @@ use Rattle.im_base_txn.specs.declared.transaction.Mark.TheVariants.{Going, MustR
 use Rattle.im_base_txn.specs.declared.transaction.Transaction.{Transaction}
 use Rattle.im_base_txn.specs.Rows.{is_of, changed, with_mark, with_record}
 use Rattle.im_base_txn.proofs.LookUps.{look_ups_follow}
-use Rattle.im_base_lock.specs.Locks.{Lock, IsFree}
-use Rattle.im_base_lock.specs.Rows.{asked}
-use Rattle.im_base_lock.specs.Table.{Table, Decides, SameTable, locks_of}
-use Rattle.im_base_lock.specs.declared.verdict.Verdict.TheVariants.{Granted as GrantedAll}
-use Rattle.im_base_lock.specs.View.{View, did}
-use Rattle.im_base_lock.specs.Machine.{Breaks, barred, keys_fit}
+use Rattle.im_theory_machine.specs.Locks.{Lock, IsFree}
+use Rattle.im_theory_machine.specs.Rows.{asked}
+use Rattle.im_theory_machine.specs.Table.{Table, Decides, locks_of, lasting_of}
+use Rattle.im_theory_machine.specs.declared.verdict.Verdict.TheVariants.{Granted as GrantedAll}
+use Rattle.im_theory_machine.specs.View.{View, did}
+use Rattle.im_theory_machine.specs.Machine.{Breaks, barred, keys_fit}
 use Rattle.im_base_types.specs.declared.fault.Fault.TheVariants as faults
 use Rattle.im_base_steps.specs.declared.reply.Reply as said
 use Rattle.im_base_steps.specs.declared.reply.Reply.TheVariants as replies
@@ -54,8 +54,8 @@ use Rattle.im_theory_steps.specs.Steps.{IsOnTheWay, key_record}
 use Rattle.im_theory_steps.proofs.Logging.{inserts_served}
 use Rattle.im_theory_steps.proofs.Steps.{lacks_served, ways_lead_on}
 use Rattle.im_engine_index.specs.declared.noted.Noted.{Noted}
-use Rattle.im_engine_index.specs.declared.outcome.Outcome.{Outcome}
-use Rattle.im_engine_index.specs.declared.outcome.Outcome.TheVariants.{Granted, Wait, Die}
+use Rattle.im_engine_index.specs.declared.lock_answer.LockAnswer.{LockAnswer}
+use Rattle.im_engine_index.specs.declared.lock_answer.LockAnswer.TheVariants.{Granted, Wait, Die}
 use Rattle.im_engine_index.specs.Edits.{MayEdit, Inserted, InsertKept, IsLimited}
 use Rattle.im_engine_index.specs.KeyLogs.{LeavesEdit}
 use Rattle.im_engine_index.proofs.KeyLogs.{grows_within}
@@ -71,7 +71,7 @@ use Rattle.im_engine.proofs.Checked.{access_fits}
 use Rattle.im_engine.proofs.Deleting.{access_mark}
 use Rattle.im_engine.proofs.Edited.{blocked, by_structure, died, edit_stops, edited, may_edit, unchanged}
 use Rattle.im_engine.proofs.Made.{grown_made}
-use Rattle.im_engine.proofs.Refused.{breaks_with, lacks_with, serving_with}
+use Rattle.im_engine.proofs.Refused.{KeepsLocks, breaks_with, lacks_with, serving_with}
 use Rattle.im_engine.proofs.Running.{outside, not_in, not_owner, checks_tell, bodies_are, read_on}
 
 -- ---- a key that came
@@ -105,10 +105,10 @@ module _ {D : Type 0} (d : Ghosts D) {b : Base} (before : List Effect) (s : Show
     abbrev rows : List Transaction
     rows = map (changed t (with_record noted.last noted.undo_next)) old.txns.rows
 
-    after_record : IsServed b r.earlier before s v (Do t (Insert key rid)) answers.Inserted (did v t (Insert key rid) (locks_of new.locks t)) is.now.log rows old.txns.next new.locks
+    after_record : IsServed b r.earlier before s v (Do t (Insert key rid)) answers.Inserted (did v t (Insert key rid) (lasting_of new.locks t)) is.now.log rows old.txns.next new.locks
     after_record =
-        subst (λ (n : ℕ). IsServed b r.earlier before s v (Do t (Insert key rid)) answers.Inserted (did v t (Insert key rid) (locks_of new.locks t)) is.now.log (map (changed t (with_record noted.last n)) old.txns.rows) old.txns.next new.locks) (sym is.same)
-        (subst (λ (l : History). IsServed b r.earlier before s v (Do t (Insert key rid)) answers.Inserted (did v t (Insert key rid) (locks_of new.locks t)) l (map (changed t (with_record noted.last noted.last)) old.txns.rows) old.txns.next new.locks) (sym is.is)
+        subst (λ (n : ℕ). IsServed b r.earlier before s v (Do t (Insert key rid)) answers.Inserted (did v t (Insert key rid) (lasting_of new.locks t)) is.now.log (map (changed t (with_record noted.last n)) old.txns.rows) old.txns.next new.locks) (sym is.same)
+        (subst (λ (l : History). IsServed b r.earlier before s v (Do t (Insert key rid)) answers.Inserted (did v t (Insert key rid) (lasting_of new.locks t)) l (map (changed t (with_record noted.last noted.last)) old.txns.rows) old.txns.next new.locks) (sym is.is)
         (inserts_served page_tree page_tree_laws b r.earlier before s v r.now.log is.between old.txns.rows old.txns.next old.locks new.locks t is.newest noted.last is.page row key rid r.serving found mark (not_owner d before s v old r t) fits
         way law.0 (outside t (open_smo is.between) closed) (not_in is.page (open_smo is.between) closed) is.absent decided may.can_put law.1.rises).served)
 
@@ -137,7 +137,7 @@ module _ {D : Type 0} (d : Ghosts D) {b : Base} (before : List Effect) (s : Show
 
     pub inserted : new.txns ≡ record old.txns { rows = map (changed t (with_record noted.last noted.undo_next)) old.txns.rows } → LeavesEdit d b r.base r.now t old.disk new.disk → new.failed ≡ false → StepKept d before s v (Do t (Insert key rid)) answers.Inserted old new
     inserted table stops works =
-        let w = did v t (Insert key rid) (locks_of new.locks t) in
+        let w = did v t (Insert key rid) (lasting_of new.locks t) in
         subst (λ (reply : Reply). StepKept d before s v (Do t (Insert key rid)) reply old new) says
         (edited d before s v old r t row found mark (Insert key rid) new is.now r.redo_end noted.last noted.undo_next is.stands is.durable grown rows table w
         (subst (λ (reply : Reply). IsServed b r.earlier before s v (Do t (Insert key rid)) reply w is.now.log rows old.txns.next new.locks) (sym says) after_record) r.unowned stops works (subst (λ (reply : Reply). GrowsAs b reply (Do t (Insert key rid)) r.now.log is.now.log) (sym says) puts))
@@ -156,7 +156,7 @@ module _ {D : Type 0} (d : Ghosts D) (before : List Effect) (s : Shown) (v : Vie
   bars = checks_tell d before s v old run.1 (Do t (Insert key rid)) ∙ checked
 
   -- pages are wanting
-  lacks_pages : Evicted d run.0 run.1.base run.1.now old.disk new.writer new.disk → LeavesOnly d old.disk new.disk (Allowed before s) → new.txns ≡ old.txns → SameTable old.locks new.locks → new.failed ≡ false → StepKept d before s v (Do t (Insert key rid)) (Refused pages_full) old new
+  lacks_pages : Evicted d run.0 run.1.base run.1.now old.disk new.writer new.disk → LeavesOnly d old.disk new.disk (Allowed before s) → new.txns ≡ old.txns → KeepsLocks old.locks new.locks → new.failed ≡ false → StepKept d before s v (Do t (Insert key rid)) (Refused pages_full) old new
   lacks_pages is leaves table same works_on =
       grown_made d before s v v (Do t (Insert key rid)) (Refused pages_full) old new run.1 old.txns run.1.unowned is
       (λ longer stays all. lacks_served run.0 run.1.earlier before s v run.1.now.log longer old.txns.rows old.txns.next new.locks (Do t (Insert key rid)) pages_full
@@ -164,13 +164,13 @@ module _ {D : Type 0} (d : Ghosts D) (before : List Effect) (s : Shown) (v : Vie
       refl refl table refl leaves works_on tt (λ longer images. images)
 
   pub insert_stopped : (f : Fault) → LogEnds d true (mild_to_split (Some old.max_pages)) old.writer old.disk new.writer new.disk (Some f) → LeavesOnly d old.disk new.disk (Allowed before s) → f ≢ NotAStore → new.failed ≡ ends_engine f → new.txns ≡ old.txns
-      → ((f ≡ Memory) ⊎ (f ≡ PagesFull) → SameTable old.locks new.locks) → (told : Fault) → told ≡ told_as f → StepKept d before s v (Do t (Insert key rid)) (Refused (number_of told)) old new
+      → ((f ≡ Memory) ⊎ (f ≡ PagesFull) → KeepsLocks old.locks new.locks) → (told : Fault) → told ≡ told_as f → StepKept d before s v (Do t (Insert key rid)) (Refused (number_of told)) old new
   insert_stopped f ends leaves sound fails table same told is = subst (λ (y : Fault). StepKept d before s v (Do t (Insert key rid)) (Refused (number_of y)) old new) (sym is) (by f ends sound fails same)
     where
       breaks_so : (fault : ℕ) → Breaks fault → new.failed ≡ true → StepKept d before s v (Do t (Insert key rid)) (Refused fault) old new
       breaks_so fault why on = breaks_with d before s v (Do t (Insert key rid)) (no_commit t (Insert key rid)) bars old new life works counts_now fault why on leaves
 
-      by : (g : Fault) → LogEnds d true (mild_to_split (Some old.max_pages)) old.writer old.disk new.writer new.disk (Some g) → g ≢ NotAStore → new.failed ≡ ends_engine g → ((g ≡ Memory) ⊎ (g ≡ PagesFull) → SameTable old.locks new.locks)
+      by : (g : Fault) → LogEnds d true (mild_to_split (Some old.max_pages)) old.writer old.disk new.writer new.disk (Some g) → g ≢ NotAStore → new.failed ≡ ends_engine g → ((g ≡ Memory) ⊎ (g ≡ PagesFull) → KeepsLocks old.locks new.locks)
           → StepKept d before s v (Do t (Insert key rid)) (Refused (number_of (told_as g))) old new
       by Memory x other on same_locks = lacks_with d before s v (Do t (Insert key rid)) (no_commit t (Insert key rid)) bars old new life works counts_now (inr refl) (read_on d before s v old run.1 new.writer new.disk x.1) leaves table (same_locks (inl refl)) on
       by PagesFull x other on same_locks = lacks_pages (read_on d before s v old run.1 new.writer new.disk x.1) leaves table (same_locks (inr refl)) on
@@ -235,12 +235,12 @@ wants_answered pages m Idle locks max t key rid reply not limited within = recor
 
 module _ {D : Type 0} (d : Ghosts D) (old : Engine D d) (locks : Table) (writer : PageWriter) (disk : D) (t : ℕ) (key : Key) (rid : ℕ) (row : Transaction) (found : find (is_of t) old.txns.rows ≡ Some row) (checked : checked_by old.txns.rows false (Do t (Insert key rid)) ≡ None) where
   -- what the call below kept, whatever it stood on
-  abbrev pub Below : Result (Outcome (Option Noted)) Fault → Type 0
+  abbrev pub Below : Result (LockAnswer (Option Noted)) Fault → Type 0
   Below result = (b : Base) (base : ℕ) (s : Writer) (e : ℕ) → MayEdit d b base s e row.number row.last row.undo_next (Insert key rid) old.locks old.writer old.disk
       → InsertKept d b base s e row.number key rid old.max_pages old.locks locks old.disk writer disk result
 
   module _ {b : Base} (before : List Effect) (s : Shown) (v : View) (r : IsRunning d b before s v old) where
-    abbrev pub Here : Result (Outcome (Option Noted)) Fault → Type 0
+    abbrev pub Here : Result (LockAnswer (Option Noted)) Fault → Type 0
     Here result = InsertKept d b r.base r.now r.redo_end t key rid old.max_pages old.locks locks old.disk writer disk result
 
     mark : row.mark ≡ Going
@@ -249,7 +249,7 @@ module _ {D : Type 0} (d : Ghosts D) (old : Engine D d) (locks : Table) (writer 
     number : row.number ≡ t
     number = look_ups_follow.found t old.txns.rows row found
 
-    pub kept_here : (result : Result (Outcome (Option Noted)) Fault) → Below result → Here result
+    pub kept_here : (result : Result (LockAnswer (Option Noted)) Fault) → Below result → Here result
     kept_here result below =
         subst (λ (n : ℕ). InsertKept d b r.base r.now r.redo_end n key rid old.max_pages old.locks locks old.disk writer disk result) number
         (below b r.base r.now r.redo_end (subst (λ (n : ℕ). MayEdit d b r.base r.now r.redo_end n row.last row.undo_next (Insert key rid) old.locks old.writer old.disk) (sym number) (may_edit d before s v old r t row found mark (Insert key rid))))
@@ -261,18 +261,18 @@ module _ {D : Type 0} (d : Ghosts D) (old : Engine D d) (locks : Table) (writer 
     abbrev pub Idle : Type 0
     Idle = Evicted d b r.base r.now old.disk writer disk
 
-    limits : (o : Outcome (Option Noted)) → Below (Ok o) → get v.walk key ≡ None → IsLimited (settled b r.now.log) key old.max_pages
+    limits : (o : LockAnswer (Option Noted)) → Below (Ok o) → get v.walk key ≡ None → IsLimited (settled b r.now.log) key old.max_pages
     limits o below none = subst (λ (pages : Pages). IsLimited pages key old.max_pages) pages_are ((kept_here (Ok o) below).limited (sym (ap (λ (m : IndexMap). get m key) r.serving.seen_by.walk) ∙ none))
 
     -- what is said of its pages
-    pub made_wants : (o : Outcome (Option Noted)) → Below (Ok o) → (x : Option Noted) → o ≡ Granted x → (noted : Noted) → x ≡ Some noted → InsertWants (settled b r.now.log) v.walk Idle (locks_of old.locks) old.max_pages t key rid replies.Inserted
+    pub made_wants : (o : LockAnswer (Option Noted)) → Below (Ok o) → (x : Option Noted) → o ≡ Granted x → (noted : Noted) → x ≡ Some noted → InsertWants (settled b r.now.log) v.walk Idle (locks_of old.locks) old.max_pages t key rid replies.Inserted
     made_wants o below x granted noted some =
-        let kept = subst (λ (y : Outcome (Option Noted)). Here (Ok y)) (granted ∙ ap Granted some) (kept_here (Ok o) below) in
+        let kept = subst (λ (y : LockAnswer (Option Noted)). Here (Ok y)) (granted ∙ ap Granted some) (kept_here (Ok o) below) in
         wants_answered (settled b r.now.log) v.walk Idle (locks_of old.locks) old.max_pages t key rid replies.Inserted (λ x e. cc e) (limits o below)
         (λ is. subst (λ (pages : Pages). LacksRoomFor pages key → IsWithin pages key old.max_pages) pages_are kept.sound.1.within)
 
     -- answered otherwise
-    pub other_wants : (o : Outcome (Option Noted)) → Below (Ok o) → (reply : said.Reply) → reply ≢ replies.Inserted → ((x : Fault) → reply ≢ replies.Refused x) → InsertWants (settled b r.now.log) v.walk Idle (locks_of old.locks) old.max_pages t key rid reply
+    pub other_wants : (o : LockAnswer (Option Noted)) → Below (Ok o) → (reply : said.Reply) → reply ≢ replies.Inserted → ((x : Fault) → reply ≢ replies.Refused x) → InsertWants (settled b r.now.log) v.walk Idle (locks_of old.locks) old.max_pages t key rid reply
     other_wants o below reply no_insert not = wants_answered (settled b r.now.log) v.walk Idle (locks_of old.locks) old.max_pages t key rid reply not (limits o below) (λ is. absurd (no_insert is))
 
     -- refused, and why
@@ -313,11 +313,11 @@ module _ {D : Type 0} (d : Ghosts D) (old : Engine D d) (locks : Table) (writer 
         asks (wants_memory why) = lacks (kept.begun (failed_is d old.max_pages old.writer old.disk writer disk f ends (sym is ∙ refused_inj told faults.Failed why))).0
 
 module _ {D : Type 0} (d : Ghosts D) (old new : Engine D d) (t : ℕ) (key : Key) (rid : ℕ) (row : Transaction) (found : find (is_of t) old.txns.rows ≡ Some row) (checked : checked_by old.txns.rows false (Do t (Insert key rid)) ≡ None) where
-  abbrev pub Under : Result (Outcome (Option Noted)) Fault → Type 0
+  abbrev pub Under : Result (LockAnswer (Option Noted)) Fault → Type 0
   Under result = Below d old new.locks new.writer new.disk t key rid row found checked result
 
   module _ {b : Base} (before : List Effect) (s : Shown) (v : View) (r : IsRunning d b before s v old) where
-    abbrev pub Now : Result (Outcome (Option Noted)) Fault → Type 0
+    abbrev pub Now : Result (LockAnswer (Option Noted)) Fault → Type 0
     Now result = Here d old new.locks new.writer new.disk t key rid row found checked before s v r result
 
     its_mark : row.mark ≡ Going
@@ -326,38 +326,38 @@ module _ {D : Type 0} (d : Ghosts D) (old new : Engine D d) (t : ℕ) (key : Key
     fits : keys_fit (Insert key rid) ≡ true
     fits = access_fits old.txns.rows t (Insert key rid) checked
 
-    kept_now : (result : Result (Outcome (Option Noted)) Fault) → Under result → Now result
+    kept_now : (result : Result (LockAnswer (Option Noted)) Fault) → Under result → Now result
     kept_now result below = kept_here d old new.locks new.writer new.disk t key rid row found checked before s v r result below
 
     -- it was made
-    pub insert_made : (o : Outcome (Option Noted)) → Under (Ok o) → (x : Option Noted) → o ≡ Granted x → (noted : Noted) → x ≡ Some noted → new.txns ≡ record old.txns { rows = map (changed t (with_record noted.last noted.undo_next)) old.txns.rows } → new.failed ≡ false
+    pub insert_made : (o : LockAnswer (Option Noted)) → Under (Ok o) → (x : Option Noted) → o ≡ Granted x → (noted : Noted) → x ≡ Some noted → new.txns ≡ record old.txns { rows = map (changed t (with_record noted.last noted.undo_next)) old.txns.rows } → new.failed ≡ false
         → StepKept d before s v (Do t (Insert key rid)) answers.Inserted old new
     insert_made o below x granted noted some table works_on =
-        let kept = subst (λ (y : Outcome (Option Noted)). Now (Ok y)) (granted ∙ ap Granted some) (kept_now (Ok o) below) in
+        let kept = subst (λ (y : LockAnswer (Option Noted)). Now (Ok y)) (granted ∙ ap Granted some) (kept_now (Ok o) below) in
         inserted d before s v old r t row found its_mark key rid old.max_pages new fits noted kept.sound.1 kept.sound.0 table kept.stops works_on
 
     -- the key is there
-    pub insert_there : (o : Outcome (Option Noted)) → Under (Ok o) → (x : Option Noted) → o ≡ Granted x → x ≡ None → new.txns ≡ old.txns → new.failed ≡ false → StepKept d before s v (Do t (Insert key rid)) answers.Duplicate old new
+    pub insert_there : (o : LockAnswer (Option Noted)) → Under (Ok o) → (x : Option Noted) → o ≡ Granted x → x ≡ None → new.txns ≡ old.txns → new.failed ≡ false → StepKept d before s v (Do t (Insert key rid)) answers.Duplicate old new
     insert_there o below x granted none table works_on =
-        let kept = subst (λ (y : Outcome (Option Noted)). Now (Ok y)) (granted ∙ ap Granted none) (kept_now (Ok o) below) in
+        let kept = subst (λ (y : LockAnswer (Option Noted)). Now (Ok y)) (granted ∙ ap Granted none) (kept_now (Ok o) below) in
         let there = kept.sound.1.1 in
         unchanged d before s v old r t row found its_mark (Insert key rid) new kept.stops fits (ap (λ (y : Option ℕ). cond (is_some y) [] (Put key rid ∷ [])) there) kept.sound.0 kept.sound.1.2
         answers.Duplicate (ap (λ (y : Option ℕ). cond (is_some y) answers.Duplicate answers.Inserted) there) table works_on
 
     -- it has to wait, or its transaction must die
-    pub insert_waits : (o : Outcome (Option Noted)) → Under (Ok o) → (holder : ℕ) → o ≡ Wait holder → new.txns ≡ old.txns → new.failed ≡ false → StepKept d before s v (Do t (Insert key rid)) (answers.Blocked holder) old new
+    pub insert_waits : (o : LockAnswer (Option Noted)) → Under (Ok o) → (holder : ℕ) → o ≡ Wait holder → new.txns ≡ old.txns → new.failed ≡ false → StepKept d before s v (Do t (Insert key rid)) (answers.Blocked holder) old new
     insert_waits o below holder is table works_on =
-        let kept = subst (λ (y : Outcome (Option Noted)). Now (Ok y)) is (kept_now (Ok o) below) in
+        let kept = subst (λ (y : LockAnswer (Option Noted)). Now (Ok y)) is (kept_now (Ok o) below) in
         blocked d before s v old r t row found its_mark (Insert key rid) new kept.stops fits holder kept.sound.0 kept.sound.1 table works_on
 
-    pub insert_dies : (o : Outcome (Option Noted)) → Under (Ok o) → o ≡ Die → new.txns ≡ record old.txns { rows = map (changed t (with_mark MustRollBack)) old.txns.rows } → new.failed ≡ false → StepKept d before s v (Do t (Insert key rid)) answers.Die old new
+    pub insert_dies : (o : LockAnswer (Option Noted)) → Under (Ok o) → o ≡ Die → new.txns ≡ record old.txns { rows = map (changed t (with_mark MustRollBack)) old.txns.rows } → new.failed ≡ false → StepKept d before s v (Do t (Insert key rid)) answers.Die old new
     insert_dies o below is table works_on =
-        let kept = subst (λ (y : Outcome (Option Noted)). Now (Ok y)) is (kept_now (Ok o) below) in
+        let kept = subst (λ (y : LockAnswer (Option Noted)). Now (Ok y)) is (kept_now (Ok o) below) in
         died d before s v old r t row found its_mark (Insert key rid) new kept.stops fits kept.sound.0 kept.sound.1 table works_on
 
   -- a call below refused it
   pub insert_refused : (before : List Effect) (s : Shown) (v : View) (life : IsLife d before s v old) (works : old.failed ≡ false) → ((u : ℕ) (c : Files) → u ≤ d.moment new.disk → d.may_leave new.disk c → d.left_since new.disk u c) → (f : Fault) → Under (Err f)
-      → LogEnds d true (mild_to_split (Some old.max_pages)) old.writer old.disk new.writer new.disk (Some f) → new.failed ≡ ends_engine f → new.txns ≡ old.txns → ((f ≡ Memory) ⊎ (f ≡ PagesFull) → SameTable old.locks new.locks) → (told : Fault) → told ≡ told_as f
+      → LogEnds d true (mild_to_split (Some old.max_pages)) old.writer old.disk new.writer new.disk (Some f) → new.failed ≡ ends_engine f → new.txns ≡ old.txns → ((f ≡ Memory) ⊎ (f ≡ PagesFull) → KeepsLocks old.locks new.locks) → (told : Fault) → told ≡ told_as f
       → StepKept d before s v (Do t (Insert key rid)) (Refused (number_of told)) old new
   insert_refused before s v life works counts_now f below ends fails table same told is =
       let r = (life.running works).1 in

@@ -24,9 +24,9 @@ use Rattle.im_page_writer.specs.declared.page_writer.PageWriter.{PageWriter}
 use Rattle.im_page_writer.specs.PageWriter.{Evicted}
 use Rattle.im_page_writer.specs.Outcome.{fault_of, AreLoaded, Ends, Lists, mild, no_page, Outcome}
 use Rattle.im_theory_tree.specs.Theory.{page_tree}
-use Rattle.im_base_lock.specs.Locks.{Lock}
-use Rattle.im_base_lock.specs.Table.{Table, locks_of}
-use Rattle.im_base_lock.specs.View.{View, own_locks, broken}
+use Rattle.im_theory_machine.specs.Locks.{Lock}
+use Rattle.im_theory_machine.specs.Table.{Table, locks_of}
+use Rattle.im_theory_machine.specs.View.{View, own_locks, broken}
 use Rattle.im_theory_steps.specs.Growth.{AreBelow}
 use Rattle.im_theory_steps.specs.Serving.{IsServing}
 use Rattle.im_theory_steps.proofs.Growth.{copies_are_images, images_change_nothing}

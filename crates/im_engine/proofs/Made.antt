@@ -21,12 +21,12 @@ use Rattle.im_theory_tree.specs.Theory.{page_tree}
 use Rattle.im_base_txn.specs.declared.transaction.Mark.TheVariants.{Going}
 use Rattle.im_base_txn.specs.declared.transaction.Transaction.{Transaction}
 use Rattle.im_base_txn.specs.Rows.{is_of}
-use Rattle.im_base_lock.specs.Locks.{Lock}
-use Rattle.im_base_lock.specs.Rows.{asked}
-use Rattle.im_base_lock.specs.Table.{Table, Decides, locks_of}
-use Rattle.im_base_lock.specs.declared.verdict.Verdict.TheVariants.{Granted}
-use Rattle.im_base_lock.specs.View.{View, did, broken}
-use Rattle.im_base_lock.specs.Machine.{Moves, Breaks, barred, keys_fit}
+use Rattle.im_theory_machine.specs.Locks.{Lock}
+use Rattle.im_theory_machine.specs.Rows.{asked}
+use Rattle.im_theory_machine.specs.Table.{Table, Decides, locks_of}
+use Rattle.im_theory_machine.specs.declared.verdict.Verdict.TheVariants.{Granted}
+use Rattle.im_theory_machine.specs.View.{View, did, broken}
+use Rattle.im_theory_machine.specs.Machine.{Moves, Breaks, barred, keys_fit}
 use Rattle.im_theory_steps.specs.Growth.{AreBelow, Stays, IsOfAll}
 use Rattle.im_theory_steps.specs.Serving.{IsServing, IsServed}
 use Rattle.im_theory_steps.specs.Durable.{AreCommitted}

@@ -6,7 +6,7 @@ use Rattle.im_base_disk.specs.Runs.{IsSynced, Reads}
 use Rattle.im_base_two_logs.specs.Renamed.{file_named, named, same_files}
 use Rattle.im_base_two_logs.specs.Runs.{IsNameless, LeavesNamed}
 use Rattle.im_base_two_logs.proofs.Runs.{back}
-use Rattle.im_log_choice.specs.Turning.{ReadsNamed}
+use Rattle.im_log_choice.specs.Switching.{ReadsNamed}
 
 -- what holds by some names holds by those of the files
 pub by_names : (P : Files → Type 0) → IsNameless P → (swapped : Bool) (c : Files) → P (named swapped c) → P c

@@ -11,8 +11,8 @@ use Rattle.im_base_types.specs.Pages.{Entry}
 use Rattle.im_base_disk.specs.declared.disk.Disk.{Ghosts}
 use Rattle.im_base_disk.specs.Disk.{Files}
 use Rattle.im_base_two_logs.proofs.Runs.{then_named}
-use Rattle.im_base_lock.specs.View.{View}
-use Rattle.im_base_lock.specs.Machine.{start}
+use Rattle.im_theory_machine.specs.View.{View}
+use Rattle.im_theory_machine.specs.Machine.{start}
 use Rattle.im_engine.specs.declared.config.Config.{Config}
 use Rattle.im_engine.specs.declared.engine.Engine.{Engine}
 use Rattle.im_engine.specs.Kept.{EntriesKept}

@@ -13,7 +13,7 @@ use Rattle.im_base_two_logs.specs.Renamed.{named}
 use Rattle.im_base_two_logs.specs.Runs.{LeavesNamed}
 use Rattle.im_base_two_logs.proofs.Runs.{then_named, unnamed}
 use Rattle.im_log_choice.specs.Current.{IsCurrent}
-use Rattle.im_log_choice.specs.Turning.{ReadsNamed}
+use Rattle.im_log_choice.specs.Switching.{ReadsNamed}
 use Rattle.im_restart.specs.Restart.{MayRestart, IsLeftUndoing, IsOpened, IsReport}
 use Rattle.im_restart.specs.declared.restarted.Restarted.{Restarted}
 use Rattle.im_log_gate.specs.Header.{least_number}

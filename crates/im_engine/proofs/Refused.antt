@@ -16,9 +16,10 @@ use Rattle.im_page_writer.specs.declared.page_writer.PageWriter.{PageWriter}
 use Rattle.im_page_writer.specs.PageWriter.{Evicted}
 use Rattle.im_page_writer.specs.Outcome.{AreLoaded, mild, Ends, none_mild, LogEnds}
 use Rattle.im_base_types.specs.Faults.{number_of}
-use Rattle.im_base_lock.specs.Table.{Table, SameTable, locks_of}
-use Rattle.im_base_lock.specs.View.{View}
-use Rattle.im_base_lock.specs.Machine.{Breaks, Wants, barred}
+use Rattle.im_theory_machine.specs.Table.{Table, SameTable, SameLasting, locks_of}
+use Rattle.im_theory_machine.specs.Locks.{Lock, SameLocks}
+use Rattle.im_theory_machine.specs.View.{View, locks_in}
+use Rattle.im_theory_machine.specs.Machine.{Breaks, Wants, barred}
 use Rattle.im_theory_steps.specs.Serving.{IsServing}
 use Rattle.im_theory_steps.proofs.Asking.{refusals_ask_nothing}
 use Rattle.im_theory_steps.proofs.Durable.{others_ask_nothing}
@@ -46,8 +47,12 @@ none_done d before s v Force n e = tt
 none_done d before s v Checkpoint n e = tt
 none_done d before s v Switch n e = tt
 
+-- everybody holds the same locks, and the same ones last
+abbrev pub KeepsLocks : Table → Table → Type 0
+KeepsLocks old new = SameTable old new × SameLasting old new
+
 -- another table with the same locks
-pub serving_with : (b : Base) (earlier before : List Effect) (s : Shown) (v : View) (log : History) (rows : List _) (next : ℕ) (old new : Table) → SameTable old new → IsServing b earlier before s v log rows next old → IsServing b earlier before s v log rows next new
+pub serving_with : (b : Base) (earlier before : List Effect) (s : Shown) (v : View) (log : History) (rows : List _) (next : ℕ) (old new : Table) → KeepsLocks old new → IsServing b earlier before s v log rows next old → IsServing b earlier before s v log rows next new
 serving_with b earlier before s v log rows next old new same is = record {
   made = is.made;
   works = is.works;
@@ -56,7 +61,10 @@ serving_with b earlier before s v log rows next old new same is = record {
   reached = is.reached;
   says = is.says;
   table = is.table;
-  locks = (λ u. is.locks.0 u ∙ sym (same u), is.locks.1);
+  locks = record {
+    lasting = λ u. is.locks.lasting u ∙ sym (same.1 u);
+    held = λ u. subst (λ (ls : List Lock). SameLocks (locks_in v u) ls) (sym (same.0 u)) (is.locks.held u);
+  };
 }
 
 module _ {D : Type 0} (d : Ghosts D) (before : List Effect) (s : Shown) (v : View) (step : Step) (other : (u : ℕ) → step ≡ Commit u → ⊥) (checked : barred v step ≡ None) (old new : Engine D d) (life : IsLife d before s v old)
@@ -74,7 +82,7 @@ module _ {D : Type 0} (d : Ghosts D) (before : List Effect) (s : Shown) (v : Vie
       (none_done d before (shows s step (Some (Refused fault))) _ step fault new)
 
   -- one for which memory was wanting
-  pub lacks_with : Wants step memory → Evicted d run.0 run.1.base run.1.now old.disk new.writer new.disk → LeavesOnly d old.disk new.disk (Allowed before s) → new.txns ≡ old.txns → SameTable old.locks new.locks → new.failed ≡ false
+  pub lacks_with : Wants step memory → Evicted d run.0 run.1.base run.1.now old.disk new.writer new.disk → LeavesOnly d old.disk new.disk (Allowed before s) → new.txns ≡ old.txns → KeepsLocks old.locks new.locks → new.failed ≡ false
       → StepKept d before s v step (Refused memory) old new
   lacks_with wants is leaves table same works_on =
       grown_made d before s v v step (Refused memory) old new run.1 old.txns run.1.unowned is
@@ -83,7 +91,7 @@ module _ {D : Type 0} (d : Ghosts D) (before : List Effect) (s : Shown) (v : Vie
       (refusals_ask_nothing memory step s (λ t is. inl refl)) (others_ask_nothing.cut s step other) table refl leaves works_on (none_done d before (shows s step (Some (Refused memory))) v step memory new) (λ longer images. images)
 
   -- one that a search refuses
-  pub search_refused : (f : Fault) → Wants step memory → AsksLocks d old.writer old.disk new.writer new.disk (Some f) → f ≢ NotAStore → new.failed ≡ ends_engine f → new.txns ≡ old.txns → SameTable old.locks new.locks
+  pub search_refused : (f : Fault) → Wants step memory → AsksLocks d old.writer old.disk new.writer new.disk (Some f) → f ≢ NotAStore → new.failed ≡ ends_engine f → new.txns ≡ old.txns → KeepsLocks old.locks new.locks
       → StepKept d before s v step (Refused (number_of (told_as f))) old new
   search_refused f wants one sound fails table same = by f one.ends sound fails
     where

@@ -6,7 +6,7 @@ use Rattle.im_base_types.specs.Answers as answers
 use Rattle.im_base_types.specs.declared.fault.Fault as below
 use Rattle.im_base_disk.specs.declared.disk.Disk.{Ghosts}
 use Rattle.im_log.specs.declared.log_file.LogFile.{LogFile}
-use Rattle.im_base_lock.specs.Machine.{first_check, mark_for}
+use Rattle.im_theory_machine.specs.Machine.{first_check, mark_for}
 use Rattle.im_theory_steps.specs.Checks.{marks_in}
 use Rattle.im_base_txn.specs.declared.transaction.Transaction.{Transaction}
 use Rattle.im_base_steps.specs.declared.step.Step.{Step}
@@ -38,6 +38,7 @@ module _ {D : Type 0} (d : Ghosts D) (reply : Reply) (old : Engine D d) (log : L
   no_cause (answers.Do t (answers.Fetch k)) is = is.1
   no_cause (answers.Do t (answers.Seek k)) is = is.1
   no_cause (answers.Do t (answers.Next k)) is = is.1
+  no_cause (answers.Do t (answers.Prev k)) is = is.1
   no_cause (answers.Do t (answers.Scan lo hi n)) is = is.1
   no_cause (answers.Do t (answers.Insert k r)) is = is.1
   no_cause (answers.Do t (answers.Delete k)) is = is.1

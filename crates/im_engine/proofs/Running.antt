@@ -32,10 +32,10 @@ use Rattle.im_page_writer.specs.PageWriter.{StandsAs, GoesOn, Evicted}
 use Rattle.im_page_file.proofs.Standing.{stop_now}
 use Rattle.im_theory_tree.specs.Theory.{page_tree}
 use Rattle.im_base_txn.specs.declared.transaction.Transaction.{Transaction}
-use Rattle.im_base_lock.specs.Table.{Table}
-use Rattle.im_base_lock.specs.View.{View, Under, owner_of, owner_in, pending_of}
-use Rattle.im_base_lock.specs.Machine.{barred}
-use Rattle.im_base_lock.proofs.Under.{none_owned}
+use Rattle.im_theory_machine.specs.Table.{Table}
+use Rattle.im_theory_machine.specs.View.{View, Under, owner_of, owner_in, pending_of}
+use Rattle.im_theory_machine.specs.Machine.{barred}
+use Rattle.im_theory_machine.proofs.Under.{none_owned}
 use Rattle.im_theory_steps.specs.Checks.{checked_by}
 use Rattle.im_theory_steps.proofs.Lived.{rows_tell}
 use Rattle.im_theory_steps.specs.Growth.{AreBelow}

@@ -13,11 +13,11 @@ use Rattle.im_base_disk.specs.declared.disk.Disk.{Ghosts}
 use Rattle.im_base_disk.specs.Disk.{Files}
 use Rattle.im_base_disk.proofs.Costs.{most_none}
 use Rattle.im_theory_tree.specs.Levels.{Pages}
-use Rattle.im_base_lock.specs.Locks.{Lock}
-use Rattle.im_base_lock.specs.Table.{locks_of}
-use Rattle.im_base_lock.specs.View.{View, owns_in}
-use Rattle.im_base_lock.specs.Machine.{Moves, Answers, Goes, begins, does, waits, dies, commits, queues, drops, turns, undoes, ends, puts_later, puts, drops_first, drops_leaf, takes_later, takes_first, takes_leaf, takes_last, logs_page, tree_blocks, tree_halts, flushes, forces, checkpoints, switches, lacks, breaks as breaks_it, Breaks, Wants, barred, barred_to, barred_to_rollback, barred_to_continue, first_check, mark_for, or_else, fault_if, keys_fit}
-use Rattle.im_base_lock.proofs.Runs.{reply_answers}
+use Rattle.im_theory_machine.specs.Locks.{Lock}
+use Rattle.im_theory_machine.specs.Table.{locks_of}
+use Rattle.im_theory_machine.specs.View.{View, owns_in}
+use Rattle.im_theory_machine.specs.Machine.{Moves, Answers, Goes, begins, does, waits, dies, commits, queues, drops, turns, undoes, ends, puts_later, puts, drops_first, drops_leaf, takes_later, takes_first, takes_leaf, takes_last, logs_page, tree_blocks, tree_halts, flushes, forces, checkpoints, switches, lacks, breaks as breaks_it, Breaks, Wants, barred, barred_to, barred_to_rollback, barred_to_continue, first_check, mark_for, or_else, fault_if, keys_fit}
+use Rattle.im_theory_machine.proofs.Runs.{reply_answers}
 use Rattle.im_theory_steps.specs.Checks.{marks_in}
 use Rattle.im_base_types.specs.declared.fault.Fault.{Fault}
 use Rattle.im_base_types.specs.declared.fault.Fault.TheVariants as faults
@@ -132,6 +132,7 @@ wants_store (Do t (answers.Insert k r)) (inr is) = let never : not_a_store ≡ 9
 wants_store (Do t (answers.Fetch k)) is = cc is
 wants_store (Do t (answers.Seek k)) is = cc is
 wants_store (Do t (answers.Next k)) is = cc is
+wants_store (Do t (answers.Prev k)) is = cc is
 wants_store (Do t (answers.Scan lo hi l)) is = cc is
 wants_store (Do t (answers.Delete k)) is = cc is
 wants_store Begin is = cc is
@@ -326,6 +327,7 @@ module _ {D : Type 0} (d : Ghosts D) (step : Asked) (e : Engine D d) (only_now :
   wants_none works pages map Still Begun nets locks max (Do t (answers.Fetch k)) = tt
   wants_none works pages map Still Begun nets locks max (Do t (answers.Seek k)) = tt
   wants_none works pages map Still Begun nets locks max (Do t (answers.Next k)) = tt
+  wants_none works pages map Still Begun nets locks max (Do t (answers.Prev k)) = tt
   wants_none works pages map Still Begun nets locks max (Do t (answers.Scan lo hi l)) = tt
   wants_none works pages map Still Begun nets locks max Begin = tt
   wants_none works pages map Still Begun nets locks max (Commit t) = tt

@@ -4,7 +4,7 @@ use Rattle.std.specs.Prelude.{◌||◌}
 use Rattle.im_base_types.specs.Answers as answers
 use Rattle.im_base_types.specs.Changes.{Effect}
 use Rattle.im_base_types.specs.Lives.{Shown, shows}
-use Rattle.im_base_lock.specs.View.{View}
+use Rattle.im_theory_machine.specs.View.{View}
 use Rattle.im_base_steps.specs.Calls.{asked_by, told_by}
 use Rattle.im_base_steps.specs.declared.step.Step.{Step}
 use Rattle.im_base_types.specs.declared.fault.Fault.TheVariants.{Device}

@@ -18,15 +18,15 @@ use Rattle.im_base_disk.specs.declared.disk.Disk.{Ghosts}
 use Rattle.im_base_disk.specs.Disk.{Files}
 use Rattle.im_base_two_logs.specs.Renamed.{named, same_files}
 use Rattle.im_base_two_logs.specs.Runs.{LeavesNamed}
-use Rattle.im_log.proofs.GoingOn.{named_weakened}
+use Rattle.im_log.proofs.Switching.{named_weakened}
 use Rattle.im_page_file.specs.Stands.{IsCovered}
 use Rattle.im_page_writer.specs.Switching.{LeftSwitching, Switched}
 use Rattle.im_page_writer.proofs.Switching.{in_file}
 use Rattle.im_restart_analysis.specs.Orderly.{IsCounted}
 use Rattle.im_theory_tree.specs.Theory.{page_tree}
-use Rattle.im_base_lock.specs.View.{View}
-use Rattle.im_base_lock.specs.Machine.{Breaks, fault_if}
-use Rattle.im_base_lock.specs.Table.{locks_of}
+use Rattle.im_theory_machine.specs.View.{View}
+use Rattle.im_theory_machine.specs.Machine.{Breaks, fault_if}
+use Rattle.im_theory_machine.specs.Table.{locks_of}
 use Rattle.im_theory_steps.specs.Checks.{checked_by}
 use Rattle.im_theory_steps.specs.Serving.{IsServing}
 use Rattle.im_theory_steps.specs.Switching.{IsSwitched}

@@ -6,9 +6,9 @@ use Rattle.im_base_types.specs.Answers as answers
 use Rattle.im_base_types.specs.Answers.{Mark, Idle, Going, MustRollBack, RollingBack, Committing}
 use Rattle.im_base_types.specs.Changes.{Effect}
 use Rattle.im_base_types.specs.Lives.{Asked, Shown, StandsForMore, asks, effect_asked, shows, shown_by}
-use Rattle.im_base_lock.specs.View.{View}
-use Rattle.im_base_lock.specs.Machine.{Run, Moves}
-use Rattle.im_base_lock.proofs.Callers.{Run-push}
+use Rattle.im_theory_machine.specs.View.{View}
+use Rattle.im_theory_machine.specs.Machine.{Run, Moves}
+use Rattle.im_theory_machine.proofs.Callers.{Run-push}
 use Rattle.im_theory_steps.proofs.Durable.{commits_stand}
 use Rattle.im_base_steps.specs.Calls.{asked_by, told_by}
 use Rattle.im_base_steps.specs.declared.step.Step.{Step}

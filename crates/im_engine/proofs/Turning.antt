@@ -52,9 +52,9 @@ use Rattle.im_base_types.specs.declared.fault.Fault.TheVariants as faults
 use Rattle.im_base_steps.specs.declared.reply.Reply.{Reply}
 use Rattle.im_base_steps.specs.declared.reply.Reply.TheVariants as replies
 use Rattle.im_base_types.specs.Faults.{number_of}
-use Rattle.im_base_lock.specs.Table.{Table, IsReleased, locks_of}
-use Rattle.im_base_lock.specs.View.{View, owner_in, of_others, undid_more, undid_last}
-use Rattle.im_base_lock.specs.Machine.{barred, barred_to_continue}
+use Rattle.im_theory_machine.specs.Table.{Table, IsReleased, locks_of, lasting_of}
+use Rattle.im_theory_machine.specs.View.{View, owner_in, of_others, undid_more, undid_last}
+use Rattle.im_theory_machine.specs.Machine.{barred, barred_to_continue}
 use Rattle.im_theory_steps.specs.Checks.{checked_by, mark_at}
 use Rattle.im_theory_steps.specs.Growth.{AreBelow, AreWithin, GrowsWithin, IsWithin}
 use Rattle.im_theory_steps.specs.Undone.{UndoesNewest}
@@ -349,7 +349,7 @@ module _ {D : Type 0} (d : Ghosts D) (before : List Effect) (s : Shown) (v : Vie
       by : (g : Fault) → TurnEnds d may_turn old.writer new.writer new.disk (Some g) → g ≢ NotAStore → (g ≡ Memory → Evicted d run.0 run.1.base run.1.now old.disk new.writer new.disk) → new.failed ≡ ends_engine g
           → StepKept d before s v (Continue t) (Refused (number_of (told_as g))) old new
       by Memory x other back on =
-          lacks_with d before s v (Continue t) (λ u e. cc e) let_pass old new life works counts_now refl (back refl) (undo_stops stops) table (λ u. ap (λ (l : Table). locks_of l u) locks) on
+          lacks_with d before s v (Continue t) (λ u e. cc e) let_pass old new life works counts_now refl (back refl) (undo_stops stops) table ((λ u. ap (λ (l : Table). locks_of l u) locks), (λ u. ap (λ (l : Table). lasting_of l u) locks)) on
       by Capacity x other back on = breaks_with d before s v (Continue t) (λ u e. cc e) let_pass old new life works counts_now 6 (inl refl) on (undo_stops stops)
       by LogFull x other back on = breaks_with d before s v (Continue t) (λ u e. cc e) let_pass old new life works counts_now 7 (inr (inl refl)) on (undo_stops stops)
       by Device x other back on = breaks_with d before s v (Continue t) (λ u e. cc e) let_pass old new life works counts_now 8 (inr (inr (inl refl))) on (undo_stops stops)

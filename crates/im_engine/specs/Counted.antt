@@ -10,7 +10,7 @@ use Rattle.im_theory_log.specs.Transactions.{is_key, IsCounted}
 use Rattle.im_base_disk.specs.declared.disk.Disk.{Ghosts}
 use Rattle.im_base_disk.specs.Disk.{Files}
 use Rattle.im_base_two_logs.specs.Runs.{LeavesNamed}
-use Rattle.im_base_lock.specs.View.{View}
+use Rattle.im_theory_machine.specs.View.{View}
 use Rattle.im_engine.specs.declared.engine.Engine.{Engine}
 use Rattle.im_engine.specs.Stands.{StandsFor}
 use Rattle.im_engine.specs.Running.{IsLife}

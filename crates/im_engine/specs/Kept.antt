@@ -21,9 +21,9 @@ use Rattle.im_restart_analysis.specs.Numbers.{IsNextNumber}
 use Rattle.im_theory_page.specs.PageFile.{file_page}
 use Rattle.im_page_writer.specs.Checkpoints.{checkpoint_at}
 use Rattle.im_engine_checkpoint.specs.Rows.{listed}
-use Rattle.im_base_lock.specs.Locks.{Lock}
-use Rattle.im_base_lock.specs.View.{View, broken}
-use Rattle.im_base_lock.specs.Machine.{Moves, start}
+use Rattle.im_theory_machine.specs.Locks.{Lock}
+use Rattle.im_theory_machine.specs.View.{View, broken}
+use Rattle.im_theory_machine.specs.Machine.{Moves, start}
 use Rattle.im_base_types.specs.Faults.{number_of}
 use Rattle.im_restart.specs.Restart.{IsReport, RunsOut}
 use Rattle.im_engine.specs.declared.engine.Engine.{Engine}

@@ -8,7 +8,7 @@ use Rattle.im_base_types.specs.Lives.{Shown}
 use Rattle.im_base_types.specs.Pages.{Entry}
 use Rattle.im_base_disk.specs.declared.disk.Disk.{Ghosts}
 use Rattle.im_page_writer.specs.Outcome.{fault_of}
-use Rattle.im_base_lock.specs.View.{View}
+use Rattle.im_theory_machine.specs.View.{View}
 use Rattle.im_engine.specs.declared.config.Config.{Config}
 use Rattle.im_engine.specs.declared.engine.Engine.{Engine}
 use Rattle.im_engine.specs.Kept.{LookKept, EntriesKept}

@@ -11,8 +11,8 @@ use Rattle.im_base_types.specs.Maps.{IndexMap}
 use Rattle.im_base_types.specs.Pages.{Entry}
 use Rattle.im_base_types.specs.Changes.{Effect, apply_all}
 use Rattle.im_base_types.specs.Lives.{Asked, Shown, effects, nothing_shown, shows, shown_by}
-use Rattle.im_base_lock.specs.Isolation.{IsReplay, finished, serial, waits_in}
-use Rattle.im_base_lock.specs.View.{MayRollBack, is_among}
+use Rattle.im_theory_machine.specs.Isolation.{IsReplay, finished, serial, waits_in}
+use Rattle.im_theory_machine.specs.View.{MayRollBack, is_among}
 use Rattle.im_base_steps.specs.declared.step.Step.{Step}
 use Rattle.im_base_steps.specs.declared.reply.Reply.{Reply}
 use Rattle.im_base_steps.specs.Calls.{asked_by, told_by}
@@ -44,7 +44,7 @@ HadAsked (suc n) s _ _ asked = asked ≡ s.asked
 abbrev pub told_of : {F : Type 0} → Life F → List Asked
 told_of life = (shown_by nothing_shown (take life.answered (answered_by life.steps life.replies))).asked
 
--- Each life keeps all effects from before it and then, in the order of their commits, a front of those whose commit it had asked when it stopped. A front is the first so many, in order. Each effect in it is whole. None whose commit was acknowledged before the stop is missing. Nothing else is there.
+-- Each life keeps all effects from before it and then, in the order of their commits, a prefix of those whose commit it had asked when it stopped. A prefix is the first so many, in order. Each effect in it is whole. None whose commit was acknowledged before the stop is missing. Nothing else is there.
 pub record IsKept {F : Type 0} (before : List Effect) (life : Life F) (after : List Effect) : Type 0 where
   pub asked : List Asked
   pub by : HadAsked life.answered nothing_shown life.steps life.replies asked

@@ -12,7 +12,7 @@ use Rattle.im_base_disk.specs.Disk.{Files}
 use Rattle.im_page_writer.specs.PageWriter.{StandsAs}
 use Rattle.im_restart_analysis.specs.Orderly.{IsCounted}
 use Rattle.im_theory_tree.specs.Theory.{page_tree}
-use Rattle.im_base_lock.specs.View.{View}
+use Rattle.im_theory_machine.specs.View.{View}
 use Rattle.im_theory_steps.specs.Growth.{AreBelow}
 use Rattle.im_theory_steps.specs.Serving.{IsServing}
 use Rattle.im_theory_steps.specs.Durable.{AreCommitted}

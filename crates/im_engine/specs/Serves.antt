@@ -7,8 +7,8 @@ use Rattle.im_base_types.specs.Lives.{Shown, Survives, effects, nothing_shown}
 use Rattle.im_base_types.specs.declared.fault.Fault as below
 use Rattle.im_base_disk.specs.declared.disk.Disk.{Ghosts}
 use Rattle.im_base_disk.specs.Disk.{Files}
-use Rattle.im_base_lock.specs.View.{View}
-use Rattle.im_base_lock.specs.Machine.{start}
+use Rattle.im_theory_machine.specs.View.{View}
+use Rattle.im_theory_machine.specs.Machine.{start}
 use Rattle.im_theory_steps.proofs.Durable.{quiet_lives_settle}
 use Rattle.im_base_types.specs.declared.fault.Fault.{Fault}
 use Rattle.im_engine.specs.declared.engine.Engine.{Engine}

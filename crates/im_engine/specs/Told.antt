@@ -15,7 +15,7 @@ use Rattle.im_log_record.specs.Entry as entries
 use Rattle.im_log_record.specs.Entry.{Entry}
 use Rattle.im_log_record.specs.Spelling.{size_of}
 use Rattle.im_log.specs.declared.log_file.LogFile.{LogFile}
-use Rattle.im_log.specs.GoingOn.{next_gate}
+use Rattle.im_log.specs.Switching.{next_gate}
 use Rattle.im_log.specs.LogFile.{HasNoRoom, end_with}
 use Rattle.im_log_gate.specs.Gate.{generation_at}
 use Rattle.im_theory_page.specs.PageFile.{page_count}
@@ -32,13 +32,13 @@ use Rattle.im_engine_index.specs.Edits.{HasOne}
 use Rattle.im_restart_undo.specs.Undoing.{HasBegun}
 use Rattle.im_base_txn.specs.declared.transaction.Transaction.{Transaction}
 use Rattle.im_base_txn.specs.Rows.{is_of}
-use Rattle.im_base_lock.specs.Locks.{Lock, IsFree}
-use Rattle.im_base_lock.specs.Rows.{asked}
-use Rattle.im_base_lock.specs.Table.{SameTable, locks_of}
-use Rattle.im_base_lock.specs.View.{View}
-use Rattle.im_base_lock.specs.Machine.{first_check, mark_for}
+use Rattle.im_theory_machine.specs.Locks.{Lock, IsFree}
+use Rattle.im_theory_machine.specs.Rows.{asked}
+use Rattle.im_theory_machine.specs.Table.{SameTable, locks_of}
+use Rattle.im_theory_machine.specs.View.{View}
+use Rattle.im_theory_machine.specs.Machine.{first_check, mark_for}
 use Rattle.im_theory_steps.specs.Checks.{marks_in}
-use Rattle.im_restart.specs.declared.redo_report.RedoReport.{RedoReport}
+use Rattle.im_base_types.specs.declared.redo_report.RedoReport.{RedoReport}
 use Rattle.im_base_types.specs.declared.fault.Fault.{Fault}
 use Rattle.im_base_types.specs.declared.fault.Fault.TheVariants.{NoTransaction, MustRollBack, KeyLength, RollingBack, PagesFull, Capacity, LogFull, Device, Memory, Failed, NotAStore, TooMany, Busy}
 use Rattle.im_base_steps.specs.declared.step.Step.{Step}
@@ -235,6 +235,7 @@ module _ {D : Type 0} (d : Ghosts D) where
     Refuses (answers.Do t (answers.Fetch key)) = IsFor (ReadCause d log disk)
     Refuses (answers.Do t (answers.Seek key)) = IsFor (ReadCause d log disk)
     Refuses (answers.Do t (answers.Next key)) = IsFor (ReadCause d log disk)
+    Refuses (answers.Do t (answers.Prev key)) = IsFor (ReadCause d log disk)
     Refuses (answers.Do t (answers.Scan lo hi limit)) = IsFor (ReadCause d log disk)
     Refuses (answers.Do t (answers.Insert key rid)) = IsFor (InsertCause d log disk)
     Refuses (answers.Do t (answers.Delete key)) = IsFor (DeleteCause d log disk)

@@ -6,8 +6,8 @@ use Rattle.im_base_types.specs.Changes.{Effect}
 use Rattle.im_base_types.specs.Lives.{Shown, shows, shown_by}
 use Rattle.im_base_disk.specs.declared.disk.Disk.{Ghosts}
 use Rattle.im_base_disk.specs.Disk.{Files}
-use Rattle.im_base_lock.specs.View.{View}
-use Rattle.im_base_lock.specs.Machine.{Run, start}
+use Rattle.im_theory_machine.specs.View.{View}
+use Rattle.im_theory_machine.specs.Machine.{Run, start}
 use Rattle.im_base_steps.specs.declared.step.Step.{Step}
 use Rattle.im_base_types.specs.declared.fault.Fault.TheVariants.{Device}
 use Rattle.im_base_steps.specs.declared.reply.Reply.{Reply}

@@ -8,7 +8,7 @@ use im_base_disk::Disk;
 use im_base_steps::{Blocker, Reply};
 use im_base_txn::Mark;
 use im_base_types::{Fault, TxnId};
-use im_engine_index::Outcome;
+use im_engine_index::LockAnswer;
 
 // A refusal of the calls below, as a store answers it.
 pub(crate) fn told(fault: Fault) -> Fault
@@ -34,7 +34,7 @@ pub(crate) fn breaks(fault: Fault) -> bool
 
 impl<D: Disk> Engine<D> {
     ghost use Rattle.im_base_types.specs.Answers as answers;
-    ghost use Rattle.im_engine_index.specs.Outcomes.{seek_at};
+    ghost use Rattle.im_engine_index.specs.LockAnswers.{seek_at};
     ghost use Rattle.im_theory_steps.specs.Checks.{checked_by};
     ghost use Rattle.im_engine.specs.Told.{IsMade};
 
@@ -47,18 +47,18 @@ impl<D: Disk> Engine<D> {
     {
         self.failed = true;
         match im_engine_index::fetch(&mut self.writer, &mut self.disk, &mut self.locks, t, key) {
-            Ok(Outcome::Granted(found)) => {
+            Ok(LockAnswer::Granted(found)) => {
                 self.failed = false;
                 match found {
                     Some(rid) => Reply::Found(rid),
                     None => Reply::Absent,
                 }
             }
-            Ok(Outcome::Wait(holder)) => {
+            Ok(LockAnswer::Wait(holder)) => {
                 self.failed = false;
                 Reply::Blocked(Blocker::Lock(holder))
             }
-            Ok(Outcome::Die) => {
+            Ok(LockAnswer::Die) => {
                 self.failed = false;
                 self.txns.set_mark(t, Mark::MustRollBack);
                 Reply::Die
@@ -85,18 +85,49 @@ impl<D: Disk> Engine<D> {
             key,
             inclusive,
         ) {
-            Ok(Outcome::Granted(found)) => {
+            Ok(LockAnswer::Granted(found)) => {
                 self.failed = false;
                 match found {
                     Some((key, rid)) => Reply::Entry(key, rid),
                     None => Reply::End,
                 }
             }
-            Ok(Outcome::Wait(holder)) => {
+            Ok(LockAnswer::Wait(holder)) => {
                 self.failed = false;
                 Reply::Blocked(Blocker::Lock(holder))
             }
-            Ok(Outcome::Die) => {
+            Ok(LockAnswer::Die) => {
+                self.failed = false;
+                self.txns.set_mark(t, Mark::MustRollBack);
+                Reply::Die
+            }
+            Err(fault) => {
+                self.failed = breaks(fault);
+                Reply::Refused(told(fault))
+            }
+        }
+    }
+
+    // The last entry below a key.
+    pub(crate) fn prev(&mut self, t: TxnId, key: &[u8]) -> Reply
+        requires works { self.old.failed ≡ false }
+        requires checked { checked_by self.old.txns.rows false (answers.Do t (answers.Prev key.now)) ≡ None }
+        ensures { IsMade D.Disk (answers.Do t (answers.Prev key.now)) result self.old self.new }
+    {
+        self.failed = true;
+        match im_engine_index::prev(&mut self.writer, &mut self.disk, &mut self.locks, t, key) {
+            Ok(LockAnswer::Granted(found)) => {
+                self.failed = false;
+                match found {
+                    Some((key, rid)) => Reply::Entry(key, rid),
+                    None => Reply::End,
+                }
+            }
+            Ok(LockAnswer::Wait(holder)) => {
+                self.failed = false;
+                Reply::Blocked(Blocker::Lock(holder))
+            }
+            Ok(LockAnswer::Die) => {
                 self.failed = false;
                 self.txns.set_mark(t, Mark::MustRollBack);
                 Reply::Die
@@ -125,15 +156,15 @@ impl<D: Disk> Engine<D> {
             hi,
             limit as usize,
         ) {
-            Ok(Outcome::Granted(list)) => {
+            Ok(LockAnswer::Granted(list)) => {
                 self.failed = false;
                 Reply::Entries(list)
             }
-            Ok(Outcome::Wait(holder)) => {
+            Ok(LockAnswer::Wait(holder)) => {
                 self.failed = false;
                 Reply::Blocked(Blocker::Lock(holder))
             }
-            Ok(Outcome::Die) => {
+            Ok(LockAnswer::Die) => {
                 self.failed = false;
                 self.txns.set_mark(t, Mark::MustRollBack);
                 Reply::Die

@@ -2,16 +2,16 @@
 
 ghost use Rattle.std.specs.Prelude.{◌≡◌, None, false};
 ghost use Rattle.im_base_txn.specs.Rows.{waiting_numbers};
-ghost use Rattle.im_base_lock.specs.Table.{AreReleased};
-ghost use Rattle.im_base_lock.specs.View.{is_among};
+ghost use Rattle.im_theory_machine.specs.Table.{AreReleased};
+ghost use Rattle.im_theory_machine.specs.View.{is_among};
 
 use crate::accesses::told;
 use crate::engine::Engine;
 use im_base_disk::Disk;
-use im_base_lock::LockTable;
 use im_base_steps::Reply;
 use im_base_txn::{Mark, Transaction};
 use im_base_types::{Fault, PageNo, TxnId};
+use im_engine_locks::LockTable;
 use im_log_record::Record;
 
 impl<D: Disk> Engine<D> {

@@ -11,12 +11,11 @@ ghost use Rattle.im_page_writer.specs.PageWriter.{IsReadyWriter};
 use crate::engine::checks::{has_length, to_access, to_commit, to_continue, to_rollback};
 use crate::transactions::Transactions;
 use im_base_disk::Disk;
-use im_base_lock::LockTable;
 use im_base_steps::{Reply, Step};
 use im_base_two_logs::TwoLogs;
-use im_base_types::{Fault, PageNo};
+use im_base_types::{Fault, PageNo, RedoReport};
+use im_engine_locks::LockTable;
 use im_page_writer::PageWriter;
-use im_restart::RedoReport;
 use std::alloc::Global;
 
 mod checks;
@@ -42,7 +41,7 @@ pub struct Engine<D: Disk> {
 }
 
 impl<D: Disk> Engine<D> {
-    ghost use Rattle.im_base_lock.specs.Machine.{first_check, mark_for};
+    ghost use Rattle.im_theory_machine.specs.Machine.{first_check, mark_for};
     ghost use Rattle.im_base_steps.specs.Calls.{asked_by};
     ghost use Rattle.im_theory_steps.specs.Checks.{marks_in};
     ghost use Rattle.im_engine.specs.Kept.{numbered};
@@ -65,6 +64,7 @@ impl<D: Disk> Engine<D> {
             Step::Fetch(t, key) => to_access(self.txns.find(*t), has_length(key)),
             Step::Seek(t, key) => to_access(self.txns.find(*t), has_length(key)),
             Step::Next(t, key) => to_access(self.txns.find(*t), has_length(key)),
+            Step::Prev(t, key) => to_access(self.txns.find(*t), has_length(key)),
             Step::Scan(t, lo, hi, _) => to_access(
                 self.txns.find(*t),
                 has_length(lo) && has_length(hi),
@@ -139,6 +139,7 @@ impl<D: TwoLogs> Engine<D> {
             Step::Fetch(t, key) => self.fetch(*t, key),
             Step::Seek(t, key) => self.seek(*t, key, true),
             Step::Next(t, key) => self.seek(*t, key, false),
+            Step::Prev(t, key) => self.prev(*t, key),
             Step::Scan(t, lo, hi, limit) => self.scan(*t, lo, hi, *limit),
             Step::Commit(t) => self.commit(*t),
             Step::Rollback(t) => self.roll_back(*t),

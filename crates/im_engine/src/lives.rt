@@ -25,7 +25,7 @@ impl<D: TwoLogs> Engine<D> {
     ghost use Rattle.im_base_types.specs.Lives.{Shown};
     ghost use Rattle.im_base_types.specs.declared.fault.Fault.TheVariants.{Memory};
     ghost use Rattle.im_base_two_logs.specs.Runs.{LeavesNamed};
-    ghost use Rattle.im_base_lock.specs.View.{View};
+    ghost use Rattle.im_theory_machine.specs.View.{View};
     ghost use Rattle.im_engine.specs.Running.{IsLife};
     ghost use Rattle.im_engine.specs.Promise.{answered_by};
     ghost use Rattle.im_engine.specs.Turns.{LivesOn, AreSteps, IsCutOff};

@@ -19,7 +19,7 @@ impl<D: Disk> Engine<D> {
     ghost use Rattle.im_base_types.specs.declared.fault.Fault.TheVariants.{Memory, NotAStore};
     ghost use Rattle.im_page_pool.specs.Pool.{page_at, IsAt};
     ghost use Rattle.im_page_writer.specs.Outcome.{fault_of};
-    ghost use Rattle.im_base_lock.specs.View.{View};
+    ghost use Rattle.im_theory_machine.specs.View.{View};
     ghost use Rattle.im_engine.specs.Running.{IsRunning, IsLife};
     ghost use Rattle.im_engine.specs.Kept.{LookKept, EntriesKept};
     ghost use Rattle.im_engine.specs.Looking.{Looks, header_of};

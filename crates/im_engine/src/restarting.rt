@@ -4,7 +4,7 @@ ghost use Rattle.std.specs.Prelude.{◌≡◌, ◌≤◌, ◌⊎◌, List, false
 ghost use Rattle.im_base_types.specs.declared.fault.Fault.TheVariants.{Device, Memory, NotAStore};
 ghost use Rattle.im_base_types.specs.Changes.{Effect};
 ghost use Rattle.im_base_disk.specs.Runs.{IsSynced};
-ghost use Rattle.im_log_choice.specs.Turning.{ReadsNamed};
+ghost use Rattle.im_log_choice.specs.Switching.{ReadsNamed};
 ghost use Rattle.im_page_writer.specs.Outcome.{fault_of};
 ghost use Rattle.im_page_writer.specs.PageWriter.{IsReadyWriter};
 ghost use Rattle.im_restart.specs.Opening.{Opens};

@@ -3,9 +3,10 @@
 
 use crate::accesses::told;
 use crate::engine::Engine;
-use im_base_steps::{Reply, Step, Store};
+use im_base_steps::{Reply, Step};
 use im_base_two_logs::TwoLogs;
 use im_base_types::{Fault, Key, Rid};
+use im_theory_store::Store;
 use std::alloc::Global;
 
 impl<D: TwoLogs + Drop> Store for Engine<D> {

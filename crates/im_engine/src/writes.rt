@@ -8,7 +8,7 @@ use im_base_disk::Disk;
 use im_base_steps::{Blocker, Reply};
 use im_base_txn::Mark;
 use im_base_types::{Fault, TxnId};
-use im_engine_index::Outcome;
+use im_engine_index::LockAnswer;
 
 impl<D: Disk> Engine<D> {
     ghost use Rattle.im_base_types.specs.Answers as answers;
@@ -34,7 +34,7 @@ impl<D: Disk> Engine<D> {
             &row,
             key,
         ) {
-            Ok(Outcome::Granted(found)) => {
+            Ok(LockAnswer::Granted(found)) => {
                 self.failed = false;
                 match found {
                     Some(taken) => {
@@ -44,11 +44,11 @@ impl<D: Disk> Engine<D> {
                     None => Reply::Absent,
                 }
             }
-            Ok(Outcome::Wait(holder)) => {
+            Ok(LockAnswer::Wait(holder)) => {
                 self.failed = false;
                 Reply::Blocked(Blocker::Lock(holder))
             }
-            Ok(Outcome::Die) => {
+            Ok(LockAnswer::Die) => {
                 self.failed = false;
                 self.txns.set_mark(t, Mark::MustRollBack);
                 Reply::Die

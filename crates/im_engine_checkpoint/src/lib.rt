@@ -16,7 +16,7 @@
 #![tactic(auto)]
 
 mod checkpoint;
-pub mod laws;
+pub mod redo_point;
 mod rows;
 
 pub use checkpoint::take;

@@ -43,12 +43,12 @@ use Rattle.im_smo_actions.proofs.Growth.{images_as_change, no_images_of}
 use Rattle.im_smo_actions.proofs.Standing.{images_made, left_images, pages_stay, still_ready, unfinished_good, unfinished_images, unfinished_pages}
 use Rattle.im_theory_steps.specs.Growth.{AreWithin, GrowsWithin}
 use Rattle.im_theory_steps.specs.Steps.{key_record}
-use Rattle.im_base_lock.specs.Rows.{asked}
-use Rattle.im_base_lock.specs.Table.{Table, Decides}
-use Rattle.im_base_lock.specs.declared.verdict.Verdict.TheVariants.{Granted as GrantedAll}
+use Rattle.im_theory_machine.specs.Rows.{asked}
+use Rattle.im_theory_machine.specs.Table.{Table, Decides}
+use Rattle.im_theory_machine.specs.declared.verdict.Verdict.TheVariants.{Granted as GrantedAll}
 use Rattle.im_engine_index.specs.declared.noted.Taken.{Taken}
-use Rattle.im_engine_index.specs.declared.outcome.Outcome.{Outcome}
-use Rattle.im_engine_index.specs.declared.outcome.Outcome.TheVariants.{Granted, Wait, Die}
+use Rattle.im_engine_index.specs.declared.lock_answer.LockAnswer.{LockAnswer}
+use Rattle.im_engine_index.specs.declared.lock_answer.LockAnswer.TheVariants.{Granted, Wait, Die}
 use Rattle.im_engine_index.specs.declared.place.Place.{Place}
 use Rattle.im_engine_index.specs.Asks.{IsAsked}
 use Rattle.im_engine_index.specs.KeyLogs.{LeftByEdit, LeavesEdit, MayTake, KeyLogged}
@@ -297,10 +297,10 @@ module _ {D : Type 0} (d : Ghosts D) (b : Base) (base : ℕ) (s : Writer) (e t l
   abbrev map_of : IndexMap
   map_of = contents b s.log
 
-  abbrev IsOurs : Outcome Place → Type 0
+  abbrev IsOurs : LockAnswer Place → Type 0
   IsOurs o = IsAsked (pages_of s) t (Delete key) key map_of held new w.pool o
 
-  pub not_asked : (result : Result (Outcome (Option Taken)) Fault) (f : Fault) → IsErrAnd result (λ x. x ≡ f) → f ≢ NotAStore → AsksLocks d v old w mid (Some f) → DeleteKept d b base s e t last key held new old w mid result
+  pub not_asked : (result : Result (LockAnswer (Option Taken)) Fault) (f : Fault) → IsErrAnd result (λ x. x ≡ f) → f ≢ NotAStore → AsksLocks d v old w mid (Some f) → DeleteKept d b base s e t last key held new old w mid result
   not_asked result f here other reads = record {
     sound = sound_on result f _ here other;
     stops = search_left d b base s e t last undo_next v old may.unfinished owner w mid (Some f) reads;
@@ -315,13 +315,13 @@ module _ {D : Type 0} (d : Ghosts D) (b : Base) (base : ℕ) (s : Writer) (e t l
     left : LeavesEdit d b base s t old mid
     left = search_left d b base s e t last undo_next v old may.unfinished owner w mid None reads
 
-    pub asked_wait : (o : Outcome Place) (holder : ℕ) → o ≡ Wait holder → IsOurs o → DeleteKept d b base s e t last key held new old w mid (Ok (Wait holder))
+    pub asked_wait : (o : LockAnswer Place) (holder : ℕ) → o ≡ Wait holder → IsOurs o → DeleteKept d b base s e t last key held new old w mid (Ok (Wait holder))
     asked_wait o holder is asks = record { sound = ((subst IsOurs is asks).decides, ev); stops = left; begun = tt }
 
-    pub asked_die : (o : Outcome Place) → o ≡ Die → IsOurs o → DeleteKept d b base s e t last key held new old w mid (Ok Die)
+    pub asked_die : (o : LockAnswer Place) → o ≡ Die → IsOurs o → DeleteKept d b base s e t last key held new old w mid (Ok Die)
     asked_die o is asks = record { sound = ((subst IsOurs is asks).decides, ev); stops = left; begun = tt }
 
-    module _ (o : Outcome Place) (place : Place) (is : o ≡ Granted place) (asks : IsOurs o) where
+    module _ (o : LockAnswer Place) (place : Place) (is : o ≡ Granted place) (asks : IsOurs o) where
       ours : IsOurs (Granted place)
       ours = subst IsOurs is asks
 

@@ -5,7 +5,7 @@ use Rattle.std.specs.FinMap.{entries, get}
 use Rattle.std.specs.FinMap.Entries.{find}
 use Rattle.im_base_types.specs.Keys.{Key, key_order}
 use Rattle.im_base_types.specs.Pages.{Entry, Page}
-use Rattle.im_base_types.specs.Maps.{IndexMap, Start, From, Above, first, first_in}
+use Rattle.im_base_types.specs.Maps.{IndexMap, Start, From, Above, first, first_in, last_below, last_in}
 use Rattle.im_base_types.specs.Answers.{Seek, Next, answer, entry, limit_of, scan}
 use Rattle.im_base_types.proofs.Maps.{sorted_find}
 use Rattle.im_page_pool.specs.declared.frame.Frame.{Frame}
@@ -21,12 +21,12 @@ use Rattle.im_tree_search.specs.declared.entry_place.EntryPlace.{EntryPlace}
 use Rattle.im_tree_search.specs.Found.{IsReached, entries_of, entry_of}
 use Rattle.im_tree_search.specs.NextKeys.{next_name as next_key_name, far_name, IsFar}
 use Rattle.im_tree_search.specs.Ranges.{IsRange, key_if, within}
-use Rattle.im_base_lock.specs.Locks.{Name, Request}
-use Rattle.im_base_lock.specs.Rows.{asked, name_of, next_name}
-use Rattle.im_base_lock.specs.Found.{Finds, FindsNext, IsScanOf}
+use Rattle.im_theory_machine.specs.Locks.{Name, Request}
+use Rattle.im_theory_machine.specs.Rows.{asked, name_of, next_name}
+use Rattle.im_engine_locks.specs.Found.{Finds, FindsBelow, FindsNext, IsScanOf, name_below}
 use Rattle.im_tree_search.specs.Levels.{bodies_of, start_at}
 use Rattle.im_engine_index.specs.Asks.{IsPlace}
-use Rattle.im_engine_index.specs.Outcomes.{name_in, name_behind, seek_at}
+use Rattle.im_engine_index.specs.LockAnswers.{name_in, name_behind, seek_at}
 
 -- what the walk has of a key, the map has
 pub found_is : (m : IndexMap) (es : List Entry) (key : Key) (rid : Option ℕ) → es ≡ entries m → rid ≡ find key_order key es → get m key ≡ rid
@@ -47,6 +47,10 @@ pub first_is : (s : Start) (m : IndexMap) (es : List Entry) → es ≡ entries m
 unfolding first
 first_is s m es same = ap (first_in s) same
 
+pub last_is : (key : Key) (m : IndexMap) (es : List Entry) → es ≡ entries m → last_in key es ≡ last_below key m
+unfolding last_below
+last_is key m es same = ap (last_in key) same
+
 -- the name of the next key
 same_name : (pool : PoolView) (p : ℕ) (next : NextKey) (o : Option Entry) → next_key_name pool p next ≡ option_map (λ (e : Entry). e.0) o → name_in (entries_of pool p) next ≡ name_of o
 same_name pool p (Here i) None is = cc
@@ -65,6 +69,13 @@ finds_there m key rid next is = record { there_is = ap is_some is; next_is = λ 
 
 pub finds_gap : (m : IndexMap) (key : Key) (next : Name) → get m key ≡ None → next ≡ next_name m key → Finds m key false next
 finds_gap m key next none is = record { there_is = ap is_some none; next_is = λ _. is }
+
+pub finds_below : (m : IndexMap) (es : List Entry) (key : Key) (below next : Option Entry) (found : Option Name) (name : Name) → es ≡ entries m → below ≡ last_in key es → next ≡ first_in (From key) es → found ≡ name_below below → name ≡ name_of next
+    → FindsBelow m key found name
+finds_below m es key below next found name same last first found_is next_is = record {
+  found_is = found_is ∙ ap name_below (last ∙ last_is key m es same);
+  next_is = next_is ∙ ap name_of (first ∙ first_is (From key) m es same);
+}
 
 -- the name behind a range
 same_behind : (o : Option Entry) (behind : Option NextKey) → IfSome behind IsFar → option_map far_name behind ≡ Some (key_if o) → name_behind behind ≡ Some (name_of o)

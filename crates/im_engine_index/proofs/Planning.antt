@@ -32,14 +32,14 @@ use Rattle.im_smo_split.specs.Plan.{IsOver, IsWithin, WantsPages}
 use Rattle.im_smo_split.specs.Tops.{LacksRoomFor}
 use Rattle.im_smo_split.proofs.OneLeaf.{one_leaf}
 use Rattle.im_smo_pages.specs.Images.{Numbered}
-use Rattle.im_base_lock.specs.Rows.{asked}
-use Rattle.im_base_lock.specs.Table.{Table, Decides}
-use Rattle.im_base_lock.specs.declared.verdict.Verdict.TheVariants.{Granted as GrantedAll}
+use Rattle.im_theory_machine.specs.Rows.{asked}
+use Rattle.im_theory_machine.specs.Table.{Table, Decides}
+use Rattle.im_theory_machine.specs.declared.verdict.Verdict.TheVariants.{Granted as GrantedAll}
 use Rattle.im_smo_actions.proofs.Changes.{never_failed, runs_out}
 use Rattle.im_smo_actions.proofs.Standing.{unfinished_good, unfinished_pages}
 use Rattle.im_engine_index.specs.declared.noted.Noted.{Noted}
-use Rattle.im_engine_index.specs.declared.outcome.Outcome.{Outcome}
-use Rattle.im_engine_index.specs.declared.outcome.Outcome.TheVariants.{Granted, Wait, Die}
+use Rattle.im_engine_index.specs.declared.lock_answer.LockAnswer.{LockAnswer}
+use Rattle.im_engine_index.specs.declared.lock_answer.LockAnswer.TheVariants.{Granted, Wait, Die}
 use Rattle.im_engine_index.specs.declared.place.Place.{Place}
 use Rattle.im_engine_index.specs.declared.plan.Plan.{Plan}
 use Rattle.im_engine_index.specs.declared.plan.Plan.TheVariants.{Fits, Split, UsedUp}
@@ -48,7 +48,7 @@ use Rattle.im_engine_index.specs.Asks.{IsAsked, IsPlace}
 use Rattle.im_engine_index.specs.Edits.{MayEdit, InsertKept, IsLimited}
 use Rattle.im_engine_index.specs.KeyLogs.{LeavesEdit}
 use Rattle.im_engine_index.specs.InsertPlans.{IsFull, IsInsertPlan, PlanKept, prepared_with, IsPrepared, PreparedKept, MayInsert, PutKept}
-use Rattle.im_engine_index.specs.Outcomes.{verdict_of, IfGranted}
+use Rattle.im_engine_index.specs.LockAnswers.{verdict_of, IfGranted}
 use Rattle.im_engine_index.proofs.KeyLogs.{bodies_are, walk_is, walk_says}
 use Rattle.im_engine_index.proofs.Names.{walk_says_map}
 use Rattle.im_engine_index.proofs.Inserts.{calls_left, is_memory, late_sound, loaded, loaded_same, stands_behind}
@@ -121,19 +121,19 @@ limited_by pages key max spare good (Split plan) planned none lacks =
     (λ (within : IsWithin (bodies_of pages) key max). inl within) (planned.1.within max refl)
 limited_by pages key max spare good UsedUp left none lacks = inr left.used_up
 
-pub prepared_is : (pages : AllPages) (t : ℕ) (key : Key) (rid max : ℕ) (m : IndexMap) (old new : Table) (pool : PoolView) (plan : Plan) (outcome : Outcome Place) (spare : List ℕ) → IsGoodTree (bodies_of pages) spare → IsAsked pages t (Insert key rid) key m old new pool outcome
+pub prepared_is : (pages : AllPages) (t : ℕ) (key : Key) (rid max : ℕ) (m : IndexMap) (old new : Table) (pool : PoolView) (plan : Plan) (outcome : LockAnswer Place) (spare : List ℕ) → IsGoodTree (bodies_of pages) spare → IsAsked pages t (Insert key rid) key m old new pool outcome
     → IsInsertPlan pages key max plan → IsPrepared pages t key rid max m old new pool (prepared_with plan outcome)
 prepared_is pages t key rid max m old new pool plan (Granted place) spare good is planned = record { decides = is.decides; ready = (is.place, planned); limited = limited_by pages key max spare good plan planned }
 prepared_is pages t key rid max m old new pool plan (Wait holder) spare good is planned = record { decides = is.decides; ready = tt; limited = limited_by pages key max spare good plan planned }
 prepared_is pages t key rid max m old new pool plan Die spare good is planned = record { decides = is.decides; ready = tt; limited = limited_by pages key max spare good plan planned }
 
-pub prepare_refused : (pages : AllPages) (t : ℕ) (key : Key) (rid max : ℕ) (m : IndexMap) (old new : Table) (pool : PoolView) (f : Fault) (r : Result (Outcome Prepared) Fault) → IsErrAnd r (λ y. y ≡ f) → f ≢ NotAStore → (f ≡ PagesFull → IsFull pages key max)
+pub prepare_refused : (pages : AllPages) (t : ℕ) (key : Key) (rid max : ℕ) (m : IndexMap) (old new : Table) (pool : PoolView) (f : Fault) (r : Result (LockAnswer Prepared) Fault) → IsErrAnd r (λ y. y ≡ f) → f ≢ NotAStore → (f ≡ PagesFull → IsFull pages key max)
     → PreparedKept pages t key rid max m old new pool r
 prepare_refused pages t key rid max m old new pool f (Ok x) is sound full = absurd is
 prepare_refused pages t key rid max m old new pool f (Err y) is sound full = record { sound = λ same. sound (sym is ∙ same); full = λ same. full (sym is ∙ same) }
 
 -- where they are asked alone, without a plan
-pub prepared_kept : {D : Type 0} (d : Ghosts D) {v : PageWriter} {old : D} {w : PageWriter} {disk : D} (pages : AllPages) (t : ℕ) (key : Key) (rid max : ℕ) (m : IndexMap) (held new : Table) (pool : PoolView) (r : Result (Outcome Prepared) Fault)
+pub prepared_kept : {D : Type 0} (d : Ghosts D) {v : PageWriter} {old : D} {w : PageWriter} {disk : D} (pages : AllPages) (t : ℕ) (key : Key) (rid max : ℕ) (m : IndexMap) (held new : Table) (pool : PoolView) (r : Result (LockAnswer Prepared) Fault)
     → AsksLocks d v old w disk (fault_of r) → IsSound r (IsPrepared pages t key rid max m held new pool) → PreparedKept pages t key rid max m held new pool r
 prepared_kept {D} d {v} {old} {w} {disk} pages t key rid max m held new pool (Ok x) one sound = record { sound = sound; full = tt }
 prepared_kept {D} d {v} {old} {w} {disk} pages t key rid max m held new pool (Err y) one sound = record { sound = sound; full = λ full. absurd (never_pages_full d refl one full) }
@@ -174,7 +174,7 @@ module _ {D : Type 0} (d : Ghosts D) (b : Base) (base : ℕ) (s : Writer) (e t l
 
   -- refused in front of the grant
   pub insert_refused : (new : Table) (w : PageWriter) (disk : D) (f : Fault) → Ends d AreLoaded (mild_to_split (Some max)) v old w disk (Some f) → f ≢ Capacity → f ≢ NotAStore → (f ≡ PagesFull → IsFull (pages_of s) key max)
-      → (r : Result (Outcome (Option Noted)) Fault) → IsErrAnd r (λ y. y ≡ f) → InsertKept d b base s e t key rid max held new old w disk r
+      → (r : Result (LockAnswer (Option Noted)) Fault) → IsErrAnd r (λ y. y ≡ f) → InsertKept d b base s e t key rid max held new old w disk r
   insert_refused new w disk f one never sound full (Ok x) is = absurd is
   insert_refused new w disk f one never sound full (Err y) is =
       subst (λ (z : Fault). InsertKept d b base s e t key rid max held new old w disk (Err z)) (sym is) (record {
@@ -186,7 +186,7 @@ module _ {D : Type 0} (d : Ghosts D) (b : Base) (base : ℕ) (s : Writer) (e t l
         begun = λ same. absurd (never_failed d f may.unfinished.stands.working one same);
       })
 
-  module _ (new : Table) (w : PageWriter) (disk : D) (one : Ends d AreLoaded (mild_to_split (Some max)) v old w disk None) (outcome : Outcome Prepared) (is : IsPrepared (pages_of s) t key rid max (contents b s.log) held new w.pool outcome) where
+  module _ (new : Table) (w : PageWriter) (disk : D) (one : Ends d AreLoaded (mild_to_split (Some max)) v old w disk None) (outcome : LockAnswer Prepared) (is : IsPrepared (pages_of s) t key rid max (contents b s.log) held new w.pool outcome) where
     pub left : LeavesEdit d b base s t old disk
     left = calls_left d b base s e t last undo_next v old may.unfinished one
 
@@ -195,7 +195,7 @@ module _ {D : Type 0} (d : Ghosts D) (b : Base) (base : ℕ) (s : Writer) (e t l
 
     pub insert_waits : (holder : ℕ) → outcome ≡ Wait holder → InsertKept d b base s e t key rid max held new old w disk (Ok (Wait holder))
     insert_waits holder same = record {
-      sound = (subst (λ (o : Outcome Prepared). Decides held t (asked (Insert key rid) (contents b s.log)) (verdict_of o) new) same is.decides, stands_behind d b base s e t last undo_next v old may.unfinished one);
+      sound = (subst (λ (o : LockAnswer Prepared). Decides held t (asked (Insert key rid) (contents b s.log)) (verdict_of o) new) same is.decides, stands_behind d b base s e t last undo_next v old may.unfinished one);
       stops = left;
       full = tt;
       used_up = tt;
@@ -205,7 +205,7 @@ module _ {D : Type 0} (d : Ghosts D) (b : Base) (base : ℕ) (s : Writer) (e t l
 
     pub insert_dies : outcome ≡ Die → InsertKept d b base s e t key rid max held new old w disk (Ok Die)
     insert_dies same = record {
-      sound = (subst (λ (o : Outcome Prepared). Decides held t (asked (Insert key rid) (contents b s.log)) (verdict_of o) new) same is.decides, stands_behind d b base s e t last undo_next v old may.unfinished one);
+      sound = (subst (λ (o : LockAnswer Prepared). Decides held t (asked (Insert key rid) (contents b s.log)) (verdict_of o) new) same is.decides, stands_behind d b base s e t last undo_next v old may.unfinished one);
       stops = left;
       full = tt;
       used_up = tt;
@@ -215,10 +215,10 @@ module _ {D : Type 0} (d : Ghosts D) (b : Base) (base : ℕ) (s : Writer) (e t l
 
     module _ (x : Prepared) (same : outcome ≡ Granted x) where
       pub decided : Decides held t (asked (Insert key rid) (contents b s.log)) GrantedAll new
-      decided = subst (λ (o : Outcome Prepared). Decides held t (asked (Insert key rid) (contents b s.log)) (verdict_of o) new) same is.decides
+      decided = subst (λ (o : LockAnswer Prepared). Decides held t (asked (Insert key rid) (contents b s.log)) (verdict_of o) new) same is.decides
 
       pub ready : IsPlace (pages_of s) key (contents b s.log) w.pool x.place × IsInsertPlan (pages_of s) key max x.plan
-      ready = subst (λ (o : Outcome Prepared). IfGranted o (λ y. IsPlace (pages_of s) key (contents b s.log) w.pool y.place × IsInsertPlan (pages_of s) key max y.plan)) same is.ready
+      ready = subst (λ (o : LockAnswer Prepared). IfGranted o (λ y. IsPlace (pages_of s) key (contents b s.log) w.pool y.place × IsInsertPlan (pages_of s) key max y.plan)) same is.ready
 
       -- the key is there
       pub insert_duplicate : (there : Bool) → there ≡ is_some x.place.rid → there ≡ true → InsertKept d b base s e t key rid max held new old w disk (Ok (Granted None))

@@ -25,16 +25,16 @@ use Rattle.im_smo_split.specs.Tops.{LacksRoomFor}
 use Rattle.im_smo_split.specs.Plan.{IsOver, IsWithin}
 use Rattle.im_smo_actions.specs.DropPlan.{IsSpare, IsKept}
 use Rattle.im_smo_actions.specs.Structure.{IsUnfinished, IsUsedUp}
-use Rattle.im_base_lock.specs.Locks.{IsFree}
-use Rattle.im_base_lock.specs.Rows.{asked}
-use Rattle.im_base_lock.specs.Table.{Table, Decides, locks_of}
-use Rattle.im_base_lock.specs.declared.verdict.Verdict.TheVariants.{Granted as GrantedAll}
+use Rattle.im_theory_machine.specs.Locks.{IsFree}
+use Rattle.im_theory_machine.specs.Rows.{asked}
+use Rattle.im_theory_machine.specs.Table.{Table, Decides, locks_of}
+use Rattle.im_theory_machine.specs.declared.verdict.Verdict.TheVariants.{Granted as GrantedAll}
 use Rattle.im_theory_steps.specs.Steps.{key_record}
-use Rattle.im_engine_index.specs.declared.outcome.Outcome.{Outcome}
-use Rattle.im_engine_index.specs.declared.outcome.Outcome.TheVariants.{Granted, Wait, Die}
+use Rattle.im_engine_index.specs.declared.lock_answer.LockAnswer.{LockAnswer}
+use Rattle.im_engine_index.specs.declared.lock_answer.LockAnswer.TheVariants.{Granted, Wait, Die}
 use Rattle.im_engine_index.specs.declared.noted.Noted.{Noted}
 use Rattle.im_engine_index.specs.declared.noted.Taken.{Taken}
-use Rattle.im_engine_index.specs.Outcomes.{verdict_of}
+use Rattle.im_engine_index.specs.LockAnswers.{verdict_of}
 use Rattle.im_engine_index.specs.KeyLogs.{LeavesEdit}
 
 -- ---- the leaf of a key that goes
@@ -85,7 +85,7 @@ module _ {D : Type 0} (d : Ghosts D) (b : Base) (base : ℕ) where
     pub within : LacksRoomFor (bodies s) key → IsWithin (bodies s) key max
 
   -- by the outcome: nothing is logged of a key that is there, nor where a lock is in the way
-  abbrev pub IsInsert : Writer → ℕ → ℕ → Key → ℕ → ℕ → D → PageWriter → D → Outcome (Option Noted) → Type 0
+  abbrev pub IsInsert : Writer → ℕ → ℕ → Key → ℕ → ℕ → D → PageWriter → D → LockAnswer (Option Noted) → Type 0
   IsInsert s e t key rid max old w disk (Granted None) = (i : ℕ) × (get (contents b s.log) key ≡ Some i) × Evicted d b base s old w disk
   IsInsert s e t key rid max old w disk (Granted (Some noted)) = Inserted s e t key rid max noted w disk
   IsInsert s e t key rid max old w disk (Wait holder) = Evicted d b base s old w disk
@@ -93,7 +93,7 @@ module _ {D : Type 0} (d : Ghosts D) (b : Base) (base : ℕ) where
 
   -- What an insert keeps. Pages are wanted before a lock is asked, page numbers behind the grant, both only where the key is absent and its leaf lacks room for it: so an absent key has an answer, a lock that stands in the way included, only within the limit of pages. `Failed` comes behind the grant of
   -- the locks of a key that is absent, where its leaf lacks room or nothing but Images joined the log.
-  pub record InsertKept (s : Writer) (e t : ℕ) (key : Key) (rid max : ℕ) (held new : Table) (old : D) (w : PageWriter) (disk : D) (result : Result (Outcome (Option Noted)) Fault) : Type 0 where
+  pub record InsertKept (s : Writer) (e t : ℕ) (key : Key) (rid max : ℕ) (held new : Table) (old : D) (w : PageWriter) (disk : D) (result : Result (LockAnswer (Option Noted)) Fault) : Type 0 where
     pub sound : IsSound result (λ outcome. Decides held t (asked (Insert key rid) (contents b s.log)) (verdict_of outcome) new × IsInsert s e t key rid max old w disk outcome)
     pub stops : LeavesEdit d b base s t old disk
     pub full : IfErr result (λ e. e ≡ PagesFull → (get (contents b s.log) key ≡ None) × LacksRoomFor (bodies s) key × IsOver (bodies s) key max)
@@ -126,14 +126,14 @@ module _ {D : Type 0} (d : Ghosts D) (b : Base) (base : ℕ) where
     pub stops : LeavesEdit d b base s t old disk
     pub begun : IfErr result (λ e. e ≡ Failed → HasOne (bodies s) key)
 
-  abbrev pub IsDelete : Writer → ℕ → ℕ → ℕ → Key → D → PageWriter → D → Outcome (Option Taken) → Type 0
+  abbrev pub IsDelete : Writer → ℕ → ℕ → ℕ → Key → D → PageWriter → D → LockAnswer (Option Taken) → Type 0
   IsDelete s e t last key old w disk (Granted None) = (get (contents b s.log) key ≡ None) × Evicted d b base s old w disk
   IsDelete s e t last key old w disk (Granted (Some taken)) = Deleted s e t last key taken w disk
   IsDelete s e t last key old w disk (Wait holder) = Evicted d b base s old w disk
   IsDelete s e t last key old w disk Die = Evicted d b base s old w disk
 
   -- What a delete keeps. `Failed` comes behind the grant of the locks of a key that is there, where it was its leaf's only one or nothing but Images joined the log.
-  pub record DeleteKept (s : Writer) (e t last : ℕ) (key : Key) (held new : Table) (old : D) (w : PageWriter) (disk : D) (result : Result (Outcome (Option Taken)) Fault) : Type 0 where
+  pub record DeleteKept (s : Writer) (e t last : ℕ) (key : Key) (held new : Table) (old : D) (w : PageWriter) (disk : D) (result : Result (LockAnswer (Option Taken)) Fault) : Type 0 where
     pub sound : IsSound result (λ outcome. Decides held t (asked (Delete key) (contents b s.log)) (verdict_of outcome) new × IsDelete s e t last key old w disk outcome)
     pub stops : LeavesEdit d b base s t old disk
     pub begun : IfErr result (λ e. e ≡ Failed → (get (contents b s.log) key ≢ None) × Decides held t (asked (Delete key) (contents b s.log)) GrantedAll new × (HasOne (bodies s) key ⊎ Evicted d b base s old w disk))

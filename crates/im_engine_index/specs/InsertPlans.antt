@@ -23,11 +23,11 @@ use Rattle.im_smo_split.specs.Kept.{mild_to_split}
 use Rattle.im_smo_split.specs.Plan.{IsOver, IsWithin, Planned}
 use Rattle.im_smo_split.specs.Tops.{HasRoomFor, LacksRoomFor}
 use Rattle.im_smo_actions.specs.Structure.{IsUnfinished, IsUsedUp, Restructured}
-use Rattle.im_base_lock.specs.Rows.{asked}
-use Rattle.im_base_lock.specs.Table.{Table, Decides}
+use Rattle.im_theory_machine.specs.Rows.{asked}
+use Rattle.im_theory_machine.specs.Table.{Table, Decides}
 use Rattle.im_engine_index.specs.declared.noted.Noted.{Noted}
-use Rattle.im_engine_index.specs.declared.outcome.Outcome.{Outcome}
-use Rattle.im_engine_index.specs.declared.outcome.Outcome.TheVariants.{Granted, Wait, Die}
+use Rattle.im_engine_index.specs.declared.lock_answer.LockAnswer.{LockAnswer}
+use Rattle.im_engine_index.specs.declared.lock_answer.LockAnswer.TheVariants.{Granted, Wait, Die}
 use Rattle.im_engine_index.specs.declared.place.Place.{Place}
 use Rattle.im_engine_index.specs.declared.plan.Plan.{Plan}
 use Rattle.im_engine_index.specs.declared.plan.Plan.TheVariants.{Fits, Split, UsedUp}
@@ -35,7 +35,7 @@ use Rattle.im_engine_index.specs.declared.plan.Prepared.{Prepared}
 use Rattle.im_engine_index.specs.Asks.{IsPlace}
 use Rattle.im_engine_index.specs.Edits.{Inserted, IsLimited}
 use Rattle.im_engine_index.specs.KeyLogs.{LeavesEdit}
-use Rattle.im_engine_index.specs.Outcomes.{verdict_of, IfGranted}
+use Rattle.im_engine_index.specs.LockAnswers.{verdict_of, IfGranted}
 
 -- ---- in front of the grant
 
@@ -63,20 +63,20 @@ pub record PlanKept (pages : AllPages) (key : Key) (max : ℕ) (result : Result 
   pub full : IfErr result (λ e. e ≡ PagesFull → IsFull pages key max)
 
 -- a plan beside the place that was granted
-abbrev pub prepared_with : Plan → Outcome Place → Outcome Prepared
+abbrev pub prepared_with : Plan → LockAnswer Place → LockAnswer Prepared
 prepared_with plan (Granted place) = Granted (record { place = place; plan = plan })
 prepared_with plan (Wait holder) = Wait holder
 prepared_with plan Die = Die
 
 -- The lock table has decided what the insert of t asks on the map; where it is granted, this is the key's place, and the plan is the key's.
-pub record IsPrepared (pages : AllPages) (t : ℕ) (key : Key) (rid max : ℕ) (m : IndexMap) (old new : Table) (pool : PoolView) (outcome : Outcome Prepared) : Type 0 where
+pub record IsPrepared (pages : AllPages) (t : ℕ) (key : Key) (rid max : ℕ) (m : IndexMap) (old new : Table) (pool : PoolView) (outcome : LockAnswer Prepared) : Type 0 where
   pub decides : Decides old t (asked (Insert key rid) m) (verdict_of outcome) new
   pub ready : IfGranted outcome (λ x. IsPlace pages key m pool x.place × IsInsertPlan pages key max x.plan)
   -- whatever was decided: a plan over the limit has asked no lock
   pub limited : find key_order key (walk (bodies_of pages)) ≡ None → IsLimited (bodies_of pages) key max
 
 -- what that keeps
-pub record PreparedKept (pages : AllPages) (t : ℕ) (key : Key) (rid max : ℕ) (m : IndexMap) (old new : Table) (pool : PoolView) (result : Result (Outcome Prepared) Fault) : Type 0 where
+pub record PreparedKept (pages : AllPages) (t : ℕ) (key : Key) (rid max : ℕ) (m : IndexMap) (old new : Table) (pool : PoolView) (result : Result (LockAnswer Prepared) Fault) : Type 0 where
   pub sound : IsSound result (IsPrepared pages t key rid max m old new pool)
   pub full : IfErr result (λ e. e ≡ PagesFull → IsFull pages key max)
 

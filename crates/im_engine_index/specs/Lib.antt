@@ -1,4 +1,4 @@
-pub mod Outcomes
+pub mod LockAnswers
 pub mod Reads
 pub mod Asks
 pub mod LockCalls

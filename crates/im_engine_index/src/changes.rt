@@ -13,22 +13,22 @@ ghost use Rattle.im_engine_index.specs.LockCalls.{AsksLocks};
 ghost use Rattle.im_theory_tree.specs.Levels.{walk};
 ghost use Rattle.im_tree_search.specs.Levels.{HasLevel, bodies_of};
 ghost use Rattle.im_tree_search.specs.Found.{HasTree};
-ghost use Rattle.im_base_lock.specs.Table.{SameTable};
-ghost use Rattle.im_engine_index.specs.Outcomes.{IfGranted};
+ghost use Rattle.im_theory_machine.specs.Table.{SameLasting, SameTable};
+ghost use Rattle.im_engine_index.specs.LockAnswers.{IfGranted};
 ghost use Rattle.im_engine_index.specs.Asks.{IsAsked, IsPlace};
 
 use crate::asking::{name_in, outcome_of};
-use crate::outcome::Outcome;
+use crate::lock_answer::LockAnswer;
 use crate::place::Place;
 use im_base_disk::Disk;
-use im_base_lock::{LockTable, delete_row, insert_row};
 use im_base_types::{Fault, Rid, TxnId};
+use im_engine_locks::{LockTable, delete_row, insert_row};
 use im_page::Page;
 use im_page_writer::PageWriter;
-use im_tree_search::{leaf_and_next, leaf_for, next_in_leaf};
+use im_tree_search::{leaf_and_next, next_in_leaf};
 
 // What a leaf has of a key.
-pub(crate) fn value_in(page: &Page, key: &[u8]) -> Option<Rid>
+pub(crate) fn rid_in(page: &Page, key: &[u8]) -> Option<Rid>
     ensures { result ≡ find key_order key.now page.now.body.entries }
 {
     page.content();
@@ -54,7 +54,7 @@ pub(crate) fn ask_insert_at<D: Disk>(
     transaction: TxnId,
     key: &[u8],
     found: Place,
-) -> Result<Outcome<Place>, Fault>
+) -> Result<LockAnswer<Place>, Fault>
     requires ready { IsReadyWriter D.Disk writer.old disk.old }
     requires working { writer.old.failed ≡ false }
     requires at { IsAt writer.old.pool found.leaf }
@@ -65,6 +65,7 @@ pub(crate) fn ask_insert_at<D: Disk>(
     ensures at { IfOk result (λ outcome. IfGranted outcome (λ place. IsAt writer.new.pool place.leaf)) }
     ensures leaf { IfOk result (λ outcome. IfGranted outcome (λ place. HasLevel 0 (page_at writer.new.pool place.leaf.number).body)) }
     ensures table { OnErr result (SameTable locks.old locks.new) }
+    ensures lasting { OnErr result (SameLasting locks.old locks.new) }
 {
     let (leaf, next) = next_in_leaf(writer, disk, found.leaf, key)?;
     let page = writer.page(leaf);
@@ -80,42 +81,18 @@ pub(crate) fn ask_insert_at<D: Disk>(
     ))
 }
 
-/// Asks what an Insert of a key asks: where the key is there its lock, shared; else the lock of the next name for the instant and the
-/// key's own, both against every other. Where that is granted, the key's leaf is held from now on.
-///
-/// Refused as `im_tree_search::next_entry` is, and `Memory` where the lock table wants it. After a refusal, `Wait` and `Die` nobody holds
-/// another lock than before.
-pub fn ask_insert<D: Disk>(
-    writer: &mut PageWriter,
-    disk: &mut D,
-    locks: &mut LockTable,
-    transaction: TxnId,
-    key: &[u8],
-) -> Result<Outcome<Place>, Fault>
-    requires ready { IsReadyWriter D.Disk writer.old disk.old }
-    ensures outcome { AsksLocks D.Disk writer.old disk.old writer.new disk.new (fault_of result) }
-    ensures kept { (pages : AllPages) (m : IndexMap) (rid : ℕ) → HasTree D.Disk pages writer.old disk.old → walk (bodies_of pages) ≡ entries m
-        → IsSound result (IsAsked pages transaction (Insert key.now rid) key.now m locks.old locks.new writer.new.pool) }
-    ensures at { IfOk result (λ outcome. IfGranted outcome (λ place. IsAt writer.new.pool place.leaf)) }
-    ensures leaf { IfOk result (λ outcome. IfGranted outcome (λ place. HasLevel 0 (page_at writer.new.pool place.leaf.number).body)) }
-    ensures table { OnErr result (SameTable locks.old locks.new) }
-{
-    let leaf = leaf_for(writer, disk, key)?;
-    let rid = value_in(writer.page(leaf), key);
-    ask_insert_at(writer, disk, locks, transaction, key, Place { leaf, rid })
-}
-
 /// Asks what a Delete of a key asks: where the key is there the lock of the next name, and for the instant the key's own, both against
 /// every other; else that of the next name, shared. Where that is granted, the key's leaf is held from now on.
 ///
-/// Refused as `ask_insert` is.
+/// Refused as `im_tree_search::next_entry` is, and `Memory` where the lock table wants it. After a refusal, `Wait` and `Die` nobody holds
+/// another lock than before.
 pub fn ask_delete<D: Disk>(
     writer: &mut PageWriter,
     disk: &mut D,
     locks: &mut LockTable,
     transaction: TxnId,
     key: &[u8],
-) -> Result<Outcome<Place>, Fault>
+) -> Result<LockAnswer<Place>, Fault>
     requires ready { IsReadyWriter D.Disk writer.old disk.old }
     ensures outcome { AsksLocks D.Disk writer.old disk.old writer.new disk.new (fault_of result) }
     ensures kept { (pages : AllPages) (m : IndexMap) → HasTree D.Disk pages writer.old disk.old → walk (bodies_of pages) ≡ entries m
@@ -123,10 +100,11 @@ pub fn ask_delete<D: Disk>(
     ensures at { IfOk result (λ outcome. IfGranted outcome (λ place. IsAt writer.new.pool place.leaf)) }
     ensures leaf { IfOk result (λ outcome. IfGranted outcome (λ place. HasLevel 0 (page_at writer.new.pool place.leaf.number).body)) }
     ensures table { OnErr result (SameTable locks.old locks.new) }
+    ensures lasting { OnErr result (SameLasting locks.old locks.new) }
 {
     let (leaf, next) = leaf_and_next(writer, disk, key)?;
     let page = writer.page(leaf);
-    let rid = value_in(page, key);
+    let rid = rid_in(page, key);
     let there = is_there(&rid);
     let row = delete_row(key, there, name_in(page, &next));
     let verdict = locks.try_all(transaction, row.as_slice())?;

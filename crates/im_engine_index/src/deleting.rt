@@ -9,18 +9,18 @@ ghost use Rattle.im_theory_log.specs.Writer.{Writer};
 ghost use Rattle.im_page_pool.specs.Pool.{IsAt};
 ghost use Rattle.im_page_writer.specs.PageWriter.{IsReadyWriter};
 ghost use Rattle.im_page_writer.specs.Outcome.{fault_of, mild, no_page, Logs};
-ghost use Rattle.im_base_lock.specs.Table.{SameTable};
+ghost use Rattle.im_theory_machine.specs.Table.{SameLasting, SameTable};
 ghost use Rattle.im_engine_index.specs.KeyLogs.{MayTake};
 ghost use Rattle.im_engine_index.specs.Edits.{MayEdit, DeleteKept, TakenKept};
 
 use crate::changes::ask_delete;
+use crate::lock_answer::LockAnswer;
 use crate::logging::log_delete;
 use crate::noted::Taken;
-use crate::outcome::Outcome;
 use im_base_disk::Disk;
-use im_base_lock::LockTable;
 use im_base_txn::Transaction;
 use im_base_types::{Fault, Rid};
+use im_engine_locks::LockTable;
 use im_page_pool::Frame;
 use im_page_writer::PageWriter;
 use im_smo_actions::{drop_empty_leaf, is_last_entry};
@@ -91,7 +91,7 @@ pub fn delete<D: Disk>(
     locks: &mut LockTable,
     transaction: &Transaction,
     key: &[u8],
-) -> Result<Outcome<Option<Taken>>, Fault>
+) -> Result<LockAnswer<Option<Taken>>, Fault>
     requires ready { IsReadyWriter D.Disk writer.old disk.old }
     requires working { writer.old.failed ≡ false }
     requires owner { 1 ≤ transaction.now.number }
@@ -101,17 +101,18 @@ pub fn delete<D: Disk>(
     ensures kept { (b : Base) (base : ℕ) (s : Writer) (e : ℕ) → MayEdit D.Disk b base s e transaction.now.number transaction.now.last transaction.now.undo_next (Delete key.now) locks.old writer.old disk.old
         → DeleteKept D.Disk b base s e transaction.now.number transaction.now.last key.now locks.old locks.new disk.old writer.new disk.new result }
     ensures table { IfErr result (λ e. e ≡ Memory → SameTable locks.old locks.new) }
+    ensures lasting { IfErr result (λ e. e ≡ Memory → SameLasting locks.old locks.new) }
 {
     let place = match ask_delete(writer, disk, locks, transaction.number, key)? {
-        Outcome::Granted(place) => place,
-        Outcome::Wait(holder) => return Ok(Outcome::Wait(holder)),
-        Outcome::Die => return Ok(Outcome::Die),
+        LockAnswer::Granted(place) => place,
+        LockAnswer::Wait(holder) => return Ok(LockAnswer::Wait(holder)),
+        LockAnswer::Die => return Ok(LockAnswer::Die),
     };
     let Some(rid) = place.rid else {
-        return Ok(Outcome::Granted(None));
+        return Ok(LockAnswer::Granted(None));
     };
     match delete_from(alloc, writer, disk, transaction, place.leaf, key, rid) {
-        Ok(taken) => Ok(Outcome::Granted(Some(taken))),
+        Ok(taken) => Ok(LockAnswer::Granted(Some(taken))),
         Err(fault) => Err(late(fault)),
     }
 }

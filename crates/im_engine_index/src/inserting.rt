@@ -21,22 +21,22 @@ ghost use Rattle.im_tree_search.specs.Levels.{HasLevel, bodies, bodies_of};
 ghost use Rattle.im_tree_search.specs.Found.{HasTree};
 ghost use Rattle.im_smo_split.specs.Kept.{mild_to_split};
 ghost use Rattle.im_smo_split.specs.Tops.{LacksRoomFor};
-ghost use Rattle.im_base_lock.specs.Table.{SameTable};
+ghost use Rattle.im_theory_machine.specs.Table.{SameLasting, SameTable};
 ghost use Rattle.im_engine_index.specs.declared.plan.Plan.TheVariants.{Fits, Split, UsedUp};
 ghost use Rattle.im_engine_index.specs.Asks.{IsPlace};
 ghost use Rattle.im_engine_index.specs.Edits.{MayEdit, InsertKept};
 ghost use Rattle.im_engine_index.specs.InsertPlans.{IsInsertPlan, PlanKept, IsPrepared, PreparedKept, prepared_with, ComesTo, MayInsert, PutKept};
 
-use crate::changes::{ask_insert_at, is_there, value_in};
+use crate::changes::{ask_insert_at, is_there, rid_in};
+use crate::lock_answer::LockAnswer;
 use crate::logging::log_insert;
 use crate::noted::Noted;
-use crate::outcome::Outcome;
 use crate::place::Place;
 use crate::plan::{Plan, Prepared};
 use im_base_disk::Disk;
-use im_base_lock::LockTable;
 use im_base_txn::Transaction;
 use im_base_types::{Fault, Lsn, PageNo, Rid, TxnId};
+use im_engine_locks::LockTable;
 use im_page_writer::PageWriter;
 use im_smo_actions::has_room;
 use im_smo_log::{late, run};
@@ -94,13 +94,13 @@ fn plan_pages<D: Disk>(
 }
 
 // The place that was granted, with a plan beside it.
-fn with_plan(plan: Plan, outcome: Outcome<Place>) -> Outcome<Prepared>
+fn with_plan(plan: Plan, outcome: LockAnswer<Place>) -> LockAnswer<Prepared>
     ensures { result ≡ prepared_with plan outcome }
 {
     match outcome {
-        Outcome::Granted(place) => Outcome::Granted(Prepared { place, plan }),
-        Outcome::Wait(holder) => Outcome::Wait(holder),
-        Outcome::Die => Outcome::Die,
+        LockAnswer::Granted(place) => LockAnswer::Granted(Prepared { place, plan }),
+        LockAnswer::Wait(holder) => LockAnswer::Wait(holder),
+        LockAnswer::Die => LockAnswer::Die,
     }
 }
 
@@ -113,7 +113,7 @@ fn ask_planned<D: Disk>(
     key: &[u8],
     place: Place,
     plan: Plan,
-) -> Result<Outcome<Prepared>, Fault>
+) -> Result<LockAnswer<Prepared>, Fault>
     requires ready { IsReadyWriter D.Disk writer.old disk.old }
     requires working { writer.old.failed ≡ false }
     requires at { IsAt writer.old.pool place.leaf }
@@ -122,6 +122,7 @@ fn ask_planned<D: Disk>(
     ensures kept { (pages : AllPages) (m : IndexMap) (rid max : ℕ) → HasTree D.Disk pages writer.old disk.old → walk (bodies_of pages) ≡ entries m → IsPlace pages key.now m writer.old.pool place
         → IsInsertPlan pages key.now max plan → IsSound result (IsPrepared pages transaction key.now rid max m locks.old locks.new writer.new.pool) }
     ensures table { OnErr result (SameTable locks.old locks.new) }
+    ensures lasting { OnErr result (SameLasting locks.old locks.new) }
 {
     let outcome = ask_insert_at(writer, disk, locks, transaction, key, place)?;
     Ok(with_plan(plan, outcome))
@@ -138,7 +139,7 @@ fn prepare_split<D: Disk>(
     key: &[u8],
     page: PageNo,
     max: PageNo,
-) -> Result<Outcome<Prepared>, Fault>
+) -> Result<LockAnswer<Prepared>, Fault>
     requires ready { IsReadyWriter D.Disk writer.old disk.old }
     requires working { writer.old.failed ≡ false }
     requires short { length key.now ≤ 255 }
@@ -148,6 +149,7 @@ fn prepare_split<D: Disk>(
         → PreparedKept pages transaction key.now rid max m locks.old locks.new writer.new.pool result }
     ensures never { IfErr result (λ e. e ≢ Capacity) }
     ensures table { OnErr result (SameTable locks.old locks.new) }
+    ensures lasting { OnErr result (SameLasting locks.old locks.new) }
 {
     let plan = plan_pages(alloc, writer, disk, key, max)?;
     let leaf = tree_page(writer, disk, page, 0)?;
@@ -165,7 +167,7 @@ fn prepare<D: Disk>(
     transaction: TxnId,
     key: &[u8],
     max: PageNo,
-) -> Result<Outcome<Prepared>, Fault>
+) -> Result<LockAnswer<Prepared>, Fault>
     requires ready { IsReadyWriter D.Disk writer.old disk.old }
     requires working { writer.old.failed ≡ false }
     requires short { length key.now ≤ 255 }
@@ -174,9 +176,10 @@ fn prepare<D: Disk>(
         → PreparedKept pages transaction key.now rid max m locks.old locks.new writer.new.pool result }
     ensures never { IfErr result (λ e. e ≢ Capacity) }
     ensures table { OnErr result (SameTable locks.old locks.new) }
+    ensures lasting { OnErr result (SameLasting locks.old locks.new) }
 {
     let leaf = leaf_for(writer, disk, key)?;
-    let rid = value_in(writer.page(leaf), key);
+    let rid = rid_in(writer.page(leaf), key);
     let place = Place { leaf, rid };
     if goes_in(writer, place, key) {
         return ask_planned(writer, disk, locks, transaction, key, place, Plan::Fits);
@@ -289,7 +292,8 @@ fn log_prepared<D: Disk>(
     }
 }
 
-/// Puts a key with its row id, where it is not there yet, for a transaction that is going. Its locks are those that `ask_insert` asks.
+/// Puts a key with its row id, where it is not there yet, for a transaction that is going. Where the key is there it asks that key's lock, shared;
+/// else the lock of the next name for the instant and the key's own, both against every other.
 /// The leaf is split first where it lacks room, within a limit of pages. It answers what the transaction's row notes, and `None` where the
 /// key is there.
 ///
@@ -308,7 +312,7 @@ pub fn insert<D: Disk>(
     key: &[u8],
     rid: Rid,
     max: PageNo,
-) -> Result<Outcome<Option<Noted>>, Fault>
+) -> Result<LockAnswer<Option<Noted>>, Fault>
     requires ready { IsReadyWriter D.Disk writer.old disk.old }
     requires working { writer.old.failed ≡ false }
     requires owner { 1 ≤ transaction.now.number }
@@ -318,18 +322,19 @@ pub fn insert<D: Disk>(
     ensures kept { (b : Base) (base : ℕ) (s : Writer) (e : ℕ) → MayEdit D.Disk b base s e transaction.now.number transaction.now.last transaction.now.undo_next (Insert key.now rid) locks.old writer.old disk.old
         → InsertKept D.Disk b base s e transaction.now.number key.now rid max locks.old locks.new disk.old writer.new disk.new result }
     ensures table { IfErr result (λ e. (e ≡ Memory) ⊎ (e ≡ PagesFull) → SameTable locks.old locks.new) }
+    ensures lasting { IfErr result (λ e. (e ≡ Memory) ⊎ (e ≡ PagesFull) → SameLasting locks.old locks.new) }
 {
     let prepared = match prepare(alloc, writer, disk, locks, transaction.number, key, max)? {
-        Outcome::Granted(prepared) => prepared,
-        Outcome::Wait(holder) => return Ok(Outcome::Wait(holder)),
-        Outcome::Die => return Ok(Outcome::Die),
+        LockAnswer::Granted(prepared) => prepared,
+        LockAnswer::Wait(holder) => return Ok(LockAnswer::Wait(holder)),
+        LockAnswer::Die => return Ok(LockAnswer::Die),
     };
     let Prepared { place, plan } = prepared;
     if is_there(&place.rid) {
-        return Ok(Outcome::Granted(None));
+        return Ok(LockAnswer::Granted(None));
     }
     match log_prepared(writer, disk, transaction, place.leaf.number, plan, key, rid) {
-        Ok(noted) => Ok(Outcome::Granted(Some(noted))),
+        Ok(noted) => Ok(LockAnswer::Granted(Some(noted))),
         Err(fault) => Err(late(fault)),
     }
 }

@@ -3,12 +3,12 @@
 //! Steps by a key of one transaction among many: search and locks.
 //!
 //! Each step searches the tree, asks the lock table all that the access asks, by what was found there, and answers what one user alone
-//! would be answered on the tree's map; where a lock is in its way nothing is done (`Outcome`).
+//! would be answered on the tree's map; where a lock is in its way nothing is done (`LockAnswer`).
 //!
 //! - `fetch` answers the row id of a key.
-//! - `seek` answers the first entry at or above a key, or above it.
+//! - `seek` answers the first entry at or above a key, or above it; `prev` the last below it.
 //! - `scan` answers the entries of a range.
-//! - `ask_insert` and `ask_delete` ask the locks of a change, and hold the leaf where it goes.
+//! - `ask_delete` asks the locks of a delete, and holds the leaf where it goes.
 //! - `log_insert` and `log_delete` log the change on that leaf, after which the log is lawful and the transaction not finished. Another
 //!   transaction's structure change may be open that has not changed that leaf.
 //! - `insert` searches the key's leaf, plans the split that it wants, asks its locks, and logs its key where they are granted, after that split. What it
@@ -22,20 +22,20 @@ mod asking;
 mod changes;
 mod deleting;
 mod inserting;
+mod lock_answer;
 mod logging;
 mod noted;
-mod outcome;
 mod place;
 mod plan;
 mod reads;
 mod scans;
 
-pub use changes::{ask_delete, ask_insert};
+pub use changes::ask_delete;
 pub use deleting::delete;
 pub use inserting::insert;
+pub use lock_answer::LockAnswer;
 pub use logging::{log_delete, log_insert};
 pub use noted::{Noted, Taken};
-pub use outcome::Outcome;
 pub use place::Place;
-pub use reads::{fetch, seek};
+pub use reads::{fetch, prev, seek};
 pub use scans::scan;

@@ -14,19 +14,21 @@ ghost use Rattle.im_theory_tree.specs.Levels.{walk};
 ghost use Rattle.im_tree_search.specs.Levels.{bodies_of};
 ghost use Rattle.im_tree_search.specs.Found.{HasTree};
 ghost use Rattle.im_tree_search.specs.NextKeys.{IsFar};
-ghost use Rattle.im_base_lock.specs.Locks.{IsFree};
-ghost use Rattle.im_base_lock.specs.Rows.{asked};
-ghost use Rattle.im_base_lock.specs.Found.{IsScanOf, named_if};
-ghost use Rattle.im_base_lock.specs.Table.{Decides, SameTable, locks_of};
-ghost use Rattle.im_engine_index.specs.Outcomes.{name_behind, entries_found, IfGranted};
+ghost use Rattle.im_theory_machine.specs.Locks.{IsFree};
+ghost use Rattle.im_theory_machine.specs.Rows.{asked};
+ghost use Rattle.im_engine_locks.specs.Found.{IsScanOf};
+ghost use Rattle.im_engine_locks.specs.Requests.{named_if};
+ghost use Rattle.im_theory_machine.specs.Table.{Decides, SameLasting, SameTable, locks_of};
+ghost use Rattle.im_engine_index.specs.LockAnswers.{name_behind, entries_found, IfGranted};
 ghost use Rattle.im_engine_index.specs.Reads.{IsRead};
 
 use crate::asking::outcome_of;
-use crate::outcome::Outcome;
+use crate::lock_answer::LockAnswer;
 use im_base_disk::Disk;
-use im_base_lock::{LockTable, Name, Verdict, scan_row};
 use im_base_types::{Fault, Key, MOST_ENTRIES, Rid, TxnId};
+use im_engine_locks::{LockTable, Name, scan_row};
 use im_page_writer::PageWriter;
+use im_theory_machine::Verdict;
 use im_tree_search::{NextKey, entries_between};
 use std::alloc::Global;
 
@@ -67,6 +69,7 @@ fn ask_range(
     ensures decided { IfOk result (λ verdict. (m : IndexMap) (lo hi : KeyBytes) (n : ℕ) → IsScanOf m lo hi n list.now (name_behind behind.now) → Decides locks.old transaction (asked (Scan lo hi n) m) verdict locks.new) }
     ensures memory { IfErr result (λ e. e ≡ Memory) }
     ensures table { OnErr result (SameTable locks.old locks.new) }
+    ensures lasting { OnErr result (SameLasting locks.old locks.new) }
 {
     let requests = scan_row(alloc, list, name_of_end(behind))?;
     locks.try_all(transaction, requests.as_slice())
@@ -87,13 +90,14 @@ pub fn scan<D: Disk>(
     lo: &[u8],
     hi: &[u8],
     limit: usize,
-) -> Result<Outcome<Vec<(Key, Rid)>>, Fault>
+) -> Result<LockAnswer<Vec<(Key, Rid)>>, Fault>
     requires ready { IsReadyWriter D.Disk writer.old disk.old }
     ensures outcome { AsksLocks D.Disk writer.old disk.old writer.new disk.new (fault_of result) }
     ensures kept { (pages : AllPages) (m : IndexMap) → HasTree D.Disk pages writer.old disk.old → walk (bodies_of pages) ≡ entries m
         → IsSound result (IsRead entries_found transaction (Scan lo.now hi.now limit) m locks.old locks.new) }
     ensures most { IfOk result (λ outcome. IfGranted outcome (λ list. length list.items ≤ limit_of limit)) }
     ensures table { OnErr result (SameTable locks.old locks.new) }
+    ensures lasting { OnErr result (SameLasting locks.old locks.new) }
 {
     let (list, behind) = entries_between(alloc, writer, disk, lo, hi, bounded(limit))?;
     let verdict = ask_range(alloc, locks, transaction, list.as_slice(), &behind)?;

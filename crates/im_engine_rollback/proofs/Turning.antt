@@ -34,7 +34,7 @@ use Rattle.im_engine_rollback.specs.declared.undone.Undone.{Undone}
 use Rattle.im_engine_rollback.specs.declared.undone.Undone.TheVariants.{More, Ended}
 use Rattle.im_engine_rollback.specs.Ends.{may_be_full, TurnOutcome}
 use Rattle.im_engine_rollback.proofs.Ends.{never_capacity, never_failed, never_memory}
-use Rattle.im_engine_rollback.specs.Turns.{EndedNow, GoOnKept, HasMore, TakeKept, Took, TurnKept}
+use Rattle.im_engine_rollback.specs.Turns.{EndedNow, EndIfUndoneKept, HasMore, TakeKept, Took, TurnKept}
 
 module _ {D : Type 0} (d : Ghosts D) (b : Base) (base : ℕ) where
   -- calls that only read
@@ -170,13 +170,13 @@ module _ {D : Type 0} (d : Ghosts D) (b : Base) (base : ℕ) where
 
   -- calls behind a change that was taken back
   pub turn_then : (s : Writer) (e t m n : ℕ) (old : D) (v : PageWriter) (mid : D) (took : Took d b base s e t m n old v mid) (w : PageWriter) (new : D) (result : Result Undone Fault) → TurnOutcome d may_be_full v w new (fault_of result)
-      → GoOnKept d b base took.taken.now e t m n mid w new result → TurnKept d b base s e t old w new result
+      → EndIfUndoneKept d b base took.taken.now e t m n mid w new result → TurnKept d b base s e t old w new result
   turn_then s e t m n old v mid took w new result one k = by result one k
     where
       stops : LeavesUndo d b base took.taken.now t mid new → LeavesUndo d b base s t old new
       stops later = left_then d b base s e t m (prev_of took.entry) old took.taken.now v mid took.taken.goes new later
 
-      by : (r : Result Undone Fault) → TurnOutcome d may_be_full v w new (fault_of r) → GoOnKept d b base took.taken.now e t m n mid w new r → TurnKept d b base s e t old w new r
+      by : (r : Result Undone Fault) → TurnOutcome d may_be_full v w new (fault_of r) → EndIfUndoneKept d b base took.taken.now e t m n mid w new r → TurnKept d b base s e t old w new r
       by (Ok (More l i)) one kept = record {
         sound = took_before s e t m n old v mid w new took (stops kept.stops) kept.sound.3 l i kept.sound.0 kept.sound.1 kept.sound.2;
         stops = stops kept.stops;

@@ -71,7 +71,7 @@ module _ {D : Type 0} (d : Ghosts D) (b : Base) (base : ℕ) where
   WentOn s e t last undo_next w disk (More l n) = (l ≡ last) × (n ≡ undo_next) × (net t s.log ≢ []) × StandsAs d b base s w disk
   WentOn s e t last undo_next w disk Ended = (net t s.log ≡ []) × EndedNow s e t last w disk
 
-  pub record GoOnKept (s : Writer) (e t last undo_next : ℕ) (old : D) (w : PageWriter) (disk : D) (result : Result Undone Fault) : Type 0 where
+  pub record EndIfUndoneKept (s : Writer) (e t last undo_next : ℕ) (old : D) (w : PageWriter) (disk : D) (result : Result Undone Fault) : Type 0 where
     pub sound : IsSound result (λ undone. WentOn s e t last undo_next w disk undone)
     pub stops : LeavesUndo d b base s t old disk
 

@@ -14,8 +14,8 @@
 #![tactic(auto)]
 
 mod next_record;
-mod turn;
+mod undo_step;
 mod undone;
 
-pub use turn::undo_next;
+pub use undo_step::undo_next;
 pub use undone::Undone;

@@ -2,15 +2,16 @@
 use Rattle.std.proofs.Common.{◌≡◌, ◌+◌, List, [], ◌∷◌, ◌++◌, length, refl, ap, arith}
 use Rattle.im_base_types.specs.Answers as answers
 use Rattle.im_base_types.specs.Changes.{Effect}
-use Rattle.im_base_types.specs.Lives.{Shown, nothing_shown}
-use Rattle.im_base_lock.specs.View.{View}
+use Rattle.im_base_types.specs.Lives.{Shown, Survives, nothing_shown}
+use Rattle.im_theory_machine.specs.View.{View}
 use Rattle.im_base_steps.specs.declared.step.Step.{Step}
 use Rattle.im_base_steps.specs.declared.reply.Reply.{Reply}
 use Rattle.im_base_steps.specs.Calls.{asked_by, told_by}
 use Rattle.im_front.specs.Events.{shown_in}
-use Rattle.im_base_steps.specs.Store.{IsAlive}
+use Rattle.im_theory_store.specs.Store.{IsAlive}
 use Rattle.im_front.specs.Held.{force_of, forces_in}
-use Rattle.im_front.specs.Plain.{seen_of, StandsFrom}
+use Rattle.im_front.specs.Plain.{seen_of, StandsFrom, IsKeptFrom}
+use Rattle.im_front.proofs.Steps.{run_of}
 
 pub seen_of-push : (l : List (Step × Reply)) (step : Step) (reply : Reply) → seen_of (l ++ (step, reply) ∷ []) ≡ seen_of l ++ (asked_by step, told_by reply) ∷ []
 seen_of-push [] step reply = refl
@@ -27,3 +28,20 @@ alive_from life tells trace engine stands t = let h = (stands t).1 in (h.before,
 pub forces_push : (l : List (answers.Step × answers.Reply)) (step : answers.Step) (reply : answers.Reply) → forces_in (l ++ (step, reply) ∷ []) ≡ forces_in l + force_of step reply
 forces_push [] step reply = omega arith
 forces_push (x ∷ xs) step reply = let e : forces_in (xs ++ (step, reply) ∷ []) ≡ forces_in xs + force_of step reply = forces_push xs step reply in omega arith
+
+-- from the base of the trace: the run, and what a stop keeps
+pub kept_of : {E : Type 0} (life : List Effect → Shown → View → E → Type 0) (leaves : E → (List Effect → Type 0) → Type 0)
+    → ((before : List Effect) (s : Shown) (v : View) (e : E) → life before s v e → leaves e (λ after. Survives before s.asked after))
+    → (trace : List (Step × Reply)) (engine : E) → StandsFrom life trace engine → IsKeptFrom life leaves trace engine
+kept_of life leaves stops trace engine stands =
+    let h = stands.1 in record {
+      base = stands.0;
+      run = run_of life stands.0 (seen_of trace) engine h;
+      stops = record {
+        before = h.before;
+        events = h.events;
+        based = h.based;
+        made = h.made;
+        files = stops h.before (shown_in nothing_shown h.events) h.view engine h.life_is;
+      };
+    }

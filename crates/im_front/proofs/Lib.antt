@@ -1,5 +1,7 @@
+pub mod Acknowledging
 pub mod Balance
 pub mod Growing
 pub mod Replies
 pub mod Steps
+pub mod Waiting
 mod Cuts

@@ -3,12 +3,12 @@ use Rattle.std.proofs.Common.{◌≡◌, ℕ, zero, suc, ◌≤◌, Bool, true, 
 use Rattle.std.specs.Prelude.{◌==◌, cond, is_some, not}
 use Rattle.std.specs.FinMap.{get}
 use Rattle.im_base_types.specs.Pages as pages
-use Rattle.im_base_types.specs.Maps.{IndexMap, From, Above, first}
+use Rattle.im_base_types.specs.Maps.{IndexMap, From, Above, first, last_below}
 use Rattle.im_base_types.specs.Refusals.{failed as has_failed}
-use Rattle.im_base_types.specs.Answers.{Access, Fetch, Seek, Next, Scan, Insert, Delete, Step, Begin, Do, Commit, Rollback, Continue, FlushPage, Force, Checkpoint, Switch, Reply, Started, Found, Absent, Entry, End, Entries, Inserted, Duplicate, Deleted, Committed, RolledBack, More, Blocked, BlockedTree, Die, Done, Refused, Mark, Idle, Going, MustRollBack, RollingBack, Committing, found, entry, answer, limit_of}
+use Rattle.im_base_types.specs.Answers.{Access, Fetch, Seek, Next, Prev, Scan, Insert, Delete, Step, Begin, Do, Commit, Rollback, Continue, FlushPage, Force, Checkpoint, Switch, Reply, Started, Found, Absent, Entry, End, Entries, Inserted, Duplicate, Deleted, Committed, RolledBack, More, Blocked, BlockedTree, Die, Done, Refused, Mark, Idle, Going, MustRollBack, RollingBack, Committing, found, entry, answer, limit_of}
 use Rattle.im_base_types.specs.Lives.{Shown, shows, accessed}
-use Rattle.im_base_lock.specs.View.{View, pending_of}
-use Rattle.im_base_lock.specs.Machine.{keys_fit, barred, barred_to, barred_to_rollback, barred_to_continue, or_else, fault_if, Answers, Goes, Moves, Wants, Breaks, begins, does, waits, dies, commits, queues, drops, turns, undoes, ends, puts_later, puts, drops_first, drops_leaf, takes_later, takes_first, takes_leaf, takes_last, logs_page, tree_blocks, tree_halts, flushes, forces, checkpoints, switches, lacks, breaks}
+use Rattle.im_theory_machine.specs.View.{View, pending_of}
+use Rattle.im_theory_machine.specs.Machine.{keys_fit, barred, barred_to, barred_to_rollback, barred_to_continue, or_else, fault_if, Answers, Goes, Moves, Wants, Breaks, begins, does, waits, dies, commits, queues, drops, turns, undoes, ends, puts_later, puts, drops_first, drops_leaf, takes_later, takes_first, takes_leaf, takes_last, logs_page, tree_blocks, tree_halts, flushes, forces, checkpoints, switches, lacks, breaks}
 use Rattle.im_base_steps.specs.Calls.{most_entries, entries_in, most_key, has_entry, is_blocked}
 use Rattle.im_base_steps.specs.Replies.{is_full, is_search, Suits, IsReply, IsCounted}
 
@@ -56,6 +56,7 @@ wants-full Begin f e = ap (λ n. n == 14) e
 wants-full (Do t (Fetch k)) f e = ap (λ n. n == 14) e
 wants-full (Do t (Seek k)) f e = ap (λ n. n == 14) e
 wants-full (Do t (Next k)) f e = ap (λ n. n == 14) e
+wants-full (Do t (Prev k)) f e = ap (λ n. n == 14) e
 wants-full (Do t (Scan lo hi n)) f e = ap (λ n. n == 14) e
 wants-full (Do t (Delete k)) f e = ap (λ n. n == 14) e
 wants-full (Commit t) f e = ap (λ n. n == 14) e
@@ -92,6 +93,7 @@ answer-full : (a : Access) (m : IndexMap) → is_full (answer a m) ≡ false
 answer-full (Fetch k) m = full_found (get m k)
 answer-full (Seek k) m = full_entry (first (From k) m)
 answer-full (Next k) m = full_entry (first (Above k) m)
+answer-full (Prev k) m = full_entry (last_below k m)
 answer-full (Scan lo hi n) m = refl
 answer-full (Insert k r) m = full_insert (is_some (get m k))
 answer-full (Delete k) m = full_delete (is_some (get m k))
@@ -159,6 +161,7 @@ answer_suits : (t : ℕ) (a : Access) (m : IndexMap) → Suits (Do t a) (answer 
 answer_suits t (Fetch k) m = suits_found t k (get m k)
 answer_suits t (Seek k) m = suits_entry (Do t (Seek k)) (first (From k) m) refl
 answer_suits t (Next k) m = suits_entry (Do t (Next k)) (first (Above k) m) refl
+answer_suits t (Prev k) m = suits_entry (Do t (Prev k)) (last_below k m) refl
 answer_suits t (Scan lo hi n) m = (refl, taken (limit_of n) _)
 answer_suits t (Insert k r) m = suits_insert t k r (is_some (get m k))
 answer_suits t (Delete k) m = suits_delete t k (is_some (get m k))
@@ -230,6 +233,7 @@ few_entries s (Refused f) h = few (Refused f) (most_entries s) refl
 search_most : (s : Step) → is_search s ≡ true → most_key s ≡ 255
 search_most (Do t (Seek k)) h = refl
 search_most (Do t (Next k)) h = refl
+search_most (Do t (Prev k)) h = refl
 search_most (Do t (Fetch k)) h = absurd (true≢false (sym h))
 search_most (Do t (Scan lo hi n)) h = absurd (true≢false (sym h))
 search_most (Do t (Insert k r)) h = absurd (true≢false (sym h))
@@ -311,6 +315,7 @@ answer-unblocked : (a : Access) (m : IndexMap) → is_blocked (answer a m) ≡ f
 answer-unblocked (Fetch k) m = unblocked_found (get m k)
 answer-unblocked (Seek k) m = unblocked_entry (first (From k) m)
 answer-unblocked (Next k) m = unblocked_entry (first (Above k) m)
+answer-unblocked (Prev k) m = unblocked_entry (last_below k m)
 answer-unblocked (Scan lo hi n) m = refl
 answer-unblocked (Insert k r) m = unblocked_insert (is_some (get m k))
 answer-unblocked (Delete k) m = unblocked_delete (is_some (get m k))
@@ -355,6 +360,7 @@ accessed-blocked : (t : ℕ) (a : Access) (s : Shown) (h : ℕ) → (accessed t 
 accessed-blocked t (Fetch k) s h = (refl, refl)
 accessed-blocked t (Seek k) s h = (refl, refl)
 accessed-blocked t (Next k) s h = (refl, refl)
+accessed-blocked t (Prev k) s h = (refl, refl)
 accessed-blocked t (Scan lo hi n) s h = (refl, refl)
 accessed-blocked t (Insert k r) s h = (refl, refl)
 accessed-blocked t (Delete k) s h = (refl, refl)

@@ -8,16 +8,16 @@ use Rattle.im_base_types.specs.Answers.{Step, Reply}
 use Rattle.im_base_types.specs.Changes.{Effect, apply_all}
 use Rattle.im_base_types.specs.Maps.{IndexMap}
 use Rattle.im_base_types.specs.Lives.{Shown, shows, effects, nothing_shown, shown_by}
-use Rattle.im_base_lock.specs.Locks.{Lock}
-use Rattle.im_base_lock.specs.View.{Txn, View, broken}
-use Rattle.im_base_lock.specs.Machine.{Moves, Run, start}
-use Rattle.im_base_lock.specs.Isolation.{Isolates}
+use Rattle.im_theory_machine.specs.Locks.{Lock}
+use Rattle.im_theory_machine.specs.View.{Txn, View, broken}
+use Rattle.im_theory_machine.specs.Machine.{Moves, Run, start}
+use Rattle.im_theory_machine.specs.Isolation.{Isolates}
 use Rattle.im_front.specs.declared.recorded.Recorded.{Recorded}
 use Rattle.im_base_steps.specs.Calls.{asked_by, is_blocked}
 use Rattle.im_front.specs.Traces.{said_by, trace_of}
 use Rattle.im_front.specs.Events.{Event, Made, Broke, made_in, Runs, shown_in}
 use Rattle.im_base_steps.specs.Replies.{started_in, commits_in, rolled_back_in, waits_after, IsReply, IsCounted}
-use Rattle.im_base_steps.specs.Store.{IsAlive, StepKept, LookKept}
+use Rattle.im_theory_store.specs.Store.{IsAlive, StepKept, LookKept}
 use Rattle.im_front.specs.Held.{after_reply, after_trace, waits_in, IsTallied, Stands, IsRun, IsCut}
 use Rattle.im_front.proofs.Balance.{runs_busy, start_busy, all_idle}
 use Rattle.im_front.proofs.Replies.{stays_failed, blocked_stays, blocked_shows}

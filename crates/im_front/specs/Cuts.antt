@@ -4,8 +4,8 @@ use Rattle.im_base_types.specs.Changes.{Effect}
 use Rattle.im_base_types.specs.Lives.{Shown}
 use Rattle.im_base_types.specs.declared.fault.Fault.{Fault}
 use Rattle.im_base_types.specs.declared.fault.Fault.TheVariants.{Failed, Busy}
-use Rattle.im_base_lock.specs.View.{View}
-use Rattle.im_base_steps.specs.declared.store.Store.{Ghosts}
+use Rattle.im_theory_machine.specs.View.{View}
+use Rattle.im_theory_store.specs.declared.store.Store.{Ghosts}
 
 -- That the engine has failed is told first, and then that a transaction is active. Where the trace is cut none is.
 pub record ComesFirst {E : Type 0} (d : Ghosts E) (engine : E) (result : Result Unit Fault) : Type 0 where

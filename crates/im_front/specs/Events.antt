@@ -2,9 +2,9 @@
 use Rattle.std.specs.Prelude.{◌≡◌, ℕ, true, List, [], ◌∷◌, Some}
 use Rattle.im_base_types.specs.Answers.{Step, Reply}
 use Rattle.im_base_types.specs.Lives.{Shown, shows}
-use Rattle.im_base_lock.specs.Locks.{Lock}
-use Rattle.im_base_lock.specs.View.{View, broken}
-use Rattle.im_base_lock.specs.Machine.{Moves}
+use Rattle.im_theory_machine.specs.Locks.{Lock}
+use Rattle.im_theory_machine.specs.View.{View, broken}
+use Rattle.im_theory_machine.specs.Machine.{Moves}
 
 pub data Event : Type 0 where
   -- a step that was made, with its reply

@@ -6,18 +6,18 @@ use Rattle.im_base_types.specs.Pages.{Entry}
 use Rattle.im_base_types.specs.Answers.{Step, Reply, Done}
 use Rattle.im_base_types.specs.Changes.{Effect, apply_all}
 use Rattle.im_base_types.specs.Lives.{Shown, Survives, effects, nothing_shown, shown_by}
-use Rattle.im_base_lock.specs.View.{View}
-use Rattle.im_base_lock.specs.Machine.{Run, start}
+use Rattle.im_theory_machine.specs.View.{View}
+use Rattle.im_theory_machine.specs.Machine.{Run, start}
 use Rattle.im_front_stats.specs.Counts.{started, committed, rolled_back}
 use Rattle.im_base_types.specs.declared.fault.Fault.{Fault}
 use Rattle.im_base_types.specs.declared.fault.Fault.TheVariants.{Failed, Busy, TraceFull}
 use Rattle.im_front.specs.declared.recorded.Recorded.{Recorded}
 use Rattle.im_front.specs.Traces.{trace_of}
 use Rattle.im_base_steps.specs.Calls.{is_blocked, is_force}
-use Rattle.im_base_steps.specs.Store.{Rests}
+use Rattle.im_theory_store.specs.Store.{Rests}
 use Rattle.im_front.specs.Events.{Event, made_in, Runs, shown_in}
 use Rattle.im_base_steps.specs.Replies.{is_full, lacks_memory, started_in, commits_in, rolled_back_in, waits_after, IsReply}
-use Rattle.im_base_steps.specs.declared.store.Store.{Ghosts}
+use Rattle.im_theory_store.specs.declared.store.Store.{Ghosts}
 
 -- the value behind the lock, as contracts see it
 pub record State (E : Type 0) : Type 0 where

@@ -1,5 +1,8 @@
+pub mod Acknowledged
 pub mod Events
 pub mod Held
+pub mod Line
 pub mod Plain
 pub mod Traces
+pub mod Writing
 pub mod Cuts

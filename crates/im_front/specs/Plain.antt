@@ -4,7 +4,7 @@ use Rattle.im_base_types.specs.Pages.{Entry}
 use Rattle.im_base_types.specs.Answers as answers
 use Rattle.im_base_types.specs.Changes.{Effect}
 use Rattle.im_base_types.specs.Lives.{Shown}
-use Rattle.im_base_lock.specs.View.{View}
+use Rattle.im_theory_machine.specs.View.{View}
 use Rattle.im_base_steps.specs.declared.step.Step.{Step}
 use Rattle.im_base_steps.specs.declared.reply.Reply.{Reply}
 use Rattle.im_base_steps.specs.Calls.{asked_by, told_by, is_blocked}
@@ -58,10 +58,8 @@ module _ {E : Type 0} (life : List Effect → Shown → View → E → Type 0) w
   abbrev pub GoesOn : PlainState E → PlainState E → Type 0
   GoesOn old new = (base : List Entry) → Stands life base (seen_of old.trace) old.engine → Stands life base (seen_of new.trace) new.engine
 
-  -- a run from some base entries that ends in a view of the engine
-  abbrev pub IsRunFrom : List (Step × Reply) → E → Type 0
-  IsRunFrom trace engine = (base : List Entry) × IsRun life base (seen_of trace) engine
-
--- what a stop leaves
-abbrev pub StopKeepsFrom : {E : Type 0} → (E → (List Effect → Type 0) → Type 0) → List (Step × Reply) → E → Type 0
-StopKeepsFrom leaves trace engine = (base : List Entry) × StopKeeps leaves base (seen_of trace) engine
+-- From the same base entries the trace is a run that ends in a view of the engine, and a stop keeps what it acknowledged.
+pub record IsKeptFrom {E : Type 0} (life : List Effect → Shown → View → E → Type 0) (leaves : E → (List Effect → Type 0) → Type 0) (trace : List (Step × Reply)) (engine : E) : Type 0 where
+  pub base : List Entry
+  pub run : IsRun life base (seen_of trace) engine
+  pub stops : StopKeeps leaves base (seen_of trace) engine

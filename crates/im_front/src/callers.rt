@@ -4,9 +4,13 @@
 use im_base_steps::{Reply, Step};
 use std::sync::atomic::{AtomicU64, Ordering};
 use std::sync::{Condvar, MutexGuard, Wait};
+use std::time::{Clock, Duration};
 
 /// How many steps are made while transactions wait before one of them makes the force though others are awake.
 const PATIENCE: u64 = 256;
+
+/// How long one that waits to begin sleeps before it looks again, in thousandths of a second.
+const SLICE: u64 = 10;
 
 /// What a caller looks at before it lets go of the lock.
 #[derive(Clone, Copy)]
@@ -67,15 +71,40 @@ impl Room {
         awake: &AtomicU64,
         held: MutexGuard<'a, T>,
     ) -> MutexGuard<'a, T> {
-        let calls = self.calls.load(Ordering::SeqCst);
+        let calls = self.lie_down(awake);
+        let held = self.door.wait(rt, held);
+        self.get_up(awake, calls);
+        held
+    }
+
+    // Sleeps until it is woken, and no longer than a slice. Whether it slept so long.
+    fn doze<'a, T, R: Wait + Clock>(
+        &self,
+        rt: &R,
+        awake: &AtomicU64,
+        held: MutexGuard<'a, T>,
+    ) -> (MutexGuard<'a, T>, bool) {
+        let calls = self.lie_down(awake);
+        let (held, told) = self
+            .door
+            .wait_timeout(rt, held, Duration::from_millis(SLICE));
+        self.get_up(awake, calls);
+        (held, told.timed_out())
+    }
+
+    // One more sleeps. How often all were woken before.
+    fn lie_down(&self, awake: &AtomicU64) -> u64 {
         self.asleep.fetch_add(1, Ordering::SeqCst);
         awake.fetch_sub(1, Ordering::SeqCst);
-        let held = self.door.wait(rt, held);
+        self.calls.load(Ordering::SeqCst)
+    }
+
+    // One is awake again; where all were woken meanwhile it was counted then.
+    fn get_up(&self, awake: &AtomicU64, calls: u64) {
         if self.calls.load(Ordering::SeqCst) == calls {
             self.asleep.fetch_sub(1, Ordering::SeqCst);
             awake.fetch_add(1, Ordering::SeqCst);
         }
-        held
     }
 }
 
@@ -88,6 +117,8 @@ pub(crate) struct Callers {
     ended: Room,
     // Whose Commit waits sleeps here until a force was made.
     forced: Room,
+    // Who waits to begin sleeps here until a transaction has ended.
+    line: Room,
 }
 
 impl Callers {
@@ -97,6 +128,7 @@ impl Callers {
             awake: AtomicU64::new(0),
             ended: Room::new(),
             forced: Room::new(),
+            line: Room::new(),
         }
     }
 
@@ -116,6 +148,7 @@ impl Callers {
     pub(crate) fn tell(&self, step: &Step, reply: &Reply) {
         if step.may_unblock(reply) {
             self.ended.wake_all(&self.awake);
+            self.line.wake_all(&self.awake);
             if !matches!(reply, Reply::Committed | Reply::RolledBack) {
                 self.forced.wake_all(&self.awake);
             }
@@ -130,6 +163,21 @@ impl Callers {
     ) -> MutexGuard<'a, T> {
         self.nudge(held.pace());
         self.ended.sleep(rt, &self.awake, held)
+    }
+
+    /// Sleeps until a transaction may have ended, and no longer than a slice. Whether it slept so long.
+    pub(crate) fn sleep_in_line<'a, T: Behind, R: Wait + Clock>(
+        &self,
+        rt: &R,
+        held: MutexGuard<'a, T>,
+    ) -> (MutexGuard<'a, T>, bool) {
+        self.nudge(held.pace());
+        self.line.doze(rt, &self.awake, held)
+    }
+
+    /// Wakes those that wait to begin.
+    pub(crate) fn wake_line(&self) {
+        self.line.wake_all(&self.awake);
     }
 
     /// Sleeps until more forces were made than so many, the store has failed, or it is this caller's turn to make one: where nobody else is

@@ -4,21 +4,23 @@ ghost use Rattle.std.specs.Prelude.{◌≡◌, ◌≤◌, ◌+◌, ◌⊎◌, Li
 ghost use Rattle.std.specs.List.{sum_by, All};
 ghost use Rattle.im_base_types.specs.Changes.{Effect};
 ghost use Rattle.im_base_types.specs.Lives.{Shown};
-ghost use Rattle.im_base_lock.specs.View.{View};
+ghost use Rattle.im_theory_machine.specs.View.{View};
 ghost use Rattle.im_front_stats.specs.Counts.{NoLess};
 ghost use Rattle.im_base_types.specs.declared.fault.Fault.TheVariants.{Busy, Failed, Memory, TooMany, TraceFull};
 ghost use Rattle.im_base_steps.specs.Calls.{told_by, is_blocked};
 ghost use Rattle.im_front.specs.Traces.{trace_of, counts_of};
 ghost use Rattle.im_base_steps.specs.Replies.{is_full, lacks_memory, IsReply};
-ghost use Rattle.im_base_steps.specs.Store.{LookKept};
+ghost use Rattle.im_theory_store.specs.Store.{LookKept};
 ghost use Rattle.im_front.specs.Held.{IsResting, IsRun, StopKeeps};
+ghost use Rattle.im_front.specs.Acknowledged.{IsAcknowledged, IsForced, IsSettled, IsStepOf};
 
 use crate::callers::{Behind, Callers};
 use crate::held::{Closed, Held};
 use crate::share::Share;
 use crate::stats::Stats;
-use im_base_steps::{Reply, Step, Store};
+use im_base_steps::{Reply, Step};
 use im_base_types::{Fault, TxnId};
+use im_theory_store::Store;
 use std::alloc::Global;
 use std::sync::ledger::{Blank, Ledger};
 use std::sync::{Mutex, MutexGuard, Wait};
@@ -59,6 +61,7 @@ impl<E: Store, L: Ledger> Front<E, L> {
     /// reply is recorded, and counted in the share.
     pub fn call<R: Wait>(&self, rt: &R, mine: &mut Share<L>, step: Step) -> Reply
         ensures unblocked { is_blocked (told_by result) ≡ false }
+        ensures made { is_full (told_by result) ≡ false → lacks_memory (told_by result) ≡ false → IsStepOf E.made step result }
         ensures counted { is_full (told_by result) ≡ false → lacks_memory (told_by result) ≡ false → mine.new.made.amount ≡ mine.old.made.amount + 1 }
         ensures full { is_full (told_by result) ≡ true → mine.new.made.amount ≡ mine.old.made.amount }
         ensures once { (mine.new.made.amount ≡ mine.old.made.amount + 1) ⊎ (mine.new.made.amount ≡ mine.old.made.amount) }
@@ -86,6 +89,7 @@ impl<E: Store, L: Ledger> Front<E, L> {
     /// then `settle` makes it durable.
     pub fn commit<R: Wait>(&self, rt: &R, mine: &mut Share<L>, t: TxnId) -> Result<(), Fault>
         ensures made { IfOk result (λ _. mine.old.made.amount + 1 ≤ mine.new.made.amount) }
+        ensures acknowledged { IfOk result (λ _. IsAcknowledged E.Store t) }
         ensures few { (mine.old.made.amount ≤ mine.new.made.amount) × (mine.new.made.amount ≤ mine.old.made.amount + 2) }
     {
         let step = Step::Commit(t);
@@ -94,7 +98,11 @@ impl<E: Store, L: Ledger> Front<E, L> {
         let reply = held.step(rt, mine, &step);
         self.callers.tell(&step, &reply);
         let done = match reply {
-            Reply::More => return self.settle_all(rt, mine, held),
+            Reply::More => {
+                held.holds_always();
+                let forces = held.forces();
+                return self.settle_all(rt, mine, held, forces);
+            }
             Reply::Committed => Ok(()),
             Reply::Refused(fault) => Err(fault),
             _ => Err(Fault::Failed),
@@ -106,13 +114,16 @@ impl<E: Store, L: Ledger> Front<E, L> {
     /// Returns once every Commit that was answered `More` before is durable: it waits for a force, or makes it. It makes no step where none
     /// waits. `Failed` where the store has failed, else refused as the force is.
     pub fn settle<R: Wait>(&self, rt: &R, mine: &mut Share<L>) -> Result<(), Fault>
+        ensures settled { IfOk result (λ _. IsSettled E.Store) }
         ensures few { (mine.old.made.amount ≤ mine.new.made.amount) × (mine.new.made.amount ≤ mine.old.made.amount + 1) }
     {
         self.callers.come();
         let held = self.held.lock(rt);
+        held.holds_always();
         let pace = held.pace();
         if pace.waiting > 0 && !pace.failed {
-            return self.settle_all(rt, mine, held);
+            let forces = held.forces();
+            return self.settle_all(rt, mine, held, forces);
         }
         self.callers.go(pace);
         if pace.failed {
@@ -128,12 +139,14 @@ impl<E: Store, L: Ledger> Front<E, L> {
         rt: &R,
         mine: &mut Share<L>,
         held: MutexGuard<'_, Held<E, L>>,
+        forces: u64,
     ) -> Result<(), Fault>
+        ensures forced { IfOk result (λ _. IsForced E.Store forces) }
         ensures few { (mine.old.made.amount ≤ mine.new.made.amount) × (mine.new.made.amount ≤ mine.old.made.amount + 1) }
     {
-        let forces = held.forces();
         let mut held = self.callers.sleep_until_due(rt, held, forces);
         let done = if held.is_settled(forces) {
+            held.holds_always();
             Ok(())
         } else if held.pace().failed {
             Err(Fault::Failed)

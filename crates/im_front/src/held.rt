@@ -7,13 +7,13 @@ ghost use Rattle.std.specs.FinMap.{entries};
 ghost use Rattle.crossbeam_utils.specs.Seq.{cell_view};
 ghost use Rattle.im_base_types.specs.Changes.{Effect};
 ghost use Rattle.im_base_types.specs.Lives.{Shown};
-ghost use Rattle.im_base_lock.specs.View.{View};
+ghost use Rattle.im_theory_machine.specs.View.{View};
 ghost use Rattle.im_front_stats.specs.Counts.{nothing, writer, started, committed, rolled_back, IsSound, NoLess};
 ghost use Rattle.im_base_types.specs.declared.fault.Fault.TheVariants.{Failed, Busy, TooMany, TraceFull, Memory};
 ghost use Rattle.im_base_steps.specs.Calls.{asked_by, told_by, is_blocked, may_end, most_entries, most_key};
 ghost use Rattle.im_front.specs.Traces.{trace_of};
 ghost use Rattle.im_base_steps.specs.Replies.{is_full, lacks_memory, IsReply};
-ghost use Rattle.im_base_steps.specs.Store.{LookKept};
+ghost use Rattle.im_theory_store.specs.Store.{LookKept};
 ghost use Rattle.im_front.specs.Cuts.{ComesFirst};
 ghost use Rattle.im_front.specs.Held.{IsResting, Records, IsRun, StopKeeps, IsCut, WhyNotCut, after_reply, after_trace, waits_in, force_of, forces_in};
 
@@ -21,10 +21,11 @@ use crate::callers::{Behind, Pace};
 use crate::recorded::Recorded;
 use crate::share::Share;
 use crate::told::{Room, Told};
-use im_base_lock::isolation;
-use im_base_steps::{Reply, Step, Store};
+use im_base_steps::{Reply, Step};
 use im_base_types::{Fault, Key, Rid};
 use im_front_stats::{Pass, StatsCell};
+use im_theory_machine::isolation;
+use im_theory_store::Store;
 use std::alloc::Global;
 use std::marker::Model;
 use std::sync::ledger::{Blank, Book, Ledger, Share as Part};
@@ -328,7 +329,9 @@ impl<E: Store, L: Ledger> Held<E, L> {
 }
 
 impl<E: Store, L: Ledger> Behind for Held<E, L> {
-    fn pace(&self) -> Pace {
+    fn pace(&self) -> Pace
+        ensures { result.waiting ≡ self.now.waiting }
+    {
         Pace {
             waiting: self.waiting,
             passed: self.passed,

@@ -11,16 +11,19 @@ ghost use Rattle.im_base_steps.specs.Calls.{told_by, is_blocked};
 ghost use Rattle.im_front.specs.Traces.{counts_of};
 ghost use Rattle.im_base_steps.specs.Replies.{is_full, IsReply};
 ghost use Rattle.im_front.specs.Held.{IsResting, Stands, after_trace, waits_in, forces_in};
-ghost use Rattle.im_front.specs.Plain.{none, seen_of, Notes, GoesOn, IsRunFrom, StopKeepsFrom};
+ghost use Rattle.im_front.specs.Plain.{none, seen_of, Notes, GoesOn, IsKeptFrom};
+ghost use Rattle.im_front.specs.Acknowledged.{IsAcknowledged, IsForced, IsSettled, IsStepOf};
 
 use crate::callers::{Behind, Callers, Pace};
 use crate::held::{counted, forces_after, passed_after, publish};
+use crate::line::{Line, Turn};
 use crate::seat::{Rested, Seat};
 use crate::stats::Stats;
 use crate::trace::Trace;
-use im_base_steps::{Reply, Step, Store};
+use im_base_steps::{Reply, Step};
 use im_base_types::{Fault, TxnId};
 use im_front_stats::{Pass, StatsCell};
+use im_theory_store::Store;
 use std::alloc::Global;
 use std::marker::Model;
 use std::sync::{Arc, Mutex, MutexGuard, Wait};
@@ -43,6 +46,8 @@ pub struct Kept<E: Store> {
     passed: u64,
     cell: Arc<StatsCell, Global>,
     pass: Pass,
+    // Who waits to begin, and for whom.
+    line: Line,
 }
 
 impl<E: Store> Model for Kept<E> {
@@ -94,13 +99,13 @@ impl<E: Store> Kept<E> {
             passed: 0,
             cell,
             pass,
+            line: Line::new(),
         })
     }
 
     /// What always holds of the value behind the lock. It does nothing: its contract says so.
     pub fn holds_always(&self)
-        ensures run { E.tells → IsRunFrom E.life self.now.trace self.now.engine }
-        ensures stops { E.tells → StopKeepsFrom E.leaves self.now.trace self.now.engine }
+        ensures kept { E.tells → IsKeptFrom E.life E.leaves self.now.trace self.now.engine }
         ensures replies { All (λ e. IsReply e.0 e.1) (seen_of self.now.trace) }
         ensures counts { self.now.counts ≡ after_trace 0 none (seen_of self.now.trace) }
         ensures waiting { (self.now.waiting ≡ waits_in 0 (seen_of self.now.trace)) × (self.now.waiting ≡ E.waiting self.now.engine) }
@@ -151,8 +156,7 @@ impl<E: Store> Kept<E> {
 
     /// Ends the front. There is a sum where as many shares came back as were handed out, and it is the number of all steps.
     pub fn close(self) -> Left<E>
-        ensures run { E.tells → IsRunFrom E.life result.trace.steps result.engine }
-        ensures stops { E.tells → StopKeepsFrom E.leaves result.trace.steps result.engine }
+        ensures kept { E.tells → IsKeptFrom E.life E.leaves result.trace.steps result.engine }
         ensures replies { All (λ e. IsReply e.0 e.1) (seen_of result.trace.steps) }
         ensures same { (result.trace.steps ≡ self.trace) × (result.engine ≡ self.engine) }
         ensures made { result.made ≡ length self.trace }
@@ -192,12 +196,14 @@ impl<E: Store> Kept<E> {
             passed,
             cell,
             pass,
+            line,
             ..
         } = self;
         let reply = engine.step(step);
         if reply.is_blocked() {
             return reply;
         }
+        line.note(step, &reply);
         let now = counted(*waiting, *counts, step, &reply);
         *waiting = step.waits_after(*waiting, &reply);
         *forces = forces_after(*forces, step, &reply);
@@ -210,8 +216,61 @@ impl<E: Store> Kept<E> {
     }
 }
 
+impl<E: Store> Kept<E> {
+    /// A turn for one that begins a transaction for the first time.
+    pub(crate) fn come(&mut self) -> Turn
+        ensures same { self.new ≡ self.old }
+    {
+        self.line.come()
+    }
+
+    /// Whether the one with this turn may begin now: who waits no longer where the store has failed.
+    pub(crate) fn may_begin(&mut self, turn: &Turn) -> bool
+        ensures same { self.new ≡ self.old }
+    {
+        self.line.ask(turn) || self.engine.failed()
+    }
+
+    /// One begins with this turn: its transaction has this number.
+    pub(crate) fn begin(&mut self, turn: &Turn, number: TxnId)
+        ensures same { self.new ≡ self.old }
+    {
+        self.line.begin(turn, number);
+    }
+
+    /// The turn of one that gave way and has rolled back the transaction of this number.
+    pub(crate) fn come_again(&mut self, turn: &Turn, number: TxnId) -> Turn
+        ensures same { self.new ≡ self.old }
+    {
+        let was_first = self.line.is_first(turn);
+        self.line.leave(turn);
+        self.line.come_again(turn, number, was_first)
+    }
+
+    /// One with this turn is first no longer.
+    pub(crate) fn leave(&mut self, turn: &Turn)
+        ensures same { self.new ≡ self.old }
+    {
+        self.line.leave(turn);
+    }
+
+    /// The tick that it is now.
+    pub(crate) fn tick(&self) -> u64 {
+        self.line.now()
+    }
+
+    /// A hundredth of a second has passed since this tick.
+    pub(crate) fn pass(&mut self, since: u64)
+        ensures same { self.new ≡ self.old }
+    {
+        self.line.pass(since);
+    }
+}
+
 impl<E: Store> Behind for Kept<E> {
-    fn pace(&self) -> Pace {
+    fn pace(&self) -> Pace
+        ensures { result.waiting ≡ self.now.waiting }
+    {
         Pace {
             waiting: self.waiting,
             passed: self.passed,
@@ -231,8 +290,8 @@ fn is_spent(made: u64) -> bool
 /// An engine that threads share, for as long as they like. Each call takes the lock, and waits for its turn.
 #[derive(Drop)]
 pub struct Open<E: Store> {
-    held: Mutex<Kept<E>>,
-    callers: Callers,
+    pub(crate) held: Mutex<Kept<E>>,
+    pub(crate) callers: Callers,
 }
 
 impl<E: Store> Open<E> {
@@ -248,13 +307,16 @@ impl<E: Store> Open<E> {
     }
 
     /// A share, which has made no step: one for each thread. Refused `Memory`.
-    pub fn share<R: Wait>(&self, rt: &R) -> Result<Seat, Fault> {
+    pub fn share<R: Wait>(&self, rt: &R) -> Result<Seat, Fault>
+        ensures causes { IfErr result (λ fault. fault ≡ Memory) }
+    {
         self.held.lock(rt).share()
     }
 
     /// Makes a step as `Kept::step` does, and makes it again each time that a transaction has ended while it is `Blocked`.
     pub fn call<R: Wait>(&self, rt: &R, step: Step) -> Reply
         ensures unblocked { is_blocked (told_by result) ≡ false }
+        ensures made { is_full (told_by result) ≡ false → IsStepOf E.made step result }
     {
         self.callers.come();
         let mut held = self.held.lock(rt);
@@ -275,14 +337,20 @@ impl<E: Store> Open<E> {
     /// is the step `Commit` alone.
     ///
     /// Refused as the Commit is. `Device` or `Failed` where the force failed: whether it is committed shows when the store is opened again.
-    pub fn commit<R: Wait>(&self, rt: &R, t: TxnId) -> Result<(), Fault> {
+    pub fn commit<R: Wait>(&self, rt: &R, t: TxnId) -> Result<(), Fault>
+        ensures acknowledged { IfOk result (λ _. IsAcknowledged E.Store t) }
+    {
         let step = Step::Commit(t);
         self.callers.come();
         let mut held = self.held.lock(rt);
         let reply = held.step(rt, &step);
         self.callers.tell(&step, &reply);
         let done = match reply {
-            Reply::More => return self.settle_all(rt, held),
+            Reply::More => {
+                held.holds_always();
+                let forces = held.forces();
+                return self.settle_all(rt, held, forces);
+            }
             Reply::Committed => Ok(()),
             Reply::Refused(fault) => Err(fault),
             _ => Err(Fault::Failed),
@@ -293,12 +361,16 @@ impl<E: Store> Open<E> {
 
     /// Returns once every Commit that was answered `More` before is durable: it waits for a force, or makes it. It makes no step where none
     /// waits. `Failed` where the store has failed, else refused as the force is.
-    pub fn settle<R: Wait>(&self, rt: &R) -> Result<(), Fault> {
+    pub fn settle<R: Wait>(&self, rt: &R) -> Result<(), Fault>
+        ensures settled { IfOk result (λ _. IsSettled E.Store) }
+    {
         self.callers.come();
         let held = self.held.lock(rt);
+        held.holds_always();
         let pace = held.pace();
         if pace.waiting > 0 && !pace.failed {
-            return self.settle_all(rt, held);
+            let forces = held.forces();
+            return self.settle_all(rt, held, forces);
         }
         self.callers.go(pace);
         if pace.failed {
@@ -309,10 +381,17 @@ impl<E: Store> Open<E> {
     }
 
     // Waits for the next force, or makes it, and goes.
-    fn settle_all<R: Wait>(&self, rt: &R, held: MutexGuard<'_, Kept<E>>) -> Result<(), Fault> {
-        let forces = held.forces();
+    fn settle_all<R: Wait>(
+        &self,
+        rt: &R,
+        held: MutexGuard<'_, Kept<E>>,
+        forces: u64,
+    ) -> Result<(), Fault>
+        ensures forced { IfOk result (λ _. IsForced E.Store forces) }
+    {
         let mut held = self.callers.sleep_until_due(rt, held, forces);
         let done = if held.is_settled(forces) {
+            held.holds_always();
             Ok(())
         } else if held.pace().failed {
             Err(Fault::Failed)
@@ -340,8 +419,7 @@ impl<E: Store> Open<E> {
 
     /// Ends the front. There is a sum where as many shares came back as were handed out, and it is the number of all steps.
     pub fn close(self) -> Left<E>
-        ensures run { E.tells → IsRunFrom E.life result.trace.steps result.engine }
-        ensures stops { E.tells → StopKeepsFrom E.leaves result.trace.steps result.engine }
+        ensures kept { E.tells → IsKeptFrom E.life E.leaves result.trace.steps result.engine }
         ensures replies { All (λ e. IsReply e.0 e.1) (seen_of result.trace.steps) }
         ensures made { result.made ≡ length result.trace.steps }
     {

@@ -11,16 +11,18 @@ ghost use Rattle.im_base_steps.specs.Calls.{told_by, is_blocked};
 ghost use Rattle.im_front.specs.Traces.{counts_of};
 ghost use Rattle.im_base_steps.specs.Replies.{is_full, IsReply};
 ghost use Rattle.im_front.specs.Held.{IsResting, Stands, after_trace, waits_in, forces_in};
-ghost use Rattle.im_front.specs.Plain.{none, seen_of, Notes, GoesOn, IsRunFrom, StopKeepsFrom};
+ghost use Rattle.im_front.specs.Plain.{none, seen_of, Notes, GoesOn, IsKeptFrom};
+ghost use Rattle.im_front.specs.Acknowledged.{IsAcknowledged, IsForced, IsSettled, IsStepOf};
 
 use crate::callers::{Behind, Callers, Pace};
 use crate::held::{SHARES, counted, forces_after, gather, passed_after, publish};
 use crate::share::Share;
 use crate::stats::Stats;
 use crate::trace::Trace;
-use im_base_steps::{Reply, Step, Store};
+use im_base_steps::{Reply, Step};
 use im_base_types::{Fault, TxnId};
 use im_front_stats::{Pass, StatsCell};
+use im_theory_store::Store;
 use std::alloc::Global;
 use std::marker::Model;
 use std::sync::ledger::{Blank, Book, Ledger, Share as Part};
@@ -110,8 +112,7 @@ impl<E: Store, L: Ledger> Plain<E, L> {
 
     /// What always holds of the value behind the lock. It does nothing: its contract says so.
     pub fn holds_always(&self)
-        ensures run { E.tells → IsRunFrom E.life self.now.trace self.now.engine }
-        ensures stops { E.tells → StopKeepsFrom E.leaves self.now.trace self.now.engine }
+        ensures kept { E.tells → IsKeptFrom E.life E.leaves self.now.trace self.now.engine }
         ensures replies { All (λ e. IsReply e.0 e.1) (seen_of self.now.trace) }
         ensures counts { self.now.counts ≡ after_trace 0 none (seen_of self.now.trace) }
         ensures waiting { (self.now.waiting ≡ waits_in 0 (seen_of self.now.trace)) × (self.now.waiting ≡ E.waiting self.now.engine) }
@@ -173,8 +174,7 @@ impl<E: Store, L: Ledger> Plain<E, L> {
     /// Ends the front. There is a sum where as many shares came back as were handed out, and it is the number of all steps.
     pub fn close(self, shares: Vec<Share<L>>) -> Ended<E>
         requires { L.parts ≡ 1024 }
-        ensures run { E.tells → IsRunFrom E.life result.trace.steps result.engine }
-        ensures stops { E.tells → StopKeepsFrom E.leaves result.trace.steps result.engine }
+        ensures kept { E.tells → IsKeptFrom E.life E.leaves result.trace.steps result.engine }
         ensures replies { All (λ e. IsReply e.0 e.1) (seen_of result.trace.steps) }
         ensures same { (result.trace.steps ≡ self.trace) × (result.engine ≡ self.engine) }
         ensures made { result.made ≡ length self.trace }
@@ -246,7 +246,9 @@ impl<E: Store, L: Ledger> Plain<E, L> {
 }
 
 impl<E: Store, L: Ledger> Behind for Plain<E, L> {
-    fn pace(&self) -> Pace {
+    fn pace(&self) -> Pace
+        ensures { result.waiting ≡ self.now.waiting }
+    {
         Pace {
             waiting: self.waiting,
             passed: self.passed,
@@ -286,7 +288,8 @@ impl<E: Store, L: Ledger> Shared<E, L> {
 
     /// A share, which has made no step: one for each thread. Refused `TooMany` after the 1,024th, and `Memory`.
     pub fn share<R: Wait>(&self, rt: &R) -> Result<Share<L>, Fault>
-        ensures { IfOk result (λ s. s.made.amount ≡ 0) }
+        ensures none { IfOk result (λ s. s.made.amount ≡ 0) }
+        ensures causes { IfErr result (λ fault. (fault ≡ TooMany) ⊎ (fault ≡ Memory)) }
     {
         self.held.lock(rt).share()
     }
@@ -294,6 +297,7 @@ impl<E: Store, L: Ledger> Shared<E, L> {
     /// Makes a step as `Plain::step` does, and makes it again each time that a transaction has ended while it is `Blocked`.
     pub fn call<R: Wait>(&self, rt: &R, mine: &mut Share<L>, step: Step) -> Reply
         ensures unblocked { is_blocked (told_by result) ≡ false }
+        ensures made { is_full (told_by result) ≡ false → IsStepOf E.made step result }
         ensures counted { is_full (told_by result) ≡ false → mine.new.made.amount ≡ mine.old.made.amount + 1 }
         ensures full { is_full (told_by result) ≡ true → mine.new.made.amount ≡ mine.old.made.amount }
     {
@@ -318,6 +322,7 @@ impl<E: Store, L: Ledger> Shared<E, L> {
     /// Refused as the Commit is. `Device` or `Failed` where the force failed: whether it is committed shows when the store is opened again.
     pub fn commit<R: Wait>(&self, rt: &R, mine: &mut Share<L>, t: TxnId) -> Result<(), Fault>
         ensures made { IfOk result (λ _. mine.old.made.amount + 1 ≤ mine.new.made.amount) }
+        ensures acknowledged { IfOk result (λ _. IsAcknowledged E.Store t) }
         ensures few { (mine.old.made.amount ≤ mine.new.made.amount) × (mine.new.made.amount ≤ mine.old.made.amount + 2) }
     {
         let step = Step::Commit(t);
@@ -326,7 +331,11 @@ impl<E: Store, L: Ledger> Shared<E, L> {
         let reply = held.step(rt, mine, &step);
         self.callers.tell(&step, &reply);
         let done = match reply {
-            Reply::More => return self.settle_all(rt, mine, held),
+            Reply::More => {
+                held.holds_always();
+                let forces = held.forces();
+                return self.settle_all(rt, mine, held, forces);
+            }
             Reply::Committed => Ok(()),
             Reply::Refused(fault) => Err(fault),
             _ => Err(Fault::Failed),
@@ -338,13 +347,16 @@ impl<E: Store, L: Ledger> Shared<E, L> {
     /// Returns once every Commit that was answered `More` before is durable: it waits for a force, or makes it. It makes no step where none
     /// waits. `Failed` where the store has failed, else refused as the force is.
     pub fn settle<R: Wait>(&self, rt: &R, mine: &mut Share<L>) -> Result<(), Fault>
+        ensures settled { IfOk result (λ _. IsSettled E.Store) }
         ensures few { (mine.old.made.amount ≤ mine.new.made.amount) × (mine.new.made.amount ≤ mine.old.made.amount + 1) }
     {
         self.callers.come();
         let held = self.held.lock(rt);
+        held.holds_always();
         let pace = held.pace();
         if pace.waiting > 0 && !pace.failed {
-            return self.settle_all(rt, mine, held);
+            let forces = held.forces();
+            return self.settle_all(rt, mine, held, forces);
         }
         self.callers.go(pace);
         if pace.failed {
@@ -360,12 +372,14 @@ impl<E: Store, L: Ledger> Shared<E, L> {
         rt: &R,
         mine: &mut Share<L>,
         held: MutexGuard<'_, Plain<E, L>>,
+        forces: u64,
     ) -> Result<(), Fault>
+        ensures forced { IfOk result (λ _. IsForced E.Store forces) }
         ensures few { (mine.old.made.amount ≤ mine.new.made.amount) × (mine.new.made.amount ≤ mine.old.made.amount + 1) }
     {
-        let forces = held.forces();
         let mut held = self.callers.sleep_until_due(rt, held, forces);
         let done = if held.is_settled(forces) {
+            held.holds_always();
             Ok(())
         } else if held.pace().failed {
             Err(Fault::Failed)
@@ -394,8 +408,7 @@ impl<E: Store, L: Ledger> Shared<E, L> {
     /// Ends the front. There is a sum where as many shares came back as were handed out, and it is the number of all steps.
     pub fn close(self, shares: Vec<Share<L>>) -> Ended<E>
         requires { L.parts ≡ 1024 }
-        ensures run { E.tells → IsRunFrom E.life result.trace.steps result.engine }
-        ensures stops { E.tells → StopKeepsFrom E.leaves result.trace.steps result.engine }
+        ensures kept { E.tells → IsKeptFrom E.life E.leaves result.trace.steps result.engine }
         ensures replies { All (λ e. IsReply e.0 e.1) (seen_of result.trace.steps) }
         ensures made { result.made ≡ length result.trace.steps }
         ensures sum { IfSome result.sum (λ n. (n ≡ length result.trace.steps) × (n ≡ sum_by (λ s. s.made.amount) shares.items)) }

@@ -8,8 +8,8 @@ ghost use Rattle.im_front.specs.Traces.{counts_of};
 ghost use Rattle.im_front.specs.Held.{IsResting};
 
 use crate::stats::Stats;
-use im_base_steps::Store;
 use im_front_stats::{Pass, StatsCell};
+use im_theory_store::Store;
 use std::alloc::Global;
 use std::marker::Model;
 use std::sync::Arc;

@@ -3,9 +3,10 @@
 ghost use Rattle.std.specs.Prelude.{◌≡◌, ◌+◌, ◌*◌, OnOk};
 
 use crate::stepping::made;
-use im_base_steps::{Step, Store};
+use im_base_steps::Step;
 use im_base_types::Fault;
 use im_front::{Front, Share};
+use im_theory_store::Store;
 use std::sync::Wait;
 use std::sync::ledger::Ledger;
 

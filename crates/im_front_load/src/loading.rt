@@ -9,9 +9,9 @@ ghost use Rattle.im_front_load.specs.Counting.{least_of, IsDone};
 use crate::flusher::flush_rounds;
 use crate::job::{Ended, Job, Task};
 use crate::worker::work;
-use im_base_steps::{Store, Turn};
-use im_base_types::Fault;
+use im_base_types::{Fault, WorkerStart};
 use im_front::{Closed, Front, LoadArgs, Share, Stats};
+use im_theory_store::Store;
 use std::alloc::Global;
 use std::sync::Wait;
 use std::sync::ledger::{Blank, Ledger};
@@ -33,13 +33,18 @@ pub struct Loaded<E: Store> {
 /// where the sum is there it is the number of all steps: three at least for each transaction, and nine for each round of the flusher.
 ///
 /// Refused as the first step that was refused, and `Memory`.
-pub fn load<E: Store + Send, L: Ledger + Send + Sync, T: Turn + Sync, R: Threads + Wait + Sync>(
+pub fn load<
+    E: Store + Send,
+    L: Ledger + Send + Sync,
+    T: WorkerStart + Sync,
+    R: Threads + Wait + Sync,
+>(
     rt: &R,
     alloc: Global,
     engine: E,
     blank: Blank,
     args: LoadArgs,
-    turn: &T,
+    at_start: &T,
 ) -> Result<Loaded<E>, Fault>
     requires resting { IsResting E.Store engine }
     requires blank { (blank.name ≡ L.name) × (blank.parts ≡ L.parts) × (blank.parts ≡ 1024) }
@@ -54,7 +59,7 @@ pub fn load<E: Store + Send, L: Ledger + Send + Sync, T: Turn + Sync, R: Threads
         Err(refused) => return Err(refused.0),
     };
     let mut last = front.share(rt)?;
-    let ended = in_threads(rt, alloc, &front, &args, turn)?;
+    let ended = in_threads(rt, alloc, &front, &args, at_start)?;
     let stats = front.stats(&mut last);
     let shares = shares_of(alloc, last, ended)?;
     Ok(Loaded {
@@ -64,18 +69,23 @@ pub fn load<E: Store + Send, L: Ledger + Send + Sync, T: Turn + Sync, R: Threads
 }
 
 // Makes the jobs, each in a thread of its own where one can be made.
-fn in_threads<E: Store + Send, L: Ledger + Send + Sync, T: Turn + Sync, R: Threads + Wait + Sync>(
+fn in_threads<
+    E: Store + Send,
+    L: Ledger + Send + Sync,
+    T: WorkerStart + Sync,
+    R: Threads + Wait + Sync,
+>(
     rt: &R,
     alloc: Global,
     front: &Front<E, L>,
     args: &LoadArgs,
-    turn: &T,
+    at_start: &T,
 ) -> Result<Vec<Ended<L>>, Fault>
     ensures done { IfOk result (λ v. All (IsDone args.now.txns args.now.flush) v.items) }
     ensures least { IfOk result (λ v. sum_by (λ e. least_of args.now.txns args.now.flush e.task) v.items ≡ args.now.threads * (3 * args.now.txns) + 9 * args.now.flush) }
 {
     let jobs = jobs_of(rt, alloc, front, args)?;
-    match map_vec(rt, jobs, &|job| run(rt, alloc, front, job, args, turn)) {
+    match map_vec(rt, jobs, &|job| run(rt, alloc, front, job, args, at_start)) {
         Ok(ended) => Ok(ended),
         Err(_) => Err(Fault::Memory),
     }
@@ -131,13 +141,13 @@ fn add<E: Store, L: Ledger, R: Wait>(
 }
 
 // Makes one job.
-fn run<E: Store, L: Ledger, T: Turn, R: Wait>(
+fn run<E: Store, L: Ledger, T: WorkerStart, R: Wait>(
     rt: &R,
     alloc: Global,
     front: &Front<E, L>,
     job: Job<L>,
     args: &LoadArgs,
-    turn: &T,
+    at_start: &T,
 ) -> Ended<L>
     ensures task { result.task ≡ job.task }
     ensures done { IsDone args.now.txns args.now.flush result }
@@ -145,7 +155,7 @@ fn run<E: Store, L: Ledger, T: Turn, R: Wait>(
     let Job { task, mut share } = job;
     let end = match task {
         Task::Work(worker) => {
-            turn.turn(u64::from(worker));
+            at_start.worker_starts(u64::from(worker));
             work(rt, alloc, front, &mut share, worker, args.txns() as u32)
         }
         Task::Flush => flush_rounds(rt, front, &mut share, args.flush()),

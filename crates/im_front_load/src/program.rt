@@ -4,9 +4,9 @@ ghost use Rattle.std.specs.Prelude.{◌≤◌, IfOk};
 ghost use Rattle.im_front.specs.Held.{IsResting};
 
 use crate::loading::{Loaded, load};
-use im_base_steps::{Store, Turn};
-use im_base_types::Fault;
+use im_base_types::{Fault, WorkerStart};
 use im_front::LoadArgs;
+use im_theory_store::Store;
 use std::alloc::Global;
 use std::io;
 use std::io::Write;
@@ -17,18 +17,18 @@ use std::thread::Threads;
 
 /// Runs a load on a store at rest, and prints what came of it: the transactions, how many entries the store has, and how many
 /// steps the trace. It answers the exit status: 0, and 1 where a step was refused, whose number it prints.
-pub fn load_text<E: Store + Send, T: Turn + Sync, R: Threads + Wait + Sync, W: Write>(
+pub fn load_text<E: Store + Send, T: WorkerStart + Sync, R: Threads + Wait + Sync, W: Write>(
     rt: &R,
     alloc: Global,
     engine: E,
     args: LoadArgs,
-    turn: &T,
+    at_start: &T,
     writer: &mut W,
 ) -> io::Result<u8>
     requires resting { IsResting E.Store engine }
     ensures { IfOk result (λ status. status ≤ 1) }
 {
-    match load::<E, Brand, T, R>(rt, alloc, engine, Blank::new(1024), args, turn) {
+    match load::<E, Brand, T, R>(rt, alloc, engine, Blank::new(1024), args, at_start) {
         Ok(loaded) => print_loaded(alloc, loaded, writer),
         Err(fault) => print_refused(fault, writer),
     }

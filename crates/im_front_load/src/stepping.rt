@@ -4,9 +4,10 @@ ghost use Rattle.std.specs.Prelude.{◌≡◌, ◌+◌, false, OnOk, OnErr, IfOk
 ghost use Rattle.im_base_steps.specs.Calls.{told_by};
 ghost use Rattle.im_base_steps.specs.Replies.{is_full, lacks_memory};
 
-use im_base_steps::{Reply, Step, Store};
+use im_base_steps::{Reply, Step};
 use im_base_types::Fault;
 use im_front::{Front, Share};
+use im_theory_store::Store;
 use std::sync::Wait;
 use std::sync::ledger::Ledger;
 

@@ -4,9 +4,10 @@ ghost use Rattle.std.specs.Prelude.{◌≡◌, ◌≤◌, ◌+◌, ◌*◌, ◌+
 ghost use Rattle.std.specs.Int.{w32, to_be_bytes};
 
 use crate::stepping::made;
-use im_base_steps::{Reply, Step, Store};
+use im_base_steps::{Reply, Step};
 use im_base_types::{Fault, Rid, TxnId};
 use im_front::{Front, Share};
+use im_theory_store::Store;
 use std::alloc::{AllocError, Global};
 use std::sync::Wait;
 use std::sync::ledger::Ledger;

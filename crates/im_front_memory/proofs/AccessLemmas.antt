@@ -4,27 +4,27 @@ use Rattle.std.specs.Prelude.{find, filter, take}
 use Rattle.std.specs.FinMap.{entries, get, get-entries, entries-insert}
 use Rattle.std.specs.Cmp.Lexicographic.{nat_list_cmp_total}
 use Rattle.im_base_types.specs.Keys.{Key}
-use Rattle.im_base_types.specs.Maps.{IndexMap, From, Above, first, first_in, Start, is_below, with_key, without_key}
+use Rattle.im_base_types.specs.Maps.{IndexMap, From, Above, first, first_in, last_below, last_in, Start, is_below, with_key, without_key}
 use Rattle.im_base_types.specs.Pages.{Entry}
 use Rattle.im_base_types.proofs.Maps.{entries_drop}
 use Rattle.im_base_types.specs.Changes.{Change, Put, Drop, Effect, apply}
-use Rattle.im_base_types.specs.Answers.{Access, Fetch, Seek, Next, Scan, Insert, Delete, Reply, Mark, Idle, Going, MustRollBack, RollingBack, Committing, Do, Blocked, Die, Absent, Entries, Inserted, Duplicate, Deleted, answer, changes, map_after, found, entry, dropped, limit_of, scan}
+use Rattle.im_base_types.specs.Answers.{Access, Fetch, Seek, Next, Prev, Scan, Insert, Delete, Reply, Mark, Idle, Going, MustRollBack, RollingBack, Committing, Do, Blocked, Die, Absent, Entries, Inserted, Duplicate, Deleted, answer, changes, map_after, found, entry, dropped, limit_of, scan}
 use Rattle.im_base_types.specs.Lives.{Shown, effects}
 use Rattle.im_base_types.specs.Refusals.{failed as has_failed}
 use Rattle.im_base_txn.specs.declared.transaction.Mark.TheVariants as marks
 use Rattle.im_base_txn.specs.declared.transaction.Transaction.{Transaction}
 use Rattle.im_base_txn.specs.Rows.{is_of, changed, with_mark}
 use Rattle.im_base_txn.proofs.LookUps.{look_ups_follow}
-use Rattle.im_base_lock.specs.Locks.{Request, Name}
-use Rattle.im_base_lock.specs.Table.{locks_of, Decides}
-use Rattle.im_base_lock.specs.Rows.{asked, name_of, next_name}
-use Rattle.im_base_lock.specs.Found.{Finds, FindsNext, IsScanOf}
-use Rattle.im_base_lock.specs.declared.verdict.Verdict.TheVariants.{Granted, Wait, Die as MustDie}
-use Rattle.im_base_lock.specs.View.{View, did, did_txn, marked, is_among}
-use Rattle.im_base_lock.specs.Machine.{barred, barred_to, or_else, fault_if}
-use Rattle.im_base_lock.proofs.Serving.{table-serves}
-use Rattle.im_base_lock.proofs.Invariant.{by_txn}
-use Rattle.im_base_lock.proofs.Bools.{cases_number}
+use Rattle.im_theory_machine.specs.Locks.{Request, Name}
+use Rattle.im_theory_machine.specs.Table.{locks_of, Decides}
+use Rattle.im_theory_machine.specs.Rows.{asked, name_of, next_name}
+use Rattle.im_engine_locks.specs.Found.{Finds, FindsBelow, FindsNext, IsScanOf, name_below}
+use Rattle.im_theory_machine.specs.declared.verdict.Verdict.TheVariants.{Granted, Wait, Die as MustDie}
+use Rattle.im_theory_machine.specs.View.{View, did, did_txn, marked, is_among}
+use Rattle.im_theory_machine.specs.Machine.{barred, barred_to, or_else, fault_if}
+use Rattle.im_theory_machine.proofs.Serving.{table-serves}
+use Rattle.im_theory_machine.proofs.Invariant.{by_txn}
+use Rattle.im_theory_machine.proofs.Bools.{cases_number}
 use Rattle.im_theory_steps.proofs.Rows.{length_map}
 use Rattle.im_theory_steps.proofs.Asking.{asks_nothing, waits_ask_nothing, dies_ask_nothing}
 use Rattle.im_front_memory.specs.declared.change.Change as code
@@ -154,12 +154,19 @@ first_is : (s : Start) (m : IndexMap) → first s m ≡ first_in s (entries m)
 unfolding first
 first_is s m = refl
 
+last_is : (k : Key) (m : IndexMap) → last_below k m ≡ last_in k (entries m)
+unfolding last_below
+last_is k m = refl
+
 module _ (m : IndexMap) (es : List Entry) (is : entries m ≡ es) where
   pub value_is : (k : Key) → get m k ≡ value_at k es
   value_is k = get-entries m k ∙ ap (value_at k) is
 
   pub first_at : (s : Start) → first s m ≡ first_in s es
   first_at s = first_is s m ∙ ap (first_in s) is
+
+  last_at : (k : Key) → last_below k m ≡ last_in k es
+  last_at k = last_is k m ∙ ap (last_in k) is
 
   pub finds : (k : Key) (there : Bool) (next : Name) → is_some (value_at k es) ≡ there → next ≡ name_of (first_in (Above k) es) → Finds m k there next
   finds k there next e n = record { there_is = ap is_some (value_is k) ∙ e; next_is = λ _. n ∙ ap name_of (sym (first_at (Above k))) }
@@ -173,6 +180,9 @@ module _ (m : IndexMap) (es : List Entry) (is : entries m ≡ es) where
   pub nexts : (k : Key) (n : Name) → n ≡ name_of (first_in (Above k) es) → n ≡ next_name m k
   nexts k n e = e ∙ ap name_of (sym (first_at (Above k)))
 
+  pub finds_below : (k : Key) (found : Option Name) (next : Name) → found ≡ name_below (last_in k es) → next ≡ name_of (first_in (From k) es) → FindsBelow m k found next
+  finds_below k found next f n = record { found_is = f ∙ ap name_below (sym (last_at k)); next_is = n ∙ ap name_of (sym (first_at (From k))) }
+
   -- the answers
   pub fetched : (k : Key) (o : Option ℕ) → o ≡ value_at k es → found o ≡ answer (Fetch k) m
   fetched k o e = ap found (e ∙ sym (value_is k))
@@ -182,6 +192,9 @@ module _ (m : IndexMap) (es : List Entry) (is : entries m ≡ es) where
 
   pub next_found : (k : Key) (o : Option Entry) → o ≡ first_in (Above k) es → entry o ≡ answer (Next k) m
   next_found k o e = ap entry (e ∙ sym (first_at (Above k)))
+
+  pub prev_found : (k : Key) (o : Option Entry) → o ≡ last_in k es → entry o ≡ answer (Prev k) m
+  prev_found k o e = ap entry (e ∙ sym (last_at k))
 
   -- an insert
   module _ (k : Key) (r : ℕ) where

@@ -16,15 +16,15 @@ use Rattle.im_base_txn.specs.Rows.{AreRising, begun as row_begun, is_of, changed
 use Rattle.im_base_txn.specs.LookUps.{without}
 use Rattle.im_base_txn.proofs.LookUps.{look_ups_follow}
 use Rattle.im_base_txn.proofs.Waiting.{waiting_gone, waiting_others, waiting_counts}
-use Rattle.im_base_lock.specs.Table.{Table, locks_of, IsReleased, AreReleased}
-use Rattle.im_base_lock.specs.Serving.{Matches}
+use Rattle.im_theory_machine.specs.Table.{Table, locks_of, IsReleased, AreReleased}
+use Rattle.im_theory_machine.specs.Serving.{Matches}
 use Rattle.im_theory_steps.proofs.Showing.{shown_is as is_as_shown, effect_shown}
-use Rattle.im_base_lock.specs.View.{View, Under, pending_of, Txn, idle, set_txn, is_among, queued, forced_by, begun, marked, committed_by, dropped_by, undid_more, undid_last, broken, own_locks, of_others, MayRollBack}
-use Rattle.im_base_lock.specs.Machine.{begins, commits, queues, drops, turns, undoes, ends, flushes, forces, checkpoints, switches, breaks, barred_to, barred_to_rollback, barred_to_continue, or_else, fault_if}
-use Rattle.im_base_lock.proofs.Bools.{cases_test}
-use Rattle.im_base_lock.proofs.Queue.{among_pushed, pushed_last, pushed_more, by_force_txn}
-use Rattle.im_base_lock.proofs.Serving.{keeps_none, table-serves}
-use Rattle.im_base_lock.proofs.Invariant.{by_txn}
+use Rattle.im_theory_machine.specs.View.{View, Under, pending_of, Txn, idle, set_txn, is_among, queued, forced_by, begun, marked, committed_by, dropped_by, undid_more, undid_last, broken, own_locks, of_others, MayRollBack}
+use Rattle.im_theory_machine.specs.Machine.{begins, commits, queues, drops, turns, undoes, ends, flushes, forces, checkpoints, switches, breaks, barred_to, barred_to_rollback, barred_to_continue, or_else, fault_if}
+use Rattle.im_theory_machine.proofs.Bools.{cases_test}
+use Rattle.im_theory_machine.proofs.Queue.{among_pushed, pushed_last, pushed_more, by_force_txn}
+use Rattle.im_theory_machine.proofs.Serving.{keeps_none, table-serves}
+use Rattle.im_theory_machine.proofs.Invariant.{by_txn}
 use Rattle.im_theory_steps.specs.Serving.{mark_of}
 use Rattle.im_theory_steps.proofs.Rows.{length_map, one_fewer}
 use Rattle.im_theory_steps.proofs.Asking.{effects_append, effects_acked}

@@ -1,5 +1,5 @@
 -- Loops over a list of entries.
-use Rattle.std.proofs.Common.{◌≡◌, ℕ, zero, suc, ◌+◌, ◌<◌, ◌≤◌, Bool, true, false, cond, not, List, [], ◌∷◌, ◌++◌, length, take, drop, get_or, Some, refl, sym, ◌∙◌, ap, arith, append_assoc}
+use Rattle.std.proofs.Common.{◌≡◌, ℕ, zero, suc, ◌+◌, ◌<◌, ◌≤◌, Bool, true, false, cond, not, List, [], ◌∷◌, ◌++◌, length, take, drop, get_or, Option, Some, None, refl, sym, ◌∙◌, ap, arith, append_assoc}
 use Rattle.std.proofs.lemmas.List.{append-nil, take_all, take_more}
 use Rattle.std.proofs.lemmas.List.Elements.{filter-append}
 use Rattle.std.proofs.Math.Seq.{drop-cons}
@@ -12,7 +12,7 @@ use Rattle.std.specs.declared.cmp.Ordering.{Ordering}
 use Rattle.std.specs.declared.cmp.Ordering.TheVariants.{Less, Equal, Greater}
 use Rattle.im_base_types.specs.Keys.{Key, key_order}
 use Rattle.im_base_types.specs.Pages.{Entry}
-use Rattle.im_base_types.specs.Maps.{From, Above, is_below, is_past, first_in, Start, with_key}
+use Rattle.im_base_types.specs.Maps.{From, Above, is_below, is_past, first_in, last_in, or_this, Start, with_key}
 use Rattle.im_front_memory.specs.Listed.{value_at}
 
 lt_less : (o : Ordering) → o ≡ Less → is_lt o ≡ true
@@ -27,6 +27,24 @@ not_equal : (o : Ordering) → (o ≡ Equal → ⊥) → is_eq o ≡ false
 not_equal Less ne = refl
 not_equal Equal ne = absurd (ne refl)
 not_equal Greater ne = refl
+
+-- what was found in front, where nothing was found behind
+abbrev pub or_found : Option Entry → Option Entry → Option Entry
+or_found None o = o
+or_found (Some f) o = or_this f o
+
+found_over : (f : Option Entry) (e : Entry) (o : Option Entry) → or_found f (or_this e o) ≡ or_this e o
+found_over None e o = refl
+found_over (Some f) e None = refl
+found_over (Some f) e (Some l) = refl
+
+found_alone : (f : Option Entry) → or_found f None ≡ f
+found_alone None = refl
+found_alone (Some f) = refl
+
+-- all entries are below the key
+pub last_at_end : (k : Key) (f : Option Entry) (es : List Entry) (i : ℕ) → length es ≤ i → or_found f (last_in k (drop i es)) ≡ last_in k es → f ≡ last_in k es
+last_at_end k f es i all is = sym (found_alone f) ∙ sym (ap (λ (l : List Entry). or_found f (last_in k l)) (drop_of_length-le es all)) ∙ is
 
 pub below_is : (a b : Key) → key_order a b ≡ Less → is_below a b ≡ true
 unfolding is_below
@@ -69,6 +87,18 @@ module _ (es : List Entry) (i : ℕ) (e : Entry) (within : i < length es) (is : 
 
   pub above_passed : (k : Key) → first_in (Above k) (drop i es) ≡ first_in (Above k) es → is_below k e.0 ≡ false → first_in (Above k) (drop (i + 1) es) ≡ first_in (Above k) es
   above_passed k passed ge = past_not (Above k) passed ge
+
+  -- the last entry below a key
+  pub last_here : (k : Key) (f : Option Entry) → or_found f (last_in k (drop i es)) ≡ last_in k es → is_below e.0 k ≡ false → f ≡ last_in k es
+  last_here k f is ge =
+      sym (found_alone f) ∙ sym (ap (λ (b : Bool). or_found f (cond b (or_this e (last_in k (drop (suc i) es))) None)) ge)
+      ∙ sym (ap (λ (l : List Entry). or_found f (last_in k l)) at_it) ∙ is
+
+  pub last_passed : (k : Key) (f : Option Entry) → or_found f (last_in k (drop i es)) ≡ last_in k es → is_below e.0 k ≡ true → or_this e (last_in k (drop (i + 1) es)) ≡ last_in k es
+  last_passed k f is lt =
+      ap (λ (l : List Entry). or_this e (last_in k l)) one_more ∙ sym (found_over f e (last_in k (drop (suc i) es)))
+      ∙ sym (ap (λ (b : Bool). or_found f (cond b (or_this e (last_in k (drop (suc i) es))) None)) lt)
+      ∙ sym (ap (λ (l : List Entry). or_found f (last_in k l)) at_it) ∙ is
 
   -- one entry more
   pub taken : (list : List Entry) → list ≡ take i es → list ++ e ∷ [] ≡ take (i + 1) es

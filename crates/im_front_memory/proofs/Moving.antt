@@ -3,26 +3,26 @@ use Rattle.std.proofs.Common.{◌≡◌, inl, inr, ℕ, List, ◌++◌, [], ◌�
 use Rattle.std.specs.Prelude.{cond, find, if◌then◌else◌, ◌==◌, ◌||◌}
 use Rattle.std.specs.FinMap.{entries, empty}
 use Rattle.im_base_types.specs.Changes.{Effect, apply_all}
-use Rattle.im_base_types.specs.Answers.{Step, Reply, Mark, Going, Committing, Begin, Do, Commit, Rollback, Continue, FlushPage, Force, Checkpoint, Switch, Refused, Fetch, Seek, Next, Scan, Insert, Delete}
+use Rattle.im_base_types.specs.Answers.{Step, Reply, Mark, Going, Committing, Begin, Do, Commit, Rollback, Continue, FlushPage, Force, Checkpoint, Switch, Refused, Fetch, Seek, Next, Prev, Scan, Insert, Delete}
 use Rattle.im_base_types.specs.Refusals.{unfinished, memory}
 use Rattle.im_base_types.specs.Lives.{asks, breaks as breaking, Shown, effects, nothing_shown, shown_by, shows, refused}
 use Rattle.im_base_txn.specs.declared.transaction.Transaction.{Transaction}
 use Rattle.im_base_txn.specs.declared.transaction.Mark as code
 use Rattle.im_base_txn.specs.declared.transaction.Mark.TheVariants as marks
 use Rattle.im_base_txn.specs.Rows.{AreRising, is_of, is_committing, waits_at, waiting_in}
-use Rattle.im_base_lock.specs.Table.{SameTable}
-use Rattle.im_base_lock.specs.Serving.{Matches}
-use Rattle.im_base_lock.specs.View.{View, owns_in, is_among}
-use Rattle.im_base_lock.specs.Machine.{Moves, Answers, Goes, lacks, barred, start, first_check, mark_for, Wants}
-use Rattle.im_base_lock.proofs.Bools.{cases_test}
-use Rattle.im_base_lock.proofs.Callers.{Run-push}
-use Rattle.im_base_lock.proofs.Runs.{IsQueue}
+use Rattle.im_theory_machine.specs.Table.{SameTable}
+use Rattle.im_theory_machine.specs.Serving.{Matches}
+use Rattle.im_theory_machine.specs.View.{View, owns_in, is_among}
+use Rattle.im_theory_machine.specs.Machine.{Moves, Answers, Goes, lacks, barred, start, first_check, mark_for, Wants}
+use Rattle.im_theory_machine.proofs.Bools.{cases_test}
+use Rattle.im_theory_machine.proofs.Callers.{Run-push}
+use Rattle.im_theory_machine.proofs.Runs.{IsQueue}
 use Rattle.im_theory_steps.specs.Seen.{IsShownBy}
 use Rattle.im_theory_steps.proofs.Showing.{is_shown_so}
 use Rattle.im_theory_steps.proofs.Asking.{refusals_ask_nothing}
 use Rattle.im_theory_steps.proofs.Acknowledged.{going_free, runs_commit}
 use Rattle.im_theory_steps.proofs.Waiting.{queue_long}
-use Rattle.im_base_lock.proofs.Under.{none_owned}
+use Rattle.im_theory_machine.proofs.Under.{none_owned}
 use Rattle.im_theory_steps.specs.Serving.{mark_of}
 use Rattle.im_front_memory.specs.Laws.{busy_is}
 use Rattle.im_front_memory.specs.Stored.{State, mark_at, marks_of, flags_of, left_net, checked, IsStored, Kept}
@@ -176,6 +176,7 @@ wants_memory : (step : Step) → Wants step memory
 wants_memory (Do t (Fetch k)) = refl
 wants_memory (Do t (Seek k)) = refl
 wants_memory (Do t (Next k)) = refl
+wants_memory (Do t (Prev k)) = refl
 wants_memory (Do t (Scan lo hi n)) = refl
 wants_memory (Do t (Insert k r)) = inr refl
 wants_memory (Do t (Delete k)) = refl

@@ -3,7 +3,7 @@ use Rattle.std.proofs.Common.{◌≡◌, ◌≢◌, ℕ, nat_eq, cond, List, [],
 use Rattle.std.proofs.lemmas.Bool.{ne_eqb, eqb-true}
 use Rattle.std.specs.Prelude.{◌==◌}
 use Rattle.std.specs.HashMap.{HashMap, UpdatesBy, get}
-use Rattle.im_base_lock.proofs.Bools.{cases_number}
+use Rattle.im_theory_machine.proofs.Bools.{cases_number}
 use Rattle.std.proofs.lemmas.List.{map-append}
 use Rattle.im_base_types.specs.Changes.{Change, Effect, seen_effect}
 use Rattle.im_front_memory.specs.declared.change.Change as code

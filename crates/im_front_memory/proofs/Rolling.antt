@@ -4,7 +4,7 @@ use Rattle.std.specs.FinMap.{empty}
 use Rattle.im_base_types.specs.Changes.{Effect, apply_all}
 use Rattle.im_base_types.specs.Answers.{RollingBack}
 use Rattle.im_base_types.specs.Lives.{Shown}
-use Rattle.im_base_lock.specs.View.{View, TookBack}
+use Rattle.im_theory_machine.specs.View.{View, TookBack}
 use Rattle.im_theory_steps.proofs.Rolling as steps
 use Rattle.im_front_memory.specs.Stored.{IsReachedBy}
 

@@ -6,9 +6,9 @@ use Rattle.im_base_types.specs.Changes.{Effect, apply, apply_all}
 use Rattle.im_base_types.specs.Maps.{IndexMap}
 use Rattle.im_base_types.specs.Answers.{Step, Reply}
 use Rattle.im_base_types.specs.Lives.{Shown, Asked, Survives, effects, nothing_shown}
-use Rattle.im_base_lock.specs.View.{View, Txn, idle, nets_of, is_among}
-use Rattle.im_base_lock.specs.Machine.{start, Run}
-use Rattle.im_base_lock.proofs.Isolates.{isolates}
+use Rattle.im_theory_machine.specs.View.{View, Txn, idle, nets_of, is_among}
+use Rattle.im_theory_machine.specs.Machine.{start, Run}
+use Rattle.im_theory_machine.proofs.Isolates.{isolates}
 use Rattle.im_theory_steps.specs.Acknowledged.{acked_effects, AllAcked, IsCleanBut, Shows}
 use Rattle.im_theory_steps.proofs.Acknowledged.{no_effects, runs_commit}
 use Rattle.im_front.proofs.Balance.{IsBusy, moves_leaves, start_busy, all_idle, nobody_waits}

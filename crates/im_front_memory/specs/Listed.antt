@@ -4,8 +4,8 @@ use Rattle.std.specs.FinMap.Entries as lists
 use Rattle.im_base_types.specs.Keys.{Key, key_order}
 use Rattle.im_base_types.specs.Maps.{is_below, Above, first_in, with_key, without_key}
 use Rattle.im_base_types.specs.Changes.{Change, Put, Drop}
-use Rattle.im_base_lock.specs.Locks.{Name}
-use Rattle.im_base_lock.specs.Rows.{name_of}
+use Rattle.im_theory_machine.specs.Locks.{Name}
+use Rattle.im_theory_machine.specs.Rows.{name_of}
 use Rattle.im_base_types.specs.Pages.{Entry}
 
 -- the row id of a key

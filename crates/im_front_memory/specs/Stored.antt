@@ -9,12 +9,12 @@ use Rattle.im_base_types.specs.Refusals.{memory}
 use Rattle.im_base_txn.specs.declared.transaction.Transaction.{Transaction}
 use Rattle.im_base_txn.specs.declared.transaction.Mark.TheVariants as marks
 use Rattle.im_base_txn.specs.Rows.{is_of, changed, with_mark}
-use Rattle.im_base_lock.specs.Table.{Table, Decides, SameTable}
-use Rattle.im_base_lock.specs.Locks.{Request}
-use Rattle.im_base_lock.specs.declared.verdict.Verdict.TheVariants.{Wait, Die as MustDie}
-use Rattle.im_base_lock.specs.Serving.{Matches}
-use Rattle.im_base_lock.specs.View.{View, is_among}
-use Rattle.im_base_lock.specs.Machine.{Moves, Run, start, first_check, mark_for}
+use Rattle.im_theory_machine.specs.Table.{Table, Decides, SameTable}
+use Rattle.im_theory_machine.specs.Locks.{Request}
+use Rattle.im_theory_machine.specs.declared.verdict.Verdict.TheVariants.{Wait, Die as MustDie}
+use Rattle.im_theory_machine.specs.Serving.{Matches}
+use Rattle.im_theory_machine.specs.View.{View, is_among}
+use Rattle.im_theory_machine.specs.Machine.{Moves, Run, start, first_check, mark_for}
 use Rattle.im_theory_steps.specs.Serving.{mark_of}
 use Rattle.im_base_types.specs.declared.fault.Fault.{Fault}
 use Rattle.im_base_types.specs.Faults.{number_of}

@@ -12,9 +12,9 @@ use crate::change::Change;
 use crate::locking::{ask, ask_range};
 use crate::memory_store::MemoryStore;
 use crate::{nets, sorted};
-use im_base_lock::{delete_row, fetch_row, insert_row, seek_row};
 use im_base_steps::Reply;
 use im_base_types::{Fault, Key, MOST_ENTRIES, Rid, TxnId};
+use im_engine_locks::{delete_row, fetch_row, insert_row, prev_row, seek_row};
 
 impl MemoryStore {
     pub(crate) fn fetch(&mut self, t: TxnId, key: &[u8]) -> Reply
@@ -48,6 +48,20 @@ impl MemoryStore {
     {
         let found = sorted::above(&self.entries, key);
         let row = seek_row(sorted::name_of(found));
+        if let Some(reply) = ask(&mut self.locks, &mut self.txns, t, row.as_slice()) {
+            return reply;
+        }
+        told_entry(found)
+    }
+
+    pub(crate) fn prev(&mut self, t: TxnId, key: &[u8]) -> Reply
+        requires { checked (state_of self.old) (answers.Do t (answers.Prev key.now)) ≡ None }
+        ensures { Serves (state_of self.old) (answers.Do t (answers.Prev key.now)) (told_by result) (state_of self.new) }
+    {
+        let found = sorted::below(&self.entries, key);
+        let name = sorted::name_if(found);
+        let next = sorted::name_of(sorted::from_on(&self.entries, key));
+        let row = prev_row(name, next);
         if let Some(reply) = ask(&mut self.locks, &mut self.txns, t, row.as_slice()) {
             return reply;
         }

@@ -2,7 +2,7 @@
 
 ghost use Rattle.std.specs.Prelude.{◌≡◌, not, nat_lt, length};
 ghost use Rattle.im_base_types.specs.Refusals.{key_length, too_many, busy};
-ghost use Rattle.im_base_lock.specs.Machine.{barred_to, barred_to_rollback, barred_to_continue, fits, or_else, fault_if};
+ghost use Rattle.im_theory_machine.specs.Machine.{barred_to, barred_to_rollback, barred_to_continue, fits, or_else, fault_if};
 ghost use Rattle.im_theory_steps.specs.Serving.{mark_of};
 ghost use Rattle.im_base_steps.specs.Calls.{asked_by};
 ghost use Rattle.im_front_memory.specs.Stored.{checked, marks_of, numbered, state_of};
@@ -25,6 +25,7 @@ impl MemoryStore {
             Step::Fetch(t, key) => self.refusal_of_access(*t, has_length(key)),
             Step::Seek(t, key) => self.refusal_of_access(*t, has_length(key)),
             Step::Next(t, key) => self.refusal_of_access(*t, has_length(key)),
+            Step::Prev(t, key) => self.refusal_of_access(*t, has_length(key)),
             Step::Scan(t, lo, hi, _) => self.refusal_of_access(
                 *t,
                 has_length(lo) && has_length(hi),

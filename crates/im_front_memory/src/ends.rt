@@ -3,8 +3,8 @@
 ghost use Rattle.std.specs.Prelude.{◌≡◌, ◌≢◌, ◌⊎◌, ℕ, ◌<◌, ◌++◌, [], ◌∷◌, true, false, None, vec_len, vec_capacity};
 ghost use Rattle.im_base_types.specs.Answers as answers;
 ghost use Rattle.im_base_txn.specs.Rows.{waiting_numbers};
-ghost use Rattle.im_base_lock.specs.Table.{AreReleased};
-ghost use Rattle.im_base_lock.specs.View.{is_among};
+ghost use Rattle.im_theory_machine.specs.Table.{AreReleased};
+ghost use Rattle.im_theory_machine.specs.View.{is_among};
 ghost use Rattle.im_base_steps.specs.Calls.{told_by};
 ghost use Rattle.im_front_memory.specs.Changed.{effects_of, net_at, net_in, noted};
 ghost use Rattle.im_front_memory.specs.Listed.{taken_back};
@@ -14,10 +14,10 @@ ghost use Rattle.im_front_memory.specs.Stored.{checked, Serves, state_of};
 use crate::change::Change;
 use crate::memory_store::MemoryStore;
 use crate::{nets, sorted};
-use im_base_lock::LockTable;
 use im_base_steps::Reply;
 use im_base_txn::{Mark, Transaction};
 use im_base_types::{Fault, Key, Rid, TxnId};
+use im_engine_locks::LockTable;
 use std::collections::HashMap;
 
 impl MemoryStore {
@@ -42,7 +42,7 @@ impl MemoryStore {
             return Reply::Refused(Fault::Memory);
         };
         let waits = self.must_wait(t);
-        note(&mut self.journal, nets::take_all(&mut self.nets, t));
+        put_journal(&mut self.journal, nets::take_all(&mut self.nets, t));
         if waits {
             self.txns.set_mark(t, Mark::Committing);
             return Reply::More;
@@ -101,7 +101,7 @@ impl MemoryStore {
 }
 
 // Puts the changes of a transaction into the journal, where there are some.
-fn note(journal: &mut Vec<Vec<Change>>, changes: Option<Vec<Change>>)
+fn put_journal(journal: &mut Vec<Vec<Change>>, changes: Option<Vec<Change>>)
     requires { vec_len journal.old < vec_capacity journal.old }
     ensures { effects_of journal.new.items ≡ effects_of journal.old.items ++ noted (net_in changes) }
 {

@@ -4,20 +4,23 @@ ghost use Rattle.std.specs.Prelude.{◌≡◌, ℕ, IfSome, IfNone, option_copie
 ghost use Rattle.im_base_types.specs.Keys.{Key as KeyBytes};
 ghost use Rattle.im_base_types.specs.Maps.{IndexMap};
 ghost use Rattle.im_base_types.specs.Answers.{Scan};
-ghost use Rattle.im_base_lock.specs.Rows.{asked};
-ghost use Rattle.im_base_lock.specs.Found.{IsScanOf, named_if};
+ghost use Rattle.im_theory_machine.specs.Rows.{asked};
+ghost use Rattle.im_engine_locks.specs.Found.{IsScanOf};
+ghost use Rattle.im_engine_locks.specs.Requests.{named_if};
 ghost use Rattle.im_front_memory.specs.Listed.{past_name};
-ghost use Rattle.im_base_lock.specs.Table.{row, Decides};
-ghost use Rattle.im_base_lock.specs.declared.verdict.Verdict.TheVariants.{Granted};
+ghost use Rattle.im_engine_locks.specs.Requests.{row};
+ghost use Rattle.im_theory_machine.specs.Table.{Decides};
+ghost use Rattle.im_theory_machine.specs.declared.verdict.Verdict.TheVariants.{Granted};
 ghost use Rattle.im_base_steps.specs.Calls.{told_by};
 ghost use Rattle.im_front_memory.specs.Stored.{IsTurned};
 
 use crate::sorted::{above, name_of};
 use crate::transactions::Transactions;
-use im_base_lock::{LockTable, Name, Request, Verdict, scan_row};
 use im_base_steps::{Blocker, Reply};
 use im_base_txn::Mark;
 use im_base_types::{Fault, Key, Rid, TxnId};
+use im_engine_locks::{LockTable, Name, Request, scan_row};
+use im_theory_machine::Verdict;
 use std::alloc::Global;
 
 /// Asks these locks for `t`. None where they are granted; else what the access is answered.

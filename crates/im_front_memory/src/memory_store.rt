@@ -2,8 +2,8 @@
 
 use crate::change::Change;
 use crate::transactions::Transactions;
-use im_base_lock::LockTable;
 use im_base_types::{Key, Rid, TxnId};
+use im_engine_locks::LockTable;
 use std::alloc::Global;
 use std::collections::HashMap;
 

@@ -2,13 +2,14 @@
 
 ghost use Rattle.std.specs.Prelude.{◌≡◌, ◌<◌, ◌↔◌, ◌&&◌, true, not, take, vec_len, vec_capacity, IfOk, option_copied};
 ghost use Rattle.std.specs.List.{filter};
-ghost use Rattle.im_base_types.specs.Maps.{From, Above, first_in, is_below, with_key, without_key};
-ghost use Rattle.im_base_lock.specs.Rows.{name_of as named_by};
-ghost use Rattle.im_base_lock.specs.Table.{named};
+ghost use Rattle.im_base_types.specs.Maps.{From, Above, first_in, is_below, last_in, with_key, without_key};
+ghost use Rattle.im_theory_machine.specs.Rows.{name_of as named_by};
+ghost use Rattle.im_engine_locks.specs.Requests.{named, named_if};
+ghost use Rattle.im_engine_locks.specs.Found.{name_below};
 ghost use Rattle.im_front_memory.specs.Listed.{value_at};
 
-use im_base_lock::Name;
 use im_base_types::{Key, Rid, compare};
+use im_engine_locks::Name;
 use std::alloc::{AllocError, Global};
 use std::cmp::Ordering;
 
@@ -49,6 +50,31 @@ pub fn above<'a>(entries: &'a [(Key, Rid)], key: &[u8]) -> Option<&'a (Key, Rid)
         }
     }
     None
+}
+
+/// The last entry below this key, of those that stand in front of the first one at or above it.
+#[tactic(auto, using(crate::proofs::ListLemmas::last_here, crate::proofs::ListLemmas::last_passed, crate::proofs::ListLemmas::last_at_end))]
+pub fn below<'a>(entries: &'a [(Key, Rid)], key: &[u8]) -> Option<&'a (Key, Rid)>
+    ensures { option_copied result ≡ last_in key.now entries.now }
+{
+    let mut found = None;
+    for entry in entries {
+        if !is_less(entry.0.bytes(), key) {
+            return found;
+        }
+        found = Some(entry);
+    }
+    found
+}
+
+/// What is locked of an entry that was found below a key: its key.
+pub fn name_if<'a>(entry: Option<&'a (Key, Rid)>) -> Option<Name<'a>>
+    ensures { named_if result ≡ name_below (option_copied entry.entry) }
+{
+    match entry {
+        Some(entry) => Some(Name::Key(entry.0.bytes())),
+        None => None,
+    }
 }
 
 /// What is locked of an entry: its key, or the name past the last key where there is none.

@@ -8,9 +8,10 @@ ghost use Rattle.im_front_memory.specs.Stored.{Serves, state_of};
 use crate::memory_store::MemoryStore;
 use crate::sorted;
 use crate::transactions::Transactions;
-use im_base_lock::LockTable;
-use im_base_steps::{Reply, Step, Store};
+use im_base_steps::{Reply, Step};
 use im_base_types::{Fault, Key, Rid};
+use im_engine_locks::LockTable;
+use im_theory_store::Store;
 use std::alloc::Global;
 use std::collections::HashMap;
 
@@ -53,6 +54,7 @@ impl MemoryStore {
             Step::Fetch(t, key) => self.fetch(*t, key),
             Step::Seek(t, key) => self.seek(*t, key),
             Step::Next(t, key) => self.next(*t, key),
+            Step::Prev(t, key) => self.prev(*t, key),
             Step::Scan(t, lo, hi, limit) => self.scan(*t, lo, hi, *limit),
             Step::Insert(t, key, rid) => self.insert(*t, key, *rid),
             Step::Delete(t, key) => self.delete(*t, key),

@@ -11,7 +11,7 @@ use Rattle.im_log_gate.specs.Gate.{base_at, first_of, place_of, unread, StartsAs
 use Rattle.im_log_gate.specs.Header.{base_of, first_gate, IsMade}
 use Rattle.im_log_record.specs.Entry.{Entry}
 use Rattle.im_log_record.specs.Reading.{entry_of}
-use Rattle.im_log.specs.declared.opening.Opening.{Opening}
+use Rattle.im_log.specs.declared.log_opening.Opening.{Opening}
 use Rattle.im_log.specs.Gates.{IsOfLog}
 use Rattle.im_log.specs.Kept.{HasLog}
 use Rattle.im_log.specs.Spelled.{logged_at, record_size, records_from, batches_records, log_of}

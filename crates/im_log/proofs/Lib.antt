@@ -1,7 +1,7 @@
 pub mod Above
 pub mod Backward
 pub mod Creations
-pub mod GoingOn
+pub mod Switching
 pub mod Openings
 pub mod Outcomes
 pub mod Passes

@@ -11,7 +11,7 @@ use Rattle.im_log_gate.specs.Batches.{batches, batches_from, in_front, size_of}
 use Rattle.im_log_gate.specs.Gate.{base_at, first_of, place_of, has_failed, unread, StartsAs, IsReading, IsReady}
 use Rattle.im_log_gate.specs.Header.{base_of, first_gate, IsMade}
 use Rattle.im_log_record.specs.Reading.{entry_of}
-use Rattle.im_log.specs.declared.opening.Opening.{Opening}
+use Rattle.im_log.specs.declared.log_opening.Opening.{Opening}
 use Rattle.im_log.specs.Spelled.{logged_at, record_size, first_record, records_from, batches_records, spelled_by, log_of}
 use Rattle.im_log.specs.Opening.{rest_of, position_of, IsBegun, IsOpening, Next, NextKept, Ended, Stepped, RefusedBatch}
 use Rattle.im_log.specs.declared.log_file.LogFile.{LogFile}

@@ -1,5 +1,5 @@
 pub mod Gates
-pub mod GoingOn
+pub mod Switching
 pub mod Kept
 pub mod Outcome
 pub mod LogFile

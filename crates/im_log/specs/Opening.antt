@@ -11,7 +11,7 @@ use Rattle.im_log_gate.specs.Gate.{IsReading, StartsAs, has_failed, place_of, un
 use Rattle.im_log_gate.specs.Header.{base_of, IsMade}
 use Rattle.im_log_record.specs.Entry.{Entry}
 use Rattle.im_log_record.specs.Reading.{entry_of}
-use Rattle.im_log.specs.declared.opening.Opening.{Opening}
+use Rattle.im_log.specs.declared.log_opening.Opening.{Opening}
 use Rattle.im_log.specs.Spelled.{logged_at, record_size, records_from, batches_records, log_of}
 
 -- The bytes of the record that was read last.

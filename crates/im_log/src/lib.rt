@@ -12,7 +12,7 @@
 //! its bytes; what each call keeps of it stands in its clause `kept`. After a call that failed every later one is refused: how an append or
 //! a force ends is one fact (`LogOutcome`).
 //!
-//! `LogFile::go_on` goes on in the other file, where nothing waits: the log has no record then, and its first LSN is above all of the one from before, which is the
+//! `LogFile::switch_log` goes on in the other file, where nothing waits: the log has no record then, and its first LSN is above all of the one from before, which is the
 //! other log. A stop within leaves files whose current log is the one, with its records, or the other (`HasEither`).
 //!
 //! Nothing that was written is read again but by `read_at` and `read_span`: an append costs a copy of its record into the buffer, and
@@ -32,11 +32,11 @@
 mod creation;
 mod front;
 mod log_file;
-mod opening;
-mod reading;
+mod log_opening;
+mod read_front;
 mod whole;
 
 pub use creation::open_or_create;
 pub use log_file::LogFile;
-pub use opening::{Opening, open_log};
+pub use log_opening::{Opening, open_log};
 pub use whole::whole_size;

@@ -4,14 +4,14 @@ ghost use Rattle.std.specs.Prelude.{[], ◌∷◌, drop, ◌≡◌, ◌≢◌, �
 ghost use Rattle.im_log_gate.specs.Gate.{base_at, first_of, place_of};
 ghost use Rattle.im_log.specs.Gates.{IsOfLog};
 
-use crate::reading::{copy_front, read_front};
+use crate::read_front::{copy_front, read_front};
 use im_base_disk::Disk;
 use im_base_types::{BATCH_ROOM, Fault, LAST_LSN, LONGEST_BATCH, Lsn};
 use im_log_gate::{Gate, seal};
 use im_log_record::{Record, spellings};
 
-mod going_on;
 mod span;
+mod switching;
 
 /// The log: records in turn, of which the last may wait in a buffer for a force, laid out as they will stand in the file.
 #[derive(Drop)]

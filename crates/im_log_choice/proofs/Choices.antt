@@ -5,7 +5,7 @@ use Rattle.im_base_disk.specs.Disk.{Files}
 use Rattle.im_base_two_logs.specs.Renamed.{named}
 use Rattle.im_log_header.specs.Header.{generation_of}
 use Rattle.im_log_choice.specs.Current.{IsCurrent}
-use Rattle.im_log_choice.specs.Laws.{ChoicesGoOn}
+use Rattle.im_log_choice.specs.Laws.{ChoicesSwitch}
 
 one : (s t : Bool) (files : Files) → IsCurrent s files → IsCurrent t files → s ≡ t
 one true true files x y = refl
@@ -25,5 +25,5 @@ turns : (s : Bool) (old new : Files) → named s new Log ≡ named s old Log →
 turns true old new same next = let e = ap generation_of same in inl (omega (arith, e, next))
 turns false old new same next = let e = ap generation_of same in inl (omega (arith, e, next))
 
-pub choices : ChoicesGoOn
+pub choices : ChoicesSwitch
 choices = record { one = one; stays = stays; turns = turns }

@@ -1,4 +1,4 @@
 pub mod Choices
 pub mod Names
-pub mod Turns
-pub mod Goings
+pub mod SwitchStops
+pub mod SwitchedFiles

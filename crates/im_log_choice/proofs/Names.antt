@@ -12,7 +12,7 @@ use Rattle.im_base_two_logs.specs.Renamed.{named}
 use Rattle.im_log_header.specs.Header.{generation_of, IsUnmade, IsMade}
 use Rattle.im_log_header.proofs.Saying.{unmade}
 use Rattle.im_log_choice.specs.Current.{IsCurrent, HasCurrent}
-use Rattle.im_log_choice.specs.Turning.{ReadsNamed}
+use Rattle.im_log_choice.specs.Switching.{ReadsNamed}
 
 module _ (files : Files) (x y : ℕ) (one : x ≡ generation_of (files Log)) (two : y ≡ generation_of (files Log2)) where
   -- the other log is newer

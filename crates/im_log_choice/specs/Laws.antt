@@ -5,10 +5,10 @@ use Rattle.im_base_disk.specs.Disk.{Files}
 use Rattle.im_base_two_logs.specs.Renamed.{named}
 use Rattle.im_log_header.specs.Header.{generation_of, IsEmptyLog}
 use Rattle.im_log_choice.specs.Current.{HasCurrent, IsCurrent}
-use Rattle.im_log_choice.specs.Turning.{IsGoingOn}
+use Rattle.im_log_choice.specs.Switching.{IsSwitching}
 
 -- There is at most one current log. A change of the other log that makes it no newer leaves it, and the other log of the next generation takes its place.
-pub record ChoicesGoOn : Type 0 where
+pub record ChoicesSwitch : Type 0 where
   pub one : (s t : Bool) (files : Files) → IsCurrent s files → IsCurrent t files → s ≡ t
   pub stays : (s : Bool) (old new : Files) → IsCurrent s old → 1 ≤ generation_of (named s old Log) → named s new Log ≡ named s old Log
       → generation_of (named s new Log2) < generation_of (named s old Log) → IsCurrent s new
@@ -24,4 +24,4 @@ pub record HasOneOf (was : Files) (generation base next : ℕ) (files : Files) :
 -- A stop while a log goes on in the other file, of the next generation, leaves files that have the one log or the other, and that are not refused.
 abbrev pub StopsHaveOne : Type 0
 StopsHaveOne = (was files : Files) (g b n : ℕ) → IsCurrent false was → HasCurrent was → 1 ≤ generation_of (was Log) → g ≡ generation_of (was Log) + 1 → g < 2 ^ 62 → b ≤ 2 ^ 62 → 1 ≤ n → n < 2 ^ 64
-    → IsGoingOn was g b n files → HasOneOf was g b n files × HasCurrent files
+    → IsSwitching was g b n files → HasOneOf was g b n files × HasCurrent files

@@ -1,3 +1,3 @@
 pub mod Current
-pub mod Turning
+pub mod Switching
 pub mod Laws

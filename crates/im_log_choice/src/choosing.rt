@@ -5,7 +5,7 @@ ghost use Rattle.im_base_types.specs.declared.file_id.FileId.TheVariants.{Log, L
 ghost use Rattle.im_base_types.specs.declared.fault.Fault.TheVariants.{Device, NotAStore};
 ghost use Rattle.im_log_header.specs.Header.{generation_of, IsUnmade, IsMade};
 ghost use Rattle.im_log_choice.specs.Current.{IsCurrent, HasCurrent};
-ghost use Rattle.im_log_choice.specs.Turning.{ReadsNamed};
+ghost use Rattle.im_log_choice.specs.Switching.{ReadsNamed};
 ghost use Rattle.im_base_disk.specs.Runs.{Reads};
 
 use im_base_disk::Disk;

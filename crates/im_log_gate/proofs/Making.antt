@@ -2,7 +2,7 @@
 use Rattle.std.proofs.Common.{◌≡◌, ◌≢◌, ◌⊎◌, inl, inr, ℕ, ◌<◌, List, [], ◌++◌, length, take, slice_index, Option, Some, None, refl, sym, ◌∙◌, ap, subst, arith}
 use Rattle.std.proofs.lemmas.List.{drop_at, length-take-le}
 use Rattle.im_log_gate.proofs.BatchLemmas.{from_drop}
-use Rattle.im_log_gate.proofs.GoingOn.{made, says, empty}
+use Rattle.im_log_gate.proofs.Switching.{made, says, empty}
 use Rattle.im_log_gate.proofs.Places.{reaches_by}
 use Rattle.im_log_header.specs.declared.header.Header.{Header}
 use Rattle.im_log_header.specs.Header.{IsBeingMade, IsEmptyLog}

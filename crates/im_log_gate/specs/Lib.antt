@@ -1,4 +1,4 @@
 pub mod Batches
 pub mod Gate
-pub mod GoingOn
+pub mod Switching
 pub mod Header

@@ -3,15 +3,15 @@
 ghost use Rattle.std.specs.Prelude.{◌≡◌, ◌+◌, ◌*◌, ◌^◌, ◌<◌, ◌≤◌, ◌↔◌, ◌⊎◌, ◌++◌, ℕ, List, false, true, not, is_ok, length, take, IfErr, IfOk, IfSome, OnOk, MatchOption, [], ◌∷◌};
 
 use crate::creation::{NEW_START, make_new};
-use crate::opening::read_start;
 use crate::put::{clear, put_behind, put_laid};
+use crate::read_start::read_start;
 use crate::size::batch_size;
 use im_base_disk::{Disk, read_vec};
 use im_base_types::{BATCH_ROOM, Fault, FileId, LAST_LSN, TxnId};
 use im_log_header::{Header, LogStart};
 use std::alloc::Global;
 
-mod going_on;
+mod switching;
 
 /// Where a log file of the first format has its first gate, in bytes from its start: behind the header.
 pub const FIRST_GATE: u64 = 31;

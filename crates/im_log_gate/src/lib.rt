@@ -31,7 +31,7 @@
 //! header and a closed first gate behind it and syncs, and writes byte 0 as 1 and syncs: six device calls or four. A stop
 //! within leaves a file that is not made, or a made one with no batch, of the first format.
 //!
-//! `Gate::go_on` makes the other log file one of the second format with no batch, and goes on in it; `Gate::next_header` says with which header: of the
+//! `Gate::switch_log` makes the other log file one of the second format with no batch, and goes on in it; `Gate::next_header` says with which header: of the
 //! next generation, and with the LSN of this gate as its base. A stop within leaves the one log or the other as the current one.
 //!
 //! # What it stands on, and its invariant
@@ -44,8 +44,8 @@
 
 mod creation;
 mod gate;
-mod opening;
 mod put;
+mod read_start;
 mod size;
 
 pub use gate::{FIRST_GATE, Gate};

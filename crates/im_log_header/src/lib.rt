@@ -28,12 +28,12 @@
 //! what they say, is the law `headers_say`.
 #![tactic(auto)]
 
+mod file_header;
 mod header;
-pub mod laws;
+pub mod headers_say;
 mod making;
-mod reading;
 mod spelling;
 
+pub use file_header::read_header;
 pub use header::{Header, LogStart};
 pub use making::make_log;
-pub use reading::read_header;

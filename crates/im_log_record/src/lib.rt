@@ -19,19 +19,19 @@
 #![tactic(auto)]
 
 mod active_list;
+mod decoding;
 mod dirty_list;
 mod each_kind;
 mod fields;
 mod kind;
-mod laws;
 mod payloads;
-mod reading;
 mod record;
+mod spelling_laws;
 mod writing;
 
 pub use active_list::ActiveList;
+pub use decoding::{decode, decode_front};
 pub use dirty_list::DirtyList;
 pub use kind::Kind;
-pub use laws::{read_back, spellings};
-pub use reading::{decode, decode_front};
 pub use record::Record;
+pub use spelling_laws::{read_back, spellings};

@@ -5,7 +5,7 @@
 #![tactic(auto)]
 
 mod not_opened;
-mod opening;
+mod open_folder;
 
 pub use not_opened::NotOpened;
-pub use opening::open;
+pub use open_folder::open;

@@ -85,7 +85,7 @@ mod header;
 mod insertion;
 mod number;
 mod page;
-mod reading;
+mod read_form;
 mod removal;
 mod split;
 

@@ -17,7 +17,7 @@ use crate::form::is_form;
 use crate::header::{flags, make_empty, make_initial};
 use crate::insertion::insert_cell;
 use crate::number::{get_u16, get_u32, get_u64, put_u8, put_u32, put_u64};
-use crate::reading::read_form;
+use crate::read_form::read_form;
 use crate::removal::remove_cell;
 use crate::split::{copy_cells, split_point};
 use im_base_disk::Disk;

@@ -29,12 +29,12 @@
 //! It stands on the log, on pages, on the dirty table and on the disk. It knows no pool.
 #![tactic(auto)]
 
+mod full_copies;
 mod images;
-mod laws;
 mod page_copy;
 mod page_file;
 
+pub use full_copies::written_pages_have_copies;
 pub use images::append_image;
-pub use laws::written_pages_have_copies;
 pub use page_copy::{read_after, read_copy};
 pub use page_file::{count_pages, sync_pages, write_page};

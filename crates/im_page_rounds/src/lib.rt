@@ -35,18 +35,18 @@
 
 mod dealing;
 mod hand;
-mod laws;
 mod one_page;
+mod round_laws;
 mod round_page;
 mod worker;
 mod workers;
 
 pub use dealing::deal;
-pub use laws::{
+pub use one_page::redo_on;
+pub use round_laws::{
     a_round_is_held, a_round_is_kept, counts_add, entries_follow, pages_need_changes_alone,
     pages_need_their_own_records, rounds_come_after_another, rounds_leave,
 };
-pub use one_page::redo_on;
 pub use round_page::RoundPage;
 pub use worker::Worker;
 pub use workers::{redo_records, workers_for};

@@ -9,8 +9,7 @@ ghost use Rattle.im_page_rounds.specs.Workers.{AreDealt, AreRedone, AreThese, Ha
 
 use crate::hand::redo_own;
 use crate::worker::Worker;
-use im_base_steps::Turn;
-use im_base_types::{Fault, Lsn, PageNo};
+use im_base_types::{Fault, Lsn, PageNo, WorkerStart};
 use std::alloc::Global;
 use std::thread;
 use std::thread::Threads;
@@ -42,8 +41,8 @@ pub fn workers_for(alloc: Global, count: usize, pages: usize) -> Result<Vec<Work
 }
 
 // A worker of so many does its part of a round.
-fn work<T: Turn>(
-    turn: &T,
+fn work<T: WorkerStart>(
+    at_start: &T,
     numbers: &[PageNo],
     workers: usize,
     number: usize,
@@ -62,7 +61,7 @@ fn work<T: Turn>(
     ensures length { vec_len worker.new.pages ≡ vec_len worker.old.pages }
     ensures causes { IfErr worker.new.applied (λ e. (e ≡ Memory) ⊎ (e ≡ NotAStore)) }
 {
-    turn.turn(number as u64);
+    at_start.worker_starts(number as u64);
     worker.applied = redo_own(
         numbers,
         workers,
@@ -102,9 +101,9 @@ fn count_of(workers: &[Worker], most: u64) -> Result<u64, Fault>
 }
 
 // Each worker does its part of a round, in a thread of its own where one can be made.
-fn work_all<R: Threads + Sync, T: Turn + Sync>(
+fn work_all<R: Threads + Sync, T: WorkerStart + Sync>(
     rt: &R,
-    turn: &T,
+    at_start: &T,
     numbers: &[PageNo],
     workers: &mut [Worker],
     lsns: &[Lsn],
@@ -127,7 +126,7 @@ fn work_all<R: Threads + Sync, T: Turn + Sync>(
     let part = |number: usize, worker: &mut Worker|
         requires { (0 < count) × (length numbers.now ≤ count * vec_len worker.now.pages) × AreRising numbers.now }
         ensures { Worked count number numbers.entry.now from span.entry.now lsns.entry.now worker.entry.now worker.exit.now }
-    { work(turn, numbers, count, number, worker, lsns, from, span) };
+    { work(at_start, numbers, count, number, worker, lsns, from, span) };
     thread::for_each_mut(rt, workers, count, &part);
 }
 
@@ -138,9 +137,9 @@ fn work_all<R: Threads + Sync, T: Turn + Sync>(
 ///
 /// Refused `NotAStore` where a page does not take a record that it needs, or no record stands at an LSN; `Memory` where a record is of
 /// none of these pages. The pages are then such as some of the records made them.
-pub fn redo_records<R: Threads + Sync, T: Turn + Sync>(
+pub fn redo_records<R: Threads + Sync, T: WorkerStart + Sync>(
     rt: &R,
-    turn: &T,
+    at_start: &T,
     numbers: &[PageNo],
     workers: &mut [Worker],
     lsns: &[Lsn],
@@ -158,6 +157,6 @@ pub fn redo_records<R: Threads + Sync, T: Turn + Sync>(
     ensures room { SameRoom workers.old workers.new }
     ensures causes { IfErr result (λ e. (e ≡ Memory) ⊎ (e ≡ NotAStore)) }
 {
-    work_all(rt, turn, numbers, workers, lsns, from, span);
+    work_all(rt, at_start, numbers, workers, lsns, from, span);
     count_of(workers, lsns.len() as u64)
 }

@@ -33,9 +33,9 @@ use Rattle.im_log_gate.proofs.Starts.{made_some}
 use Rattle.im_log.specs.declared.log_file.LogFile.{LogFile}
 use Rattle.im_log.specs.LogFile.{HasNoRoom, IsOpen, end_with, next_lsn}
 use Rattle.im_log.specs.Kept.{HasLog}
-use Rattle.im_log.specs.GoingOn.{GoOnKept, HasEither, WentOn, next_gate}
+use Rattle.im_log.specs.Switching.{LogSwitchKept, HasEither, WentOn, next_gate}
 use Rattle.im_log.proofs.Above.{front_then}
-use Rattle.im_log.proofs.GoingOn.{named_weakened}
+use Rattle.im_log.proofs.Switching.{named_weakened}
 use Rattle.im_theory_page.specs.PageFile.{file_page}
 use Rattle.im_page_table.specs.declared.table_entry.TableEntry.{TableEntry}
 use Rattle.im_page_table.specs.DirtyTable.{entry_in, HasEntries, IsTied}
@@ -49,7 +49,7 @@ use Rattle.im_page_writer.specs.declared.page_writer.PageWriter.{PageWriter}
 use Rattle.im_page_writer.specs.Outcome.{AsksNothing, Ends, Flushes, LogEnds, Logs, none_mild}
 use Rattle.im_page_writer.specs.PageWriter.{GoesOn, IsReadyWriter, StandsAs}
 use Rattle.im_page_writer.specs.Synced.{AreSyncedWith, IsKnown, end_of_log}
-use Rattle.im_page_writer.specs.Switching.{LeftSwitching, MayNotGoOn, RefusesSwitch, Switched, SwitchKept}
+use Rattle.im_page_writer.specs.Switching.{LeftSwitching, MayNotSwitch, RefusesSwitch, Switched, SwitchKept}
 use Rattle.im_page_pool.specs.Pool.{PoolView}
 use Rattle.im_page_writer.specs.Writing.{IsPooled, LeavesGrown}
 use Rattle.im_page_writer.proofs.Goings.{pooled_same}
@@ -219,7 +219,7 @@ module _ {D : Type 0} (d : Ghosts D) (b : Base) (base : ℕ) where
           older = current_older r.swapped c r.current r.has (made_some (named r.swapped c Log) next.0.made);
         })
 
-    pub turn_stops : (next : ℕ) (new_log : LogFile) (new : D) (result : Result Unit Fault) → GoOnKept d base s.log next w.log old new_log new result → LeavesNamed d old new (LeftSwitching b base s)
+    pub turn_stops : (next : ℕ) (new_log : LogFile) (new : D) (result : Result Unit Fault) → LogSwitchKept d base s.log next w.log old new_log new result → LeavesNamed d old new (LeftSwitching b base s)
     turn_stops next new_log new result kept =
         let has = older_current (d.seen old) st.log_is.made st.older in
         named_weakened d old new (HasEither base s.log start (d.seen old)) (LeftSwitching b base s) (kept.stops has.0 has.1) (λ told c r. left_either c r)
@@ -411,9 +411,9 @@ no_room log works gate_works above =
 -- How a call of a switch is refused, which began with the one writer and left the other.
 pub record IsRefused (v w : PageWriter) (lost : Bool) (f : Fault) : Type 0 where
   pub full : f ≡ LogFull → HasNoRoom w.log
-  pub last : f ≡ Capacity → MayNotGoOn v.log Capacity
+  pub last : f ≡ Capacity → MayNotSwitch v.log Capacity
   pub device : (f ≡ Device) ↔ (lost ≡ true)
-  pub fails : MayNotGoOn v.log f ⊎ (w.failed ≡ true)
+  pub fails : MayNotSwitch v.log f ⊎ (w.failed ≡ true)
 
 module _ {D : Type 0} (d : Ghosts D) (v : PageWriter) where
   lost_device : (w : PageWriter) (lost : Bool) → lost ≡ true → w.failed ≡ true → IsRefused v w lost Device
@@ -451,7 +451,7 @@ module _ {D : Type 0} (d : Ghosts D) (v : PageWriter) where
     full = λ is. no_room v.log log_works gate_works (full.0 (ap refusal is));
     last = λ is. last.0 (ap refusal is);
     device = (λ is. absurd (⊎_elim (λ e. (let clash : LogFull ≡ Device = sym e ∙ is in cc clash)) (λ e. (let clash : Capacity ≡ Device = sym e ∙ is in cc clash)) why), λ failed. absurd (let clash : true ≡ false = sym failed ∙ opened.ready.reading.working gate_works in cc clash));
-    fails = inl (⊎_elim (λ e. subst (MayNotGoOn v.log) (sym e) (full.0 (ap refusal e))) (λ e. subst (MayNotGoOn v.log) (sym e) (last.0 (ap refusal e))) why);
+    fails = inl (⊎_elim (λ e. subst (MayNotSwitch v.log) (sym e) (full.0 (ap refusal e))) (λ e. subst (MayNotSwitch v.log) (sym e) (last.0 (ap refusal e))) why);
   }
     where
       log_works : v.log.failed ≡ false
@@ -464,13 +464,13 @@ module _ {D : Type 0} (d : Ghosts D) (v : PageWriter) where
       gate_works = opened.working log_works
 
 -- the refusal of a log that may not go on
-pub early_told : (log : LogFile) (f e : Fault) → (refusal f ≡ Err LogFull) ↔ (2 ^ 62 < next_gate log + 47) → (refusal f ≡ Err Capacity) ↔ ((next_gate log + 47 ≤ 2 ^ 62) × (2 ^ 62 ≤ generation_at log.gate + 1)) → MayNotGoOn log e → refusal f ≡ Err e
+pub early_told : (log : LogFile) (f e : Fault) → (refusal f ≡ Err LogFull) ↔ (2 ^ 62 < next_gate log + 47) → (refusal f ≡ Err Capacity) ↔ ((next_gate log + 47 ≤ 2 ^ 62) × (2 ^ 62 ≤ generation_at log.gate + 1)) → MayNotSwitch log e → refusal f ≡ Err e
 early_told log f LogFull full last is = full.1 is
 early_told log f Capacity full last is = last.1 is
 early_told log f e full last is = absurd is
 
 -- where it was tested that the log may go on, it may
-pub not_early : {A : Type 0} (r : Result A Fault) (a : A) (log : LogFile) → r ≡ Ok a → (r ≡ Err LogFull) ↔ (2 ^ 62 < next_gate log + 47) → (r ≡ Err Capacity) ↔ ((next_gate log + 47 ≤ 2 ^ 62) × (2 ^ 62 ≤ generation_at log.gate + 1)) → (e : Fault) → MayNotGoOn log e → ⊥
+pub not_early : {A : Type 0} (r : Result A Fault) (a : A) (log : LogFile) → r ≡ Ok a → (r ≡ Err LogFull) ↔ (2 ^ 62 < next_gate log + 47) → (r ≡ Err Capacity) ↔ ((next_gate log + 47 ≤ 2 ^ 62) × (2 ^ 62 ≤ generation_at log.gate + 1)) → (e : Fault) → MayNotSwitch log e → ⊥
 not_early {A} r a log ok full last LogFull is = let clash : Ok a ≡ Err LogFull = sym ok ∙ full.1 is in cc clash
 not_early {A} r a log ok full last Capacity is = let clash : Ok a ≡ Err Capacity = sym ok ∙ last.1 is in cc clash
 not_early {A} r a log ok full last e is = is

@@ -12,7 +12,7 @@ use Rattle.im_base_disk.specs.Disk.{Files}
 use Rattle.im_base_two_logs.specs.Renamed.{named}
 use Rattle.im_base_two_logs.specs.Runs.{LeavesNamed}
 use Rattle.im_log.specs.declared.log_file.LogFile.{LogFile}
-use Rattle.im_log.specs.GoingOn.{next_gate}
+use Rattle.im_log.specs.Switching.{next_gate}
 use Rattle.im_log.specs.LogFile.{end_with}
 use Rattle.im_log_gate.specs.Gate.{generation_at}
 use Rattle.im_log_gate.specs.Header.{generation_of, least_number}
@@ -50,10 +50,10 @@ module _ {D : Type 0} (d : Ghosts D) (b : Base) (base : ℕ) where
     pub stops : LeavesNamed d old disk (LeftSwitching b base s)
 
 -- Why the log may not go on, before any call: the first gate of the next log would have an LSN above 2^62, even with no Image; or, where it would not, there is no next generation.
-abbrev pub MayNotGoOn : LogFile → Fault → Type 0
-MayNotGoOn log LogFull = 2 ^ 62 < next_gate log + 47
-MayNotGoOn log Capacity = (next_gate log + 47 ≤ 2 ^ 62) × (2 ^ 62 ≤ generation_at log.gate + 1)
-MayNotGoOn log e = ⊥
+abbrev pub MayNotSwitch : LogFile → Fault → Type 0
+MayNotSwitch log LogFull = 2 ^ 62 < next_gate log + 47
+MayNotSwitch log Capacity = (next_gate log + 47 ≤ 2 ^ 62) × (2 ^ 62 ≤ generation_at log.gate + 1)
+MayNotSwitch log e = ⊥
 
 module _ {D : Type 0} (d : Ghosts D) where
   -- Why a switch is refused: an earlier call had failed; the log ends so near LSN 2^62 that the first gate of the next one, or an Image of a page, would lie above it; there is no next generation; or the disk failed.

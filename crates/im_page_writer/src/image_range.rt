@@ -25,7 +25,7 @@ use im_page_table::DirtyTable;
 const NOTED: usize = MOST_FRAMES;
 
 // Notes the LSN of an Image, where there is room for it.
-fn note(lsns: &mut Vec<Lsn>, lsn: Lsn)
+fn push_lsn(lsns: &mut Vec<Lsn>, lsn: Lsn)
     requires room { NOTED ≤ vec_capacity lsns.old }
     ensures items { lsns.new.items ≡ with_lsn lsn lsns.old.items }
     ensures room { NOTED ≤ vec_capacity lsns.new }
@@ -172,7 +172,7 @@ pub(crate) fn append_images<D: Disk>(
     lsns.clear();
     for number in first as u64..last as u64 + 1 {
         let lsn = append_one(disk, log, table, pool, spare, number as u32)?;
-        note(lsns, lsn);
+        push_lsn(lsns, lsn);
     }
     Ok(())
 }

@@ -21,7 +21,7 @@ use Rattle.im_log_gate.specs.Header.{base_of, first_gate, least_number, StartsAl
 use Rattle.im_log_gate.proofs.Starts.{blank_starts}
 use Rattle.im_log_record.specs.Entry.{Entry}
 use Rattle.im_log.specs.Spelled.{logged_at}
-use Rattle.im_log.specs.declared.opening.Opening.{Opening}
+use Rattle.im_log.specs.declared.log_opening.Opening.{Opening}
 use Rattle.im_log.specs.Opening.{HasRead, IsOpening}
 use Rattle.im_log.specs.Gates.{IsOfLog}
 use Rattle.im_log.specs.Kept.{HasLog, IsLogOf}

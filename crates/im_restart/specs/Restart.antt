@@ -30,7 +30,7 @@ use Rattle.im_restart_analysis.specs.Orderly.{FitsBehind, IsCounted, IsOrderly, 
 use Rattle.im_restart_analysis.specs.Within.{IsWithin, greatest_said}
 use Rattle.im_restart_redo.specs.Redo.{AreApplicable, applied_in, first_lsn}
 use Rattle.im_restart_undo.specs.Undoing.{CanNotSplit}
-use Rattle.im_restart.specs.declared.redo_report.RedoReport.{RedoReport}
+use Rattle.im_base_types.specs.declared.redo_report.RedoReport.{RedoReport}
 use Rattle.im_restart.specs.declared.restarted.Restarted.{Restarted}
 use Rattle.im_restart.specs.Undone.{GrowsByRestart}
 use Rattle.im_restart.specs.UndoOrder.{IsInOrder, IsNearlyInOrder}

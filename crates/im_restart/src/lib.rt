@@ -53,16 +53,14 @@
 
 mod chains;
 mod found;
-mod opening;
-mod reading;
-mod redo_report;
+mod open_store;
+mod read_log;
 mod redoes;
 mod restarted;
 mod structure_change;
 mod synced;
 mod undo;
 
-pub use opening::open_or_create;
-pub use redo_report::RedoReport;
+pub use open_store::open_or_create;
 pub use redoes::{Alone, ByThreads, Redoes};
 pub use restarted::Restarted;

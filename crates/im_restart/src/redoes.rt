@@ -14,8 +14,7 @@ ghost use Rattle.im_restart_redo.specs.Recovery.{Recovers};
 ghost use Rattle.im_restart_redo.specs.Redo.{AreApplicable, RedoneKept};
 
 use im_base_disk::Disk;
-use im_base_steps::NoTurn;
-use im_base_types::{Fault, Lsn, PageNo};
+use im_base_types::{Fault, Lsn, PageNo, StartAtOnce};
 use im_page_writer::PageWriter;
 use im_restart_analysis::Change;
 use im_restart_redo::redo_alone;
@@ -79,7 +78,16 @@ impl<R: Threads + Sync> Redoes for ByThreads<'_, R> {
         workers: usize,
     ) -> Result<u64, Fault> {
         im_restart_redo::redo(
-            self.rt, alloc, writer, disk, point, copies, changes, room, workers, &NoTurn,
+            self.rt,
+            alloc,
+            writer,
+            disk,
+            point,
+            copies,
+            changes,
+            room,
+            workers,
+            &StartAtOnce,
         )
     }
 }

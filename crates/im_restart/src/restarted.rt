@@ -1,7 +1,6 @@
 //! A store's log and pages after an opening.
 
-use crate::redo_report::RedoReport;
-use im_base_types::TxnId;
+use im_base_types::{RedoReport, TxnId};
 use im_page_writer::PageWriter;
 
 /// The log and the pages of a store, open after its last record, the number of the next transaction, and what redo did.

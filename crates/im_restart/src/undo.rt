@@ -107,7 +107,7 @@ fn put_chain(chains: &mut BTreeMap<Lsn, Chain>, lsn: Lsn, chain: Chain) -> Resul
 }
 
 // Undo of a transaction goes on at an LSN; where nothing is left, it ends.
-fn go_on<D: Disk>(
+fn put_or_end<D: Disk>(
     writer: &mut PageWriter,
     disk: &mut D,
     chains: &mut BTreeMap<Lsn, Chain>,
@@ -159,7 +159,7 @@ fn undo_key<D: Disk>(
         last,
         undo_next: next,
     };
-    go_on(writer, disk, chains, behind, next)
+    put_or_end(writer, disk, chains, behind, next)
 }
 
 // Takes back the record of a transaction at an LSN, or passes over it where it is a compensation or the end of a structure change.
@@ -193,7 +193,7 @@ fn undo_record<D: Disk>(
     if is_key_record(record) {
         undo_key(alloc, writer, disk, chains, chain, next, record)
     } else {
-        go_on(writer, disk, chains, chain, next)
+        put_or_end(writer, disk, chains, chain, next)
     }
 }
 
@@ -281,7 +281,7 @@ fn enter_all<D: Disk>(
             last: row.last,
             undo_next: row.undo_next,
         };
-        go_on(writer, disk, chains, chain, row.undo_next)?;
+        put_or_end(writer, disk, chains, chain, row.undo_next)?;
     }
     Ok(())
 }

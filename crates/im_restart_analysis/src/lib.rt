@@ -22,7 +22,7 @@
 mod analysis;
 mod chains;
 mod changes;
-pub mod laws;
+pub mod lawful_logs;
 mod notes;
 mod numbers;
 mod open_change;

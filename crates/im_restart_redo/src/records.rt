@@ -19,8 +19,7 @@ use crate::round_room::RoundRoom;
 use crate::rounds::redo_some;
 use crate::window::Window;
 use im_base_disk::Disk;
-use im_base_steps::Turn;
-use im_base_types::{Fault, Lsn, PageNo};
+use im_base_types::{Fault, Lsn, PageNo, WorkerStart};
 use im_log_record::decode;
 use im_page_writer::PageWriter;
 use im_restart_analysis::Change;
@@ -65,9 +64,9 @@ pub(crate) fn redo_one<D: Disk>(
 }
 
 /// Makes these changes again, round after round, and answers how many pages took theirs.
-pub(crate) fn redo_all<D: Disk, R: Threads + Sync, T: Turn + Sync>(
+pub(crate) fn redo_all<D: Disk, R: Threads + Sync, T: WorkerStart + Sync>(
     rt: &R,
-    turn: &T,
+    at_start: &T,
     writer: &mut PageWriter,
     disk: &mut D,
     point: Lsn,
@@ -94,7 +93,7 @@ pub(crate) fn redo_all<D: Disk, R: Threads + Sync, T: Turn + Sync>(
         }
         let passed = redo_some(
             rt,
-            turn,
+            at_start,
             writer,
             disk,
             point,

@@ -16,8 +16,7 @@ use crate::copies::load_all;
 use crate::records::redo_all;
 use crate::round_room::RoundRoom;
 use im_base_disk::Disk;
-use im_base_steps::Turn;
-use im_base_types::{Fault, Lsn, PageNo};
+use im_base_types::{Fault, Lsn, PageNo, WorkerStart};
 use im_page_writer::PageWriter;
 use im_restart_analysis::Change;
 use std::alloc::Global;
@@ -33,7 +32,7 @@ use std::thread::Threads;
 /// Refused `NotAStore` where a page does not take its record or no such record stands there, `Memory` before the first call of the disk, or
 /// where a record is of another page than its change says; otherwise as the writer's `get` is.
 /// After a refusal redo is not over: the store is to be opened again.
-pub fn redo<D: Disk, R: Threads + Sync, T: Turn + Sync>(
+pub fn redo<D: Disk, R: Threads + Sync, T: WorkerStart + Sync>(
     rt: &R,
     alloc: Global,
     writer: &mut PageWriter,
@@ -43,7 +42,7 @@ pub fn redo<D: Disk, R: Threads + Sync, T: Turn + Sync>(
     changes: &[Change],
     room: &mut [u8],
     workers: usize,
-    turn: &T,
+    at_start: &T,
 ) -> Result<u64, Fault>
     requires some { 0 < workers }
     requires room { 16384 ≤ length room.old }
@@ -61,7 +60,7 @@ pub fn redo<D: Disk, R: Threads + Sync, T: Turn + Sync>(
     load_all(writer, disk, point, copies, room)?;
     redo_all(
         rt,
-        turn,
+        at_start,
         writer,
         disk,
         point,

@@ -22,8 +22,7 @@ use crate::records::redo_one;
 use crate::round_room::{RoundRoom, is_whole_at};
 use crate::window::Window;
 use im_base_disk::Disk;
-use im_base_steps::Turn;
-use im_base_types::{Fault, Lsn, PageNo};
+use im_base_types::{Fault, Lsn, PageNo, WorkerStart};
 use im_page_writer::PageWriter;
 use im_restart_analysis::Change;
 use std::collections::BTreeMap;
@@ -124,9 +123,9 @@ fn plan_round<D: Disk>(
 
 // Redoes the round that was planned, of no more pages than there are frames, and answers how many of its records were applied.
 #[tactic(auto, using(crate::proofs::Rooms::room_fewer, im_page_rounds::proofs::Places::room_same, im_page_rounds::proofs::Places::some_on))]
-fn redo_planned<D: Disk, R: Threads + Sync, T: Turn + Sync>(
+fn redo_planned<D: Disk, R: Threads + Sync, T: WorkerStart + Sync>(
     rt: &R,
-    turn: &T,
+    at_start: &T,
     writer: &mut PageWriter,
     disk: &mut D,
     point: Lsn,
@@ -151,7 +150,7 @@ fn redo_planned<D: Disk, R: Threads + Sync, T: Turn + Sync>(
 {
     writer.redo_round(
         rt,
-        turn,
+        at_start,
         disk,
         point,
         copies,
@@ -164,9 +163,9 @@ fn redo_planned<D: Disk, R: Threads + Sync, T: Turn + Sync>(
 }
 
 /// Makes the next changes: those that are one round, and one at least.
-pub(crate) fn redo_some<D: Disk, R: Threads + Sync, T: Turn + Sync>(
+pub(crate) fn redo_some<D: Disk, R: Threads + Sync, T: WorkerStart + Sync>(
     rt: &R,
-    turn: &T,
+    at_start: &T,
     writer: &mut PageWriter,
     disk: &mut D,
     point: Lsn,
@@ -197,7 +196,9 @@ pub(crate) fn redo_some<D: Disk, R: Threads + Sync, T: Turn + Sync>(
     if planned == 0 {
         return redo_first(writer, disk, point, copies, changes, window, room);
     }
-    let applied = redo_planned(rt, turn, writer, disk, point, copies, *window, room, rounds)?;
+    let applied = redo_planned(
+        rt, at_start, writer, disk, point, copies, *window, room, rounds,
+    )?;
     Ok(Passed {
         changes: planned,
         applied,

@@ -37,7 +37,7 @@
 
 mod back;
 mod compensation;
-mod laws;
+mod kept_by_undo;
 mod logging;
 mod memory_fault;
 mod place;
@@ -45,7 +45,7 @@ mod plan;
 mod undo;
 
 pub use back::Back;
-pub use laws::{plans_go_on, undo_keeps};
+pub use kept_by_undo::{plans_go_on, undo_keeps};
 pub use logging::log_back;
 pub use plan::plan_back;
 pub use undo::undo_one;

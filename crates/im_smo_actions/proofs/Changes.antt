@@ -1,16 +1,16 @@
 -- Structure changes that were planned, and then made or refused.
-use Rattle.std.proofs.Common.{Bool, true, false, ◌≡◌, ◌≢◌, ◌⊎◌, inl, inr, ⊎_elim, ℕ, ◌≤◌, List, [], ◌∷◌, length, Option, Some, None, Result, Ok, Err, refl, sym, ap, subst, ◌∙◌, arith}
+use Rattle.std.proofs.Common.{Bool, true, false, ◌≡◌, ◌≢◌, ◌⊎◌, inl, inr, ⊎_elim, ℕ, ◌≤◌, List, [], length, Option, Some, None, Result, Ok, Err, refl, sym, ap, subst, ◌∙◌, arith}
 use Rattle.std.specs.Result.{IsErrAnd}
 use Rattle.std.proofs.Math.Path.{fun_ext}
 use Rattle.im_base_types.specs.declared.fault.Fault.{Fault}
-use Rattle.im_base_types.specs.declared.fault.Fault.TheVariants.{Capacity, Device, Failed, LogFull, Memory, NotAStore, PagesFull}
+use Rattle.im_base_types.specs.declared.fault.Fault.TheVariants.{Capacity, Device, Failed, LogFull, Memory, NotAStore}
 use Rattle.im_base_types.specs.Keys.{Key}
 use Rattle.im_theory_log.specs.Histories.{Base}
 use Rattle.im_theory_log.specs.Writer.{Writer}
 use Rattle.im_base_disk.specs.declared.disk.Disk.{Ghosts}
 use Rattle.im_log.proofs.Above.{front_then}
 use Rattle.im_page_writer.specs.declared.page_writer.PageWriter.{PageWriter}
-use Rattle.im_page_writer.specs.Outcome.{fault_of, mild, none_mild, AllPages, pages_of, AreLoaded, Ends, Outcome, LogEnds, Logs}
+use Rattle.im_page_writer.specs.Outcome.{mild, none_mild, AllPages, pages_of, AreLoaded, Ends, Outcome, LogEnds, Logs}
 use Rattle.im_page_writer.specs.PageWriter.{GoesOn, Evicted}
 use Rattle.im_page_writer.proofs.Outcomes.{leaves_of_end}
 use Rattle.im_theory_tree.specs.Levels.{Pages, walk}
@@ -21,13 +21,11 @@ use Rattle.im_smo_alloc.specs.Seen.{seen}
 use Rattle.im_smo_alloc.specs.Kept.{Plans}
 use Rattle.im_smo_log.specs.Changes.{HasRecordOf, LeavesChange, Begun, MayChange, Changed, ChangeKept, image_marks}
 use Rattle.im_smo_log.proofs.Runs.{marked_is}
-use Rattle.im_smo_split.specs.Plan.{FitsInLeaf, Planned, WantsPages}
-use Rattle.im_smo_split.specs.Tops.{LacksRoomFor}
-use Rattle.im_smo_split.proofs.Froms.{seen_none}
+use Rattle.im_smo_split.specs.Plan.{WantsPages}
 use Rattle.im_smo_split.proofs.OneLeaf.{one_leaf}
 use Rattle.im_smo_actions.specs.DropPlan.{IsKept, IsSpare, IsDropPlan}
-use Rattle.im_smo_actions.specs.Structure.{IsUnfinished, IsUsedUp, Restructured, SplitKept, SpareKept, DropKept}
-use Rattle.im_smo_actions.proofs.Growth.{images_as_change, change_then, record_front, no_images_of}
+use Rattle.im_smo_actions.specs.Structure.{IsUnfinished, IsUsedUp, Restructured, SpareKept, DropKept}
+use Rattle.im_smo_actions.proofs.Growth.{images_as_change, change_then, record_front}
 use Rattle.im_smo_actions.proofs.Standing.{pages_stay, still_ready, unfinished_good, unfinished_images, images_made, left_images, left_then}
 
 -- ---- refusals
@@ -37,14 +35,6 @@ pub runs_out : (pages : Pages) (key : Key) (max : Option ℕ) (f : Fault) → Wa
 runs_out pages key max f wants is = elim (wants.used_up is) [ inl over ↦ inl over | inr tall ↦ elim (wants.whole_way is) [ inl over ↦ inl over | inr down ↦ inr (tall, down) ] ]
 
 module _ {D : Type 0} (d : Ghosts D) where
-  -- a change that is logged wants no pages, and no page numbers
-  change_ends : (v : PageWriter) (old : D) (w : PageWriter) (new : D) (f : Fault) → mild f ≡ false → (f ≡ Failed → ⊥) → (f ≡ Device → ⊥) → (f ≡ LogFull → ⊥) → (e : Fault) → e ≡ f → LogEnds d true mild v old w new (Some e) → ⊥
-  change_ends v old w new f not failed device full Failed is one = failed (sym is)
-  change_ends v old w new f not failed device full Device is one = device (sym is)
-  change_ends v old w new f not failed device full LogFull is one = full (sym is)
-  change_ends v old w new f not failed device full NotAStore is one = let clash : true ≡ false = ap mild is ∙ not in cc clash
-  change_ends v old w new f not failed device full e is one = let clash : false ≡ true = sym not ∙ ap mild (sym is) ∙ one.0 in cc clash
-
   other_ends : (v : PageWriter) (old : D) (w : PageWriter) (new : D) (f : Fault) → f ≢ Memory → LogEnds d true mild v old w new (Some f) → LogEnds d true none_mild v old w new (Some f)
   other_ends v old w new Failed not one = one
   other_ends v old w new NotAStore not one = one
@@ -61,16 +51,6 @@ module _ {D : Type 0} (d : Ghosts D) {v : PageWriter} {old : D} {w : PageWriter}
       let clash : false ≡ true = sym works ∙ ends.0 in
       cc clash
 
-  pub change_capacity : (e : Fault) → Logs d true mild v old w new (Some e) → e ≡ Capacity → ⊥
-  change_capacity e one is = change_ends d v old w new Capacity refl (λ x. let never : ⊥ = cc x in never) (λ x. let never : ⊥ = cc x in never) (λ x. let never : ⊥ = cc x in never) e is one.ends
-
-  pub change_full : (e : Fault) → Logs d true mild v old w new (Some e) → e ≡ PagesFull → ⊥
-  change_full e one is = change_ends d v old w new PagesFull refl (λ x. let never : ⊥ = cc x in never) (λ x. let never : ⊥ = cc x in never) (λ x. let never : ⊥ = cc x in never) e is one.ends
-
-  pub change_lacks : {A : Type 0} (e : Fault) → Logs d true mild v old w new (Some e) → (e ≡ Capacity) ⊎ (e ≡ PagesFull) → A
-  change_lacks {A} e one (inl up) = absurd (change_capacity e one up)
-  change_lacks {A} e one (inr full) = absurd (change_full e one full)
-
   -- ---- a leaf that stays for want of memory
 
   pub done_so : {m n : Fault → Bool} → Logs d true m v old w new None → Logs d true n v old w new None
@@ -84,19 +64,6 @@ module _ {D : Type 0} (d : Ghosts D) {v : PageWriter} {old : D} {w : PageWriter}
   pub other_so : (f : Fault) → f ≢ Memory → Logs d true mild v old w new (Some f) → Logs d true none_mild v old w new (Some f)
   other_so f not one = record { ready = one.ready; frames = one.frames; ends = other_ends d v old w new f not one.ends }
 
--- ---- images
-
-no_images : (images : List Numbered) → length images ≡ 0 → images ≡ []
-no_images [] is = refl
-no_images (x ∷ xs) is = absurd (omega (arith, is))
-
-some_images : (images : List Numbered) → length images ≢ 0 → 1 ≤ length images
-some_images images some = omega (arith, some)
-
-within_some : {P : Type 0} (images : List Numbered) → length images ≢ 0 → (images ≡ []) ⊎ P → P
-within_some images some (inl none) = absurd (some (ap (λ (l : List Numbered). length l) none))
-within_some images some (inr p) = p
-
 some_number : (t : ℕ) → 1 ≤ t → t ≢ 0
 some_number t some is = omega (arith, some, is)
 
@@ -107,10 +74,6 @@ module _ {D : Type 0} (d : Ghosts D) (b : Base) (base : ℕ) (s : Writer) (e t l
   -- ---- a change that was planned
 
   module _ (now : Writer) (w : PageWriter) (mid : D) (on : GoesOn d b base s old now w mid) where
-    -- an Image is no record of the transaction
-    none_joined : HasRecordOf t on.goes.keeps.log.images → ⊥
-    none_joined is = no_images_of b t on.goes.keeps.log.images s.log some on.goes.keeps.log.all is
-
     module _ (images : List Numbered) where
       may_change : 1 ≤ length images → IsGoodTree (seen (pages_of s) images) [] → walk (seen (pages_of s) images) ≡ walk (bodies s) → MayChange d b base now e images t last undo_next w mid
       may_change any good same =
@@ -174,76 +137,6 @@ module _ {D : Type 0} (d : Ghosts D) (b : Base) (base : ℕ) (s : Writer) (e t l
 
   plan_stops : {m : Fault → Bool} {w : PageWriter} {disk : D} {why : Option Fault} → Outcome d AreLoaded m v old w disk why → LeavesChange d b base s t old disk
   plan_stops {m} {w} {disk} {why} plan = left_images d b base s t old disk u.lawful (leaves_of_end d plan b base s u.stands (still_ready d b base s e t last undo_next v old u))
-
-  -- ---- the split of a key's leaf
-
-  module _ (key : Key) (max : Option ℕ) where
-    -- its plan was refused
-    pub split_refused : {m : Fault → Bool} (w : PageWriter) (disk : D) (f : Fault) → Outcome d AreLoaded m v old w disk (Some f) → f ≢ NotAStore → WantsPages (bodies s) key max f → (r : Result ℕ Fault) → IsErrAnd r (λ x. x ≡ f)
-        → SplitKept d b base s e t undo_next key max old w disk r
-    split_refused {m} w disk f plan sound wants (Ok x) is = absurd is
-    split_refused {m} w disk f plan sound wants (Err x) is =
-        subst (λ (y : Fault). SplitKept d b base s e t undo_next key max old w disk (Err y)) (sym is) (record {
-          sound = sound;
-          stops = plan_stops plan;
-          full = wants.full;
-          used_up = runs_out (bodies s) key max f wants;
-          lacks = wants.lacks;
-          begun = λ failed. absurd (never_failed d f u.stands.working plan failed);
-        })
-
-    module _ {m : Fault → Bool} (images : List Numbered) (leaf : ℕ) (w : PageWriter) (mid : D) (at : Outcome d AreLoaded m v old w mid None) (plan : Planned (pages_of s) key max images leaf) where
-      none_lacks : {A : Type 0} → length images ≡ 0 → LacksRoomFor (bodies s) key → A
-      none_lacks {A} none lacks = let any : 1 ≤ length images = plan.some lacks.page lacks.way lacks.lacks in absurd (omega (arith, any, none))
-
-      -- the leaf has room
-      pub split_none : length images ≡ 0 → SplitKept d b base s e t undo_next key max old w mid (Ok last)
-      split_none none =
-          let now = planned_at at in
-          record {
-            sound = record {
-              made = images_made d b base s e t last undo_next v old u some now.now w mid now.on;
-              fits = subst (λ (store : AllPages). FitsInLeaf (bodies_of store) key) (sym (pages_stay b s now.now now.on.goes.keeps))
-                  (subst (λ (pages : Pages). FitsInLeaf pages key) (seen_none (pages_of s) images (no_images images none)) plan.fits);
-              some = λ lacks. none_lacks none lacks;
-              only = λ joined. absurd (none_joined now.now w mid now.on joined);
-              within = λ m is lacks. none_lacks none lacks;
-            };
-            stops = plan_stops at;
-            full = tt;
-            used_up = tt;
-            lacks = tt;
-            begun = tt;
-          }
-
-      pub may_split : length images ≢ 0 → MayChange d b base (planned_at at).now e images t last undo_next w mid
-      may_split any = may_change (planned_at at).now w mid (planned_at at).on images (some_images images any) plan.good plan.same
-
-      -- the change was made, or refused
-      pub split_done : (x : PageWriter) (new : D) (r : Result ℕ Fault) → length images ≢ 0 → Logs d true mild w mid x new (fault_of r) → ChangeKept d b base (planned_at at).now e images t undo_next mid x new r
-          → SplitKept d b base s e t undo_next key max old x new r
-      split_done x new (Ok lsn) any ends kept = record {
-        sound = record {
-          made = planned_made (planned_at at).now w mid (planned_at at).on images lsn x new kept.sound plan.same;
-          fits = subst (λ (pages : Pages). FitsInLeaf pages key) (sym (pages_made (planned_at at).now w mid (planned_at at).on images lsn x new kept.sound plan.same)) plan.fits;
-          some = λ lacks. planned_joined (planned_at at).now w mid (planned_at at).on images lsn x new kept.sound plan.same;
-          only = λ joined. plan.lacks (some_images images any);
-          within = λ m is lacks. within_some images any (plan.within m is);
-        };
-        stops = planned_stops (planned_at at).now w mid (planned_at at).on images new kept.stops;
-        full = tt;
-        used_up = tt;
-        lacks = tt;
-        begun = tt;
-      }
-      split_done x new (Err f) any ends kept = record {
-        sound = kept.sound;
-        stops = planned_stops (planned_at at).now w mid (planned_at at).on images new kept.stops;
-        full = λ full. absurd (change_full d f ends full);
-        used_up = λ up. absurd (change_capacity d f ends up);
-        lacks = λ is. change_lacks d f ends is;
-        begun = λ failed. planned_begun (planned_at at).now w mid (planned_at at).on images x new (kept.begun failed);
-      }
 
   -- ---- an empty leaf
 

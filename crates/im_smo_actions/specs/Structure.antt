@@ -1,7 +1,7 @@
 -- How a transaction stands between two structure changes, and what those keep that a key asks for.
 use Rattle.std.specs.Prelude.{◌≡◌, ◌⊎◌, ◌-◌, ◌^◌, ℕ, false, [], Option, Some, None, Result, IfErr, IfOk}
 use Rattle.im_base_types.specs.declared.fault.Fault.{Fault}
-use Rattle.im_base_types.specs.declared.fault.Fault.TheVariants.{Capacity, Failed, Memory, PagesFull}
+use Rattle.im_base_types.specs.declared.fault.Fault.TheVariants.{Failed, Memory}
 use Rattle.im_base_types.specs.declared.page_kind.PageKind.TheVariants.{Free}
 use Rattle.im_base_types.specs.Keys.{Key}
 use Rattle.im_theory_log.specs.Histories.{Base, IsFront}
@@ -18,9 +18,8 @@ use Rattle.im_theory_tree.specs.Levels.{Pages, height, walk}
 use Rattle.im_theory_tree.specs.Theory.{page_tree}
 use Rattle.im_tree_search.specs.Levels.{bodies}
 use Rattle.im_smo_log.specs.Changes.{GrowsByChange, HasRecordOf, LeavesChange, Begun}
-use Rattle.im_smo_split.specs.Tops.{LacksRoomFor}
-use Rattle.im_smo_split.specs.Turns.{SplitsDown}
-use Rattle.im_smo_split.specs.Plan.{FitsInLeaf, IsOver, IsWithin}
+use Rattle.im_smo_split.specs.PendingSplits.{SplitsDown}
+use Rattle.im_smo_split.specs.Plan.{IsOver}
 use Rattle.im_smo_actions.specs.DropPlan.{IsSpare, IsKept}
 
 -- Page numbers would be used up by the pages that the split of the key's leaf takes, or levels are: the root is of the last one, and has to be split.
@@ -46,25 +45,6 @@ module _ {D : Type 0} (d : Ghosts D) (b : Base) (base : ℕ) where
     pub durable : IsFront s.durable now.durable
     pub grows : GrowsByChange t s.log now.log
     pub same : walk (bodies now) ≡ walk (bodies s)
-
-  -- ---- a split
-
-  -- The leaf of the key has room; a structure was changed just where it lacked that, and then within the limit.
-  pub record HasMadeRoom (s : Writer) (e t last undo_next : ℕ) (key : Key) (max : Option ℕ) (w : PageWriter) (disk : D) : Type 0 where
-    pub made : Restructured s e t last undo_next w disk
-    pub fits : FitsInLeaf (bodies made.now) key
-    pub some : LacksRoomFor (bodies s) key → HasRecordOf t made.grows.more
-    pub only : HasRecordOf t made.grows.more → LacksRoomFor (bodies s) key
-    pub within : (m : ℕ) → max ≡ Some m → LacksRoomFor (bodies s) key → IsWithin (bodies s) key m
-
-  -- What the split of a key's leaf keeps. Pages or page numbers are wanted only where that leaf lacks room, and those that the split takes are too many; `Failed` comes behind a record.
-  pub record SplitKept (s : Writer) (e t undo_next : ℕ) (key : Key) (max : Option ℕ) (old : D) (w : PageWriter) (disk : D) (result : Result ℕ Fault) : Type 0 where
-    pub sound : IsSound result (λ last. HasMadeRoom s e t last undo_next key max w disk)
-    pub stops : LeavesChange d b base s t old disk
-    pub full : IfErr result (λ e. e ≡ PagesFull → (m : ℕ) × (max ≡ Some m) × IsOver (bodies s) key m)
-    pub used_up : IfErr result (λ e. e ≡ Capacity → IsUsedUp (bodies s) key)
-    pub lacks : IfErr result (λ e. (e ≡ Capacity) ⊎ (e ≡ PagesFull) → LacksRoomFor (bodies s) key)
-    pub begun : IfErr result (λ e. e ≡ Failed → Begun d b base s t w disk)
 
   -- ---- an empty leaf
 

@@ -1,8 +1,7 @@
 //! Does this key want a structure change now?
 //!
-//! Structure changes that a key asks for: its leaf is split, or leaves the tree, as a nested top action of a transaction.
+//! What a key asks of a structure change: whether its leaf has room, and that its leaf leaves the tree, as a nested top action of a transaction.
 //!
-//! - `split_for` splits the leaf of a key where it lacks room for the key, within a limit of pages or without one.
 //! - `drop_empty_leaf` takes the leaf of a key out of the tree where it is empty and not the root; for want of memory it stays.
 //! - `has_room` and `is_last_entry` say of a held leaf whether a key more fits, and whether one less would leave it empty.
 //!
@@ -20,8 +19,6 @@
 
 mod dropping;
 mod leaf;
-mod splitting;
 
 pub use dropping::drop_empty_leaf;
 pub use leaf::{has_room, is_last_entry};
-pub use splitting::split_for;

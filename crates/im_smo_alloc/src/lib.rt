@@ -9,9 +9,9 @@
 #![tactic(auto)]
 
 mod allocation;
-mod laws;
 mod page_image;
+mod seen_images;
 
 pub use allocation::{allocate, free};
-pub use laws::images_are_seen;
 pub use page_image::image;
+pub use seen_images::images_are_seen;

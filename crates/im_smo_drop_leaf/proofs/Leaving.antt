@@ -24,8 +24,8 @@ use Rattle.im_smo_alloc.specs.Seen.{seen, page_in}
 use Rattle.im_smo_alloc.proofs.Seeing.{page_says, put_back}
 use Rattle.im_tree_search.specs.declared.child_place.ChildPlace.{ChildPlace}
 use Rattle.im_tree_search.specs.declared.child_place.ChildPlace.TheVariants.{Entry, Leftmost, Only}
-use Rattle.im_smo_drop_leaf.specs.declared.reading.Side.{Side}
-use Rattle.im_smo_drop_leaf.specs.declared.reading.Side.TheVariants.{Prev, Next}
+use Rattle.im_smo_drop_leaf.specs.declared.beside.Side.{Side}
+use Rattle.im_smo_drop_leaf.specs.declared.beside.Side.TheVariants.{Prev, Next}
 use Rattle.im_smo_drop_leaf.specs.Chains.{out_of_tree, without_child, AreLeavesBeside, with_link, linked}
 use Rattle.im_smo_drop_leaf.specs.Ways.{Hangs}
 

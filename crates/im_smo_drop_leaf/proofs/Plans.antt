@@ -15,7 +15,7 @@ use Rattle.im_tree_search.specs.Levels.{HasLevel}
 use Rattle.im_tree_search.specs.declared.child_place.ChildPlace.{ChildPlace}
 use Rattle.im_tree_search.specs.Children.{StandsAt}
 use Rattle.im_tree_search.proofs.Steps.{way_level}
-use Rattle.im_smo_drop_leaf.specs.declared.reading.Beside.{Beside}
+use Rattle.im_smo_drop_leaf.specs.declared.beside.Beside.{Beside}
 use Rattle.im_smo_drop_leaf.specs.Chains.{IsBeside, AreLeavesBeside, out_of_tree}
 use Rattle.im_smo_drop_leaf.specs.Ways.{Hangs, IsPlaced}
 use Rattle.im_smo_drop_leaf.specs.Emptied.{SameBut}

@@ -25,7 +25,7 @@ use Rattle.im_smo_alloc.specs.Seen.{bodies, seen, page_in}
 use Rattle.im_smo_alloc.proofs.Seeing.{put_back}
 use Rattle.im_tree_search.specs.Levels.{HasLevel, kind_at}
 use Rattle.im_tree_search.proofs.Steps.{way_level}
-use Rattle.im_smo_drop_leaf.specs.declared.reading.Beside.{Beside}
+use Rattle.im_smo_drop_leaf.specs.declared.beside.Beside.{Beside}
 use Rattle.im_smo_drop_leaf.specs.Chains.{IsBeside}
 use Rattle.im_smo_drop_leaf.specs.Emptied.{emptied, SameAbove, SameBut}
 

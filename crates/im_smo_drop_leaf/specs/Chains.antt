@@ -8,9 +8,9 @@ use Rattle.im_smo_pages.specs.Bodies.{leaf_body, with_prev, with_next, without_e
 use Rattle.im_smo_pages.specs.Changed.{linked_prev, linked_next, unlinked_pages}
 use Rattle.im_tree_search.specs.declared.child_place.ChildPlace.{ChildPlace}
 use Rattle.im_tree_search.specs.declared.child_place.ChildPlace.TheVariants.{Entry, Leftmost, Only}
-use Rattle.im_smo_drop_leaf.specs.declared.reading.Beside.{Beside}
-use Rattle.im_smo_drop_leaf.specs.declared.reading.Side.{Side}
-use Rattle.im_smo_drop_leaf.specs.declared.reading.Side.TheVariants.{Prev, Next}
+use Rattle.im_smo_drop_leaf.specs.declared.beside.Beside.{Beside}
+use Rattle.im_smo_drop_leaf.specs.declared.beside.Side.{Side}
+use Rattle.im_smo_drop_leaf.specs.declared.beside.Side.TheVariants.{Prev, Next}
 
 -- the leaves beside a leaf without entries
 pub record IsBeside (b : Body) (beside : Beside) : Type 0 where

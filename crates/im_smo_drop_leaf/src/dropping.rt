@@ -14,7 +14,7 @@ ghost use Rattle.im_smo_alloc.specs.Kept.{Plans};
 ghost use Rattle.im_tree_search.specs.Children.{StandsAt};
 ghost use Rattle.im_smo_drop_leaf.specs.Chains.{without_child, with_link, linked, out_of_tree, AreLeavesBeside};
 
-use crate::reading::{Beside, Side};
+use crate::beside::{Beside, Side};
 use crate::way::is_only;
 use im_base_disk::Disk;
 use im_base_types::{Fault, PageNo};

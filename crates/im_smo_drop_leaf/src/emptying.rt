@@ -13,7 +13,7 @@ ghost use Rattle.im_tree_search.specs.Levels.{HasLevel};
 ghost use Rattle.im_smo_drop_leaf.specs.Chains.{IsBeside};
 ghost use Rattle.im_smo_drop_leaf.specs.Emptied.{emptied};
 
-use crate::reading::Beside;
+use crate::beside::Beside;
 use im_base_disk::Disk;
 use im_base_types::{Fault, PageNo};
 use im_page::Page;

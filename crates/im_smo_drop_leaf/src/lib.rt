@@ -24,13 +24,13 @@
 //! `im_smo_pages` for what a deletion makes of pages, and on `im_theory_tree` for the laws of a deletion.
 #![tactic(auto)]
 
+mod beside;
 mod dropping;
 mod emptying;
 mod giving;
-mod laws;
+mod kept_ways;
 mod plan;
-mod reading;
 mod way;
 
-pub use laws::deletion_plans_keep_ways;
+pub use kept_ways::deletion_plans_keep_ways;
 pub use plan::{plan_delete, plan_delete_last};

@@ -13,10 +13,10 @@ ghost use Rattle.im_smo_drop_leaf.specs.Emptied.{emptied, SameBut};
 ghost use Rattle.im_smo_drop_leaf.specs.Plan.{IsPlan};
 ghost use Rattle.im_smo_drop_leaf.specs.Ways.{IsPlaced};
 
+use crate::beside::{Beside, beside_of};
 use crate::dropping::take_out;
 use crate::emptying::put_emptied;
 use crate::giving::give_back;
-use crate::reading::{Beside, beside_of};
 use crate::way::{Place, find_chain};
 use im_base_disk::Disk;
 use im_base_types::{Fault, PageNo};

@@ -38,7 +38,7 @@ pub(crate) fn is_only(place: ChildPlace) -> bool
 }
 
 // Notes a number.
-fn note(numbers: &mut Vec<PageNo>, number: PageNo) -> Result<(), Fault>
+fn push_number(numbers: &mut Vec<PageNo>, number: PageNo) -> Result<(), Fault>
     ensures new { OnOk result (numbers.new.items ≡ numbers.old.items ++ number ∷ []) }
     ensures refused { IfErr result (λ e. e ≡ Memory) }
 {
@@ -52,7 +52,7 @@ fn next_place(above: &mut Vec<PageNo>, place: Place, child: Child) -> Result<Pla
     ensures refused { IfErr result (λ e. e ≡ Memory) }
 {
     if is_only(child.place) && place.number != 1 {
-        note(above, place.number)?;
+        push_number(above, place.number)?;
         return Ok(Place {
             number: child.number,
             parent: place.parent,

@@ -15,13 +15,13 @@
 
 mod change;
 mod change_steps;
+mod kept_by_changes;
 mod late_fault;
-mod laws;
 mod page_bytes;
 mod page_record;
 mod structure_change;
 
 pub use change::Change;
+pub use kept_by_changes::{changes_go_on, changes_keep};
 pub use late_fault::late;
-pub use laws::{changes_go_on, changes_keep};
 pub use structure_change::run;

@@ -48,8 +48,8 @@ mod image_allocations;
 mod image_links;
 mod image_splits;
 mod images;
-pub mod laws;
 mod splits;
+pub mod tree_steps;
 mod way_splits;
 
 pub use allocations::{give_free, take_count, take_free};

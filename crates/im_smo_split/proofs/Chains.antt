@@ -12,7 +12,7 @@ use Rattle.im_theory_tree.specs.Halves.{LacksRoom}
 use Rattle.im_theory_tree.specs.KeySplits.{is_leaf_level}
 use Rattle.im_theory_tree.proofs.LookupLemmas.{way_leaf, way_inner}
 use Rattle.im_theory_tree.proofs.Way.{step_way}
-use Rattle.im_smo_split.specs.Turns.{PassesUp, SplitsDown}
+use Rattle.im_smo_split.specs.PendingSplits.{PassesUp, SplitsDown}
 
 pub way_level : (pages : Pages) (k : ℕ) (key : Key) (p : ℕ) → IsOnWay pages k key p → (pages p).level ≡ k
 way_level pages zero key p way = (way_leaf pages key p way).1

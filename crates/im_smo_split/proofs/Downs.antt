@@ -8,9 +8,9 @@ use Rattle.im_smo_pages.specs.Images.{Numbered, image_of, Has}
 use Rattle.im_smo_alloc.specs.Seen.{seen}
 use Rattle.im_smo_alloc.specs.Kept.{HasImages}
 use Rattle.im_smo_split.specs.Pages.{newest_first}
-use Rattle.im_smo_split.specs.Steps.{Turned}
+use Rattle.im_smo_split.specs.Steps.{LeavesPending}
 use Rattle.im_smo_split.specs.Ends.{Ended}
-use Rattle.im_smo_split.specs.declared.turns.Turn.{Turn}
+use Rattle.im_smo_split.specs.declared.pending_split.PendingSplit.{PendingSplit}
 use Rattle.im_smo_pages.proofs.PlanWays.{has_none}
 use Rattle.im_smo_split.proofs.Ends.{IsEnd}
 
@@ -27,13 +27,13 @@ module _ (s : AllPages) (key : Key) (images : List Numbered) where
     has = end.3;
   }
 
-  module _ (turn : Turn) (mid : List Numbered) (numbers : List ℕ) (one : Turned s key images turn mid numbers) where
-    pub has_turned : {D : Type 0} (d : Ghosts D) {w : PageWriter} {disk : D} → HasPages d AreLoaded s w disk → HasImages d s mid (newest_first numbers) w disk
-    has_turned {D} d {w} {disk} has = record { has = has; good = one.turn_is.good }
+  module _ (pending : PendingSplit) (mid : List Numbered) (numbers : List ℕ) (one : LeavesPending s key images pending mid numbers) where
+    pub has_split : {D : Type 0} (d : Ghosts D) {w : PageWriter} {disk : D} → HasPages d AreLoaded s w disk → HasImages d s mid (newest_first numbers) w disk
+    has_split {D} d {w} {disk} has = record { has = has; good = one.pending_is.good }
 
-    -- the next turn
-    pub turned_then : (next : Turn) (new : List Numbered) (left : List ℕ) → Turned s key mid next new left → Turned s key images next new left
-    turned_then next new left two = record { turn_is = two.turn_is; parent = two.parent; same = two.same ∙ one.same; ways = λ k q way all. two.ways k q (one.ways k q way tt) tt }
+    -- the next one
+    pub split_then : (next : PendingSplit) (new : List Numbered) (left : List ℕ) → LeavesPending s key mid next new left → LeavesPending s key images next new left
+    split_then next new left two = record { pending_is = two.pending_is; parent = two.parent; same = two.same ∙ one.same; ways = λ k q way all. two.ways k q (one.ways k q way tt) tt }
 
     -- the end
     pub end_then : (new : List Numbered) (leaf : ℕ) → Ended s key mid new leaf → Ended s key images new leaf

@@ -24,10 +24,10 @@ use Rattle.im_smo_pages.proofs.LeafSplitSteps.{leaf_apart}
 use Rattle.im_smo_alloc.specs.Seen.{seen, page_in}
 use Rattle.im_smo_split.specs.Pages.{newest_first}
 use Rattle.im_smo_split.specs.Ends.{HalvesLeaf, HalvesRootLeaf}
-use Rattle.im_smo_split.specs.Turns.{IsTurn, IsRootTurn}
+use Rattle.im_smo_split.specs.PendingSplits.{IsPending, IsRootPending}
 use Rattle.im_smo_split.proofs.TakenOut.{out_has, beneath, out_same, out_at, in_same}
 use Rattle.im_smo_split.proofs.Takings.{newest_is}
-use Rattle.im_smo_split.proofs.Turning.{leaf_can, root_leaf_can}
+use Rattle.im_smo_split.proofs.PendingChains.{leaf_can, root_leaf_can}
 
 some_long : (xs : List Numbered) (n : ℕ) → Has xs n → 1 ≤ length xs
 some_long [] n has = absurd (cc has)
@@ -76,17 +76,17 @@ pub record IsPartable (out : List Numbered) (pages : Pages) (key : Key) (parent 
   pub can : Rises b.entries → FitsPage true b.entries → CanSplit Leaf b (held pages out parent) q
 
 module _ (s : AllPages) (key : Key) (old : Pages) (xs : List Numbered) (up : IsRising xs) (p parent q : ℕ) (g : Page) (same : seen s xs ≡ old) (page : g ≡ page_in s xs p)
-    (turn : IsTurn old (q ∷ []) key zero parent p) where
+    (pending : IsPending old (q ∷ []) key zero parent p) where
   was : held (beneath s xs p g up page) (without_image p xs) ≡ old
   was = out_same s xs p g up page ∙ same
 
-  turn_out : IsTurn (held (beneath s xs p g up page) (without_image p xs)) (q ∷ []) key zero parent p
-  turn_out = subst (λ (pages : Pages). IsTurn pages (q ∷ []) key zero parent p) (sym was) turn
+  pending_out : IsPending (held (beneath s xs p g up page) (without_image p xs)) (q ∷ []) key zero parent p
+  pending_out = subst (λ (pages : Pages). IsPending pages (q ∷ []) key zero parent p) (sym was) pending
 
   pub leaf_ended : (out new : List Numbered) (half : ℕ) → out ≡ without_image p xs → HalvesLeaf out new g.body key parent p q half → IsEnd old (seen s new) key p half × (1 ≤ length new) × Has new p × Has new half
   leaf_ended out new half out_is parts =
       let halves : HalvesLeaf (without_image p xs) new g.body key parent p q half = subst (λ (l : List Numbered). HalvesLeaf l new g.body key parent p q half) out_is parts in
-      let is = halves.goes (beneath s xs p g up page) [] turn_out.good turn_out.way turn_out.child (out_at s xs p g up page) in (
+      let is = halves.goes (beneath s xs p g up page) [] pending_out.good pending_out.way pending_out.child (out_at s xs p g up page) in (
         subst (λ (pages : Pages). IsEnd pages (seen s new) key p half) was
             (subst (λ (pages : Pages). IsEnd (held (beneath s xs p g up page) (without_image p xs)) pages key p half) (in_same s xs p g up page new halves.there)
             (end_of (held (beneath s xs p g up page) (without_image p xs)) (held (beneath s xs p g up page) new) key p half is)),
@@ -103,37 +103,37 @@ module _ (s : AllPages) (key : Key) (old : Pages) (xs : List Numbered) (up : IsR
       let is : g.body.next ≡ (old p).next = ap (λ (c : Body). c.next) body_was in
       let more : 1 ≤ (old p).next = subst (λ (n : ℕ). 1 ≤ n) is some in
       subst (λ (n : ℕ). Has (without_image p xs) n) (sym is)
-      (out_has p (old p).next xs up (λ e. (leaf_apart old [] key parent p q turn.good turn.way turn.child).next_left more (sym e)) (has (old p).next refl more))
+      (out_has p (old p).next xs up (λ e. (leaf_apart old [] key parent p q pending.good pending.way pending.child).next_left more (sym e)) (has (old p).next refl more))
 
   can_part : Rises g.body.entries → FitsPage true g.body.entries → CanSplit Leaf g.body (held (beneath s xs p g up page) (without_image p xs) parent) q
   can_part rises fits =
       let out = held (beneath s xs p g up page) (without_image p xs) in
       let is : out p ≡ g.body = out_at s xs p g up page in
       subst (λ (c : Body). CanSplit Leaf c (out parent) q) is
-      (leaf_can out (q ∷ []) key parent p q turn_out (subst (λ (c : Body). Rises c.entries) (sym is) rises) (subst (λ (c : Body). FitsPage true c.entries) (sym is) fits))
+      (leaf_can out (q ∷ []) key parent p q pending_out (subst (λ (c : Body). Rises c.entries) (sym is) rises) (subst (λ (c : Body). FitsPage true c.entries) (sym is) fits))
 
   pub leaf_partable : (out : List Numbered) → out ≡ without_image p xs → Has xs parent → (1 ≤ (old p).next → Has xs (old p).next) → IsPartable out (beneath s xs p g up page) key parent p q g.body
   leaf_partable out out_is above next =
       subst (λ (l : List Numbered). IsPartable l (beneath s xs p g up page) key parent p q g.body) (sym out_is)
       (record {
-        good = turn_out.good;
-        way = turn_out.way;
-        child = turn_out.child;
+        good = pending_out.good;
+        way = pending_out.way;
+        child = pending_out.child;
         page = out_at s xs p g up page;
-        above = out_has p parent xs up (λ e. (leaf_apart old [] key parent p q turn.good turn.way turn.child).parent_left (sym e)) above;
+        above = out_has p parent xs up (λ e. (leaf_apart old [] key parent p q pending.good pending.way pending.child).parent_left (sym e)) above;
         next = next_out (λ n is some. subst (λ (m : ℕ). Has xs m) (sym is) (next (subst (λ (m : ℕ). 1 ≤ m) is some)));
-        leaf = ap (λ (c : Body). c.kind) body_was ∙ (way_leaf old key p (step_way old zero key parent p turn.way turn.child)).0;
+        leaf = ap (λ (c : Body). c.kind) body_was ∙ (way_leaf old key p (step_way old zero key parent p pending.way pending.child)).0;
         can = can_part;
       })
 
 -- ---- the root
 
-module _ (s : AllPages) (key : Key) (xs : List Numbered) (up : IsRising xs) (l r : ℕ) (g : Page) (page : g ≡ page_in s xs 1) (turn : IsRootTurn (seen s xs) (r ∷ l ∷ []) key zero) where
+module _ (s : AllPages) (key : Key) (xs : List Numbered) (up : IsRising xs) (l r : ℕ) (g : Page) (page : g ≡ page_in s xs 1) (pending : IsRootPending (seen s xs) (r ∷ l ∷ []) key zero) where
   root_was : held (beneath s xs 1 g up page) (without_image 1 xs) ≡ seen s xs
   root_was = out_same s xs 1 g up page
 
-  root_out : IsRootTurn (held (beneath s xs 1 g up page) (without_image 1 xs)) (r ∷ l ∷ []) key zero
-  root_out = subst (λ (pages : Pages). IsRootTurn pages (r ∷ l ∷ []) key zero) (sym root_was) turn
+  root_out : IsRootPending (held (beneath s xs 1 g up page) (without_image 1 xs)) (r ∷ l ∷ []) key zero
+  root_out = subst (λ (pages : Pages). IsRootPending pages (r ∷ l ∷ []) key zero) (sym root_was) pending
 
   pub root_ended : (out new : List Numbered) (half : ℕ) → out ≡ without_image 1 xs → HalvesRootLeaf out new g.body key l r half → IsEnd (seen s xs) (seen s new) key 1 half × (1 ≤ length new) × Has new 1 × Has new half
   root_ended out new half out_is parts =

@@ -3,7 +3,7 @@ use Rattle.std.proofs.Common.{◌≡◌, ℕ, ◌+◌, ◌≤◌, ◌<◌, true,
 use Rattle.im_base_types.specs.Keys.{Key}
 use Rattle.im_theory_tree.specs.Levels.{Pages, height}
 use Rattle.im_smo_split.specs.Tops.{IsFound}
-use Rattle.im_smo_split.specs.Turns.{SplitsDown}
+use Rattle.im_smo_split.specs.PendingSplits.{SplitsDown}
 use Rattle.im_smo_split.specs.Plan.{IsWithin, IsOver}
 use Rattle.im_smo_split.specs.declared.top.Top.{Top}
 

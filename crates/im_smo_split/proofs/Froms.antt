@@ -13,10 +13,10 @@ use Rattle.im_smo_alloc.specs.Seen.{bodies, seen}
 use Rattle.im_smo_alloc.specs.Kept.{HasImages}
 use Rattle.im_smo_split.specs.Pages.{newest_first, Taken}
 use Rattle.im_smo_split.specs.Tops.{IsTop}
-use Rattle.im_smo_split.specs.Turns.{IsTurn, IsRootTurn}
+use Rattle.im_smo_split.specs.PendingSplits.{IsPending, IsRootPending}
 use Rattle.im_smo_split.specs.Ends.{Ended}
 use Rattle.im_smo_split.specs.declared.top.Top.{Top}
-use Rattle.im_smo_split.proofs.Turning.{turn_stays, root_turn_stays, way_on}
+use Rattle.im_smo_split.proofs.PendingChains.{pending_stays, root_pending_stays, way_on}
 
 -- without images the pages are seen as they are
 pub seen_none : (s : AllPages) (images : List Numbered) → images ≡ [] → seen s images ≡ bodies s
@@ -37,11 +37,11 @@ module _ (s : AllPages) (first : List Numbered) (none : first ≡ []) where
     pub has_taken_all : {D : Type 0} (d : Ghosts D) {w : PageWriter} {disk : D} → HasPages d AreLoaded s w disk → HasImages d s mid (newest_first numbers) w disk
     has_taken_all {D} d {w} {disk} has = record { has = has; good = one.good }
 
-    pub root_on : top.root ≡ true → IsRootTurn (seen s mid) (newest_first numbers) key top.level
-    root_on e = root_turn_stays (bodies s) (seen s mid) [] (newest_first numbers) key top.level (is_top.root e) one.good rest
+    pub root_on : top.root ≡ true → IsRootPending (seen s mid) (newest_first numbers) key top.level
+    root_on e = root_pending_stays (bodies s) (seen s mid) [] (newest_first numbers) key top.level (is_top.root e) one.good rest
 
-    pub under_on : top.root ≡ false → IsTurn (seen s mid) (newest_first numbers) key top.level top.parent top.page
-    under_on e = turn_stays (bodies s) (seen s mid) [] (newest_first numbers) key top.level top.parent top.page (is_top.under e) one.good rest
+    pub under_on : top.root ≡ false → IsPending (seen s mid) (newest_first numbers) key top.level top.parent top.page
+    under_on e = pending_stays (bodies s) (seen s mid) [] (newest_first numbers) key top.level top.parent top.page (is_top.under e) one.good rest
 
     -- the split
     pub down_done : (new : List Numbered) (leaf : ℕ) → IsGoodTree (bodies s) [] → Ended s key mid new leaf → Ended s key [] new leaf

@@ -1,11 +1,11 @@
 pub mod Points
 pub mod Chains
-pub mod Turning
+pub mod PendingChains
 pub mod Placing
 pub mod Takings
 pub mod TakenOut
 pub mod Stepping
-pub mod Turned
+pub mod AfterSplit
 pub mod Bringing
 pub mod Ends
 pub mod OneLeaf

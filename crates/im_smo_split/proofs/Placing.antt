@@ -15,7 +15,7 @@ use Rattle.im_theory_tree.specs.KeySplits.{is_leaf_level}
 use Rattle.im_theory_tree.proofs.Way.{step_way, way_begins}
 use Rattle.im_tree_search.specs.Levels.{kind_at}
 use Rattle.im_smo_split.specs.declared.top.Top.{Top}
-use Rattle.im_smo_split.specs.Turns.{PassesUp, SplitsDown}
+use Rattle.im_smo_split.specs.PendingSplits.{PassesUp, SplitsDown}
 use Rattle.im_smo_split.specs.Paths.{OnPath, separator, IsPath, fits, pages_taken, new_pages}
 use Rattle.im_smo_split.specs.Readings.{HasUp, IsRoom}
 use Rattle.im_smo_split.specs.Tops.{IsPlaced, IsFound}

@@ -1,4 +1,4 @@
--- The turn behind a split of an inner page among the images.
+-- What is to be split after a split of an inner page among the images.
 use Rattle.std.proofs.Common.{◌≡◌, ℕ, suc, List, ◌∷◌, Some, sym, subst, ◌∙◌, ⊎_elim, arith, false}
 use Rattle.im_base_types.specs.Keys.{Key, IsBelow}
 use Rattle.im_base_types.specs.Pages.{Body, Page}
@@ -19,27 +19,27 @@ use Rattle.im_smo_pages.specs.Changed.{SamePages, inner_split_pages, root_inner_
 use Rattle.im_smo_pages.specs.Parts.{CanHalve, CanSplit}
 use Rattle.im_smo_alloc.specs.Seen.{seen, page_in}
 use Rattle.im_smo_split.specs.Steps.{HalvesInner, HalvesRoot}
-use Rattle.im_smo_split.specs.Turns.{IsTurn, IsRootTurn}
+use Rattle.im_smo_split.specs.PendingSplits.{IsPending, IsRootPending}
 use Rattle.im_theory_tree.specs.Ways.{KeepsAllWays}
-use Rattle.im_smo_split.proofs.Turning.{other_level, inner_low, inner_high, inner_ways, root_low, root_high, root_ways, inner_can, root_inner_can}
+use Rattle.im_smo_split.proofs.PendingChains.{other_level, inner_low, inner_high, inner_ways, root_low, root_high, root_ways, inner_can, root_inner_can}
 use Rattle.im_smo_split.proofs.TakenOut.{beneath, body_is, out_has, out_same, out_at, in_same}
 
--- it is the turn of a child under a part that is among the images, and the walk stays
+-- a child is to be split under a part that is among the images, and the walk stays
 abbrev pub GoesOnTo : Pages → Pages → List Numbered → List ℕ → Key → (k half child : ℕ) → Type 0
-GoesOnTo pages new images spare key k half child = IsTurn new spare key k half child × (walk new ≡ walk pages) × Has images half × KeepsAllWays pages new
+GoesOnTo pages new images spare key k half child = IsPending new spare key k half child × (walk new ≡ walk pages) × Has images half × KeepsAllWays pages new
 
 -- ---- an inner page
 
-module _ (s : AllPages) (xs : List Numbered) (up : IsRising xs) (spare : List ℕ) (key : Key) (k parent p q : ℕ) (turn : IsTurn (seen s xs) (q ∷ spare) key (suc k) parent p) (page : Page) (is : page ≡ page_in s xs p) where
+module _ (s : AllPages) (xs : List Numbered) (up : IsRising xs) (spare : List ℕ) (key : Key) (k parent p q : ℕ) (pending : IsPending (seen s xs) (q ∷ spare) key (suc k) parent p) (page : Page) (is : page ≡ page_in s xs p) where
   -- the page is an inner one of its level
-  pub turn_level : HasLevel (suc k) page.body
-  turn_level = subst (HasLevel (suc k)) (sym (body_is s xs p page up is)) (way_level (seen s xs) (suc k) key p (step_way (seen s xs) (suc k) key parent p turn.way turn.child))
+  pub pending_level : HasLevel (suc k) page.body
+  pending_level = subst (HasLevel (suc k)) (sym (body_is s xs p page up is)) (way_level (seen s xs) (suc k) key p (step_way (seen s xs) (suc k) key parent p pending.way pending.child))
 
   -- its parent is another
   parent_other : p ≡ parent → ⊥
   parent_other e =
-      let low = way_level (seen s xs) (suc k) key p (step_way (seen s xs) (suc k) key parent p turn.way turn.child) in
-      let high = way_level (seen s xs) (suc (suc k)) key parent turn.way in
+      let low = way_level (seen s xs) (suc k) key p (step_way (seen s xs) (suc k) key parent p pending.way pending.child) in
+      let high = way_level (seen s xs) (suc (suc k)) key parent pending.way in
       other_level (seen s xs) p parent (suc k) (suc (suc k)) low.level high.level (omega arith) (sym e)
 
   pub parent_stays : Has xs parent → Has (without_image p xs) parent
@@ -50,10 +50,10 @@ module _ (s : AllPages) (xs : List Numbered) (up : IsRising xs) (spare : List �
       let e = body_is s xs p page up is in
       subst (λ (pages : Pages). CanSplit Inner page.body (pages parent) q) (sym (out_same s xs p page up is))
       (subst (λ (y : Body). CanSplit Inner y (seen s xs parent) q) (sym e)
-      (inner_can (seen s xs) (q ∷ spare) key k parent p q c turn (subst (λ (y : Body). FitsPage false y.entries) e fits) (subst (λ (y : Body). IsChild y key c) e child)))
+      (inner_can (seen s xs) (q ∷ spare) key k parent p q c pending (subst (λ (y : Body). FitsPage false y.entries) e fits) (subst (λ (y : Body). IsChild y key c) e child)))
 
-  pub turns_on : (new : List Numbered) (half child : ℕ) → HalvesInner (without_image p xs) new page.body key parent p q half child → GoesOnTo (seen s xs) (seen s new) new spare key k half child
-  turns_on new half child was =
+  pub pending_on : (new : List Numbered) (half child : ℕ) → HalvesInner (without_image p xs) new page.body key parent p q half child → GoesOnTo (seen s xs) (seen s new) new spare key k half child
+  pending_on new half child was =
       let e = body_is s xs p page up is in
       let h : HalvesInner (without_image p xs) new (seen s xs p) key parent p q half child = subst (λ (y : Body). HalvesInner (without_image p xs) new y key parent p q half child) e was in
       let n : ℕ = h.point in
@@ -65,36 +65,36 @@ module _ (s : AllPages) (xs : List Numbered) (up : IsRising xs) (spare : List �
       ⊎_elim
       (λ (x : (half ≡ p) × IsBelow key (entry_at (seen s xs p).entries n).0).
       subst (λ (m : ℕ). GoesOnTo (seen s xs) (seen s new) new spare key k m child) (sym x.0)
-      (let t = inner_low (seen s xs) (seen s new) spare key k parent p q n child turn h.rises h.parts.at split h.child_is x.1 in (t.0, t.1, h.parts.left, inner_ways (seen s xs) (seen s new) spare key k parent p q n child turn h.rises h.parts.at split h.child_is)))
+      (let t = inner_low (seen s xs) (seen s new) spare key k parent p q n child pending h.rises h.parts.at split h.child_is x.1 in (t.0, t.1, h.parts.left, inner_ways (seen s xs) (seen s new) spare key k parent p q n child pending h.rises h.parts.at split h.child_is)))
       (λ (x : (half ≡ q) × AtOrAbove (Some (entry_at (seen s xs p).entries n).0) key).
       subst (λ (m : ℕ). GoesOnTo (seen s xs) (seen s new) new spare key k m child) (sym x.0)
-      (let t = inner_high (seen s xs) (seen s new) spare key k parent p q n child turn h.rises h.parts.at split h.child_is x.1 in (t.0, t.1, h.parts.right, inner_ways (seen s xs) (seen s new) spare key k parent p q n child turn h.rises h.parts.at split h.child_is)))
+      (let t = inner_high (seen s xs) (seen s new) spare key k parent p q n child pending h.rises h.parts.at split h.child_is x.1 in (t.0, t.1, h.parts.right, inner_ways (seen s xs) (seen s new) spare key k parent p q n child pending h.rises h.parts.at split h.child_is)))
       h.half_is
 
 -- ---- the root
 
 -- its parts are taken left and then right
-pub root_relisted : (pages : Pages) (spare : List ℕ) (key : Key) (k l r : ℕ) → IsRootTurn pages (r ∷ l ∷ spare) key k → IsRootTurn pages (l ∷ r ∷ spare) key k
-root_relisted pages spare key k l r turn = record {
-  good = relisted pages (r ∷ l ∷ spare) (l ∷ r ∷ spare) (λ x. omega arith) turn.good;
-  tall = turn.tall;
-  splits = turn.splits;
+pub root_relisted : (pages : Pages) (spare : List ℕ) (key : Key) (k l r : ℕ) → IsRootPending pages (r ∷ l ∷ spare) key k → IsRootPending pages (l ∷ r ∷ spare) key k
+root_relisted pages spare key k l r pending = record {
+  good = relisted pages (r ∷ l ∷ spare) (l ∷ r ∷ spare) (λ x. omega arith) pending.good;
+  tall = pending.tall;
+  splits = pending.splits;
 }
 
-module _ (s : AllPages) (xs : List Numbered) (up : IsRising xs) (spare : List ℕ) (key : Key) (k l r : ℕ) (turn : IsRootTurn (seen s xs) (l ∷ r ∷ spare) key (suc k)) (page : Page) (is : page ≡ page_in s xs 1) where
+module _ (s : AllPages) (xs : List Numbered) (up : IsRising xs) (spare : List ℕ) (key : Key) (k l r : ℕ) (pending : IsRootPending (seen s xs) (l ∷ r ∷ spare) key (suc k)) (page : Page) (is : page ≡ page_in s xs 1) where
   pub root_level : HasLevel (suc k) page.body
   root_level =
       subst (HasLevel (suc k)) (sym (body_is s xs 1 page up is))
-      (way_level (seen s xs) (suc k) key 1 (subst (λ (h : ℕ). IsOnWay (seen s xs) h key 1) turn.tall (way_begins (seen s xs) (l ∷ r ∷ spare) key turn.good)))
+      (way_level (seen s xs) (suc k) key 1 (subst (λ (h : ℕ). IsOnWay (seen s xs) h key 1) pending.tall (way_begins (seen s xs) (l ∷ r ∷ spare) key pending.good)))
 
   pub can_halve : (c : ℕ) → FitsPage false page.body.entries → IsChild page.body key c → CanHalve Inner page.body
   can_halve c fits child =
       let e = body_is s xs 1 page up is in
       subst (CanHalve Inner) (sym e)
-      (root_inner_can (seen s xs) (l ∷ r ∷ spare) key k c turn (subst (λ (y : Body). FitsPage false y.entries) e fits) (subst (λ (y : Body). IsChild y key c) e child))
+      (root_inner_can (seen s xs) (l ∷ r ∷ spare) key k c pending (subst (λ (y : Body). FitsPage false y.entries) e fits) (subst (λ (y : Body). IsChild y key c) e child))
 
-  pub root_turns_on : (new : List Numbered) (half child : ℕ) → HalvesRoot (without_image 1 xs) new page.body key l r half child → GoesOnTo (seen s xs) (seen s new) new spare key k half child
-  root_turns_on new half child was =
+  pub root_pending_on : (new : List Numbered) (half child : ℕ) → HalvesRoot (without_image 1 xs) new page.body key l r half child → GoesOnTo (seen s xs) (seen s new) new spare key k half child
+  root_pending_on new half child was =
       let e = body_is s xs 1 page up is in
       let h : HalvesRoot (without_image 1 xs) new (seen s xs 1) key l r half child = subst (λ (y : Body). HalvesRoot (without_image 1 xs) new y key l r half child) e was in
       let n : ℕ = h.point in
@@ -106,8 +106,8 @@ module _ (s : AllPages) (xs : List Numbered) (up : IsRising xs) (spare : List �
       ⊎_elim
       (λ (x : (half ≡ l) × IsBelow key (entry_at (seen s xs 1).entries n).0).
       subst (λ (m : ℕ). GoesOnTo (seen s xs) (seen s new) new spare key k m child) (sym x.0)
-      (let t = root_low (seen s xs) (seen s new) spare key k l r n child turn h.rises h.parts.at split h.child_is x.1 in (t.0, t.1, h.parts.left, root_ways (seen s xs) (seen s new) spare key k l r n child turn h.rises h.parts.at split h.child_is)))
+      (let t = root_low (seen s xs) (seen s new) spare key k l r n child pending h.rises h.parts.at split h.child_is x.1 in (t.0, t.1, h.parts.left, root_ways (seen s xs) (seen s new) spare key k l r n child pending h.rises h.parts.at split h.child_is)))
       (λ (x : (half ≡ r) × AtOrAbove (Some (entry_at (seen s xs 1).entries n).0) key).
       subst (λ (m : ℕ). GoesOnTo (seen s xs) (seen s new) new spare key k m child) (sym x.0)
-      (let t = root_high (seen s xs) (seen s new) spare key k l r n child turn h.rises h.parts.at split h.child_is x.1 in (t.0, t.1, h.parts.right, root_ways (seen s xs) (seen s new) spare key k l r n child turn h.rises h.parts.at split h.child_is)))
+      (let t = root_high (seen s xs) (seen s new) spare key k l r n child pending h.rises h.parts.at split h.child_is x.1 in (t.0, t.1, h.parts.right, root_ways (seen s xs) (seen s new) spare key k l r n child pending h.rises h.parts.at split h.child_is)))
       h.half_is

@@ -1,4 +1,4 @@
-pub mod Turns
+pub mod PendingSplits
 pub mod Paths
 pub mod Kept
 pub mod Readings

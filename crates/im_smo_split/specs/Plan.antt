@@ -15,7 +15,7 @@ use Rattle.im_smo_pages.specs.OnWay.{IsApart}
 use Rattle.im_smo_alloc.specs.Seen.{bodies, seen}
 use Rattle.im_smo_split.specs.Paths.{OnPath, IsPath, new_pages}
 use Rattle.im_smo_split.specs.Tops.{HasRoomFor, LacksRoomFor}
-use Rattle.im_smo_split.specs.Turns.{SplitsDown}
+use Rattle.im_smo_split.specs.PendingSplits.{SplitsDown}
 
 -- the pages that a key's entry needs, beside those that there are and are not free, are at most so many
 pub record IsWithin (pages : Pages) (key : Key) (max : ℕ) : Type 0 where

@@ -12,8 +12,8 @@ use Rattle.im_theory_tree.specs.Ways.{KeepsAllWays}
 use Rattle.im_smo_pages.specs.OnWay.{IsHalf}
 use Rattle.im_smo_alloc.specs.Seen.{seen}
 use Rattle.im_smo_split.specs.Pages.{newest_first}
-use Rattle.im_smo_split.specs.Turns.{IsTurn}
-use Rattle.im_smo_split.specs.declared.turns.Turn.{Turn}
+use Rattle.im_smo_split.specs.PendingSplits.{IsPending}
+use Rattle.im_smo_split.specs.declared.pending_split.PendingSplit.{PendingSplit}
 
 -- Inner page p, which held this body, is split, and `half` is the part that the key belongs to; `child` is the child on the key's way.
 pub record HalvesInner (old new : List Numbered) (page : Body) (key : Key) (parent p q half child : ℕ) : Type 0 where
@@ -37,9 +37,9 @@ pub record Brought (store : AllPages) (images : List Numbered) (number : ℕ) (n
   pub kept : KeepsAll images new
   pub same : seen store new ≡ seen store images
 
--- It is the turn of a page whose parent is among the images, and the walk is that of before.
-pub record Turned (store : AllPages) (key : Key) (images : List Numbered) (turn : Turn) (new : List Numbered) (numbers : List ℕ) : Type 0 where
-  pub turn_is : IsTurn (seen store new) (newest_first numbers) key turn.level turn.parent turn.page
-  pub parent : Has new turn.parent
+-- A page is to be split whose parent is among the images, and the walk is that of before.
+pub record LeavesPending (store : AllPages) (key : Key) (images : List Numbered) (pending : PendingSplit) (new : List Numbered) (numbers : List ℕ) : Type 0 where
+  pub pending_is : IsPending (seen store new) (newest_first numbers) key pending.level pending.parent pending.page
+  pub parent : Has new pending.parent
   pub same : walk (seen store new) ≡ walk (seen store images)
   pub ways : KeepsAllWays (seen store images) (seen store new)

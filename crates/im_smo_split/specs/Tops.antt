@@ -5,13 +5,13 @@ use Rattle.im_theory_page.specs.Split.{HasRoom}
 use Rattle.im_theory_tree.specs.Levels.{Pages}
 use Rattle.im_theory_tree.specs.Search.{IsOnWay}
 use Rattle.im_smo_split.specs.declared.top.Top.{Top}
-use Rattle.im_smo_split.specs.Turns.{SplitsDown, IsTurn, IsRootTurn}
+use Rattle.im_smo_split.specs.PendingSplits.{SplitsDown, IsPending, IsRootPending}
 use Rattle.im_smo_split.specs.Paths.{OnPath, IsPath, pages_taken, new_pages}
 
--- it is the turn of the page that was found
+-- the page that was found is to be split
 pub record IsTop (pages : Pages) (key : Key) (top : Top) : Type 0 where
-  pub root : top.root ≡ true → IsRootTurn pages [] key top.level
-  pub under : top.root ≡ false → IsTurn pages [] key top.level top.parent top.page
+  pub root : top.root ≡ true → IsRootPending pages [] key top.level
+  pub under : top.root ≡ false → IsPending pages [] key top.level top.parent top.page
 
 -- the split of the page of this level takes a page for each level from there up to the highest page that splits, and one more for the root
 pub record IsCounted (level : ℕ) (top : Top) : Type 0 where

@@ -17,9 +17,9 @@ ghost use Rattle.im_smo_alloc.specs.Seen.{seen};
 ghost use Rattle.im_smo_alloc.specs.Kept.{HasImages, Plans};
 ghost use Rattle.im_smo_split.specs.Pages.{newest_first};
 ghost use Rattle.im_smo_split.specs.Ends.{HalvesLeaf, HalvesRootLeaf, BroughtBoth, Ended};
-ghost use Rattle.im_smo_split.specs.Turns.{IsTurn, IsRootTurn};
+ghost use Rattle.im_smo_split.specs.PendingSplits.{IsPending, IsRootPending};
 
-use crate::turns::{Turn, bring};
+use crate::pending_split::{PendingSplit, bring};
 use im_base_disk::Disk;
 use im_base_types::{Fault, PageNo};
 use im_page::Page;
@@ -60,24 +60,24 @@ fn bring_both<D: Disk>(
     bring(alloc, images, writer, disk, next)
 }
 
-// Splits the leaf whose turn it is among the images, where the leaf after it is too. It answers the half that is the key's leaf now.
+// Splits the leaf that is to be split among the images, where the leaf after it is too. It answers the half that is the key's leaf now.
 fn part_leaf(
     alloc: Global,
     images: &mut Images,
     page: &Page,
-    turn: Turn,
+    pending: PendingSplit,
     q: PageNo,
     key: &[u8],
 ) -> Result<PageNo, Fault>
-    ensures halves { IfOk result (HalvesLeaf images.old images.new page.now.body key.now turn.parent turn.page q) }
+    ensures halves { IfOk result (HalvesLeaf images.old images.new page.now.body key.now pending.parent pending.page q) }
     ensures causes { IfErr result (λ e. (e ≡ Memory) ⊎ (e ≡ NotAStore)) }
-    ensures sound { (pages : Pages) (spare : List ℕ) → IsGoodTree (held pages images.old) (q ∷ spare) → IsOnWay (held pages images.old) (suc zero) key.now turn.parent
-        → IsChild (held pages images.old turn.parent) key.now turn.page → held pages images.old turn.page ≡ page.now.body → Has images.old turn.parent
+    ensures sound { (pages : Pages) (spare : List ℕ) → IsGoodTree (held pages images.old) (q ∷ spare) → IsOnWay (held pages images.old) (suc zero) key.now pending.parent
+        → IsChild (held pages images.old pending.parent) key.now pending.page → held pages images.old pending.page ≡ page.now.body → Has images.old pending.parent
         → (1 ≤ page.now.body.next → Has images.old page.now.body.next)
-        → page.now.body.kind ≡ Leaf → (Rises page.now.body.entries → FitsPage true page.now.body.entries → CanSplit Leaf page.now.body (held pages images.old turn.parent) q) → result ≡ Err NotAStore → ⊥ }
+        → page.now.body.kind ≡ Leaf → (Rises page.now.body.entries → FitsPage true page.now.body.entries → CanSplit Leaf page.now.body (held pages images.old pending.parent) q) → result ≡ Err NotAStore → ⊥ }
 {
     page.content();
-    let half = images.split_leaf_for(alloc, key, page, turn.parent, turn.page, q)?;
+    let half = images.split_leaf_for(alloc, key, page, pending.parent, pending.page, q)?;
     Ok(half)
 }
 
@@ -99,37 +99,37 @@ fn part_root_leaf(
     Ok(half)
 }
 
-/// Splits the leaf whose turn it is, and the leaf after it learns of the new one; the page that was taken first is no longer spare. It
+/// Splits the leaf that is to be split, and the leaf after it learns of the new one; the page that was taken first is no longer spare. It
 /// answers the half that is the key's leaf now.
 ///
 /// Refused `NotAStore` where the page is no leaf or can not be split, or the page after it is no leaf; otherwise as `image` is, and
 /// `Memory`. After a refusal the images are of no use.
 #[tactic(auto, using(im_page_writer::proofs::Outcomes::then, im_page_writer::proofs::Outcomes::refused))]
-pub(crate) fn split_leaf_turn<D: Disk>(
+pub(crate) fn split_pending_leaf<D: Disk>(
     alloc: Global,
     images: &mut Images,
     numbers: &mut Vec<PageNo>,
     writer: &mut PageWriter,
     disk: &mut D,
     key: &[u8],
-    turn: Turn,
+    pending: PendingSplit,
 ) -> Result<PageNo, Fault>
     requires ready { IsReadyWriter D.Disk writer.old disk.old }
     requires working { writer.old.failed ≡ false }
     requires counted { length numbers.old.items ≡ 1 }
     ensures outcome { Plans D.Disk writer.old disk.old writer.new disk.new (fault_of result) }
     ensures kept { (store : AllPages) → HasImages D.Disk store images.old (newest_first numbers.old.items) writer.old disk.old
-        → IsTurn (seen store images.old) (newest_first numbers.old.items) key.now zero turn.parent turn.page → Has images.old turn.parent
+        → IsPending (seen store images.old) (newest_first numbers.old.items) key.now zero pending.parent pending.page → Has images.old pending.parent
         → IsSound result (Ended store key.now images.old images.new) }
 {
     let q = numbers.take_last();
-    bring_both(alloc, images, writer, disk, turn.page)?;
+    bring_both(alloc, images, writer, disk, pending.page)?;
     images.rise();
-    let page = image(alloc, images, writer, disk, turn.page)?;
-    part_leaf(alloc, images, &page, turn, q, key)
+    let page = image(alloc, images, writer, disk, pending.page)?;
+    part_leaf(alloc, images, &page, pending, q, key)
 }
 
-/// Splits the root, a leaf, into the two pages that were taken, and answers the key's. Refused as `split_leaf_turn` is.
+/// Splits the root, a leaf, into the two pages that were taken, and answers the key's. Refused as `split_pending_leaf` is.
 pub(crate) fn split_root_leaf<D: Disk>(
     alloc: Global,
     images: &mut Images,
@@ -143,7 +143,7 @@ pub(crate) fn split_root_leaf<D: Disk>(
     requires counted { length numbers.old.items ≡ 2 }
     ensures outcome { Plans D.Disk writer.old disk.old writer.new disk.new (fault_of result) }
     ensures kept { (store : AllPages) → HasImages D.Disk store images.old (newest_first numbers.old.items) writer.old disk.old
-        → IsRootTurn (seen store images.old) (newest_first numbers.old.items) key.now zero
+        → IsRootPending (seen store images.old) (newest_first numbers.old.items) key.now zero
         → IsSound result (Ended store key.now images.old images.new) }
 {
     let right = numbers.take_last();

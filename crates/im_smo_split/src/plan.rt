@@ -13,14 +13,14 @@ ghost use Rattle.im_smo_split.specs.Ends.{Ended};
 ghost use Rattle.im_smo_split.specs.Kept.{mild_to_grow, mild_to_split};
 ghost use Rattle.im_smo_split.specs.Plan.{Planned, WantsPages};
 ghost use Rattle.im_smo_split.specs.Tops.{IsCounted, IsTop};
-ghost use Rattle.im_smo_split.specs.Turns.{IsTurn, IsRootTurn};
+ghost use Rattle.im_smo_split.specs.PendingSplits.{IsPending, IsRootPending};
 
-use crate::leaves::{split_leaf_turn, split_root_leaf};
-use crate::reading::is_full;
+use crate::leaves::{split_pending_leaf, split_root_leaf};
+use crate::pending_split::{first_pending, split_pending_inner};
 use crate::split_plan::SplitPlan;
+use crate::split_room::is_full;
 use crate::taking::take_pages;
 use crate::top::{Top, find_top};
-use crate::turns::{first_turn, split_inner_turn};
 use im_base_disk::Disk;
 use im_base_types::{Fault, PageNo};
 use im_page_writer::PageWriter;
@@ -69,18 +69,18 @@ fn split_down<D: Disk>(
     requires counted { length numbers.old.items ≡ top.pages }
     ensures outcome { Plans D.Disk writer.old disk.old writer.new disk.new (fault_of result) }
     ensures kept { (store : AllPages) → HasImages D.Disk store images.old (newest_first numbers.old.items) writer.old disk.old
-        → (top.root ≡ true → IsRootTurn (seen store images.old) (newest_first numbers.old.items) key.now top.level)
-        → (top.root ≡ false → IsTurn (seen store images.old) (newest_first numbers.old.items) key.now top.level top.parent top.page)
+        → (top.root ≡ true → IsRootPending (seen store images.old) (newest_first numbers.old.items) key.now top.level)
+        → (top.root ≡ false → IsPending (seen store images.old) (newest_first numbers.old.items) key.now top.level top.parent top.page)
         → IsSound result (Ended store key.now images.old images.new) }
 {
     if top.root && top.level == 0 {
         return split_root_leaf(alloc, images, numbers, writer, disk, key);
     }
-    let mut turn = first_turn(alloc, images, numbers, writer, disk, key, top)?;
-    while 0 < turn.level {
-        turn = split_inner_turn(alloc, images, numbers, writer, disk, key, turn)?;
+    let mut pending = first_pending(alloc, images, numbers, writer, disk, key, top)?;
+    while 0 < pending.level {
+        pending = split_pending_inner(alloc, images, numbers, writer, disk, key, pending)?;
     }
-    split_leaf_turn(alloc, images, numbers, writer, disk, key, turn)
+    split_pending_leaf(alloc, images, numbers, writer, disk, key, pending)
 }
 
 // Takes the pages that a split needs, and splits from the highest page down.

@@ -16,7 +16,7 @@ use im_smo_pages::Images;
 use std::alloc::Global;
 
 // Notes a number.
-fn note(numbers: &mut Vec<PageNo>, number: PageNo) -> Result<(), Fault>
+fn push_number(numbers: &mut Vec<PageNo>, number: PageNo) -> Result<(), Fault>
     ensures new { OnOk result (numbers.new.items ≡ numbers.old.items ++ number ∷ []) }
     ensures refused { IfErr result (λ e. e ≡ Memory) }
 {
@@ -46,7 +46,7 @@ pub(crate) fn take_pages<D: Disk>(
     let mut taken = 0;
     while taken < count {
         let number = allocate(alloc, images, writer, disk)?;
-        note(&mut numbers, number)?;
+        push_number(&mut numbers, number)?;
         taken += 1;
     }
     Ok(numbers)

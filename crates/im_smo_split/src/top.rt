@@ -10,7 +10,7 @@ ghost use Rattle.im_tree_search.specs.Levels.{HasLevel};
 ghost use Rattle.im_smo_alloc.specs.Seen.{bodies};
 ghost use Rattle.im_smo_split.specs.Tops.{IsCounted, IsPlaced, IsFound};
 
-use crate::reading::{child_at, fits_in, key_room, room_in, up_in};
+use crate::split_room::{child_at, fits_in, key_room, room_in, up_in};
 use im_base_disk::Disk;
 use im_base_types::{Fault, PageNo};
 use im_page_pool::Frame;

@@ -5,7 +5,7 @@
 #[cfg(test)]
 mod disk;
 #[cfg(test)]
-mod laws;
+mod laws_at_one_leaf;
 #[cfg(test)]
 mod log;
 #[cfg(test)]

@@ -47,7 +47,7 @@ static IN_RAW: [&str; 15] = [
 ];
 
 // Lines that no life of a store takes.
-static IN_LIFE: [&str; 84] = [
+static IN_LIFE: [&str; 88] = [
     "raw",
     "put 61",
     "set log 00",
@@ -120,6 +120,10 @@ static IN_LIFE: [&str; 84] = [
     "seek a",
     "seek 1 a b",
     "next 1",
+    "prev 1",
+    "prev a",
+    "prev 1 a b",
+    "prevs 1 a",
     "scan 1 a",
     "scan 1 a b",
     "scan 1 a b x",

@@ -7,7 +7,7 @@ use std::test::Fail;
 use std::thread::Threads;
 
 // Scripts with what they print and their exit statuses, word for word.
-static STORED: [(&str, &str, &str, u8); 40] = [
+static STORED: [(&str, &str, &str, u8); 42] = [
     (
         "bad_line_is_named",
         "raw\nputt 61\n",
@@ -156,6 +156,18 @@ static STORED: [(&str, &str, &str, u8); 40] = [
         "replies_of_one_user",
         "life\nbegin\ninsert 1 a 1\ninsert 1 a 2\ndelete 1 b\nseek 1 b\nnext 1 a\nseek 1 A\nscan 1 a z 0\ncontinue 1\ncommit 2\ncommit 1\ncommit 1\n",
         "open ok 6\nstarted 1\ninserted\nduplicate\nabsent\nend\nend\nentry 61 1\nentries 61 1\nrefused 1\nrefused 1\ncommitted\nrefused 1\nfinal 1\n61 1\n",
+        0,
+    ),
+    (
+        "prev_of_one_user",
+        "life\nbegin\nprev 1 a\ninsert 1 b 1\ninsert 1 d 2\ninsert 1 f 3\nprev 1 b\nprev 1 a\nprev 1 c\nprev 1 d\nprev 1 e\nprev 1 z\nprev 1 b+a*1\ndelete 1 d\nprev 1 e\nprev 1 f\nprev 1 +a*0\nprev 1 +a*256\nprev 1 +z*255\ncommit 1\nprev 1 z\nprev 2 z\n",
+        "open ok 6\nstarted 1\nend\ninserted\ninserted\ninserted\nend\nend\nentry 62 1\nentry 62 1\nentry 64 2\nentry 66 3\nentry 62 1\ndeleted\nentry 62 1\nentry 62 1\nrefused 3\nrefused 3\nentry 66 3\ncommitted\nrefused 1\nrefused 1\nfinal 2\n62 1\n66 3\n",
+        0,
+    ),
+    (
+        "prev_locks_what_it_found_and_the_gap_above",
+        "life\nbegin\ninsert 1 c 1\ninsert 1 m 2\ninsert 1 x 3\ncommit 1\nbegin\nbegin\nbegin\nprev 3 m\ninsert 4 k 4\nrollback 4\ninsert 2 d 5\ninsert 2 k 4\ndelete 2 c\ninsert 2 n 6\ninsert 2 b 7\ncommit 3\ninsert 2 k 4\ndelete 2 c\ncommit 2\n",
+        "open ok 6\nstarted 1\ninserted\ninserted\ninserted\ncommitted\nstarted 2\nstarted 3\nstarted 4\nentry 63 1\ndie\nrolledback\nblocked lock 3\nblocked lock 3\nblocked lock 3\ninserted\nblocked lock 3\ncommitted\ninserted\ndeleted\ncommitted\nfinal 4\n6b 4\n6d 2\n6e 6\n78 3\n",
         0,
     ),
     (

@@ -3,9 +3,10 @@
 use crate::stores::{
     CREATION, FORCE, NEVER, are_bytes, begin_with, front_over, grouped, look_behind, stop_at, waits,
 };
-use im_base_steps::{Reply, Step, Store};
+use im_base_steps::{Reply, Step};
 use im_base_types::{Fault, TxnId};
 use im_front::Open;
+use im_theory_store::Store;
 use std::alloc::Global;
 use std::sync::Wait;
 use std::test::Fail;

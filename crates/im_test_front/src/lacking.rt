@@ -4,9 +4,10 @@ ghost use Rattle.std.specs.Prelude.{◌≡◌, ◌≤◌};
 ghost use Rattle.im_front.specs.Held.{IsResting};
 
 use crate::stores::{begin, opened};
-use im_base_steps::{Reply, Step, Store};
+use im_base_steps::{Reply, Step};
 use im_base_types::{Fault, Key, Rid, TxnId};
 use im_front::{Open, Rested};
+use im_theory_store::Store;
 use std::alloc::Global;
 use std::sync::Wait;
 use std::test::Fail;

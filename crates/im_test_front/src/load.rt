@@ -1,7 +1,7 @@
 //! A load on a store with group commit, of which each Commit has a force of its own after it: four steps a transaction.
 
 use crate::stores::{NEVER, new_store, stop_at};
-use im_base_steps::NoTurn;
+use im_base_types::StartAtOnce;
 use im_front::LoadArgs;
 use im_front_load::load_text;
 use std::test::Fail;
@@ -16,7 +16,7 @@ fn a_load_with_group_commit_makes_four_steps_a_transaction(rt: HostRuntime) -> R
         rt.alloc(),
         engine,
         args.with_group(true),
-        &NoTurn,
+        &StartAtOnce,
         &mut text,
     )?;
     assert_eq!(rt; status, 0);

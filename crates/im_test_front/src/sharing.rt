@@ -1,9 +1,10 @@
 //! Commits through a front that counts the steps of each caller: a Commit and the force after it are two.
 
 use crate::stores::{NEVER, key_of, new_store, stop_at};
-use im_base_steps::{Reply, Step, Store};
+use im_base_steps::{Reply, Step};
 use im_base_types::{Fault, TxnId};
 use im_front::{Rested, Share, Shared, Work, serve};
+use im_theory_store::Store;
 use std::alloc::Global;
 use std::sync::Wait;
 use std::sync::ledger::Ledger;

@@ -1,9 +1,10 @@
 //! Threads that sleep until a force is made.
 
 use crate::stores::{Found, begin, begin_with, grouped, key_of, look_behind, waits};
-use im_base_steps::{Reply, Step, Store};
+use im_base_steps::{Reply, Step};
 use im_base_types::{Fault, TxnId};
 use im_front::Open;
+use im_theory_store::Store;
 use std::alloc::Global;
 use std::sync::Wait;
 use std::sync::atomic::{AtomicU64, Ordering};

@@ -4,11 +4,12 @@ ghost use Rattle.std.specs.Prelude.{◌≡◌, IfOk};
 ghost use Rattle.im_front.specs.Held.{IsResting};
 
 use im_base_model_disk::{Fill, Length, ModelDisk, Stop};
-use im_base_steps::{Reply, Step, Store};
+use im_base_steps::{Reply, Step};
 use im_base_two_logs::Renamed;
 use im_base_types::{Fault, Key, Rid, TxnId};
 use im_engine::{BufferSize, Config, Engine, every_list_of_lives};
 use im_front::{Left, Open, Rested};
+use im_theory_store::Store;
 use std::alloc::Global;
 use std::sync::Wait;
 use std::thread::Threads;

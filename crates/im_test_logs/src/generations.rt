@@ -41,12 +41,12 @@ fn open_current<D: TwoLogs>(alloc: Global, disk: &mut D) -> Result<LogFile, Faul
 
 // A commit joins the log that is current, or a new one, and another the log of the other file, in which it goes on. It answers the LSNs of
 // the two.
-fn turn<D: TwoLogs>(alloc: Global, disk: &mut D) -> Result<(Lsn, Lsn), Fault>
+fn switch_logs<D: TwoLogs>(alloc: Global, disk: &mut D) -> Result<(Lsn, Lsn), Fault>
     requires working { D.failed disk.old ≡ false }
 {
     let mut log = open_current(alloc, disk)?;
     let first = commit(disk, &mut log, 1)?;
-    log.go_on(disk, 2)?;
+    log.switch_log(disk, 2)?;
     let second = commit(disk, &mut log, 2)?;
     Ok((first, second))
 }
@@ -64,7 +64,7 @@ fn turned(alloc: Global, disk: ModelDisk) -> (ModelDisk, Result<(Lsn, Lsn), Faul
     requires working { ⟦<ModelDisk as Disk>⟧.failed disk ≡ false }
 {
     let mut named = Renamed::new(disk, false);
-    let told = turn(alloc, &mut named);
+    let told = switch_logs(alloc, &mut named);
     (named.into_disk(), told)
 }
 

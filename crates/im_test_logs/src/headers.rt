@@ -6,7 +6,7 @@ use im_base_disk::{Disk, read_vec};
 use im_base_model_disk::{Fill, Length, ModelDisk, Stop};
 use im_base_two_logs::{Renamed, TwoLogs};
 use im_base_types::{Fault, FileId};
-use im_log_choice::{choose, go_on, next_header};
+use im_log_choice::{choose, next_header, switch_log};
 use im_log_header::{Header, make_log, read_header};
 use std::alloc::Global;
 use std::test::Fail;
@@ -97,7 +97,7 @@ fn other_headers_are_refused(rt: HostRuntime) -> Result<(), Fail> {
 }
 
 // A log of the first format with no batch goes on in the other file.
-fn turn<D: TwoLogs>(disk: &mut D) -> Result<(), Fault>
+fn switch_logs<D: TwoLogs>(disk: &mut D) -> Result<(), Fault>
     requires working { D.failed disk.old ≡ false }
     requires synced { IsSynced D.Disk disk.old }
 {
@@ -107,7 +107,7 @@ fn turn<D: TwoLogs>(disk: &mut D) -> Result<(), Fault>
         next: 1,
     };
     let header = next_header(&first, 31, 1)?;
-    go_on(disk, &header)
+    switch_log(disk, &header)
 }
 
 // The generation of the current log after a stop in this call.
@@ -116,7 +116,7 @@ fn left_by(alloc: Global, stop: Stop) -> Result<Result<Option<u64>, Fault>, Fail
     let mut disk = ModelDisk::new(log, Vec::new(alloc));
     disk.arm(stop);
     let mut named = Renamed::new(disk, false);
-    let _ = turn(&mut named);
+    let _ = switch_logs(&mut named);
     let mut left = Renamed::new(named.into_disk().after_stop(alloc)?, false);
     Ok(current(&mut left))
 }

@@ -2,7 +2,7 @@
 
 use im_base_disk::{Disk, read_vec};
 use im_base_types::{Fault, FileId};
-use im_tool::{ScratchDisk, check_text};
+use im_tool::{ScratchDisk, Untold, check_text};
 use std::alloc::Global;
 use std::fs;
 use std::test::Fail;
@@ -78,7 +78,13 @@ pub(crate) fn said_of<R: Threads + Sync>(
     copies: &Copies,
 ) -> Result<(u8, Vec<u8>), Fail> {
     let mut printed = Vec::new(alloc);
-    let (status, _disk) = check_text(rt, alloc, &mut printed, scratch(alloc, copies)?);
+    let (status, _disk) = check_text(
+        rt,
+        alloc,
+        &mut printed,
+        scratch(alloc, copies)?,
+        &mut Untold,
+    );
     Ok((status?, printed))
 }
 

@@ -7,7 +7,7 @@ use im_base_two_logs::Renamed;
 use im_base_types::{Fault, LONGEST_KEY};
 use im_engine::{Config, Engine};
 use im_engine_upkeep::Bounds;
-use im_tool::{Causes, Manner, ScratchDisk, stat_text, store_text};
+use im_tool::{Causes, Manner, ScratchDisk, Untold, stat_text, store_text};
 use std::alloc::Global;
 use std::io::{BufReader, Write};
 use std::process::Abort;
@@ -63,7 +63,13 @@ pub(crate) fn numbers_of<R: Threads + Sync>(
     copies: &Copies,
 ) -> Result<(u8, Vec<u8>), Fail> {
     let mut printed = Vec::new(alloc);
-    let (status, _disk) = stat_text(rt, alloc, &mut printed, scratch(alloc, copies)?);
+    let (status, _disk) = stat_text(
+        rt,
+        alloc,
+        &mut printed,
+        scratch(alloc, copies)?,
+        &mut Untold,
+    );
     Ok((status?, printed))
 }
 

@@ -10,7 +10,7 @@ use im_base_two_logs::Renamed;
 use im_base_types::{Fault, PAGE_SIZE};
 use im_engine::{Config, Engine};
 use im_engine_upkeep::Bounds;
-use im_tool::{Causes, Manner, check_text, stat_text, store_text};
+use im_tool::{Causes, Manner, Untold, check_text, stat_text, store_text};
 use std::alloc::Global;
 use std::io::{BufReader, Write};
 use std::test::Fail;
@@ -137,8 +137,20 @@ fn is_named<R: Threads + Sync>(
     let mut printed = Vec::new(alloc);
     let mut numbers = Vec::new(alloc);
     let copies = damaged(alloc, copies, damage)?;
-    let (check, _disk) = check_text(rt, alloc, &mut printed, scratch(alloc, &copies)?);
-    let (stat, _disk) = stat_text(rt, alloc, &mut numbers, scratch(alloc, &copies)?);
+    let (check, _disk) = check_text(
+        rt,
+        alloc,
+        &mut printed,
+        scratch(alloc, &copies)?,
+        &mut Untold,
+    );
+    let (stat, _disk) = stat_text(
+        rt,
+        alloc,
+        &mut numbers,
+        scratch(alloc, &copies)?,
+        &mut Untold,
+    );
     Ok(check? == 1 && stat? == 1 && has_part(&printed, name) && has_part(&numbers, name))
 }
 

@@ -4,10 +4,11 @@ ghost use Rattle.im_page_writer.specs.PageWriter.{IsReadyWriter};
 use crate::pages::add_three_leaves;
 use crate::shared::{end, opened};
 use im_base_disk::Disk;
-use im_base_lock::{Duration, LockTable, Mode, Name, Request, Verdict};
 use im_base_types::{Fault, Key, PageNo, Rid, TxnId};
-use im_engine_index::{Outcome, Place, ask_delete, ask_insert, fetch, scan, seek};
+use im_engine_index::{LockAnswer, Place, ask_delete, fetch, prev, scan, seek};
+use im_engine_locks::{LockTable, Name, Request};
 use im_page_writer::PageWriter;
+use im_theory_machine::{Duration, Mode, Verdict};
 use std::alloc::Global;
 use std::test::Fail;
 
@@ -17,10 +18,10 @@ enum Ask {
     Fetch(TxnId, &'static [u8]),
     // The first entry at or above a key, or above it.
     Seek(TxnId, &'static [u8], bool),
+    // The last entry below a key.
+    Prev(TxnId, &'static [u8]),
     // The entries of a range, up to a limit.
     Scan(TxnId, &'static [u8], &'static [u8], usize),
-    // The locks of an insert.
-    Insert(TxnId, &'static [u8]),
     // The locks of a delete.
     Delete(TxnId, &'static [u8]),
     // To hold a key against every other.
@@ -79,40 +80,40 @@ fn hold(locks: &mut LockTable, t: TxnId, key: &[u8]) -> Told {
 }
 
 // What a fetch answered.
-fn told_row(outcome: Outcome<Option<Rid>>) -> Told {
+fn told_row(outcome: LockAnswer<Option<Rid>>) -> Told {
     match outcome {
-        Outcome::Granted(Some(rid)) => Told::Row(rid),
-        Outcome::Granted(None) => Told::Absent,
-        Outcome::Wait(holder) => Told::Wait(holder),
-        Outcome::Die => Told::Die,
+        LockAnswer::Granted(Some(rid)) => Told::Row(rid),
+        LockAnswer::Granted(None) => Told::Absent,
+        LockAnswer::Wait(holder) => Told::Wait(holder),
+        LockAnswer::Die => Told::Die,
     }
 }
 
-// What a search for the next entry answered.
-fn told_entry(outcome: Outcome<Option<(Key, Rid)>>) -> Told {
+// What a search for one entry answered.
+fn told_entry(outcome: LockAnswer<Option<(Key, Rid)>>) -> Told {
     match outcome {
-        Outcome::Granted(Some((_, rid))) => Told::Row(rid),
-        Outcome::Granted(None) => Told::Absent,
-        Outcome::Wait(holder) => Told::Wait(holder),
-        Outcome::Die => Told::Die,
+        LockAnswer::Granted(Some((_, rid))) => Told::Row(rid),
+        LockAnswer::Granted(None) => Told::Absent,
+        LockAnswer::Wait(holder) => Told::Wait(holder),
+        LockAnswer::Die => Told::Die,
     }
 }
 
 // How many entries a scan answered.
-fn told_many(outcome: Outcome<Vec<(Key, Rid)>>) -> Told {
+fn told_many(outcome: LockAnswer<Vec<(Key, Rid)>>) -> Told {
     match outcome {
-        Outcome::Granted(list) => Told::Many(list.len()),
-        Outcome::Wait(holder) => Told::Wait(holder),
-        Outcome::Die => Told::Die,
+        LockAnswer::Granted(list) => Told::Many(list.len()),
+        LockAnswer::Wait(holder) => Told::Wait(holder),
+        LockAnswer::Die => Told::Die,
     }
 }
 
 // What the request for a change's locks answered.
-fn told_place(outcome: Outcome<Place>) -> Told {
+fn told_place(outcome: LockAnswer<Place>) -> Told {
     match outcome {
-        Outcome::Granted(place) => Told::Leaf(place.leaf.number, place.rid.unwrap_or(0)),
-        Outcome::Wait(holder) => Told::Wait(holder),
-        Outcome::Die => Told::Die,
+        LockAnswer::Granted(place) => Told::Leaf(place.leaf.number, place.rid.unwrap_or(0)),
+        LockAnswer::Wait(holder) => Told::Wait(holder),
+        LockAnswer::Die => Told::Die,
     }
 }
 
@@ -151,6 +152,23 @@ fn sought<D: Disk>(
     }
 }
 
+// A search for the entry before.
+fn sought_back<D: Disk>(
+    writer: &mut PageWriter,
+    disk: &mut D,
+    locks: &mut LockTable,
+    t: TxnId,
+    key: &[u8],
+) -> Told
+    requires ready { IsReadyWriter D.Disk writer.old disk.old }
+    ensures ready { IsReadyWriter D.Disk writer.new disk.new }
+{
+    match prev(writer, disk, locks, t, key) {
+        Ok(outcome) => told_entry(outcome),
+        Err(fault) => Told::Refused(fault),
+    }
+}
+
 // A scan of a range.
 fn scanned<D: Disk>(
     alloc: Global,
@@ -166,23 +184,6 @@ fn scanned<D: Disk>(
 {
     match scan(alloc, writer, disk, locks, t, bounds.0, bounds.1, limit) {
         Ok(outcome) => told_many(outcome),
-        Err(fault) => Told::Refused(fault),
-    }
-}
-
-// A request for the locks of an insert.
-fn insert_asked<D: Disk>(
-    writer: &mut PageWriter,
-    disk: &mut D,
-    locks: &mut LockTable,
-    t: TxnId,
-    key: &[u8],
-) -> Told
-    requires ready { IsReadyWriter D.Disk writer.old disk.old }
-    ensures ready { IsReadyWriter D.Disk writer.new disk.new }
-{
-    match ask_insert(writer, disk, locks, t, key) {
-        Ok(outcome) => told_place(outcome),
         Err(fault) => Told::Refused(fault),
     }
 }
@@ -218,8 +219,8 @@ fn answer<D: Disk>(
     match ask {
         Ask::Fetch(t, key) => fetched(writer, disk, locks, *t, key),
         Ask::Seek(t, key, inclusive) => sought(writer, disk, locks, *t, key, *inclusive),
+        Ask::Prev(t, key) => sought_back(writer, disk, locks, *t, key),
         Ask::Scan(t, lo, hi, limit) => { scanned(alloc, writer, disk, locks, *t, (lo, hi), *limit) }
-        Ask::Insert(t, key) => insert_asked(writer, disk, locks, *t, key),
         Ask::Delete(t, key) => delete_asked(writer, disk, locks, *t, key),
         Ask::Hold(t, key) => hold(locks, *t, key),
         Ask::IsLocked(key) => locked(locks, Name::Key(key)),
@@ -256,7 +257,7 @@ fn over(alloc: Global, asks: &[Ask]) -> Result<Vec<Told>, Fail> {
 }
 
 // Requests over the three leaves, with no lock held before, and what is answered.
-static ROWS: [(&str, &[Ask], &[Told]); 8] = [
+static ROWS: [(&str, &[Ask], &[Told]); 10] = [
     (
         "a_key_that_is_there_is_locked",
         &[
@@ -309,6 +310,73 @@ static ROWS: [(&str, &[Ask], &[Told]); 8] = [
         ],
     ),
     (
+        "the_entry_before_is_locked_and_the_name_at_the_key_or_above",
+        &[
+            Ask::Prev(1, b"d"),
+            Ask::IsLocked(b"b"),
+            Ask::IsLocked(b"m"),
+            Ask::IsLocked(b"a"),
+            Ask::IsLocked(b"x"),
+            Ask::Prev(2, b"x"),
+            Ask::IsLocked(b"x"),
+        ],
+        &[
+            Told::Row(98),
+            Told::Locked(true),
+            Told::Locked(true),
+            Told::Locked(false),
+            Told::Locked(false),
+            Told::Row(109),
+            Told::Locked(true),
+        ],
+    ),
+    (
+        "below_the_first_key_its_name_alone_is_locked_and_past_the_last_the_end_too",
+        &[
+            Ask::Prev(1, b"a"),
+            Ask::IsLocked(b"a"),
+            Ask::IsLocked(b"b"),
+            Ask::IsEndLocked,
+            Ask::Prev(1, b"z"),
+            Ask::IsLocked(b"x"),
+            Ask::IsEndLocked,
+        ],
+        &[
+            Told::Absent,
+            Told::Locked(true),
+            Told::Locked(false),
+            Told::Locked(false),
+            Told::Row(120),
+            Told::Locked(true),
+            Told::Locked(true),
+        ],
+    ),
+    (
+        "the_entry_before_takes_no_lock_where_one_is_in_the_way",
+        &[
+            Ask::Hold(5, b"b"),
+            Ask::Prev(2, b"d"),
+            Ask::Prev(7, b"d"),
+            Ask::IsLocked(b"m"),
+            Ask::Hold(6, b"x"),
+            Ask::Prev(2, b"x"),
+            Ask::Prev(7, b"x"),
+            Ask::IsLocked(b"m"),
+            Ask::Prev(5, b"d"),
+        ],
+        &[
+            Told::Held,
+            Told::Wait(5),
+            Told::Die,
+            Told::Locked(false),
+            Told::Held,
+            Told::Wait(6),
+            Told::Die,
+            Told::Locked(false),
+            Told::Row(98),
+        ],
+    ),
+    (
         "a_scan_locks_its_entries_and_the_name_behind_them",
         &[
             Ask::Scan(1, b"b", b"n", 9),
@@ -331,23 +399,6 @@ static ROWS: [(&str, &[Ask], &[Told]); 8] = [
             Ask::IsLocked(b"m"),
         ],
         &[Told::Many(1), Told::Locked(true), Told::Locked(false)],
-    ),
-    (
-        "an_insert_locks_its_key_and_asks_the_next",
-        &[
-            Ask::Insert(1, b"bb"),
-            Ask::IsLocked(b"bb"),
-            Ask::IsLocked(b"m"),
-            Ask::Hold(5, b"m"),
-            Ask::Insert(7, b"c"),
-        ],
-        &[
-            Told::Leaf(2, 0),
-            Told::Locked(true),
-            Told::Locked(false),
-            Told::Held,
-            Told::Die,
-        ],
     ),
     (
         "a_delete_locks_the_next_name",

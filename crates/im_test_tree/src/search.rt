@@ -1,4 +1,4 @@
-//! Searches over a tree of a root and three leaves, of which the second is empty, and over a chain that leads round in a ring.
+//! Searches over a tree of a root and three leaves, of which the second is empty, and over chains that lead round in a ring.
 ghost use Rattle.im_page_writer.specs.PageWriter.{IsReadyWriter};
 
 use crate::pages::{add_leaf, add_root, add_three_leaves};
@@ -7,7 +7,7 @@ use im_base_disk::Disk;
 use im_base_types::{Fault, Key, PageNo, Rid};
 use im_page_writer::PageWriter;
 use im_tree_search::{
-    NextKey, entries, entries_between, leaf_and_next, leaf_for, locate, next_entry,
+    NextKey, entries, entries_between, leaf_and_next, leaf_for, locate, next_entry, prev_entry,
 };
 use std::alloc::Global;
 use std::test::Fail;
@@ -21,6 +21,8 @@ enum Ask {
     Leaf(&'static [u8]),
     // The next entry at or above a key, or above it.
     Next(&'static [u8], bool),
+    // The last entry below a key.
+    Prev(&'static [u8]),
     // The leaf of a key, and the key after it.
     Beside(&'static [u8]),
     // Whether the entries of a range, up to a limit, are those of these keys of one byte.
@@ -79,6 +81,21 @@ fn next<D: Disk>(writer: &mut PageWriter, disk: &mut D, key: &[u8], inclusive: b
     ensures ready { IsReadyWriter D.Disk writer.new disk.new }
 {
     match next_entry(writer, disk, key, inclusive) {
+        Ok(None) => Told::Absent,
+        Ok(Some(place)) => {
+            let leaf = writer.page(place.frame);
+            Told::Entry(leaf.key(place.at)[0], leaf.value(place.at))
+        }
+        Err(fault) => Told::Refused(fault),
+    }
+}
+
+// The last entry below a key.
+fn prev<D: Disk>(writer: &mut PageWriter, disk: &mut D, key: &[u8]) -> Told
+    requires ready { IsReadyWriter D.Disk writer.old disk.old }
+    ensures ready { IsReadyWriter D.Disk writer.new disk.new }
+{
+    match prev_entry(writer, disk, key) {
         Ok(None) => Told::Absent,
         Ok(Some(place)) => {
             let leaf = writer.page(place.frame);
@@ -162,6 +179,7 @@ fn answer<D: Disk>(alloc: Global, writer: &mut PageWriter, disk: &mut D, ask: &A
         Ask::Locate(key) => located(writer, disk, key),
         Ask::Leaf(key) => leaf_of(writer, disk, key),
         Ask::Next(key, inclusive) => next(writer, disk, key, *inclusive),
+        Ask::Prev(key) => prev(writer, disk, key),
         Ask::Beside(key) => beside(writer, disk, key),
         Ask::Range(lo, hi, limit, keys) => range(alloc, writer, disk, (lo, hi), *limit, keys),
         Ask::All(keys) => all(alloc, writer, disk, keys),
@@ -190,6 +208,8 @@ enum Tree {
     Three,
     // The last leaf leads back to the second.
     Ring,
+    // The second leaf stands before the first.
+    RingBack,
     // A root over three leaves, of which the file has the first alone.
     First,
     New,
@@ -200,6 +220,12 @@ fn add_tree(file: &mut Vec<u8>, tree: Tree) -> Result<(), Fail> {
     match tree {
         Tree::Three => add_three_leaves(file, 0),
         Tree::Ring => add_three_leaves(file, 3),
+        Tree::RingBack => {
+            add_root(file, 5)?;
+            add_leaf(file, b"ab", 3, 3)?;
+            add_leaf(file, b"", 2, 4)?;
+            add_leaf(file, b"mx", 3, 0)
+        }
         Tree::First => {
             add_root(file, 3)?;
             add_leaf(file, b"ab", 0, 0)
@@ -219,7 +245,7 @@ fn over(alloc: Global, tree: Tree, asks: &[Ask]) -> Result<Vec<Told>, Fail> {
 }
 
 // Searches over pages, and what they answer.
-static ROWS: [(&str, Tree, &[Ask], &[Told]); 10] = [
+static ROWS: [(&str, Tree, &[Ask], &[Told]); 12] = [
     (
         "keys_are_found_in_their_leaves",
         Tree::Three,
@@ -256,6 +282,30 @@ static ROWS: [(&str, Tree, &[Ask], &[Told]); 10] = [
             Told::Entry(109, 109),
             Told::Entry(120, 120),
             Told::Absent,
+        ],
+    ),
+    (
+        "the_entry_before_stands_before_an_empty_leaf",
+        Tree::Three,
+        &[
+            Ask::Prev(b"a"),
+            Ask::Prev(b"b"),
+            Ask::Prev(b"bb"),
+            Ask::Prev(b"d"),
+            Ask::Prev(b"m"),
+            Ask::Prev(b"mm"),
+            Ask::Prev(b"x"),
+            Ask::Prev(b"z"),
+        ],
+        &[
+            Told::Absent,
+            Told::Entry(97, 97),
+            Told::Entry(98, 98),
+            Told::Entry(98, 98),
+            Told::Entry(98, 98),
+            Told::Entry(109, 109),
+            Told::Entry(109, 109),
+            Told::Entry(120, 120),
         ],
     ),
     (
@@ -321,6 +371,22 @@ static ROWS: [(&str, Tree, &[Ask], &[Told]); 10] = [
         ],
     ),
     (
+        "a_ring_of_leaves_before_a_key_is_no_store",
+        Tree::RingBack,
+        &[
+            Ask::Prev(b"b"),
+            Ask::Prev(b"a"),
+            Ask::Prev(b"m"),
+            Ask::Next(b"y", true),
+        ],
+        &[
+            Told::Entry(97, 97),
+            Told::Refused(Fault::NotAStore),
+            Told::Entry(98, 98),
+            Told::Absent,
+        ],
+    ),
+    (
         "a_child_of_another_level_is_no_store",
         Tree::First,
         &[Ask::Locate(b"b"), Ask::Locate(b"c")],
@@ -333,9 +399,16 @@ static ROWS: [(&str, Tree, &[Ask], &[Told]); 10] = [
             Ask::Leaf(b"k"),
             Ask::Locate(b"k"),
             Ask::Next(b"k", true),
+            Ask::Prev(b"k"),
             Ask::All(b""),
         ],
-        &[Told::Leaf(1), Told::Absent, Told::Absent, Told::All(true)],
+        &[
+            Told::Leaf(1),
+            Told::Absent,
+            Told::Absent,
+            Told::Absent,
+            Told::All(true),
+        ],
     ),
 ];
 

@@ -6,8 +6,7 @@ use crate::page_writer::change_each;
 use crate::writers::{end, new_disk, open};
 use im_base_disk::Disk;
 use im_base_model_disk::ModelDisk;
-use im_base_steps::{NoTurn, Turn};
-use im_base_types::{Fault, Lsn, PageNo};
+use im_base_types::{Fault, Lsn, PageNo, StartAtOnce, WorkerStart};
 use im_log_record::Record;
 use im_page_rounds::workers_for;
 use im_page_writer::PageWriter;
@@ -91,10 +90,10 @@ fn add_pages<D: Disk>(
 
 // Redoes the round by so many workers, over pages that are empty leaves, and answers how many records were applied. The pages' bytes are
 // added to a list.
-fn redo<D: Disk, R: Threads + Sync, T: Turn + Sync>(
+fn redo<D: Disk, R: Threads + Sync, T: WorkerStart + Sync>(
     rt: &R,
     alloc: Global,
-    turn: &T,
+    at_start: &T,
     writer: &mut PageWriter,
     disk: &mut D,
     workers: usize,
@@ -108,7 +107,7 @@ fn redo<D: Disk, R: Threads + Sync, T: Turn + Sync>(
     change_each(writer, disk, 2, 8)?;
     let applied = writer.redo_round(
         rt,
-        turn,
+        at_start,
         disk,
         36,
         &BTreeMap::new(alloc),
@@ -123,10 +122,10 @@ fn redo<D: Disk, R: Threads + Sync, T: Turn + Sync>(
 }
 
 // The same over a store of its own.
-fn redo_by<R: Threads + Sync, T: Turn + Sync>(
+fn redo_by<R: Threads + Sync, T: WorkerStart + Sync>(
     rt: &R,
     alloc: Global,
-    turn: &T,
+    at_start: &T,
     workers: usize,
     found: &mut Vec<u8>,
 ) -> Result<u64, Fault>
@@ -134,7 +133,7 @@ fn redo_by<R: Threads + Sync, T: Turn + Sync>(
 {
     let mut disk = new_disk(alloc);
     let mut writer = open(alloc, &mut disk)?;
-    let applied = redo(rt, alloc, turn, &mut writer, &mut disk, workers, found);
+    let applied = redo(rt, alloc, at_start, &mut writer, &mut disk, workers, found);
     end(writer, disk);
     applied
 }
@@ -143,10 +142,10 @@ fn redo_by<R: Threads + Sync, T: Turn + Sync>(
 fn workers_leave_the_pages_that_one_leaves(rt: HostRuntime) -> Result<(), Fail> {
     let alloc = rt.alloc();
     let mut one = Vec::new(alloc);
-    assert!(rt; redo_by(&rt, alloc, &NoTurn, 1, &mut one)? == 18);
+    assert!(rt; redo_by(&rt, alloc, &StartAtOnce, 1, &mut one)? == 18);
     for workers in [2, 3, 16] {
         let mut found = Vec::new(alloc);
-        assert!(rt; redo_by(&rt, alloc, &NoTurn, workers, &mut found)? == 18);
+        assert!(rt; redo_by(&rt, alloc, &StartAtOnce, workers, &mut found)? == 18);
         assert!(rt; found.as_slice() == one.as_slice());
     }
     Ok(())
@@ -159,8 +158,8 @@ struct Meet {
     met: [AtomicBool; 2],
 }
 
-impl Turn for Meet {
-    fn turn(&self, worker: u64) {
+impl WorkerStart for Meet {
+    fn worker_starts(&self, worker: u64) {
         let (mine, other) = if worker == 0 { (0, 1) } else { (1, 0) };
         self.came[mine].store(true, Ordering::SeqCst);
         for _look in 0..2_000_000_000u64 {

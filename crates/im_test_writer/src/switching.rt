@@ -22,7 +22,7 @@ fn open_current<D: TwoLogs>(alloc: Global, disk: &mut D) -> Result<PageWriter, F
 }
 
 // Two inserts in page 1, of which the second comes after the log has gone on. It answers the LSN of the second.
-fn turn<D: TwoLogs>(alloc: Global, disk: &mut D) -> Result<Lsn, Fault>
+fn switch_logs<D: TwoLogs>(alloc: Global, disk: &mut D) -> Result<Lsn, Fault>
     requires working { D.failed disk.old ≡ false }
 {
     let mut writer = open_current(alloc, disk)?;
@@ -47,7 +47,7 @@ fn turned(alloc: Global, disk: ModelDisk) -> (ModelDisk, Result<Lsn, Fault>)
     requires working { ⟦<ModelDisk as Disk>⟧.failed disk ≡ false }
 {
     let mut named = Renamed::new(disk, false);
-    let told = turn(alloc, &mut named);
+    let told = switch_logs(alloc, &mut named);
     (named.into_disk(), told)
 }
 

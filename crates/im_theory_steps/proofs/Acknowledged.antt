@@ -4,15 +4,15 @@ use Rattle.std.specs.Prelude.{if◌then◌else◌, ◌==◌, ◌||◌}
 use Rattle.im_base_types.specs.Maps.{IndexMap, first}
 use Rattle.im_base_types.specs.Changes.{Change, Effect, apply, apply_all, seen, seen_effect}
 use Rattle.im_base_types.proofs.Changes.{apply_seen, apply_all_append, apply_all_seen, seen_append}
-use Rattle.im_base_types.specs.Answers.{Insert, Delete, Inserted, Deleted, BlockedTree, Access, Step, Begin, Do, Commit, Rollback, Continue, FlushPage, Force, Checkpoint, Switch, Reply, Started, Committed, RolledBack, More, Blocked, Die, Done, Refused, Mark, Idle, Going, MustRollBack, RollingBack, Committing, answer}
+use Rattle.im_base_types.specs.Answers.{Insert, Delete, Inserted, Deleted, BlockedTree, Step, Begin, Do, Commit, Rollback, Continue, FlushPage, Force, Checkpoint, Switch, Reply, Started, Committed, RolledBack, More, Blocked, Die, Done, Refused, Mark, Idle, Going, MustRollBack, RollingBack, Committing, answer}
 use Rattle.im_base_types.specs.Refusals.{memory, unfinished, failed as has_failed}
 use Rattle.im_base_types.specs.Lives.{Asked, Shown, asks, effect_asked, refused, answered, breaks, nothing_shown, shown_by, all_acked, shows, NoneAcked, effects}
-use Rattle.im_base_lock.specs.View.{View, Puts, Drops, TakesBack, TookBack, pending_of, locked, with_change, change_made, begun, did, marked, committed_by, dropped_by, undid_more, undid_last, broken, Txn, idle, set_txn, did_txn, queued, forced_by, is_among, nets_of, MayRollBack}
-use Rattle.im_base_lock.specs.Machine.{barred, barred_to, or_else, fault_if, Answers, Goes, Moves, begins, does, waits, dies, commits, queues, drops, turns, undoes, ends, puts_later, puts, drops_first, drops_leaf, takes_later, takes_first, takes_leaf, takes_last, logs_page, tree_blocks, tree_halts, flushes, forces, checkpoints, switches, lacks, breaks as machine_breaks, Run, IsReached, start}
-use Rattle.im_base_lock.proofs.Bools.{cases_test}
-use Rattle.im_base_lock.proofs.Queue.{nets_same}
-use Rattle.im_base_lock.proofs.Runs.{IsQueue, live_at, clear_commit, passes_as}
-use Rattle.im_base_lock.proofs.Isolates.{queue_marks, next_idle}
+use Rattle.im_theory_machine.specs.View.{View, Puts, Drops, TakesBack, TookBack, pending_of, locked, with_change, change_made, begun, did, marked, committed_by, dropped_by, undid_more, undid_last, broken, Txn, idle, set_txn, did_txn, queued, forced_by, is_among, nets_of, MayRollBack}
+use Rattle.im_theory_machine.specs.Machine.{barred, barred_to, or_else, fault_if, Answers, Goes, Moves, begins, does, waits, dies, commits, queues, drops, turns, undoes, ends, puts_later, puts, drops_first, drops_leaf, takes_later, takes_first, takes_leaf, takes_last, logs_page, tree_blocks, tree_halts, flushes, forces, checkpoints, switches, lacks, breaks as machine_breaks, Run, IsReached, start}
+use Rattle.im_theory_machine.proofs.Bools.{cases_test}
+use Rattle.im_theory_machine.proofs.Queue.{nets_same}
+use Rattle.im_theory_machine.proofs.Runs.{IsQueue, live_at, clear_commit, passes_as}
+use Rattle.im_theory_machine.proofs.Isolates.{queue_marks, next_idle}
 use Rattle.im_theory_steps.proofs.Together.{nets_append, nets_else, net_marked}
 use Rattle.im_theory_steps.proofs.Promises.{moves_reach}
 use Rattle.im_theory_steps.specs.Acknowledged.{acked_effects, AllAcked, IsCleanBut, Shows, RunsCommitWhatTheyShow}

@@ -2,13 +2,13 @@
 use Rattle.std.proofs.Common.{◌≡◌, ◌≢◌, inl, inr, ◌⊎◌, ℕ, List, [], ◌∷◌, ◌++◌, refl, sym, ◌∙◌, ap, subst, true, false, Bool, cond, is_some, Option, None, Some, append-nil}
 use Rattle.std.specs.Prelude.{if◌then◌else◌, ◌==◌, ◌||◌}
 use Rattle.std.specs.FinMap.{get}
-use Rattle.im_base_types.specs.Maps.{From, Above, first}
+use Rattle.im_base_types.specs.Maps.{From, Above, first, last_below}
 use Rattle.im_base_types.specs.Changes.{Effect}
-use Rattle.im_base_types.specs.Answers.{Access, Fetch, Seek, Next, Scan, Insert, Delete, Step, Begin, Do, Commit, Rollback, Continue, FlushPage, Force, Checkpoint, Switch, Mark, Idle, Going, MustRollBack, RollingBack, Committing, Blocked, Die, Duplicate, Inserted, Deleted, Absent, answer, found, entry}
+use Rattle.im_base_types.specs.Answers.{Access, Fetch, Seek, Next, Prev, Scan, Insert, Delete, Step, Begin, Do, Commit, Rollback, Continue, FlushPage, Force, Checkpoint, Switch, Mark, Idle, Going, MustRollBack, RollingBack, Committing, Blocked, BlockedTree, Die, Duplicate, Inserted, Deleted, Absent, answer, found, entry}
 use Rattle.im_base_types.specs.Refusals.{memory, unfinished}
 use Rattle.im_base_types.specs.Lives.{Asked, Shown, effects, effect_asked, all_acked, answered, refused, asks, breaks}
-use Rattle.im_base_lock.specs.View.{View}
-use Rattle.im_base_lock.specs.Machine.{Wants}
+use Rattle.im_theory_machine.specs.View.{View}
+use Rattle.im_theory_machine.specs.Machine.{Wants}
 
 -- ---- the effects asked
 
@@ -61,6 +61,11 @@ module _ (s : Shown) (t : ℕ) where
       go : (o : Option _) → (answered (Do t (Next k)) (entry o) s).asked ≡ s.asked
       go None = refl
       go (Some r) = refl
+  asks_nothing (Prev k) v = go (last_below k v.walk)
+    where
+      go : (o : Option _) → (answered (Do t (Prev k)) (entry o) s).asked ≡ s.asked
+      go None = refl
+      go (Some r) = refl
   asks_nothing (Scan lo hi n) v = refl
   asks_nothing (Insert k r) v = go (is_some (get v.walk k))
     where
@@ -77,14 +82,25 @@ module _ (s : Shown) (t : ℕ) where
   waits_ask_nothing holder (Fetch k) = refl
   waits_ask_nothing holder (Seek k) = refl
   waits_ask_nothing holder (Next k) = refl
+  waits_ask_nothing holder (Prev k) = refl
   waits_ask_nothing holder (Scan lo hi n) = refl
   waits_ask_nothing holder (Insert k r) = refl
   waits_ask_nothing holder (Delete k) = refl
+
+  pub trees_ask_nothing : (a : Access) → (answered (Do t a) (BlockedTree) s).asked ≡ s.asked
+  trees_ask_nothing (Fetch k) = refl
+  trees_ask_nothing (Seek k) = refl
+  trees_ask_nothing (Next k) = refl
+  trees_ask_nothing (Prev k) = refl
+  trees_ask_nothing (Scan lo hi n) = refl
+  trees_ask_nothing (Insert k r) = refl
+  trees_ask_nothing (Delete k) = refl
 
   pub dies_ask_nothing : (a : Access) → (answered (Do t a) Die s).asked ≡ s.asked
   dies_ask_nothing (Fetch k) = refl
   dies_ask_nothing (Seek k) = refl
   dies_ask_nothing (Next k) = refl
+  dies_ask_nothing (Prev k) = refl
   dies_ask_nothing (Scan lo hi n) = refl
   dies_ask_nothing (Insert k r) = refl
   dies_ask_nothing (Delete k) = refl

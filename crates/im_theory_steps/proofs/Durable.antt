@@ -16,18 +16,20 @@ use Rattle.im_base_types.proofs.Changes.{seen_append}
 use Rattle.im_theory_log.proofs.Fronts.{committed_front, fronts_lawful}
 use Rattle.im_base_txn.specs.declared.transaction.Transaction.{Transaction}
 use Rattle.im_base_txn.specs.Rows.{is_of}
-use Rattle.im_base_lock.specs.Table.{Table}
-use Rattle.im_base_lock.specs.View.{View, owner_in, Txn, idle, is_among, nets_of}
-use Rattle.im_base_lock.proofs.Queue.{among_one}
-use Rattle.im_base_lock.specs.Machine.{start}
-use Rattle.im_base_lock.proofs.Isolates.{isolates, queue_marks}
+use Rattle.im_theory_machine.specs.Locks.{Lock, SameLocks}
+use Rattle.im_theory_machine.specs.Table.{Table, locks_of}
+use Rattle.im_theory_machine.specs.View.{View, owner_in, kept_lock, Txn, idle, is_among, nets_of}
+use Rattle.im_theory_machine.proofs.Queue.{among_one}
+use Rattle.im_theory_machine.specs.Machine.{start}
+use Rattle.im_theory_machine.proofs.Isolates.{isolates, nothing_goes_on, queue_marks}
 use Rattle.im_theory_steps.specs.Serving.{IsServing, IsAt, mark_of}
 use Rattle.im_theory_steps.specs.Durable.{AreCommitted, StopsAllow, CommitsStand, CutCommitsStand, OthersAskNothing, QuietLivesSettle, Settled}
 use Rattle.im_theory_steps.specs.Acknowledged.{AllAcked}
 use Rattle.im_theory_steps.proofs.Asking.{effects_append, effects_acked}
 use Rattle.im_theory_steps.proofs.Acknowledged.{no_effects}
 use Rattle.im_theory_steps.proofs.Showing.{shown_is, effect_shown}
-use Rattle.im_base_lock.proofs.Under.{unowned_clear}
+use Rattle.im_theory_machine.proofs.Under.{unowned_clear}
+use Rattle.im_theory_steps.proofs.Holding.{kept_none}
 use Rattle.im_base_txn.specs.declared.transaction.Mark.TheVariants.{Going as RowGoing}
 use Rattle.im_theory_steps.proofs.Steps.{at, has_changed, mark_free, new_by, map_made}
 
@@ -309,7 +311,13 @@ module _ (b : Base) (earlier before : List Effect) (s : Shown) (v : View) (durab
         active = sym none ∙ h.table.active;
         numbers = h.table.numbers;
       };
-      locks = ((λ t. sym (ap (λ (x : Txn). x.locks) (is_idle t)) ∙ h.locks.0 t), λ w s. refl);
+      locks = record {
+        lasting = λ t. sym (ap (λ (x : Txn). x.locks) (is_idle t)) ∙ h.locks.lasting t;
+        held = λ t.
+            let keeps : kept_lock v.under v.walk t ≡ [] =
+            kept_none v.under v.walk t (nothing_goes_on (apply_all empty before) v h.reached t (λ going. let never : Going ≡ Idle = sym going ∙ ap (λ (x : Txn). x.mark) (is_idle t) in cc never)) in
+            subst (λ (ls : List Lock). SameLocks ls (locks_of held t)) (ap (λ (ks : List Lock). ks ++ (v.txns t).locks) keeps ∙ ap (λ (x : Txn). x.locks) (is_idle t)) (h.locks.held t);
+      };
     };
     commits = record {
       front = [];

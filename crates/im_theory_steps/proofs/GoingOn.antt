@@ -1,9 +1,8 @@
 -- A log that goes on empty where no transaction is active.
-use Rattle.std.proofs.Common.{◌≡◌, ◌⊎◌, inl, inr, ℕ, ◌<◌, ◌≤◌, ◌+◌, Bool, true, false, List, [], ◌∷◌, ◌++◌, length, Option, None, refl, sym, ap, subst, ◌∙◌, append-nil, arith}
-use Rattle.std.specs.Prelude.{find, if◌then◌else◌, ◌==◌, nat_lt}
+use Rattle.std.proofs.Common.{◌≡◌, ◌⊎◌, inl, inr, ℕ, ◌<◌, ◌≤◌, Bool, true, List, [], ◌∷◌, ◌++◌, None, refl, sym, ap, subst, ◌∙◌, append-nil, arith}
+use Rattle.std.specs.Prelude.{find, if◌then◌else◌, nat_lt}
 use Rattle.std.proofs.lemmas.Bool.{cases_eq, eq-eqb, ne_eqb}
 use Rattle.std.specs.FinMap.{empty}
-use Rattle.im_base_types.specs.Maps.{IndexMap}
 use Rattle.im_base_types.specs.Changes.{Effect, apply_all, seen}
 use Rattle.im_base_types.specs.Answers.{Idle, Committing, Switch, Done}
 use Rattle.im_base_types.specs.Lives.{Shown, effects}
@@ -11,15 +10,14 @@ use Rattle.im_base_types.specs.Records.{Logged}
 use Rattle.im_base_types.specs.Refusals.{busy, failed as has_failed}
 use Rattle.im_theory_log.specs.Histories.{Base, History, IsRecordOf, end_of}
 use Rattle.im_theory_log.specs.Lawful.{IsLawful, has_owner}
-use Rattle.im_theory_log.specs.LogLaws.{AllFinished}
-use Rattle.im_theory_log.specs.Transactions.{committed, is_finished, last_of, to_undo}
+use Rattle.im_theory_log.specs.Transactions.{committed, last_of}
 use Rattle.im_theory_log.specs.Tree.{Tree}
 use Rattle.im_base_txn.specs.declared.transaction.Transaction.{Transaction}
 use Rattle.im_base_txn.specs.Rows.{is_of}
-use Rattle.im_base_lock.specs.Table.{Table}
-use Rattle.im_base_lock.specs.View.{View, Txn, idle, is_among, nets_of, owner_in}
-use Rattle.im_base_lock.specs.Machine.{fault_if, or_else, switches}
-use Rattle.im_base_lock.proofs.Isolates.{isolates, queue_marks}
+use Rattle.im_theory_machine.specs.Table.{Table}
+use Rattle.im_theory_machine.specs.View.{View, Txn, nets_of, owner_in}
+use Rattle.im_theory_machine.specs.Machine.{fault_if, or_else, switches}
+use Rattle.im_theory_machine.proofs.Isolates.{isolates, queue_marks}
 use Rattle.im_theory_steps.specs.Serving.{IsServing, IsAt}
 use Rattle.im_theory_steps.specs.Switching.{IsSwitched, SwitchesAreServed}
 use Rattle.im_theory_steps.proofs.Durable.{empty_queue, no_rows}

@@ -6,7 +6,10 @@ pub mod Asking
 pub mod Acknowledged
 pub mod Promises
 pub mod Rows
+pub mod Holding
+pub mod Owner
 pub mod Steps
+pub mod Changing
 pub mod Logging
 pub mod WorkedSteps
 pub mod Durable

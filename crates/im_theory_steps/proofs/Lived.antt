@@ -8,8 +8,8 @@ use Rattle.im_base_types.specs.Refusals.{capacity, failed as has_failed}
 use Rattle.im_base_types.specs.Lives.{Shown}
 use Rattle.im_base_txn.specs.declared.transaction.Transaction.{Transaction}
 use Rattle.im_base_txn.specs.Rows.{is_of}
-use Rattle.im_base_lock.specs.View.{View, owner_in, owns_in, Txn, broken}
-use Rattle.im_base_lock.specs.Machine.{Moves, Answers, breaks, barred, first_check, mark_for, fault_if}
+use Rattle.im_theory_machine.specs.View.{View, owner_in, owns_in, Txn, broken}
+use Rattle.im_theory_machine.specs.Machine.{Moves, Answers, breaks, barred, first_check, mark_for, fault_if}
 use Rattle.im_theory_steps.specs.Serving.{IsAt}
 use Rattle.im_theory_steps.specs.Checks.{mark_at, marks_in, RowsTellChecks}
 use Rattle.im_theory_steps.specs.Lived.{IsLived, IsLivedOn, LivesGoOn}

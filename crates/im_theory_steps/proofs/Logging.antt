@@ -7,7 +7,6 @@ use Rattle.im_base_types.specs.Maps.{IndexMap}
 use Rattle.im_base_types.specs.Changes.{Change, Effect, Put, Drop, applied, key_of}
 use Rattle.im_base_types.specs.Records.{What, InsertKey, DeleteKey, Commit as CommitRecord, Logged}
 use Rattle.im_theory_log.specs.Tree.{Tree, TreeLaws}
-use Rattle.im_theory_log.specs.Structure.{open_smo}
 use Rattle.im_theory_log.specs.Histories.{History, Base}
 use Rattle.im_theory_log.specs.Lawful.{Follows, IsChained, IsOutside, IsNotIn}
 use Rattle.im_theory_log.specs.Lawful as lawful
@@ -19,14 +18,11 @@ use Rattle.im_base_types.specs.Lives.{Shown}
 use Rattle.im_base_txn.specs.declared.transaction.Mark.TheVariants.{Going, RollingBack}
 use Rattle.im_base_txn.specs.declared.transaction.Transaction.{Transaction}
 use Rattle.im_base_txn.specs.Rows.{is_of, changed, with_record}
-use Rattle.im_base_lock.specs.Table.{Table, locks_of, Decides}
-use Rattle.im_base_lock.specs.declared.verdict.Verdict.TheVariants.{Granted}
-use Rattle.im_base_lock.specs.Machine.{keys_fit}
-use Rattle.im_base_lock.specs.Locks as locks
-use Rattle.im_base_lock.specs.Locks.{Lock, Holds, ConflictsWith, Request}
-use Rattle.im_base_lock.specs.Rows.{asked}
-use Rattle.im_base_lock.specs.Serving.{Matches}
-use Rattle.im_base_lock.specs.View.{View, owner_in, locks_in, did}
+use Rattle.im_theory_machine.specs.Table.{Table, lasting_of, Decides}
+use Rattle.im_theory_machine.specs.declared.verdict.Verdict.TheVariants.{Granted}
+use Rattle.im_theory_machine.specs.Machine.{keys_fit}
+use Rattle.im_theory_machine.specs.Rows.{asked}
+use Rattle.im_theory_machine.specs.View.{View, owner_in, did}
 use Rattle.im_theory_steps.specs.Growth.{Stays, Adds, IsOfOthers}
 use Rattle.im_theory_steps.specs.Serving.{IsServing, IsServed, IsRow, mark_of}
 use Rattle.im_theory_steps.specs.Steps.{key_record, commit_record, IsOnTheWay, InsertsAreServed, DeletesAreServed, LoggedCommitsAreServed, LoggedCommitsWait, LoggedCheckpointsAreServed}
@@ -34,7 +30,7 @@ use Rattle.im_theory_steps.proofs.Growth.{same_by, same_then, checkpoints_change
 use Rattle.im_theory_steps.proofs.Promises.{granted_keys_free}
 use Rattle.im_theory_steps.proofs.Records.{put_adds, drop_adds, commit_commits}
 use Rattle.im_theory_steps.proofs.Together.{together}
-use Rattle.im_base_lock.proofs.Serving.{all_held}
+use Rattle.im_theory_steps.proofs.Holding.{free_by_table}
 use Rattle.im_theory_steps.proofs.Steps.{at, mark_free, changes_served, commits_served, commits_wait, checkpoints_served}
 
 -- what a key record says of its transaction
@@ -46,13 +42,13 @@ module _ (older : History) (t last lsn page : ℕ) (w : What) (c : Change) (no_e
   own : {A : Type 0} (x y : A) → (if t == t then x else y) ≡ x
   own x y = cond-true (t == t) x y (eq-eqb t t refl)
 
-  others_say : IsOfOthers t older (r ∷ older)
+  pub others_say : IsOfOthers t older (r ∷ older)
   others_say u differ = same_by u r older (λ e. differ (sym e))
 
   net_is : net t (r ∷ older) ≡ c ∷ net t older
   net_is = ap changes_of (own (stack_after r w (to_undo t older)) (to_undo t older) ∙ stacked) ∙ ap (λ (e : Effect). e ++ net t older) one
 
-  row_says : {who : Option ℕ} (row : Transaction) (next : ℕ) → row.number ≡ t → 1 ≤ row.number → row.number < next → is_finished t older ≡ false → is_rolling_back t older ≡ false → IsRow (with_record lsn lsn row) next (r ∷ older) who
+  pub row_says : {who : Option ℕ} (row : Transaction) (next : ℕ) → row.number ≡ t → 1 ≤ row.number → row.number < next → is_finished t older ≡ false → is_rolling_back t older ≡ false → IsRow (with_record lsn lsn row) next (r ∷ older) who
   row_says {who} row next is number below unfinished rolling = record {
     number = number;
     below = below;
@@ -65,18 +61,6 @@ module _ (older : History) (t last lsn page : ℕ) (w : What) (c : Change) (no_e
     where
       at_number : {A : Type 0} {x : A} (f : ℕ → A) → f t ≡ x → f row.number ≡ x
       at_number f e = ap f is ∙ e
-
--- what is free by the table is free for the machine
-free_in : (v : View) (table : Table) (t : ℕ) (row : List Request) → Matches v table → locks.IsFree (locks_of table) t row → locks.IsFree (locks_in v) t row
-free_in v table t row h free s p = free s (record {
-  name = p.name;
-  mode = p.mode;
-  theirs = p.theirs;
-  other = p.other;
-  ask = p.ask;
-  held = subst (λ (ls : List Lock). Holds ls p.name p.theirs) (all_held v table h s) p.held;
-  exclusive = p.exclusive;
-})
 
 -- a change behind records that change no key
 pub adds_behind : (b : Base) (t : ℕ) (c : Change) (older between longer : History) → Stays b older between → Adds b t c between longer → Adds b t c older longer
@@ -100,10 +84,10 @@ module _ (b : Base) (earlier before : List Effect) (s : Shown) (v : View) (older
     chained = record { number = subst (λ (n : ℕ). 1 ≤ n) is_at.0 is_at.1.number; prev = sym way.newest; unfinished = way.unfinished }
 
     key_free : lawful.IsFree t (key_of c) between
-    key_free = granted_keys_free _ b between v t a c h.reached (together.stays b older between v h.seen_by way.stays) h.works going (free_in v old t (asked a v.walk) h.locks decides.0) one
+    key_free = granted_keys_free _ b between v t a c h.reached (together.stays b older between v h.seen_by way.stays) h.works going (free_by_table v old t (asked a v.walk) h.locks decides.0) one
 
     logged : is_end w ≡ false → is_compensation w ≡ false → undo_from (key_record t last lsn page w) w ≡ lsn → stack_after (key_record t last lsn page w) w (to_undo t between) ≡ key_record t last lsn page w ∷ to_undo t between → change_of w ≡ c ∷ []
-        → Adds b t c between (key_record t last lsn page w ∷ between) → IsServed b earlier before s v (Do t a) (answer a v.walk) (did v t a (locks_of new t)) (key_record t last lsn page w ∷ between) (map (changed t (with_record lsn lsn)) rows) next new
+        → Adds b t c between (key_record t last lsn page w ∷ between) → IsServed b earlier before s v (Do t a) (answer a v.walk) (did v t a (lasting_of new t)) (key_record t last lsn page w ∷ between) (map (changed t (with_record lsn lsn)) rows) next new
     logged no_end no_undo from stacked makes adds =
         let newest = key_record t last lsn page w in
         changes_served b earlier before s v older (newest ∷ between) rows next old new t lsn lsn row a c h found mark unowned fits one decides
@@ -117,7 +101,7 @@ inserts_served tree laws b earlier before s v older between rows next old new t 
     let one : changes (Insert k i) v.walk ≡ Put k i ∷ [] = ap (λ (o : Option ℕ). cond (is_some o) [] (Put k i ∷ [])) lacks in
     let says : answer (Insert k i) v.walk ≡ Inserted = ap (λ (o : Option ℕ). cond (is_some o) Duplicate Inserted) lacks in
     let newest = key_record t last lsn page (InsertKey k i) in
-    let w = did v t (Insert k i) (locks_of new t) in
+    let w = did v t (Insert k i) (lasting_of new t) in
     let follows : Follows b tree newest between = record {
       rises = rises;
       chained = λ owned. chained b earlier before s v older rows next old t row h found mark last between way new (Insert k i) (Put k i) lsn page (InsertKey k i) unowned fits one decides;
@@ -143,7 +127,7 @@ deletes_served tree laws b earlier before s v older between rows next old new t 
     let one : changes (Delete k) v.walk ≡ Drop k i ∷ [] = ap (dropped k) has in
     let says : answer (Delete k) v.walk ≡ Deleted = ap (λ (o : Option ℕ). cond (is_some o) Deleted Absent) has in
     let newest = key_record t last lsn page (DeleteKey k i) in
-    let w = did v t (Delete k) (locks_of new t) in
+    let w = did v t (Delete k) (lasting_of new t) in
     let follows : Follows b tree newest between = record {
       rises = rises;
       chained = λ owned. chained b earlier before s v older rows next old t row h found mark last between way new (Delete k) (Drop k i) lsn page (DeleteKey k i) unowned fits one decides;

@@ -10,9 +10,9 @@ use Rattle.im_base_txn.specs.declared.transaction.Transaction.{Transaction}
 use Rattle.im_base_txn.specs.Rows.{is_of, changed, with_mark}
 use Rattle.im_base_txn.specs.LookUps.{Keeps, without}
 use Rattle.im_base_txn.proofs.LookUps.{look_ups_follow}
-use Rattle.im_base_lock.specs.View.{Txn, Under, owner_of, of_others, idle, set_txn}
-use Rattle.im_base_lock.proofs.Bools.{cases_number}
-use Rattle.im_base_lock.proofs.Invariant.{by_txn}
+use Rattle.im_theory_machine.specs.View.{Txn, Under, owner_of, of_others, idle, set_txn}
+use Rattle.im_theory_machine.proofs.Bools.{cases_number}
+use Rattle.im_theory_machine.proofs.Invariant.{by_txn}
 use Rattle.im_theory_steps.specs.Growth.{IsSameOf, IsOfOthers}
 use Rattle.im_theory_steps.specs.Serving.{IsRow, IsRowOf, IsAt, mark_of}
 
@@ -82,7 +82,7 @@ other_of Going t u next log row is differ r = other_row t u next log row is diff
 other_of MustRollBack t u next log row is differ r = other_row t u next log row is differ r
 other_of RollingBack t u next log row is differ r = other_row t u next log row is differ r
 
-other_at : (t u next : ℕ) (log : History) (o : Option Transaction) (x : Txn) → u ≢ t → IsAt u o next log (Some t) x → IsAt u o next log None x
+pub other_at : (t u next : ℕ) (log : History) (o : Option Transaction) (x : Txn) → u ≢ t → IsAt u o next log (Some t) x → IsAt u o next log None x
 other_at t u next log None x differ is = is
 other_at t u next log (Some row) x differ is = (is.0, other_of row.mark t u next log row is.0 differ is.1, is.2)
 

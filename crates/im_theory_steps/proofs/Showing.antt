@@ -4,22 +4,22 @@ use Rattle.std.specs.Prelude.{◌==◌, ◌||◌, if◌then◌else◌, not, nat_
 use Rattle.std.specs.FinMap.{get}
 use Rattle.std.proofs.lemmas.Bool.{eq-eqb, ne_eqb, cond-true, cond-false}
 use Rattle.im_base_types.specs.Keys.{Key}
-use Rattle.im_base_types.specs.Maps.{From, Above, first}
+use Rattle.im_base_types.specs.Maps.{From, Above, first, last_below}
 use Rattle.im_base_types.specs.Changes.{Change, Put, Drop, Effect, seen_effect, seen_change}
-use Rattle.im_base_types.specs.Answers.{Access, Fetch, Seek, Next, Scan, Insert, Delete, Step, Begin, Do, Commit, Rollback, Continue, FlushPage, Force, Checkpoint, Switch, Reply, Started, Absent, BlockedTree, Committed, RolledBack, More, Blocked, Die, Done, Refused, Duplicate, Inserted, Deleted, Mark, Idle, Going, MustRollBack, RollingBack, Committing, answer, changes, dropped, found, entry}
+use Rattle.im_base_types.specs.Answers.{Access, Fetch, Seek, Next, Prev, Scan, Insert, Delete, Step, Begin, Do, Commit, Rollback, Continue, FlushPage, Force, Checkpoint, Switch, Reply, Started, Absent, BlockedTree, Committed, RolledBack, More, Blocked, Die, Done, Refused, Duplicate, Inserted, Deleted, Mark, Idle, Going, MustRollBack, RollingBack, Committing, answer, changes, dropped, found, entry}
 use Rattle.im_base_types.specs.Refusals.{memory, unfinished, failed as has_failed, no_transaction, must_roll_back, rolling_back, key_length, too_many, busy}
-use Rattle.im_base_types.specs.Lives.{Shown, Running, Asked, idle, with_running, marks, adds, pends, shown_change, finishes, asks, refused, answered, breaks, all_acked}
-use Rattle.im_base_lock.specs.Locks.{Lock}
-use Rattle.im_base_lock.specs.View.{Txn, View, Under, Puts, Drops, TakesBack, TookBack, pending_of, of_others, locked, with_change, change_made, set_txn, begun, did, did_txn, marked, committed_by, dropped_by, undid_more, undid_last, broken, MayRollBack, queued, forced_by}
-use Rattle.im_base_lock.specs.View as views
-use Rattle.im_base_lock.specs.Machine.{barred, barred_to, barred_to_rollback, barred_to_continue, or_else, fault_if, keys_fit, Answers, Goes, begins, does, waits, dies, commits, queues, drops, turns, undoes, ends, puts_later, puts, drops_first, drops_leaf, takes_later, takes_first, takes_leaf, takes_last, logs_page, tree_blocks, tree_halts, flushes, forces, checkpoints, switches, lacks, breaks as machine_breaks, Wants, Breaks}
-use Rattle.im_base_lock.proofs.Bools.{cases_number}
-use Rattle.im_base_lock.proofs.Invariant.{by_txn}
+use Rattle.im_base_types.specs.Lives.{Shown, Running, Asked, idle, with_running, marks, adds, shown_change, asks, refused, answered, breaks}
+use Rattle.im_theory_machine.specs.Locks.{Lock}
+use Rattle.im_theory_machine.specs.View.{Txn, View, Under, Puts, Drops, TakesBack, TookBack, pending_of, of_others, locked, with_change, change_made, set_txn, begun, did, did_txn, marked, committed_by, dropped_by, undid_more, undid_last, broken, MayRollBack, queued, forced_by}
+use Rattle.im_theory_machine.specs.View as views
+use Rattle.im_theory_machine.specs.Machine.{barred, barred_to, barred_to_rollback, barred_to_continue, or_else, fault_if, keys_fit, Answers, Goes, begins, does, waits, dies, commits, queues, drops, turns, undoes, ends, puts_later, puts, drops_first, drops_leaf, takes_later, takes_first, takes_leaf, takes_last, logs_page, tree_blocks, tree_halts, flushes, forces, checkpoints, switches, lacks, breaks as machine_breaks, Wants, Breaks}
+use Rattle.im_theory_machine.proofs.Bools.{cases_number}
+use Rattle.im_theory_machine.proofs.Invariant.{by_txn}
 use Rattle.im_theory_steps.specs.Seen.{drop_of, IsMarkShown, IsShownBy}
-use Rattle.im_base_lock.proofs.Queue.{by_force_txn}
-use Rattle.im_base_lock.proofs.Runs.{IsQueue, clear_do, clear_commit, clear_rollback, passes_as}
-use Rattle.im_base_lock.proofs.Under.{none_either, others_pending}
-use Rattle.im_base_lock.proofs.Isolates.{queue_marks, next_is_idle, nothing_goes_on, pending_absent}
+use Rattle.im_theory_machine.proofs.Queue.{by_force_txn}
+use Rattle.im_theory_machine.proofs.Runs.{IsQueue, clear_do, clear_commit, clear_rollback, passes_as}
+use Rattle.im_theory_machine.proofs.Under.{none_either, others_pending}
+use Rattle.im_theory_machine.proofs.Isolates.{queue_marks, next_is_idle, nothing_goes_on, pending_absent}
 use Rattle.im_theory_steps.specs.Laws.{MovesAreShown}
 
 -- ---- marks that are shown
@@ -168,6 +168,10 @@ module _ (s : Shown) (v : View) (h : IsShownBy s v) (t : ℕ) (ls : List Lock) (
   next k None = still (Next k) refl
   next k (Some e) = still (Next k) refl
 
+  prev : (k : Key) (o : Option (Key × ℕ)) → IsShownBy (answered (Do t (Prev k)) (entry o) s) (did v t (Prev k) ls)
+  prev k None = still (Prev k) refl
+  prev k (Some e) = still (Prev k) refl
+
   put : (k : Key) (r : ℕ) (b : Bool) → is_some (get v.walk k) ≡ b → IsShownBy (answered (Do t (Insert k r)) (cond b Duplicate Inserted) s) (did v t (Insert k r) ls)
   put k r true e = still (Insert k r) (ap (λ (b : Bool). cond b [] (Put k r ∷ [])) e)
   put k r false e = changed (Insert k r) (Put k r) (Put k r) (ap (λ (b : Bool). cond b [] (Put k r ∷ [])) e) refl
@@ -180,6 +184,7 @@ module _ (s : Shown) (v : View) (h : IsShownBy s v) (t : ℕ) (ls : List Lock) (
   shown_did (Fetch k) = fetched k (get v.walk k)
   shown_did (Seek k) = sought k (first (From k) v.walk)
   shown_did (Next k) = next k (first (Above k) v.walk)
+  shown_did (Prev k) = prev k (last_below k v.walk)
   shown_did (Scan lo hi n) = still (Scan lo hi n) refl
   shown_did (Insert k r) = put k r (is_some (get v.walk k)) refl
   shown_did (Delete k) = took k (get v.walk k) refl
@@ -256,6 +261,7 @@ lacks_ok Begin f is = subst (λ k. breaks k ≡ false) (sym is) refl
 lacks_ok (Do t (Fetch k)) f is = subst (λ k. breaks k ≡ false) (sym is) refl
 lacks_ok (Do t (Seek k)) f is = subst (λ k. breaks k ≡ false) (sym is) refl
 lacks_ok (Do t (Next k)) f is = subst (λ k. breaks k ≡ false) (sym is) refl
+lacks_ok (Do t (Prev k)) f is = subst (λ k. breaks k ≡ false) (sym is) refl
 lacks_ok (Do t (Scan a b n)) f is = subst (λ k. breaks k ≡ false) (sym is) refl
 lacks_ok (Do t (Insert k r)) f (inl is) = subst (λ k. breaks k ≡ false) (sym is) refl
 lacks_ok (Do t (Insert k r)) f (inr is) = subst (λ k. breaks k ≡ false) (sym is) refl
@@ -290,6 +296,7 @@ pub tree_shows : (s : Shown) (t : ℕ) (a : Access) → answered (Do t a) Blocke
 tree_shows s t (Fetch k) = refl
 tree_shows s t (Seek k) = refl
 tree_shows s t (Next k) = refl
+tree_shows s t (Prev k) = refl
 tree_shows s t (Scan lo hi n) = refl
 tree_shows s t (Insert k r) = refl
 tree_shows s t (Delete k) = refl
@@ -357,6 +364,7 @@ module _ (s : Shown) (v : View) (queue : IsQueue v.queue v.txns) (fresh : (v.txn
       waited (Fetch k) = h
       waited (Seek k) = h
       waited (Next k) = h
+      waited (Prev k) = h
       waited (Scan lo hi n) = h
       waited (Insert k r) = h
       waited (Delete k) = h
@@ -369,6 +377,7 @@ module _ (s : Shown) (v : View) (queue : IsQueue v.queue v.txns) (fresh : (v.txn
       died (Fetch k) = here
       died (Seek k) = here
       died (Next k) = here
+      died (Prev k) = here
       died (Scan lo hi n) = here
       died (Insert k r) = here
       died (Delete k) = here

@@ -3,8 +3,9 @@ use Rattle.std.proofs.Common.{◌≡◌, ◌≢◌, ◌≤◌, ◌<◌, ◌^◌,
 use Rattle.std.specs.Prelude.{find, ◌||◌}
 use Rattle.std.specs.FinMap.{empty}
 use Rattle.std.proofs.lemmas.Bool.{lt-ltb, ne_eqb}
+use Rattle.im_base_types.specs.Keys.{Key}
 use Rattle.im_base_types.specs.Maps.{IndexMap}
-use Rattle.im_base_types.specs.Changes.{Change, Effect, apply_all, seen, seen_effect}
+use Rattle.im_base_types.specs.Changes.{Change, Effect, apply_all, seen, seen_effect, undone}
 use Rattle.im_base_types.proofs.Changes.{apply_all_append, apply_all_seen, seen_append}
 use Rattle.im_theory_log.proofs.Committed.{nets_of}
 use Rattle.im_base_types.proofs.Nets.{no_nets}
@@ -21,27 +22,28 @@ use Rattle.im_base_txn.specs.declared.transaction.Transaction.{Transaction}
 use Rattle.im_base_txn.specs.Rows.{begun as row_begun, is_of, changed, with_mark, with_record}
 use Rattle.im_base_txn.specs.LookUps.{without}
 use Rattle.im_base_txn.proofs.LookUps.{look_ups_follow}
-use Rattle.im_base_lock.specs.Table.{Table, locks_of}
-use Rattle.im_base_lock.specs.declared.verdict.Verdict.TheVariants.{Granted, Wait, Die as MustDie}
-use Rattle.im_base_lock.specs.Serving.{Matches}
-use Rattle.im_base_lock.specs.View.{View, Under, owner_of, owner_in, pending_of, of_others, Txn, idle, set_txn, begun, did, did_txn, marked, committed_by, dropped_by, undid_more, undid_last, queued, forced_by, is_among, MayRollBack}
-use Rattle.im_base_lock.specs.Machine.{Moves, Answers, Goes, begins, commits, queues, drops, turns, undoes, ends, flushes, forces, checkpoints, lacks, barred, barred_to, barred_to_rollback, barred_to_continue, or_else, fault_if, keys_fit, start}
-use Rattle.im_base_lock.proofs.Serving.{table-serves}
-use Rattle.im_base_lock.proofs.Bools.{cases_number, cases_test}
-use Rattle.im_base_lock.proofs.Queue.{among_other, by_force_txn}
-use Rattle.im_base_lock.proofs.Isolates.{queue_marks}
-use Rattle.im_base_lock.proofs.Invariant.{by_txn}
+use Rattle.im_theory_machine.specs.Table.{Table, lasting_of, IsReleased}
+use Rattle.im_theory_machine.specs.declared.verdict.Verdict.TheVariants.{Granted, Wait, Die as MustDie}
+use Rattle.im_theory_machine.specs.Changing.{MatchesWithKept}
+use Rattle.im_theory_machine.specs.View.{View, Puts, kept_lock, owner_of, owner_in, pending_of, of_others, Txn, idle, set_txn, begun, did, did_txn, marked, committed_by, dropped_by, undid_more, undid_last, queued, forced_by, is_among, MayRollBack}
+use Rattle.im_theory_machine.specs.Kept.{IsPending}
+use Rattle.im_theory_machine.specs.Machine.{Moves, Answers, Goes, begins, commits, queues, drops, turns, undoes, ends, flushes, forces, checkpoints, lacks, barred, barred_to, barred_to_rollback, barred_to_continue, or_else, fault_if, keys_fit, start}
+use Rattle.im_theory_machine.proofs.Changing.{changes-serve}
+use Rattle.im_theory_machine.proofs.Bools.{cases_number, cases_test}
+use Rattle.im_theory_machine.proofs.Queue.{among_other, by_force_txn}
+use Rattle.im_theory_machine.proofs.Isolates.{nothing_goes_on, queue_marks}
+use Rattle.im_theory_machine.proofs.Invariant.{by_txn}
 use Rattle.im_theory_steps.specs.Growth.{Stays, IsOver, HasNone}
 use Rattle.im_theory_steps.specs.Seen.{IsSeen}
 use Rattle.im_theory_steps.specs.Serving.{IsRow, IsRowOf, IsWaitingRow, IsAt, AreRows, mark_of, IsServing, IsServed}
 use Rattle.im_theory_steps.specs.Steps.{NewStoresServe, RowsTakeOwner, RowsLeaveOwner, OpenedStoresServe, QuietLogsHoldCommitted, ImagesKeepServing, StructureKeepsServing, WaysLeadOn, ChangesAreServed, ReadsAreServed, WaitsAreServed, DiesAreServed, BeginsAreServed, CommitsAreServed, CommitsWait, without_all, UnloggedCommitsAreServed, DropsAreServed, TurnsAreServed, UndoIsServed, EndsAreServed, FlushesAreServed, ForcesAreServed, CheckpointsAreServed, BarredStepsAreServed, LacksAreServed}
 use Rattle.im_theory_steps.proofs.Growth.{images_change_nothing, structure_changes_no_key, stays_then, same_here, same_then, none_last, none_undo, none_finished, none_rolling, unlogged}
 use Rattle.im_theory_steps.proofs.Together.{together, marked_seen, dropped_seen, empty_seen, begun_seen}
+use Rattle.im_theory_steps.proofs.Holding.{same_itself, kept_none, kept_undone, GoWith, same_locks, released_locks, forced_locks, pends_beside}
 use Rattle.im_theory_steps.proofs.Promises.{moves_reach}
 use Rattle.im_theory_steps.proofs.Asking.{asks_nothing, waits_ask_nothing, dies_ask_nothing, effects_append, effects_acked, asked_effect, empty_asked, refusals_ask_nothing, commit_wants}
 use Rattle.im_theory_steps.proofs.Showing.{shown_is, is_shown_so, effect_shown}
-use Rattle.im_base_lock.proofs.Under.{unowned_clear}
-use Rattle.im_base_lock.proofs.Serving.{keeps_none}
+use Rattle.im_theory_machine.proofs.Under.{unowned_clear}
 use Rattle.im_theory_steps.proofs.Acknowledged.{going_free, step_shows}
 use Rattle.im_theory_steps.proofs.Rows.{same_at, row_on, row_as, as_row, row_of_found, rows_after, rows_after_as, others_at, row_has, rows_changed, rows_ended, rows_stay, row_marked, length_map, one_fewer}
 
@@ -51,7 +53,7 @@ module _ (v : View) (t : ℕ) (works : v.failed ≡ false) where
   abbrev goes_on : Option ℕ
   goes_on = fault_if (is_some (pending_of v.under t)) unfinished
 
-  do_passes : (a : Access) → owner_in v ≢ Some t → (v.txns t).mark ≡ answers.Going → keys_fit a ≡ true → barred v (Do t a) ≡ None
+  pub do_passes : (a : Access) → owner_in v ≢ Some t → (v.txns t).mark ≡ answers.Going → keys_fit a ≡ true → barred v (Do t a) ≡ None
   do_passes a free going fits =
       ap (λ (b : Bool). or_else (fault_if b has_failed) (or_else (barred_to ((v.txns t).mark)) (or_else goes_on (fault_if (not (keys_fit a)) key_length)))) works
       ∙ ap (λ (m : answers.Mark). or_else (barred_to m) (or_else goes_on (fault_if (not (keys_fit a)) key_length))) going
@@ -74,7 +76,7 @@ module _ (v : View) (t : ℕ) (works : v.failed ≡ false) where
       by (inl e) = ap (λ (m : answers.Mark). or_else (barred_to_rollback m) goes_on) e
       by (inr e) = ap (λ (m : answers.Mark). or_else (barred_to_rollback m) goes_on) e
 
-  continue_passes : (v.txns t).mark ≡ answers.RollingBack → barred v (Continue t) ≡ None
+  pub continue_passes : (v.txns t).mark ≡ answers.RollingBack → barred v (Continue t) ≡ None
   continue_passes rolling =
       ap (λ (b : Bool). or_else (fault_if b has_failed) (cond (is_some (pending_of v.under t)) None (barred_to_continue ((v.txns t).mark)))) works
       ∙ ap (λ (m : answers.Mark). cond (is_some (pending_of v.under t)) None (barred_to_continue m)) rolling
@@ -88,7 +90,7 @@ pub moves_by : (v w : View) (step : Step) (reply : Reply) → barred v step ≡ 
 moves_by v w step reply checked goes = subst (λ (o : Option ℕ). Answers v step reply w o) (sym checked) goes
 
 -- what is left of a list that is not empty
-cases_net : (e : Effect) → e ≢ [] → (c : Change) × (cs : Effect) × (e ≡ c ∷ cs)
+pub cases_net : (e : Effect) → e ≢ [] → (c : Change) × (cs : Effect) × (e ≡ c ∷ cs)
 cases_net [] some = absurd (some refl)
 cases_net (c ∷ cs) some = (c, cs, refl)
 
@@ -113,7 +115,7 @@ either_free m (inr e) = mark_free m MustRollBack e (λ x. cc x)
 module _ (b : Base) (earlier before : List Effect) (s : Shown) (v : View) (older : History) (rows : List Transaction) (next : ℕ) (old : Table) (h : IsServing b earlier before s v older rows next old) where
   -- one that commits nothing
   pub served : (step : Step) (reply : Reply) (w : View) (longer : History) (after : List Transaction) (further : ℕ) (new : Table) → Moves v step reply w → w.failed ≡ false → IsSeen b longer w
-      → committed longer ≡ committed older → effects ((shows s step (Some reply)).asked) ≡ effects s.asked → AreRows after further longer w → Matches w new → IsServed b earlier before s v step reply w longer after further new
+      → committed longer ≡ committed older → effects ((shows s step (Some reply)).asked) ≡ effects s.asked → AreRows after further longer w → MatchesWithKept w new → IsServed b earlier before s v step reply w longer after further new
   served step reply w longer after further new moves works seen_by same asks table held = (
     moves,
     record {
@@ -149,9 +151,27 @@ module _ (b : Base) (earlier before : List Effect) (s : Shown) (v : View) (older
   nothing_logged : (t : ℕ) (row : Transaction) → find (is_of t) rows ≡ Some row → (row.mark ≡ Committing → ⊥) → row.last ≡ 0 → last_of t older ≡ 0
   nothing_logged t row found free none = let is = at t row found free in sym (is.1.last ∙ ap (λ (n : ℕ). last_of n older) is.0) ∙ none
 
-  -- the same locks, with one transaction changed that keeps its own
-  same_locks : (t : ℕ) (x : Txn) → x.locks ≡ (v.txns t).locks → (u : ℕ) → (set_txn v.txns t x u).locks ≡ locks_of old u
-  same_locks t x same = by_txn (λ u y. y.locks ≡ locks_of old u) v.txns t x (same ∙ h.locks.0 t) (λ u differ. h.locks.0 u)
+  -- nobody keeps another lock where the structure change under way and the map are as they were
+  as_kept : (u : ℕ) → kept_lock v.under v.walk u ≡ kept_lock v.under v.walk u
+  as_kept u = refl
+
+  -- t has no access that goes on
+  pub clear : (t : ℕ) → owner_in v ≢ Some t → pending_of v.under t ≡ None
+  clear t free = unowned_clear v.under t free
+
+  pub still : (t : ℕ) (m : answers.Mark) → (v.txns t).mark ≡ m → (m ≡ answers.Going → ⊥) → pending_of v.under t ≡ None
+  still t m is not = nothing_goes_on (apply_all empty before) v h.reached t (λ going. not (sym is ∙ going))
+
+  -- one transaction is set, which holds what it held
+  pub set_locks : (t : ℕ) (x : Txn) → x.locks ≡ (v.txns t).locks → GoWith (set_txn v.txns t x) v.under v.walk old
+  set_locks t x same = same_locks v old t x h.locks same v.under v.walk as_kept
+
+  -- and one that has given its locks back
+  pub gone_locks : (t : ℕ) (new : Table) → pending_of v.under t ≡ None → IsReleased old t new → GoWith (set_txn v.txns t idle) v.under v.walk new
+  gone_locks t new none r = released_locks v old new t h.locks r v.under v.walk (kept_none v.under v.walk t none) (λ u differ. refl)
+
+  pub beside : (t : ℕ) → owner_in v ≢ Some t → (u : ℕ) (k : Key) (r : ℕ) → v.under ≡ Some (record { owner = u; aim = Puts k r }) → (t ≢ u) × IsPending v.txns v.walk u k
+  beside t free u k r is = pends_beside (apply_all empty before) v h.reached h.works t (clear t free) u k r is
 
 -- ---- accesses
 
@@ -159,16 +179,16 @@ pub changes_served : ChangesAreServed
 changes_served b earlier before s v older longer rows next old new t last undo_next row a c h found mark unowned fits one decides adds on now_row =
     let is = at b earlier before s v older rows next old h t row found (mark_free row.mark Going mark (λ x. cc x)) in
     let going : (v.txns t).mark ≡ answers.Going = is.2 ∙ ap mark_of mark in
-    let goes = table-serves.decided v old new h.locks t a Granted going decides in
-    let w = did v t a (locks_of new t) in
+    let goes = changes-serve.decided v old new h.locks t a Granted going (beside b earlier before s v older rows next old h t unowned) decides in
+    let w = did v t a (lasting_of new t) in
     served b earlier before s v older rows next old h (Do t a) (answer a v.walk) w longer (map (changed t (with_record last undo_next)) rows) next new
     (moves_by v w (Do t a) (answer a v.walk) (do_passes v t h.works a unowned going fits) goes.0)
     h.works
-    (together.adds b older longer v t a c (locks_of new t) h.seen_by (new_by b earlier before s v older rows next old h t answers.Going going (λ x. cc x)) one adds)
+    (together.adds b older longer v t a c (lasting_of new t) h.seen_by (new_by b earlier before s v older rows next old h t answers.Going going (λ x. cc x)) one adds)
     adds.commits
     (ap effects (asks_nothing s t a v))
     (record {
-      each = rows_changed (owner_in v) t next older longer rows v.txns (did_txn (v.txns t) a v.walk (locks_of new t)) (with_record last undo_next) row (λ r. refl) on h.table.each found is.0 (as_row row.mark (with_record last undo_next row) next longer (mark_free row.mark Going mark (λ x. cc x)) now_row) (sym (ap mark_of mark));
+      each = rows_changed (owner_in v) t next older longer rows v.txns (did_txn (v.txns t) a v.walk (lasting_of new t)) (with_record last undo_next) row (λ r. refl) on h.table.each found is.0 (as_row row.mark (with_record last undo_next row) next longer (mark_free row.mark Going mark (λ x. cc x)) now_row) (sym (ap mark_of mark));
       active = h.table.active ∙ sym (length_map (changed t (with_record last undo_next)) rows);
       numbers = h.table.numbers;
     })
@@ -178,16 +198,16 @@ pub reads_served : ReadsAreServed
 reads_served b earlier before s v older longer rows next old new t row a h found mark unowned fits none decides stays all =
     let is = at b earlier before s v older rows next old h t row found (mark_free row.mark Going mark (λ x. cc x)) in
     let going : (v.txns t).mark ≡ answers.Going = is.2 ∙ ap mark_of mark in
-    let goes = table-serves.decided v old new h.locks t a Granted going decides in
-    let w = did v t a (locks_of new t) in
+    let goes = changes-serve.decided v old new h.locks t a Granted going (beside b earlier before s v older rows next old h t unowned) decides in
+    let w = did v t a (lasting_of new t) in
     served b earlier before s v older rows next old h (Do t a) (answer a v.walk) w longer rows next new
     (moves_by v w (Do t a) (answer a v.walk) (do_passes v t h.works a unowned going fits) goes.0)
     h.works
-    (together.reads b older longer v t a (locks_of new t) h.seen_by (new_by b earlier before s v older rows next old h t answers.Going going (λ x. cc x)) none stays)
+    (together.reads b older longer v t a (lasting_of new t) h.seen_by (new_by b earlier before s v older rows next old h t answers.Going going (λ x. cc x)) none stays)
     stays.commits
     (ap effects (asks_nothing s t a v))
     (record {
-      each = rows_stay (owner_in v) t next older longer rows v.txns (did_txn (v.txns t) a v.walk (locks_of new t)) row all h.table.each found (sym (ap mark_of mark));
+      each = rows_stay (owner_in v) t next older longer rows v.txns (did_txn (v.txns t) a v.walk (lasting_of new t)) row all h.table.each found (sym (ap mark_of mark));
       active = h.table.active;
       numbers = h.table.numbers;
     })
@@ -197,7 +217,7 @@ pub waits_served : WaitsAreServed
 waits_served b earlier before s v older longer rows next old new t holder row a h found mark unowned fits decides stays all =
     let is = at b earlier before s v older rows next old h t row found (mark_free row.mark Going mark (λ x. cc x)) in
     let going : (v.txns t).mark ≡ answers.Going = is.2 ∙ ap mark_of mark in
-    let goes = table-serves.decided v old new h.locks t a (Wait holder) going decides in
+    let goes = changes-serve.decided v old new h.locks t a (Wait holder) going (beside b earlier before s v older rows next old h t unowned) decides in
     served b earlier before s v older rows next old h (Do t a) (Blocked holder) v longer rows next new
     (moves_by v v (Do t a) (Blocked holder) (do_passes v t h.works a unowned going fits) goes.0)
     h.works
@@ -211,7 +231,7 @@ pub dies_served : DiesAreServed
 dies_served b earlier before s v older longer rows next old new t row a h found mark unowned fits decides stays all =
     let is = at b earlier before s v older rows next old h t row found (mark_free row.mark Going mark (λ x. cc x)) in
     let going : (v.txns t).mark ≡ answers.Going = is.2 ∙ ap mark_of mark in
-    let goes = table-serves.decided v old new h.locks t a MustDie going decides in
+    let goes = changes-serve.decided v old new h.locks t a MustDie going (beside b earlier before s v older rows next old h t unowned) decides in
     let w = marked v t answers.MustRollBack in
     let forward : (with_mark MustRollBack row).mark ≢ RollingBack → row.mark ≢ RollingBack = λ other e. let never : Going ≡ RollingBack = sym mark ∙ e in cc in
     served b earlier before s v older rows next old h (Do t a) Die w longer (map (changed t (with_mark MustRollBack)) rows) next new
@@ -293,7 +313,7 @@ begins_served b earlier before s v log rows next held h unused one few room =
       active = ap (λ (n : ℕ). suc n) h.table.active ∙ one_more (length rows) ∙ sym (length-append rows (row_begun next ∷ []));
       numbers = ap (λ (n : ℕ). suc n) e;
     })
-    (same_locks b earlier before s v log rows next held h v.next x (sym (ap (λ (y : Txn). y.locks) idle_is)), h.locks.1)
+    (let on = set_locks b earlier before s v log rows next held h v.next x (sym (ap (λ (y : Txn). y.locks) idle_is)) in record { lasting = on.0; held = on.1 })
 
 pub commits_served : CommitsAreServed
 commits_served b earlier before s v older longer rows next old new t row h found mark le free alone released on others over stack once =
@@ -324,7 +344,7 @@ commits_served b earlier before s v older longer rows next old new t row h found
           active = one_fewer v.active (length rows) (length (without t rows)) h.table.active once;
           numbers = h.table.numbers;
         };
-        locks = table-serves.committed v old new h.locks t released;
+        locks = let on = gone_locks b earlier before s v older rows next old h t new (clear b earlier before s v older rows next old h t free) released in record { lasting = on.0; held = on.1 };
       },
     )
 
@@ -367,7 +387,7 @@ commits_wait b earlier before s v older longer rows next held t row h found mark
           active = h.table.active ∙ sym (length_map (changed t (with_mark Committing)) rows);
           numbers = h.table.numbers;
         };
-        locks = table-serves.queued v held h.locks t;
+        locks = let on = set_locks b earlier before s v older rows next held h t (record (v.txns t) { mark = answers.Committing }) refl in record { lasting = on.0; held = on.1 };
       },
     )
 
@@ -394,7 +414,7 @@ unlogged_commits_served b earlier before s v log rows next old new t row h rises
       active = one_fewer v.active (length rows) (length (without t rows)) h.table.active once;
       numbers = h.table.numbers;
     })
-    (table-serves.committed v old new h.locks t released)
+    (let on = gone_locks b earlier before s v log rows next old h t new (clear b earlier before s v log rows next old h t unowned) released in record { lasting = on.0; held = on.1 })
 
 pub drops_served : DropsAreServed
 drops_served b earlier before s v log rows next old new t row h rises found mark unowned none released once =
@@ -413,7 +433,7 @@ drops_served b earlier before s v log rows next old new t row h rises found mark
       active = one_fewer v.active (length rows) (length (without t rows)) h.table.active once;
       numbers = h.table.numbers;
     })
-    (table-serves.dropped v old new h.locks t released)
+    (let on = gone_locks b earlier before s v log rows next old h t new (clear b earlier before s v log rows next old h t unowned) released in record { lasting = on.0; held = on.1 })
 
 pub turns_served : TurnsAreServed
 turns_served b earlier before s v log rows next held t row h found mark le free =
@@ -434,7 +454,7 @@ turns_served b earlier before s v log rows next held t row h found mark le free 
       active = h.table.active ∙ sym (length_map (changed t (with_mark RollingBack)) rows);
       numbers = h.table.numbers;
     })
-    (same_locks b earlier before s v log rows next held h t (record (v.txns t) { mark = answers.RollingBack }) refl, h.locks.1)
+    (let on = set_locks b earlier before s v log rows next held h t (record (v.txns t) { mark = answers.RollingBack }) refl in record { lasting = on.0; held = on.1 })
 
 pub undo_served : UndoIsServed
 undo_served b earlier before s v older longer rows next held t last undo_next row c h found mark on left others now_row =
@@ -461,7 +481,8 @@ undo_served b earlier before s v older longer rows next held t last undo_next ro
       active = h.table.active ∙ sym (length_map (changed t (with_record last undo_next)) rows);
       numbers = h.table.numbers;
     })
-    (same_locks b earlier before s v older rows next held h t (record (v.txns t) { net = rest }) refl, keeps_none v.under t h.locks.1)
+    (let on = same_locks v held t (record (v.txns t) { net = rest }) h.locks refl (of_others t v.under) (undone v.walk c) (kept_undone (apply_all empty before) v h.reached h.works t c rest rolling net_is) in
+    record { lasting = on.0; held = on.1 })
 
 pub ends_served : EndsAreServed
 ends_served b earlier before s v older longer rows next old new t row c h found mark on none others over stack released once =
@@ -484,7 +505,11 @@ ends_served b earlier before s v older longer rows next old new t row c h found 
       active = one_fewer v.active (length rows) (length (without t rows)) h.table.active once;
       numbers = h.table.numbers;
     })
-    (table-serves.undone v old new h.locks t c released)
+    (let kept = kept_undone (apply_all empty before) v h.reached h.works t c [] rolling net_is in
+    let on = released_locks v old new t h.locks released (of_others t v.under) (undone v.walk c)
+    (kept t ∙ kept_none v.under v.walk t (still b earlier before s v older rows next old h t answers.RollingBack rolling (λ x. cc x)))
+    (λ u differ. kept u) in
+    record { lasting = on.0; held = on.1 })
 
 -- ---- the store
 
@@ -551,7 +576,7 @@ forces_served b earlier before s v older longer rows next old new h stays all re
       active = let a : v.active ≡ length rows = h.table.active in omega (arith, a, count);
       numbers = h.table.numbers;
     })
-    (table-serves.forced v old new h.locks released)
+    (let on = forced_locks (apply_all empty before) v old new h.reached h.locks released in record { lasting = on.0; held = on.1 })
 
 pub checkpoints_served : CheckpointsAreServed
 checkpoints_served b earlier before s v older longer rows next held h stays all =
@@ -614,7 +639,7 @@ opened_serves b earlier before log next made is over stack walk = record {
   reached = record { trace = []; first = next; run = refl };
   says = is ∙ sym (append-nil before);
   table = record { each = λ t. (over t, stack t, refl); active = refl; numbers = refl };
-  locks = ((λ s. refl), λ w s. refl);
+  locks = record { lasting = λ s. refl; held = λ s. same_itself [] };
 }
   where
     map_is : apply_all empty before ≡ apply_all b.map (committed log)
@@ -705,7 +730,7 @@ taken_of Going t next log row r = taken_row t next log row r
 taken_of MustRollBack t next log row r = taken_row t next log row r
 taken_of RollingBack t next log row r = taken_row t next log row r
 
-taken_at : (t u next : ℕ) (log : History) (o : Option Transaction) (x : Txn) → IsAt u o next log None x → IsAt u o next log (Some t) x
+pub taken_at : (t u next : ℕ) (log : History) (o : Option Transaction) (x : Txn) → IsAt u o next log None x → IsAt u o next log (Some t) x
 taken_at t u next log None x is = is
 taken_at t u next log (Some row) x is = (is.0, taken_of row.mark t next log row is.1, is.2)
 

@@ -7,7 +7,7 @@ use Rattle.im_base_types.specs.Records.{What, End, Logged}
 use Rattle.im_theory_log.specs.Histories.{History, Base}
 use Rattle.im_theory_log.specs.Transactions.{changes_of, committed, committed_after, contents, contents_after, net, is_end, is_finished, last_of, undo_next_of, stack_after, to_undo}
 use Rattle.im_base_txn.specs.Rows.{with_record}
-use Rattle.im_base_lock.specs.View.{owner_of, owner_in}
+use Rattle.im_theory_machine.specs.View.{owner_of, owner_in}
 use Rattle.im_theory_steps.specs.Growth.{IsOver, IsOfOthers}
 use Rattle.im_theory_steps.specs.Serving.{IsRow, mark_of}
 use Rattle.im_theory_steps.specs.Undone.{UndoTakesBack, EndsLeaveNothing, RollingBackHasMore, UndoneChangesAreServed, LastUndoneChangesAreServed}

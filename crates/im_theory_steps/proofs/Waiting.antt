@@ -9,10 +9,10 @@ use Rattle.im_base_txn.specs.Rows.{AreAbove, AreRising, is_of, is_waiting, waits
 use Rattle.im_base_txn.specs.LookUps.{without}
 use Rattle.im_base_txn.proofs.LookUps.{look_ups_follow, rising_left, found_here, found_later}
 use Rattle.im_base_txn.proofs.Waiting.{AreTold, told_each, none_above, waiting_counts}
-use Rattle.im_base_lock.specs.Table.{Table, all_of, locks_of, IsReleased, AreReleased}
-use Rattle.im_base_lock.specs.View.{is_among, AreDifferent}
-use Rattle.im_base_lock.proofs.Bools.{cases_test, or_true}
-use Rattle.im_base_lock.proofs.Queue.{among_one, among_pushed, pushed_last, pushed_more}
+use Rattle.im_theory_machine.specs.Table.{Table, all_of, locks_of, IsReleased, AreReleased}
+use Rattle.im_theory_machine.specs.View.{is_among, AreDifferent}
+use Rattle.im_theory_machine.proofs.Bools.{cases_test, or_true}
+use Rattle.im_theory_machine.proofs.Queue.{among_one, among_pushed, pushed_last, pushed_more}
 use Rattle.im_theory_steps.specs.Steps.{without_all}
 
 some_row : (o : Option Transaction) → o ≢ None → (row : Transaction) × (o ≡ Some row)

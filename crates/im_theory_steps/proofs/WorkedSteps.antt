@@ -7,7 +7,7 @@ use Rattle.im_theory_log.specs.Histories.{History}
 use Rattle.im_theory_log.specs.Transactions.{committed, net, last_of, is_finished, is_rolling_back}
 use Rattle.im_base_types.specs.Answers.{Step, Reply, Begin, Do, Commit, Rollback, Continue, Insert, Started, Inserted, Committed, RolledBack, More}
 use Rattle.im_base_types.specs.Lives.{nothing_shown, shown_by}
-use Rattle.im_base_lock.specs.Isolation.{finished, serial}
+use Rattle.im_theory_machine.specs.Isolation.{finished, serial}
 use Rattle.im_theory_steps.specs.Steps.{key_record}
 use Rattle.im_theory_steps.specs.Acknowledged.{acked_effects}
 

@@ -4,8 +4,8 @@ use Rattle.im_base_types.specs.Maps.{IndexMap}
 use Rattle.im_base_types.specs.Changes.{Effect, apply_all, seen}
 use Rattle.im_base_types.specs.Answers.{Step, Reply}
 use Rattle.im_base_types.specs.Lives.{Asked, NoneAcked, Shown, effects, nothing_shown, shown_by}
-use Rattle.im_base_lock.specs.View.{View, nets_of}
-use Rattle.im_base_lock.specs.Machine.{Run, start}
+use Rattle.im_theory_machine.specs.View.{View, nets_of}
+use Rattle.im_theory_machine.specs.Machine.{Run, start}
 use Rattle.im_theory_steps.specs.Seen.{IsShownBy}
 
 -- the effects that were acknowledged, in the order of their Commits

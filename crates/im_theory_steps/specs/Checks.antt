@@ -6,9 +6,9 @@ use Rattle.im_base_types.specs.Answers.{Mark, Idle, Step}
 use Rattle.im_base_types.specs.Lives.{Shown}
 use Rattle.im_base_txn.specs.declared.transaction.Transaction.{Transaction}
 use Rattle.im_base_txn.specs.Rows.{is_of}
-use Rattle.im_base_lock.specs.Table.{Table}
-use Rattle.im_base_lock.specs.View.{View, owns_in}
-use Rattle.im_base_lock.specs.Machine.{barred, first_check, mark_for}
+use Rattle.im_theory_machine.specs.Table.{Table}
+use Rattle.im_theory_machine.specs.View.{View, owns_in}
+use Rattle.im_theory_machine.specs.Machine.{barred, first_check, mark_for}
 use Rattle.im_theory_steps.specs.Serving.{IsServing, mark_of}
 
 -- the mark of a transaction that is found, or not

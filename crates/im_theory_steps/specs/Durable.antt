@@ -13,9 +13,9 @@ use Rattle.im_base_types.specs.Lives.{Asked, Shown, NoneAcked, Survives, all_ack
 use Rattle.im_base_txn.specs.declared.transaction.Mark.TheVariants.{Going}
 use Rattle.im_base_txn.specs.declared.transaction.Transaction.{Transaction}
 use Rattle.im_base_txn.specs.Rows.{is_of}
-use Rattle.im_base_lock.specs.Table.{Table}
-use Rattle.im_base_lock.specs.View.{View, owner_in}
-use Rattle.im_base_lock.specs.Machine.{start}
+use Rattle.im_theory_machine.specs.Table.{Table}
+use Rattle.im_theory_machine.specs.View.{View, owner_in}
+use Rattle.im_theory_machine.specs.Machine.{start}
 use Rattle.im_theory_steps.specs.Growth.{Commits}
 use Rattle.im_theory_steps.specs.Serving.{IsServing}
 

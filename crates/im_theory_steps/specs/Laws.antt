@@ -6,10 +6,10 @@ use Rattle.im_theory_log.specs.Histories.{History, Base}
 use Rattle.im_theory_log.specs.Lawful as lawful
 use Rattle.im_base_types.specs.Answers.{Access, Step, Reply, Going, changes}
 use Rattle.im_base_types.specs.Lives.{Shown, shows}
-use Rattle.im_base_lock.specs.Locks.{Lock, IsFree}
-use Rattle.im_base_lock.specs.Rows.{asked}
-use Rattle.im_base_lock.specs.View.{View, locks_in, did, committed_by, undid_more, undid_last, queued, forced_by, is_among}
-use Rattle.im_base_lock.specs.Machine.{Moves, IsReached}
+use Rattle.im_theory_machine.specs.Locks.{Lock, IsFree}
+use Rattle.im_theory_machine.specs.Rows.{asked}
+use Rattle.im_theory_machine.specs.View.{View, locks_in, did, committed_by, undid_more, undid_last, queued, forced_by, is_among}
+use Rattle.im_theory_machine.specs.Machine.{Moves, IsReached}
 use Rattle.im_theory_steps.specs.Growth.{Stays, Adds, TakesBack, Commits}
 use Rattle.im_theory_steps.specs.Seen.{IsSeen, IsShownBy}
 

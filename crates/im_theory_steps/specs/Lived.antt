@@ -8,10 +8,10 @@ use Rattle.im_base_types.specs.Answers.{Step, Reply, Refused}
 use Rattle.im_base_types.specs.Refusals.{failed as has_failed}
 use Rattle.im_base_types.specs.Lives.{Shown, shows}
 use Rattle.im_base_txn.specs.declared.transaction.Transaction.{Transaction}
-use Rattle.im_base_lock.specs.Locks.{Lock}
-use Rattle.im_base_lock.specs.Table.{Table}
-use Rattle.im_base_lock.specs.View.{View, broken}
-use Rattle.im_base_lock.specs.Machine.{Moves, Breaks, barred, IsReached}
+use Rattle.im_theory_machine.specs.Locks.{Lock}
+use Rattle.im_theory_machine.specs.Table.{Table}
+use Rattle.im_theory_machine.specs.View.{View, broken}
+use Rattle.im_theory_machine.specs.Machine.{Moves, Breaks, barred, IsReached}
 use Rattle.im_theory_steps.specs.Acknowledged.{Shows}
 use Rattle.im_theory_steps.specs.Serving.{IsServing}
 

@@ -1,11 +1,11 @@
 -- The log as the machine of transactions sees it, and what users are shown of the machine.
 use Rattle.std.specs.Prelude.{◌≡◌, ◌⊎◌, ℕ, true, false, List, [], ◌∷◌, ◌++◌, Option, None, Some}
 use Rattle.im_base_types.specs.Changes.{Effect, Drop, apply_all, seen_effect}
-use Rattle.im_base_types.specs.Answers.{Access, Fetch, Seek, Next, Scan, Insert, Delete, Mark, Idle, Committing}
+use Rattle.im_base_types.specs.Answers.{Access, Fetch, Seek, Next, Prev, Scan, Insert, Delete, Mark, Idle, Committing}
 use Rattle.im_theory_log.specs.Histories.{History, Base}
 use Rattle.im_theory_log.specs.Transactions.{committed, contents, net}
 use Rattle.im_base_types.specs.Lives.{Shown}
-use Rattle.im_base_lock.specs.View.{View, pending_of, is_among, nets_of, MayRollBack}
+use Rattle.im_theory_machine.specs.View.{View, pending_of, is_among, nets_of, MayRollBack}
 
 -- The log's effects are the finished ones, which made the machine's committed map, and then the nets of those that wait for a force. Of one that waits the log says that nothing is left of it, and of each other its net; the walk is the log's.
 pub record IsSeen (b : Base) (log : History) (v : View) : Type 0 where
@@ -25,6 +25,7 @@ abbrev pub drop_by : Access → Effect
 drop_by (Fetch k) = []
 drop_by (Seek k) = []
 drop_by (Next k) = []
+drop_by (Prev k) = []
 drop_by (Scan lo hi n) = []
 drop_by (Insert k r) = []
 drop_by (Delete k) = Drop k 0 ∷ []

@@ -11,10 +11,10 @@ use Rattle.im_base_txn.specs.declared.transaction.Mark as marks
 use Rattle.im_base_txn.specs.declared.transaction.Mark.TheVariants.{Going, MustRollBack, RollingBack, Committing}
 use Rattle.im_base_txn.specs.declared.transaction.Transaction.{Transaction}
 use Rattle.im_base_txn.specs.Rows.{is_of}
-use Rattle.im_base_lock.specs.Table.{Table}
-use Rattle.im_base_lock.specs.Serving.{Matches}
-use Rattle.im_base_lock.specs.View.{View, owner_in, Txn, idle}
-use Rattle.im_base_lock.specs.Machine.{Moves, IsReached}
+use Rattle.im_theory_machine.specs.Table.{Table}
+use Rattle.im_theory_machine.specs.Changing.{MatchesWithKept}
+use Rattle.im_theory_machine.specs.View.{View, owner_in, Txn, idle}
+use Rattle.im_theory_machine.specs.Machine.{Moves, IsReached}
 use Rattle.im_theory_steps.specs.Growth.{IsOver}
 use Rattle.im_theory_steps.specs.Seen.{IsSeen}
 use Rattle.im_theory_steps.specs.Acknowledged.{Shows}
@@ -64,7 +64,7 @@ pub record AreRows (rows : List Transaction) (next : ℕ) (log : History) (v : V
 
 -- Between two steps of an engine that works: the log is what the machine sees, steps and replies have shown the machine and what it committed, it came here by a
 -- run from the map of the effects before this life, the effects that made the log's first map and those that it committed are the ones before this life and the ones
--- asked since, and the two tables are the machine's.
+-- asked since, and the two tables are the machine's, that of locks with the one that an Insert keeps which goes on.
 pub record IsServing (b : Base) (earlier before : List Effect) (s : Shown) (v : View) (log : History) (rows : List Transaction) (next : ℕ) (held : Table) : Type 0 where
   pub made : apply_all empty earlier ≡ b.map
   pub works : v.failed ≡ false
@@ -73,7 +73,7 @@ pub record IsServing (b : Base) (earlier before : List Effect) (s : Shown) (v : 
   pub reached : IsReached (apply_all empty before) v
   pub says : earlier ++ seen (committed log) ≡ before ++ effects s.asked
   pub table : AreRows rows next log v
-  pub locks : Matches v held
+  pub locks : MatchesWithKept v held
 
 -- A step with this reply is a step of the machine, and all goes on.
 abbrev pub IsServed : Base → List Effect → List Effect → Shown → View → Step → Reply → View → History → List Transaction → ℕ → Table → Type 0

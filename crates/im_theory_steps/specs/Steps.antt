@@ -2,25 +2,28 @@
 use Rattle.std.specs.Prelude.{◌≡◌, ◌≢◌, ◌≤◌, ◌<◌, ◌+◌, ◌^◌, ◌⊎◌, ℕ, suc, true, false, List, [], ◌∷◌, ◌++◌, None, Some, length, find, map}
 use Rattle.std.specs.FinMap.{empty, get}
 use Rattle.im_base_types.specs.Keys.{Key}
+use Rattle.im_base_types.specs.Maps.{IndexMap}
 use Rattle.im_base_types.specs.Changes.{Change, Effect, apply_all, seen}
 use Rattle.im_base_types.specs.Records.{What, InsertKey, DeleteKey, Commit as CommitRecord, Logged}
 use Rattle.im_theory_log.specs.Tree.{Tree}
 use Rattle.im_theory_log.specs.Structure.{open_smo, settled}
+use Rattle.im_theory_log.specs.Lawful as lawful
 use Rattle.im_theory_log.specs.Lawful.{IsLawful, IsOutside, IsNotIn}
 use Rattle.im_theory_log.specs.Histories.{History, Base, Rises, end_of}
 use Rattle.im_theory_log.specs.Transactions.{committed, last_of, undo_next_of, to_undo, net, is_finished, is_rolling_back, contents}
-use Rattle.im_base_types.specs.Answers.{Access, Insert, Delete, Inserted, Deleted, Step, Begin, Started, Do, Commit, Committed, Rollback, RolledBack, Continue, More, Blocked, Die, FlushPage, Force, Checkpoint, Done, Refused, answer, changes}
+use Rattle.im_base_types.specs.Answers.{Access, Insert, Delete, Inserted, Deleted, Step, Begin, Started, Do, Commit, Committed, Rollback, RolledBack, Continue, More, Blocked, BlockedTree, Die, FlushPage, Force, Checkpoint, Done, Refused, answer, changes}
 use Rattle.im_base_types.specs.Answers as answers
 use Rattle.im_base_types.specs.Lives.{Shown, nothing_shown}
 use Rattle.im_base_txn.specs.declared.transaction.Mark.TheVariants.{Going, MustRollBack, RollingBack, Committing}
 use Rattle.im_base_txn.specs.declared.transaction.Transaction.{Transaction}
 use Rattle.im_base_txn.specs.Rows.{begun as row_begun, is_of, changed, with_mark, with_record}
 use Rattle.im_base_txn.specs.LookUps.{without}
-use Rattle.im_base_lock.specs.Table.{Table, locks_of, Decides, IsReleased, AreReleased}
-use Rattle.im_base_lock.specs.declared.verdict.Verdict.TheVariants.{Granted, Wait, Die as MustDie}
-use Rattle.im_base_lock.specs.Rows.{asked}
-use Rattle.im_base_lock.specs.View.{View, Under, owner_in, begun, did, marked, committed_by, dropped_by, undid_more, undid_last, queued, forced_by, is_among}
-use Rattle.im_base_lock.specs.Machine.{keys_fit, barred, start, Wants}
+use Rattle.im_theory_machine.specs.Table.{Table, lasting_of, Decides, HasFallen, IsReleased, AreReleased}
+use Rattle.im_theory_machine.specs.Changing.{asked_begun}
+use Rattle.im_theory_machine.specs.declared.verdict.Verdict.TheVariants.{Granted, Wait, Die as MustDie}
+use Rattle.im_theory_machine.specs.Rows.{asked}
+use Rattle.im_theory_machine.specs.View.{View, Under, Aim, pending_of, Puts, Drops, TakesBack as TakesLater, TookBack, owner_in, own_locks, begun, did, locked, marked, committed_by, dropped_by, undid_more, undid_last, with_change, change_made, queued, forced_by, is_among}
+use Rattle.im_theory_machine.specs.Machine.{IsReached, keys_fit, barred, start, Wants}
 use Rattle.im_theory_steps.specs.Growth.{Stays, Adds, TakesBack, Commits, IsOfOthers, IsOfAll, IsOver, HasNone, IsCheckpoint, GrowsByImages, GrowsByStructure}
 use Rattle.im_theory_steps.specs.Serving.{IsRow, AreRows, IsServing, IsServed}
 
@@ -75,7 +78,7 @@ abbrev pub ChangesAreServed : Type 0
 ChangesAreServed = (b : Base) (earlier before : List Effect) (s : Shown) (v : View) (older longer : History) (rows : List Transaction) (next : ℕ) (old new : Table) (t last undo_next : ℕ) (row : Transaction) (a : Access) (c : Change)
     → IsServing b earlier before s v older rows next old → find (is_of t) rows ≡ Some row → row.mark ≡ Going → owner_in v ≢ Some t → keys_fit a ≡ true → changes a v.walk ≡ c ∷ []
     → Decides old t (asked a v.walk) Granted new → Adds b t c older longer → IsOfOthers t older longer → IsRow (with_record last undo_next row) next longer (owner_in v)
-    → IsServed b earlier before s v (Do t a) (answer a v.walk) (did v t a (locks_of new t)) longer (map (changed t (with_record last undo_next)) rows) next new
+    → IsServed b earlier before s v (Do t a) (answer a v.walk) (did v t a (lasting_of new t)) longer (map (changed t (with_record last undo_next)) rows) next new
 
 -- the record of a key of t, behind its record at an LSN
 abbrev pub key_record : (t last lsn page : ℕ) → What → Logged
@@ -91,21 +94,21 @@ abbrev pub InsertsAreServed : Tree → Type 0
 InsertsAreServed tree = (b : Base) (earlier before : List Effect) (s : Shown) (v : View) (older between : History) (rows : List Transaction) (next : ℕ) (old new : Table) (t last lsn page : ℕ) (row : Transaction) (k : Key) (i : ℕ)
     → IsServing b earlier before s v older rows next old → find (is_of t) rows ≡ Some row → row.mark ≡ Going → owner_in v ≢ Some t → keys_fit (Insert k i) ≡ true → IsOnTheWay b t last older between
     → IsLawful b tree between → IsOutside t (open_smo between) → IsNotIn page (open_smo between) → get (contents b older) k ≡ None → Decides old t (asked (Insert k i) v.walk) Granted new → tree.CanPut (settled b between) page k i → end_of b between < lsn
-    → IsLogged b tree earlier before s v (Do t (Insert k i)) Inserted (did v t (Insert k i) (locks_of new t)) (key_record t last lsn page (InsertKey k i) ∷ between) (map (changed t (with_record lsn lsn)) rows) next new
+    → IsLogged b tree earlier before s v (Do t (Insert k i)) Inserted (did v t (Insert k i) (lasting_of new t)) (key_record t last lsn page (InsertKey k i) ∷ between) (map (changed t (with_record lsn lsn)) rows) next new
 
 -- A delete of a key that is there.
 abbrev pub DeletesAreServed : Tree → Type 0
 DeletesAreServed tree = (b : Base) (earlier before : List Effect) (s : Shown) (v : View) (older between : History) (rows : List Transaction) (next : ℕ) (old new : Table) (t last lsn page : ℕ) (row : Transaction) (k : Key) (i : ℕ)
     → IsServing b earlier before s v older rows next old → find (is_of t) rows ≡ Some row → row.mark ≡ Going → owner_in v ≢ Some t → keys_fit (Delete k) ≡ true → IsOnTheWay b t last older between
     → IsLawful b tree between → IsOutside t (open_smo between) → IsNotIn page (open_smo between) → get (contents b older) k ≡ Some i → Decides old t (asked (Delete k) v.walk) Granted new → tree.CanDrop (settled b between) page k i → end_of b between < lsn
-    → IsLogged b tree earlier before s v (Do t (Delete k)) Deleted (did v t (Delete k) (locks_of new t)) (key_record t last lsn page (DeleteKey k i) ∷ between) (map (changed t (with_record lsn lsn)) rows) next new
+    → IsLogged b tree earlier before s v (Do t (Delete k)) Deleted (did v t (Delete k) (lasting_of new t)) (key_record t last lsn page (DeleteKey k i) ∷ between) (map (changed t (with_record lsn lsn)) rows) next new
 
 -- An access that was granted and changes nothing; the log may have grown by Images.
 abbrev pub ReadsAreServed : Type 0
 ReadsAreServed = (b : Base) (earlier before : List Effect) (s : Shown) (v : View) (older longer : History) (rows : List Transaction) (next : ℕ) (old new : Table) (t : ℕ) (row : Transaction) (a : Access)
     → IsServing b earlier before s v older rows next old → find (is_of t) rows ≡ Some row → row.mark ≡ Going → owner_in v ≢ Some t → keys_fit a ≡ true → changes a v.walk ≡ []
     → Decides old t (asked a v.walk) Granted new → Stays b older longer → IsOfAll older longer
-    → IsServed b earlier before s v (Do t a) (answer a v.walk) (did v t a (locks_of new t)) longer rows next new
+    → IsServed b earlier before s v (Do t a) (answer a v.walk) (did v t a (lasting_of new t)) longer rows next new
 
 -- An access that has to wait changes nothing.
 abbrev pub WaitsAreServed : Type 0
@@ -238,3 +241,99 @@ RowsTakeOwner = (u : Under) (next : ℕ) (log : History) (rows : List Transactio
 -- It ends it, and has changed a key.
 abbrev pub RowsLeaveOwner : Type 0
 RowsLeaveOwner = (t next : ℕ) (log : History) (rows : List Transaction) (v : View) → owner_in v ≡ Some t → net t log ≢ [] → AreRows rows next log v → AreRows rows next log (record v { under = None })
+
+-- ---- structure changes that are made page by page, in several steps
+
+-- the rows, where that of t notes its records as the log has them
+abbrev pub noted : ℕ → History → List Transaction → List Transaction
+noted t log rows = map (changed t (with_record (last_of t log) (undo_next_of t log))) rows
+
+-- An Insert that wants a structure change: it has its locks, that of the next name until it ends, and its first page is logged.
+abbrev pub InsertsBegin : Type 0
+InsertsBegin = (b : Base) (earlier before : List Effect) (s : Shown) (v : View) (older longer : History) (rows : List Transaction) (next : ℕ) (old new : Table) (t : ℕ) (row : Transaction) (k : Key) (i : ℕ)
+    → IsServing b earlier before s v older rows next old → find (is_of t) rows ≡ Some row → row.mark ≡ Going → v.under ≡ None → keys_fit (Insert k i) ≡ true → get v.walk k ≡ None
+    → Decides old t (asked_begun k v.walk) Granted new → GrowsByStructure t older longer
+    → IsServed b earlier before s v (Do t (Insert k i)) More (with_change (locked v t (lasting_of new t)) t (Puts k i)) longer (noted t longer rows) next new
+
+-- Its owner's next page, of whatever change.
+abbrev pub PagesAreServed : Type 0
+PagesAreServed = (b : Base) (earlier before : List Effect) (s : Shown) (v : View) (older longer : History) (rows : List Transaction) (next : ℕ) (held : Table) (t : ℕ) (row : Transaction)
+    → IsServing b earlier before s v older rows next held → find (is_of t) rows ≡ Some row → row.mark ≢ Committing → owner_in v ≡ Some t → barred v (Continue t) ≡ None → GrowsByStructure t older longer
+    → IsServed b earlier before s v (Continue t) More v longer (noted t longer rows) next held
+
+-- Its key is free in the log too, when the change is closed.
+abbrev pub InsertsStayFree : Type 0
+InsertsStayFree = (b : Base) (earlier before : List Effect) (s : Shown) (v : View) (older : History) (rows : List Transaction) (next : ℕ) (held : Table) (t : ℕ) (row : Transaction) (k : Key) (i : ℕ)
+    → IsServing b earlier before s v older rows next held → find (is_of t) rows ≡ Some row → row.mark ≡ Going → v.under ≡ Some (record { owner = t; aim = Puts k i }) → (get (contents b older) k ≡ None) × lawful.IsFree t k older
+
+-- The Insert ends: the record that closes the change and that of the key leave a lawful log, and its lock on the next name falls back.
+abbrev pub InsertsEnd : Tree → Type 0
+InsertsEnd tree = (b : Base) (earlier before : List Effect) (s : Shown) (v : View) (older between : History) (rows : List Transaction) (next : ℕ) (old new : Table) (t last lsn page : ℕ) (row : Transaction) (k : Key) (i : ℕ)
+    → IsServing b earlier before s v older rows next old → find (is_of t) rows ≡ Some row → row.mark ≡ Going → v.under ≡ Some (record { owner = t; aim = Puts k i }) → IsOnTheWay b t last older between
+    → IsLawful b tree between → IsOutside t (open_smo between) → IsNotIn page (open_smo between) → tree.CanPut (settled b between) page k i → end_of b between < lsn → HasFallen old t new
+    → IsLogged b tree earlier before s v (Continue t) Inserted (change_made (did v t (Insert k i) (own_locks v t))) (key_record t last lsn page (InsertKey k i) ∷ between) (map (changed t (with_record lsn lsn)) rows) next new
+
+-- A Delete that leaves a leaf empty: the key goes, and the change begins, with no page logged.
+abbrev pub DeletesBegin : Tree → Type 0
+DeletesBegin tree = (b : Base) (earlier before : List Effect) (s : Shown) (v : View) (older between : History) (rows : List Transaction) (next : ℕ) (old new : Table) (t last lsn page : ℕ) (row : Transaction) (k : Key) (i : ℕ)
+    → IsServing b earlier before s v older rows next old → find (is_of t) rows ≡ Some row → row.mark ≡ Going → v.under ≡ None → keys_fit (Delete k) ≡ true → IsOnTheWay b t last older between
+    → IsLawful b tree between → IsOutside t (open_smo between) → IsNotIn page (open_smo between) → get (contents b older) k ≡ Some i → Decides old t (asked (Delete k) v.walk) Granted new → tree.CanDrop (settled b between) page k i → end_of b between < lsn
+    → IsLogged b tree earlier before s v (Do t (Delete k)) More (with_change (did v t (Delete k) (lasting_of new t)) t (Drops k)) (key_record t last lsn page (DeleteKey k i) ∷ between) (map (changed t (with_record lsn lsn)) rows) next new
+
+-- It ends with the record that closes the change.
+abbrev pub DeletesEnd : Type 0
+DeletesEnd = (b : Base) (earlier before : List Effect) (s : Shown) (v : View) (older longer : History) (rows : List Transaction) (next : ℕ) (held : Table) (t : ℕ) (row : Transaction) (k : Key)
+    → IsServing b earlier before s v older rows next held → find (is_of t) rows ≡ Some row → row.mark ≡ Going → v.under ≡ Some (record { owner = t; aim = Drops k }) → GrowsByStructure t older longer
+    → IsServed b earlier before s v (Continue t) Deleted (change_made v) longer (noted t longer rows) next held
+
+-- A change to be taken back whose key wants a split: its first page is logged. At the end it is taken back as ever.
+abbrev pub TurnsBegin : Type 0
+TurnsBegin = (b : Base) (earlier before : List Effect) (s : Shown) (v : View) (older longer : History) (rows : List Transaction) (next : ℕ) (held : Table) (t : ℕ) (row : Transaction)
+    → IsServing b earlier before s v older rows next held → find (is_of t) rows ≡ Some row → row.mark ≡ RollingBack → 1 ≤ row.last → v.under ≡ None → GrowsByStructure t older longer
+    → IsServed b earlier before s v (Continue t) More (with_change v t TakesLater) longer (noted t longer rows) next held
+
+-- One that leaves a leaf empty: it is taken back, and the change begins, with no page logged.
+abbrev pub TurnsEmpty : Type 0
+TurnsEmpty = (b : Base) (earlier before : List Effect) (s : Shown) (v : View) (older longer : History) (rows : List Transaction) (next : ℕ) (held : Table) (t last undo_next : ℕ) (row : Transaction) (c : Change)
+    → IsServing b earlier before s v older rows next held → find (is_of t) rows ≡ Some row → row.mark ≡ RollingBack → v.under ≡ None → TakesBack b t c older longer → IsOfOthers t older longer → IsRow (with_record last undo_next row) next longer (Some t)
+    → IsServed b earlier before s v (Continue t) More (with_change (undid_more v t c (net t longer)) t TookBack) longer (map (changed t (with_record last undo_next)) rows) next held
+
+-- It ends with the record that closes it, where others are left to take back, or else with an End.
+abbrev pub TurnsDrop : Type 0
+TurnsDrop = (b : Base) (earlier before : List Effect) (s : Shown) (v : View) (older longer : History) (rows : List Transaction) (next : ℕ) (held : Table) (t : ℕ) (row : Transaction)
+    → IsServing b earlier before s v older rows next held → find (is_of t) rows ≡ Some row → row.mark ≡ RollingBack → v.under ≡ Some (record { owner = t; aim = TookBack }) → net t longer ≢ [] → GrowsByStructure t older longer
+    → IsServed b earlier before s v (Continue t) More (change_made v) longer (noted t longer rows) next held
+
+abbrev pub TurnsEnd : Type 0
+TurnsEnd = (b : Base) (earlier before : List Effect) (s : Shown) (v : View) (older longer : History) (rows : List Transaction) (next : ℕ) (old new : Table) (t : ℕ) (row : Transaction)
+    → IsServing b earlier before s v older rows next old → find (is_of t) rows ≡ Some row → row.mark ≡ RollingBack → v.under ≡ Some (record { owner = t; aim = TookBack }) → net t longer ≡ [] → Stays b older longer → IsOfOthers t older longer
+    → IsOver t longer → to_undo t longer ≡ [] → IsReleased old t new → length rows ≡ length (without t rows) + 1
+    → IsServed b earlier before s v (Continue t) RolledBack (change_made (dropped_by v t)) longer (without t rows) next new
+
+-- The change of another stands in the way of an access, and of a change that is taken back.
+abbrev pub TreesBlock : Type 0
+TreesBlock = (b : Base) (earlier before : List Effect) (s : Shown) (v : View) (older longer : History) (rows : List Transaction) (next : ℕ) (held : Table) (t : ℕ) (row : Transaction) (a : Access) (u : Under)
+    → IsServing b earlier before s v older rows next held → find (is_of t) rows ≡ Some row → row.mark ≡ Going → v.under ≡ Some u → t ≢ u.owner → keys_fit a ≡ true → Stays b older longer → IsOfAll older longer
+    → IsServed b earlier before s v (Do t a) BlockedTree v longer rows next held
+
+abbrev pub TreesHalt : Type 0
+TreesHalt = (b : Base) (earlier before : List Effect) (s : Shown) (v : View) (older longer : History) (rows : List Transaction) (next : ℕ) (held : Table) (t : ℕ) (row : Transaction) (u : Under)
+    → IsServing b earlier before s v older rows next held → find (is_of t) rows ≡ Some row → row.mark ≡ RollingBack → v.under ≡ Some u → t ≢ u.owner → Stays b older longer → IsOfAll older longer
+    → IsServed b earlier before s v (Continue t) BlockedTree v longer rows next held
+
+-- An Insert that would end in a later step waits, and dies, as one that ends at once.
+pub record BegunAskTheSame : Type 0 where
+  pub waits : (w : IndexMap) (k : Key) (i : ℕ) → get w k ≡ None → (old new : Table) (t holder : ℕ) → Decides old t (asked_begun k w) (Wait holder) new → Decides old t (asked (Insert k i) w) (Wait holder) new
+  pub dies : (w : IndexMap) (k : Key) (i : ℕ) → get w k ≡ None → (old new : Table) (t : ℕ) → Decides old t (asked_begun k w) MustDie new → Decides old t (asked (Insert k i) w) MustDie new
+
+-- what its owner is while a structure change is under way
+abbrev pub mark_for_aim : Aim → answers.Mark
+mark_for_aim (Puts k r) = answers.Going
+mark_for_aim (Drops k) = answers.Going
+mark_for_aim TakesLater = answers.RollingBack
+mark_for_aim TookBack = answers.RollingBack
+
+-- So a transaction that does not roll back, and for which no Insert or Delete goes on, has none under way: what the checks let through.
+pub record OwnersAreMarked : Type 0 where
+  pub marked : (base : IndexMap) (v : View) → IsReached base v → (u : Under) → v.under ≡ Some u → (v.txns u.owner).mark ≡ mark_for_aim u.aim
+  pub free : (base : IndexMap) (v : View) → IsReached base v → (t : ℕ) → pending_of v.under t ≡ None → ((v.txns t).mark ≡ answers.RollingBack → ⊥) → owner_in v ≢ Some t

@@ -9,8 +9,8 @@ use Rattle.im_theory_log.specs.LogLaws.{AllFinished}
 use Rattle.im_theory_log.specs.Transactions.{committed}
 use Rattle.im_theory_log.specs.Tree.{Tree}
 use Rattle.im_base_txn.specs.declared.transaction.Transaction.{Transaction}
-use Rattle.im_base_lock.specs.Table.{Table}
-use Rattle.im_base_lock.specs.View.{View}
+use Rattle.im_theory_machine.specs.Table.{Table}
+use Rattle.im_theory_machine.specs.View.{View}
 use Rattle.im_theory_steps.specs.Durable.{AreCommitted}
 use Rattle.im_theory_steps.specs.Serving.{IsServing, IsServed}
 

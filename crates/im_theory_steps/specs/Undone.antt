@@ -10,8 +10,8 @@ use Rattle.im_base_txn.specs.declared.transaction.Mark.TheVariants.{RollingBack}
 use Rattle.im_base_txn.specs.declared.transaction.Transaction.{Transaction}
 use Rattle.im_base_txn.specs.Rows.{is_of, changed, with_record}
 use Rattle.im_base_txn.specs.LookUps.{without}
-use Rattle.im_base_lock.specs.Table.{Table, IsReleased}
-use Rattle.im_base_lock.specs.View.{View, owner_in, undid_more, undid_last}
+use Rattle.im_theory_machine.specs.Table.{Table, IsReleased}
+use Rattle.im_theory_machine.specs.View.{View, owner_in, undid_more, undid_last}
 use Rattle.im_theory_steps.specs.Growth.{TakesBack, IsOfOthers, IsOver, GrowsWithin}
 use Rattle.im_theory_steps.specs.Serving.{IsServing, IsServed}
 

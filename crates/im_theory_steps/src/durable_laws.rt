@@ -2,7 +2,7 @@
 
 ghost use Rattle.im_theory_steps.specs.Durable.{StopsAllow, CommitsStand, CutCommitsStand, OthersAskNothing, QuietLivesSettle};
 
-use im_theory_log::laws::logs::PageTree;
+use im_theory_log::logs::PageTree;
 
 /// Whatever front of the log a stop leaves, its Commits are what the life may add.
 pub fn stops_allow<T: PageTree>()

@@ -3,7 +3,7 @@
 ghost use Rattle.im_theory_steps.specs.Laws.{GrantedKeysAreFree, LogAndViewGoTogether};
 ghost use Rattle.im_theory_steps.specs.Growth.{GrowthWithinLeavesOthers, CopiesAreImages, ImagesChangeNothing, UnownedChangeNothing, CheckpointsChangeNothing, NumbersStayNew, StructureChangesNoKey};
 
-use im_theory_log::laws::logs::PageTree;
+use im_theory_log::logs::PageTree;
 
 /// Whoever is granted the locks of a change finds its key in no other net of the log.
 pub fn granted_keys_are_free()

@@ -1,8 +1,8 @@
 //! How do log, machine, replies and tables go on together?
 //!
-//! Each step of a store of several transactions is a step of the machine of `im_base_lock` and a growth of the log.
+//! Each step of a store of several transactions is a step of the machine of `im_theory_machine` and a growth of the log.
 //!
-//! The log knows what is committed, what the tree holds and each transaction's net; the machine of `im_base_lock` knows marks, locks and
+//! The log knows what is committed, what the tree holds and each transaction's net; the machine of `im_theory_machine` knows marks, locks and
 //! replies; users are shown steps and replies alone. `IsServing` says what holds between two steps of an engine that works: the log
 //! is what the machine sees (`IsSeen`), steps and replies have shown the machine (`IsShownBy`), it came here by a run
 //! (`IsReached`), the committed effects are those before this life and the ones asked since, and the table of transactions and the
@@ -29,10 +29,10 @@
 
 mod durable_laws;
 mod growth_laws;
-mod kinds;
 mod lived_laws;
 mod marks;
 mod shown_laws;
+mod step_laws;
 mod switch_laws;
 mod undone_laws;
 
@@ -43,17 +43,20 @@ pub use growth_laws::{
     copies_are_images, granted_keys_are_free, growth_within_leaves_others, images_change_nothing,
     log_and_view_go_together, numbers_stay_new, structure_changes_no_key,
 };
-pub use kinds::{
-    barred_steps_are_served, begins_are_served, changes_are_served, checkpoints_are_served,
-    commits_are_served, deletes_are_served, dies_are_served, drops_are_served, ends_are_served,
-    flushes_are_served, forces_are_served, images_keep_serving, inserts_are_served,
-    lacks_are_served, logged_commits_are_served, new_stores_serve, opened_stores_serve,
-    quiet_logs_hold_committed, reads_are_served, structure_keeps_serving, turns_are_served,
-    undo_is_served, unlogged_commits_are_served, waits_are_served, ways_lead_on,
-};
 pub use lived_laws::{lives_go_on, rows_tell_checks};
 pub use marks::may_roll_back;
 pub use shown_laws::{moves_are_shown, moves_reach, runs_commit_what_they_show};
+pub use step_laws::{
+    barred_steps_are_served, begins_are_served, begun_ask_the_same, changes_are_served,
+    checkpoints_are_served, commits_are_served, deletes_are_served, deletes_begin, deletes_end,
+    dies_are_served, drops_are_served, ends_are_served, flushes_are_served, forces_are_served,
+    images_keep_serving, inserts_are_served, inserts_begin, inserts_end, inserts_stay_free,
+    lacks_are_served, logged_commits_are_served, new_stores_serve, opened_stores_serve,
+    owners_are_marked, pages_are_served, quiet_logs_hold_committed, reads_are_served,
+    structure_keeps_serving, trees_block, trees_halt, turns_are_served, turns_begin, turns_drop,
+    turns_empty, turns_end, undo_is_served, unlogged_commits_are_served, waits_are_served,
+    ways_lead_on,
+};
 pub use switch_laws::switches_are_served;
 pub use undone_laws::{
     ends_leave_nothing, last_undone_changes_are_served, rolling_back_has_more, undo_takes_back,

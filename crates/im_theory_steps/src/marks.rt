@@ -1,7 +1,7 @@
 //! What a row's mark lets its transaction do.
 
 ghost use Rattle.std.specs.Prelude.{◌≡◌, ◌↔◌, true};
-ghost use Rattle.im_base_lock.specs.View.{MayRollBack};
+ghost use Rattle.im_theory_machine.specs.View.{MayRollBack};
 ghost use Rattle.im_theory_steps.specs.Serving.{mark_of};
 
 use im_base_txn::Mark;

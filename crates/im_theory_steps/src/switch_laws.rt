@@ -2,7 +2,7 @@
 
 ghost use Rattle.im_theory_steps.specs.Switching.{SwitchesAreServed};
 
-use im_theory_log::laws::logs::PageTree;
+use im_theory_log::logs::PageTree;
 
 /// A log goes on empty where no transaction is active: the empty one serves over what the old one made.
 pub fn switches_are_served<T: PageTree>()

@@ -10,7 +10,7 @@
 
 ghost use Rattle.im_theory_switch.specs.Switch.{Switches, CountsGoOn, CountsStayInFile, StandsSwitched, WriterSwitches};
 
-use im_theory_log::laws::logs::PageTree;
+use im_theory_log::logs::PageTree;
 
 /// Where nobody is unfinished, the empty log is lawful over what the old one made. The page count that it begins with is one
 /// that the old log has said, and no more than the base's or the pages of the file, once each page is there as the log made it.

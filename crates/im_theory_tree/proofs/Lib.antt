@@ -37,3 +37,4 @@ pub mod WayRanges
 pub mod WayLeaves
 pub mod KeyWays
 pub mod WayBlind
+pub mod BehindLemmas

@@ -1,9 +1,9 @@
--- What look-ups answer: the first entry past a start, along the leaf chain.
-use Rattle.std.specs.Prelude.{◌≡◌, ℕ, ◌+◌, ◌<◌, ◌≤◌, List, ◌++◌, length, Some, None}
+-- What look-ups answer: the first entry past a start, along the leaf chain, and the last below a key, backward along it.
+use Rattle.std.specs.Prelude.{◌≡◌, ℕ, ◌+◌, ◌<◌, ◌≤◌, List, [], ◌∷◌, ◌++◌, length, Some, None}
 use Rattle.im_base_types.specs.Keys.{Key}
 use Rattle.im_base_types.specs.Pages.{Entry}
 use Rattle.im_base_types.specs.declared.page_kind.PageKind.TheVariants.{Leaf}
-use Rattle.im_base_types.specs.Maps.{Start, From, Above, first_in}
+use Rattle.im_base_types.specs.Maps.{Start, From, Above, first_in, last_in}
 use Rattle.im_theory_page.specs.Entry.{entry_at, Rises}
 use Rattle.im_theory_tree.specs.Levels.{Pages, Node, leaves_under, entries_in, the_root, height, walk}
 use Rattle.im_theory_tree.specs.Good.{first_page}
@@ -30,9 +30,25 @@ pub record IsAhead (pages : Pages) (s : Start) (passed p : ℕ) : Type 0 where
   pub count : passed ≤ length before
   pub first : first_in s (walk pages) ≡ first_in s (entries_in pages rest)
 
--- the page ahead is a leaf below the page count, and with it fewer leaves than pages have been passed
+-- the page that is next along the chain is a leaf below the page count, and with it fewer leaves than pages have been passed
 pub record IsLeafAhead (pages : Pages) (passed p : ℕ) : Type 0 where
   pub kind : (pages p).kind ≡ Leaf
   pub level : (pages p).level ≡ 0
   pub known : p < (pages 0).leftmost
   pub few : passed + 1 < (pages 0).leftmost
+
+-- ---- backward
+
+-- the page of the last of these nodes; where there is none, this page
+abbrev pub last_page : ℕ → List Node → ℕ
+last_page p [] = p
+last_page p (n ∷ ns) = last_page n.page ns
+
+-- The last entry below the key stands in the leaves up to page p, or nowhere; p is 0 before the first leaf. At least `passed` leaves stand behind.
+pub record IsBehind (pages : Pages) (k : Key) (passed p : ℕ) : Type 0 where
+  pub before : List Node
+  pub rest : List Node
+  pub leaves : leaves_under pages (height pages) the_root ≡ before ++ rest
+  pub page : last_page 0 before ≡ p
+  pub count : passed ≤ length rest
+  pub last : last_in k (walk pages) ≡ last_in k (entries_in pages before)

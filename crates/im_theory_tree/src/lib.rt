@@ -12,7 +12,8 @@
 //! # The laws
 //!
 //! - `search`, `lookups`: the way of a key goes down to its leaf, which has of the key what the walk has; the first entry
-//!   past a key stands ahead of it along the leaf chain; keys rise along the walk; the pages of a good tree are counted.
+//!   past a key stands ahead of it along the leaf chain, and the last below it behind; keys rise along the walk; the pages of
+//!   a good tree are counted.
 //! - `changes`: a change of one leaf's entries within its range is one of the walk there.
 //! - `allocation`, `splits`, `deletions`: one step each, from a good tree to a good tree with the same walk.
 //! - `halves`, `key_splits`: a full page splits into two with room; what each page holds before and after a split makes it

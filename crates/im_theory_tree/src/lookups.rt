@@ -4,13 +4,13 @@ ghost use Rattle.std.specs.Prelude.{◌≡◌, ℕ, zero, suc, ◌+◌, ◌<◌,
 ghost use Rattle.std.specs.FinMap.Entries.{find};
 ghost use Rattle.im_base_types.specs.Keys.{Key, key_order};
 ghost use Rattle.im_base_types.specs.Pages.{Entry};
-ghost use Rattle.im_base_types.specs.Maps.{with_key, without_key, Start, From, Above, first_in};
+ghost use Rattle.im_base_types.specs.Maps.{with_key, without_key, Start, From, Above, first_in, last_in};
 ghost use Rattle.im_base_types.specs.declared.page_kind.PageKind.TheVariants.{Leaf, Inner};
 ghost use Rattle.im_theory_page.specs.Entry.{entry_at, Rises, IsPlace};
 ghost use Rattle.im_theory_tree.specs.Levels.{Pages, walk, height, the_root, leaves_under, pages_under};
 ghost use Rattle.im_theory_tree.specs.Good.{IsGoodTree};
 ghost use Rattle.im_theory_tree.specs.Search.{IsOnWay};
-ghost use Rattle.im_theory_tree.specs.Lookups.{PagesRise, IsFirstAt, IsAhead, IsLeafAhead, key_of};
+ghost use Rattle.im_theory_tree.specs.Lookups.{PagesRise, IsFirstAt, IsAhead, IsLeafAhead, IsBehind, key_of};
 
 /// Where the keys of each page rise, the keys of the walk rise.
 pub fn walk_rises()
@@ -58,4 +58,15 @@ pub fn chain_leads_to_the_first()
         → first_in s (pages p).entries ≡ None → IsAhead pages s (suc passed) (pages p).next }
     ensures answers { (pages : Pages) (s : Start) (passed p : ℕ) (e : Entry) → IsAhead pages s passed p → 1 ≤ p → first_in s (pages p).entries ≡ Some e → first_in s (walk pages) ≡ Some e }
     ensures ends { (pages : Pages) (spare : List ℕ) (s : Start) (passed : ℕ) → IsGoodTree pages spare → IsAhead pages s passed 0 → first_in s (walk pages) ≡ None }
+{}
+
+/// The search for the last entry below a key: it begins at the key's leaf, goes back along the leaf chain while a leaf has
+/// no such entry, and answers what the walk has.
+pub fn chain_leads_to_the_last()
+    ensures begins { (pages : Pages) (spare : List ℕ) (k : Key) (p : ℕ) → IsGoodTree pages spare → IsOnWay pages 0 k p → IsBehind pages k 0 p }
+    ensures leaf { (pages : Pages) (spare : List ℕ) (k : Key) (passed p : ℕ) → IsGoodTree pages spare → IsBehind pages k passed p → 1 ≤ p → IsLeafAhead pages passed p }
+    ensures goes_on { (pages : Pages) (spare : List ℕ) (k : Key) (passed p : ℕ) → IsGoodTree pages spare → IsBehind pages k passed p → 1 ≤ p
+        → last_in k (pages p).entries ≡ None → IsBehind pages k (suc passed) (pages p).prev }
+    ensures answers { (pages : Pages) (spare : List ℕ) (k : Key) (passed p : ℕ) (e : Entry) → IsGoodTree pages spare → IsBehind pages k passed p → 1 ≤ p → last_in k (pages p).entries ≡ Some e → last_in k (walk pages) ≡ Some e }
+    ensures ends { (pages : Pages) (spare : List ℕ) (k : Key) (passed : ℕ) → IsGoodTree pages spare → IsBehind pages k passed 0 → last_in k (walk pages) ≡ None }
 {}

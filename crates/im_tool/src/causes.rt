@@ -50,4 +50,17 @@ impl<'a, W: Write> Causes<'a, W> {
             let _ = writeln!(self.writer, "imstore: {}: {error}", self.dir);
         }
     }
+
+    /// Tells, unless a cause was told, who names what is broken in a store that is open.
+    pub(crate) fn tell_broken(&mut self) {
+        if self.is_told {
+            return;
+        }
+        self.is_told = true;
+        let _ = writeln!(
+            self.writer,
+            "imstore: {}: what was read is no page of this store: close it, and `imstore --check` names what is broken",
+            self.dir
+        );
+    }
 }

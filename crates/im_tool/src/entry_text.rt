@@ -4,18 +4,22 @@
 //! Berkeley DB dump and load: a head, from `VERSION=3` to `HEADER=END`; two lines an entry, its key and its row id in 8 bytes, the highest
 //! first, each a space and hexadecimal digits; and `DATA=END`.
 
+use crate::entry_walk::EntryWalk;
 use crate::line_input::{LineInput, without_newline};
 use crate::progress::Progress;
 use crate::store::print_keys;
+use im_base_two_logs::TwoLogs;
 use im_base_types::{Fault, Key, Rid};
+use im_engine::Engine;
 use im_tool_look::noted_key;
 use im_tool_words::bytes_of;
 use std::alloc::Global;
-use std::io;
+use std::fmt::{Display, Formatter};
 use std::io::Write;
+use std::{fmt, io};
 
 /// How many entries are written between one word of the progress and the next.
-const A_PART: usize = 10_000;
+const A_PART: u64 = 10_000;
 
 const TITLE: &[u8] = b"imstore entries ";
 
@@ -36,24 +40,74 @@ pub enum Form {
     Portable,
 }
 
-/// Writes all entries in a form, and tells how far it is.
-pub fn dump_text<W: Write, P: Write>(
+/// Writes all entries of a store in a form, a part at a time, and tells how far it is. It answers the refusal of a step, if one was refused: then only a
+/// part of the text may be there, and none where the entries could not be counted.
+pub fn dump_text<D: TwoLogs, W: Write, P: Progress>(
     alloc: Global,
+    engine: &mut Engine<D>,
     writer: &mut W,
     form: Form,
-    entries: &[(Key, Rid)],
-    progress: &mut Progress<P>,
-) -> io::Result<()> {
-    let all = entries.len() as u64;
-    let mut done = 0u64;
+    progress: &mut P,
+) -> io::Result<Option<Fault>> {
+    let all = match count_entries(alloc, engine) {
+        Ok(all) => all,
+        Err(fault) => return Ok(Some(fault)),
+    };
     write_head(writer, form, all)?;
-    for part in entries.chunks(A_PART) {
-        write_part(alloc, writer, form, part)?;
-        done = done.saturating_add(part.len() as u64);
-        progress.show(done, Some(all));
-    }
+    let walk = match EntryWalk::new(alloc) {
+        Ok(walk) => walk,
+        Err(fault) => return Ok(Some(fault)),
+    };
+    let refused = write_entries(alloc, engine, writer, form, walk, all, progress)?;
     progress.end();
-    write_end(writer, form)
+    if refused.is_none() {
+        write_end(writer, form)?;
+    }
+    Ok(refused)
+}
+
+fn count_entries<D: TwoLogs>(alloc: Global, engine: &mut Engine<D>) -> Result<u64, Fault> {
+    let mut walk = EntryWalk::new(alloc)?;
+    let mut all = 0u64;
+    for _part in 0..u64::MAX {
+        let part = walk.next_part(alloc, engine)?;
+        if part.is_empty() {
+            break;
+        }
+        all = all.saturating_add(part.len() as u64);
+    }
+    Ok(all)
+}
+
+// Writes what is left of a walk, and answers the refusal of a step.
+fn write_entries<D: TwoLogs, W: Write, P: Progress>(
+    alloc: Global,
+    engine: &mut Engine<D>,
+    writer: &mut W,
+    form: Form,
+    walk: EntryWalk,
+    all: u64,
+    progress: &mut P,
+) -> io::Result<Option<Fault>> {
+    let mut walk = walk;
+    let mut done = 0u64;
+    let mut shown = 0u64;
+    for _part in 0..u64::MAX {
+        let part = match walk.next_part(alloc, engine) {
+            Ok(part) => part,
+            Err(fault) => return Ok(Some(fault)),
+        };
+        if part.is_empty() {
+            break;
+        }
+        write_part(alloc, writer, form, &part)?;
+        done = done.saturating_add(part.len() as u64);
+        if done.saturating_sub(shown) >= A_PART || done == all {
+            progress.show(done, Some(all));
+            shown = done;
+        }
+    }
+    Ok(None)
 }
 
 fn write_head<W: Write>(writer: &mut W, form: Form, all: u64) -> io::Result<()> {
@@ -98,6 +152,57 @@ fn write_end<W: Write>(writer: &mut W, form: Form) -> io::Result<()> {
     }
 }
 
+/// Why a line is none of a text of entries.
+#[derive(Clone, Copy, Debug, PartialEq, Eq)]
+pub enum WhyBad {
+    /// The text does not begin as either form does.
+    NoDump,
+    /// The head of the portable form has another line, or is of another kind of index.
+    Head,
+    /// The text ends before its last entry.
+    Ended,
+    /// No key stands at the line's beginning.
+    NoKey,
+    /// No row id stands after the key.
+    NoRid,
+    /// The line of the portable form is not a space and pairs of hexadecimal digits.
+    NoDigits,
+    /// The row id of the portable form has not 8 bytes.
+    OtherRid,
+    /// Something follows the end of the portable form.
+    More,
+}
+
+impl WhyBad {
+    fn words(self) -> &'static str {
+        match self {
+            WhyBad::NoDump =>
+                "no dump begins so; one begins with `imstore entries COUNT` or `VERSION=3`",
+            WhyBad::Head => "the head of a dump has no such line, or is of another kind of index",
+            WhyBad::Ended => "the text ends before its last entry",
+            WhyBad::NoKey =>
+                "no key stands there: text without spaces, \"a b\" or x'6100', and then a space",
+            WhyBad::NoRid =>
+                "no row id stands after the key: a number from 0 to 18446744073709551615",
+            WhyBad::NoDigits => "a space and pairs of hexadecimal digits are wanted",
+            WhyBad::OtherRid => "a row id of 16 hexadecimal digits is wanted",
+            WhyBad::More => "nothing may follow `DATA=END`",
+        }
+    }
+}
+
+impl Display for WhyBad {
+    fn fmt<W: fmt::Write>(&self, f: &mut Formatter<W>) -> fmt::Result {
+        f.write_str(self.words())
+    }
+}
+
+// Why an entry was not read.
+enum Unread {
+    Memory,
+    Bad(WhyBad),
+}
+
 /// What comes next in a text of entries.
 #[derive(Drop)]
 pub(crate) enum Next {
@@ -106,7 +211,7 @@ pub(crate) enum Next {
     /// No entry is left.
     End,
     /// The line of this number is none of such a text, or the text ends before it.
-    Bad(u64),
+    Bad(u64, WhyBad),
     /// There was no memory for the line of this number.
     Memory(u64),
 }
@@ -155,10 +260,10 @@ impl EntryText {
         reader.next_line(&mut self.line)
     }
 
-    /// Reads what stands before the entries, in either form. It answers false where that is bad.
-    pub(crate) fn read_head<R: LineInput>(&mut self, reader: &mut R) -> io::Result<bool> {
+    /// Reads what stands before the entries, in either form. It answers why that is bad, if it is.
+    pub(crate) fn read_head<R: LineInput>(&mut self, reader: &mut R) -> io::Result<Option<WhyBad>> {
         if !self.read_line(reader)? {
-            return Ok(false);
+            return Ok(Some(WhyBad::NoDump));
         }
         let first = without_newline(&self.line);
         if first == VERSION {
@@ -169,27 +274,27 @@ impl EntryText {
             Some(count) => {
                 self.all = count;
                 self.left = count;
-                Ok(true)
+                Ok(None)
             }
-            None => Ok(false),
+            None => Ok(Some(WhyBad::NoDump)),
         }
     }
 
     // The lines `NAME=VALUE` to the end of the head.
-    fn read_portable_head<R: LineInput>(&mut self, reader: &mut R) -> io::Result<bool> {
+    fn read_portable_head<R: LineInput>(&mut self, reader: &mut R) -> io::Result<Option<WhyBad>> {
         for _count in 0..u64::MAX {
             if !self.read_line(reader)? {
-                return Ok(false);
+                return Ok(Some(WhyBad::Ended));
             }
             let line = without_newline(&self.line);
             if line == HEAD_END {
-                return Ok(true);
+                return Ok(None);
             }
             if !is_head_line(line) {
-                return Ok(false);
+                return Ok(Some(WhyBad::Head));
             }
         }
-        Ok(false)
+        Ok(Some(WhyBad::Head))
     }
 
     /// Reads the next entry.
@@ -210,18 +315,18 @@ impl EntryText {
         }
         self.left -= 1;
         if !self.read_line(reader)? {
-            return Ok(Next::Bad(self.number));
+            return Ok(Next::Bad(self.number, WhyBad::Ended));
         }
         let at = self.number;
         Ok(match entry_of(alloc, without_newline(&self.line)) {
             Ok((key, rid)) => Next::Entry(key, rid, at),
-            Err(fault) => refused_at(fault, at),
+            Err(unread) => refused_at(unread, at),
         })
     }
 
     fn next_pair<R: LineInput>(&mut self, alloc: Global, reader: &mut R) -> io::Result<Next> {
         if !self.read_line(reader)? {
-            return Ok(Next::Bad(self.number));
+            return Ok(Next::Bad(self.number, WhyBad::Ended));
         }
         let at = self.number;
         let line = without_newline(&self.line);
@@ -230,30 +335,38 @@ impl EntryText {
         }
         let key = match value_of(alloc, line) {
             Ok(key) => key,
-            Err(fault) => return Ok(refused_at(fault, at)),
+            Err(unread) => return Ok(refused_at(unread, at)),
         };
         if !self.read_line(reader)? {
-            return Ok(Next::Bad(self.number));
+            return Ok(Next::Bad(self.number, WhyBad::Ended));
         }
         Ok(match rid_of(alloc, without_newline(&self.line)) {
             Ok(rid) => Next::Entry(key, rid, at),
-            Err(fault) => refused_at(fault, self.number),
+            Err(unread) => refused_at(unread, self.number),
         })
     }
 
     // No second dump may follow: it would be another store's.
     fn end_pairs<R: LineInput>(&mut self, reader: &mut R) -> io::Result<Next> {
         if self.read_line(reader)? {
-            return Ok(Next::Bad(self.number));
+            return Ok(Next::Bad(self.number, WhyBad::More));
         }
         Ok(Next::End)
     }
 }
 
-fn refused_at(fault: Fault, at: u64) -> Next {
+fn refused_at(unread: Unread, at: u64) -> Next {
+    match unread {
+        Unread::Memory => Next::Memory(at),
+        Unread::Bad(why) => Next::Bad(at, why),
+    }
+}
+
+// What a refusal of text means here.
+fn why_unread(fault: Fault, why: WhyBad) -> Unread {
     match fault {
-        Fault::Memory => Next::Memory(at),
-        _ => Next::Bad(at),
+        Fault::Memory => Unread::Memory,
+        _ => Unread::Bad(why),
     }
 }
 
@@ -270,46 +383,52 @@ fn is_head_line(line: &[u8]) -> bool {
 }
 
 // The bytes of a line of the portable form.
-fn value_of(alloc: Global, line: &[u8]) -> Result<Vec<u8>, Fault> {
+fn value_of(alloc: Global, line: &[u8]) -> Result<Vec<u8>, Unread> {
     match line {
-        [b' ', digits @ ..] => bytes_of(alloc, digits),
-        _ => Err(Fault::BadScript),
+        [b' ', digits @ ..] => {
+            bytes_of(alloc, digits).map_err(|fault| why_unread(fault, WhyBad::NoDigits))
+        }
+        _ => Err(Unread::Bad(WhyBad::NoDigits)),
     }
 }
 
 // The row id of a line of the portable form: 8 bytes, the highest first.
-fn rid_of(alloc: Global, line: &[u8]) -> Result<Rid, Fault> {
+fn rid_of(alloc: Global, line: &[u8]) -> Result<Rid, Unread> {
     let bytes = value_of(alloc, line)?;
     match bytes.as_slice() {
         [a, b, c, d, e, f, g, h] => { Ok(u64::from_be_bytes([*a, *b, *c, *d, *e, *f, *g, *h])) }
-        _ => Err(Fault::BadScript),
+        _ => Err(Unread::Bad(WhyBad::OtherRid)),
     }
 }
 
 // A key and its row id, in a line of the own form.
-fn entry_of(alloc: Global, line: &[u8]) -> Result<(Vec<u8>, Rid), Fault> {
-    let (key, rest) = match noted_key(alloc, line)? {
+fn entry_of(alloc: Global, line: &[u8]) -> Result<(Vec<u8>, Rid), Unread> {
+    let noted = match noted_key(alloc, line) {
+        Ok(noted) => noted,
+        Err(fault) => return Err(why_unread(fault, WhyBad::NoKey)),
+    };
+    let (key, rest) = match noted {
         Some(noted) => noted,
         None => plain_key(alloc, line)?,
     };
     match rest {
         [b' ', digits @ ..] => match number_of(digits) {
             Some(rid) => Ok((key, rid)),
-            None => Err(Fault::BadScript),
+            None => Err(Unread::Bad(WhyBad::NoRid)),
         },
-        _ => Err(Fault::BadScript),
+        _ => Err(Unread::Bad(WhyBad::NoRid)),
     }
 }
 
 // The text before the first space, and what stands from that space on.
-fn plain_key(alloc: Global, line: &[u8]) -> Result<(Vec<u8>, &[u8]), Fault> {
+fn plain_key(alloc: Global, line: &[u8]) -> Result<(Vec<u8>, &[u8]), Unread> {
     for place in 0..line.len() {
         if line[place] == b' ' {
-            let key = Vec::from_slice(alloc, &line[..place]).map_err(|_| Fault::Memory)?;
+            let key = Vec::from_slice(alloc, &line[..place]).map_err(|_| Unread::Memory)?;
             return Ok((key, &line[place..]));
         }
     }
-    Err(Fault::BadScript)
+    Err(Unread::Bad(WhyBad::NoKey))
 }
 
 fn number_of(digits: &[u8]) -> Option<u64> {

@@ -4,7 +4,7 @@ use std::io;
 use std::io::Write;
 
 /// Each line that asks for something: how it is written, what it does, and what else is to be known of it.
-static LINES: [(&str, &str, &str); 18] = [
+static LINES: [(&str, &str, &str); 19] = [
     (
         "begin",
         "a transaction begins; its number is answered",
@@ -34,6 +34,11 @@ static LINES: [(&str, &str, &str); 18] = [
         "next N KEY",
         "answers the first key after this one, with its row id",
         "Answers `entry KEY ROWID`, or `end` where no such key is left.",
+    ),
+    (
+        "prev N KEY",
+        "answers the last key before this one, with its row id",
+        "Answers `entry KEY ROWID`, or `end` where no such key is there.",
     ),
     (
         "scan N KEY KEY LIMIT",
@@ -143,6 +148,16 @@ pub(crate) fn write_help_on<W: Write>(writer: &mut W, word: &[u8]) -> io::Result
         }
     }
     Ok(false)
+}
+
+/// How the line of a word is written.
+pub(crate) fn usage_of(word: &[u8]) -> Option<&'static str> {
+    for (usage, _, _) in &LINES {
+        if is_of(usage, word) {
+            return Some(usage);
+        }
+    }
+    None
 }
 
 // The line that is written so begins with this word.

@@ -9,6 +9,7 @@ use crate::options::{Options, Task, parse_options};
 use crate::store::{Manner, StoreEnd, print_refused_opening, store_text};
 use crate::tasks::{load_program, look_program, tell_damage};
 use crate::trim::trim_program;
+use crate::watched_disk::{Opening, WatchedDisk};
 use clap::Error;
 use im_base_disk::Disk;
 use im_base_file_disk::{FileDisk, OpenError};
@@ -61,7 +62,7 @@ fn run_task<T: Threads + Sync>(rt: &HostRuntime, threads: &T, options: &Options)
     };
     match options.task {
         Task::Steps => run_in_folder(rt, threads, dir, options),
-        Task::Load => load_program(rt, threads, dir, options),
+        Task::Load(present) => load_program(rt, threads, dir, options, present),
         Task::Trim => trim_program(rt, dir),
         task => look_program(rt, threads, dir, task),
     }
@@ -114,7 +115,8 @@ fn run_on_files<R: LineInput, W: Write, T: Threads + Sync>(
     ensures { IfOk result (λ status. status ≤ 3) }
 {
     match FileDisk::open(rt, dir) {
-        Ok(disk) => {
+        Ok(files) => {
+            let disk = WatchedDisk::new(files, rt.stderr(), rt);
             let end = run_steps(rt, threads, disk, dir, options, reader, writer)?;
             match end {
                 StoreEnd::RefusedOpening(fault) => {
@@ -137,7 +139,7 @@ fn run_on_files<R: LineInput, W: Write, T: Threads + Sync>(
 }
 
 // The steps that the lines of a reader ask for, as the options say.
-fn run_steps<D: Disk + Cause + Drop, R: LineInput, W: Write, T: Threads + Sync>(
+fn run_steps<D: Disk + Cause + Opening + Drop, R: LineInput, W: Write, T: Threads + Sync>(
     rt: &HostRuntime,
     threads: &T,
     disk: D,

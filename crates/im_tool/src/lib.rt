@@ -12,10 +12,12 @@
 
 mod causes;
 mod entry_text;
+mod entry_walk;
 mod help;
 mod imstore;
 mod line_input;
 mod look;
+mod no_step;
 mod options;
 mod progress;
 mod recovered;
@@ -25,15 +27,18 @@ mod tasks;
 mod transfer;
 mod trim;
 mod version;
+mod watched_disk;
+mod watched_files;
 mod words_step;
 
 pub use causes::{Cause, Causes};
-pub use entry_text::{Form, dump_text};
+pub use entry_text::{Form, WhyBad, dump_text};
 pub use imstore::store_program;
 pub use line_input::LineInput;
 pub use look::{check_text, stat_text};
 pub use options::{Options, Task};
-pub use progress::Progress;
+pub use progress::{Progress, ProgressLine, Untold};
 pub use scratch_disk::ScratchDisk;
 pub use store::{Manner, StoreEnd, store_text};
-pub use transfer::{Loaded, load_text};
+pub use transfer::{LoadCount, Loaded, Present, load_text};
+pub use watched_disk::{Opening, WatchedDisk};

@@ -2,9 +2,11 @@
 
 ghost use Rattle.std.specs.Prelude.{◌≤◌, IfOk};
 
+use crate::progress::Progress;
 use crate::recovered::{opened, write_changed};
 use crate::scratch_disk::ScratchDisk;
 use crate::store::print_refused_opening;
+use crate::watched_files::WatchedFiles;
 use im_base_types::{Fault, PAGE_ROOM};
 use im_tool_look::{
     BatchesBehind, Compared, Files, LogDamage, Survey, TreeSurvey, batches_behind, check_pages,
@@ -42,17 +44,23 @@ struct Looked {
 }
 
 // What the log says, how the pages go with it, and what the tree and the free list are after an opening. The disk is handed back.
-fn look<T: Threads + Sync>(
+fn look<T: Threads + Sync, P: Progress>(
     rt: &T,
     alloc: Global,
     disk: ScratchDisk,
+    progress: &mut P,
 ) -> (Result<Looked, Broken>, ScratchDisk) {
     let mut disk = disk;
-    let surveyed = match read_files(alloc, &mut disk) {
+    let read = read_files(alloc, &mut WatchedFiles::new(&mut disk, progress));
+    let surveyed = match read {
         Ok(surveyed) => surveyed,
-        Err(broken) => return (Err(broken), disk),
+        Err(broken) => {
+            progress.end();
+            return (Err(broken), disk);
+        }
     };
-    let (tree, disk) = tree_behind(rt, alloc, disk);
+    let (tree, disk) = tree_behind(rt, alloc, disk, progress);
+    progress.end();
     let looked = match tree {
         Ok(tree) => Ok(Looked { surveyed, tree }),
         Err(broken) => Err(broken),
@@ -61,7 +69,7 @@ fn look<T: Threads + Sync>(
 }
 
 // What the files say as they stand.
-fn read_files(alloc: Global, disk: &mut ScratchDisk) -> Result<Surveyed, Broken> {
+fn read_files<F: Files>(alloc: Global, disk: &mut F) -> Result<Surveyed, Broken> {
     let said = read_log(alloc, disk).map_err(Broken::Log)?;
     let behind = batches_behind(alloc, disk, &said).map_err(Broken::Log)?;
     let file = disk.length(said.log.file).map_err(Broken::Opening)?;
@@ -89,10 +97,11 @@ fn read_files(alloc: Global, disk: &mut ScratchDisk) -> Result<Surveyed, Broken>
 }
 
 // The tree in the pages as an opening leaves them.
-fn tree_behind<T: Threads + Sync>(
+fn tree_behind<T: Threads + Sync, P: Progress>(
     rt: &T,
     alloc: Global,
     disk: ScratchDisk,
+    progress: &mut P,
 ) -> (Result<TreeSurvey, Broken>, ScratchDisk) {
     let mut engine = match opened(rt, alloc, disk) {
         Ok(engine) => engine,
@@ -101,7 +110,7 @@ fn tree_behind<T: Threads + Sync>(
     let written = write_changed(&mut engine);
     let mut disk = engine.into_disk().into_disk();
     let tree = match written {
-        Ok(()) => check_pages(alloc, &mut disk),
+        Ok(()) => check_pages(alloc, &mut WatchedFiles::new(&mut disk, progress)),
         Err(fault) => Err(fault),
     };
     (tree.map_err(Broken::Opening), disk)
@@ -110,15 +119,16 @@ fn tree_behind<T: Threads + Sync>(
 /// Checks a store: the records of its current log, the file of pages beside them, the whole batches after the log's end, and the tree and the free list as an opening
 /// finds them. Writes `ok`, or a line for each rule that does not hold, and answers the exit status, 0 or 1, and the disk. Whole batches after the log's end
 /// are told, and are no damage as long as one put can have left them.
-pub fn check_text<W: Write, T: Threads + Sync>(
+pub fn check_text<W: Write, P: Progress, T: Threads + Sync>(
     rt: &T,
     alloc: Global,
     writer: &mut W,
     disk: ScratchDisk,
+    progress: &mut P,
 ) -> (io::Result<u8>, ScratchDisk)
     ensures { IfOk result.0 (λ status. status ≤ 1) }
 {
-    let (looked, disk) = look(rt, alloc, disk);
+    let (looked, disk) = look(rt, alloc, disk, progress);
     let status = match looked {
         Ok(looked) => whole_text(writer, &looked.surveyed, &looked.tree),
         Err(broken) => broken_text(writer, &broken),
@@ -188,15 +198,16 @@ fn broken_text<W: Write>(writer: &mut W, broken: &Broken) -> io::Result<u8>
 }
 
 /// Writes what a store has, in numbers, and answers the exit status, 0, or 1 where it is broken, and the disk.
-pub fn stat_text<W: Write, T: Threads + Sync>(
+pub fn stat_text<W: Write, P: Progress, T: Threads + Sync>(
     rt: &T,
     alloc: Global,
     writer: &mut W,
     disk: ScratchDisk,
+    progress: &mut P,
 ) -> (io::Result<u8>, ScratchDisk)
     ensures { IfOk result.0 (λ status. status ≤ 1) }
 {
-    let (looked, disk) = look(rt, alloc, disk);
+    let (looked, disk) = look(rt, alloc, disk, progress);
     let status = match looked {
         Ok(looked) => numbers_text(writer, &looked),
         Err(broken) => broken_text(writer, &broken),

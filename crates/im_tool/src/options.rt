@@ -1,6 +1,7 @@
 //! The command line of the program that keeps a store.
 
 use crate::entry_text::Form;
+use crate::transfer::Present;
 use crate::version::VERSION;
 use clap::builder::ValueParser;
 use clap::{Arg, ArgAction, ArgMatches, Command, Error};
@@ -28,7 +29,7 @@ pub enum Task {
     /// The entries, as text of a form that `Load` takes.
     Dump(Form),
     /// Entries put in, as `Dump` wrote them.
-    Load,
+    Load(Present),
     /// The log that the store has left, emptied.
     Trim,
 }
@@ -131,7 +132,7 @@ fn task_of(matches: &ArgMatches) -> Task {
     } else if matches.get_flag("dump") {
         Task::Dump(form_of(matches))
     } else if matches.get_flag("load") {
-        Task::Load
+        Task::Load(present_of(matches))
     } else if matches.get_flag("trim") {
         Task::Trim
     } else {
@@ -144,6 +145,16 @@ fn form_of(matches: &ArgMatches) -> Form {
         Form::Portable
     } else {
         Form::Own
+    }
+}
+
+fn present_of(matches: &ArgMatches) -> Present {
+    if matches.get_flag("skip") {
+        Present::Skipped
+    } else if matches.get_flag("replace") {
+        Present::Replaced
+    } else {
+        Present::Refused
     }
 }
 
@@ -247,11 +258,27 @@ fn with_tasks<'a>(alloc: Global, command: Command<'a>) -> Result<Command<'a>, Er
         "load",
         "Put in the entries that standard input has, as --dump prints them, in either form",
     )?;
+    command = command
+        .arg(
+            flag(
+                alloc,
+                "skip",
+                "Leave keys that are there as they are, so that a load which broke off goes on",
+            )
+            .requires_arg("load")?
+            .conflicts_with("replace")?,
+        )?
+        .arg(flag(
+            alloc,
+            "replace",
+            "Give keys that are there the row ids of the dump",
+        )
+        .requires_arg("load")?)?;
     with_task(
         alloc,
         command,
         "trim",
-        "Empty the log file that the store has left and does not read any more",
+        "Empty the log file that the store has left, and cut the other one to its end where it has no record",
     )
 }
 

@@ -3,8 +3,8 @@
 use crate::scratch_disk::ScratchDisk;
 use im_base_steps::{Reply, Step};
 use im_base_two_logs::Renamed;
-use im_base_types::{Fault, Key, MOST_DIRTY, MOST_FRAMES, Rid};
-use im_engine::{BufferSize, Config, Engine, look};
+use im_base_types::{Fault, MOST_DIRTY, MOST_FRAMES};
+use im_engine::{BufferSize, Config, Engine};
 use std::alloc::Global;
 use std::thread::Threads;
 
@@ -30,19 +30,6 @@ pub(crate) fn opened<T: Threads + Sync>(
         refused.0,
         refused.1.into_disk(),
     ))
-}
-
-/// The entries that a look at the files finds, and the disk.
-pub(crate) fn entries_of<T: Threads + Sync>(
-    rt: &T,
-    alloc: Global,
-    disk: ScratchDisk,
-) -> (Result<Vec<(Key, Rid)>, Fault>, ScratchDisk) {
-    if disk.has_failed() {
-        return (Err(Fault::Device), disk);
-    }
-    let (found, named) = look(rt, alloc, Renamed::new(disk, false), TO_LOOK);
-    (found, named.into_disk())
 }
 
 /// Writes each page that lacks changes in its file.

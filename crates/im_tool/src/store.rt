@@ -6,6 +6,8 @@ ghost use Rattle.im_base_disk.specs.Runs.{IsSynced};
 use crate::causes::{Cause, Causes};
 use crate::help::{write_help, write_help_on};
 use crate::line_input::{LineInput, without_newline};
+use crate::no_step::why_no_step;
+use crate::watched_disk::Opening;
 use crate::words_step::words_step;
 use im_base_steps::{Reply, Step};
 use im_base_two_logs::TwoLogs;
@@ -53,7 +55,13 @@ pub enum StoreEnd {
 /// Checkpoints are taken after the opening and after the steps, and the log goes on in the other file, as the bounds want it. At the end of the input a long
 /// log is left for an empty one, or all changed pages are written and a last Checkpoint is taken, so that the next opening has nothing to redo. Where such a step is
 /// refused, a line `checkpoint refused N`, `switch refused N` or `close refused N` says so. Where a call of the disk failed, what failed stands in a line of `causes`, once.
-pub fn store_text<D: TwoLogs + Cause + Drop, R: LineInput, W: Write, E: Write, T: Threads + Sync>(
+pub fn store_text<
+    D: TwoLogs + Cause + Opening + Drop,
+    R: LineInput,
+    W: Write,
+    E: Write,
+    T: Threads + Sync,
+>(
     rt: &T,
     alloc: Global,
     disk: D,
@@ -78,6 +86,7 @@ pub fn store_text<D: TwoLogs + Cause + Drop, R: LineInput, W: Write, E: Write, T
     };
     match Engine::open_or_create(rt, alloc, disk, config) {
         Ok(mut engine) => {
+            engine.disk().is_done();
             let mut upkeep = Upkeep::of(&engine, bounds);
             if has_first_format {
                 upkeep.leave_first_format();
@@ -182,11 +191,14 @@ fn run_lines<D: TwoLogs + Cause, R: LineInput, W: Write, E: Write>(
             return Ok(StoreEnd::Input);
         }
         if !text.is_empty() {
-            let is_refused = run_line(alloc, engine, upkeep, manner, text, writer)?;
+            let refused = run_line(alloc, engine, upkeep, manner, text, writer)?;
             let is_unkept = keep(engine, upkeep, manner, writer)?;
             is_told = tell_held_up(engine, upkeep, manner, is_told, writer)?;
             causes.tell(engine.disk());
-            if (is_refused || is_unkept) && manner.is_batch {
+            if refused == Some(Fault::NotAStore) {
+                causes.tell_broken();
+            }
+            if (refused.is_some() || is_unkept) && manner.is_batch {
                 return Ok(StoreEnd::RefusedLine);
             }
         }
@@ -252,7 +264,7 @@ fn end_prompt<W: Write>(manner: Manner, writer: &mut W) -> io::Result<()> {
     Ok(())
 }
 
-// Makes what a line asks for, and answers whether it was refused.
+// Makes what a line asks for, and answers the refusal, if it was refused.
 fn run_line<D: TwoLogs, W: Write>(
     alloc: Global,
     engine: &mut Engine<D>,
@@ -260,20 +272,20 @@ fn run_line<D: TwoLogs, W: Write>(
     manner: Manner,
     line: &[u8],
     writer: &mut W,
-) -> io::Result<bool> {
+) -> io::Result<Option<Fault>> {
     if line == b"entries".as_slice() {
         return match engine.entries(alloc) {
             Ok(entries) => {
                 print_entries(alloc, writer, manner, &entries)?;
-                Ok(false)
+                Ok(None)
             }
-            Err(fault) => print_refused(writer, manner, fault.number(), &fault),
+            Err(fault) => refuse(writer, manner, fault),
         };
     }
     if line == b"redo".as_slice() {
         let report = engine.redo_report();
         report_text(writer, report.point, report.applied)?;
-        return Ok(false);
+        return Ok(None);
     }
     if manner.has_words && is_help(line) {
         return run_help(manner, line, writer);
@@ -285,14 +297,19 @@ fn run_line<D: TwoLogs, W: Write>(
     };
     match step {
         Ok(step) => run_step(alloc, engine, upkeep, manner, &step, writer),
-        Err(Fault::BadScript) => print_refused(
-            writer,
-            manner,
-            Fault::BadScript.number(),
-            &Fault::BadScript,
-        ),
+        Err(Fault::BadScript) => {
+            let why = why_no_step(alloc, line);
+            print_refused(writer, manner, Fault::BadScript.number(), &why)?;
+            Ok(Some(Fault::BadScript))
+        }
         Err(_) => Err(io::Error::from(AllocError)),
     }
+}
+
+// Writes a refusal, and answers it.
+fn refuse<W: Write>(writer: &mut W, manner: Manner, fault: Fault) -> io::Result<Option<Fault>> {
+    print_refused(writer, manner, fault.number(), &fault)?;
+    Ok(Some(fault))
 }
 
 // The line is `help`, or begins with that word.
@@ -300,16 +317,16 @@ fn is_help(line: &[u8]) -> bool {
     line == b"help".as_slice() || line.starts_with(b"help ")
 }
 
-// Writes the lines that may be written, or what is to be known of a word; and answers whether there is no such word.
-fn run_help<W: Write>(manner: Manner, line: &[u8], writer: &mut W) -> io::Result<bool> {
+// Writes the lines that may be written, or what is to be known of a word; and answers the refusal of one that there is not.
+fn run_help<W: Write>(manner: Manner, line: &[u8], writer: &mut W) -> io::Result<Option<Fault>> {
     let Some(word) = line.strip_prefix(b"help ") else {
         write_help(writer)?;
-        return Ok(false);
+        return Ok(None);
     };
     if write_help_on(writer, word)? {
-        return Ok(false);
+        return Ok(None);
     }
-    print_refused(writer, manner, Fault::BadScript.number(), &Fault::BadScript)
+    refuse(writer, manner, Fault::BadScript)
 }
 
 fn run_step<D: TwoLogs, W: Write>(
@@ -319,10 +336,10 @@ fn run_step<D: TwoLogs, W: Write>(
     manner: Manner,
     step: &Step,
     writer: &mut W,
-) -> io::Result<bool> {
+) -> io::Result<Option<Fault>> {
     let reply = upkeep.step(engine, step);
     if let Reply::Refused(fault) = reply {
-        return print_refused(writer, manner, fault.number(), &fault);
+        return refuse(writer, manner, fault);
     }
     print_reply(alloc, writer, manner, &reply)?;
     writeln!(writer)?;
@@ -332,7 +349,7 @@ fn run_step<D: TwoLogs, W: Write>(
     if matches!(&reply, Reply::Committed) {
         writer.flush()?;
     }
-    Ok(false)
+    Ok(None)
 }
 
 // Writes the words of a reply, its keys as they can be typed where words are wanted.

@@ -3,19 +3,20 @@
 ghost use Rattle.std.specs.Prelude.{◌≤◌, IfOk};
 
 use crate::causes::{Cause, Causes};
-use crate::entry_text::{Form, dump_text};
+use crate::entry_text::{Form, WhyBad, dump_text};
 use crate::imstore::{tell, tell_unopened};
 use crate::line_input::LineInput;
 use crate::look::{check_text, stat_text};
 use crate::options::{Options, Task};
-use crate::progress::Progress;
-use crate::recovered::entries_of;
+use crate::progress::{Progress, ProgressLine, Untold};
+use crate::recovered::opened;
 use crate::scratch_disk::ScratchDisk;
 use crate::store::print_refused_opening;
-use crate::transfer::{Loaded, load_text};
+use crate::transfer::{LoadCount, Loaded, Present, load_text};
+use crate::watched_disk::WatchedDisk;
 use im_base_file_disk::{FileDisk, OpenError};
 use im_base_two_logs::Renamed;
-use im_base_types::{Fault, Key, Rid};
+use im_base_types::Fault;
 use im_tool_look::{LogDamage, log_text, read_log};
 use std::fmt::{Display, Formatter};
 use std::io::{BufReader, BufWriter, IsTerminal, Write};
@@ -76,12 +77,13 @@ fn look_at<W: Write, T: Threads + Sync>(
 ) -> (io::Result<u8>, ScratchDisk)
     ensures { IfOk result.0 (λ status. status ≤ 1) }
 {
+    let mut progress = ProgressLine::new(rt.stderr(), rt.stderr().is_terminal(), "MiB read", rt);
     match task {
-        Task::Check => check_text(threads, rt.alloc(), writer, disk),
-        Task::Stat => stat_text(threads, rt.alloc(), writer, disk),
+        Task::Check => check_text(threads, rt.alloc(), writer, disk, &mut progress),
+        Task::Stat => stat_text(threads, rt.alloc(), writer, disk, &mut progress),
         Task::Log => print_log(rt, dir, writer, disk),
         Task::Dump(form) => dump(rt, threads, dir, writer, form, disk),
-        Task::Steps | Task::Load | Task::Trim => (Ok(0), disk),
+        Task::Steps | Task::Load(_) | Task::Trim => (Ok(0), disk),
     }
 }
 
@@ -107,7 +109,7 @@ pub(crate) fn tell_damage<T: Threads + Sync>(rt: &HostRuntime, threads: &T, dir:
         return;
     };
     let disk = ScratchDisk::new(rt.alloc(), Some(files));
-    let _ = check_text(threads, rt.alloc(), &mut rt.stderr(), disk);
+    let _ = check_text(threads, rt.alloc(), &mut rt.stderr(), disk, &mut Untold);
 }
 
 // Says on standard error how many transactions a dump leaves out.
@@ -186,30 +188,56 @@ fn dump<W: Write, T: Threads + Sync>(
 {
     let mut disk = disk;
     tell_left_out(rt, dir, &mut disk);
-    let mut progress = Progress {
-        writer: rt.stderr(),
-        is_shown: rt.stderr().is_terminal() && !rt.stdout().is_terminal(),
+    let is_shown = rt.stderr().is_terminal() && !rt.stdout().is_terminal();
+    let mut progress = ProgressLine::new(rt.stderr(), is_shown, "entries", rt);
+    progress.say("opening a copy of the store, and counting its entries");
+    let mut engine = match opened(threads, rt.alloc(), disk) {
+        Ok(engine) => engine,
+        Err((fault, disk)) => return (refused(rt, dir, writer, fault), disk),
     };
-    progress.say("opening a copy of the store");
-    let (entries, disk) = entries_of(threads, rt.alloc(), disk);
-    let status = match entries {
-        Ok(entries) => dumped(rt, writer, form, &entries, &mut progress),
-        Err(fault) => refused(rt, dir, writer, fault),
-    };
-    (status, disk)
+    let dumped = dump_text(rt.alloc(), &mut engine, writer, form, &mut progress);
+    (
+        end_dump(rt, dir, writer, dumped),
+        engine.into_disk().into_disk(),
+    )
 }
 
-fn dumped<W: Write, P: Write>(
+// Says why a dump ended before its last entry. It answers the exit status.
+fn end_dump<W: Write>(
     rt: &HostRuntime,
+    dir: &str,
     writer: &mut W,
-    form: Form,
-    entries: &[(Key, Rid)],
-    progress: &mut Progress<P>,
+    dumped: io::Result<Option<Fault>>,
 ) -> io::Result<u8>
     ensures { IfOk result (λ status. status ≤ 1) }
 {
-    dump_text(rt.alloc(), writer, form, entries, progress)?;
-    Ok(0)
+    let Some(fault) = dumped? else {
+        return Ok(0);
+    };
+    writer.flush()?;
+    tell(rt, dir, &DumpRefused { fault });
+    Ok(1)
+}
+
+// Why a dump is not whole.
+#[derive(Drop)]
+struct DumpRefused {
+    fault: Fault,
+}
+
+impl Display for DumpRefused {
+    fn fmt<W: fmt::Write>(&self, f: &mut Formatter<W>) -> fmt::Result {
+        write!(
+            f,
+            "the dump is not whole: refused {}: {}",
+            self.fault.number(),
+            self.fault
+        )?;
+        match self.fault {
+            Fault::NotAStore => write!(f, "; `imstore --check` names what is broken"),
+            _ => Ok(()),
+        }
+    }
 }
 
 /// Loads the entries that standard input has into the store of a folder. It answers the exit status: 0, 1 where the opening was
@@ -219,12 +247,13 @@ pub(crate) fn load_program<T: Threads + Sync>(
     threads: &T,
     dir: &str,
     options: &Options,
+    present: Present,
 ) -> io::Result<u8>
     ensures { IfOk result (λ status. status ≤ 3) }
 {
     let mut reader = BufReader::new(rt.alloc(), rt.reader())?;
     let mut writer = BufWriter::new(rt.alloc(), io::writer(rt))?;
-    let status = load_from(rt, threads, dir, options, &mut reader, &mut writer)?;
+    let status = load_from(rt, threads, dir, options, present, &mut reader, &mut writer)?;
     writer.flush()?;
     Ok(status)
 }
@@ -235,17 +264,17 @@ fn load_from<R: LineInput, W: Write, T: Threads + Sync>(
     threads: &T,
     dir: &str,
     options: &Options,
+    present: Present,
     reader: &mut R,
     writer: &mut W,
 ) -> io::Result<u8>
     ensures { IfOk result (λ status. status ≤ 3) }
 {
     match FileDisk::open(rt, dir) {
-        Ok(disk) => {
-            let mut progress = Progress {
-                writer: rt.stderr(),
-                is_shown: rt.stderr().is_terminal(),
-            };
+        Ok(files) => {
+            let disk = WatchedDisk::new(files, rt.stderr(), rt);
+            let is_shown = rt.stderr().is_terminal();
+            let mut progress = ProgressLine::new(rt.stderr(), is_shown, "entries", rt);
             let (config, bounds) = (options.config(), options.bounds());
             let mut causes = Causes {
                 writer: rt.stderr(),
@@ -258,12 +287,13 @@ fn load_from<R: LineInput, W: Write, T: Threads + Sync>(
                 Renamed::new(disk, false),
                 config,
                 bounds,
+                present,
                 reader,
                 &mut progress,
                 &mut causes,
             )?;
             let has_words = options.has_words || rt.stdout().is_terminal();
-            print_loaded(rt, dir, writer, has_words, loaded)
+            print_loaded(rt, dir, writer, has_words, present, loaded)
         }
         Err(error) => {
             print_refused_opening(writer, error.fault())?;
@@ -279,35 +309,69 @@ fn print_loaded<W: Write>(
     dir: &str,
     writer: &mut W,
     has_words: bool,
+    present: Present,
     loaded: Loaded,
 ) -> io::Result<u8>
     ensures { IfOk result (λ status. status ≤ 3) }
 {
     match loaded {
         Loaded::All(count) => {
-            writeln!(writer, "loaded {count}")?;
+            print_count(writer, present, count)?;
             Ok(0)
         }
         Loaded::RefusedOpening(fault) => refused(rt, dir, writer, fault),
         Loaded::RefusedClose(count, fault) => {
-            writeln!(writer, "loaded {count}")?;
+            print_count(writer, present, count)?;
             writeln!(writer, "close refused {}", fault.number())?;
             tell(rt, dir, &fault);
             Ok(1)
         }
         Loaded::Duplicate(line) => {
             writeln!(writer, "duplicate line {line}")?;
+            if has_words {
+                tell(
+                    rt,
+                    dir,
+                    &"that key is there already: --skip leaves such keys, --replace gives them the dump's row ids",
+                );
+            }
             Ok(3)
         }
-        Loaded::BadLine(line) => {
-            let fault = Fault::BadScript;
-            print_refused_line(writer, has_words, line, fault.number(), &fault)?;
+        Loaded::BadLine(line, why) => {
+            let words = BadLine { why };
+            print_refused_line(writer, has_words, line, Fault::BadScript.number(), &words)?;
             Ok(3)
         }
         Loaded::Refused(line, fault) => {
             print_refused_line(writer, has_words, line, fault.number(), &fault)?;
             Ok(3)
         }
+    }
+}
+
+// Why a line of a text was refused.
+#[derive(Drop)]
+struct BadLine {
+    why: WhyBad,
+}
+
+impl Display for BadLine {
+    fn fmt<W: fmt::Write>(&self, f: &mut Formatter<W>) -> fmt::Result {
+        write!(f, "{}: {}", Fault::BadScript, self.why)
+    }
+}
+
+// Says how many entries were put in, and how many keys were there.
+fn print_count<W: Write>(writer: &mut W, present: Present, count: LoadCount) -> io::Result<()> {
+    writeln!(writer, "loaded {}", count.put)?;
+    match present {
+        Present::Refused => Ok(()),
+        Present::Skipped => writeln!(
+            writer,
+            "skipped {}, {} of them with another row id",
+            count.skipped, count.others
+        ),
+        Present::Replaced => writeln!(writer, "replaced {}", count.replaced),
     }
 }
 

@@ -4,9 +4,10 @@ ghost use Rattle.std.specs.Prelude.{◌≡◌, false};
 ghost use Rattle.im_base_disk.specs.Runs.{IsSynced};
 
 use crate::causes::{Cause, Causes};
-use crate::entry_text::{EntryText, Next};
+use crate::entry_text::{EntryText, Next, WhyBad};
 use crate::line_input::LineInput;
 use crate::progress::Progress;
+use crate::watched_disk::Opening;
 use im_base_steps::{Reply, Step};
 use im_base_two_logs::TwoLogs;
 use im_base_types::{Fault, Rid, TxnId};
@@ -20,33 +21,74 @@ use std::thread::Threads;
 /// How many entries are put in between one commit and the next.
 const A_COMMIT: u64 = 1_000;
 
+/// What is done with a key that is in the store already.
+#[derive(Clone, Copy, Debug, Default, PartialEq, Eq)]
+pub enum Present {
+    /// The load ends there.
+    #[default]
+    Refused,
+    /// It stays as it is.
+    Skipped,
+    /// It gets the row id of the text.
+    Replaced,
+}
+
+/// How many entries of a text were put in, and how many keys were there already.
+#[derive(Clone, Copy, Debug, Default, PartialEq, Eq)]
+pub struct LoadCount {
+    /// Entries whose keys are new.
+    pub put: u64,
+    /// Keys that were there and stayed as they were.
+    pub skipped: u64,
+    /// Those of them with another row id than the text's.
+    pub others: u64,
+    /// Keys that were there and got the row id of the text.
+    pub replaced: u64,
+}
+
+impl LoadCount {
+    fn all(self) -> u64 {
+        self.put
+            .saturating_add(self.skipped)
+            .saturating_add(self.replaced)
+    }
+}
+
 /// How a load ended.
 #[derive(Clone, Copy, Debug, PartialEq, Eq)]
 pub enum Loaded {
-    /// All entries of the text are in the store.
-    All(u64),
+    /// All keys of the text are in the store.
+    All(LoadCount),
     /// This line of the text, counted from 1, is none of a dump, or the text ends before it.
-    BadLine(u64),
+    BadLine(u64, WhyBad),
     /// The store refused the entry of this line, or the commit after it. Those before the last commit are kept.
     Refused(u64, Fault),
     /// The key of this line is in the store already.
     Duplicate(u64),
     /// The opening was refused.
     RefusedOpening(Fault),
-    /// All entries of the text are in the store, and what closes it was refused.
-    RefusedClose(u64, Fault),
+    /// All keys of the text are in the store, and what closes it was refused.
+    RefusedClose(LoadCount, Fault),
 }
 
-/// Puts the entries of such a text into a store, commits them a thousand at a time, and tells of each commit. Checkpoints are taken in between, and the log goes on in
+/// Puts the entries of such a text into a store, commits them a thousand at a time, and tells of each commit. `present` says what is done with
+/// keys that are there, so that a load that broke off can go on. Checkpoints are taken in between, and the log goes on in
 /// the other file, as the bounds want it; after the last entry a long log is left for an empty one, or a Checkpoint is taken, so that the next opening has nothing to redo.
-pub fn load_text<D: TwoLogs + Cause + Drop, R: LineInput, P: Write, E: Write, T: Threads + Sync>(
+pub fn load_text<
+    D: TwoLogs + Cause + Opening + Drop,
+    R: LineInput,
+    P: Progress,
+    E: Write,
+    T: Threads + Sync,
+>(
     rt: &T,
     alloc: Global,
     disk: D,
     config: Config,
     bounds: Bounds,
+    present: Present,
     reader: &mut R,
-    progress: &mut Progress<P>,
+    progress: &mut P,
     causes: &mut Causes<E>,
 ) -> io::Result<Loaded>
     requires working { D.failed disk ≡ false }
@@ -62,11 +104,12 @@ pub fn load_text<D: TwoLogs + Cause + Drop, R: LineInput, P: Write, E: Write, T:
     };
     match Engine::open_or_create(rt, alloc, disk, config) {
         Ok(mut engine) => {
+            engine.disk().is_done();
             let mut upkeep = Upkeep::of(&engine, bounds);
             if has_first_format {
                 upkeep.leave_first_format();
             }
-            let loaded = load_to_close(alloc, &mut engine, &mut upkeep, reader, progress);
+            let loaded = load_to_close(alloc, &mut engine, &mut upkeep, present, reader, progress);
             let disk = engine.into_disk();
             progress.end();
             causes.tell(&disk);
@@ -80,17 +123,18 @@ pub fn load_text<D: TwoLogs + Cause + Drop, R: LineInput, P: Write, E: Write, T:
 }
 
 // Loads the lines, and closes the store after them.
-fn load_to_close<D: TwoLogs, R: LineInput, P: Write>(
+fn load_to_close<D: TwoLogs, R: LineInput, P: Progress>(
     alloc: Global,
     engine: &mut Engine<D>,
     upkeep: &mut Upkeep,
+    present: Present,
     reader: &mut R,
-    progress: &mut Progress<P>,
+    progress: &mut P,
 ) -> io::Result<Loaded> {
     if let Err(fault) = upkeep.keep(engine) {
         return Ok(Loaded::Refused(1, fault));
     }
-    let loaded = load_all_lines(alloc, engine, upkeep, reader, progress)?;
+    let loaded = load_all_lines(alloc, engine, upkeep, present, reader, progress)?;
     let Loaded::All(count) = loaded else {
         return Ok(loaded);
     };
@@ -100,35 +144,38 @@ fn load_to_close<D: TwoLogs, R: LineInput, P: Write>(
     }
 }
 
-fn load_all_lines<D: TwoLogs, R: LineInput, P: Write>(
+fn load_all_lines<D: TwoLogs, R: LineInput, P: Progress>(
     alloc: Global,
     engine: &mut Engine<D>,
     upkeep: &mut Upkeep,
+    present: Present,
     reader: &mut R,
-    progress: &mut Progress<P>,
+    progress: &mut P,
 ) -> io::Result<Loaded> {
     let mut text = EntryText::new(alloc);
-    if !text.read_head(reader)? {
-        return Ok(Loaded::BadLine(text.number()));
+    if let Some(why) = text.read_head(reader)? {
+        return Ok(Loaded::BadLine(text.number(), why));
     }
-    load_entries(alloc, engine, upkeep, reader, &mut text, progress)
+    load_entries(alloc, engine, upkeep, present, reader, &mut text, progress)
 }
 
 // Puts in one entry after another, and commits the last ones.
-fn load_entries<D: TwoLogs, R: LineInput, P: Write>(
+fn load_entries<D: TwoLogs, R: LineInput, P: Progress>(
     alloc: Global,
     engine: &mut Engine<D>,
     upkeep: &mut Upkeep,
+    present: Present,
     reader: &mut R,
     text: &mut EntryText,
-    progress: &mut Progress<P>,
+    progress: &mut P,
 ) -> io::Result<Loaded> {
     let mut number = 0;
+    let mut count = LoadCount::default();
     for done in 0..u64::MAX {
         let (key, rid, at) = match text.next_entry(alloc, reader)? {
             Next::Entry(key, rid, at) => (key, rid, at),
-            Next::End => return Ok(end_load(engine, upkeep, number, done, text, progress)),
-            Next::Bad(at) => return Ok(Loaded::BadLine(at)),
+            Next::End => return Ok(end_load(engine, upkeep, number, count, text, progress)),
+            Next::Bad(at, why) => return Ok(Loaded::BadLine(at, why)),
             Next::Memory(at) => return Ok(Loaded::Refused(at, Fault::Memory)),
         };
         if done % A_COMMIT == 0 {
@@ -137,7 +184,7 @@ fn load_entries<D: TwoLogs, R: LineInput, P: Write>(
                 Err(fault) => return Ok(Loaded::Refused(at, fault)),
             }
         }
-        if let Some(end) = load_entry(engine, number, key, rid, at) {
+        if let Some(end) = load_entry(engine, number, present, key, rid, at, &mut count) {
             return Ok(end);
         }
         if done % A_COMMIT == A_COMMIT - 1 {
@@ -150,18 +197,19 @@ fn load_entries<D: TwoLogs, R: LineInput, P: Write>(
             return Ok(Loaded::Refused(at, fault));
         }
     }
-    Ok(Loaded::All(u64::MAX))
+    Ok(Loaded::All(count))
 }
 
 // Commits what was put in since the last commit.
-fn end_load<D: TwoLogs, P: Write>(
+fn end_load<D: TwoLogs, P: Progress>(
     engine: &mut Engine<D>,
     upkeep: &mut Upkeep,
     number: TxnId,
-    done: u64,
+    count: LoadCount,
     text: &EntryText,
-    progress: &mut Progress<P>,
+    progress: &mut P,
 ) -> Loaded {
+    let done = count.all();
     if done % A_COMMIT != 0 {
         if let Err(fault) = committed(engine, number) {
             return Loaded::Refused(text.number(), fault);
@@ -169,12 +217,13 @@ fn end_load<D: TwoLogs, P: Write>(
         progress.show(done, text.all());
     }
     match upkeep.keep(engine) {
-        Ok(()) => Loaded::All(done),
+        Ok(()) => Loaded::All(count),
         Err(fault) => Loaded::Refused(text.number(), fault),
     }
 }
 
-fn begun<D: TwoLogs>(engine: &mut Engine<D>) -> Result<TxnId, Fault> {
+/// Begins a transaction, and answers its number.
+pub(crate) fn begun<D: TwoLogs>(engine: &mut Engine<D>) -> Result<TxnId, Fault> {
     match engine.step(&Step::Begin) {
         Reply::Started(number) => Ok(number),
         reply => Err(fault_of(reply)),
@@ -188,23 +237,82 @@ fn committed<D: TwoLogs>(engine: &mut Engine<D>, number: TxnId) -> Result<(), Fa
     }
 }
 
-// Puts in an entry. It answers how the load ends where that is refused.
+// Puts in an entry, or does with it what is done with a key that is there. It answers how the load ends where that is refused.
 fn load_entry<D: TwoLogs>(
+    engine: &mut Engine<D>,
+    number: TxnId,
+    present: Present,
+    key: Vec<u8>,
+    rid: Rid,
+    at: u64,
+    count: &mut LoadCount,
+) -> Option<Loaded> {
+    let insert = Step::Insert(number, key, rid);
+    match engine.step(&insert) {
+        Reply::Inserted => {
+            count.put = count.put.saturating_add(1);
+            None
+        }
+        Reply::Duplicate => match (present, insert) {
+            (Present::Skipped, Step::Insert(_, key, _)) => {
+                skip(engine, number, key, rid, at, count)
+            }
+            (Present::Replaced, Step::Insert(_, key, _)) => {
+                replace(engine, number, key, rid, at, count)
+            }
+            _ => Some(Loaded::Duplicate(at)),
+        },
+        reply => Some(Loaded::Refused(at, fault_of(reply))),
+    }
+}
+
+// Leaves a key that is there, and counts whether it has another row id.
+fn skip<D: TwoLogs>(
     engine: &mut Engine<D>,
     number: TxnId,
     key: Vec<u8>,
     rid: Rid,
     at: u64,
+    count: &mut LoadCount,
 ) -> Option<Loaded> {
-    match engine.step(&Step::Insert(number, key, rid)) {
-        Reply::Inserted => None,
-        Reply::Duplicate => Some(Loaded::Duplicate(at)),
+    match engine.step(&Step::Fetch(number, key)) {
+        Reply::Found(there) => {
+            count.skipped = count.skipped.saturating_add(1);
+            if there != rid {
+                count.others = count.others.saturating_add(1);
+            }
+            None
+        }
         reply => Some(Loaded::Refused(at, fault_of(reply))),
     }
 }
 
-// The refusal of a step that was to be made.
-fn fault_of(reply: Reply) -> Fault {
+// Gives a key that is there another row id.
+fn replace<D: TwoLogs>(
+    engine: &mut Engine<D>,
+    number: TxnId,
+    key: Vec<u8>,
+    rid: Rid,
+    at: u64,
+    count: &mut LoadCount,
+) -> Option<Loaded> {
+    let delete = Step::Delete(number, key);
+    let deleted = engine.step(&delete);
+    let reply = match (deleted, delete) {
+        (Reply::Deleted, Step::Delete(_, key)) => engine.step(&Step::Insert(number, key, rid)),
+        (reply, _) => reply,
+    };
+    match reply {
+        Reply::Inserted => {
+            count.replaced = count.replaced.saturating_add(1);
+            None
+        }
+        reply => Some(Loaded::Refused(at, fault_of(reply))),
+    }
+}
+
+/// The refusal of a step that was to be made.
+pub(crate) fn fault_of(reply: Reply) -> Fault {
     match reply {
         Reply::Refused(fault) => fault,
         _ => Fault::Failed,

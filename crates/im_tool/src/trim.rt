@@ -11,13 +11,14 @@ use crate::tasks::tell_unread;
 use im_base_disk::Disk;
 use im_base_file_disk::FileDisk;
 use im_base_types::{Fault, FileId};
-use im_tool_look::{Files, LogDamage, current_log, file_name};
+use im_tool_look::{Files, LogDamage, read_log};
 use std::alloc::Global;
 use std::io;
 use std::io::{BufWriter, Write};
 
-/// Empties the log of the lower generation of the store in a folder, which no other program has open. The store goes on in the other one, and makes it
-/// anew when it leaves that. It answers the exit status: 0, or 1 where nothing was done because of a refusal.
+/// Empties the log of the lower generation of the store in a folder, which no other program has open, and cuts the current one to its end where it has no
+/// record. The store goes on in the current one, and makes the other anew when it leaves that. It answers the exit status: 0, or 1 where nothing was done
+/// because of a refusal.
 pub(crate) fn trim_program(rt: &HostRuntime, dir: &str) -> io::Result<u8>
     ensures { IfOk result (λ status. status ≤ 1) }
 {
@@ -46,12 +47,12 @@ fn trim<W: Write>(rt: &HostRuntime, dir: &str, writer: &mut W, files: FileDisk) 
     ensures { IfOk result (λ status. status ≤ 1) }
 {
     let mut disk = ScratchDisk::new(rt.alloc(), Some(files));
-    let left = left_log(rt.alloc(), &mut disk);
+    let spare = spare_of(rt.alloc(), &mut disk);
     if let Some(error) = disk.cause() {
         tell(rt, dir, error);
     }
-    match left {
-        Ok(Some(left)) => empty(rt, dir, writer, disk, left),
+    match spare {
+        Ok(Some(spare)) => give_back(rt, dir, writer, disk, spare),
         Ok(None) => {
             tell(rt, dir, &"there is nothing to trim");
             writeln!(writer, "trimmed 0")?;
@@ -69,54 +70,89 @@ fn trim<W: Write>(rt: &HostRuntime, dir: &str, writer: &mut W, files: FileDisk) 
     }
 }
 
-// A log that is not the current one, and how many bytes it has; and the file of the current one.
+// What of the two logs no opening reads any more.
 #[derive(Clone, Copy)]
-struct LeftLog {
+struct Spare {
     current: FileId,
-    file: FileId,
+    // The place after the closed gate with which the current log ends, and how many bytes of its file come after that; none where it has a record: a
+    // log that is in use has room there for what it gets next.
+    end: u64,
+    behind: u64,
+    // The log that was left, and how many bytes it has.
+    left: FileId,
     bytes: u64,
 }
 
-// The log that the store has left. None where it has no byte, or no store was made yet.
-fn left_log(alloc: Global, disk: &mut ScratchDisk) -> Result<Option<LeftLog>, LogDamage>
-    ensures { IfOk result (λ found. IfSome found (λ left. left.file ≢ Pages)) }
+// The log that is not this one.
+fn other_log(log: FileId) -> FileId
+    ensures { result ≢ Pages }
 {
-    let log = current_log(alloc, disk)?;
-    let file = log.other_file();
-    let bytes = disk.length(file).map_err(LogDamage::Unread)?;
-    if log.start.is_none() || bytes == 0 {
+    match log {
+        FileId::Log => FileId::Log2,
+        FileId::Log2 | FileId::Pages => FileId::Log,
+    }
+}
+
+// What there is to give back. None where that is no byte, or no store was made yet.
+fn spare_of(alloc: Global, disk: &mut ScratchDisk) -> Result<Option<Spare>, LogDamage>
+    ensures { IfOk result (λ found. IfSome found (λ spare. (spare.left ≢ Pages) × (spare.current ≢ Pages))) }
+{
+    let said = read_log(alloc, disk)?;
+    let left = said.log.other_file();
+    let current = other_log(left);
+    let bytes = disk.length(left).map_err(LogDamage::Unread)?;
+    let length = disk.length(current).map_err(LogDamage::Unread)?;
+    let end = said.end.saturating_add(1);
+    let behind = if said.records == 0 {
+        length.saturating_sub(end)
+    } else {
+        0
+    };
+    if said.log.start.is_none() || (bytes == 0 && behind == 0) {
         return Ok(None);
     }
-    Ok(Some(LeftLog {
-        current: log.file,
-        file,
+    Ok(Some(Spare {
+        current,
+        end,
+        behind,
+        left,
         bytes,
     }))
 }
 
-// Takes the bytes of the log away that was left. The current one is brought to the disk first: a program that was stopped may have made it a log in the
-// system's memory alone, and without the other there would be none.
-fn is_emptied(files: &mut FileDisk, left: LeftLog) -> bool
+// Takes these bytes away. The current log is brought to the disk first: a program that was stopped may have made it a log in the system's memory
+// alone, and without the other there would be none.
+fn is_given_back(files: &mut FileDisk, spare: Spare) -> bool
     requires working { ⟦<FileDisk as Disk>⟧.failed files.old ≡ false }
 {
-    files.sync(left.current).is_ok() && files.empty(left.file).is_ok()
+    if files.sync(spare.current).is_err() {
+        return false;
+    }
+    if spare.bytes > 0 && files.empty(spare.left).is_err() {
+        return false;
+    }
+    spare.behind == 0 || files.cut(spare.current, spare.end).is_ok()
 }
 
-// Empties it, and says how many bytes it had.
-fn empty<W: Write>(
+// Takes them away, and says how many they are.
+fn give_back<W: Write>(
     rt: &HostRuntime,
     dir: &str,
     writer: &mut W,
     disk: ScratchDisk,
-    left: LeftLog,
+    spare: Spare,
 ) -> io::Result<u8>
     ensures { IfOk result (λ status. status ≤ 1) }
 {
     let Some(mut files) = disk.into_files() else {
         return Ok(1);
     };
-    if !files.has_failed() && is_emptied(&mut files, left) {
-        writeln!(writer, "trimmed {}", left.bytes)?;
+    if !files.has_failed() && is_given_back(&mut files, spare) {
+        writeln!(
+            writer,
+            "trimmed {}",
+            spare.bytes.saturating_add(spare.behind)
+        )?;
         return Ok(0);
     }
     writeln!(writer, "trim refused {}", Fault::Device.number())?;

@@ -83,6 +83,7 @@ fn with_key(step: Step, key: Option<Vec<u8>>) -> Step {
         Step::Fetch(number, _) => Step::Fetch(number, key),
         Step::Seek(number, _) => Step::Seek(number, key),
         Step::Next(number, _) => Step::Next(number, key),
+        Step::Prev(number, _) => Step::Prev(number, key),
         Step::Scan(number, _, hi, limit) => Step::Scan(number, key, hi, limit),
         Step::Insert(number, _, rid) => Step::Insert(number, key, rid),
         Step::Delete(number, _) => Step::Delete(number, key),

@@ -4,7 +4,7 @@
 //! definition of lives (`shown_in`, `asked_in`): a step with its reply, or cut off by the stop. Each line has its reply, up to one into which
 //! the stop fell (`StoreAnswered`).
 //!
-//! This crate has no code that runs, and knows no engine: of a reply it has the words of `im_base_steps`, `im_page` and `im_restart`.
+//! This crate has no code that runs, and knows no engine: of a reply it has the words of `im_base_types`, `im_base_steps` and `im_page`.
 #![tactic(auto)]
 
 mod store_answers;

@@ -1,9 +1,8 @@
 //! What a life of a store answers.
 
 use im_base_steps::Reply;
-use im_base_types::{Fault, PageNo};
+use im_base_types::{Fault, PageNo, RedoReport};
 use im_page::Header;
-use im_restart::RedoReport;
 use im_tool_raw::Opening;
 
 /// What a line of a life of a store answers.

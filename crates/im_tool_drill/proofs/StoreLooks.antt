@@ -8,8 +8,8 @@ use Rattle.im_base_types.specs.Maps.{IndexMap}
 use Rattle.im_base_types.specs.Changes.{Effect, apply_all}
 use Rattle.im_base_types.specs.Lives.{Shown, nothing_shown}
 use Rattle.im_base_disk.specs.declared.disk.Disk.{Ghosts}
-use Rattle.im_base_lock.specs.Locks.{Lock}
-use Rattle.im_base_lock.specs.View.{View, broken}
+use Rattle.im_theory_machine.specs.Locks.{Lock}
+use Rattle.im_theory_machine.specs.View.{View, broken}
 use Rattle.im_engine.specs.declared.engine.Engine.{Engine}
 use Rattle.im_engine.specs.Kept.{LookKept, EntriesKept}
 use Rattle.im_engine.specs.Running.{IsLife}

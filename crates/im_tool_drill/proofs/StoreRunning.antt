@@ -8,7 +8,7 @@ use Rattle.im_base_model_disk.specs.declared.stop.Stop.{Stop}
 use Rattle.im_base_model_disk.specs.Model.{model_calls}
 use Rattle.im_base_two_logs.specs.declared.renamed.Renamed.{Renamed}
 use Rattle.im_engine.specs.declared.engine.Engine.{Engine}
-use Rattle.im_restart.specs.declared.redo_report.RedoReport.{RedoReport}
+use Rattle.im_base_types.specs.declared.redo_report.RedoReport.{RedoReport}
 use Rattle.im_tool_lines.specs.declared.store_life.StoreLine.{StoreLine}
 use Rattle.im_tool_lines.specs.declared.store_life.StoreLine.TheVariants as lines
 use Rattle.im_tool_lines.specs.declared.store_life.StoreLife.{StoreLife}
@@ -16,7 +16,7 @@ use Rattle.im_tool_answers.specs.declared.store_answers.StoreReply.{StoreReply}
 use Rattle.im_tool_answers.specs.declared.store_answers.StoreAnswers.{StoreAnswers}
 use Rattle.im_base_types.specs.Changes.{Effect}
 use Rattle.im_base_types.specs.Lives.{Shown}
-use Rattle.im_base_lock.specs.View.{View}
+use Rattle.im_theory_machine.specs.View.{View}
 use Rattle.im_page_pool.specs.Pool.{page_at}
 use Rattle.im_page_writer.specs.Outcome.{fault_of}
 use Rattle.im_page.specs.declared.header.Header.{Header}

@@ -8,7 +8,7 @@ use Rattle.im_base_steps.specs.declared.step.Step.{Step}
 use Rattle.im_base_steps.specs.declared.reply.Reply.{Reply}
 use Rattle.im_base_types.specs.Changes.{Effect}
 use Rattle.im_base_types.specs.Lives.{Shown}
-use Rattle.im_base_lock.specs.View.{View}
+use Rattle.im_theory_machine.specs.View.{View}
 use Rattle.im_base_types.specs.Pages.{Entry}
 use Rattle.im_base_disk.specs.declared.disk.Disk.{Ghosts}
 use Rattle.im_base_model_disk.specs.declared.model_disk.ModelDisk.{ModelDisk}
@@ -16,10 +16,10 @@ use Rattle.im_base_model_disk.specs.declared.stop.Stop.{Stop}
 use Rattle.im_base_disk.specs.Disk.{three}
 use Rattle.im_base_model_disk.specs.Model.{IsFresh, model_calls}
 use Rattle.im_base_two_logs.specs.declared.renamed.Renamed.{Renamed}
-use Rattle.im_log_choice.specs.Turning.{ReadsNamed}
+use Rattle.im_log_choice.specs.Switching.{ReadsNamed}
 use Rattle.im_page_pool.specs.Pool.{page_at}
 use Rattle.im_page_writer.specs.Outcome.{fault_of}
-use Rattle.im_restart.specs.declared.redo_report.RedoReport.{RedoReport}
+use Rattle.im_base_types.specs.declared.redo_report.RedoReport.{RedoReport}
 use Rattle.im_restart.specs.Restart.{IsFullLog}
 use Rattle.im_engine.specs.declared.config.Config.{Config}
 use Rattle.im_page.specs.declared.header.Header.{Header}

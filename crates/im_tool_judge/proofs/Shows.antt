@@ -281,6 +281,7 @@ dies : (t : ℕ) (a : answers.Access) (new : Showing) (s : Shown) → IsShown ne
 dies t (answers.Fetch k) new s shown = shown
 dies t (answers.Seek k) new s shown = shown
 dies t (answers.Next k) new s shown = shown
+dies t (answers.Prev k) new s shown = shown
 dies t (answers.Scan lo hi n) new s shown = shown
 dies t (answers.Insert k r) new s shown = shown
 dies t (answers.Delete k) new s shown = shown

@@ -167,7 +167,7 @@ impl Showing {
             Reply::Deleted => self.delete(step),
             Reply::Committed => self.commit(step),
             Reply::RolledBack => self.roll_back(step),
-            Reply::More => self.go_on(step),
+            Reply::More => self.take_more(step),
             Reply::Die => self.die(step),
             Reply::Done => self.force(step),
             Reply::Found(_) => Ok(()),
@@ -280,7 +280,7 @@ impl Showing {
     }
 
     // Something is left to be done: a rollback has begun, a Commit waits for a force, or an insert or a delete goes on.
-    fn go_on(&mut self, step: &Step) -> Result<(), AllocError>
+    fn take_more(&mut self, step: &Step) -> Result<(), AllocError>
         ensures { OnOk result ((s : Shown) → IsShown self.old s → IsShown self.new (answered (asked_by step.now) answers.More s)) }
     {
         match step {
@@ -585,6 +585,7 @@ fn access_of(step: &Step) -> Option<TxnId>
         Step::Fetch(txn, _) => Some(*txn),
         Step::Seek(txn, _) => Some(*txn),
         Step::Next(txn, _) => Some(*txn),
+        Step::Prev(txn, _) => Some(*txn),
         Step::Scan(txn, _, _, _) => Some(*txn),
         Step::Insert(txn, _, _) => Some(*txn),
         Step::Delete(txn, _) => Some(*txn),

@@ -23,7 +23,7 @@ store_text_kind text =
     if slice_index text 0 == 108 then (if slice_index text 1 == 111 then Counts else Begins)
     else if slice_index text 0 == 115 then (if slice_index text 1 == 116 then Stops else if slice_index text 2 == 116 then Sets else Steps)
     else if slice_index text 0 == 99 then (if slice_index text 1 == 97 then Counts else Steps)
-    else if slice_index text 0 == 112 then (if slice_index text 1 == 97 then Counts else Puts)
+    else if slice_index text 0 == 112 then (if slice_index text 1 == 97 then Counts else if slice_index text 1 == 114 then Steps else Puts)
     else if slice_index text 0 == 114 then (if slice_index text 1 == 97 then Puts else if slice_index text 1 == 101 then Counts else Steps)
     else Steps
 
@@ -33,6 +33,7 @@ step_kind text steps.Begin s = sym (ap store_text_kind s)
 step_kind text (steps.Fetch t key) s = sym (ap store_text_kind s.1)
 step_kind text (steps.Seek t key) s = sym (ap store_text_kind s.1)
 step_kind text (steps.Next t key) s = sym (ap store_text_kind s.1)
+step_kind text (steps.Prev t key) s = sym (ap store_text_kind s.1)
 step_kind text (steps.Scan t lo hi limit) s = sym (ap store_text_kind s.1)
 step_kind text (steps.Insert t key rid) s = sym (ap store_text_kind s.1)
 step_kind text (steps.Delete t key) s = sym (ap store_text_kind s.1)

@@ -7,7 +7,7 @@ use Rattle.im_tool_lines.specs.declared.line.Line.{Line}
 use Rattle.im_tool_lines.specs.declared.line.Line.TheVariants as lines
 use Rattle.im_tool_lines.specs.declared.raw_line.RawLine.{RawLine}
 use Rattle.im_tool_lines.specs.declared.raw_life.RawLife.{RawLife}
-use Rattle.im_tool_lines.specs.declared.reading.Reading.{Reading}
+use Rattle.im_tool_lines.specs.declared.script_reading.Reading.{Reading}
 use Rattle.im_tool_lines.specs.SetFiles.{files_of}
 use Rattle.im_tool_lines.specs.Scripts.{Place, Before, Within, Behind, kind_of, MayStand, place_after, line_of, lines_of_lives, set_line, files_set}
 

@@ -4,7 +4,7 @@ ghost use Rattle.std.specs.Prelude.{◌≡◌, ℕ, IfOk};
 ghost use Rattle.im_tool_lines.specs.Scripts.{lines_of, IsScript, IsFirstBad};
 
 use crate::line_reader::read_lines;
-use crate::reading::Reading;
+use crate::script_reading::Reading;
 use crate::{RawLife, ScriptError};
 use std::alloc::Global;
 

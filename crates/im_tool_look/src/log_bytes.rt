@@ -249,7 +249,7 @@ impl Said {
         if let Err(fault) = self.changes.note(lsn, record) {
             return Err(LogDamage::Unread(fault));
         }
-        note(&mut self.counts, record);
+        count_record(&mut self.counts, record);
         Ok(())
     }
 
@@ -305,7 +305,7 @@ pub(crate) fn place_in(place: u64, records: &[u8], left: &[u8]) -> u64 {
     place.saturating_add(records.len().saturating_sub(left.len()) as u64)
 }
 
-fn note(counts: &mut Counts, record: &Record) {
+fn count_record(counts: &mut Counts, record: &Record) {
     counts.records = counts.records.saturating_add(1);
     counts.greatest_page = counts.greatest_page.max(record.page());
     if let Record::Commit { .. } = record {

@@ -27,7 +27,7 @@ pub struct Compared {
 }
 
 impl Compared {
-    fn note(&mut self, damage: PageDamage) -> Result<(), Fault> {
+    fn add_damage(&mut self, damage: PageDamage) -> Result<(), Fault> {
         if self.damages.len() >= MOST {
             self.more = self.more.saturating_add(1);
             return Ok(());
@@ -78,11 +78,11 @@ fn lengths(compared: &mut Compared, said: &Survey, whole: u64) -> Result<(), Fau
         least = least.max(synced_pages(said, before));
     }
     if least > whole {
-        compared.note(PageDamage::Short(whole, least.saturating_sub(1)))?;
+        compared.add_damage(PageDamage::Short(whole, least.saturating_sub(1)))?;
     }
     let named = said.last.named;
     if whole > named.max(u64::from(said.log.pages())) {
-        compared.note(PageDamage::Long(whole, named))?;
+        compared.add_damage(PageDamage::Long(whole, named))?;
     }
     Ok(())
 }
@@ -112,7 +112,7 @@ fn compare(
     }
     let lsn = lsn_of(bytes);
     if lsn >= end && lsn > 0 {
-        return compared.note(PageDamage::PastTheLog(number, lsn, end));
+        return compared.add_damage(PageDamage::PastTheLog(number, lsn, end));
     }
     if is_copied {
         return Ok(());
@@ -122,7 +122,7 @@ fn compare(
     };
     compared.with_synced = compared.with_synced.saturating_add(1);
     if lsn < least {
-        return compared.note(PageDamage::Older(number, lsn, least));
+        return compared.add_damage(PageDamage::Older(number, lsn, least));
     }
     if number == 0 && lsn == least {
         return compare_count(compared, count, bytes);
@@ -140,7 +140,7 @@ fn compare_names(compared: &mut Compared, last: &LastChanges, bytes: &[u8]) -> R
         Err(_) => 0,
     };
     if last.named > u64::from(count) {
-        return compared.note(PageDamage::Names(count, last.named.saturating_sub(1)));
+        return compared.add_damage(PageDamage::Names(count, last.named.saturating_sub(1)));
     }
     Ok(())
 }
@@ -155,7 +155,7 @@ fn compare_count(
         return Ok(());
     };
     if page.leftmost() != said {
-        return compared.note(PageDamage::Count(page.leftmost(), said));
+        return compared.add_damage(PageDamage::Count(page.leftmost(), said));
     }
     Ok(())
 }

@@ -136,14 +136,14 @@ fn is_between(key: &[u8], low: &Option<Key>, high: &Option<Key>) -> bool {
 }
 
 impl Walk {
-    fn note(&mut self, damage: TreeDamage) -> Result<(), Fault> {
+    fn add_damage(&mut self, damage: TreeDamage) -> Result<(), Fault> {
         push(&mut self.survey.damages, damage)
     }
 
     // Marks a page as met. False where it was met before, or is past the number of pages.
     fn meet(&mut self, page: PageNo) -> Result<bool, Fault> {
         if page >= self.count {
-            self.note(TreeDamage::PastCount(page))?;
+            self.add_damage(TreeDamage::PastCount(page))?;
             return Ok(false);
         }
         let met = match self.seen.get_mut(page as usize) {
@@ -155,7 +155,7 @@ impl Walk {
             None => true,
         };
         if met {
-            self.note(TreeDamage::Twice(page))?;
+            self.add_damage(TreeDamage::Twice(page))?;
         }
         Ok(!met)
     }
@@ -163,7 +163,7 @@ impl Walk {
     // Each level of the tree, from the root down.
     fn levels<F: Files>(&mut self, files: &mut F) -> Result<(), Fault> {
         let Some(root) = self.pages.page(files, ROOT)? else {
-            return self.note(TreeDamage::NoPage(ROOT));
+            return self.add_damage(TreeDamage::NoPage(ROOT));
         };
         let top = root.level();
         self.survey.height = u64::from(top).saturating_add(1);
@@ -202,7 +202,7 @@ impl Walk {
             return Ok(());
         }
         let Some(page) = self.pages.page(files, number)? else {
-            return self.note(TreeDamage::NoPage(number));
+            return self.add_damage(TreeDamage::NoPage(number));
         };
         let kind = if level == 0 {
             PageKind::Leaf
@@ -210,10 +210,10 @@ impl Walk {
             PageKind::Inner
         };
         if page.kind() != kind || page.level() != level {
-            return self.note(TreeDamage::WrongLevel(number));
+            return self.add_damage(TreeDamage::WrongLevel(number));
         }
         if page.is_marked() {
-            self.note(TreeDamage::Marked(number))?;
+            self.add_damage(TreeDamage::Marked(number))?;
         }
         self.keys(place, &page)?;
         if level == 0 {
@@ -227,7 +227,7 @@ impl Walk {
     fn keys(&mut self, place: &Place, page: &Page) -> Result<(), Fault> {
         for i in 0..page.len() {
             if !is_between(page.key(i), &place.low, &place.high) {
-                return self.note(TreeDamage::KeyOutOfPlace(place.page));
+                return self.add_damage(TreeDamage::KeyOutOfPlace(place.page));
             }
         }
         Ok(())
@@ -302,7 +302,7 @@ impl Walk {
                 None => 0,
             };
             if page.prev() != before || page.next() != behind {
-                self.note(TreeDamage::WrongNeighbours(place.page))?;
+                self.add_damage(TreeDamage::WrongNeighbours(place.page))?;
             }
         }
         Ok(())
@@ -321,12 +321,12 @@ impl Walk {
             }
             match self.pages.page(files, at)? {
                 Some(page) if page.kind() == PageKind::Free => at = page.next(),
-                _ => return self.note(TreeDamage::NotFree(at)),
+                _ => return self.add_damage(TreeDamage::NotFree(at)),
             }
             self.survey.free = self.survey.free.saturating_add(1);
         }
         if self.survey.free != u64::from(count) {
-            self.note(TreeDamage::FreeCount)?;
+            self.add_damage(TreeDamage::FreeCount)?;
         }
         Ok(())
     }
@@ -335,7 +335,7 @@ impl Walk {
     fn lost(&mut self) -> Result<(), Fault> {
         for page in 1..self.count {
             if self.seen.get(page as usize).copied() == Some(false) {
-                self.note(TreeDamage::Lost(page))?;
+                self.add_damage(TreeDamage::Lost(page))?;
             }
         }
         Ok(())

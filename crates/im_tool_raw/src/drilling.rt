@@ -9,7 +9,7 @@ ghost use Rattle.im_tool_raw.specs.RawRuns.{IsRawRun};
 
 use crate::Drilled;
 use crate::lives::run_life;
-use crate::opening::last_batches;
+use crate::opened_batches::last_batches;
 use im_base_disk::Disk;
 use im_base_model_disk::ModelDisk;
 use im_tool_lines::Script;

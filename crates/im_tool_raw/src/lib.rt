@@ -18,11 +18,11 @@ mod answers;
 mod drilling;
 mod life_answers;
 mod lives;
-mod opening;
+mod opened_batches;
 mod stop;
 
 pub use answers::Drilled;
 pub use drilling::drill;
 pub use life_answers::{LifeAnswers, Opening, RawReply};
-pub use opening::open_batches;
+pub use opened_batches::open_batches;
 pub use stop::{arm_life, has_come, refused_opening};

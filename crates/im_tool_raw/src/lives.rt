@@ -13,7 +13,7 @@ ghost use Rattle.im_tool_raw.specs.Stops.{HasCome};
 ghost use Rattle.im_tool_raw.specs.RawRuns.{IsPutRun, IsRawLineRun, AreRawLinesRun, IsRawLifeRun};
 ghost use Rattle.im_tool_raw.specs.Answered.{IsReply, Answered, AnsweredBehind};
 
-use crate::opening::open_batches;
+use crate::opened_batches::open_batches;
 use crate::stop::{arm, has_come, refused_opening};
 use crate::{LifeAnswers, Opening, RawReply};
 use im_base_disk::Disk;

@@ -13,6 +13,7 @@ word_of steps.Begin = codes "begin"
 word_of (steps.Fetch t key) = codes "fetch"
 word_of (steps.Seek t key) = codes "seek"
 word_of (steps.Next t key) = codes "next"
+word_of (steps.Prev t key) = codes "prev"
 word_of (steps.Scan t lo hi limit) = codes "scan"
 word_of (steps.Insert t key rid) = codes "insert"
 word_of (steps.Delete t key) = codes "delete"
@@ -30,6 +31,7 @@ SpellsRest steps.Begin rest = ⊥
 SpellsRest (steps.Fetch t key) rest = IsKeyed rest t key.items
 SpellsRest (steps.Seek t key) rest = IsKeyed rest t key.items
 SpellsRest (steps.Next t key) rest = IsKeyed rest t key.items
+SpellsRest (steps.Prev t key) rest = IsKeyed rest t key.items
 SpellsRest (steps.Scan t lo hi limit) rest = IsRanged rest t lo.items hi.items limit
 SpellsRest (steps.Insert t key rid) rest = IsKeyedWith rest t key.items rid
 SpellsRest (steps.Delete t key) rest = IsKeyed rest t key.items
@@ -52,6 +54,9 @@ seek_lacks = (λ x. omega arith, (λ x. omega arith, (λ x. omega arith, (λ x. 
 
 next_lacks : Lacks 32 (codes "next")
 next_lacks = (λ x. omega arith, (λ x. omega arith, (λ x. omega arith, (λ x. omega arith, tt))))
+
+prev_lacks : Lacks 32 (codes "prev")
+prev_lacks = (λ x. omega arith, (λ x. omega arith, (λ x. omega arith, (λ x. omega arith, tt))))
 
 scan_lacks : Lacks 32 (codes "scan")
 scan_lacks = (λ x. omega arith, (λ x. omega arith, (λ x. omega arith, (λ x. omega arith, tt))))
@@ -95,6 +100,9 @@ words_said word rest (steps.Seek t key) s l =
 words_said word rest (steps.Next t key) s l =
     let e = cut_once 32 word (codes "next") rest s.0 l next_lacks s.1 in
     (e.0, subst (λ (x : List ℕ). IsKeyed x t key.items) (sym e.1) s.2)
+words_said word rest (steps.Prev t key) s l =
+    let e = cut_once 32 word (codes "prev") rest s.0 l prev_lacks s.1 in
+    (e.0, subst (λ (x : List ℕ). IsKeyed x t key.items) (sym e.1) s.2)
 words_said word rest (steps.Scan t lo hi limit) s l =
     let e = cut_once 32 word (codes "scan") rest s.0 l scan_lacks s.1 in
     (e.0, subst (λ (x : List ℕ). IsRanged x t lo.items hi.items limit) (sym e.1) s.2)
@@ -126,6 +134,7 @@ lone_step_bad word steps.Begin s l b f c w = b s
 lone_step_bad word (steps.Fetch t key) s l b f c w = lacks_mid 32 (codes "fetch") s.0 (subst (λ (t : List ℕ). Lacks 32 t) s.1 l)
 lone_step_bad word (steps.Seek t key) s l b f c w = lacks_mid 32 (codes "seek") s.0 (subst (λ (t : List ℕ). Lacks 32 t) s.1 l)
 lone_step_bad word (steps.Next t key) s l b f c w = lacks_mid 32 (codes "next") s.0 (subst (λ (t : List ℕ). Lacks 32 t) s.1 l)
+lone_step_bad word (steps.Prev t key) s l b f c w = lacks_mid 32 (codes "prev") s.0 (subst (λ (t : List ℕ). Lacks 32 t) s.1 l)
 lone_step_bad word (steps.Scan t lo hi limit) s l b f c w = lacks_mid 32 (codes "scan") s.0 (subst (λ (t : List ℕ). Lacks 32 t) s.1 l)
 lone_step_bad word (steps.Insert t key rid) s l b f c w = lacks_mid 32 (codes "insert") s.0 (subst (λ (t : List ℕ). Lacks 32 t) s.1 l)
 lone_step_bad word (steps.Delete t key) s l b f c w = lacks_mid 32 (codes "delete") s.0 (subst (λ (t : List ℕ). Lacks 32 t) s.1 l)
@@ -137,22 +146,23 @@ lone_step_bad word steps.Force s l b f c w = f s
 lone_step_bad word steps.Checkpoint s l b f c w = c s
 lone_step_bad word steps.Switch s l b f c w = w s
 
--- a line of several words that asks for a step begins with one of ten
-pub step_word_said : (word rest : List ℕ) (step : Step) → SpellsStep (word ++ 32 ∷ rest) step → Lacks 32 word → word ≢ codes "commit" → word ≢ codes "rollback" → word ≢ codes "continue" → word ≢ codes "flush" → word ≢ codes "fetch" → word ≢ codes "seek" → word ≢ codes "next" → word ≢ codes "scan" → word ≢ codes "insert" → word ≢ codes "delete" → ⊥
-step_word_said word rest steps.Begin q l c r o u f s n a i d = (words_said word rest steps.Begin q l).1
-step_word_said word rest (steps.Fetch t key) q l c r o u f s n a i d = f (words_said word rest (steps.Fetch t key) q l).0
-step_word_said word rest (steps.Seek t key) q l c r o u f s n a i d = s (words_said word rest (steps.Seek t key) q l).0
-step_word_said word rest (steps.Next t key) q l c r o u f s n a i d = n (words_said word rest (steps.Next t key) q l).0
-step_word_said word rest (steps.Scan t lo hi limit) q l c r o u f s n a i d = a (words_said word rest (steps.Scan t lo hi limit) q l).0
-step_word_said word rest (steps.Insert t key rid) q l c r o u f s n a i d = i (words_said word rest (steps.Insert t key rid) q l).0
-step_word_said word rest (steps.Delete t key) q l c r o u f s n a i d = d (words_said word rest (steps.Delete t key) q l).0
-step_word_said word rest (steps.Commit t) q l c r o u f s n a i d = c (words_said word rest (steps.Commit t) q l).0
-step_word_said word rest (steps.Rollback t) q l c r o u f s n a i d = r (words_said word rest (steps.Rollback t) q l).0
-step_word_said word rest (steps.Continue t) q l c r o u f s n a i d = o (words_said word rest (steps.Continue t) q l).0
-step_word_said word rest (steps.FlushPage page) q l c r o u f s n a i d = u (words_said word rest (steps.FlushPage page) q l).0
-step_word_said word rest steps.Force q l c r o u f s n a i d = (words_said word rest steps.Force q l).1
-step_word_said word rest steps.Checkpoint q l c r o u f s n a i d = (words_said word rest steps.Checkpoint q l).1
-step_word_said word rest steps.Switch q l c r o u f s n a i d = (words_said word rest steps.Switch q l).1
+-- a line of several words that asks for a step begins with one of eleven
+pub step_word_said : (word rest : List ℕ) (step : Step) → SpellsStep (word ++ 32 ∷ rest) step → Lacks 32 word → word ≢ codes "commit" → word ≢ codes "rollback" → word ≢ codes "continue" → word ≢ codes "flush" → word ≢ codes "fetch" → word ≢ codes "seek" → word ≢ codes "next" → word ≢ codes "prev" → word ≢ codes "scan" → word ≢ codes "insert" → word ≢ codes "delete" → ⊥
+step_word_said word rest steps.Begin q l c r o u f s n p a i d = (words_said word rest steps.Begin q l).1
+step_word_said word rest (steps.Fetch t key) q l c r o u f s n p a i d = f (words_said word rest (steps.Fetch t key) q l).0
+step_word_said word rest (steps.Seek t key) q l c r o u f s n p a i d = s (words_said word rest (steps.Seek t key) q l).0
+step_word_said word rest (steps.Next t key) q l c r o u f s n p a i d = n (words_said word rest (steps.Next t key) q l).0
+step_word_said word rest (steps.Prev t key) q l c r o u f s n p a i d = p (words_said word rest (steps.Prev t key) q l).0
+step_word_said word rest (steps.Scan t lo hi limit) q l c r o u f s n p a i d = a (words_said word rest (steps.Scan t lo hi limit) q l).0
+step_word_said word rest (steps.Insert t key rid) q l c r o u f s n p a i d = i (words_said word rest (steps.Insert t key rid) q l).0
+step_word_said word rest (steps.Delete t key) q l c r o u f s n p a i d = d (words_said word rest (steps.Delete t key) q l).0
+step_word_said word rest (steps.Commit t) q l c r o u f s n p a i d = c (words_said word rest (steps.Commit t) q l).0
+step_word_said word rest (steps.Rollback t) q l c r o u f s n p a i d = r (words_said word rest (steps.Rollback t) q l).0
+step_word_said word rest (steps.Continue t) q l c r o u f s n p a i d = o (words_said word rest (steps.Continue t) q l).0
+step_word_said word rest (steps.FlushPage page) q l c r o u f s n p a i d = u (words_said word rest (steps.FlushPage page) q l).0
+step_word_said word rest steps.Force q l c r o u f s n p a i d = (words_said word rest steps.Force q l).1
+step_word_said word rest steps.Checkpoint q l c r o u f s n p a i d = (words_said word rest steps.Checkpoint q l).1
+step_word_said word rest steps.Switch q l c r o u f s n p a i d = (words_said word rest steps.Switch q l).1
 
 -- what stands behind the first word
 commit_rest : (rest : List ℕ) (step : Step) → codes "commit" ≡ word_of step → SpellsRest step rest → (n : ℕ) × IsNumber rest n
@@ -160,6 +170,7 @@ commit_rest rest steps.Begin w b = absurd b
 commit_rest rest (steps.Fetch t key) w b = let e = ap (λ (x : List ℕ). slice_index x 0) w in absurd (omega (arith, e))
 commit_rest rest (steps.Seek t key) w b = let e = ap (λ (x : List ℕ). slice_index x 0) w in absurd (omega (arith, e))
 commit_rest rest (steps.Next t key) w b = let e = ap (λ (x : List ℕ). slice_index x 0) w in absurd (omega (arith, e))
+commit_rest rest (steps.Prev t key) w b = let e = ap (λ (x : List ℕ). slice_index x 0) w in absurd (omega (arith, e))
 commit_rest rest (steps.Scan t lo hi limit) w b = let e = ap (λ (x : List ℕ). slice_index x 0) w in absurd (omega (arith, e))
 commit_rest rest (steps.Insert t key rid) w b = let e = ap (λ (x : List ℕ). slice_index x 0) w in absurd (omega (arith, e))
 commit_rest rest (steps.Delete t key) w b = let e = ap (λ (x : List ℕ). slice_index x 0) w in absurd (omega (arith, e))
@@ -179,6 +190,7 @@ rollback_rest rest steps.Begin w b = absurd b
 rollback_rest rest (steps.Fetch t key) w b = let e = ap (λ (x : List ℕ). slice_index x 0) w in absurd (omega (arith, e))
 rollback_rest rest (steps.Seek t key) w b = let e = ap (λ (x : List ℕ). slice_index x 0) w in absurd (omega (arith, e))
 rollback_rest rest (steps.Next t key) w b = let e = ap (λ (x : List ℕ). slice_index x 0) w in absurd (omega (arith, e))
+rollback_rest rest (steps.Prev t key) w b = let e = ap (λ (x : List ℕ). slice_index x 0) w in absurd (omega (arith, e))
 rollback_rest rest (steps.Scan t lo hi limit) w b = let e = ap (λ (x : List ℕ). slice_index x 0) w in absurd (omega (arith, e))
 rollback_rest rest (steps.Insert t key rid) w b = let e = ap (λ (x : List ℕ). slice_index x 0) w in absurd (omega (arith, e))
 rollback_rest rest (steps.Delete t key) w b = let e = ap (λ (x : List ℕ). slice_index x 0) w in absurd (omega (arith, e))
@@ -198,6 +210,7 @@ continue_rest rest steps.Begin w b = absurd b
 continue_rest rest (steps.Fetch t key) w b = let e = ap (λ (x : List ℕ). slice_index x 0) w in absurd (omega (arith, e))
 continue_rest rest (steps.Seek t key) w b = let e = ap (λ (x : List ℕ). slice_index x 0) w in absurd (omega (arith, e))
 continue_rest rest (steps.Next t key) w b = let e = ap (λ (x : List ℕ). slice_index x 0) w in absurd (omega (arith, e))
+continue_rest rest (steps.Prev t key) w b = let e = ap (λ (x : List ℕ). slice_index x 0) w in absurd (omega (arith, e))
 continue_rest rest (steps.Scan t lo hi limit) w b = let e = ap (λ (x : List ℕ). slice_index x 0) w in absurd (omega (arith, e))
 continue_rest rest (steps.Insert t key rid) w b = let e = ap (λ (x : List ℕ). slice_index x 0) w in absurd (omega (arith, e))
 continue_rest rest (steps.Delete t key) w b = let e = ap (λ (x : List ℕ). slice_index x 0) w in absurd (omega (arith, e))
@@ -217,6 +230,7 @@ flush_rest rest steps.Begin w b = absurd b
 flush_rest rest (steps.Fetch t key) w b = let e = ap (λ (x : List ℕ). slice_index x 1) w in absurd (omega (arith, e))
 flush_rest rest (steps.Seek t key) w b = let e = ap (λ (x : List ℕ). slice_index x 0) w in absurd (omega (arith, e))
 flush_rest rest (steps.Next t key) w b = let e = ap (λ (x : List ℕ). slice_index x 0) w in absurd (omega (arith, e))
+flush_rest rest (steps.Prev t key) w b = let e = ap (λ (x : List ℕ). slice_index x 0) w in absurd (omega (arith, e))
 flush_rest rest (steps.Scan t lo hi limit) w b = let e = ap (λ (x : List ℕ). slice_index x 0) w in absurd (omega (arith, e))
 flush_rest rest (steps.Insert t key rid) w b = let e = ap (λ (x : List ℕ). slice_index x 0) w in absurd (omega (arith, e))
 flush_rest rest (steps.Delete t key) w b = let e = ap (λ (x : List ℕ). slice_index x 0) w in absurd (omega (arith, e))
@@ -236,6 +250,7 @@ fetch_rest rest steps.Begin w b = absurd b
 fetch_rest rest (steps.Fetch t key) w b = (t, key.items, b)
 fetch_rest rest (steps.Seek t key) w b = let e = ap (λ (x : List ℕ). slice_index x 0) w in absurd (omega (arith, e))
 fetch_rest rest (steps.Next t key) w b = let e = ap (λ (x : List ℕ). slice_index x 0) w in absurd (omega (arith, e))
+fetch_rest rest (steps.Prev t key) w b = let e = ap (λ (x : List ℕ). slice_index x 0) w in absurd (omega (arith, e))
 fetch_rest rest (steps.Scan t lo hi limit) w b = let e = ap (λ (x : List ℕ). slice_index x 0) w in absurd (omega (arith, e))
 fetch_rest rest (steps.Insert t key rid) w b = let e = ap (λ (x : List ℕ). slice_index x 0) w in absurd (omega (arith, e))
 fetch_rest rest (steps.Delete t key) w b = let e = ap (λ (x : List ℕ). slice_index x 0) w in absurd (omega (arith, e))
@@ -255,6 +270,7 @@ seek_rest rest steps.Begin w b = absurd b
 seek_rest rest (steps.Fetch t key) w b = let e = ap (λ (x : List ℕ). slice_index x 0) w in absurd (omega (arith, e))
 seek_rest rest (steps.Seek t key) w b = (t, key.items, b)
 seek_rest rest (steps.Next t key) w b = let e = ap (λ (x : List ℕ). slice_index x 0) w in absurd (omega (arith, e))
+seek_rest rest (steps.Prev t key) w b = let e = ap (λ (x : List ℕ). slice_index x 0) w in absurd (omega (arith, e))
 seek_rest rest (steps.Scan t lo hi limit) w b = let e = ap (λ (x : List ℕ). slice_index x 1) w in absurd (omega (arith, e))
 seek_rest rest (steps.Insert t key rid) w b = let e = ap (λ (x : List ℕ). slice_index x 0) w in absurd (omega (arith, e))
 seek_rest rest (steps.Delete t key) w b = let e = ap (λ (x : List ℕ). slice_index x 0) w in absurd (omega (arith, e))
@@ -274,6 +290,7 @@ next_rest rest steps.Begin w b = absurd b
 next_rest rest (steps.Fetch t key) w b = let e = ap (λ (x : List ℕ). slice_index x 0) w in absurd (omega (arith, e))
 next_rest rest (steps.Seek t key) w b = let e = ap (λ (x : List ℕ). slice_index x 0) w in absurd (omega (arith, e))
 next_rest rest (steps.Next t key) w b = (t, key.items, b)
+next_rest rest (steps.Prev t key) w b = let e = ap (λ (x : List ℕ). slice_index x 0) w in absurd (omega (arith, e))
 next_rest rest (steps.Scan t lo hi limit) w b = let e = ap (λ (x : List ℕ). slice_index x 0) w in absurd (omega (arith, e))
 next_rest rest (steps.Insert t key rid) w b = let e = ap (λ (x : List ℕ). slice_index x 0) w in absurd (omega (arith, e))
 next_rest rest (steps.Delete t key) w b = let e = ap (λ (x : List ℕ). slice_index x 0) w in absurd (omega (arith, e))
@@ -288,11 +305,32 @@ next_rest rest steps.Switch w b = absurd b
 pub next_said : (rest : List ℕ) (step : Step) → SpellsStep (codes "next " ++ rest) step → (t : ℕ) × (key : List ℕ) × IsKeyed rest t key
 next_said rest step s = let e = words_said (codes "next") rest step s next_lacks in next_rest rest step e.0 e.1
 
+prev_rest : (rest : List ℕ) (step : Step) → codes "prev" ≡ word_of step → SpellsRest step rest → (t : ℕ) × (key : List ℕ) × IsKeyed rest t key
+prev_rest rest steps.Begin w b = absurd b
+prev_rest rest (steps.Fetch t key) w b = let e = ap (λ (x : List ℕ). slice_index x 0) w in absurd (omega (arith, e))
+prev_rest rest (steps.Seek t key) w b = let e = ap (λ (x : List ℕ). slice_index x 0) w in absurd (omega (arith, e))
+prev_rest rest (steps.Next t key) w b = let e = ap (λ (x : List ℕ). slice_index x 0) w in absurd (omega (arith, e))
+prev_rest rest (steps.Prev t key) w b = (t, key.items, b)
+prev_rest rest (steps.Scan t lo hi limit) w b = let e = ap (λ (x : List ℕ). slice_index x 0) w in absurd (omega (arith, e))
+prev_rest rest (steps.Insert t key rid) w b = let e = ap (λ (x : List ℕ). slice_index x 0) w in absurd (omega (arith, e))
+prev_rest rest (steps.Delete t key) w b = let e = ap (λ (x : List ℕ). slice_index x 0) w in absurd (omega (arith, e))
+prev_rest rest (steps.Commit t) w b = let e = ap (λ (x : List ℕ). slice_index x 0) w in absurd (omega (arith, e))
+prev_rest rest (steps.Rollback t) w b = let e = ap (λ (x : List ℕ). slice_index x 0) w in absurd (omega (arith, e))
+prev_rest rest (steps.Continue t) w b = let e = ap (λ (x : List ℕ). slice_index x 0) w in absurd (omega (arith, e))
+prev_rest rest (steps.FlushPage page) w b = let e = ap (λ (x : List ℕ). slice_index x 0) w in absurd (omega (arith, e))
+prev_rest rest steps.Force w b = absurd b
+prev_rest rest steps.Checkpoint w b = absurd b
+prev_rest rest steps.Switch w b = absurd b
+
+pub prev_said : (rest : List ℕ) (step : Step) → SpellsStep (codes "prev " ++ rest) step → (t : ℕ) × (key : List ℕ) × IsKeyed rest t key
+prev_said rest step s = let e = words_said (codes "prev") rest step s prev_lacks in prev_rest rest step e.0 e.1
+
 scan_rest : (rest : List ℕ) (step : Step) → codes "scan" ≡ word_of step → SpellsRest step rest → (t : ℕ) × (lo : List ℕ) × (hi : List ℕ) × (limit : ℕ) × IsRanged rest t lo hi limit
 scan_rest rest steps.Begin w b = absurd b
 scan_rest rest (steps.Fetch t key) w b = let e = ap (λ (x : List ℕ). slice_index x 0) w in absurd (omega (arith, e))
 scan_rest rest (steps.Seek t key) w b = let e = ap (λ (x : List ℕ). slice_index x 1) w in absurd (omega (arith, e))
 scan_rest rest (steps.Next t key) w b = let e = ap (λ (x : List ℕ). slice_index x 0) w in absurd (omega (arith, e))
+scan_rest rest (steps.Prev t key) w b = let e = ap (λ (x : List ℕ). slice_index x 0) w in absurd (omega (arith, e))
 scan_rest rest (steps.Scan t lo hi limit) w b = (t, lo.items, hi.items, limit, b)
 scan_rest rest (steps.Insert t key rid) w b = let e = ap (λ (x : List ℕ). slice_index x 0) w in absurd (omega (arith, e))
 scan_rest rest (steps.Delete t key) w b = let e = ap (λ (x : List ℕ). slice_index x 0) w in absurd (omega (arith, e))
@@ -312,6 +350,7 @@ insert_rest rest steps.Begin w b = absurd b
 insert_rest rest (steps.Fetch t key) w b = let e = ap (λ (x : List ℕ). slice_index x 0) w in absurd (omega (arith, e))
 insert_rest rest (steps.Seek t key) w b = let e = ap (λ (x : List ℕ). slice_index x 0) w in absurd (omega (arith, e))
 insert_rest rest (steps.Next t key) w b = let e = ap (λ (x : List ℕ). slice_index x 0) w in absurd (omega (arith, e))
+insert_rest rest (steps.Prev t key) w b = let e = ap (λ (x : List ℕ). slice_index x 0) w in absurd (omega (arith, e))
 insert_rest rest (steps.Scan t lo hi limit) w b = let e = ap (λ (x : List ℕ). slice_index x 0) w in absurd (omega (arith, e))
 insert_rest rest (steps.Insert t key rid) w b = (t, key.items, rid, b)
 insert_rest rest (steps.Delete t key) w b = let e = ap (λ (x : List ℕ). slice_index x 0) w in absurd (omega (arith, e))
@@ -331,6 +370,7 @@ delete_rest rest steps.Begin w b = absurd b
 delete_rest rest (steps.Fetch t key) w b = let e = ap (λ (x : List ℕ). slice_index x 0) w in absurd (omega (arith, e))
 delete_rest rest (steps.Seek t key) w b = let e = ap (λ (x : List ℕ). slice_index x 0) w in absurd (omega (arith, e))
 delete_rest rest (steps.Next t key) w b = let e = ap (λ (x : List ℕ). slice_index x 0) w in absurd (omega (arith, e))
+delete_rest rest (steps.Prev t key) w b = let e = ap (λ (x : List ℕ). slice_index x 0) w in absurd (omega (arith, e))
 delete_rest rest (steps.Scan t lo hi limit) w b = let e = ap (λ (x : List ℕ). slice_index x 0) w in absurd (omega (arith, e))
 delete_rest rest (steps.Insert t key rid) w b = let e = ap (λ (x : List ℕ). slice_index x 0) w in absurd (omega (arith, e))
 delete_rest rest (steps.Delete t key) w b = (t, key.items, b)

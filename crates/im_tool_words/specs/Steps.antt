@@ -85,6 +85,7 @@ SpellsStep text steps.Begin = text ≡ codes "begin"
 SpellsStep text (steps.Fetch t key) = (rest : List ℕ) × (text ≡ codes "fetch " ++ rest) × IsKeyed rest t key.items
 SpellsStep text (steps.Seek t key) = (rest : List ℕ) × (text ≡ codes "seek " ++ rest) × IsKeyed rest t key.items
 SpellsStep text (steps.Next t key) = (rest : List ℕ) × (text ≡ codes "next " ++ rest) × IsKeyed rest t key.items
+SpellsStep text (steps.Prev t key) = (rest : List ℕ) × (text ≡ codes "prev " ++ rest) × IsKeyed rest t key.items
 SpellsStep text (steps.Scan t lo hi limit) = (rest : List ℕ) × (text ≡ codes "scan " ++ rest) × IsRanged rest t lo.items hi.items limit
 SpellsStep text (steps.Insert t key rid) = (rest : List ℕ) × (text ≡ codes "insert " ++ rest) × IsKeyedWith rest t key.items rid
 SpellsStep text (steps.Delete t key) = (rest : List ℕ) × (text ≡ codes "delete " ++ rest) × IsKeyed rest t key.items

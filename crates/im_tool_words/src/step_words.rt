@@ -57,6 +57,9 @@ fn access_line(alloc: Global, word: &[u8], rest: &[u8]) -> Result<Step, Fault>
     if word == b"next".as_slice() {
         return next_line(alloc, rest);
     }
+    if word == b"prev".as_slice() {
+        return prev_line(alloc, rest);
+    }
     if word == b"scan".as_slice() {
         return scan_line(alloc, rest);
     }
@@ -160,6 +163,16 @@ fn next_line(alloc: Global, rest: &[u8]) -> Result<Step, Fault>
 {
     let (number, key) = keyed(alloc, rest)?;
     Ok(Step::Next(number, key))
+}
+
+#[tactic(auto, using(crate::proofs::StepSpelled::prev_said))]
+fn prev_line(alloc: Global, rest: &[u8]) -> Result<Step, Fault>
+    ensures says { IfOk result (λ step. SpellsStep (codes "prev " ++ rest.now) step) }
+    ensures refused { result ≡ Err BadScript → (step : Step) → ¬ (SpellsStep (codes "prev " ++ rest.now) step) }
+    ensures causes { IfErr result (λ e. (e ≡ Memory) ⊎ (e ≡ BadScript)) }
+{
+    let (number, key) = keyed(alloc, rest)?;
+    Ok(Step::Prev(number, key))
 }
 
 #[tactic(auto, using(crate::proofs::StepSpelled::scan_said))]

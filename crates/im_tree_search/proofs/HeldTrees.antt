@@ -13,6 +13,8 @@ use Rattle.im_page_pool.specs.Pool.{PoolView, page_at, Holds}
 use Rattle.im_page_writer.specs.Outcome.{AllPages}
 use Rattle.im_theory_tree.specs.Levels.{Pages, Node, children, child_of, below, leaves_under, pages_under, the_root, height, page_numbers}
 use Rattle.im_theory_tree.specs.Good.{AllOf, IsLeafPage, HaveLevels, AreChained, AreFree, first_page, free_from, times, IsGoodTree}
+use Rattle.im_theory_tree.specs.Lookups.{last_page}
+use Rattle.im_theory_tree.proofs.BehindLemmas.{split_last, page_last, chained_last}
 use Rattle.im_theory_tree.proofs.Counting.{below_count}
 use Rattle.im_theory_tree.proofs.Descent.{times-here}
 use Rattle.im_theory_tree.proofs.Keeps.{times-append}
@@ -20,7 +22,7 @@ use Rattle.im_theory_tree.proofs.LeafByKey.{leaf_in_leaves, listed}
 use Rattle.im_theory_tree.proofs.LeafSplit.{chained_right}
 use Rattle.im_theory_tree.proofs.LookupLemmas.{leaf_in_tree, way_known}
 use Rattle.im_theory_tree.proofs.Way.{way_begins}
-use Rattle.im_tree_search.specs.HeldPages.{HoldsWay, HoldsOn}
+use Rattle.im_tree_search.specs.HeldPages.{HoldsWay, HoldsOn, HoldsBack}
 use Rattle.im_tree_search.specs.Levels.{bodies_of}
 
 -- a page of another kind is another page
@@ -122,6 +124,23 @@ next_known pages p good leaf known some =
     let leaves : leaves_under pages (height pages) the_root ≡ (x.left ++ x.node ∷ []) ++ x.right = x.are ∙ sym (append_assoc x.left (x.node ∷ []) x.right) in
     subst (λ (n : ℕ). n < (pages 0).leftmost) (sym next) (first_known pages (x.left ++ x.node ∷ []) x.right good leaves (subst (λ (n : ℕ). 1 ≤ n) next some))
 
+-- or before it
+last_known : (pages : Pages) (before after : List Node) → IsGoodTree pages [] → leaves_under pages (height pages) the_root ≡ before ++ after → 1 ≤ last_page 0 before → last_page 0 before < (pages 0).leftmost
+last_known pages before after good leaves some = by (split_last before)
+  where
+    by : (before ≡ []) ⊎ ((b : List Node) × (n : Node) × (before ≡ b ++ n ∷ [])) → last_page 0 before < (pages 0).leftmost
+    by (inl none) = absurd (let zero_is : last_page 0 before ≡ 0 = ap (last_page 0) none in omega (arith, zero_is, some))
+    by (inr (b, n, is)) =
+        let last : last_page 0 before ≡ n.page = ap (last_page 0) is ∙ page_last 0 b n in
+        let whole : leaves_under pages (height pages) the_root ≡ b ++ n ∷ after = leaves ∙ ap (λ (ns : List Node). ns ++ after) is ∙ append_assoc b (n ∷ []) after in
+        subst (λ (q : ℕ). q < (pages 0).leftmost) (sym last) (leaf_in_tree pages [] b n after good whole).1
+
+prev_known : (pages : Pages) (p : ℕ) → IsGoodTree pages [] → (pages p).kind ≡ Leaf → p < (pages 0).leftmost → 1 ≤ (pages p).prev → (pages p).prev < (pages 0).leftmost
+prev_known pages p good leaf known some =
+    let x = listed (leaves_under pages (height pages) the_root) p (leaf_in_leaves pages p good leaf known) in
+    let prev : (pages p).prev ≡ last_page 0 x.left = sym (ap (λ (q : ℕ). (pages q).prev) x.page) ∙ chained_last pages 0 x.left x.node x.right (subst (AreChained pages 0) x.are good.chained) in
+    subst (λ (n : ℕ). n < (pages 0).leftmost) (sym prev) (last_known pages x.left (x.node ∷ x.right) good x.are (subst (λ (n : ℕ). 1 ≤ n) prev some))
+
 module _ (pages : AllPages) (key : Key) (pool : PoolView) (good : IsGoodTree (bodies_of pages) []) (all : (p : ℕ) → p < (pages 0).body.leftmost → Holds pool p × ((page_at pool p).body ≡ (pages p).body)) where
   abbrev known : ℕ → Bool
   known p = nat_lt p (pages 0).body.leftmost
@@ -149,4 +168,14 @@ module _ (pages : AllPages) (key : Key) (pool : PoolView) (good : IsGoodTree (bo
         let says = (all p (is_known p is)).1 in
         known_if (page_at pool p).body.next
         (subst (λ (b : Body). b.next < (pages 0).body.leftmost) (sym says) (next_known (bodies_of pages) p good (subst (λ (b : Body). b.kind ≡ Leaf) says leaf) (is_known p is) (subst (λ (b : Body). 1 ≤ b.next) says some)));
+  }
+
+  pub tree_held_back : HoldsBack key pool (λ p. nat_lt p (pages 0).body.leftmost)
+  tree_held_back = record {
+    way = tree_held.way;
+    meta = tree_held.meta;
+    prev = λ p is leaf some.
+        let says = (all p (is_known p is)).1 in
+        known_if (page_at pool p).body.prev
+        (subst (λ (b : Body). b.prev < (pages 0).body.leftmost) (sym says) (prev_known (bodies_of pages) p good (subst (λ (b : Body). b.kind ≡ Leaf) says leaf) (is_known p is) (subst (λ (b : Body). 1 ≤ b.prev) says some)));
   }

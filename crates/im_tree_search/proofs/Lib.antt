@@ -10,3 +10,4 @@ pub mod Quiet
 pub mod HeldTrees
 pub mod GoingOn
 pub mod Sighted
+pub mod GoingBack

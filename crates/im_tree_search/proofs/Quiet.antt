@@ -9,7 +9,7 @@ use Rattle.im_theory_page.specs.Child.{IsChild}
 use Rattle.im_theory_page.specs.Header.{initial}
 use Rattle.im_page_pool.specs.Pool.{Held, PoolView, page_at, MovesFirst}
 use Rattle.im_page_writer.specs.declared.page_writer.PageWriter.{PageWriter}
-use Rattle.im_tree_search.specs.HeldPages.{HoldsWay, HoldsOn, IsQuiet}
+use Rattle.im_tree_search.specs.HeldPages.{HoldsWay, HoldsOn, HoldsBack, IsQuiet}
 use Rattle.im_tree_search.specs.Levels.{HasLevel}
 use Rattle.im_tree_search.proofs.Steps.{inner_kind}
 
@@ -48,6 +48,15 @@ on_still {D} {v} {old} {w} {new} key set on quiet = record {
       subst (λ (x : Page). set x.body.next ≡ true) (sym same) (on.next p in_set (subst (λ (x : Page). x.body.kind ≡ Leaf) same kind) (subst (λ (x : Page). 1 ≤ x.body.next) same some));
 }
 
+pub back_still : {D : Type 0} {v : PageWriter} {old : D} {w : PageWriter} {new : D} (key : Key) (set : ℕ → Bool) → HoldsBack key v.pool set → IsQuiet v old w new → HoldsBack key w.pool set
+back_still {D} {v} {old} {w} {new} key set back quiet = record {
+  way = way_still key set back.way quiet;
+  meta = back.meta;
+  prev = λ p in_set kind some.
+      let same : page_at w.pool p ≡ page_at v.pool p = page_still quiet p in
+      subst (λ (x : Page). set x.body.prev ≡ true) (sym same) (back.prev p in_set (subst (λ (x : Page). x.body.kind ≡ Leaf) same kind) (subst (λ (x : Page). 1 ≤ x.body.prev) same some));
+}
+
 -- a page above the leaves is an inner one
 pub level_inner : (h : ℕ) (b : Body) → 1 ≤ h → HasLevel h b → b.kind ≡ Inner
 level_inner zero b some level = absurd (omega (arith, some))
@@ -62,3 +71,9 @@ pub next_in_set : (key : Key) (set : ℕ → Bool) (pool : PoolView) (p n : ℕ)
 next_in_set key set pool p n lent on in_set level same is some =
     let to : n ≡ (page_at pool p).body.next = is ∙ ap (λ (x : Page). x.body.next) same in
     subst (λ (m : ℕ). set m ≡ true) (sym to) (on.next p in_set level.kind (subst (λ (m : ℕ). 1 ≤ m) to some))
+
+-- or before it
+pub prev_in_set : (key : Key) (set : ℕ → Bool) (pool : PoolView) (p n : ℕ) (lent : Page) → HoldsBack key pool set → set p ≡ true → HasLevel 0 (page_at pool p).body → lent ≡ page_at pool p → n ≡ lent.body.prev → 1 ≤ n → set n ≡ true
+prev_in_set key set pool p n lent back in_set level same is some =
+    let to : n ≡ (page_at pool p).body.prev = is ∙ ap (λ (x : Page). x.body.prev) same in
+    subst (λ (m : ℕ). set m ≡ true) (sym to) (back.prev p in_set level.kind (subst (λ (m : ℕ). 1 ≤ m) to some))

@@ -89,7 +89,7 @@ parted_gap false es key i gap = parted_gap_of (Above key) es i gap
 
 -- ---- the entries of a range in one list
 
-parted_rest : (s : Start) (e : Entry) (es : List Entry) (i : ℕ) → IsParted s (e ∷ es) (suc i) → IsParted s es i
+pub parted_rest : (s : Start) (e : Entry) (es : List Entry) (i : ℕ) → IsParted s (e ∷ es) (suc i) → IsParted s es i
 parted_rest s e es i h = record { inside = omega (arith, h.inside); low = λ j lt. h.low (suc j) (omega arith); high = λ j le lt. h.high (suc j) (omega arith) (omega arith) }
 
 parted_tail : (s : Start) (e : Entry) (es : List Entry) → IsParted s (e ∷ es) zero → IsParted s es zero

@@ -18,6 +18,12 @@ pub record HoldsOn (key : Key) (pool : PoolView) (set : ℕ → Bool) : Type 0 w
   pub meta : set 0 ≡ true
   pub next : (p : ℕ) → set p ≡ true → (page_at pool p).body.kind ≡ Leaf → 1 ≤ (page_at pool p).body.next → set (page_at pool p).body.next ≡ true
 
+-- It has page 0 too and, with a leaf, the one before it.
+pub record HoldsBack (key : Key) (pool : PoolView) (set : ℕ → Bool) : Type 0 where
+  pub way : HoldsWay key pool set
+  pub meta : set 0 ≡ true
+  pub prev : (p : ℕ) → set p ≡ true → (page_at pool p).body.kind ≡ Leaf → 1 ≤ (page_at pool p).body.prev → set (page_at pool p).body.prev ≡ true
+
 -- Nothing was asked of the disk, and the same pages are held, each as it was.
 pub record IsQuiet {D : Type 0} (v : PageWriter) (old : D) (w : PageWriter) (new : D) : Type 0 where
   pub disk : new ≡ old

@@ -7,3 +7,4 @@ pub mod HeldPages
 pub mod Beside
 pub mod Sights
 pub mod RangesBeside
+pub mod Backward

@@ -6,6 +6,8 @@
 //! - `locate` answers the row id of a key.
 //! - `next_entry` answers where the first entry at or above a key stands, or the first above it: it goes down to the key's
 //!   leaf, and from there along the leaf chain past leaves that have no such entry.
+//! - `prev_entry` answers where the last entry below a key stands: down to the key's leaf, and from there back along the leaf chain.
+//!   `place_around` answers it and the first at or above the key of a page that has both.
 //! - `leaf_and_next` answers the leaf of a key, and the key after it; `next_in_leaf` answers that key beside a leaf that the caller holds.
 //! - `entries` answers copies of all entries, along the leaf chain.
 //! - `entries_between` answers copies of the entries of a range, at most so many, and the key after them.
@@ -15,7 +17,8 @@
 //!
 //! Beside a structure change that is made page by page (`Beside`) a search goes on over the pages that are not made yet, and answers as over
 //! the tree from before the change; where it would have to read a page that is made, it answers `Hidden` (`leaf_beside`, `locate_beside`,
-//! `next_entry_beside`, `next_in_leaf_beside`, `leaf_and_next_beside`, `entries_between_beside`). The others are these beside nothing.
+//! `next_entry_beside`, `prev_entry_beside`, `next_in_leaf_beside`, `leaf_and_next_beside`, `entries_between_beside`). The others are these
+//! beside nothing.
 //!
 //! The contract: where the pages are a good tree, all with their copies loaded (`HasTree`), the answers are those of the
 //! walk, the entries of the leaves from left to right; the number of gets is the root's level plus one; and no search is
@@ -36,27 +39,30 @@
 //! calls that change no page.
 #![tactic(auto)]
 
+mod chain_back;
 mod change_beside;
 mod change_pages;
 mod child_place;
 mod descent;
 mod entry_place;
-pub mod laws;
 mod leaf_chain;
+mod level_and_child;
 mod levels;
 mod listing;
 mod lookup;
 mod next_key;
 mod range;
-mod reading;
+pub mod search_laws;
 mod sight;
 mod sights;
 
+pub use chain_back::{place_around, prev_entry, prev_entry_beside};
 pub use change_beside::Beside;
 pub use child_place::{Child, ChildPlace};
 pub use descent::{leaf_beside, leaf_for, root};
 pub use entry_place::EntryPlace;
 pub use leaf_chain::{next_entry, next_entry_beside};
+pub use level_and_child::{child_in, child_of, level_of};
 pub use levels::{has_level, tree_page};
 pub use listing::entries;
 pub use lookup::{locate, locate_beside, value_of};
@@ -64,5 +70,4 @@ pub use next_key::{
     NextKey, leaf_and_next, leaf_and_next_beside, next_in_leaf, next_in_leaf_beside,
 };
 pub use range::{entries_between, entries_between_beside};
-pub use reading::{child_in, child_of, level_of};
 pub use sight::Sight;

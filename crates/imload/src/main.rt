@@ -8,7 +8,7 @@ mod store;
 use crate::progress::Progress;
 use crate::store::new_store;
 use clap::error::ErrorKind;
-use im_base_steps::Turn;
+use im_base_types::WorkerStart;
 use im_front::LoadArgs;
 use im_front_load::{load_args, load_text, print_refused};
 use std::alloc::{AllocError, Global};
@@ -42,15 +42,15 @@ fn main(rt: HostRuntime) -> io::Result<ExitCode> {
 }
 
 // Runs the load and prints what came of it, and answers the exit status.
-fn run_load<T: Turn + Sync, R: Threads + Wait + Sync, W: Write>(
+fn run_load<T: WorkerStart + Sync, R: Threads + Wait + Sync, W: Write>(
     rt: &R,
     alloc: Global,
     args: LoadArgs,
-    turn: &T,
+    at_start: &T,
     writer: &mut W,
 ) -> io::Result<u8> {
     match new_store(rt, alloc, args.group()) {
-        Ok(engine) => load_text(rt, alloc, engine, args, turn, writer),
+        Ok(engine) => load_text(rt, alloc, engine, args, at_start, writer),
         Err(fault) => print_refused(fault, writer),
     }
 }

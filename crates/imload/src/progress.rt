@@ -1,6 +1,6 @@
 //! What a user who looks on is told while a load runs.
 
-use im_base_steps::Turn;
+use im_base_types::WorkerStart;
 use std::io::IsTerminal;
 
 /// Says on standard error which of the threads have begun, where that is a terminal.
@@ -17,8 +17,8 @@ impl<'a> Progress<'a> {
     }
 }
 
-impl Turn for Progress<'_> {
-    fn turn(&self, worker: u64) {
+impl WorkerStart for Progress<'_> {
+    fn worker_starts(&self, worker: u64) {
         let rt = self.rt;
         if rt.stderr().is_terminal() {
             let _ = eprintln!(rt;

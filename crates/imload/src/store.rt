@@ -4,10 +4,10 @@ ghost use Rattle.std.specs.Prelude.{◌≡◌, IfOk};
 ghost use Rattle.im_front.specs.Held.{IsResting};
 
 use im_base_model_disk::ModelDisk;
-use im_base_steps::Store;
 use im_base_two_logs::Renamed;
 use im_base_types::Fault;
 use im_engine::{Config, Engine, every_list_of_lives};
+use im_theory_store::Store;
 use std::alloc::Global;
 use std::thread::Threads;
 

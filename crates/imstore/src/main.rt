@@ -2,6 +2,7 @@
 #![tactic(auto)]
 
 use im_tool::store_program;
+use std::io::ErrorKind;
 use std::process::ExitCode;
 use std::thread::Threads;
 use std::{env, io};
@@ -9,6 +10,8 @@ use std::{env, io};
 fn main(rt: HostRuntime) -> ExitCode {
     match run(&rt, &rt) {
         Ok(status) => ExitCode::from(status),
+        // who reads what it prints has gone, as `head` does, and wants no more
+        Err(error) if error.kind() == ErrorKind::BrokenPipe => ExitCode::from(1),
         Err(error) => {
             let _ = eprintln!(rt; "imstore: what it reads or prints, or its memory: {error}");
             ExitCode::from(1)

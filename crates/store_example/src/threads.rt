@@ -5,13 +5,14 @@
 //! end of its transaction, and the keeper takes it to write for one Switch: that waits for the transactions that are under way, and those that come wait for it.
 
 use im_base_file_disk::FileDisk;
-use im_base_steps::{Reply, Step, Store};
+use im_base_steps::{Reply, Step};
 use im_base_two_logs::Renamed;
 use im_base_types::{Fault, TxnId};
 use im_engine::{Config, Engine};
 use im_engine_upkeep::{Bounds, Upkeep};
 use im_front::{Left, Open, Stats};
 use im_open::open;
+use im_theory_store::Store;
 use std::alloc::Global;
 use std::sync::{RwLock, Wait};
 use std::thread::{Threads, map_vec};

@@ -1,6 +1,6 @@
 //! Openings of damaged files, and what they come to.
 
-use crate::opening::opened;
+use crate::opened::opened;
 use im_base_steps::Step;
 use im_base_two_logs::Renamed;
 use im_base_types::{Fault, FileId, Key, PAGE_SIZE, Rid};

@@ -2,7 +2,7 @@
 
 use im_base_disk::Disk;
 use im_base_types::Fault;
-use im_bench_layers::kinds::Kinds;
+use im_bench_layers::page_kinds::Kinds;
 use im_bench_layers::spans::right_among;
 use im_engine::Engine;
 use std::alloc::Global;

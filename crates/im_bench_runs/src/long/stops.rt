@@ -8,12 +8,12 @@ ghost use Rattle.std.specs.Prelude.{◌≡◌, false, IfOk};
 ghost use Rattle.im_base_disk.specs.Runs.{IsSynced};
 
 use crate::long::looks::{listed, pages_by_kind};
-use crate::opening::opened;
+use crate::opened::opened;
 use im_base_disk::Disk;
 use im_base_model_disk::{Fill, Length, ModelDisk, Stop};
 use im_base_two_logs::Renamed;
 use im_base_types::Fault;
-use im_bench_layers::kinds::Kinds;
+use im_bench_layers::page_kinds::Kinds;
 use im_bench_layers::spans::{Order, Span, Work, committed, lose};
 use im_bench_layers::tally::Tally;
 use im_engine::{BufferSize, Config, Engine};

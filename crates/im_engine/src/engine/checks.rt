@@ -2,7 +2,7 @@
 
 ghost use Rattle.std.specs.Prelude.{◌≡◌, not, ◌&&◌, None};
 ghost use Rattle.im_base_types.specs.Refusals.{key_length};
-ghost use Rattle.im_base_lock.specs.Machine.{barred_to, barred_to_rollback, barred_to_continue, fits, or_else, fault_if};
+ghost use Rattle.im_theory_machine.specs.Machine.{barred_to, barred_to_rollback, barred_to_continue, fits, or_else, fault_if};
 ghost use Rattle.im_theory_steps.specs.Checks.{mark_at};
 ghost use Rattle.im_engine.specs.Kept.{numbered};
 

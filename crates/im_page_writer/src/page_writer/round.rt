@@ -11,8 +11,7 @@ ghost use Rattle.im_theory_log.specs.WriterSteps.{synced};
 
 use crate::PageWriter;
 use im_base_disk::Disk;
-use im_base_steps::Turn;
-use im_base_types::{Fault, Lsn, MOST_DIRTY, PageNo};
+use im_base_types::{Fault, Lsn, MOST_DIRTY, PageNo, WorkerStart};
 use im_page_rounds::{RoundPage, Worker, redo_records};
 use std::collections::BTreeMap;
 use std::thread::Threads;
@@ -314,10 +313,10 @@ impl PageWriter {
     }
 
     // Redoes the records of a round, whose pages are all held. No call of the disk comes between the loan of the pages and their return.
-    fn redo_lent<R: Threads + Sync, T: Turn + Sync>(
+    fn redo_lent<R: Threads + Sync, T: WorkerStart + Sync>(
         &mut self,
         rt: &R,
-        turn: &T,
+        at_start: &T,
         point: Lsn,
         copies: &BTreeMap<PageNo, Lsn>,
         numbers: &[PageNo],
@@ -341,7 +340,7 @@ impl PageWriter {
         ensures causes { IfErr result (λ e. (e ≡ Memory) ⊎ (e ≡ NotAStore)) }
     {
         self.lend_all(numbers, workers)?;
-        let applied = redo_records(rt, turn, numbers, workers, lsns, from, span);
+        let applied = redo_records(rt, at_start, numbers, workers, lsns, from, span);
         self.take_all_back(point, copies, numbers, workers)?;
         applied
     }
@@ -354,10 +353,10 @@ impl PageWriter {
     ///
     /// Refused `NotAStore` where a page does not take a record, and `Memory` also where a page is not held or has no room for its entry, which
     /// no sound file brings about; otherwise as `get` is.
-    pub fn redo_round<D: Disk, R: Threads + Sync, T: Turn + Sync>(
+    pub fn redo_round<D: Disk, R: Threads + Sync, T: WorkerStart + Sync>(
         &mut self,
         rt: &R,
-        turn: &T,
+        at_start: &T,
         disk: &mut D,
         point: Lsn,
         copies: &BTreeMap<PageNo, Lsn>,
@@ -380,6 +379,8 @@ impl PageWriter {
     {
         self.make_entries_room(disk, numbers.len())?;
         self.get_all(disk, numbers)?;
-        self.redo_lent(rt, turn, point, copies, numbers, workers, lsns, from, span)
+        self.redo_lent(
+            rt, at_start, point, copies, numbers, workers, lsns, from, span,
+        )
     }
 }

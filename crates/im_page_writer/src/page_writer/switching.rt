@@ -18,10 +18,10 @@ impl PageWriter {
     ghost use Rattle.im_log.specs.LogFile.{HasNoRoom};
     ghost use Rattle.im_log_gate.specs.Gate.{generation_at};
     ghost use Rattle.im_page_writer.specs.PageWriter.{IsReadyWriter, StandsAs};
-    ghost use Rattle.im_page_writer.specs.Switching.{MayNotGoOn, RefusesSwitch, SwitchKept};
+    ghost use Rattle.im_page_writer.specs.Switching.{MayNotSwitch, RefusesSwitch, SwitchKept};
 
     // The log goes on in the other file, where nothing waits and nothing of any page is left to be written or synced.
-    fn turn<D: TwoLogs>(&mut self, disk: &mut D, next: TxnId) -> Result<(), Fault>
+    fn switch_log<D: TwoLogs>(&mut self, disk: &mut D, next: TxnId) -> Result<(), Fault>
         requires numbered { 1 ≤ next }
         requires ready { IsReadyWriter D.Disk self.old disk.old }
         requires working { self.old.failed ≡ false }
@@ -39,7 +39,7 @@ impl PageWriter {
         ensures few { CostsAtMost D.Disk 3 3 disk.old disk.new }
     {
         self.failed = true;
-        self.log.go_on(disk, next)?;
+        self.log.switch_log(disk, next)?;
         self.known.forget();
         self.failed = false;
         Ok(())
@@ -57,12 +57,12 @@ impl PageWriter {
         requires ready { IsReadyWriter D.Disk self.old disk.old }
         ensures ready { IsReadyWriter D.Disk self.new disk.new }
         ensures kept { (b : Base) (base : ℕ) (s : Writer) (e : ℕ) → StandsAs D.Disk b base s self.old disk.old → s.redo_end ≡ Some e → SwitchKept D.Disk b base s next disk.old self.new disk.new result }
-        ensures early { (e : Fault) → self.old.failed ≡ false → MayNotGoOn self.old.log e → (result ≡ Err e) × (self.new ≡ self.old) × (disk.new ≡ disk.old) }
+        ensures early { (e : Fault) → self.old.failed ≡ false → MayNotSwitch self.old.log e → (result ≡ Err e) × (self.new ≡ self.old) × (disk.new ≡ disk.old) }
         ensures causes { IfErr result (RefusesSwitch D.Disk self.old.failed self.new.log disk.new) }
         ensures full { result ≡ Err LogFull → HasNoRoom self.new.log }
-        ensures last { result ≡ Err Capacity → MayNotGoOn self.old.log Capacity }
+        ensures last { result ≡ Err Capacity → MayNotSwitch self.old.log Capacity }
         ensures device { self.old.failed ≡ false → result ≡ Err Device ↔ (D.failed disk.new ≡ true) }
-        ensures fails { IfErr result (λ e. MayNotGoOn self.old.log e ⊎ (self.new.failed ≡ true)) }
+        ensures fails { IfErr result (λ e. MayNotSwitch self.old.log e ⊎ (self.new.failed ≡ true)) }
         ensures works { OnOk result (self.new.failed ≡ false) }
         ensures frames { self.new.pool.frames ≡ self.old.pool.frames }
         ensures few { self.old.table ≡ [] → CostsAtMost D.Disk 5 6 disk.old disk.new }
@@ -71,10 +71,10 @@ impl PageWriter {
         if self.failed {
             return Err(Fault::Failed);
         }
-        self.log.may_go_on()?;
+        self.log.may_switch()?;
         self.flush_every(disk)?;
         self.force(disk)?;
         self.sync_pages(disk)?;
-        self.turn(disk, next)
+        self.switch_log(disk, next)
     }
 }

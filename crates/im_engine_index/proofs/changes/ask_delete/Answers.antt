@@ -9,11 +9,11 @@ use Rattle.im_page_writer.proofs.Outcomes.{out_of_memory, refused, sound_on, rea
 use Rattle.im_theory_tree.specs.Levels.{walk}
 use Rattle.im_theory_tree.proofs.LookupLemmas.{leaf_value}
 use Rattle.im_tree_search.specs.Levels.{HasLevel, bodies_of}
-use Rattle.im_base_lock.specs.Rows.{asked, next_name}
-use Rattle.im_base_lock.specs.Table.{named, row}
+use Rattle.im_theory_machine.specs.Rows.{asked, next_name}
+use Rattle.im_engine_locks.specs.Requests.{named, row}
 use Rattle.im_engine_index.specs.declared.place.Place.{Place}
 use Rattle.im_engine_index.specs.Asks.{IsPlace}
-use Rattle.im_engine_index.specs.Outcomes.{name_in}
+use Rattle.im_engine_index.specs.LockAnswers.{name_in}
 use Rattle.im_engine_index.proofs.Names.{finds_both, found_is, next_is}
 use Rattle.im_engine_index.proofs.Calls.{decided_as, granted_as, memory_not}
 use Rattle.im_page_writer.specs.Outcome.{mild}
@@ -40,10 +40,10 @@ returns-clause-kept g c pages m tree is =
     let key = c.args.key.now in
     let p = c.in_ok-leaf.leaf.number in
     let pool = c.leaf_and_next.new.writer.pool in
-    let found = c.value_in-rid.result in
+    let found = c.rid_in-rid.result in
     let place : Place = record { leaf = c.in_ok-leaf.leaf; rid = found } in
     let same : c.page-page.result.now ≡ pages p = c.page-page.ensures.page ∙ r.leaf.shown in
-    let has_it : found ≡ find key_order key (walk (bodies_of pages)) = c.value_in-rid.ensures ∙ ap (λ (x : Page). find key_order key x.body.entries) same ∙ sym (leaf_value (bodies_of pages) tree.spare key p tree.good r.leaf.way) in
+    let has_it : found ≡ find key_order key (walk (bodies_of pages)) = c.rid_in-rid.ensures ∙ ap (λ (x : Page). find key_order key x.body.entries) same ∙ sym (leaf_value (bodies_of pages) tree.spare key p tree.good r.leaf.way) in
     let value : get m key ≡ found = found_is m (walk (bodies_of pages)) key found is has_it in
     let there : is_some (get m key) ≡ c.is_there-there.result = ap is_some value ∙ sym c.is_there-there.ensures in
     let name : named c.name_in.result ≡ next_name m key =

@@ -83,3 +83,6 @@ returns-in-Err-clause-kept g c b base s e may =
 
 pub returns-in-Err-clause-table : goal.returns-in-Err-clause-table
 returns-in-Err-clause-table g c = late_table c.in-Err.fault c.late.result _ c.late.ensures.memory c.late.ensures.others (never_full g.D.Disk c.in-Err.ensures.outcome)
+
+pub returns-in-Err-clause-lasting : goal.returns-in-Err-clause-lasting
+returns-in-Err-clause-lasting g c = late_table c.in-Err.fault c.late.result _ c.late.ensures.memory c.late.ensures.others (never_full g.D.Disk c.in-Err.ensures.outcome)

@@ -31,7 +31,7 @@ returns-then-goes_in-clause-kept g c pages m rid has good is =
     let tree : HasTree g.D.Disk pages c.args.writer.now c.args.disk.now = record { has = has; spare = []; good = good } in
     let r = (c.in_ok-leaf.ensures.kept pages tree).reached in
     let pool = c.leaf_for.new.writer.pool in
-    let place = place_found pages [] m key pool c.in_ok-leaf.leaf c.page.result.now c.value_in-rid.result good is r c.page.ensures.page c.value_in-rid.ensures in
+    let place = place_found pages [] m key pool c.in_ok-leaf.leaf c.page.result.now c.rid_in-rid.result good is r c.page.ensures.page c.rid_in-rid.ensures in
     prepared_kept g.D.Disk pages c.args.transaction key rid c.args.max m c.args.locks.now c.ask_planned.new.locks c.ask_planned.new.writer.pool c.ask_planned.result c.ask_planned.ensures.outcome
     (c.ask_planned.ensures.kept pages m rid c.args.max (tree_still g.D.Disk tree c.in_ok-leaf.ensures.outcome) is place
     (nothing_planned pages key c.args.max m pool _ is place (c.goes_in.ensures.goes c.if-goes_in.true)))
@@ -48,7 +48,7 @@ returns-clause-kept g c pages m rid has good is =
     let tree : HasTree g.D.Disk pages c.args.writer.now c.args.disk.now = record { has = has; spare = []; good = good } in
     let r = (c.in_ok-leaf.ensures.kept pages tree).reached in
     let pool = c.leaf_for.new.writer.pool in
-    let place = place_found pages [] m key pool c.in_ok-leaf.leaf c.page.result.now c.value_in-rid.result good is r c.page.ensures.page c.value_in-rid.ensures in
+    let place = place_found pages [] m key pool c.in_ok-leaf.leaf c.page.result.now c.rid_in-rid.result good is r c.page.ensures.page c.rid_in-rid.ensures in
     let not = c.goes_in.ensures.not c.if-goes_in.false in
     c.prepare_split.ensures.kept pages m rid (pages_still g.D.Disk has c.in_ok-leaf.ensures.outcome) good is (sym place.value ∙ not.0) r.way
     (λ (room : HasRoom true (pages c.in_ok-leaf.leaf.number).body.entries (key, 0)). not.1 (subst (λ (x : Page). HasRoom true x.body.entries (key, 0)) (sym r.shown) room))

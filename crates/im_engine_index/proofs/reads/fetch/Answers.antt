@@ -9,9 +9,9 @@ use Rattle.im_theory_tree.specs.Levels.{walk}
 use Rattle.im_theory_tree.proofs.LookupLemmas.{leaf_value}
 use Rattle.im_tree_search.specs.Levels.{bodies_of}
 use Rattle.im_tree_search.proofs.Pages.{tree_still}
-use Rattle.im_base_lock.specs.Locks.{PastAll}
-use Rattle.im_base_lock.specs.Rows.{asked}
-use Rattle.im_base_lock.specs.Table.{row}
+use Rattle.im_theory_machine.specs.Locks.{PastAll}
+use Rattle.im_theory_machine.specs.Rows.{asked}
+use Rattle.im_engine_locks.specs.Requests.{row}
 use Rattle.im_engine_index.proofs.Names.{finds_there, found_is, option_none}
 use Rattle.im_engine_index.proofs.Calls.{decided_as, memory_not, says_as}
 use Rattle.im_page_writer.specs.Outcome.{mild}

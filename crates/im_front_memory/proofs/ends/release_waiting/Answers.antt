@@ -1,8 +1,8 @@
 use Rattle.std.proofs.Common.{◌+◌, ◌<◌, length, take, refl, sym, subst, ◌∙◌, arith}
 use Rattle.std.proofs.lemmas.List.{take_all}
 use Rattle.im_base_txn.specs.Rows.{begun, waiting_numbers}
-use Rattle.im_base_lock.specs.Table.{Table, AreReleased}
-use Rattle.im_base_lock.specs.View.{is_among}
+use Rattle.im_theory_machine.specs.Table.{Table, AreReleased}
+use Rattle.im_theory_machine.specs.View.{is_among}
 use Rattle.im_theory_steps.proofs.Waiting.{released_more, released_as}
 use Rattle.im_front_memory.proofs.ends.release_waiting.Goals as goal
 use Rattle.im_front_memory.proofs.ends.release_waiting.Goals.{then-is_committing, else-is_committing}

@@ -2,12 +2,13 @@ use Rattle.std.proofs.Common.{ℕ, ◌≡◌, ◌∙◌, ap, sym, subst, List, O
 use Rattle.im_base_types.specs.Keys.{Key}
 use Rattle.im_base_types.specs.Maps.{IndexMap}
 use Rattle.im_base_types.specs.Answers.{Scan}
-use Rattle.im_base_lock.specs.Found.{IsScanOf}
-use Rattle.im_base_lock.specs.Locks.{Name, Request as Asked}
-use Rattle.im_base_lock.specs.Table.{row, Decides}
-use Rattle.im_base_lock.specs.Rows.{asked}
-use Rattle.im_base_lock.specs.declared.request.Request.{Request}
-use Rattle.im_base_lock.specs.declared.verdict.Verdict.TheVariants.{Granted}
+use Rattle.im_engine_locks.specs.Found.{IsScanOf}
+use Rattle.im_theory_machine.specs.Locks.{Name, Request as Asked}
+use Rattle.im_engine_locks.specs.Requests.{row}
+use Rattle.im_theory_machine.specs.Table.{Decides}
+use Rattle.im_theory_machine.specs.Rows.{asked}
+use Rattle.im_engine_locks.specs.declared.request.Request.{Request}
+use Rattle.im_theory_machine.specs.declared.verdict.Verdict.TheVariants.{Granted}
 use Rattle.im_front_memory.specs.Listed.{past_name}
 use Rattle.im_front_memory.proofs.AccessLemmas.{on_none}
 use Rattle.im_front_memory.proofs.locking.ask_range.Goals as goal

@@ -32,7 +32,7 @@ loop-number-preserved g c =
       ready = c.in_ok-lsn.ensures.outcome.still c.in_ok-lsn.ensures.outcome.ends.1;
       working = c.in_ok-lsn.ensures.outcome.ends.0;
       alive = c.in_ok-lsn.ensures.outcome.ends.1;
-      room = c.note.ensures.room;
+      room = c.push_lsn.ensures.room;
       changes = changes_then g.D.Disk Log c.args.disk.now l.disk c.append_one.new.disk l.invariant.changes c.append_one.ensures.changes;
       forces = forces_more g.D.Disk (l.number - c.args.first + 1) (l.number + 1 - c.args.first) c.args.disk.now c.append_one.new.disk (omega (arith, l.invariant.low))
           (forces_then g.D.Disk (l.number - c.args.first) 1 c.args.disk.now l.disk c.append_one.new.disk l.invariant.forces c.in_ok-lsn.ensures.forces);
@@ -41,7 +41,7 @@ loop-number-preserved g c =
           let so = l.invariant.kept b base s w all in
           let asked = image_still b s so.now c.args.pool.now l.number so.goes.keeps (all l.number l.invariant.low (omega (arith, c.loop-number-test.true))) in
           let done = c.in_ok-lsn.ensures.kept b base so.now so.goes.writing asked in
-          subst (λ (lsns : List ℕ). ImagesTo g.D.Disk b base s c.args.first (l.number + 1) lsns c.args.disk.now c.append_one.new.log c.args.table.now c.args.pool.now c.append_one.new.disk) (sym c.note.ensures.items)
+          subst (λ (lsns : List ℕ). ImagesTo g.D.Disk b base s c.args.first (l.number + 1) lsns c.args.disk.now c.append_one.new.log c.args.table.now c.args.pool.now c.append_one.new.disk) (sym c.push_lsn.ensures.items)
           (images_more g.D.Disk b base s c.args.first c.args.disk.now l.number l.lsns.items l.log c.args.table.now c.args.pool.now l.disk l.invariant.low so c.in_ok-lsn.lsn c.append_one.new.log c.append_one.new.disk done.ok asked);
     }
 

@@ -21,25 +21,25 @@ loop-transaction-init g c = record {
 pub loop-transaction-preserved : goal.loop-transaction-preserved
 loop-transaction-preserved g c = record {
   none = λ is. absurd (first_of_none c.loop-transaction.losers.entries c.pop_first.new.self.entries (c.in-Some.transaction, c.in-Some.row) (c.loop-transaction.invariant.none is).0 c.in-Some.ensures.removal);
-  outcome = recovers_then g.D.Disk c.loop-transaction.invariant.outcome c.in_ok-go_on.ensures.outcome;
+  outcome = recovers_then g.D.Disk c.loop-transaction.invariant.outcome c.in_ok-put_or_end.ensures.outcome;
   kept = λ b base all s stands is are. (
       let h = c.loop-transaction.invariant.kept b base all s stands is are in
       let t = waiting_taken b page_tree c.loop-transaction.losers c.pop_first.new.self c.loop-transaction.chains h.0.log c.in-Some.transaction c.in-Some.row h.1.undoing.can.lawful h.2 h.3 c.in-Some.ensures.value c.in-Some.ensures.updates.0 in
-      let k = c.in_ok-go_on.ensures.kept b base all h.0 (waiting c.pop_first.new.self) h.1.stands h.1.undoing t.0 t.1 t.2 in (
+      let k = c.in_ok-put_or_end.ensures.kept b base all h.0 (waiting c.pop_first.new.self) h.1.stands h.1.undoing t.0 t.1 t.2 in (
         k.sound.now,
-        undo_then g.D.Disk b base all s c.args.disk.now h.0 c.loop-transaction.writer c.loop-transaction.disk k.sound.now c.go_on.new.writer c.go_on.new.disk h.1 k.sound.goes,
+        undo_then g.D.Disk b base all s c.args.disk.now h.0 c.loop-transaction.writer c.loop-transaction.disk k.sound.now c.put_or_end.new.writer c.put_or_end.new.disk h.1 k.sound.goes,
         k.sound.are,
         waiting_longer c.in-Some.transaction c.pop_first.new.self h.0.log k.sound.now.log t.1 k.sound.others t.3,
       )
       );
 }
 
-pub returns-in_err-go_on-clause-kept : goal.returns-in_err-go_on-clause-kept
-returns-in_err-go_on-clause-kept g c b base all s stands is are =
+pub returns-in_err-put_or_end-clause-kept : goal.returns-in_err-put_or_end-clause-kept
+returns-in_err-put_or_end-clause-kept g c b base all s stands is are =
     let h = c.loop-transaction.invariant.kept b base all s stands is are in
     let t = waiting_taken b page_tree c.loop-transaction.losers c.pop_first.new.self c.loop-transaction.chains h.0.log c.in-Some.transaction c.in-Some.row h.1.undoing.can.lawful h.2 h.3 c.in-Some.ensures.value c.in-Some.ensures.updates.0 in
-    let k = c.in_err-go_on.ensures.kept b base all h.0 (waiting c.pop_first.new.self) h.1.stands h.1.undoing t.0 t.1 t.2 in
-    record { sound = sound_on c.from_residual.result _ _ c.from_residual.ensures.1 k.sound; stops = left_then g.D.Disk b base all c.args.disk.now c.loop-transaction.disk c.go_on.new.disk h.1.stops k.stops }
+    let k = c.in_err-put_or_end.ensures.kept b base all h.0 (waiting c.pop_first.new.self) h.1.stands h.1.undoing t.0 t.1 t.2 in
+    record { sound = sound_on c.from_residual.result _ _ c.from_residual.ensures.1 k.sound; stops = left_then g.D.Disk b base all c.args.disk.now c.loop-transaction.disk c.put_or_end.new.disk h.1.stops k.stops }
 
 pub returns-clause-kept : goal.returns-clause-kept
 returns-clause-kept g c b base all s stands is are =
@@ -47,8 +47,8 @@ returns-clause-kept g c b base all s stands is are =
     let none = none_left c.loop-transaction.losers.entries (λ some. (let clash = c.in_default.ensures.variant.1 some in absurd (cc clash))) in
     record { sound = record { now = h.0; goes = h.1; are = waiting_none c.loop-transaction.losers c.loop-transaction.chains h.0.log none h.2 }; stops = h.1.stops }
 
-pub returns-in_err-go_on-clause-none : goal.returns-in_err-go_on-clause-none
-returns-in_err-go_on-clause-none g c is =
+pub returns-in_err-put_or_end-clause-none : goal.returns-in_err-put_or_end-clause-none
+returns-in_err-put_or_end-clause-none g c is =
     absurd (first_of_none c.loop-transaction.losers.entries c.pop_first.new.self.entries (c.in-Some.transaction, c.in-Some.row) (c.loop-transaction.invariant.none is).0 c.in-Some.ensures.removal)
 
 pub returns-clause-none : goal.returns-clause-none

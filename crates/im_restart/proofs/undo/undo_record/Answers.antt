@@ -22,7 +22,7 @@ returns-in_err-next-clause-outcome g c =
     (err_on c.from_residual.result c.in_err-next.field-0.0 _ c.from_residual.ensures.1 (ap mild_to_take c.in_err-next.ensures.refused.0))
 
 pub returns-else-is_key_record-clause-outcome : goal.returns-else-is_key_record-clause-outcome
-returns-else-is_key_record-clause-outcome g c = recovers_more g.D.Disk take_mild c.go_on.ensures.outcome
+returns-else-is_key_record-clause-outcome g c = recovers_more g.D.Disk take_mild c.put_or_end.ensures.outcome
 
 pub returns-in_err-next-clause-kept : goal.returns-in_err-next-clause-kept
 returns-in_err-next-clause-kept g c b base all s out stands is are left goes there mine latest =
@@ -37,7 +37,7 @@ pub returns-else-is_key_record-clause-kept : goal.returns-else-is_key_record-cla
 returns-else-is_key_record-clause-kept g c b base all s out stands is are left goes there mine latest =
     let other = c.in_ok-next.ensures.other (sym c.is_key_record.ensures ∙ c.if-is_key_record.false) in
     let on = leads_so b page_tree page_tree_laws s.log c.args.chain c.args.lsn (view c.args.«record».now) is.can goes there mine other.0 in
-    c.go_on.ensures.kept b base all s out stands is are left (subst (λ n. GoesOnAt c.args.chain n s.log) (sym other.1) on)
+    c.put_or_end.ensures.kept b base all s out stands is are left (subst (λ n. GoesOnAt c.args.chain n s.log) (sym other.1) on)
 
 pub returns-in_err-next-clause-used_up : goal.returns-in_err-next-clause-used_up
 returns-in_err-next-clause-used_up g c b base all s stands is goes there mine latest =
@@ -49,4 +49,4 @@ returns-then-is_key_record-clause-used_up g c b base all s stands is goes there 
     c.undo_key.ensures.used_up b base all s stands is (to_undo_here b page_tree page_tree_laws s.log c.args.chain c.args.lsn (view c.args.«record».now) is.can goes there mine key latest)
 
 pub returns-else-is_key_record-clause-used_up : goal.returns-else-is_key_record-clause-used_up
-returns-else-is_key_record-clause-used_up g c b base all s stands is goes there mine latest = no_numbers g.D.Disk c.go_on.result c.go_on.ensures.outcome (RunsOut b all)
+returns-else-is_key_record-clause-used_up g c b base all s stands is goes there mine latest = no_numbers g.D.Disk c.put_or_end.result c.put_or_end.ensures.outcome (RunsOut b all)

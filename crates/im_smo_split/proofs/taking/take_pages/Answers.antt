@@ -32,17 +32,17 @@ returns-in_err-number-clause-used_up g c store has =
     (λ same. none_left store c.args.images.now l.numbers.items l.images so c.args.count (omega (arith, l.invariant.len, c.loop-taken-test.true))
     (c.in_err-number.ensures.used_up store _ (has_taken store c.args.images.now l.numbers.items l.images so g.D.Disk (pages_still g.D.Disk has.has l.invariant.outcome)) same))
 
-pub returns-in_err-note-clause-outcome : goal.returns-in_err-note-clause-outcome
-returns-in_err-note-clause-outcome g c =
-    ends_own g.D.Disk mild_to_take refl refl refl c.from_residual-in_err-note.result (then g.D.Disk c.loop-taken.invariant.outcome c.in_ok-number.ensures.outcome)
-    (err_on c.from_residual-in_err-note.result _ _ c.from_residual-in_err-note.ensures.1 (ap mild_to_take c.in_err-note.ensures.refused))
+pub returns-in_err-push_number-clause-outcome : goal.returns-in_err-push_number-clause-outcome
+returns-in_err-push_number-clause-outcome g c =
+    ends_own g.D.Disk mild_to_take refl refl refl c.from_residual-in_err-push_number.result (then g.D.Disk c.loop-taken.invariant.outcome c.in_ok-number.ensures.outcome)
+    (err_on c.from_residual-in_err-push_number.result _ _ c.from_residual-in_err-push_number.ensures.1 (ap mild_to_take c.in_err-push_number.ensures.refused))
 
-pub returns-in_err-note-clause-kept : goal.returns-in_err-note-clause-kept
-returns-in_err-note-clause-kept g c store has = sound_on c.from_residual-in_err-note.result _ _ c.from_residual-in_err-note.ensures.1 (memory_not _ c.in_err-note.ensures.refused)
+pub returns-in_err-push_number-clause-kept : goal.returns-in_err-push_number-clause-kept
+returns-in_err-push_number-clause-kept g c store has = sound_on c.from_residual-in_err-push_number.result _ _ c.from_residual-in_err-push_number.ensures.1 (memory_not _ c.in_err-push_number.ensures.refused)
 
-pub returns-in_err-note-clause-used_up : goal.returns-in_err-note-clause-used_up
-returns-in_err-note-clause-used_up g c store has =
-    err_on c.from_residual-in_err-note.result _ _ c.from_residual-in_err-note.ensures.1 (λ same. let clash : Memory ≡ Capacity = sym c.in_err-note.ensures.refused ∙ same in let never : ⊥ = cc clash in absurd never)
+pub returns-in_err-push_number-clause-used_up : goal.returns-in_err-push_number-clause-used_up
+returns-in_err-push_number-clause-used_up g c store has =
+    err_on c.from_residual-in_err-push_number.result _ _ c.from_residual-in_err-push_number.ensures.1 (λ same. let clash : Memory ≡ Capacity = sym c.in_err-push_number.ensures.refused ∙ same in let never : ⊥ = cc clash in absurd never)
 
 pub loop-taken-preserved : goal.loop-taken-preserved
 loop-taken-preserved g c =
@@ -51,10 +51,10 @@ loop-taken-preserved g c =
     record {
       outcome = then g.D.Disk l.invariant.outcome e.outcome;
       within = omega (arith, c.loop-taken-test.true);
-      len = ap length c.in_ok-note.ensures.new ∙ length-append l.numbers.items (c.in_ok-number.number ∷ []) ∙ ap (λ (n : ℕ). n + 1) l.invariant.len;
+      len = ap length c.in_ok-push_number.ensures.new ∙ length-append l.numbers.items (c.in_ok-number.number ∷ []) ∙ ap (λ (n : ℕ). n + 1) l.invariant.len;
       kept = λ store has.
           let so = l.invariant.kept store has in
-          taken_more store c.args.images.now l.numbers.items l.images so c.in_ok-number.number c.note.new.numbers.items c.allocate.new.images c.in_ok-note.ensures.new
+          taken_more store c.args.images.now l.numbers.items l.images so c.in_ok-number.number c.push_number.new.numbers.items c.allocate.new.images c.in_ok-push_number.ensures.new
           (e.kept store _ (has_taken store c.args.images.now l.numbers.items l.images so g.D.Disk (pages_still g.D.Disk has.has l.invariant.outcome)));
     }
 

@@ -104,7 +104,7 @@ returns-in-Err g c =
     record {
       kept = λ before s v life.
           delete_refused g.D.Disk old c.args.t c.args.key.now c.in-Some.row found c.requires.checked _ before s v life c.requires.works (λ u f le left. g.met.D.Disk.counts_now c.delete.new.disk u f le left) c.in-Err.fault
-          c.in-Err.ensures.kept c.in-Err.ensures.outcome.ends c.breaks-self.ensures refl c.in-Err.ensures.table c.told.result c.told.ensures;
+          c.in-Err.ensures.kept c.in-Err.ensures.outcome.ends c.breaks-self.ensures refl (λ which. (c.in-Err.ensures.table which, c.in-Err.ensures.lasting which)) c.told.result c.told.ensures;
       told = told_refused g.D.Disk old _ c.requires.works refl refl c.in-Err.fault c.told.result c.told.ensures c.breaks-self.ensures refl (delete_table g.D.Disk old.writer old.disk c.delete.new.writer c.delete.new.disk c.in-Err.fault c.in-Err.ensures.outcome.ends old.locks c.delete.new.locks c.in-Err.ensures.table) (λ lost. late_lost g.D.Disk old.writer old.disk c.delete.new.writer c.delete.new.disk lost mild c.in-Err.fault c.in-Err.ensures.outcome.ends);
       answered = behind g.D.Disk old c.delete.new.writer.log c.delete.new.disk c.requires.works (answers.Do c.args.t (answers.Delete c.args.key.now)) (replies.Refused c.told.result) c.requires.checked
           (λ fault. refused_for g.D.Disk old c.delete.new.writer.log c.delete.new.disk c.requires.works (DeleteCause g.D.Disk c.delete.new.writer.log c.delete.new.disk) c.in-Err.fault c.told.result c.told.ensures

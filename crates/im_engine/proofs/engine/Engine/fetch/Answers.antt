@@ -97,7 +97,7 @@ returns-in-Err g c =
           let r = (life.running c.requires.works).1 in
           let sound = c.in-Err.ensures.kept (pages_of r.now) v.walk (has_good_tree g.D.Disk before s v old r) (walk_is g.D.Disk before s v old r) in
           refused g.D.Disk before s v c.args.t (answers.Fetch c.args.key.now) old _ life c.requires.works c.requires.checked (λ t f le left. g.met.D.Disk.counts_now c.fetch.new.disk t f le left) c.in-Err.fault refl c.in-Err.ensures.outcome sound
-          c.breaks-self.ensures refl c.in-Err.ensures.table c.told.result c.told.ensures;
+          c.breaks-self.ensures refl (c.in-Err.ensures.table, c.in-Err.ensures.lasting) c.told.result c.told.ensures;
       told = told_refused g.D.Disk old _ c.requires.works refl refl c.in-Err.fault c.told.result c.told.ensures c.breaks-self.ensures refl (λ _. c.in-Err.ensures.table) (λ lost. read_lost g.D.Disk old.writer old.disk c.fetch.new.writer c.fetch.new.disk lost c.in-Err.fault c.in-Err.ensures.outcome.ends (old.working c.requires.works));
       answered =
           read_refused g.D.Disk old c.fetch.new.writer.log c.fetch.new.disk c.requires.works c.args.t (answers.Fetch c.args.key.now) refl c.requires.checked c.in-Err.fault c.told.result c.told.ensures

@@ -2,8 +2,8 @@ use Rattle.std.proofs.Common.{refl, ap, subst, ◌∙◌, List, length, Err, ari
 use Rattle.im_base_txn.specs.declared.transaction.Transaction.{Transaction}
 use Rattle.im_base_txn.specs.Rows.{waiting_numbers}
 use Rattle.im_base_txn.proofs.Waiting.{waiting_counts}
-use Rattle.im_base_lock.specs.Table.{AreReleased}
-use Rattle.im_base_lock.specs.View.{is_among}
+use Rattle.im_theory_machine.specs.Table.{AreReleased}
+use Rattle.im_theory_machine.specs.View.{is_among}
 use Rattle.im_engine.specs.Numbered.{Numbered, besides_rows}
 use Rattle.im_engine.proofs.Ending.{of_log, log_forced, force_refused}
 use Rattle.im_base_types.specs.Answers as answers

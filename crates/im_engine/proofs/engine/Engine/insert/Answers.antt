@@ -102,7 +102,7 @@ returns-in-Err g c =
     record {
       kept = λ before s v life.
           insert_refused g.D.Disk old _ c.args.t c.args.key.now c.args.rid c.in-Some.row found c.requires.checked before s v life c.requires.works (λ t f le left. g.met.D.Disk.counts_now c.insert.new.disk t f le left) c.in-Err.fault c.in-Err.ensures.kept
-          c.in-Err.ensures.outcome.ends c.breaks-self.ensures refl c.in-Err.ensures.table c.told.result c.told.ensures;
+          c.in-Err.ensures.outcome.ends c.breaks-self.ensures refl (λ which. (c.in-Err.ensures.table which, c.in-Err.ensures.lasting which)) c.told.result c.told.ensures;
       told = told_refused g.D.Disk old _ c.requires.works refl refl c.in-Err.fault c.told.result c.told.ensures c.breaks-self.ensures refl c.in-Err.ensures.table (λ lost. late_lost g.D.Disk old.writer old.disk c.insert.new.writer c.insert.new.disk lost (mild_to_split (Some old.max_pages)) c.in-Err.fault c.in-Err.ensures.outcome.ends);
       answered =
           insert_not_answered g.D.Disk old c.insert.new.writer.log c.insert.new.disk c.requires.works c.args.t c.args.key.now c.args.rid c.requires.checked c.in-Err.fault c.told.result c.told.ensures

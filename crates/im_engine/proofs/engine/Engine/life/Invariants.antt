@@ -3,7 +3,7 @@ use Rattle.std.specs.Vec.{vec_len, vec_capacity}
 use Rattle.im_base_types.specs.Changes.{Effect}
 use Rattle.im_base_types.specs.Lives.{Shown}
 use Rattle.im_base_two_logs.specs.Runs.{LeavesNamed}
-use Rattle.im_base_lock.specs.View.{View}
+use Rattle.im_theory_machine.specs.View.{View}
 use Rattle.im_engine.specs.Running.{IsLife}
 use Rattle.im_engine.specs.Promise.{answered_by}
 use Rattle.im_engine.specs.Turns.{LivesOn, AreSteps, IsCutOff}

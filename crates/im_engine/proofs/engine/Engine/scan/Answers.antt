@@ -3,8 +3,8 @@ use Rattle.im_base_types.specs.Answers as answers
 use Rattle.im_base_types.specs.Answers.{limit_of}
 use Rattle.im_page_writer.specs.Outcome.{pages_of}
 use Rattle.im_engine.proofs.Running.{has_good_tree, walk_is}
-use Rattle.im_engine_index.specs.Outcomes.{entries_found, IfGranted}
-use Rattle.im_engine_index.specs.declared.outcome.Outcome.{Outcome}
+use Rattle.im_engine_index.specs.LockAnswers.{entries_found, IfGranted}
+use Rattle.im_engine_index.specs.declared.lock_answer.LockAnswer.{LockAnswer}
 use Rattle.im_engine.proofs.Reading.{granted, waits, dies, refused}
 use Rattle.std.proofs.lemmas.List.{length-map}
 use Rattle.im_base_steps.specs.declared.reply.Blocker.TheVariants.{Lock}
@@ -30,7 +30,7 @@ returns-in-Ok-Granted g c =
           granted g.D.Disk before s v c.args.t (answers.Scan c.args.lo.now c.args.hi.now c.args.limit) old _ life c.requires.works c.requires.checked refl entries_found c.in-Ok-Granted.field-0 read c.in-Ok-Granted.list c.in-Ok-Granted.field-0-is _ refl c.in-Ok-Granted.ensures.outcome refl refl;
       told = told_answered g.D.Disk old _ c.requires.works refl refl (replies.Entries c.in-Ok-Granted.list) (λ k. refl) refl refl tt refl refl c.in-Ok-Granted.ensures.outcome.ends.alive;
       answered = read_answered g.D.Disk old c.scan.new.writer.log c.scan.new.disk c.requires.works c.args.t (answers.Scan c.args.lo.now c.args.hi.now c.args.limit) refl c.requires.checked (replies.Entries c.in-Ok-Granted.list) (λ x e. cc e);
-      suits = (refl, subst (λ (o : Outcome (Vec (List ℕ × ℕ) Global)). IfGranted o (λ l. length l.items ≤ limit_of c.args.limit)) c.in-Ok-Granted.field-0-is c.in-Ok-Granted.ensures.most);
+      suits = (refl, subst (λ (o : LockAnswer (Vec (List ℕ × ℕ) Global)). IfGranted o (λ l. length l.items ≤ limit_of c.args.limit)) c.in-Ok-Granted.field-0-is c.in-Ok-Granted.ensures.most);
       grouped = tt;
       frames = search rules;
       wants = λ b before s v r. tt;
@@ -82,7 +82,7 @@ returns-in-Err g c =
           let r = (life.running c.requires.works).1 in
           let sound = c.in-Err.ensures.kept (pages_of r.now) v.walk (has_good_tree g.D.Disk before s v old r) (walk_is g.D.Disk before s v old r) in
           refused g.D.Disk before s v c.args.t (answers.Scan c.args.lo.now c.args.hi.now c.args.limit) old _ life c.requires.works c.requires.checked (λ t f le left. g.met.D.Disk.counts_now c.scan.new.disk t f le left) c.in-Err.fault refl c.in-Err.ensures.outcome sound
-          c.breaks-self.ensures refl c.in-Err.ensures.table c.told.result c.told.ensures;
+          c.breaks-self.ensures refl (c.in-Err.ensures.table, c.in-Err.ensures.lasting) c.told.result c.told.ensures;
       told = told_refused g.D.Disk old _ c.requires.works refl refl c.in-Err.fault c.told.result c.told.ensures c.breaks-self.ensures refl (λ _. c.in-Err.ensures.table) (λ lost. read_lost g.D.Disk old.writer old.disk c.scan.new.writer c.scan.new.disk lost c.in-Err.fault c.in-Err.ensures.outcome.ends (old.working c.requires.works));
       answered =
           read_refused g.D.Disk old c.scan.new.writer.log c.scan.new.disk c.requires.works c.args.t (answers.Scan c.args.lo.now c.args.hi.now c.args.limit) refl c.requires.checked c.in-Err.fault c.told.result c.told.ensures

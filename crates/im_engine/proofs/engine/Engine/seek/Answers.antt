@@ -9,11 +9,11 @@ use Rattle.im_page_writer.specs.Outcome.{pages_of}
 use Rattle.im_page_writer.specs.PageWriter.{Evicted}
 use Rattle.im_restart_undo.specs.Undoing.{HasBegun}
 use Rattle.im_engine.proofs.Running.{has_good_tree, walk_is}
-use Rattle.im_engine_index.specs.Outcomes.{seek_at}
+use Rattle.im_engine_index.specs.LockAnswers.{seek_at}
 use Rattle.im_engine.proofs.Reading.{granted, waits, dies, refused, seeks_change_nothing, seeks_want_memory}
 use Rattle.std.proofs.lemmas.List.{length-map}
-use Rattle.im_base_lock.specs.Locks.{Lock as HeldLock}
-use Rattle.im_base_lock.specs.Table.{locks_of}
+use Rattle.im_theory_machine.specs.Locks.{Lock as HeldLock}
+use Rattle.im_theory_machine.specs.Table.{locks_of}
 use Rattle.im_base_steps.specs.declared.reply.Blocker.TheVariants.{Lock}
 use Rattle.im_base_steps.specs.declared.reply.Reply.TheVariants as replies
 use Rattle.im_base_types.specs.Changes.{Effect}
@@ -119,7 +119,7 @@ returns-in-Err g c =
           let r = (life.running c.requires.works).1 in
           let sound = c.in-Err.ensures.kept (pages_of r.now) v.walk (has_good_tree g.D.Disk before s v old r) (walk_is g.D.Disk before s v old r) in
           refused g.D.Disk before s v c.args.t (seek_at c.args.inclusive c.args.key.now) old _ life c.requires.works c.requires.checked (λ t f le left. g.met.D.Disk.counts_now c.seek.new.disk t f le left) c.in-Err.fault (seeks_want_memory c.args.t c.args.inclusive c.args.key.now) c.in-Err.ensures.outcome sound
-          c.breaks-self.ensures refl c.in-Err.ensures.table c.told.result c.told.ensures;
+          c.breaks-self.ensures refl (c.in-Err.ensures.table, c.in-Err.ensures.lasting) c.told.result c.told.ensures;
       told = told_refused g.D.Disk old _ c.requires.works refl refl c.in-Err.fault c.told.result c.told.ensures c.breaks-self.ensures refl (λ _. c.in-Err.ensures.table) (λ lost. read_lost g.D.Disk old.writer old.disk c.seek.new.writer c.seek.new.disk lost c.in-Err.fault c.in-Err.ensures.outcome.ends (old.working c.requires.works));
       answered =
           read_refused g.D.Disk old c.seek.new.writer.log c.seek.new.disk c.requires.works c.args.t (seek_at c.args.inclusive c.args.key.now) (seeks_read c.args.inclusive c.args.key.now) c.requires.checked c.in-Err.fault c.told.result c.told.ensures

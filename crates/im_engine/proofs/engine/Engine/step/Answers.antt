@@ -28,6 +28,11 @@ returns-in-Next g c =
     step_as g.D.Disk c.args.step.now _ c.in-Next.is c.seek-in-Next.result c.args.self.now c.seek-in-Next.new.self c.in_default.ensures
     (subst (λ (k : List ℕ). IsMade g.D.Disk (answers.Do c.in-Next.t (answers.Next k)) c.seek-in-Next.result c.args.self.now c.seek-in-Next.new.self) c.deref-in-Next.ensures.value c.seek-in-Next.ensures)
 
+pub returns-in-Prev : goal.returns-in-Prev
+returns-in-Prev g c =
+    step_as g.D.Disk c.args.step.now _ c.in-Prev.is c.prev.result c.args.self.now c.prev.new.self c.in_default.ensures
+    (subst (λ (k : List ℕ). IsMade g.D.Disk (answers.Do c.in-Prev.t (answers.Prev k)) c.prev.result c.args.self.now c.prev.new.self) c.deref-in-Prev.ensures.value c.prev.ensures)
+
 pub returns-in-Scan : goal.returns-in-Scan
 returns-in-Scan g c =
     step_as g.D.Disk c.args.step.now _ c.in-Scan.is c.scan.result c.args.self.now c.scan.new.self c.in_default.ensures

@@ -2,7 +2,7 @@ use Rattle.std.proofs.Common.{rules, [], ◌∷◌, ◌∙◌, ℕ, List, refl, 
 use Rattle.im_base_types.specs.Lives.{nothing_shown}
 use Rattle.im_base_types.specs.Changes.{apply_all}
 use Rattle.std.specs.FinMap.{empty}
-use Rattle.im_base_lock.specs.Machine.{start}
+use Rattle.im_theory_machine.specs.Machine.{start}
 use Rattle.im_front.specs.declared.recorded.Recorded.{Recorded}
 use Rattle.im_front.specs.Traces.{trace_of}
 use Rattle.im_front.specs.Held.{IsTallied, Stands}

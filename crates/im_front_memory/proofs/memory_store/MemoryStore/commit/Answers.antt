@@ -18,11 +18,11 @@ returns-then-waits c before s v h =
     queued_kept before s v (state_of c.args.self.now) h c.args.t c.requires must.0 must.1 _ (ap (λ (n : Numbered). n.rows) c.set_mark.ensures) refl c.take_all.ensures.own c.take_all.ensures.others refl
     (ap (λ (n : Numbered). n.next) c.set_mark.ensures)
     refl
-    (c.note.ensures ∙ ap (λ (l : List Effect). l ++ noted (net_in c.take_all.result)) (ap effects_of c.reserve.ensures.items) ∙ ap (λ (e : Effect). effects_of c.args.self.now.journal.items ++ noted e) c.take_all.ensures.all)
+    (c.put_journal.ensures ∙ ap (λ (l : List Effect). l ++ noted (net_in c.take_all.result)) (ap effects_of c.reserve.ensures.items) ∙ ap (λ (e : Effect). effects_of c.args.self.now.journal.items ++ noted e) c.take_all.ensures.all)
 
 pub returns : goal.returns
 returns c before s v h =
     committed_kept before s v (state_of c.args.self.now) h c.args.t c.requires (c.must_wait-waits.ensures.at_once c.if-waits.false) _ (ap (λ (n : Numbered). n.rows) c.end.ensures.left) c.end.ensures.one c.release_all.ensures c.take_all.ensures.own c.take_all.ensures.others refl
     (ap (λ (n : Numbered). n.next) c.end.ensures.left)
     refl
-    (c.note.ensures ∙ ap (λ (l : List Effect). l ++ noted (net_in c.take_all.result)) (ap effects_of c.reserve.ensures.items) ∙ ap (λ (e : Effect). effects_of c.args.self.now.journal.items ++ noted e) c.take_all.ensures.all)
+    (c.put_journal.ensures ∙ ap (λ (l : List Effect). l ++ noted (net_in c.take_all.result)) (ap effects_of c.reserve.ensures.items) ∙ ap (λ (e : Effect). effects_of c.args.self.now.journal.items ++ noted e) c.take_all.ensures.all)

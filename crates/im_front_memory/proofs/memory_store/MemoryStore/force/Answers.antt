@@ -1,8 +1,8 @@
 use Rattle.std.proofs.Common.{List, refl, ap, subst}
 use Rattle.im_base_txn.specs.declared.transaction.Transaction.{Transaction}
 use Rattle.im_base_txn.specs.Rows.{AreRising, waiting_numbers}
-use Rattle.im_base_lock.specs.Table.{AreReleased}
-use Rattle.im_base_lock.specs.View.{is_among}
+use Rattle.im_theory_machine.specs.Table.{AreReleased}
+use Rattle.im_theory_machine.specs.View.{is_among}
 use Rattle.im_front_memory.specs.Numbered.{Numbered}
 use Rattle.im_front_memory.specs.Stored.{state_of}
 use Rattle.im_front_memory.proofs.EndLemmas.{forced_kept}

@@ -1,6 +1,6 @@
 use Rattle.std.proofs.Common.{refl, sym, ap, subst, ◌∙◌}
 use Rattle.im_base_types.specs.Keys.{Key}
-use Rattle.im_base_types.specs.Answers.{Do, Fetch, Seek, Next, Scan, Insert, Delete, Done}
+use Rattle.im_base_types.specs.Answers.{Do, Fetch, Seek, Next, Prev, Scan, Insert, Delete, Done}
 use Rattle.im_base_steps.specs.declared.step.Step.{Step}
 use Rattle.im_base_steps.specs.Calls.{asked_by, told_by}
 use Rattle.im_base_types.specs.Faults.{number_of}
@@ -31,6 +31,11 @@ pub returns-in-Next : goal.returns-in-Next
 returns-in-Next c =
     subst (λ (x : Step). Serves (state_of c.args.self.now) (asked_by x) (told_by c.next.result) (state_of c.next.new.self)) (sym c.in-Next.is)
     (subst (λ (k : Key). Serves (state_of c.args.self.now) (Do c.in-Next.t (Next k)) (told_by c.next.result) (state_of c.next.new.self)) c.deref-in-Next.ensures.value c.next.ensures)
+
+pub returns-in-Prev : goal.returns-in-Prev
+returns-in-Prev c =
+    subst (λ (x : Step). Serves (state_of c.args.self.now) (asked_by x) (told_by c.prev.result) (state_of c.prev.new.self)) (sym c.in-Prev.is)
+    (subst (λ (k : Key). Serves (state_of c.args.self.now) (Do c.in-Prev.t (Prev k)) (told_by c.prev.result) (state_of c.prev.new.self)) c.deref-in-Prev.ensures.value c.prev.ensures)
 
 pub returns-in-Scan : goal.returns-in-Scan
 returns-in-Scan c =

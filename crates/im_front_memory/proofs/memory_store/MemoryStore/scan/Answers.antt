@@ -1,5 +1,5 @@
 use Rattle.std.proofs.Common.{rules, ◌≡◌, ◌∙◌, ℕ, ap, refl, List, option_copied, arith, length, take}
-use Rattle.im_base_lock.specs.Rows.{asked}
+use Rattle.im_theory_machine.specs.Rows.{asked}
 use Rattle.im_base_types.specs.Answers.{Do, Scan, limit_of}
 use Rattle.im_base_types.specs.Pages.{Entry}
 use Rattle.im_front_memory.specs.Numbered.{Numbered}
@@ -7,7 +7,7 @@ use Rattle.im_front_memory.specs.Stored.{state_of}
 use Rattle.im_front_memory.proofs.Moving.{lacking_kept}
 use Rattle.im_front_memory.proofs.AccessLemmas.{turned_kept, read_kept, is_scan, scanned}
 use Rattle.std.specs.Prelude.{filter}
-use Rattle.im_base_lock.specs.Found.{IsScanOf}
+use Rattle.im_engine_locks.specs.Found.{IsScanOf}
 use Rattle.im_front_memory.specs.Listed.{is_between, past_name}
 use Rattle.im_front_memory.proofs.memory_store.MemoryStore.scan.Goals as goal
 

@@ -1,7 +1,7 @@
 use Rattle.std.proofs.Common.{rules, ◌≡◌, ◌∙◌, ap, refl, List, option_copied}
-use Rattle.im_base_lock.specs.Table.{row, named}
-use Rattle.im_base_lock.specs.Rows.{name_of}
-use Rattle.im_base_lock.specs.declared.request.Request.{Request}
+use Rattle.im_engine_locks.specs.Requests.{row, named}
+use Rattle.im_theory_machine.specs.Rows.{name_of}
+use Rattle.im_engine_locks.specs.declared.request.Request.{Request}
 use Rattle.im_base_types.specs.Answers.{Seek}
 use Rattle.im_base_types.specs.Maps.{first_in, From}
 use Rattle.im_front_memory.specs.Numbered.{Numbered}

@@ -4,7 +4,7 @@ use Rattle.std.specs.Map.{lookup}
 use Rattle.std.specs.FinMap.{empty, entries, len-entries, len-empty}
 use Rattle.im_base_types.specs.Keys.{key_order}
 use Rattle.im_base_types.specs.Pages.{Entry}
-use Rattle.im_base_lock.specs.Table.{Table, locks_of}
+use Rattle.im_theory_machine.specs.Table.{Table, locks_of}
 use Rattle.im_base_txn.specs.declared.transaction.Transaction.{Transaction}
 use Rattle.im_base_txn.specs.Rows.{is_of}
 use Rattle.im_front_memory.specs.Changed.{net_in, effects_of}

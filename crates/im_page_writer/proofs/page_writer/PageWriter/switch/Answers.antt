@@ -2,7 +2,7 @@ use Rattle.std.proofs.Common.{◌≡◌, ℕ, ◌≤◌, ◌+◌, inr, refl, ◌
 use Rattle.std.specs.Prelude.{◌^◌}
 use Rattle.im_log_gate.specs.Gate.{generation_at}
 use Rattle.im_log.specs.declared.log_file.LogFile.{LogFile}
-use Rattle.im_log.specs.GoingOn.{next_gate}
+use Rattle.im_log.specs.Switching.{next_gate}
 use Rattle.im_page_pool.specs.Pool.{PoolView}
 use Rattle.im_base_disk.specs.Runs.{CostsAtMost}
 use Rattle.im_base_disk.proofs.Costs.{most_as, most_none, most_then}
@@ -16,8 +16,8 @@ use Rattle.im_page_writer.proofs.Switching.{early_told, flush_left, flush_refuse
 use Rattle.im_page_writer.proofs.Writers.{goes_on_start, goes_on_then}
 use Rattle.im_page_writer.proofs.page_writer.PageWriter.switch.Goals as goal
 
-pub returns-in_err-may_go_on-clause-kept : goal.returns-in_err-may_go_on-clause-kept
-returns-in_err-may_go_on-clause-kept g c b base s e is over =
+pub returns-in_err-may_switch-clause-kept : goal.returns-in_err-may_switch-clause-kept
+returns-in_err-may_switch-clause-kept g c b base s e is over =
     let old = c.args.disk.now in
     let on = goes_on_start g.D.Disk b base s c.args.self.now old (g.met.D.Disk.only_now old) is in
     record { ok = search rules; stops = grown_switching g.D.Disk b base s old old (record { high = s.log; grows = grows_none b s.log; stops = on.goes.stops }) }
@@ -71,14 +71,14 @@ returns-clause-kept g c b base s e is over =
     let three = c.in_ok-sync_pages.ensures.kept b base t (stands_on d b base s old t x behind on) in
     let u = synced t in
     let all = goes_on_then d b base s old t x behind on u y after three.ok in
-    kept_then d b base s old u y after all c.args.next c.turn.new.self c.turn.new.disk c.turn.result
-    (c.turn.ensures.kept b base u e (stands_on d b base s old u y after all) (one.on.goes.keeps.redo_end ∙ over) refl (λ p. synced_clean (one.now.pages p).entry (one.written p)) c.in_ok-sync_pages.ensures.durable)
+    kept_then d b base s old u y after all c.args.next c.switch_log.new.self c.switch_log.new.disk c.switch_log.result
+    (c.switch_log.ensures.kept b base u e (stands_on d b base s old u y after all) (one.on.goes.keeps.redo_end ∙ over) refl (λ p. synced_clean (one.now.pages p).entry (one.written p)) c.in_ok-sync_pages.ensures.durable)
 
-pub returns-in_err-may_go_on-clause-causes : goal.returns-in_err-may_go_on-clause-causes
-returns-in_err-may_go_on-clause-causes g c =
+pub returns-in_err-may_switch-clause-causes : goal.returns-in_err-may_switch-clause-causes
+returns-in_err-may_switch-clause-causes g c =
     let w = c.args.self.now in
-    let f = c.in_err-may_go_on.field-0.0 in
-    err_on c.from_residual.result f _ c.from_residual.ensures.1 (may_refuses g.D.Disk w.failed w.log c.args.disk.now f c.in_err-may_go_on.ensures.causes c.in_err-may_go_on.ensures.full c.in_err-may_go_on.ensures.capacity)
+    let f = c.in_err-may_switch.field-0.0 in
+    err_on c.from_residual.result f _ c.from_residual.ensures.1 (may_refuses g.D.Disk w.failed w.log c.args.disk.now f c.in_err-may_switch.ensures.causes c.in_err-may_switch.ensures.full c.in_err-may_switch.ensures.capacity)
 
 pub returns-in_err-flush_every-clause-causes : goal.returns-in_err-flush_every-clause-causes
 returns-in_err-flush_every-clause-causes g c =
@@ -96,10 +96,10 @@ returns-in_err-sync_pages-clause-causes g c =
     err_on c.from_residual-in_err-sync_pages.result f _ c.from_residual-in_err-sync_pages.ensures.1 (log_refuses g.D.Disk c.args.self.now.failed f c.in_err-sync_pages.ensures.outcome c.in_ok-force.ensures.outcome.ends.works c.in_err-sync_pages.ensures.room)
 
 pub returns-clause-causes : goal.returns-clause-causes
-returns-clause-causes g c = refused_from g.D.Disk c.args.self.now.failed c.turn.new.self.log c.turn.new.disk c.turn.result c.sync_pages.new.self.failed c.in_ok-sync_pages.ensures.outcome.ends.works c.turn.ensures.causes
+returns-clause-causes g c = refused_from g.D.Disk c.args.self.now.failed c.switch_log.new.self.log c.switch_log.new.disk c.switch_log.result c.sync_pages.new.self.failed c.in_ok-sync_pages.ensures.outcome.ends.works c.switch_log.ensures.causes
 
-pub returns-in_err-may_go_on-clause-few : goal.returns-in_err-may_go_on-clause-few
-returns-in_err-may_go_on-clause-few g c none = most_none g.D.Disk 5 6 c.args.disk.now
+pub returns-in_err-may_switch-clause-few : goal.returns-in_err-may_switch-clause-few
+returns-in_err-may_switch-clause-few g c none = most_none g.D.Disk 5 6 c.args.disk.now
 
 pub returns-in_err-flush_every-clause-few : goal.returns-in_err-flush_every-clause-few
 returns-in_err-flush_every-clause-few g c none = absurd (let clash = (c.in_err-flush_every.ensures.none none).0 in cc clash)
@@ -119,56 +119,56 @@ pub returns-clause-few : goal.returns-clause-few
 returns-clause-few g c none =
     let d = g.D.Disk in
     let two = most_then d 2 2 0 1 c.flush_every.new.disk c.force.new.disk c.sync_pages.new.disk c.in_ok-force.ensures.few c.in_ok-sync_pages.ensures.few in
-    subst (λ (from : _). CostsAtMost d 5 6 from c.turn.new.disk) (c.in_ok-flush_every.ensures.none none).1
-    (most_then d 2 3 3 3 c.flush_every.new.disk c.sync_pages.new.disk c.turn.new.disk two c.turn.ensures.few)
+    subst (λ (from : _). CostsAtMost d 5 6 from c.switch_log.new.disk) (c.in_ok-flush_every.ensures.none none).1
+    (most_then d 2 3 3 3 c.flush_every.new.disk c.sync_pages.new.disk c.switch_log.new.disk two c.switch_log.ensures.few)
 
-pub returns-in_err-may_go_on-clause-early : goal.returns-in_err-may_go_on-clause-early
-returns-in_err-may_go_on-clause-early g c e works early =
-    let f = c.in_err-may_go_on.field-0.0 in
-    (told_as c.from_residual.result f e c.from_residual.ensures.1 (early_told c.args.self.now.log f e c.in_err-may_go_on.ensures.full c.in_err-may_go_on.ensures.capacity early), refl, refl)
+pub returns-in_err-may_switch-clause-early : goal.returns-in_err-may_switch-clause-early
+returns-in_err-may_switch-clause-early g c e works early =
+    let f = c.in_err-may_switch.field-0.0 in
+    (told_as c.from_residual.result f e c.from_residual.ensures.1 (early_told c.args.self.now.log f e c.in_err-may_switch.ensures.full c.in_err-may_switch.ensures.capacity early), refl, refl)
 
 pub returns-in_err-flush_every-clause-early : goal.returns-in_err-flush_every-clause-early
-returns-in_err-flush_every-clause-early g c e works early = absurd (not_early _ _ c.args.self.now.log refl c.in_ok-may_go_on.ensures.full c.in_ok-may_go_on.ensures.capacity e early)
+returns-in_err-flush_every-clause-early g c e works early = absurd (not_early _ _ c.args.self.now.log refl c.in_ok-may_switch.ensures.full c.in_ok-may_switch.ensures.capacity e early)
 
 pub returns-in_err-force-clause-early : goal.returns-in_err-force-clause-early
-returns-in_err-force-clause-early g c e works early = absurd (not_early _ _ c.args.self.now.log refl c.in_ok-may_go_on.ensures.full c.in_ok-may_go_on.ensures.capacity e early)
+returns-in_err-force-clause-early g c e works early = absurd (not_early _ _ c.args.self.now.log refl c.in_ok-may_switch.ensures.full c.in_ok-may_switch.ensures.capacity e early)
 
 pub returns-in_err-sync_pages-clause-early : goal.returns-in_err-sync_pages-clause-early
-returns-in_err-sync_pages-clause-early g c e works early = absurd (not_early _ _ c.args.self.now.log refl c.in_ok-may_go_on.ensures.full c.in_ok-may_go_on.ensures.capacity e early)
+returns-in_err-sync_pages-clause-early g c e works early = absurd (not_early _ _ c.args.self.now.log refl c.in_ok-may_switch.ensures.full c.in_ok-may_switch.ensures.capacity e early)
 
 pub returns-clause-early : goal.returns-clause-early
-returns-clause-early g c e works early = absurd (not_early _ _ c.args.self.now.log refl c.in_ok-may_go_on.ensures.full c.in_ok-may_go_on.ensures.capacity e early)
+returns-clause-early g c e works early = absurd (not_early _ _ c.args.self.now.log refl c.in_ok-may_switch.ensures.full c.in_ok-may_switch.ensures.capacity e early)
 
-pub returns-in_err-may_go_on-clause-full : goal.returns-in_err-may_go_on-clause-full
-returns-in_err-may_go_on-clause-full g c is =
+pub returns-in_err-may_switch-clause-full : goal.returns-in_err-may_switch-clause-full
+returns-in_err-may_switch-clause-full g c is =
     let d = g.D.Disk in
     let w = c.args.self.now in
-    let f = c.in_err-may_go_on.field-0.0 in
-    let one = may_refused d w c.args.disk.now f c.requires.ready c.if-self.false c.in_err-may_go_on.ensures.causes c.in_err-may_go_on.ensures.full c.in_err-may_go_on.ensures.capacity in
+    let f = c.in_err-may_switch.field-0.0 in
+    let one = may_refused d w c.args.disk.now f c.requires.ready c.if-self.false c.in_err-may_switch.ensures.causes c.in_err-may_switch.ensures.full c.in_err-may_switch.ensures.capacity in
     one.full (told_same c.from_residual.result f _ c.from_residual.ensures.1 is)
 
-pub returns-in_err-may_go_on-clause-last : goal.returns-in_err-may_go_on-clause-last
-returns-in_err-may_go_on-clause-last g c is =
+pub returns-in_err-may_switch-clause-last : goal.returns-in_err-may_switch-clause-last
+returns-in_err-may_switch-clause-last g c is =
     let d = g.D.Disk in
     let w = c.args.self.now in
-    let f = c.in_err-may_go_on.field-0.0 in
-    let one = may_refused d w c.args.disk.now f c.requires.ready c.if-self.false c.in_err-may_go_on.ensures.causes c.in_err-may_go_on.ensures.full c.in_err-may_go_on.ensures.capacity in
+    let f = c.in_err-may_switch.field-0.0 in
+    let one = may_refused d w c.args.disk.now f c.requires.ready c.if-self.false c.in_err-may_switch.ensures.causes c.in_err-may_switch.ensures.full c.in_err-may_switch.ensures.capacity in
     one.last (told_same c.from_residual.result f _ c.from_residual.ensures.1 is)
 
-pub returns-in_err-may_go_on-clause-device : goal.returns-in_err-may_go_on-clause-device
-returns-in_err-may_go_on-clause-device g c works =
+pub returns-in_err-may_switch-clause-device : goal.returns-in_err-may_switch-clause-device
+returns-in_err-may_switch-clause-device g c works =
     let d = g.D.Disk in
     let w = c.args.self.now in
-    let f = c.in_err-may_go_on.field-0.0 in
-    let one = may_refused d w c.args.disk.now f c.requires.ready c.if-self.false c.in_err-may_go_on.ensures.causes c.in_err-may_go_on.ensures.full c.in_err-may_go_on.ensures.capacity in
+    let f = c.in_err-may_switch.field-0.0 in
+    let one = may_refused d w c.args.disk.now f c.requires.ready c.if-self.false c.in_err-may_switch.ensures.causes c.in_err-may_switch.ensures.full c.in_err-may_switch.ensures.capacity in
     told_device c.from_residual.result f _ c.from_residual.ensures.1 one.device
 
-pub returns-in_err-may_go_on-clause-fails : goal.returns-in_err-may_go_on-clause-fails
-returns-in_err-may_go_on-clause-fails g c =
+pub returns-in_err-may_switch-clause-fails : goal.returns-in_err-may_switch-clause-fails
+returns-in_err-may_switch-clause-fails g c =
     let d = g.D.Disk in
     let w = c.args.self.now in
-    let f = c.in_err-may_go_on.field-0.0 in
-    let one = may_refused d w c.args.disk.now f c.requires.ready c.if-self.false c.in_err-may_go_on.ensures.causes c.in_err-may_go_on.ensures.full c.in_err-may_go_on.ensures.capacity in
+    let f = c.in_err-may_switch.field-0.0 in
+    let one = may_refused d w c.args.disk.now f c.requires.ready c.if-self.false c.in_err-may_switch.ensures.causes c.in_err-may_switch.ensures.full c.in_err-may_switch.ensures.capacity in
     err_on c.from_residual.result f _ c.from_residual.ensures.1 one.fails
 
 pub returns-in_err-flush_every-clause-full : goal.returns-in_err-flush_every-clause-full
@@ -272,11 +272,11 @@ returns-clause-last g c is =
     let log = c.args.self.now.log in
     let w = c.flush_every.new.self in
     let same : generation_at c.sync_pages.new.self.log.gate ≡ generation_at log.gate = ap (λ (l : LogFile). generation_at l.gate) c.sync_pages.ensures.log ∙ c.force.ensures.generation ∙ c.in_ok-flush_every.ensures.outcome.ends.later.generation in
-    (gate_fits _ _ (next_gate log) refl c.in_ok-may_go_on.ensures.full, subst (λ (n : ℕ). 2 ^ 62 ≤ n + 1) same (c.turn.ensures.last is))
+    (gate_fits _ _ (next_gate log) refl c.in_ok-may_switch.ensures.full, subst (λ (n : ℕ). 2 ^ 62 ≤ n + 1) same (c.switch_log.ensures.last is))
 
 pub returns-clause-fails : goal.returns-clause-fails
-returns-clause-fails g c = if_err c.turn.result _ _ c.turn.ensures.failed (λ e broken. inr broken)
+returns-clause-fails g c = if_err c.switch_log.result _ _ c.switch_log.ensures.failed (λ e broken. inr broken)
 
 pub returns-clause-frames : goal.returns-clause-frames
 returns-clause-frames g c =
-    ap (λ (p : PoolView). p.frames) (c.turn.ensures.pool ∙ c.sync_pages.ensures.pool ∙ c.force.ensures.pool) ∙ c.in_ok-flush_every.ensures.outcome.frames
+    ap (λ (p : PoolView). p.frames) (c.switch_log.ensures.pool ∙ c.sync_pages.ensures.pool ∙ c.force.ensures.pool) ∙ c.in_ok-flush_every.ensures.outcome.frames

@@ -1,0 +1,12 @@
+//! How does an engine read and write files that its caller in C holds?
+//!
+//! A disk whose files the caller of the library has open: each device call is a question to the caller, over a pair of descriptors, and
+//! waits for its answer. So the caller alone opens, locks and closes the files, on a thread of its own.
+//!
+//! A question is 24 bytes, `kind`, `file`, `place` and `length` in 4, 4, 8 and 8 bytes, the lowest first, and the bytes of a write come after it.
+//! An answer is 8 bytes: a length, or 0 for what was done, or all ones for what failed; the bytes of a read come after a 0.
+#![tactic(auto)]
+
+mod caller_disk;
+
+pub use caller_disk::CallerDisk;

@@ -1,7 +1,0 @@
-use Rattle.im_base_lock.specs.Table.{row}
-use Rattle.im_base_lock.specs.InStep.{owned}
-use Rattle.im_base_lock.proofs.Conflicts.{no_rivals}
-use Rattle.im_base_lock.proofs.lock_table.rival_of.Goals as goal
-
-pub returns-then-is_alone : goal.returns-then-is_alone
-returns-then-is_alone c = no_rivals c.args.names.now (owned c.args.owners.now) c.requires c.args.t (row c.args.requests.now) (c.is_alone.ensures c.if-is_alone.true)

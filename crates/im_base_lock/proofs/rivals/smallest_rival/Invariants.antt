@@ -1,7 +1,0 @@
-use Rattle.std.proofs.Common.{take}
-use Rattle.im_base_lock.specs.Table.{row}
-use Rattle.im_base_lock.specs.Index.{IsLeast, is_rival_of}
-use Rattle.im_base_lock.proofs.rivals.smallest_rival.Given as goal
-
-abbrev pub invariant-loop-request : goal.invariant-loop-request
-invariant-loop-request l = IsLeast (is_rival_of l.names l.t (row (take l.request-index l.requests))) l.least

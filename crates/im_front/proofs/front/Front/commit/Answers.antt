@@ -1,0 +1,34 @@
+use Rattle.std.proofs.Common.{rules, ◌≡◌, true, false, Err, Result, IfOk, ℕ, refl, sym, ap, subst, ◌∙◌}
+use Rattle.im_base_types.specs.declared.fault.Fault.{Fault}
+use Rattle.im_base_steps.specs.Calls.{told_by, is_blocked}
+use Rattle.im_base_steps.specs.Replies.{is_full, lacks_memory}
+use Rattle.im_front.specs.Traces.{trace_of}
+use Rattle.im_front.specs.Acknowledged.{IsForced, IsStepOf, IsAcknowledged}
+use Rattle.im_front.specs.Acknowledged.IsAcknowledged.{at_once, by_force}
+use Rattle.im_front.proofs.Acknowledging.{held_whole, last_whole, map_ok}
+use Rattle.im_front.proofs.front.Front.commit.Goals as goal
+use Rattle.im_front.proofs.front.Front.commit.Goals.{in-Committed, in-Refused, in_default}
+
+pub returns-in-More-clause-acknowledged : goal.returns-in-More-clause-acknowledged
+returns-in-More-clause-acknowledged g c =
+    let more = c.in-More.is in
+    let full : is_full (told_by c.step-reply.result) ≡ false = ap (λ r. is_full (told_by r)) more in
+    let blocked : is_blocked (told_by c.step-reply.result) ≡ false = ap (λ r. is_blocked (told_by r)) more in
+    let memory : lacks_memory (told_by c.step-reply.result) ≡ false = ap (λ r. lacks_memory (told_by r)) more in
+    let at = c.forces-forces.ensures ∙ ap (λ s. s.forces) (c.deref-in-More.ensures ∙ sym c.deref.ensures) in
+    let grown = ap (λ s. trace_of s.trace) c.deref.ensures ∙ (c.step-reply.ensures.records.adds blocked full memory).0 in
+    let held = held_whole g.E.Store c.deref.result.now c.holds_always.ensures.run c.holds_always.ensures.forces c.holds_always.ensures.waiting in
+    let last = last_whole g.E.Store c.args.t c.deref.result.now _ c.step-reply.result held grown (ap told_by more) in
+    map_ok c.settle_all.result (IsForced g.E.Store c.forces-forces.result) (IsAcknowledged g.E.Store c.args.t)
+    (λ forced. by_force c.step-reply.result (ap told_by more) (record { was = _; now = _; step_made = c.step-reply.ensures.made full memory }) _ last
+    (subst (λ (n : ℕ). IsForced g.E.Store n) at forced))
+    c.settle_all.ensures.forced
+
+pub returns-clause-acknowledged : goal.returns-clause-acknowledged
+returns-clause-acknowledged g c =
+    let Says : Result Unit Fault → Type 0 = λ r. IfOk r (λ x. IsAcknowledged g.E.Store c.args.t) in
+    elim c.match-reply.branch [
+      | in-Committed w ↦ subst Says (sym w.done-is) (at_once c.step-reply.result (ap told_by w.in-Committed.is) (record { was = _; now = _; step_made = c.step-reply.ensures.made (ap (λ r. is_full (told_by r)) w.in-Committed.is) (ap (λ r. lacks_memory (told_by r)) w.in-Committed.is) }))
+      | in-Refused w ↦ subst Says (sym w.done-is) tt
+      | in_default w ↦ subst Says (sym w.done-is) tt
+    ]

@@ -1,0 +1,24 @@
+-- Files while a log goes on in the other one.
+use Rattle.std.specs.Prelude.{◌≡◌, ◌↔◌, ℕ, ◌≤◌, Bool}
+use Rattle.im_base_types.specs.declared.file_id.FileId.TheVariants.{Log, Pages, Log2}
+use Rattle.im_base_disk.specs.declared.disk.Disk.{Ghosts}
+use Rattle.im_base_disk.specs.Disk.{Files}
+use Rattle.im_base_two_logs.specs.Renamed.{named}
+use Rattle.im_log_header.specs.Header.{IsBeingMade}
+
+-- A run that reads, and gives the two logs names: those from before, or each that of the other.
+pub record ReadsNamed {D : Type 0} (d : Ghosts D) (old new : D) : Type 0 where
+  pub swapped : Bool
+  pub seen : d.seen new ≡ named swapped (d.seen old)
+  pub outcomes : (c : Files) → d.may_leave new c ↔ d.may_leave old (named swapped c)
+  pub later : d.moment old ≤ d.moment new
+  pub since : (t : ℕ) (c : Files) → t ≤ d.moment old → d.left_since new t c ↔ d.left_since old t (named swapped c)
+  pub writes : d.writes new ≡ d.writes old
+  pub syncs : d.syncs new ≡ d.syncs old
+
+-- By some names the files are as they were but for the other log, which is as it was, not made, or a log with this header and no batch.
+pub record IsSwitching (old : Files) (generation base next : ℕ) (files : Files) : Type 0 where
+  pub swapped : Bool
+  pub log : named swapped files Log ≡ old Log
+  pub pages : named swapped files Pages ≡ old Pages
+  pub other : IsBeingMade (old Log2) generation base next (named swapped files Log2)

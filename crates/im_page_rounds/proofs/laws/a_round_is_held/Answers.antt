@@ -1,5 +1,0 @@
-use Rattle.im_page_rounds.proofs.Held.{round_held}
-use Rattle.im_page_rounds.proofs.laws.a_round_is_held.Goals as goal
-
-pub returns : goal.returns
-returns c = round_held

@@ -1,5 +1,0 @@
-use Rattle.im_page_rounds.proofs.Changes.{changes_alone}
-use Rattle.im_page_rounds.proofs.laws.pages_need_changes_alone.Goals as goal
-
-pub returns : goal.returns
-returns c = changes_alone

@@ -1,5 +1,0 @@
-use Rattle.im_page_rounds.proofs.Pages.{own_records}
-use Rattle.im_page_rounds.proofs.laws.pages_need_their_own_records.Goals as goal
-
-pub returns : goal.returns
-returns c = own_records

@@ -1,5 +1,0 @@
-use Rattle.im_smo_drop_leaf.proofs.PlanWays.{deletion_plans_keep_ways}
-use Rattle.im_smo_drop_leaf.proofs.laws.deletion_plans_keep_ways.Goals as goal
-
-pub returns : goal.returns
-returns c = deletion_plans_keep_ways

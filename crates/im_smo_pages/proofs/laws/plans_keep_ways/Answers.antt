@@ -1,5 +1,0 @@
-use Rattle.im_smo_pages.proofs.PlanWays.{plans_keep_ways}
-use Rattle.im_smo_pages.proofs.laws.plans_keep_ways.Goals as goal
-
-pub returns : goal.returns
-returns c = plans_keep_ways

@@ -1,8 +1,0 @@
-use Rattle.im_smo_split.proofs.Turning.{inner_low, inner_high}
-use Rattle.im_smo_split.proofs.laws.inner_splits_lead_on.Goals as goal
-
-pub returns-clause-low : goal.returns-clause-low
-returns-clause-low c = inner_low
-
-pub returns-clause-high : goal.returns-clause-high
-returns-clause-high c = inner_high

@@ -1,8 +1,0 @@
-use Rattle.im_smo_split.proofs.Turning.{root_low, root_high}
-use Rattle.im_smo_split.proofs.laws.root_splits_lead_on.Goals as goal
-
-pub returns-clause-low : goal.returns-clause-low
-returns-clause-low c = root_low
-
-pub returns-clause-high : goal.returns-clause-high
-returns-clause-high c = root_high

@@ -1,0 +1,8 @@
+use Rattle.im_smo_split.proofs.PendingChains.{leaf_ends, root_leaf_ends}
+use Rattle.im_smo_split.proofs.left_to_split.leaf_splits_end.Goals as goal
+
+pub returns-clause-leaf : goal.returns-clause-leaf
+returns-clause-leaf c = leaf_ends
+
+pub returns-clause-root : goal.returns-clause-root
+returns-clause-root c = root_leaf_ends

@@ -1,0 +1,284 @@
+//! What a store answers to lines, on the model disk and in a folder.
+
+ghost use Rattle.std.specs.Prelude.{◌≡◌, false};
+ghost use Rattle.im_base_disk.specs.Runs.{IsSynced};
+
+use im_base_disk::Disk;
+use im_base_file_disk::FileDisk;
+use im_base_model_disk::ModelDisk;
+use im_base_two_logs::Renamed;
+use im_base_types::Fault;
+use im_engine::Config;
+use im_engine_upkeep::Bounds;
+use im_tool::{Cause, Causes, Manner, Opening, StoreEnd, store_text};
+use std::alloc::Global;
+use std::io::BufReader;
+use std::test::Fail;
+use std::thread::Threads;
+use std::{fs, io};
+
+// Lines on the model disk, and what is answered.
+struct Run {
+    name: &'static str,
+    log: &'static [u8],
+    // The device call that fails, from 1; with 0 none does.
+    fails: u64,
+    // How much an opening may have to redo, in bytes; with 0 any.
+    bound: u64,
+    manner: Manner,
+    lines: &'static str,
+    end: StoreEnd,
+    printed: &'static str,
+}
+
+const BY_NUMBERS: Manner = Manner {
+    has_words: false,
+    has_prompt: false,
+    is_batch: false,
+};
+
+const IN_WORDS: Manner = Manner {
+    has_words: true,
+    has_prompt: false,
+    is_batch: false,
+};
+
+const AS_BATCH: Manner = Manner {
+    has_words: false,
+    has_prompt: false,
+    is_batch: true,
+};
+
+static RUNS: [Run; 8] = [
+    Run {
+        name: "a store answers each line",
+        log: b"",
+        fails: 0,
+        bound: 0,
+        manner: BY_NUMBERS,
+        lines: "begin\r\n\ninsert 1 a 7\ninsert 1 a 8\nfetch 1 a\nfetch 1 b\ndelete 1 b\ncalls\nredo\ninsert 1 b 1\ndelete 1 b\ncommit 2\ncommit 1\nentries",
+        end: StoreEnd::Input,
+        printed: "started 1\ninserted\nduplicate\nfound 7\nabsent\nabsent\nrefused 16\nredo 0 0\ninserted\ndeleted\nrefused 1\ncommitted\ntotal 1\n61 7\n",
+    },
+    Run {
+        name: "a log of another file is no store",
+        log: b"\x01A",
+        fails: 0,
+        bound: 0,
+        manner: BY_NUMBERS,
+        lines: "entries",
+        end: StoreEnd::RefusedOpening(Fault::NotAStore),
+        printed: "open refused 11\n",
+    },
+    Run {
+        name: "a store answers in words",
+        log: b"",
+        fails: 0,
+        bound: 0,
+        manner: IN_WORDS,
+        lines: "begin\ninsert 1 x'6100ff' 1\ninsert 1 \"b c\" 2\ninsert 1 x'' 3\ninsert 1 x'6 3\ninsert 1 \"b+c\" 3\nfetch 1 x'622063'\ncommit 2\nseek 1 x'61'\nscan 1 x'61' \"b c\" 9\nnext 1 \"b c\"\nnext 1 c\nprev 1 \"b+c\"\nprev 1 x'61'\nprev 1 x''\nentries\n",
+        end: StoreEnd::Input,
+        printed: "started 1\ninserted\ninserted\nrefused 3: a key has 1 to 255 bytes\nrefused 16: a bad line: KEY is not written so in `insert N KEY ROWID`, `help KEY` says how\ninserted\nfound 2\nrefused 1: no active transaction of that number\nentry x'6100ff' 1\nentries x'6100ff' 1 \"b c\" 2\nentry \"b+c\" 3\nend\nentry \"b c\" 2\nend\nrefused 3: a key has 1 to 255 bytes\ntotal 3\nx'6100ff' 1\n\"b c\" 2\n\"b+c\" 3\n",
+    },
+    Run {
+        name: "help on a word, nothing right after a quoted key, and quit",
+        log: b"",
+        fails: 0,
+        bound: 0,
+        manner: IN_WORDS,
+        lines: "help die\nhelp force\nhelp di\nbegin\nfetch 1 \"a b\"c\nfetch 1 x'61'62\nfetch 1 \"é\"\nscan 1 \"a\" \"b\"c 9\nquit\nbegin\n",
+        end: StoreEnd::Input,
+        printed: "Nothing was done: an older transaction is in the way. `rollback N`, `continue N` while there is `more`, and begin again.\nforce                    makes the log durable\nA commit does that by itself.\nrefused 16: a bad line\nstarted 1\nrefused 16: a bad line: KEY is not written so in `fetch N KEY`, `help KEY` says how\nrefused 16: a bad line: KEY is not written so in `fetch N KEY`, `help KEY` says how\nabsent\nrefused 16: a bad line: KEY is not written so in `scan N KEY KEY LIMIT`, `help KEY` says how\n",
+    },
+    Run {
+        name: "a batch ends at a refused line",
+        log: b"",
+        fails: 0,
+        bound: 0,
+        manner: AS_BATCH,
+        lines: "begin\ncommit 2\ncommit 1\n",
+        end: StoreEnd::RefusedLine,
+        printed: "started 1\nrefused 1\n",
+    },
+    // A creation makes six device calls, and the commit four: the eleventh is the first of the close.
+    Run {
+        name: "a refused close is told",
+        log: b"",
+        fails: 11,
+        bound: 16_777_216,
+        manner: BY_NUMBERS,
+        lines: "begin\ninsert 1 a 7\ncommit 1\n",
+        end: StoreEnd::RefusedClose(Fault::Device),
+        printed: "started 1\ninserted\ncommitted\nclose refused 8\n",
+    },
+    Run {
+        name: "without a bound nothing is done there",
+        log: b"",
+        fails: 11,
+        bound: 0,
+        manner: BY_NUMBERS,
+        lines: "begin\ninsert 1 a 7\ncommit 1\n",
+        end: StoreEnd::Input,
+        printed: "started 1\ninserted\ncommitted\n",
+    },
+    Run {
+        name: "a Checkpoint in between is told after the reply to the step that it follows, and what comes after it is refused too",
+        log: b"",
+        fails: 11,
+        bound: 4_096,
+        manner: BY_NUMBERS,
+        lines: "begin\ncommit 1\nbegin\ninsert 2 a 7\ncommit 2\nbegin\n",
+        end: StoreEnd::Input,
+        printed: "started 1\ncommitted\nstarted 2\ninserted\ncheckpoint refused 8\nrefused 10\nrefused 10\n",
+    },
+];
+
+// What a store on a disk answers to these lines, and how the run ended.
+fn answers<D: Disk + Cause + Opening + Drop, R: Threads + Sync>(
+    rt: &R,
+    alloc: Global,
+    disk: D,
+    bound: u64,
+    manner: Manner,
+    lines: &str,
+) -> io::Result<(StoreEnd, Vec<u8>)>
+    requires working { D.failed disk ≡ false }
+    requires synced { IsSynced D.Disk disk }
+{
+    let mut reader = BufReader::new(alloc, lines.as_bytes())?;
+    let mut printed = Vec::new(alloc);
+    let mut causes = Causes {
+        writer: Vec::new(alloc),
+        dir: "",
+        is_told: false,
+    };
+    let end = store_text(
+        rt,
+        alloc,
+        Renamed::new(disk, false),
+        Config::default(),
+        Bounds::of_bytes(bound, 0),
+        manner,
+        &mut reader,
+        &mut printed,
+        &mut causes,
+    )?;
+    Ok((end, printed))
+}
+
+// Whether a run ends and answers as it says.
+fn is_so<R: Threads + Sync>(rt: &R, alloc: Global, run: &Run) -> io::Result<bool> {
+    let log = Vec::from_slice(alloc, run.log)?;
+    let mut disk = ModelDisk::new(log, Vec::new(alloc));
+    disk.fail_call(run.fails);
+    let (end, printed) = answers(rt, alloc, disk, run.bound, run.manner, run.lines)?;
+    Ok(end == run.end && printed.as_slice() == run.printed.as_bytes())
+}
+
+#[test]
+fn a_store_answers_its_lines(rt: HostRuntime) -> Result<(), Fail> {
+    for run in &RUNS {
+        assert!(rt; is_so(&rt, rt.alloc(), run)?, "{}", run.name);
+    }
+    Ok(())
+}
+
+// What a store in a folder answers to these lines, and how the run ended.
+fn kept<R: Threads + Sync>(
+    rt: &HostRuntime,
+    threads: &R,
+    folder: &str,
+    bound: u64,
+    lines: &str,
+) -> Result<(StoreEnd, Vec<u8>), Fail> {
+    let disk = FileDisk::open(rt, folder)?;
+    Ok(answers(threads, rt.alloc(), disk, bound, BY_NUMBERS, lines)?)
+}
+
+// Whether a store in a folder comes to the input's end, and answers this and no more to these lines.
+fn keeps<R: Threads + Sync>(
+    rt: &HostRuntime,
+    threads: &R,
+    folder: &str,
+    bound: u64,
+    lines: &str,
+    want: &str,
+) -> Result<bool, Fail> {
+    let (end, printed) = kept(rt, threads, folder, bound, lines)?;
+    Ok(end == StoreEnd::Input && printed.as_slice() == want.as_bytes())
+}
+
+// Lines in turn for one folder, and what is answered.
+static KEPT: [(&str, &str); 2] = [
+    (
+        "begin\ninsert 1 a 7\ncommit 1\nbegin\ninsert 2 b 8\n",
+        "started 1\ninserted\ncommitted\nstarted 2\ninserted\n",
+    ),
+    ("entries\n", "total 1\n61 7\n"),
+];
+
+#[test]
+fn a_store_in_a_folder_keeps_its_keys(rt: HostRuntime) -> Result<(), Fail> {
+    let _ = fs::remove_dir_all(&rt, "im_tool_kept");
+    for (lines, want) in &KEPT {
+        assert!(rt; keeps(&rt, &rt, "im_tool_kept", 0, lines, want)?, "{lines}");
+    }
+    fs::remove_dir_all(&rt, "im_tool_kept")?;
+    Ok(())
+}
+
+const THREE: &str = "begin\ninsert 1 a 7\ninsert 1 b 8\ninsert 1 c 9\ncommit 1\nredo\n";
+
+// Whether the store in the folder comes to the input's end, and what it answers to these lines begins and ends so.
+fn is_kept<R: Threads + Sync>(
+    rt: &HostRuntime,
+    threads: &R,
+    bound: u64,
+    lines: &str,
+    first: &str,
+    last: &str,
+) -> Result<bool, Fail> {
+    let (end, printed) = kept(rt, threads, "im_tool_closed", bound, lines)?;
+    Ok(
+        end == StoreEnd::Input
+            && printed.starts_with(first.as_bytes())
+            && printed.ends_with(last.as_bytes()),
+    )
+}
+
+// Both files of the store in the folder.
+fn files(rt: &HostRuntime) -> io::Result<(Vec<u8>, Vec<u8>)> {
+    let log = fs::read(rt, "im_tool_closed/log")?;
+    let pages = fs::read(rt, "im_tool_closed/pages")?;
+    Ok((log, pages))
+}
+
+fn has_three<R: Threads + Sync>(rt: &HostRuntime, threads: &R, bound: u64) -> Result<bool, Fail> {
+    let want = "total 3\n61 7\n62 8\n63 9\n";
+    keeps(rt, threads, "im_tool_closed", bound, "entries\n", want)
+}
+
+// Whether one more opening and close find the three entries, and leave the files as they are.
+fn is_left<R: Threads + Sync>(rt: &HostRuntime, threads: &R, bound: u64) -> Result<bool, Fail> {
+    let left = files(rt)?;
+    Ok(has_three(rt, threads, bound)? && files(rt)? == left)
+}
+
+// Three inserts are redone where nothing bounds that, and none after a close.
+#[test]
+fn a_closed_store_has_nothing_to_redo(rt: HostRuntime) -> Result<(), Fail> {
+    for (bound, want) in [(0, "redo 52 3\n"), (16_777_216, " 0\n")] {
+        let _ = fs::remove_dir_all(&rt, "im_tool_closed");
+        assert!(rt;
+            is_kept(&rt, &rt, bound, THREE, "", "committed\nredo 0 0\n")?,
+            "{bound}"
+        );
+        assert!(rt;
+            is_kept(&rt, &rt, bound, "redo\n", "redo ", want)?,
+            "{bound}"
+        );
+        assert!(rt; is_left(&rt, &rt, bound)?, "{bound}");
+    }
+    fs::remove_dir_all(&rt, "im_tool_closed")?;
+    Ok(())
+}

@@ -1,0 +1,233 @@
+//! What a load tells of how far it is, and what it takes of the portable form.
+
+use im_base_model_disk::ModelDisk;
+use im_base_steps::Step;
+use im_base_two_logs::Renamed;
+use im_engine::{Config, Engine};
+use im_engine_upkeep::Bounds;
+use im_tool::{
+    Causes, Form, LoadCount, Loaded, Present, ProgressLine, Untold, WhyBad, dump_text, load_text,
+};
+use std::alloc::Global;
+use std::io;
+use std::io::{BufReader, Write};
+use std::test::Fail;
+use std::thread::Threads;
+use std::time::Clock;
+
+// Writes so many entries as a dump has them.
+fn write_entries(text: &mut Vec<u8>, count: u32) -> io::Result<()> {
+    writeln!(text, "imstore entries {count}")?;
+    for n in 0..count {
+        writeln!(text, "k{n} {n}")?;
+    }
+    Ok(())
+}
+
+// What a load of a text answers that finds these keys there, and what it tells of how far it is.
+fn loaded<R: Threads + Clock + Sync>(
+    rt: &R,
+    alloc: Global,
+    present: Present,
+    text: &[u8],
+    is_shown: bool,
+) -> io::Result<(Loaded, Vec<u8>)> {
+    let mut reader = BufReader::new(alloc, text)?;
+    let mut progress = ProgressLine::new(Vec::new(alloc), is_shown, "entries", rt);
+    let disk = ModelDisk::new(Vec::new(alloc), Vec::new(alloc));
+    let mut causes = Causes {
+        writer: Vec::new(alloc),
+        dir: "",
+        is_told: false,
+    };
+    let end = load_text(
+        rt,
+        alloc,
+        Renamed::new(disk, false),
+        Config::default(),
+        Bounds::of_bytes(0, 0),
+        present,
+        &mut reader,
+        &mut progress,
+        &mut causes,
+    )?;
+    Ok((end, progress.into_writer()))
+}
+
+// So many entries put in, and no key that was there.
+fn put(count: u64) -> LoadCount {
+    LoadCount {
+        put: count,
+        skipped: 0,
+        others: 0,
+        replaced: 0,
+    }
+}
+
+// How many entries are loaded, whether it is shown how far that is, and how what is told then begins and ends: the rate is the clock's.
+static LOADS: [(u32, bool, &str, &str); 2] = [
+    (
+        1_003,
+        true,
+        "\r1000 of 1003 entries\x1b[K\r1003 of 1003 entries, ",
+        " a second\x1b[K\n",
+    ),
+    (3, false, "", ""),
+];
+
+#[test]
+fn a_load_tells_how_far_it_is(rt: HostRuntime) -> Result<(), Fail> {
+    for (count, is_shown, begin, end) in &LOADS {
+        let mut text = Vec::new(rt.alloc());
+        write_entries(&mut text, *count)?;
+        let (loaded, told) = loaded(&rt, rt.alloc(), Present::Refused, &text, *is_shown)?;
+        assert!(rt; loaded == Loaded::All(put(u64::from(*count))));
+        assert!(rt;
+            told.starts_with(begin.as_bytes()) && told.ends_with(end.as_bytes()),
+            "{count}"
+        );
+        assert!(rt; *is_shown || told.is_empty());
+    }
+    Ok(())
+}
+
+// Texts in the portable form, as LMDB and Berkeley DB dump them, and how their load ends.
+static PORTABLE: [(&str, Loaded); 9] = [
+    (
+        "VERSION=3\nformat=bytevalue\ntype=btree\nmapsize=1048576\nmaxreaders=126\ndb_pagesize=4096\nHEADER=END\n 61\n 0000000000000007\n 62FF\n ffffffffffffffff\nDATA=END\n",
+        Loaded::All(LoadCount {
+            put: 2,
+            skipped: 0,
+            others: 0,
+            replaced: 0,
+        }),
+    ),
+    (
+        "VERSION=3\nHEADER=END\nDATA=END\n",
+        Loaded::All(LoadCount {
+            put: 0,
+            skipped: 0,
+            others: 0,
+            replaced: 0,
+        }),
+    ),
+    (
+        "VERSION=3\nformat=print\n",
+        Loaded::BadLine(2, WhyBad::Head),
+    ),
+    ("VERSION=3\ntype=recno\n", Loaded::BadLine(2, WhyBad::Head)),
+    (
+        "VERSION=3\nHEADER=END\n 61\n 07000000\n",
+        Loaded::BadLine(4, WhyBad::OtherRid),
+    ),
+    (
+        "VERSION=3\nHEADER=END\n61\n 0000000000000007\n",
+        Loaded::BadLine(3, WhyBad::NoDigits),
+    ),
+    (
+        "VERSION=3\nHEADER=END\n 61\n 0000000000000007\n",
+        Loaded::BadLine(5, WhyBad::Ended),
+    ),
+    (
+        "VERSION=3\nHEADER=END\n 61\n 0000000000000007\n 61\n 0000000000000008\nDATA=END\n",
+        Loaded::Duplicate(5),
+    ),
+    (
+        "VERSION=3\nHEADER=END\n 61\n 0000000000000007\nDATA=END\nVERSION=3\n",
+        Loaded::BadLine(6, WhyBad::More),
+    ),
+];
+
+// Whether the load of a text ends so.
+fn ends<R: Threads + Clock + Sync>(
+    rt: &R,
+    alloc: Global,
+    text: &str,
+    want: &Loaded,
+) -> io::Result<bool> {
+    let (end, _told) = loaded(rt, alloc, Present::Refused, text.as_bytes(), false)?;
+    Ok(end == *want)
+}
+
+// What becomes of a key that stands twice in a text, once with the same row id and once with another.
+static TWICE: [(Present, Loaded); 3] = [
+    (Present::Refused, Loaded::Duplicate(3)),
+    (
+        Present::Skipped,
+        Loaded::All(LoadCount {
+            put: 1,
+            skipped: 2,
+            others: 1,
+            replaced: 0,
+        }),
+    ),
+    (
+        Present::Replaced,
+        Loaded::All(LoadCount {
+            put: 1,
+            skipped: 0,
+            others: 0,
+            replaced: 2,
+        }),
+    ),
+];
+
+#[test]
+fn keys_that_are_there_are_left_or_replaced(rt: HostRuntime) -> Result<(), Fail> {
+    for (present, want) in &TWICE {
+        let text = b"imstore entries 3\na 7\na 7\na 8\n".as_slice();
+        let (end, _told) = loaded(&rt, rt.alloc(), *present, text, false)?;
+        assert!(rt; end == *want);
+    }
+    Ok(())
+}
+
+#[test]
+fn a_load_takes_the_portable_form(rt: HostRuntime) -> Result<(), Fail> {
+    for (text, want) in &PORTABLE {
+        assert!(rt; ends(&rt, rt.alloc(), text, want)?, "{text}");
+    }
+    Ok(())
+}
+
+// What a dump of a store of one entry prints, in a form.
+fn dumped<R: Threads + Sync>(rt: &R, alloc: Global, form: Form) -> Result<Vec<u8>, Fail> {
+    let disk = ModelDisk::new(Vec::new(alloc), Vec::new(alloc));
+    let mut engine = match Engine::open_or_create(
+        rt,
+        alloc,
+        Renamed::new(disk, false),
+        Config::default(),
+    ) {
+        Ok(engine) => engine,
+        Err((fault, _disk)) => return Err(Fail::from(fault)),
+    };
+    let key = Vec::from_slice(alloc, b"a b")?;
+    let steps = [Step::Begin, Step::Insert(1, key, 255), Step::Commit(1)];
+    for step in &steps {
+        let _reply = engine.step(step);
+    }
+    let mut text = Vec::new(alloc);
+    let refused = dump_text(alloc, &mut engine, &mut text, form, &mut Untold)?;
+    if refused.is_some() {
+        text.clear();
+    }
+    Ok(text)
+}
+
+static DUMPS: [(Form, &str); 2] = [
+    (Form::Own, "imstore entries 1\n\"a b\" 255\n"),
+    (
+        Form::Portable,
+        "VERSION=3\nformat=bytevalue\ntype=btree\nHEADER=END\n 612062\n 00000000000000ff\nDATA=END\n",
+    ),
+];
+
+#[test]
+fn a_dump_has_two_forms(rt: HostRuntime) -> Result<(), Fail> {
+    for (form, want) in &DUMPS {
+        let text = dumped(&rt, rt.alloc(), *form)?;
+        assert!(rt; text.as_slice() == want.as_bytes(), "{want}");
+    }
+    Ok(())
+}

@@ -1,0 +1,10 @@
+pub mod Locks
+pub mod Table
+pub mod Rows
+pub mod View
+pub mod Machine
+pub mod Isolation
+pub mod Kept
+pub mod Serving
+pub mod Changing
+pub mod Worked

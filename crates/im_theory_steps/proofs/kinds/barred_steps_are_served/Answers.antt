@@ -1,5 +1,0 @@
-use Rattle.im_theory_steps.proofs.Steps.{barred_served}
-use Rattle.im_theory_steps.proofs.kinds.barred_steps_are_served.Goals as goal
-
-pub returns : goal.returns
-returns c = barred_served

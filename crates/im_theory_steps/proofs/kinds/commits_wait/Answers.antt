@@ -1,5 +1,0 @@
-use Rattle.im_theory_steps.proofs.Steps.{commits_wait}
-use Rattle.im_theory_steps.proofs.kinds.commits_wait.Goals as goal
-
-pub returns : goal.returns
-returns c = commits_wait

@@ -1,5 +1,0 @@
-use Rattle.im_theory_steps.proofs.Steps.{ends_served}
-use Rattle.im_theory_steps.proofs.kinds.ends_are_served.Goals as goal
-
-pub returns : goal.returns
-returns c = ends_served

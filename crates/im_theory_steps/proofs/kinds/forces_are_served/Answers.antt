@@ -1,5 +1,0 @@
-use Rattle.im_theory_steps.proofs.Steps.{forces_served}
-use Rattle.im_theory_steps.proofs.kinds.forces_are_served.Goals as goal
-
-pub returns : goal.returns
-returns c = forces_served

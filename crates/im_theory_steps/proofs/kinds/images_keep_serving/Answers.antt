@@ -1,5 +1,0 @@
-use Rattle.im_theory_steps.proofs.Steps.{images_keep}
-use Rattle.im_theory_steps.proofs.kinds.images_keep_serving.Goals as goal
-
-pub returns : goal.returns
-returns c = images_keep

@@ -1,5 +1,0 @@
-use Rattle.im_theory_steps.proofs.Steps.{lacks_served}
-use Rattle.im_theory_steps.proofs.kinds.lacks_are_served.Goals as goal
-
-pub returns : goal.returns
-returns c = lacks_served

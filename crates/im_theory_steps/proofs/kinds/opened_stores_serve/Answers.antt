@@ -1,5 +1,0 @@
-use Rattle.im_theory_steps.proofs.Steps.{opened_serves}
-use Rattle.im_theory_steps.proofs.kinds.opened_stores_serve.Goals as goal
-
-pub returns : goal.returns
-returns c = opened_serves

@@ -1,5 +1,0 @@
-use Rattle.im_theory_steps.proofs.Steps.{reads_served}
-use Rattle.im_theory_steps.proofs.kinds.reads_are_served.Goals as goal
-
-pub returns : goal.returns
-returns c = reads_served

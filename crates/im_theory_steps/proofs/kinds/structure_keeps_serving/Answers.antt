@@ -1,5 +1,0 @@
-use Rattle.im_theory_steps.proofs.Steps.{structure_keeps}
-use Rattle.im_theory_steps.proofs.kinds.structure_keeps_serving.Goals as goal
-
-pub returns : goal.returns
-returns c = structure_keeps

@@ -1,5 +1,0 @@
-use Rattle.im_theory_steps.proofs.Steps.{unlogged_commits_served}
-use Rattle.im_theory_steps.proofs.kinds.unlogged_commits_are_served.Goals as goal
-
-pub returns : goal.returns
-returns c = unlogged_commits_served

@@ -1,5 +1,0 @@
-use Rattle.im_theory_steps.proofs.Steps.{ways_lead_on}
-use Rattle.im_theory_steps.proofs.kinds.ways_lead_on.Goals as goal
-
-pub returns : goal.returns
-returns c = ways_lead_on

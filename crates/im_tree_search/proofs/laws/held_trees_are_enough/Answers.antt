@@ -1,5 +1,0 @@
-use Rattle.im_tree_search.proofs.HeldTrees.{tree_held}
-use Rattle.im_tree_search.proofs.laws.held_trees_are_enough.Goals as goal
-
-pub returns : goal.returns
-returns c pages key pool good all = tree_held pages key pool good all

@@ -1,5 +1,0 @@
-use Rattle.im_tree_search.proofs.GoingOn.{searches_go_on}
-use Rattle.im_tree_search.proofs.laws.searches_go_on.Goals as goal
-
-pub returns : goal.returns
-returns c = searches_go_on
