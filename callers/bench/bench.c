@@ -47,7 +47,13 @@ static unsigned vah_scan_(struct user *u, uint64_t from)
 	return (unsigned)count;
 }
 static void vah_end_(struct user *u, int writes) { (void)writes; OK(vah_commit(u->txn)); }
-static void vah_close_(void) { OK(vah_close(store)); }
+static void vah_close_(void)
+{
+	vah_info info;
+	OK(vah_stat(store, &info));
+	printf("c vah %u in all: %llu restarts, %llu waits\n", threads, (unsigned long long)info.restarts, (unsigned long long)info.waits);
+	OK(vah_close(store));
+}
 
 static void mdb_open_(const char *dir)
 {
@@ -84,7 +90,7 @@ static unsigned mdb_scan_(struct user *u, uint64_t from)
 	OK(mdb_cursor_open(u->mdb, dbi, &cursor));
 	for (int rc = mdb_cursor_get(cursor, &k, &v, MDB_SET_RANGE); !rc && count < LIMIT; rc = mdb_cursor_get(cursor, &k, &v, MDB_NEXT), count++) {
 		memcpy(entries[count].key, k.mv_data, 8);
-		memcpy(&entries[count].number, v.mv_data, 8);
+		memcpy(&entries[count].rid, v.mv_data, 8);
 	}
 	mdb_cursor_close(cursor);
 	return count;
@@ -130,7 +136,7 @@ static unsigned sql_scan_(struct user *u, uint64_t from)
 	sqlite3_bind_blob(u->scan, 1, &from, 8, SQLITE_STATIC);
 	for (; sqlite3_step(u->scan) == SQLITE_ROW; count++) {
 		memcpy(entries[count].key, sqlite3_column_blob(u->scan, 0), 8);
-		entries[count].number = (uint64_t)sqlite3_column_int64(u->scan, 1);
+		entries[count].rid = (uint64_t)sqlite3_column_int64(u->scan, 1);
 	}
 	sqlite3_reset(u->scan);
 	return count;

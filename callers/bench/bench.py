@@ -38,6 +38,11 @@ class Vah:
                     break
             return n
 
+    def close(self) -> None:
+        info = self.store.info()
+        print(f"python vah {THREADS} in all: {info['restarts']} restarts, {info['waits']} waits")
+        self.store.close()
+
 
 class Lmdb:
     def __init__(self) -> None:
@@ -64,6 +69,9 @@ class Lmdb:
                     if n == 100:
                         break
             return n
+
+    def close(self) -> None:
+        self.env.close()
 
 
 user = Vah() if who == "vah" else Lmdb()
@@ -92,3 +100,4 @@ timed("inserts, 64 a commit", KEYS, 64, lambda i: user.insert([(keys[j], j) for 
 timed("inserts, 1 a commit", COMMITS, 1, lambda i: user.insert([(late[i], i)]))
 timed("look-ups, 100 a transaction", READS, 100, look_up)
 timed("scans of 100", SCANS, 1, lambda i: user.scan(mix(i)))
+user.close()

@@ -5,17 +5,10 @@
 #include "work.h"
 #include <string.h>
 
-struct handle;
-size_t im_size(void);
-void im_init(struct handle *at);
-void im_step(struct handle *at, struct call *call);
-enum { BEGIN, FETCH, SCAN = 4, INSERT, COMMIT = 7, OPEN = 14, CLOSE };
-enum { FOUND = 1, ENTRIES = 5, INSERTED, COMMITTED = 9, DONE = 14 };
-
 static struct handle *handle;
 static struct call call;
 
-static void ask(uint32_t step, uint64_t key, uint64_t number, uint32_t wanted)
+static void made(uint32_t step, uint64_t key, uint64_t number, uint32_t wanted)
 {
 	call.step = step;
 	call.number = number;
@@ -27,11 +20,11 @@ static void ask(uint32_t step, uint64_t key, uint64_t number, uint32_t wanted)
 
 static void begin(void)
 {
-	ask(BEGIN, 0, 0, 0);
+	made(BEGIN, 0, 0, 0);
 	call.txn = call.number;
 }
 
-static void commit(void) { ask(COMMIT, 0, 0, COMMITTED); }
+static void commit(void) { made(COMMIT, 0, 0, COMMITTED); }
 
 static double wall, processor;
 static void start(void)
@@ -58,14 +51,14 @@ int main(int argc, char **argv)
 	start();
 	for (uint64_t i = 0; i < KEYS; i += 64) {
 		begin();
-		for (uint64_t j = i; j < i + 64; j++) ask(INSERT, mix(j), j, INSERTED);
+		for (uint64_t j = i; j < i + 64; j++) made(INSERT, mix(j), j, INSERTED);
 		commit();
 	}
 	tell("steps", 1, "inserts, 64 a commit", KEYS, wall, processor);
 	start();
 	for (uint64_t i = 0; i < COMMITS; i++) {
 		begin();
-		ask(INSERT, mix(1000000 + i), i, INSERTED);
+		made(INSERT, mix(1000000 + i), i, INSERTED);
 		commit();
 	}
 	tell("steps", 1, "inserts, 1 a commit", COMMITS, wall, processor);
@@ -74,7 +67,7 @@ int main(int argc, char **argv)
 		begin();
 		for (uint64_t j = i; j < i + 100; j++) {
 			uint64_t wanted = mix(j * 7) % KEYS;
-			ask(FETCH, mix(wanted), 0, FOUND);
+			made(FETCH, mix(wanted), 0, FOUND);
 			if (call.number != wanted) exit(2);
 		}
 		commit();
@@ -86,7 +79,7 @@ int main(int argc, char **argv)
 		call.limit = LIMIT;
 		call.hi_len = 8;
 		memset(call.hi, 0xff, 8);
-		ask(SCAN, mix(i), 0, ENTRIES);
+		made(SCAN, mix(i), 0, ENTRIES);
 		commit();
 	}
 	tell("steps", 1, "scans of 100", SCANS, wall, processor);

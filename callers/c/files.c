@@ -32,7 +32,7 @@ static int whole_at(int fd, int writes, uint8_t *bytes, size_t len, off_t at)
 	return 0;
 }
 
-/* ---- what the store asks for: crates/im_base_pipe_disk ---- */
+/* ---- what the store asks for: crates/im_base_caller_disk ---- */
 
 enum { LEN = 1, READ, WRITE, SYNC };
 
@@ -83,18 +83,34 @@ static int write_whole(int fd, const void *bytes, size_t len, off_t at)
 	return failed;
 }
 
+/* Counts a call for vah_stat. */
+static void count(struct device *device)
+{
+	const struct device_call *q = &device->question;
+	int is_of_pages = q->file == PAGES;
+	device->syncs += q->kind == SYNC;
+	device->page_reads += is_of_pages && q->kind == READ;
+	device->page_writes += is_of_pages && q->kind == WRITE;
+	device->log_bytes += !is_of_pages && q->kind == WRITE ? q->len : 0;
+}
+
 /* Makes the call that is asked, with the bytes of a write, and keeps its answer. The bytes of a read are read behind it, into their place. */
 static void make(struct device *device, const void *bytes)
 {
 	const struct device_call *q = &device->question;
 	int fd = q->file < FILES ? device->files[q->file] : -1, failed = is_to_fail(device);
 	struct stat st = { 0 };
+	if (device->is_stopped) {
+		failed = 1;
+		errno = ECANCELED;
+	}
 	switch (q->kind) {
 	case LEN: failed = failed || fstat(fd, &st); break;
 	case READ: break;
 	case WRITE: failed = failed || write_whole(fd, bytes, q->len, (off_t)q->place); break;
 	default: failed = failed || fdatasync(fd); break;
 	}
+	count(device);
 	if (failed)
 		note(device);
 	device->number = failed ? UINT64_MAX : (uint64_t)st.st_size;
@@ -104,6 +120,20 @@ static void make(struct device *device, const void *bytes)
 static _Thread_local struct device *serving;
 
 void vah_device_serve(struct device *device) { serving = device; }
+
+/* So many bytes are read between two words about an opening. */
+enum { TOLD_EACH = 1 << 18 };
+
+/* Tells who waits for an opening how much it has read. What is called may be any code, which may work with another store meanwhile. */
+static void tell_progress(struct device *device, size_t len)
+{
+	device->read_bytes += len;
+	if (!device->progress || device->read_bytes - device->told_bytes < TOLD_EACH)
+		return;
+	device->told_bytes = device->read_bytes;
+	device->is_stopped |= device->progress(device->with, device->read_bytes) != 0;
+	serving = device;
+}
 
 /* What the proved library calls in the place of write: a question, and the bytes of a write. */
 ssize_t vah_device_write(int fd, const void *from, size_t len)
@@ -146,6 +176,7 @@ ssize_t vah_device_read(int fd, void *to, size_t len)
 		note(device);
 		return -1;
 	}
+	tell_progress(device, len);
 	return (ssize_t)len;
 }
 
@@ -328,19 +359,30 @@ static int lacks_first_byte(const uint8_t *front, const uint8_t *other)
 		&& front[47] == 1 && has_own_record(front, other);
 }
 
+/* What the two logs of a folder say of it: whether one of them was made, the LSN with which the current one begins, whether that one has a record,
+ * and the first bytes of the other. */
+struct logs { int is_made; uint64_t base; int has_record; uint8_t left[65]; };
+
 /* Whether the first gate, at this place, is open, and the record after it changes a page, as those of the kinds 1 to 6 do. */
 static int has_change_at(const uint8_t *front, size_t gate)
 {
 	return front[gate] == 1 && front[gate + 9] >= 1 && front[gate + 9] <= 6;
 }
 
-/* Whether the log, of either format, begins with a record that changes a page. */
+/* Whether the log, of either format, was made, and begins with a record that changes a page. Of one that a stop has cut while it was being made
+ * nothing is asked: its bytes may be any. */
 static int begins_with_change(const uint8_t *front)
 {
-	return (!memcmp(front + 1, "ARIESIM1", 8) && has_change_at(front, 31)) || (!memcmp(front + 1, "ARIESIM2", 8) && has_change_at(front, 47));
+	return front[0] == 1
+		&& ((!memcmp(front + 1, "ARIESIM1", 8) && has_change_at(front, 31)) || (!memcmp(front + 1, "ARIESIM2", 8) && has_change_at(front, 47)));
 }
 
-/* Whether page 0 is older than the log, and counts more pages than the file has, and than the two that count from the start. */
+/* Whether the current log has a record: its first gate is open. */
+static int has_record(const uint8_t *current) { return current[47] == 1; }
+
+/* Whether page 0 is older than the log, and counts more pages than the file has, and than the two that count from the start. Asked while the log
+ * has no record: page 0 was not written since then, while a record is durable before a page that it changes is written, and a stop within that
+ * write may leave any bytes. */
 static int lacks_counted(uint64_t base, uint64_t pages, const uint8_t *front)
 {
 	uint64_t count = number_of(front + 24, 4);
@@ -350,9 +392,9 @@ static int lacks_counted(uint64_t base, uint64_t pages, const uint8_t *front)
 /* Whether the file of pages, of so many whole pages, whose first has these first bytes, was cut. At a switch every page that was ever changed is
  * written, and no write makes a file shorter: it has each page that page 0 counts, as long as page 0 is as it was then, but for the two that count
  * from the start; and it has these two where the log that was left begins with a record that changes a page. */
-static int lacks_pages(uint64_t base, uint64_t pages, const uint8_t *front, const uint8_t *left)
+static int lacks_pages(const struct logs *logs, uint64_t pages, const uint8_t *front)
 {
-	return lacks_counted(base, pages, front) || (base > 0 && pages < 2 && begins_with_change(left));
+	return (!logs->has_record && lacks_counted(logs->base, pages, front)) || (logs->base > 0 && pages < 2 && begins_with_change(logs->left));
 }
 
 /* Refuses for what is wrong with the file of this name: the words have its name once. */
@@ -362,9 +404,6 @@ static int refuse_file(struct opening *o, const char *format, const char *name)
 	snprintf(words, sizeof words, format, name);
 	return refuse(o, VAH_NOT_A_STORE, words);
 }
-
-/* What the two logs of a folder say of it: whether one of them was made, the LSN with which the current one begins, and the first bytes of the other. */
-struct logs { int is_made; uint64_t base; uint8_t left[65]; };
 
 /* What the two logs say; refused where they are no logs of a store, nor what a stop of a creation leaves. Nothing is written. It stands for
  * FileDisk's logs_say. */
@@ -381,6 +420,7 @@ static int guard(struct opening *o, const int *files, struct logs *logs)
 	int is_first = generation_of(log2.bytes) < generation_of(log.bytes);
 	logs->is_made = log.bytes[0] == 1 || log2.bytes[0] == 1;
 	logs->base = base_of(is_first ? log.bytes : log2.bytes);
+	logs->has_record = has_record(is_first ? log.bytes : log2.bytes);
 	memcpy(logs->left, is_first ? log2.bytes : log.bytes, sizeof logs->left);
 	if (!logs->is_made && (log.len > UNMADE_LOG || log2.len > UNMADE_LOG))
 		return refuse_file(o, "`%s` in it does not begin as the log of a store", log.len > UNMADE_LOG ? "log" : "log2");
@@ -397,7 +437,7 @@ static int guard_pages(struct opening *o, int fd, const struct logs *logs)
 	uint64_t pages = (uint64_t)st.st_size / PAGE_SIZE;
 	if (pages && whole_at(fd, 0, front, sizeof front, 0))
 		return refuse_system(o);
-	if (lacks_pages(logs->base, pages, front, logs->left))
+	if (lacks_pages(logs, pages, front))
 		return refuse(o, VAH_NOT_A_STORE, "`pages` in it lacks pages that the store had when its log began");
 	return 0;
 }
@@ -461,6 +501,13 @@ int vah_device_open(struct device *device, const char *path, char *text, size_t 
 }
 
 void vah_device_close(struct device *device)
+{
+	if (device->files[LOG] >= 0)
+		flock(device->files[LOG], LOCK_UN); /* for a child too, which has the same open file, as one has that is yet to exec */
+	vah_device_leave(device);
+}
+
+void vah_device_leave(struct device *device)
 {
 	int all[] = { device->files[PAGES], device->files[LOG2], device->files[LOG] };
 	for (size_t i = 0; i < sizeof all / sizeof *all; i++)

@@ -1,10 +1,18 @@
-/* What the two files of the library share. */
+/* What the files of the library share. */
 #ifndef VAH_INTERNAL_H
 #define VAH_INTERNAL_H
 #include "vahondrisa.h"
 #include <pthread.h>
 #include <stdatomic.h>
 #include <sys/types.h>
+
+/* ---- the exports of the proved library; the allocator of its second one takes no bytes ---- */
+
+struct call;
+struct handle;
+size_t im_size(void);
+void im_init(struct handle *at);
+void im_step(struct handle *at, struct call *call);
 
 /* A question to the proved library, with its answer: crates/im_calls_form/src/call.rt, in the order of C. */
 struct call {
@@ -18,14 +26,21 @@ _Static_assert(sizeof(struct call) == 68144 && offsetof(struct call, txn) == 16 
 	&& offsetof(struct call, out_len) == 40 && offsetof(struct call, key) == 48 && offsetof(struct call, hi) == 304
 	&& offsetof(struct call, out) == 560, "the call is laid out as im_calls_form has it");
 _Static_assert(sizeof(vah_entry) == 264 && offsetof(vah_entry, key) == 9, "bindings know the entry by these");
-_Static_assert(sizeof(vah_config) == 32 && offsetof(vah_config, redo_bytes) == 16 && offsetof(vah_config, log_bytes) == 24,
-	"bindings know the config by these");
-_Static_assert(sizeof(vah_info) == 48, "bindings know the info by this");
+_Static_assert(sizeof(vah_ref) == 24 && offsetof(vah_ref, rid) == 16, "bindings know a place in an answer by these");
+_Static_assert(sizeof(vah_config) == 56 && offsetof(vah_config, redo_bytes) == 16 && offsetof(vah_config, log_bytes) == 24
+	&& offsetof(vah_config, wait_ms) == 32 && offsetof(vah_config, progress) == 40, "bindings know the config by these");
+_Static_assert(sizeof(vah_info) == 104 && offsetof(vah_info, restarts) == 48, "bindings know the info by these");
+
+/* What is asked, and what is answered, by number: crates/im_calls_form; STAT, OPEN and CLOSE crates/im_calls. */
+enum { BEGIN, FETCH, SEEK, NEXT, SCAN, INSERT, DELETE, COMMIT, ROLLBACK, CONTINUE, FLUSH_PAGE, FORCE, CHECKPOINT, STAT, OPEN, CLOSE, SWITCH, PREV };
+enum { STARTED, FOUND, ABSENT, ENTRY, END, ENTRIES, INSERTED, DUPLICATE, DELETED, COMMITTED, ROLLED_BACK, MORE, BLOCKED, DIE, DONE, REFUSED, BLOCKED_TREE };
+
+/* ---- the device: files.c ---- */
 
 /* The files of a store, as the proved library numbers them. */
 enum { LOG, PAGES, LOG2, FILES };
 
-/* A device call that the store asks for: crates/im_base_pipe_disk. */
+/* A device call that the store asks for: crates/im_base_caller_disk. */
 struct device_call { uint32_t kind, file; uint64_t place, len; };
 
 /* The files, and the call that is asked for. */
@@ -36,6 +51,12 @@ struct device {
 	int is_answered;        /* the answer was read; the bytes of a read come after it */
 	uint64_t number;        /* the answer */
 	atomic_int why;         /* the system's reason for the first call that failed */
+	uint64_t syncs, page_reads, page_writes, log_bytes; /* as in vah_info */
+	uint64_t read_bytes;    /* by the opening, of all files */
+	uint64_t told_bytes;    /* the last that its caller was told of */
+	int (*progress)(void *with, uint64_t bytes); /* whom it tells; NULL once it is over */
+	void *with;
+	int is_stopped;         /* its caller gave it up: each call fails */
 	unsigned long fail_at;  /* in tests: this call fails, and each after it; 0: none does */
 	unsigned long kill_at;  /* in tests: within this call the process is killed; 0: none */
 	unsigned long slow;     /* in tests: how many microseconds longer a sync takes */
@@ -44,8 +65,9 @@ struct device {
 /* Opens the files of a folder, and locks them. A code; `text` then says why. */
 int vah_device_open(struct device *device, const char *path, char *text, size_t size);
 
-/* Lets go of the files. */
+/* Lets go of the files and of their lock; and, in a child, of the files alone, whose lock is the parent's. */
 void vah_device_close(struct device *device);
+void vah_device_leave(struct device *device);
 
 /* Before a step: the device that this thread's next calls are for. The proved library asks, and is answered, by a pair of descriptors; whatever
  * their numbers are, these two stand for `write` and `read` in it (Makefile), and make the call that it asks for. */
@@ -54,8 +76,190 @@ ssize_t vah_device_write(int fd, const void *from, size_t len);
 ssize_t vah_device_read(int fd, void *to, size_t len);
 
 #ifdef VAH_TEST
-/* In tests: how many syncs were asked for, of all stores. */
+/* In tests: how many syncs were asked for, of all stores; and that this insert from now on finds no memory, where it is not 0. */
 extern atomic_ulong vah_test_syncs;
+extern unsigned long vah_test_refused_insert;
 #endif
+
+/* ---- a store, and the places of its transactions ---- */
+
+enum { PLACES = 64, SHELLS = 4096 };
+
+/* The place of a transaction. It is used under the store's lock; what is atomic is also read without it, by who looks for a deadlock. */
+struct place {
+	uint64_t serial;        /* which transaction has it, or had it: a part of its name */
+	int is_taken;
+	int is_committing;      /* its call waits for a force, and no other call has to do with it */
+	int is_ending;          /* its call takes it back, and no other call has to do with it */
+	int is_to_end;          /* while it was taken back to begin again another thread asked for its end */
+	int is_returning;       /* its call waits to begin again */
+	int is_doomed;          /* a put failed half way: it can only be rolled back */
+	int is_own_victim;      /* it gave way, and none but its own thread's transactions were older */
+	unsigned flags;
+	unsigned agains;        /* how often it gave way, since it was first */
+	uint64_t wait_ms;
+	uint64_t had;           /* its number before it gave way */
+	uint64_t tick;          /* when it made its last step */
+	uint64_t from;          /* when it began to wait to begin again */
+	atomic_ullong number;   /* the engine's; 0 where it has not begun */
+	atomic_ullong thread;   /* that sleeps in a call of it, or made its last one; 0 where the place is free */
+	unsigned sleeping;      /* calls of it that sleep until a lock is free */
+	struct call *answer;    /* of its scans in place */
+};
+
+/* A store that is open, or its shell, which is kept for a later one: whoever calls by an old name finds memory that says so. */
+struct store {
+	uint64_t index;         /* of the shell */
+	atomic_ullong serial;   /* which store has it, or had it: a part of its name */
+	atomic_int is_open;
+	atomic_uint forks;      /* how many forks lay above the process that opened it */
+	int is_lent;            /* a store is open in it, or is being opened; under the lock of all shells */
+
+	pthread_mutex_t lock;
+	atomic_uint awake;      /* callers that are in the library and do not sleep */
+	pthread_cond_t ended;   /* a transaction ended, or the store failed */
+	unsigned waiting;       /* for that */
+	pthread_cond_t room;    /* a place is free, or nobody is first any more */
+	unsigned queueing;      /* for that */
+	unsigned placeless;     /* those of them that wait for a place */
+	pthread_cond_t forced;  /* the log was forced, the store failed, or one of those that wait is to force it */
+	unsigned committing;    /* commits that wait for a force */
+	unsigned since;         /* steps since the first of them began to wait */
+	uint64_t closings;      /* how often a close was refused: each sends the sleepers back */
+	int has_failed;
+
+	struct place places[PLACES];
+	unsigned taken;         /* of them */
+	struct place *first;    /* nobody else begins before this one has ended */
+	uint64_t tick;          /* rises ten times a second at most, while somebody waits to begin, or asks to */
+	uint64_t tick_ns;       /* when it rose */
+
+	uint64_t wait_ms;
+	uint64_t forces, waits, restarts; /* as in vah_info */
+	struct handle *handle;
+	char *path;
+	struct call *call;
+	struct device device;
+};
+
+/* ---- codes: codes.c ---- */
+
+/* What a call was answered, as callers keep it after the next question. */
+struct told { uint32_t word, fault; uint64_t number; };
+
+/* Where the words of this thread's last refusal go. */
+char *error_text(size_t *size);
+
+/* Says why a call was refused; its code. Of a store it is said under its lock. */
+int fail(struct store *s, int code);
+
+/* Ends a call: says why it was refused, and lets go of the lock. */
+int leave_with(struct store *s, int code);
+
+/* The code of an answer; and whether the store has failed by it, or had before. */
+int told_code(const struct told *told);
+int breaks(const struct told *told);
+
+/* ---- steps: steps.c ---- */
+
+/* What is asked of the store. */
+struct question { uint32_t what, limit; uint64_t number; const void *key; size_t key_len; const void *hi; size_t hi_len; };
+
+/* Has the proved library read a call, and answer it. */
+void step(struct store *s, struct call *call);
+
+/* Makes a step of a transaction, or of the store where its number is 0, once. The answer's bytes are in `call`. */
+struct told ask_in(struct store *s, struct call *call, uint64_t txn, const struct question *q);
+
+/* The same in the store's own call: a question of the transaction in a place, one that is a word alone, and one of the store. */
+struct told ask(struct store *s, const struct place *p, const struct question *q);
+struct told ask_what(struct store *s, const struct place *p, uint32_t what);
+struct told ask_store(struct store *s, uint32_t what);
+
+/* What becomes of a commit that waits for a force. Where the store fails before that, it is not known whether it is kept. */
+struct told force_for_all(struct store *s);
+
+/* ---- transactions: txns.c ---- */
+
+/* Whether a transaction can only be rolled back, as this layer knows. */
+int is_over(const struct place *p);
+
+/* ---- names: names.c ---- */
+
+/* A shell for a store that is to be opened; NULL with a code where there is none. */
+struct store *lend_shell(int *code);
+
+/* Gives it back. In a child after fork it is left as it is, since its lock may be held by nobody for ever. */
+void give_back(struct store *s);
+
+/* The names of a store, and of the transaction in a place. */
+vah_store *name_of_store(const struct store *s);
+vah_txn *name_of_txn(const struct store *s, const struct place *p);
+
+/* Finds what a name tells, and takes the store's lock where it returns VAH_OK. */
+int enter_store(const vah_store *name, struct store **s);
+int enter_txn(const vah_txn *name, struct store **s, struct place **p);
+
+/* The same for who is to end it: where another thread takes it back, it is not begun again. */
+int enter_txn_to_end(const vah_txn *name, struct store **s, struct place **p);
+
+/* A store that was opened before a fork, in the child: it is closed by who is told 1. */
+int leave_to_parent(const vah_store *name, struct store **s);
+
+/* ---- the lock, and who waits: turns.c ---- */
+
+/* Takes the lock, and lets go of it. */
+void enter(struct store *s);
+void done(struct store *s);
+
+/* The number of the thread that calls. */
+uint64_t this_thread(void);
+
+/* How long a call may wait, and since when it does. */
+struct wait { uint64_t limit_ms, until, closings; int is_begun; };
+
+/* Who may go on now: 1 where a transaction may begin. `mine` is the number that it had before it gave way, or 0; `oldest` the least number of the
+ * others that are active and are not left out, or 0; `first` 0 where nobody has precedence, 1 where it has, 2 where another one has; `own` whether
+ * its thread has another transaction active, so that somebody may wait for what this one would wait for. */
+static inline int may_go_on(uint64_t mine, uint64_t oldest, unsigned first, int own)
+{
+	if (own)
+		return 1;
+	if (first)
+		return first == 1 && !oldest;
+	return !mine || !oldest || mine < oldest;
+}
+
+/* Whether a transaction that has given way so often is first from now on, where nobody is yet. Both rules are those of crates/im_front, where they
+ * are proved (who_begins.rt). */
+static inline int becomes_first(unsigned agains, unsigned first) { return !first && agains >= 4; }
+
+/* Waits until a transaction may begin, in a place that is free where `p` is NULL, and else again in that one. */
+int wait_to_begin(struct store *s, struct place *p, unsigned flags, struct wait *w);
+
+/* Waits until a transaction that holds a lock, of this number, has ended. */
+int wait_for_lock(struct store *s, struct place *p, uint64_t holder, struct wait *w);
+
+/* Sleeps among the commits that wait for a force. */
+void sleep_for_force(struct store *s);
+int is_force_due(struct store *s);
+
+/* Notes that a transaction gave way: whether it can have been to another thread's, and that it is first no more. */
+void note_victim(struct store *s, struct place *p);
+
+/* Gives a transaction a place, and takes it back. */
+struct place *take_place(struct store *s, unsigned flags, uint64_t wait_ms, uint64_t number);
+void free_place(struct store *s, struct place *p);
+
+/* Wakes whoever waits for a transaction's end; and sends back all that sleep, but for commits. */
+void wake_for_end(struct store *s);
+void send_back(struct store *s);
+
+/* For who makes a child. */
+void hold_sleepers(void);
+void let_go_of_sleepers(int is_child);
+
+/* Whether the thread has a transaction active but this one. */
+int has_own(const struct store *s, const struct place *p);
 
 #endif

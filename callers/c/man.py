@@ -1,4 +1,4 @@
-"""Makes the man page vahondrisa(3) of the header: man.py VERSION HEADER."""
+"""Makes the man page vahondrisa(3) of the header: man.py VERSION HEADER. man.py names HEADER: the functions that the page is also found by."""
 import re
 import sys
 
@@ -38,6 +38,7 @@ def paragraphs(lines):
 
 def shown(line):
     """Returns a line of code, with what stands after it."""
+    line = re.sub(r"^(\s+)\*( +)", r"\1 \2", line)
     return escaped(line.replace("\t", "    ")).replace("/**<", "\\(em").replace("*/", "").rstrip()
 
 
@@ -49,6 +50,9 @@ def main():
     version, path = sys.argv[1:]
     with open(path) as file:
         header = file.read()
+    if version == "names":
+        print("\n".join(re.findall(r"^(?:int|const char \*|#define) ?(vah_\w+)\(", header, re.M)))
+        return
     head, body = header.split("*/", 1)
     parts = re.split(r"@section \w+\s+(.*)", head)
     print(f'.TH VAHONDRISA 3 "" "vahondrisa {version}" "Library functions"')

@@ -1,50 +1,64 @@
 /** @file vahondrisa.h
  *
  *  A persistent ordered index with transactions, in a folder, inside your
- *  program. Keys are 1 to 255 bytes, each with a number of 64 bits, and no two
- *  keys are equal. Keys are ordered by their unsigned bytes, a front of a key
- *  before the key. What a transaction did is there whole or not at all after a
- *  kill, a crash or a power cut, and is there if its commit returned 0.
+ *  program. Keys are 1 to 255 bytes, each with a row id ("rid") of 64 bits, and
+ *  no two keys are equal. Keys are ordered by their unsigned bytes, a prefix of
+ *  a key before the key. What a transaction did is there whole or not at all
+ *  after a kill, a crash or a power cut, and is there if its commit returned 0.
  *
  *	@section start	Getting started
  *
  *	vah_store *store;
  *	vah_txn *txn;
- *	uint64_t number;
+ *	uint64_t rid;
  *	int rc = vah_open("keys", NULL, &store);
  *	if (rc) { fprintf(stderr, "%s\n", vah_last_error()); exit(1); }
  *	rc = vah_begin(store, &txn);
- *	if (!rc) rc = vah_insert(txn, "apple", 5, 7);
- *	if (!rc) rc = vah_fetch(txn, "apple", 5, &number);
+ *	if (!rc) rc = vah_put(txn, "apple", 5, 7, NULL, NULL);
+ *	if (!rc) rc = vah_fetch(txn, "apple", 5, &rid);
  *	rc = rc ? vah_rollback(txn) : vah_commit(txn);
  *	vah_close(store);
  *
  *  A transaction may see VAH_GIVE_WAY from any of its calls by a key: an older
  *  one stands in its way. Call vah_again then, and make all of its calls again.
+ *  However many threads do so, each of them gets its turn: see vah_again.
  *
  *	@section promises	What is proved, and what is not
  *
  *  The store below these functions is proved: each call answers what one
  *  caller alone would be answered in some order of the commits, and a stop at
  *  any moment leaves each transaction whole or absent. The functions of this
- *  header are some 1,100 lines of C over three exports of the proved library, and
- *  are tested. They hold one lock around each call, and keep the duties that
- *  the proofs ask of a caller in C. So do not write past the memory that you
- *  hand in, and do not use a store or a transaction after its end: then nothing
- *  is promised. A library built with VAH_DEBUG answers VAH_INVALID there.
+ *  header are C over three exports of the proved library, and are tested. They
+ *  hold one lock around each call, and keep the duties that the proofs ask of a
+ *  caller in C. Do not write past the memory that you hand in.
+ *
+ *	@section handles	Stores and transactions as handles
+ *
+ *  A `vah_store *` and a `vah_txn *` are names, which the library looks up, and
+ *  not addresses of memory. A call with one that has ended, or that is none, is
+ *  refused: VAH_NO_TRANSACTION where the transaction has ended, VAH_CLOSED where
+ *  the store was closed, VAH_INVALID where it is NULL or no handle of its kind.
+ *  That holds for ever: a name is not given twice.
  *
  *	@section threads	Threads
  *
  *  Any thread may call any function on one store; calls wait for one another.
- *  One transaction belongs to one thread at a time. Up to 64 transactions are
- *  active at once. A call waits while a younger transaction holds what it
- *  needs (an older one never waits for it: see VAH_GIVE_WAY), so a thread that
- *  has two transactions active can wait for itself: begin with VAH_NO_WAIT then.
+ *  One transaction belongs to one thread at a time: calls that several threads
+ *  make of it are taken one after another, and where one of them ends it the
+ *  others are refused. Up to 64 transactions are active at once, and who begins
+ *  one more waits. A call waits while a younger transaction holds what it needs
+ *  (an older one never waits for it: see VAH_GIVE_WAY). How long it waits at most
+ *  is said by vah_config.wait_ms, vah_begin_within and vah_set_wait; then, and
+ *  where another thread calls vah_close, it is answered VAH_BUSY, and the
+ *  transaction is as it was. Where a thread would wait for itself, as it has
+ *  two transactions, or for a thread that waits for it, in whatever store, it is
+ *  refused VAH_DEADLOCK at once. The thread of a transaction is the one that sleeps
+ *  in a call of it, or else made its last call.
  *  Commits of several threads share the syncs of the disk: a commit waits while
  *  other threads are within calls, for 256 of their calls at most.
  *  A handler of a signal that comes while a call is under way returns, as one
- *  that leaves by longjmp would leave the call half done, and it calls no function
- *  of this header.
+ *  that leaves by longjmp would leave the call half done, as pthread_cancel of a
+ *  thread within a call would, and it calls no function of this header.
  *  A store is not to be used in a child after fork(): its calls are refused there
  *  VAH_FORKED, and vah_close lets go of what the child has of it.
  *
@@ -74,17 +88,25 @@ extern "C" {
 /** The most entries of one scan. */
 #define VAH_SCAN_MAX 256
 
-/** A store that is open. */
+/** The name of a store that is open. */
 typedef struct vah_store vah_store;
-/** A transaction that is active. */
+/** The name of a transaction that is active. */
 typedef struct vah_txn vah_txn;
 
-/** A key with its number, as a scan gives it. */
+/** A key with its row id, copied. */
 typedef struct vah_entry {
-	uint64_t number;
+	uint64_t rid;             /**< the row id */
 	uint8_t len;              /**< 1 to 255 */
 	uint8_t key[VAH_KEY_MAX]; /**< its first `len` bytes */
 } vah_entry;
+
+/** A key with its row id, where it lies in an answer. */
+typedef struct vah_ref {
+	const uint8_t *key;       /**< good until the transaction's next vah_scan_refs,
+	                           *   and until it has ended */
+	size_t len;               /**< 1 to 255 */
+	uint64_t rid;             /**< the row id */
+} vah_ref;
 
 /** How a store is opened. Begin with VAH_CONFIG_INIT, so that fields of later
  *  versions have their defaults. */
@@ -95,6 +117,14 @@ typedef struct vah_config {
 	uint64_t redo_bytes;      /**< the most log that an opening has to redo; 0: any */
 	uint64_t log_bytes;       /**< the most log that an opening has to read, where
 	                           *   now and then nothing is active; 0: any */
+	uint64_t wait_ms;         /**< the most milliseconds that a call waits for other
+	                           *   transactions; 0: any */
+	int (*progress)(void *with, uint64_t bytes); /**< told of the bytes that the
+	                           *   opening has read so far, now and then, by the
+	                           *   thread that opens; it calls no function of this
+	                           *   header. Where it returns another number than 0
+	                           *   the opening is given up: VAH_STOPPED. Or NULL */
+	void *with;               /**< its first argument */
 } vah_config;
 
 /** For redo_bytes, and the default: 16 MiB, or 7 times the bytes of the file of
@@ -103,9 +133,9 @@ typedef struct vah_config {
 /** For log_bytes, and the default: 64 MiB, or 8 times the bytes of the file of
  *  pages, whichever is more. */
 #define VAH_LOG_GROWS UINT64_MAX
-#define VAH_CONFIG_INIT { sizeof(vah_config), 1024, 1000000, VAH_REDO_GROWS, VAH_LOG_GROWS }
+#define VAH_CONFIG_INIT { sizeof(vah_config), 1024, 1000000, VAH_REDO_GROWS, VAH_LOG_GROWS, 0, NULL, NULL }
 
-/** What vah_stat tells. */
+/** What vah_stat tells. The numbers from `restarts` on count from the opening. */
 typedef struct vah_info {
 	uint64_t active;          /**< transactions */
 	uint64_t dirty_pages;     /**< pages whose file lacks changes */
@@ -114,33 +144,53 @@ typedef struct vah_info {
 	                           *   the log had no record */
 	uint64_t redone;          /**< how many records it applied */
 	uint64_t has_failed;      /**< 1: only vah_close is of use */
+	uint64_t restarts;        /**< transactions that began again, by vah_again */
+	uint64_t waits;           /**< calls that slept until other transactions ended */
+	uint64_t forces;          /**< forces of the log that commits and flushes asked */
+	uint64_t syncs;           /**< syncs of a file */
+	uint64_t page_reads;      /**< reads of the file of pages */
+	uint64_t page_writes;     /**< writes of the file of pages */
+	uint64_t log_bytes;       /**< bytes written to the logs */
 } vah_info;
 
 /** @defgroup codes	What calls return
  *  0 is success. Each code keeps its number for ever.
  *  @{ */
 #define VAH_OK 0
-/** The key is not there; a seek or a next found none. Nothing was changed. */
+/** The key is not there; a seek, a next, a prev or a last found none. Nothing
+ *  was changed. */
 #define VAH_NOT_FOUND 100
 /** The key is there already. Nothing was changed. */
 #define VAH_EXISTS 101
 /** An older transaction stands in the way. Only vah_again and vah_rollback are
  *  taken now. */
 #define VAH_GIVE_WAY 102
-/** Under VAH_NO_WAIT: a younger transaction holds what is needed. Nothing was
- *  changed; call again once it has ended. */
+/** A younger transaction holds what is needed, and under VAH_NO_WAIT it is not
+ *  waited for; or it was waited for as long as is allowed; or another thread
+ *  called vah_close meanwhile. Nothing was changed, and the transaction goes on:
+ *  call again, or roll back. */
 #define VAH_BUSY 103
-/** An argument is NULL, or a flag or a size is not known. */
+/** An argument is NULL or no handle, or a flag or a size is not known. */
 #define VAH_INVALID 104
-/** Transactions of the store are active: it was not closed, or not switched. */
+/** Transactions of the store are active, or another thread sleeps in a call of
+ *  it: it was not closed, or not switched. */
 #define VAH_ACTIVE 105
 /** The store was opened by the process that this one was forked from. */
 #define VAH_FORKED 106
+/** The call would wait for a transaction of this very thread, or for a thread
+ *  that waits for this one. Nothing was changed, and the transaction goes on:
+ *  end one of them. */
+#define VAH_DEADLOCK 107
+/** vah_config.progress gave the opening up. The store is as it was. */
+#define VAH_STOPPED 108
+/** The store was closed. */
+#define VAH_CLOSED 109
 /* The refusals of the store, by the numbers that its programs print. */
 #define VAH_NO_TRANSACTION 1   /**< the transaction has ended */
-#define VAH_MUST_ROLL_BACK 2   /**< a call of it was answered VAH_GIVE_WAY */
+#define VAH_MUST_ROLL_BACK 2   /**< a call of it was answered VAH_GIVE_WAY, or a
+                                *   vah_put of it failed half way */
 #define VAH_KEY_LENGTH 3       /**< a key has 1 to 255 bytes */
-#define VAH_ROLLING_BACK 4     /**< a rollback of it was begun and not ended */
+#define VAH_ROLLING_BACK 4     /**< another thread takes it back at this moment */
 #define VAH_PAGES_FULL 5       /**< max_pages are in use */
 #define VAH_CAPACITY 6         /**< numbers are used up; the store has failed */
 #define VAH_LOG_FULL 7         /**< the log is full; the store has failed */
@@ -148,7 +198,8 @@ typedef struct vah_info {
 #define VAH_MEMORY 9           /**< out of memory; nothing was changed */
 #define VAH_FAILED 10          /**< an earlier call failed: close, and open again */
 #define VAH_NOT_A_STORE 11     /**< the files are of no store, or are damaged */
-#define VAH_TOO_MANY 12        /**< 64 transactions are active */
+#define VAH_TOO_MANY 12        /**< 64 transactions are active, or 4,096 stores are
+                                *   open */
 #define VAH_POOL_SIZE 13       /**< frames are not 8 to 1024 */
 #define VAH_LOCKED 19          /**< the store is open elsewhere */
 /** @} */
@@ -166,47 +217,89 @@ const char *vah_last_error(void);
 /** The version of the library, as VAH_VERSION. */
 int vah_version(void);
 
+/** The release and what was built of it: "0.1.0 proved", or "0.1.0 unproved" by
+ *  a library that `make UNPROVED=1` made, for a first look. */
+const char *vah_build(void);
+
 /** Open the store in a folder, or make one; the folder is made too, and those
  *  above it. What was committed is there, and what was not is taken back.
  *  @param[in] path the folder
  *  @param[in] config NULL for the defaults
  *  @param[out] store set on success alone
- *  @return VAH_LOCKED, VAH_NOT_A_STORE, VAH_POOL_SIZE, VAH_DEVICE, VAH_MEMORY */
+ *  @return VAH_LOCKED, VAH_NOT_A_STORE, VAH_POOL_SIZE, VAH_DEVICE, VAH_MEMORY,
+ *  VAH_STOPPED, VAH_TOO_MANY */
 int vah_open(const char *path, const vah_config *config, vah_store **store);
 
 /** Write all pages, leave a long log for an empty one or take a checkpoint, and
- *  end the store. What was committed is kept whatever this returns, and `store`
- *  is freed on each code but VAH_ACTIVE. NULL is taken. */
+ *  end the store. What was committed is kept whatever this returns, and the
+ *  store has ended on each code but VAH_ACTIVE. NULL is taken.
+ *  On VAH_ACTIVE those that sleep in a call of the store, but for commits, are
+ *  woken, and answered VAH_BUSY: so end the transactions, and close again.
+ *  @return VAH_ACTIVE, VAH_CLOSED, VAH_DEVICE, VAH_FAILED, VAH_FORKED */
 int vah_close(vah_store *store);
 
-/** Begin a transaction.
+/** Begin a transaction, as soon as fewer than 64 are active and nobody that
+ *  begins again has precedence (see vah_again).
  *  @param[in] flags VAH_NO_WAIT, or 0
- *  @return VAH_TOO_MANY, VAH_CAPACITY, VAH_FAILED, VAH_MEMORY */
+ *  @return VAH_BUSY, VAH_DEADLOCK, VAH_CAPACITY, VAH_FAILED; under VAH_NO_WAIT
+ *  VAH_TOO_MANY, and VAH_BUSY where somebody has precedence */
 int vah_begin_with(vah_store *store, unsigned flags, vah_txn **txn);
+/** No call of the transaction waits for another one. */
 #define VAH_NO_WAIT 1u
 #define vah_begin(store, txn) vah_begin_with(store, 0, txn)
 
+/** Begin a transaction whose calls, and this one, wait for other transactions
+ *  so many milliseconds at most, in place of vah_config.wait_ms; 0: any. */
+int vah_begin_within(vah_store *store, unsigned flags, uint64_t wait_ms, vah_txn **txn);
+
+/** From the next call of the transaction on, let each wait for other
+ *  transactions so many milliseconds at most; 0: any. Short waits that are made
+ *  again on VAH_BUSY let the caller look for an interrupt in between. */
+int vah_set_wait(vah_txn *txn, uint64_t wait_ms);
+
 /** Make all that the transaction did durable, and end it. On VAH_DEVICE it is
- *  not known whether it is kept: open the store again to see. `txn` is freed
- *  except on VAH_MUST_ROLL_BACK and VAH_ROLLING_BACK. */
+ *  not known whether it is kept: open the store again to see. The transaction
+ *  has ended except on VAH_MUST_ROLL_BACK and VAH_ROLLING_BACK. */
 int vah_commit(vah_txn *txn);
 
-/** After VAH_GIVE_WAY: take back all that the transaction did, wait until
- *  another one has ended, and begin again, by the same pointer. Under
- *  VAH_NO_WAIT it does not wait. On any code but 0 the transaction has ended
- *  and `txn` is freed. */
+/** After VAH_GIVE_WAY: take back all that the transaction did, wait until each
+ *  older one has ended, and begin again, by the same handle. Who has begun again
+ *  four times has precedence: nobody begins until it has ended, and it gives way
+ *  no more. Transactions of the same thread, and those that have made no step
+ *  for a tenth of a second, are not waited for, and lose precedence.
+ *  Under VAH_NO_WAIT it does not wait.
+ *  On VAH_BUSY, and on VAH_DEADLOCK where it gave way to another transaction of
+ *  its thread, which has to end first, what it did is taken back, and it has not
+ *  begun again: call this again, or vah_rollback; its other calls are refused
+ *  VAH_MUST_ROLL_BACK. On any other code but 0 the transaction has ended, or is
+ *  being ended by another thread (VAH_ROLLING_BACK). */
 int vah_again(vah_txn *txn);
 
 /** Take back all that the transaction did, and end it. Changes are taken back
- *  one at a time, and other threads' calls come in between. `txn` is freed in
- *  each case. NULL is taken. */
+ *  one at a time, and other threads' calls come in between; those of the same
+ *  transaction are refused. A call of it that sleeps in another thread is woken,
+ *  and told VAH_NO_TRANSACTION. The transaction has ended whatever this returns,
+ *  but for VAH_ROLLING_BACK, where another thread is about to. NULL is taken. */
 int vah_rollback(vah_txn *txn);
 
-/** The number of a key. @return VAH_NOT_FOUND, VAH_GIVE_WAY, .. */
-int vah_fetch(vah_txn *txn, const void *key, size_t len, uint64_t *number);
+/** The row id of a key.
+ *  @param[out] rid may be NULL
+ *  @return VAH_NOT_FOUND, VAH_GIVE_WAY, .. */
+int vah_fetch(vah_txn *txn, const void *key, size_t len, uint64_t *rid);
 
-/** Put a key in. @return VAH_EXISTS, VAH_GIVE_WAY, VAH_PAGES_FULL, .. */
-int vah_insert(vah_txn *txn, const void *key, size_t len, uint64_t number);
+/** Put a key in that is not there. @return VAH_EXISTS, VAH_GIVE_WAY,
+ *  VAH_PAGES_FULL, .. */
+int vah_insert(vah_txn *txn, const void *key, size_t len, uint64_t rid);
+
+/** Put a key in, or give one that is there another row id. On VAH_BUSY and
+ *  VAH_DEADLOCK nothing was changed. On VAH_PAGES_FULL and VAH_MEMORY nothing was
+ *  changed either, or, where the key was taken out and found no room again, the
+ *  transaction can only be rolled back: its calls are refused
+ *  VAH_MUST_ROLL_BACK, so that no half of it is ever committed.
+ *  @param[out] was_there 1 where the key was there, and else 0; may be NULL
+ *  @param[out] previous its row id before, where it was there; may be NULL
+ *  @return VAH_GIVE_WAY, VAH_PAGES_FULL, .. */
+int vah_put(vah_txn *txn, const void *key, size_t len, uint64_t rid, int *was_there, uint64_t *previous);
 
 /** Take a key out. @return VAH_NOT_FOUND, VAH_GIVE_WAY, .. */
 int vah_delete(vah_txn *txn, const void *key, size_t len);
@@ -217,12 +310,23 @@ int vah_seek(vah_txn *txn, const void *key, size_t len, vah_entry *entry);
 /** The first entry after a key. @return VAH_NOT_FOUND past the last, .. */
 int vah_next(vah_txn *txn, const void *key, size_t len, vah_entry *entry);
 
+/** The last entry before a key. @return VAH_NOT_FOUND before the first, .. */
+int vah_prev(vah_txn *txn, const void *key, size_t len, vah_entry *entry);
+
+/** The last entry of all. @return VAH_NOT_FOUND where there is none, .. */
+int vah_last(vah_txn *txn, vah_entry *entry);
+
 /** The entries from one key to another, both included, in order.
  *  @param[out] entries room for `max` of them
  *  @param[in] max 1 to 256; more is taken as 256
  *  @param[out] count how many there are; fewer than `max` are all */
 int vah_scan(vah_txn *txn, const void *lo, size_t lo_len, const void *hi,
 	size_t hi_len, vah_entry *entries, size_t max, size_t *count);
+
+/** As vah_scan, without a copy of the keys: each of `refs` says where its key
+ *  lies, until the transaction's next vah_scan_refs, and until it has ended. */
+int vah_scan_refs(vah_txn *txn, const void *lo, size_t lo_len, const void *hi,
+	size_t hi_len, vah_ref *refs, size_t max, size_t *count);
 
 /** Bound what the next opening has to redo. Taken by itself as
  *  config.redo_bytes asks. */
@@ -238,8 +342,10 @@ int vah_switch(vah_store *store);
 /** Make all records so far durable, those of active transactions too. */
 int vah_flush(vah_store *store);
 
-/** Tell how the store stands. */
-int vah_stat(vah_store *store, vah_info *info);
+/** Tell how the store stands.
+ *  @param[in] size sizeof(vah_info): a later version's numbers are left out */
+int vah_stat_with(vah_store *store, vah_info *info, size_t size);
+#define vah_stat(store, info) vah_stat_with(store, info, sizeof(vah_info))
 
 #ifdef __cplusplus
 }

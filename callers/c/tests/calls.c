@@ -131,7 +131,8 @@ static void refusals(const char *dir)
 	OK(vah_rollback(txn));
 
 	for (int i = 0; i < 64; i++) OK(vah_begin(store, &txns[i]));
-	IS(vah_begin(store, &txn), VAH_TOO_MANY);
+	IS(vah_begin_with(store, VAH_NO_WAIT, &txn), VAH_TOO_MANY);
+	IS(vah_begin(store, &txn), VAH_DEADLOCK); /* this thread has them all */
 	for (int i = 0; i < 64; i++) OK(vah_commit(txns[i]));
 	OK(vah_close(store));
 	IS(vah_open("/proc/none/here", NULL, &store), VAH_DEVICE);
@@ -193,7 +194,7 @@ static void on_a_table(const char *dir, int steps)
 				int is_next = (int)chance(2);
 				for (at += is_next; at < KEYS && now[at] < 0; at++) ;
 				IS(is_next ? vah_next(txn, key, len, &entry) : vah_seek(txn, key, len, &entry), at < KEYS ? VAH_OK : VAH_NOT_FOUND);
-				HOLDS(at == KEYS || (entry.number == (uint64_t)now[at] && entry.len == key_of(at, key) && !memcmp(entry.key, key, entry.len)));
+				HOLDS(at == KEYS || (entry.rid == (uint64_t)now[at] && entry.len == key_of(at, key) && !memcmp(entry.key, key, entry.len)));
 				break;
 			}
 			default: {
@@ -201,7 +202,7 @@ static void on_a_table(const char *dir, int steps)
 				OK(vah_scan(txn, key, len, hi, hi_len, entries, max, &count));
 				for (at = i; at <= j && seen < most; at++)
 					if (now[at] >= 0) {
-						HOLDS(seen < count && entries[seen].number == (uint64_t)now[at] && entries[seen].len == key_of(at, key)
+						HOLDS(seen < count && entries[seen].rid == (uint64_t)now[at] && entries[seen].len == key_of(at, key)
 							&& !memcmp(entries[seen].key, key, entries[seen].len));
 						seen++;
 					}
@@ -354,7 +355,7 @@ static void threads(const char *dir)
 	OK(vah_begin(store, &txn));
 	OK(vah_scan(txn, "n", 1, "nz", 2, entries, 16, &count));
 	OK(vah_commit(txn));
-	for (size_t i = 0; i < count; i++) sum += entries[i].number;
+	for (size_t i = 0; i < count; i++) sum += entries[i].rid;
 	HOLDS(count == 8 && sum == 8000);
 	OK(vah_close(store));
 }

@@ -49,7 +49,7 @@ int main(int argc, char **argv)
 	IS(vah_fetch(txn, "plum", 4, &n), VAH_NOT_FOUND);
 	OK(vah_scan(txn, "a", 1, "z", 1, entries, 8, &count));
 	for (size_t i = 0; i < count; i++)
-		printf("%.*s %llu\n", entries[i].len, (const char *)entries[i].key, (unsigned long long)entries[i].number);
+		printf("%.*s %llu\n", entries[i].len, (const char *)entries[i].key, (unsigned long long)entries[i].rid);
 	OK(vah_commit(txn));
 	for (int i = 0; i < 2; i++) pthread_create(&threads[i], NULL, work, store);
 	for (int i = 0; i < 2; i++) pthread_join(threads[i], NULL);

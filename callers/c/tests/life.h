@@ -36,7 +36,7 @@ static inline int life(const char *dir, void (*acked)(int turn, void *with), voi
 		if ((rc = vah_begin(store, &txn))) break;
 		for (unsigned char k = 0; !rc && k < KEYS; k++) {
 			life_key(t == 4 ? 0 : t, k, key);
-			rc = t == 4 ? vah_delete(txn, key, sizeof key) : vah_insert(txn, key, sizeof key, t);
+			rc = t == 4 ? vah_delete(txn, key, sizeof key) : t == 5 ? vah_put(txn, key, sizeof key, t, NULL, NULL) : vah_insert(txn, key, sizeof key, t);
 		}
 		if (rc || t == 2) {
 			int back = vah_rollback(txn);

@@ -40,7 +40,7 @@ static void print_entries(vah_store *store)
 	printf("total %zu\n", n);
 	for (size_t i = 0; i < n; i++) {
 		for (int j = 0; j < entries[i].len; j++) printf("%02x", entries[i].key[j]);
-		printf(" %" PRIu64 "\n", entries[i].number);
+		printf(" %" PRIu64 "\n", entries[i].rid);
 	}
 }
 

@@ -1,5 +1,7 @@
-/* The recipes of docs/CALLERS.md: prefixes, counts, several indexes in one store, and keys that are not unique. */
+/* The recipes of docs/CALLERS.md: prefixes, counts, several indexes in one store, keys that are not unique, indexes with names, and long values. */
 #include "test.h"
+#include "named.h"
+#include "internal.h"
 
 /* The upper bound of all keys that begin with a prefix: no key is longer than 255 bytes. */
 static void end_of_prefix(const char *prefix, size_t len, unsigned char *hi)
@@ -38,15 +40,134 @@ static size_t with_row(const char *value, uint64_t row, unsigned char *key)
 	return len + 9;
 }
 
+/* A key of an index with a name. */
+static void put_in(vah_txn *txn, const char *name, const char *word, uint64_t rid)
+{
+	uint8_t key[VAH_KEY_MAX];
+	size_t len;
+	OK(named_key(name, word, strlen(word), key, &len));
+	OK(vah_put(txn, key, len, rid, NULL, NULL));
+}
+
+/* Two indexes with names, of which one is all before the other, and each of which ends with an entry of its own. */
+static void with_names(vah_txn *txn)
+{
+	uint8_t key[VAH_KEY_MAX], hi[VAH_KEY_MAX];
+	vah_ref found[8];
+	size_t len, count;
+	OK(named_make(txn, "by_city", NAMED_INDEX));
+	OK(named_make(txn, "by_name", NAMED_INDEX));
+	OK(named_make(txn, "by_city", NAMED_INDEX)); /* it is there */
+	IS(named_make(txn, "by_city", NAMED_LONG), VAH_EXISTS);
+	IS(named_make(txn, "", NAMED_INDEX), VAH_KEY_LENGTH);
+	IS(named_make(txn, "a name that has more than 31 bytes", NAMED_INDEX), VAH_KEY_LENGTH);
+	put_in(txn, "by_city", "oslo", 1);
+	put_in(txn, "by_city", "rome", 2);
+	put_in(txn, "by_name", "anna", 3);
+	OK(named_key("by_city", NULL, 0, key, &len));
+	memcpy(hi, key, len);
+	named_end(hi, len);
+	OK(vah_scan_refs(txn, key, len, hi, sizeof hi - 1, found, 8, &count)); /* up to its end, and without it */
+	HOLDS(count == 2 && found[0].rid == 1 && found[1].rid == 2 && found[1].len == len + 4 && !memcmp(found[1].key + len, "rome", 4));
+}
+
+enum { LONG_SIZE = 100000 };
+
+/* A long value is what was put last, whole, whatever its key and its length, and beside others. */
+static void is_value(vah_txn *txn, const char *key, size_t len, const uint8_t *value, size_t size)
+{
+	static uint8_t found[LONG_SIZE];
+	size_t is = 0;
+	memset(found, 0, sizeof found);
+	OK(long_get(txn, "notes", key, len, found, sizeof found, &is));
+	HOLDS(is == size && !memcmp(found, value, size));
+	OK(long_get(txn, "notes", key, len, NULL, 0, &is));
+	HOLDS(is == size);
+}
+
+static void long_values(vah_txn *txn)
+{
+	static uint8_t value[LONG_SIZE];
+	size_t sizes[] = { 0, 1, 100, 239, 240, 241, 4096, 70000, LONG_SIZE, 3, 0 }, is;
+	for (size_t i = 0; i < sizeof value; i++) value[i] = (uint8_t)(i * 2654435761u >> 13);
+	OK(named_make(txn, "notes", NAMED_LONG));
+	OK(long_put(txn, "notes", "a\0", 2, "zero", 4));
+	OK(long_put(txn, "notes", "a\0b", 3, value, 5000));
+	OK(long_put(txn, "notes", "b", 1, "other", 5));
+	for (size_t i = 0; i < sizeof sizes / sizeof *sizes; i++) { /* each in the place of the one before, longer and shorter */
+		OK(long_put(txn, "notes", "a", 1, value + i, sizes[i] - (sizes[i] == LONG_SIZE ? i : 0)));
+		is_value(txn, "a", 1, value + i, sizes[i] - (sizes[i] == LONG_SIZE ? i : 0));
+		is_value(txn, "a\0", 2, (const uint8_t *)"zero", 4);
+		is_value(txn, "a\0b", 3, value, 5000);
+		is_value(txn, "b", 1, (const uint8_t *)"other", 5);
+	}
+	OK(long_delete(txn, "notes", "a", 1));
+	IS(long_delete(txn, "notes", "a", 1), VAH_NOT_FOUND);
+	IS(long_get(txn, "notes", "a", 1, value, 1, &is), VAH_NOT_FOUND);
+	is_value(txn, "a\0", 2, (const uint8_t *)"zero", 4);
+	IS(long_put(txn, "notes", value, 255, "long", 4), VAH_KEY_LENGTH);
+	IS(long_put(txn, "notes", "", 0, "none", 4), VAH_KEY_LENGTH);
+}
+
+/* A value whose put finds no memory for its third part: nothing of it is committed, nor was the one before taken out. */
+static void half_a_value(vah_store *store, unsigned long refused)
+{
+	static uint8_t value[3000];
+	vah_txn *txn;
+	OK(vah_begin(store, &txn));
+	OK(named_make(txn, "notes", NAMED_LONG));
+	OK(long_put(txn, "notes", "k", 1, value, 700));
+	OK(vah_commit(txn));
+	OK(vah_begin(store, &txn));
+	vah_test_refused_insert = refused;
+	IS(long_put(txn, "notes", "k", 1, value, sizeof value), VAH_MEMORY);
+	IS(vah_commit(txn), VAH_NO_TRANSACTION);
+	OK(vah_begin(store, &txn));
+	is_value(txn, "k", 1, value, 700);
+	OK(vah_commit(txn));
+}
+
+/* What a program in Rust or Python makes of the same names, keys and values: each entry's key and row id in an FNV-1a hash. */
+static void same_entries(const char *dir)
+{
+	static uint8_t value[LONG_SIZE];
+	vah_store *store;
+	vah_txn *txn;
+	vah_entry at;
+	uint64_t hash = UINT64_C(0xcbf29ce484222325), count = 0;
+	for (size_t i = 0; i < sizeof value; i++) value[i] = (uint8_t)(i * 7 + i / 256);
+	OK(vah_open(dir, NULL, &store));
+	OK(vah_begin(store, &txn));
+	OK(named_make(txn, "by_city", NAMED_INDEX));
+	OK(named_make(txn, "notes", NAMED_LONG));
+	put_in(txn, "by_city", "oslo", 7);
+	put_in(txn, "by_city", "rome", 8);
+	OK(long_put(txn, "notes", "a", 1, value, 0));
+	OK(long_put(txn, "notes", "a\0", 2, value, 300));
+	OK(long_put(txn, "notes", "a\0b", 3, value, 100000));
+	OK(long_put(txn, "notes", "b", 1, value, 240));
+	for (int rc = vah_seek(txn, "\0", 1, &at); !rc; rc = vah_next(txn, at.key, at.len, &at), count++) {
+		for (int i = 0; i < at.len; i++) hash = (hash ^ at.key[i]) * UINT64_C(0x100000001b3);
+		for (int i = 0; i < 8; i++) hash = (hash ^ (at.rid >> 8 * i & 255)) * UINT64_C(0x100000001b3);
+	}
+	HOLDS(count == 428 && hash == UINT64_C(0xa2283477b8010e86));
+	OK(vah_commit(txn));
+	OK(vah_close(store));
+}
+
 int main(int argc, char **argv)
 {
 	vah_store *store;
 	vah_txn *txn;
 	vah_entry found[8];
 	unsigned char key[VAH_KEY_MAX], hi[VAH_KEY_MAX];
+	char dir[4096];
 	size_t n;
 	if (argc < 2) return 1;
-	OK(vah_open(argv[1], NULL, &store));
+	snprintf(dir, sizeof dir, "%.4000s/same", argv[1]);
+	same_entries(dir);
+	snprintf(dir, sizeof dir, "%.4000s/recipes", argv[1]);
+	OK(vah_open(dir, NULL, &store));
 	OK(vah_begin(store, &txn));
 
 	/* a prefix */
@@ -74,10 +195,14 @@ int main(int argc, char **argv)
 	}
 	size_t lo_len = with_row("\2oslo", 0, key), hi_len = with_row("\2oslo", UINT64_MAX, hi);
 	OK(vah_scan(txn, key, lo_len, hi, hi_len, found, 8, &n));
-	for (size_t i = 0; i < n; i++) printf(" %llu", (unsigned long long)found[i].number);
+	for (size_t i = 0; i < n; i++) printf(" %llu", (unsigned long long)found[i].rid);
 	end_of_prefix("\1", 1, hi);
 	printf(" - %zu\n", count_of(txn, "\1", 1, hi, sizeof hi));
+	with_names(txn);
+	long_values(txn);
 	OK(vah_commit(txn));
+	half_a_value(store, 1);
+	half_a_value(store, 3);
 	OK(vah_close(store));
 	return 0;
 }

@@ -22,6 +22,8 @@ def life(folder: str, acked: set) -> None:
         for turn in range(TURNS):
             with store.begin() as txn:
                 for k in range(KEYS):
+                    txn[key(turn, k)] = 99
+                for k in range(KEYS):
                     txn[key(turn, k)] = turn
                 if turn == 2:
                     txn.rollback()
@@ -49,7 +51,7 @@ class EveryCall(unittest.TestCase):
                 if failed:
                     self.assertEqual(failed.__cause__.errno, errno.EIO)
                 with vahondrisa.open(folder) as store, store.begin() as txn:
-                    found = {it: [number for key, number in txn.range() if number == it] for it in range(TURNS)}
+                    found = {it: [rid for key, rid in txn.range() if rid == it] for it in range(TURNS)}
                 self.assertTrue(all(len(it) in (0, KEYS) for it in found.values()), found)
                 self.assertTrue(all(found[it] for it in acked), (found, acked))
                 self.assertFalse(found[2])

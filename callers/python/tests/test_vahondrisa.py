@@ -1,14 +1,12 @@
-import ctypes
 import itertools
 import os
 import signal
 import subprocess
 import sys
-import tempfile
-import threading
 import unittest
 
 import vahondrisa
+from support import Case, together
 
 COMMITS = """
 import sys, vahondrisa
@@ -37,31 +35,40 @@ while stops < 150:
                     txn.insert(b"%d.%d" % (turn, j), turn)
     except Stop:
         stops += 1
+        txn = None  # while no signal comes
 signal.setitimer(signal.ITIMER_REAL, 0)
 print(turn)
 """
 
 
-class Stores(unittest.TestCase):
-    def setUp(self):
-        self.room = tempfile.TemporaryDirectory()
-        self.dir = os.path.join(self.room.name, "store")
+# A body meets a full disk, and so its rollback fails too.
+FULL = """
+import resource, sys, vahondrisa
+class Own(Exception): pass
+def fill(txn):
+    for i in range(100000):
+        txn[b"%0200d" % i] = i
+def own(txn):
+    try:
+        fill(txn)
+    except vahondrisa.Failed:
+        raise Own from None
+def within(body):
+    with store.begin() as txn:
+        body(txn)
+for turn, call in enumerate((lambda body: store.write(body), within)):
+    for body, words in ((fill, "8"), (own, "own")):
+        resource.setrlimit(resource.RLIMIT_FSIZE, (resource.RLIM_INFINITY, resource.RLIM_INFINITY))
+        store = vahondrisa.open(sys.argv[1] + words + str(turn), frames=8)
+        resource.setrlimit(resource.RLIMIT_FSIZE, (600000, resource.RLIM_INFINITY))
+        try:
+            call(body)
+        except (vahondrisa.Failed, Own) as it:
+            print(getattr(it, "code", "own"))
+"""
 
-    def tearDown(self):
-        self.room.cleanup()
 
-    def run_on(self, text, **options):
-        environment = dict(os.environ, PYTHONPATH=os.pathsep.join(filter(None, sys.path)))
-        return subprocess.Popen([sys.executable, "-c", text, self.dir], stdout=subprocess.PIPE, env=environment, **options)
-
-    def turns(self):
-        """The keys of each turn that the store has."""
-        found = {}
-        with vahondrisa.open(self.dir) as store, store.begin() as txn:
-            for key, number in txn.range():
-                found.setdefault(number, []).append(key)
-        return found
-
+class Stores(Case):
     def test_keys_are_there_when_opened_again(self):
         with vahondrisa.open(self.dir) as store:
             with store.begin() as txn:
@@ -124,11 +131,11 @@ class Stores(unittest.TestCase):
                     self.assertRaises(ValueError, call, key)
             self.assertRaises(ValueError, txn.insert, b"a", 2**64)
             self.assertRaises(ValueError, txn.insert, b"a", -1)
-            self.assertRaises((TypeError, ctypes.ArgumentError), txn.insert, "a", 1)
+            self.assertRaises(TypeError, txn.insert, "a", 1)
             self.assertRaises(KeyError, txn.__getitem__, b"a")
             self.assertRaises(KeyError, txn.__delitem__, b"a")
             txn[b"a"] = 1
-            self.assertRaises(KeyError, txn.__setitem__, b"a", 2)
+            self.assertFalse(txn.insert(b"a", 2))
             younger = store.begin()
             self.assertRaises(vahondrisa.GiveWay, younger.get, b"a")
             self.assertRaises(vahondrisa.GiveWay, younger.commit)
@@ -142,7 +149,6 @@ class Stores(unittest.TestCase):
             self.assertRaises(ValueError, older.get, b"b")
         self.assertRaises(ValueError, store.begin)
         self.assertRaises(ValueError, vahondrisa.open, self.dir, frames=7)
-        self.assertRaises(ValueError, vahondrisa.open, self.dir, frames=2**32 + 8)
         self.assertRaises(ValueError, vahondrisa.open, "a\0b")
         with self.assertRaises(vahondrisa.Failed) as caught:
             vahondrisa.open("/proc/none/here")
@@ -151,6 +157,13 @@ class Stores(unittest.TestCase):
         with open(self.dir + "2/log", "wb") as file:
             file.write(b"x" * 100)
         self.assertRaises(vahondrisa.NotAStore, vahondrisa.open, self.dir + "2")
+
+    def test_a_library_that_is_none_is_told(self):
+        for library, words in (("libc.so.6", b"is of another release than this package: it has no vah_open"), ("/none/such.so", b"/none/such.so")):
+            environment = dict(os.environ, PYTHONPATH=os.pathsep.join(filter(None, sys.path)), VAHONDRISA_LIBRARY=library)
+            ran = subprocess.run([sys.executable, "-c", "import vahondrisa"], env=environment, stderr=subprocess.PIPE)
+            self.assertEqual(ran.returncode, 1)
+            self.assertIn(words, ran.stderr)
 
     def test_a_child_is_refused_and_does_no_harm(self):
         with vahondrisa.open(self.dir) as store:
@@ -185,15 +198,9 @@ class Stores(unittest.TestCase):
             store.write(lambda txn: txn.insert(b"n", 0))
 
             def one(txn):
-                n = txn[b"n"]
-                del txn[b"n"]
-                txn[b"n"] = n + 1
+                txn[b"n"] += 1
 
-            threads = [threading.Thread(target=lambda: [store.write(one) for _ in range(20)]) for _ in range(3)]
-            for it in threads:
-                it.start()
-            for it in threads:
-                it.join()
+            self.assertEqual(together(*[lambda: [store.write(one) for _ in range(20)]] * 3), [None] * 3)
             with store.begin() as txn:
                 self.assertEqual(txn[b"n"], 60)
 
@@ -211,10 +218,10 @@ class Stores(unittest.TestCase):
         self.assertTrue(fired)
 
     def test_exceptions_of_signals_leave_each_block_whole(self):
-        run = self.run_on(INTERRUPTED)
-        self.assertTrue(run.stdout.read().strip().isdigit())
-        run.stdout.close()
-        self.assertEqual(run.wait(), 0)
+        with self.run_on(INTERRUPTED, stderr=subprocess.PIPE) as run:
+            out, err = run.communicate()
+        self.assertEqual((run.returncode, err), (0, b""))  # and none of them is lost
+        self.assertTrue(out.strip().isdigit())
         found = self.turns()
         self.assertTrue(found and all(len(keys) == 10 for keys in found.values()))
 
@@ -230,6 +237,11 @@ class Stores(unittest.TestCase):
         found = self.turns()
         self.assertTrue(all(len(keys) == 10 for keys in found.values()))
         self.assertLessEqual(set(range(last + 1)), set(found))
+
+    def test_the_error_of_a_rollback_does_not_hide_the_first(self):
+        with self.run_on(FULL, stderr=subprocess.PIPE) as run:
+            out, err = run.communicate(timeout=60)
+        self.assertEqual((out.decode().split(), run.returncode), (["8", "own"] * 2, 0), err)
 
     def test_a_kill_keeps_what_was_committed(self):
         for after in (1, 7, 30):

@@ -1,21 +1,28 @@
-"""A persistent ordered index with transactions, in a folder: keys of 1 to 255 bytes, each with a number of 64 bits.
+"""A persistent ordered index with transactions, in a folder: keys of 1 to 255 bytes, each with a row id (`rid`) of 64 bits.
 
     import vahondrisa
 
     with vahondrisa.open("keys") as store:
         with store.begin() as txn:          # commits at the end, rolls back where an exception leaves the block
-            txn.insert(b"apple", 7)
-            txn[b"pear"] = 8                # the same, KeyError where it is there already
+            txn[b"apple"] = 7               # puts, or replaces
+            txn.insert(b"pear", 8)          # puts; False where it is there already
             print(txn[b"apple"], b"plum" in txn, txn.get(b"plum"))
-            for key, number in txn.range(b"a", b"z"):
-                print(key, number)
+            for key, rid in txn.range(b"a", b"z"):
+                print(key, rid)
 
-        store.write(lambda txn: txn.insert(b"fig", 9))   # again, where it has to give way to an older transaction
+        store.write(lambda txn: txn.put(b"fig", 9))   # again, where it has to give way to an older transaction
 
-Any thread may use a store; one transaction belongs to one thread at a time.
+Any thread may use a store, and a transaction. Ctrl-C ends a call that waits. A store has room for several indexes, by name (`Store.index`), and for
+values of bytes (`Store.blob`).
 """
-from ._errors import Busy, Error, Failed, GiveWay, Locked, NotAStore
-from ._store import Store, Transaction, open
+from ._errors import Busy, Deadlock, Error, Failed, GiveWay, Locked, NotAStore
+from ._keys import Keys, Range
+from ._named import Blob, Index, Values
+from ._store import Store, build, open
+from ._transaction import Transaction
 
-__all__ = ["open", "Store", "Transaction", "Error", "GiveWay", "Locked", "NotAStore", "Busy", "Failed"]
+__all__ = [
+    "open", "build", "Store", "Transaction", "Keys", "Range", "Index", "Blob", "Values",
+    "Error", "GiveWay", "Busy", "Deadlock", "Locked", "NotAStore", "Failed",
+]
 __version__ = "0.1.0"

@@ -9,31 +9,43 @@ KEY_MAX = 255
 SCAN_MAX = 256
 NO_WAIT = 1
 REDO_GROWS = LOG_GROWS = (1 << 64) - 1
-NOT_FOUND, EXISTS, GIVE_WAY, BUSY, INVALID, ACTIVE, FORKED = 100, 101, 102, 103, 104, 105, 106
-MUST_ROLL_BACK, KEY_LENGTH, ROLLING_BACK, CAPACITY, LOG_FULL, DEVICE, MEMORY = 2, 3, 4, 6, 7, 8, 9
+NOT_FOUND, EXISTS, GIVE_WAY, BUSY, INVALID, ACTIVE, FORKED, DEADLOCK, STOPPED, CLOSED = 100, 101, 102, 103, 104, 105, 106, 107, 108, 109
+NO_TRANSACTION, MUST_ROLL_BACK, KEY_LENGTH, ROLLING_BACK, CAPACITY, LOG_FULL, DEVICE, MEMORY = 1, 2, 3, 4, 6, 7, 8, 9
 FAILED, NOT_A_STORE, POOL_SIZE, LOCKED = 10, 11, 13, 19
 
 
 class Entry(ctypes.Structure):
-    _fields_ = [("number", c_uint64), ("len", c_uint8), ("key", c_uint8 * KEY_MAX)]
+    _fields_ = [("rid", c_uint64), ("len", c_uint8), ("key", c_uint8 * KEY_MAX)]
 
 
 @functools.lru_cache(maxsize=None)
 def entries(count: int) -> struct.Struct:
-    """So many entries in a row, each of them its number and its key: a string that begins with its length."""
+    """So many entries in a row, each of them its row id and its key: a string that begins with its length."""
     return struct.Struct("=" + "Q256p" * count)
 
 
+Progress = ctypes.CFUNCTYPE(c_int, c_void_p, c_uint64)
+
+
 class Config(ctypes.Structure):
-    _fields_ = [("size", c_size_t), ("frames", c_uint32), ("max_pages", c_uint32), ("redo_bytes", c_uint64), ("log_bytes", c_uint64)]
+    _fields_ = [
+        ("size", c_size_t), ("frames", c_uint32), ("max_pages", c_uint32), ("redo_bytes", c_uint64), ("log_bytes", c_uint64),
+        ("wait_ms", c_uint64), ("progress", Progress), ("with_", c_void_p),
+    ]
 
 
 class Info(ctypes.Structure):
-    _fields_ = [(it, c_uint64) for it in ("active", "dirty_pages", "durable_end", "redo_from", "redone", "has_failed")]
+    _fields_ = [
+        (it, c_uint64)
+        for it in (
+            "active", "dirty_pages", "durable_end", "redo_from", "redone", "has_failed",
+            "restarts", "waits", "forces", "syncs", "page_reads", "page_writes", "log_bytes",
+        )
+    ]
 
 
 # The library's own build tests these sizes too.
-assert (ctypes.sizeof(Entry), ctypes.sizeof(Config), ctypes.sizeof(Info)) == (264, 32, 48) and entries(1).size == 264
+assert (ctypes.sizeof(Entry), ctypes.sizeof(Config), ctypes.sizeof(Info)) == (264, 56, 104) and entries(1).size == 264
 
 
 def _load() -> ctypes.CDLL:
@@ -53,24 +65,29 @@ lib = _load()
 _FUNCTIONS = {
     "vah_open": (c_char_p, POINTER(Config), POINTER(c_void_p)),
     "vah_close": (c_void_p,),
-    "vah_begin_with": (c_void_p, c_uint, POINTER(c_void_p)),
+    "vah_begin_within": (c_void_p, c_uint, c_uint64, POINTER(c_void_p)),
     "vah_commit": (c_void_p,),
     "vah_again": (c_void_p,),
     "vah_rollback": (c_void_p,),
     "vah_fetch": (c_void_p, c_char_p, c_size_t, POINTER(c_uint64)),
     "vah_insert": (c_void_p, c_char_p, c_size_t, c_uint64),
+    "vah_put": (c_void_p, c_char_p, c_size_t, c_uint64, POINTER(c_int), POINTER(c_uint64)),
     "vah_delete": (c_void_p, c_char_p, c_size_t),
     "vah_seek": (c_void_p, c_char_p, c_size_t, POINTER(Entry)),
     "vah_next": (c_void_p, c_char_p, c_size_t, POINTER(Entry)),
+    "vah_prev": (c_void_p, c_char_p, c_size_t, POINTER(Entry)),
     "vah_scan": (c_void_p, c_char_p, c_size_t, c_char_p, c_size_t, c_void_p, c_size_t, POINTER(c_size_t)),
     "vah_checkpoint": (c_void_p,),
     "vah_switch": (c_void_p,),
     "vah_flush": (c_void_p,),
-    "vah_stat": (c_void_p, POINTER(Info)),
+    "vah_stat_with": (c_void_p, POINTER(Info), c_size_t),
     "vah_version": (),
 }
-for _name, _arguments in _FUNCTIONS.items():
-    _function = getattr(lib, _name)
-    _function.argtypes, _function.restype = _arguments, c_int
-lib.vah_strerror.argtypes, lib.vah_strerror.restype = (c_int,), c_char_p
-lib.vah_last_error.argtypes, lib.vah_last_error.restype = (), c_char_p
+_TEXTS = {"vah_strerror": (c_int,), "vah_last_error": (), "vah_build": ()}
+for _functions, _result in ((_FUNCTIONS, c_int), (_TEXTS, c_char_p)):
+    for _name, _arguments in _functions.items():
+        try:
+            _function = getattr(lib, _name)
+        except AttributeError:
+            raise ImportError(f"{lib._name} is of another release than this package: it has no {_name}") from None
+        _function.argtypes, _function.restype = _arguments, _result

@@ -1,76 +1,189 @@
-"""Stores and their transactions."""
+"""Stores."""
 import ctypes
-import itertools
-import operator
 import os
-import weakref
-from ctypes import byref, c_size_t, c_uint64, c_void_p
+import threading
+import time
+from ctypes import byref, c_void_p
 from types import TracebackType
-from typing import Callable, Dict, Iterable, Iterator, List, Optional, Tuple, Type, TypeVar, Union
+from typing import Callable, Dict, List, Optional, Type, TypeVar, Union
 
 from . import _library as c
-from ._errors import Error, GiveWay, refuse
+from ._arguments import Bytes, number_of, seconds_of
+from ._catalogue import BLOB, INDEX, make, names
+from ._errors import Deadlock, Error, refuse
+from ._named import Blob, Index
+from ._transaction import Transaction, slices, wait as _wait
 
 T = TypeVar("T")
-Entry = Tuple[bytes, int]
+Path = Union[str, bytes, "os.PathLike[str]", "os.PathLike[bytes]"]
 
 
 def open(
-    path: Union[str, bytes, "os.PathLike[str]"], *, frames: int = 1024, max_pages: int = 1_000_000, redo_bytes: int = c.REDO_GROWS,
-    log_bytes: int = c.LOG_GROWS,
+    path: Path, *, frames: int = 1024, max_pages: int = 1_000_000, redo_bytes: int = c.REDO_GROWS, log_bytes: int = c.LOG_GROWS,
+    timeout: Optional[float] = None, progress: "Optional[Callable[[int], object]]" = None,
 ) -> "Store":
     """Opens the store in a folder, or makes one, with the folder and those above it.
 
     `frames` are pages of 4 KiB kept in memory, 8 to 1,024; `max_pages` the most that the store may have; `redo_bytes` the most log that the next
     opening has to redo, 0 for any, and by default 16 MiB, or 7 times the file of pages; `log_bytes` the most that it has to read, where now and then
-    no transaction is active, 0 for any, and by default 64 MiB, or 8 times. Raises Locked, NotAStore, Failed where a call of the system failed,
-    ValueError, MemoryError.
+    no transaction is active, 0 for any, and by default 64 MiB, or 8 times. `timeout` is how many seconds a call waits at most for other transactions
+    before it raises Busy. `progress` is called now and then with the number of bytes read so far; an exception that it raises ends the opening, and
+    leaves the store as it was.
+
+    Raises Locked, NotAStore, Failed where a call of the system failed, all of them OSErrors, and ValueError, TypeError, MemoryError.
+
+    >>> vahondrisa.open(folder + "/orders", frames=64, timeout=5.0).close()
     """
     name = os.fsencode(path)
     if b"\0" in name:
-        raise ValueError("the path has a byte 0")
-    for value, bits in ((frames, 32), (max_pages, 32), (redo_bytes, 64), (log_bytes, 64)):
-        if not 0 <= value < 1 << bits:
-            raise ValueError(f"{value} is no number of {bits} bits")
-    at = c_void_p()
-    code = c.lib.vah_open(name, byref(c.Config(ctypes.sizeof(c.Config), frames, max_pages, redo_bytes, log_bytes)), byref(at))
+        raise ValueError("path must not have a byte 0")
+    config = c.Config(ctypes.sizeof(c.Config))
+    config.frames, config.max_pages = number_of(frames, 32, "frames"), number_of(max_pages, 32, "max_pages")
+    config.redo_bytes, config.log_bytes = number_of(redo_bytes, 64, "redo_bytes"), number_of(log_bytes, 64, "log_bytes")
+    timeout, raised = seconds_of(timeout, "timeout"), []
+    if progress is not None:
+        config.progress = c.Progress(_told(progress, raised))
+    # (made before it is opened, so that it is closed where a signal's exception comes in between)
+    store = Store(os.fsdecode(path), timeout)
+    code = c.lib.vah_open(name, byref(config), byref(store._at))
+    if raised and not code:
+        try:
+            store.close()
+        except Error:
+            pass  # what `progress` raised is told
+    store._is_closing = bool(code or raised)
+    if raised:
+        raise raised[0]
     if code:
-        refuse(code)
-    return Store(at)
+        refuse(code, store._path)
+    return store
+
+
+def build() -> str:
+    """The release of the library below, and what was built of it: `0.1.0 proved`, or `0.1.0 unproved` by a library that was built without its proofs.
+
+    >>> vahondrisa.build().split()[1] in ("proved", "unproved")
+    True
+    """
+    return c.lib.vah_build().decode()
+
+
+def _told(progress: "Callable[[int], object]", raised: "List[BaseException]") -> "Callable[[Optional[int], int], int]":
+    """What the library calls: it tells `progress`, and keeps what that raises, since no exception passes through C."""
+
+    def tell(_: Optional[int], count: int) -> int:
+        try:
+            progress(count)
+            return 0
+        except BaseException as it:
+            raised.append(it)
+            return 1
+
+    return tell
 
 
 class Store:
-    """A store that is open. Any thread may use it. A `with` block closes it at its end."""
+    """A store that is open. Any thread may use it. A `with` block closes it at its end.
 
-    # (of one whose making a signal's exception cut off)
-    _at: Optional[c_void_p] = None
-    _active: "weakref.WeakSet[Transaction]" = weakref.WeakSet()
+    >>> with vahondrisa.open(folder + "/fruit") as fruit:
+    ...     fruit.write(lambda txn: txn.put(b"apple", 7))
+    ...     fruit.get(b"apple")
+    7
+    """
 
-    def __init__(self, at: c_void_p) -> None:
-        self._active = weakref.WeakSet()
-        self._at = at
+    _is_closed = True  # of one whose making a signal's exception cut off
 
-    def begin(self, *, wait: bool = True) -> "Transaction":
+    def __init__(self, path: str, timeout: Optional[float]) -> None:
+        self._at = c_void_p()  # its name, which the library sets when it is opened
+        self._path, self._timeout = path, timeout
+        # The names of transactions that may be active, by their identity, each here before it is begun: so a close knows all of them, whatever exceptions of
+        # signals came in between. The library gives no name twice.
+        self._active: "Dict[int, c_void_p]" = {}
+        self._writes: "Dict[int, Transaction]" = {}  # by thread, those that it is within a `write` of
+        self._is_closing = self._is_closed = False
+
+    def begin(self, *, wait: bool = True, timeout: Optional[float] = None) -> Transaction:
         """Begins a transaction: use it in a `with` block, or end it by `commit` or `rollback`.
 
-        With `wait=False` its calls raise Busy where they would wait for a younger one. A thread that has two transactions can wait for itself.
+        It waits where 64 are active, and its calls where a younger transaction holds what they need, for `timeout` seconds at most, or as many as `open`
+        was told; then they raise Busy. With `wait=False` they do so at once, but where 64 are active this raises Error with the code 12. A thread that
+        would wait for itself is told Deadlock.
         """
-        # (made before it is begun, so that it is rolled back where a signal's exception comes in between)
-        txn = Transaction(self)
-        self._active.add(txn)
-        code = c.lib.vah_begin_with(self._opened(), 0 if wait else c.NO_WAIT, byref(txn._at[0]))
+        limit = seconds_of(timeout, "timeout") if wait else 0
+        return self._begin(self._timeout if limit is None else limit)
+
+    def _begin(self, limit: Optional[float]) -> Transaction:
+        flags, slice_ms = slices(limit)
+        txn = Transaction(self, limit, slice_ms)
+        at = self._opened()
+        call: "Callable[[], int]" = lambda: c.lib.vah_begin_within(at, flags, slice_ms, byref(txn._at))
+        code = call()
+        if code == c.BUSY:
+            code = _wait(self, limit, slice_ms, call)
         if code:
-            refuse(code)
+            txn._end()
+            refuse(code, self._path)
         return txn
 
-    def write(self, body: "Callable[[Transaction], T]") -> T:
-        """Calls `body` with a transaction and commits it; where it has to give way it is rolled back and called again. What `body` returned."""
-        with self.begin() as txn:
+    def write(self, body: "Callable[[Transaction], T]", *, timeout: Optional[float] = None) -> T:
+        """Calls `body` with a transaction and commits it; where an exception leaves `body` it is rolled back. What `body` returned.
+
+        Where it has to give way to an older transaction it is rolled back and `body` is called again, whatever it returned or raised: so it should have no
+        other effect. After some restarts it has precedence over all, so the restarts end. A `write` within a `write` of the same thread raises Deadlock.
+
+        >>> def count(txn):
+        ...     txn[b"count"] = txn.get(b"count", 0) + 1
+        ...     return txn[b"count"]
+        >>> store.write(count), store.write(count)
+        (1, 2)
+        """
+        outer = self._writes.get(threading.get_ident())
+        if outer is not None and not outer._has_ended:
+            raise Deadlock(c.DEADLOCK, f"{self._path}: a write within a write of the same thread")
+        txn = self.begin(timeout=timeout)
+        try:
+            self._writes[threading.get_ident()] = txn
             while True:
                 try:
-                    return body(txn)
-                except GiveWay:
-                    txn.again()
+                    answer = body(txn)
+                except Exception:
+                    if txn._has_ended or not txn._gives_way:
+                        raise
+                else:
+                    if not txn._has_ended and not txn._gives_way:
+                        txn.commit()
+                    if txn._has_ended:  # `body` may have ended it
+                        return answer
+                txn.again()
+        except BaseException:
+            txn._drop()
+            raise
+        finally:
+            self._writes.pop(threading.get_ident(), None)
+
+    def get(self, key: Bytes, default: Optional[int] = None) -> Optional[int]:
+        """The row id of a key, or the default where it is not there, in a transaction of its own."""
+        return self.write(lambda txn: txn.get(key, default))
+
+    def index(self, name: str) -> Index:
+        """The named index, which is made where it is not there yet, in a transaction of its own. Names have 1 to 31 bytes in UTF-8.
+
+        Its entries are keys of the store that begin with the name: docs/CALLERS.md, "Several indexes in one store". Keys of the program's own, beside
+        all indexes, begin with a byte of 32 or more, as letters and digits do.
+        """
+        return Index(self, name, make(self, name, INDEX))
+
+    def blob(self, name: str) -> Blob:
+        """The named set of long values, which is made where it is not there yet, in a transaction of its own. Names have 1 to 31 bytes in UTF-8."""
+        return Blob(self, name, make(self, name, BLOB))
+
+    def indexes(self) -> "List[str]":
+        """The names of all indexes, in order."""
+        return names(self, INDEX)
+
+    def blobs(self) -> "List[str]":
+        """The names of all sets of long values, in order."""
+        return names(self, BLOB)
 
     def checkpoint(self) -> None:
         """Bounds what the next opening has to redo. Taken by itself as `redo_bytes` asks."""
@@ -82,7 +195,7 @@ class Store:
         """
         code = c.lib.vah_switch(self._opened())
         if code and code != c.ACTIVE:
-            refuse(code)
+            refuse(code, self._path)
         return not code
 
     def flush(self) -> None:
@@ -90,35 +203,57 @@ class Store:
         self._call(c.lib.vah_flush)
 
     def info(self) -> Dict[str, int]:
-        """How the store stands: active transactions, dirty_pages, durable_end, redo_from, redone, has_failed."""
+        """How the store stands: active transactions, dirty_pages, durable_end, redo_from, redone, has_failed; and since the opening restarts, waits, forces,
+        syncs, page_reads, page_writes, log_bytes."""
         info = c.Info()
-        self._call(c.lib.vah_stat, byref(info))
+        self._call(c.lib.vah_stat_with, byref(info), ctypes.sizeof(info))
         return {name: getattr(info, name) for name, _ in c.Info._fields_}
 
     def close(self) -> None:
-        """Rolls back what is active, and ends the store; a second time it does nothing. What was committed is kept whatever it raises."""
-        for txn in list(self._active):
-            try:
-                txn.rollback()
-            except Error:
-                pass
-        at, self._at = self._at, None
-        if at:
-            code = c.lib.vah_close(at)
-            if code == c.ACTIVE:
-                self._at = at
-            if code:
-                refuse(code)
+        """Rolls back what is active, and ends the store; a second time it does nothing. What was committed is kept whatever it raises.
+
+        Calls that other threads are within are waited for; those that wait for other transactions raise ValueError, as each call from now on.
+        """
+        self._is_closing = True
+        code, tries = self._end(), 0
+        while code == c.ACTIVE:
+            tries += 1
+            time.sleep(min(0.0001 * tries, 0.01))  # for those that the try before has woken
+            code = self._end()
+        is_first, self._is_closed = not self._is_closed, True
+        if code and code != c.CLOSED and is_first:
+            refuse(code, self._path)
+
+    def _end(self) -> int:
+        """Tries to end the store, which wakes those that wait in a call of it, then rolls back what is active, and tries again."""
+        code = c.lib.vah_close(self._at)
+        if code == c.ACTIVE:
+            for at in list(self._active.values()):
+                # found by the next try where it is about to begin, or where another thread takes it back, as that may begin it again
+                if at and c.lib.vah_rollback(at) != c.ROLLING_BACK:
+                    self._active.pop(id(at), None)
+            code = c.lib.vah_close(self._at)
+        return code
+
+    @property
+    def closed(self) -> bool:
+        """Whether it was closed, or is about to be."""
+        return self._is_closing
+
+    @property
+    def path(self) -> str:
+        """The folder, as it was named at the opening."""
+        return self._path
 
     def _opened(self) -> c_void_p:
-        if not self._at:
+        if self._is_closing:
             raise ValueError("the store is closed")
         return self._at
 
     def _call(self, function: "Callable[..., int]", *arguments: object) -> None:
         code = function(self._opened(), *arguments)
         if code:
-            refuse(code)
+            refuse(code, self._path)
 
     def __enter__(self) -> "Store":
         return self
@@ -127,157 +262,9 @@ class Store:
         self.close()
 
     def __del__(self) -> None:
-        try:
-            self.close()
-        except Error:
-            pass
+        if not self._is_closed and self._at:
+            self._is_closing = True
+            self._end()  # once: nobody has it, or the interpreter ends beside daemon threads
 
-
-class Transaction:
-    """A transaction of one thread at a time. A `with` block commits it at its end, or rolls it back where an exception leaves the block."""
-
-    _at: "List[c_void_p]" = []  # of one whose making a signal's exception cut off
-
-    def __init__(self, store: Store) -> None:
-        self._store = store  # which is not collected before its transactions
-        self._at = [c_void_p()]  # empty once it has ended
-        self._number = c_uint64()
-
-    def get(self, key: bytes, default: Optional[int] = None) -> Optional[int]:
-        """The number of a key, or the default where it is not there."""
-        code = c.lib.vah_fetch(self._going(), key, len(key), self._number)
-        if code == 0:
-            return self._number.value
-        if code == c.NOT_FOUND:
-            return default
-        refuse(code)
-
-    def insert(self, key: bytes, number: int) -> bool:
-        """Puts a key in; False where it is there already."""
-        if not 0 <= number < 1 << 64:
-            raise ValueError(f"{number} is no number of 64 bits")
-        return self._unless(c.lib.vah_insert(self._going(), key, len(key), number), c.EXISTS)
-
-    def delete(self, key: bytes) -> bool:
-        """Takes a key out; False where it is not there."""
-        return self._unless(c.lib.vah_delete(self._going(), key, len(key)), c.NOT_FOUND)
-
-    def seek(self, key: bytes) -> Optional[Entry]:
-        """The first entry from a key on, as (key, number), or None."""
-        return self._one(c.lib.vah_seek, key)
-
-    def next(self, key: bytes) -> Optional[Entry]:
-        """The first entry after a key, or None."""
-        return self._one(c.lib.vah_next, key)
-
-    def range(self, lo: bytes = b"\0", hi: bytes = b"\xff" * c.KEY_MAX, *, batch: int = c.SCAN_MAX) -> Iterator[Entry]:
-        """The entries from one key to another, both included, in order. It reads, and so locks, `batch` of them at a time, 2 to 256."""
-        return itertools.chain.from_iterable(self._batches(lo, hi, max(2, min(batch, c.SCAN_MAX))))
-
-    def _batches(self, lo: bytes, hi: bytes, batch: int) -> "Iterator[Iterable[Entry]]":
-        """The entries of a range, those of one scan at a time. It reads on from the last key, which is not given twice."""
-        room = ctypes.create_string_buffer(ctypes.sizeof(c.Entry) * batch)
-        count, given = c_size_t(), None
-        while True:
-            code = c.lib.vah_scan(self._going(), lo, len(lo), hi, len(hi), room, batch, byref(count))
-            if code:
-                refuse(code)
-            fields = c.entries(count.value).unpack_from(room)
-            numbers, keys = fields[::2], fields[1::2]
-            first = int(keys[:1] == (given,))
-            yield zip(keys[first:], numbers[first:])
-            if count.value < batch:
-                return
-            lo = given = keys[-1]
-
-    def prefix(self, prefix: bytes, *, batch: int = c.SCAN_MAX) -> Iterator[Entry]:
-        """The entries whose keys begin with a prefix, in order."""
-        return self.range(prefix or b"\0", prefix.ljust(c.KEY_MAX, b"\xff"), batch=batch)
-
-    def commit(self) -> None:
-        """Makes all that it did durable, and ends it. After Failed it is not known whether it is kept: open the store again to see.
-        Where it has to give way it is rolled back."""
-        code = self._ends(c.lib.vah_commit, (c.MUST_ROLL_BACK, c.ROLLING_BACK).__contains__)
-        if code in (c.MUST_ROLL_BACK, c.ROLLING_BACK):
-            self.rollback()
-            raise GiveWay(code)
-        if code:
-            refuse(code)
-
-    def again(self) -> None:
-        """After GiveWay: takes back what it did, waits until another transaction has ended, and begins again."""
-        code = self._ends(c.lib.vah_again, operator.not_)
-        if code:
-            refuse(code)
-
-    def rollback(self) -> None:
-        """Takes back all that it did, and ends it; once it has ended it does nothing."""
-        if self._is_active():
-            code = self._ends(c.lib.vah_rollback, ().__contains__)
-            if code:
-                refuse(code)
-
-    def _one(self, function: "Callable[..., int]", key: bytes) -> Optional[Entry]:
-        entry = c.Entry()
-        if self._unless(function(self._going(), key, len(key), byref(entry)), c.NOT_FOUND):
-            number, found = c.entries(1).unpack_from(entry)
-            return found, number
-        return None
-
-    @staticmethod
-    def _unless(code: int, answer: int) -> bool:
-        if code and code != answer:
-            refuse(code)
-        return not code
-
-    def _is_active(self) -> bool:
-        return bool(self._at and self._at[0])
-
-    def _going(self) -> c_void_p:
-        if not self._is_active():
-            raise ValueError("the transaction has ended")
-        return self._at[0]
-
-    def _ends(self, function: "Callable[[c_void_p], int]", keeps: "Callable[[int], bool]") -> int:
-        """Makes a call that ends the transaction, unless `keeps` says of its code that it does not. The pointer is let go in the very step of
-        the interpreter that makes the call, so that an exception of a signal comes before both or after both."""
-        at = self._going()
-        codes, kept = itertools.tee(map(function, (at,)))
-        self._at[:] = itertools.compress((at,), map(keeps, kept))
-        return next(codes)
-
-    def __getitem__(self, key: bytes) -> int:
-        number = self.get(key)
-        if number is None:
-            raise KeyError(key)
-        return number
-
-    def __setitem__(self, key: bytes, number: int) -> None:
-        if not self.insert(key, number):
-            raise KeyError(key)
-
-    def __delitem__(self, key: bytes) -> None:
-        if not self.delete(key):
-            raise KeyError(key)
-
-    def __contains__(self, key: bytes) -> bool:
-        return self.get(key) is not None
-
-    def __iter__(self) -> Iterator[bytes]:
-        return (key for key, _ in self.range())
-
-    def __enter__(self) -> "Transaction":
-        return self
-
-    def __exit__(self, kind: Optional[Type[BaseException]], value: Optional[BaseException], trace: Optional[TracebackType]) -> None:
-        if self._is_active():
-            if kind is None:
-                self.commit()
-            else:
-                self.rollback()
-
-    def __del__(self) -> None:
-        try:
-            self.rollback()
-        except Error:
-            pass
+    def __repr__(self) -> str:
+        return f"<vahondrisa.Store {self._path!r}{', closed' if self.closed else ''}>"

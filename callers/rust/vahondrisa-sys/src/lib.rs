@@ -19,23 +19,36 @@ pub const VAH_SCAN_MAX: usize = 256;
 #[repr(C)]
 #[derive(Clone, Copy, Debug)]
 pub struct vah_entry {
-    pub number: u64,
+    pub rid: u64,
     pub len: u8,
     pub key: [u8; VAH_KEY_MAX],
 }
 
 #[repr(C)]
-#[derive(Clone, Copy)]
+#[derive(Clone, Copy, Debug)]
+pub struct vah_ref {
+    pub key: *const u8,
+    pub len: usize,
+    pub rid: u64,
+}
+
+pub type vah_progress = unsafe extern "C" fn(with: *mut c_void, bytes: u64) -> c_int;
+
+#[repr(C)]
+#[derive(Clone, Copy, Debug)]
 pub struct vah_config {
     pub size: usize,
     pub frames: u32,
     pub max_pages: u32,
     pub redo_bytes: u64,
     pub log_bytes: u64,
+    pub wait_ms: u64,
+    pub progress: Option<vah_progress>,
+    pub with: *mut c_void,
 }
 
 #[repr(C)]
-#[derive(Clone, Copy, Default)]
+#[derive(Clone, Copy, Debug, Default)]
 pub struct vah_info {
     pub active: u64,
     pub dirty_pages: u64,
@@ -43,6 +56,13 @@ pub struct vah_info {
     pub redo_from: u64,
     pub redone: u64,
     pub has_failed: u64,
+    pub restarts: u64,
+    pub waits: u64,
+    pub forces: u64,
+    pub syncs: u64,
+    pub page_reads: u64,
+    pub page_writes: u64,
+    pub log_bytes: u64,
 }
 
 pub const VAH_OK: c_int = 0;
@@ -53,6 +73,9 @@ pub const VAH_BUSY: c_int = 103;
 pub const VAH_INVALID: c_int = 104;
 pub const VAH_ACTIVE: c_int = 105;
 pub const VAH_FORKED: c_int = 106;
+pub const VAH_DEADLOCK: c_int = 107;
+pub const VAH_STOPPED: c_int = 108;
+pub const VAH_CLOSED: c_int = 109;
 pub const VAH_NO_TRANSACTION: c_int = 1;
 pub const VAH_MUST_ROLL_BACK: c_int = 2;
 pub const VAH_KEY_LENGTH: c_int = 3;
@@ -73,31 +96,42 @@ pub const VAH_LOG_GROWS: u64 = u64::MAX;
 
 // The library's own build tests these sizes and places too.
 const _: () = assert!(core::mem::size_of::<vah_entry>() == 264 && core::mem::offset_of!(vah_entry, key) == 9);
-const _: () = assert!(core::mem::size_of::<vah_config>() == 32 && core::mem::offset_of!(vah_config, redo_bytes) == 16);
-const _: () = assert!(core::mem::offset_of!(vah_config, log_bytes) == 24);
-const _: () = assert!(core::mem::size_of::<vah_info>() == 48);
+const _: () = assert!(core::mem::size_of::<vah_ref>() == 24);
+const _: () = assert!(core::mem::size_of::<vah_config>() == 56 && core::mem::offset_of!(vah_config, redo_bytes) == 16);
+const _: () = assert!(core::mem::offset_of!(vah_config, wait_ms) == 32 && core::mem::offset_of!(vah_config, progress) == 40);
+const _: () = assert!(core::mem::size_of::<vah_info>() == 104);
 
 extern "C" {
     pub fn vah_strerror(code: c_int) -> *const c_char;
     pub fn vah_last_error() -> *const c_char;
     pub fn vah_version() -> c_int;
+    pub fn vah_build() -> *const c_char;
     pub fn vah_open(path: *const c_char, config: *const vah_config, store: *mut *mut vah_store) -> c_int;
     pub fn vah_close(store: *mut vah_store) -> c_int;
     pub fn vah_begin_with(store: *mut vah_store, flags: c_uint, txn: *mut *mut vah_txn) -> c_int;
+    pub fn vah_begin_within(store: *mut vah_store, flags: c_uint, wait_ms: u64, txn: *mut *mut vah_txn) -> c_int;
+    pub fn vah_set_wait(txn: *mut vah_txn, wait_ms: u64) -> c_int;
     pub fn vah_commit(txn: *mut vah_txn) -> c_int;
     pub fn vah_again(txn: *mut vah_txn) -> c_int;
     pub fn vah_rollback(txn: *mut vah_txn) -> c_int;
-    pub fn vah_fetch(txn: *mut vah_txn, key: *const c_void, len: usize, number: *mut u64) -> c_int;
-    pub fn vah_insert(txn: *mut vah_txn, key: *const c_void, len: usize, number: u64) -> c_int;
+    pub fn vah_fetch(txn: *mut vah_txn, key: *const c_void, len: usize, rid: *mut u64) -> c_int;
+    pub fn vah_insert(txn: *mut vah_txn, key: *const c_void, len: usize, rid: u64) -> c_int;
+    pub fn vah_put(txn: *mut vah_txn, key: *const c_void, len: usize, rid: u64, was_there: *mut c_int, previous: *mut u64) -> c_int;
     pub fn vah_delete(txn: *mut vah_txn, key: *const c_void, len: usize) -> c_int;
     pub fn vah_seek(txn: *mut vah_txn, key: *const c_void, len: usize, entry: *mut vah_entry) -> c_int;
     pub fn vah_next(txn: *mut vah_txn, key: *const c_void, len: usize, entry: *mut vah_entry) -> c_int;
+    pub fn vah_prev(txn: *mut vah_txn, key: *const c_void, len: usize, entry: *mut vah_entry) -> c_int;
+    pub fn vah_last(txn: *mut vah_txn, entry: *mut vah_entry) -> c_int;
     pub fn vah_scan(
         txn: *mut vah_txn, lo: *const c_void, lo_len: usize, hi: *const c_void, hi_len: usize,
         entries: *mut vah_entry, max: usize, count: *mut usize,
     ) -> c_int;
+    pub fn vah_scan_refs(
+        txn: *mut vah_txn, lo: *const c_void, lo_len: usize, hi: *const c_void, hi_len: usize,
+        refs: *mut vah_ref, max: usize, count: *mut usize,
+    ) -> c_int;
     pub fn vah_checkpoint(store: *mut vah_store) -> c_int;
     pub fn vah_switch(store: *mut vah_store) -> c_int;
     pub fn vah_flush(store: *mut vah_store) -> c_int;
-    pub fn vah_stat(store: *mut vah_store, info: *mut vah_info) -> c_int;
+    pub fn vah_stat_with(store: *mut vah_store, info: *mut vah_info, size: usize) -> c_int;
 }

@@ -66,11 +66,13 @@ fn main() -> Result<()> {
     timed("scans of 100", SCANS, threads, |it| {
         part(it, 1, SCANS).try_for_each(|i| {
             let txn = store.begin()?;
-            for entry in txn.range(&mix(i), &[255; 8]).batch(100).take(100) {
+            for entry in txn.range(mix(i)..=[255; 8]).batch(100).take(100) {
                 entry?;
             }
             txn.commit()
         })
     })?;
+    let info = store.info()?;
+    println!("rust vah {threads} in all: {} restarts, {} waits", info.restarts, info.waits);
     store.close()
 }

@@ -4,6 +4,20 @@ use std::io;
 use vahondrisa_sys as sys;
 
 /// Why a call was refused, in words that name the folder.
+///
+/// ```
+/// # let dir = std::env::temp_dir().join(format!("vahondrisa-doc-error-{}", std::process::id()));
+/// use vahondrisa::{ErrorKind, Store};
+///
+/// let store = Store::open(&dir)?;
+/// let error = Store::open(&dir).unwrap_err();
+/// assert_eq!(error.kind(), ErrorKind::Locked);
+/// assert_eq!(error.to_string(), format!("{}: the store is open elsewhere", dir.display()));
+/// // in a program whose errors are those of std::io
+/// assert_eq!(std::io::Error::from(error).kind(), std::io::ErrorKind::WouldBlock);
+/// # store.close()?; std::fs::remove_dir_all(dir).unwrap();
+/// # Ok::<(), vahondrisa::Error>(())
+/// ```
 #[derive(Debug)]
 pub struct Error {
     code: i32,
@@ -12,17 +26,31 @@ pub struct Error {
 }
 
 /// What a call of this crate returns.
-pub type Result<T> = std::result::Result<T, Error>;
+pub type Result<T, E = Error> = std::result::Result<T, E>;
 
 /// The causes, by the numbers of `vahondrisa.h`.
+///
+/// ```
+/// # let dir = std::env::temp_dir().join(format!("vahondrisa-doc-kind-{}", std::process::id()));
+/// # let store = vahondrisa::Store::open(&dir)?;
+/// use vahondrisa::ErrorKind;
+///
+/// let txn = store.begin()?;
+/// match txn.insert(b"", 1).map_err(|it| it.kind()) {
+///     Err(ErrorKind::KeyLength) => {} // and so on
+///     other => panic!("{other:?}"),
+/// }
+/// # txn.commit()?; store.close()?; std::fs::remove_dir_all(dir).unwrap();
+/// # Ok::<(), vahondrisa::Error>(())
+/// ```
 #[derive(Clone, Copy, Debug, PartialEq, Eq, Hash)]
 #[non_exhaustive]
 pub enum ErrorKind {
     /// The transaction has ended.
     NoTransaction,
-    /// A call of the transaction was answered `GiveWay` before.
+    /// A call of the transaction was answered `GiveWay` before, or a `put` of it or a change of a long value failed half way.
     MustRollBack,
-    /// A key has 1 to 255 bytes.
+    /// A key has 1 to 255 bytes; in an index fewer.
     KeyLength,
     /// A rollback of the transaction was begun and not ended.
     RollingBack,
@@ -40,7 +68,7 @@ pub enum ErrorKind {
     Failed,
     /// The files are of no store, or are damaged.
     NotAStore,
-    /// 64 transactions are active.
+    /// 64 transactions are active (`try_begin`), or 4,096 stores are open.
     TooMany,
     /// `frames` are not 8 to 1,024.
     PoolSize,
@@ -48,12 +76,16 @@ pub enum ErrorKind {
     Locked,
     /// An older transaction stands in the way: roll back, and begin again.
     GiveWay,
-    /// A younger transaction holds what is needed (`try_begin`).
+    /// A younger transaction holds what is needed: it is not waited for (`try_begin`), or was waited for as long as is allowed. Nothing was changed.
     Busy,
-    /// An argument is not allowed, as a path with a byte 0.
+    /// The call would wait for a transaction of this very thread, or for a thread that waits for this one. Nothing was changed: end one of them.
+    Deadlock,
+    /// An argument is not allowed, as a path with a byte 0, or an index of another store.
     Invalid,
     /// The store was opened by the process that this one was forked from.
     Forked,
+    /// The progress of an opening was told to stop. The store is as it was.
+    Stopped,
     /// A code of a later library.
     Other,
 }
@@ -69,9 +101,14 @@ impl Error {
         Error { code, text: text.to_string_lossy().into_owned(), source: is_known.then_some(system) }
     }
 
+    /// The error of a code that this crate finds itself, with what it is about.
+    pub(crate) fn of(code: i32, text: impl Into<String>) -> Error {
+        Error { code, text: text.into(), source: None }
+    }
+
     /// A path that is none for the system.
     pub(crate) fn of_path(error: io::Error) -> Error {
-        Error { code: sys::VAH_INVALID, text: "the path is none for the system".into(), source: Some(error) }
+        Error { source: Some(error), ..Error::of(sys::VAH_INVALID, "the path is none for the system") }
     }
 
     /// The cause.
@@ -93,8 +130,10 @@ impl Error {
             sys::VAH_LOCKED => ErrorKind::Locked,
             sys::VAH_GIVE_WAY => ErrorKind::GiveWay,
             sys::VAH_BUSY => ErrorKind::Busy,
+            sys::VAH_DEADLOCK => ErrorKind::Deadlock,
             sys::VAH_INVALID => ErrorKind::Invalid,
             sys::VAH_FORKED => ErrorKind::Forked,
+            sys::VAH_STOPPED => ErrorKind::Stopped,
             _ => ErrorKind::Other,
         }
     }
@@ -119,5 +158,20 @@ impl fmt::Display for Error {
 impl std::error::Error for Error {
     fn source(&self) -> Option<&(dyn std::error::Error + 'static)> {
         self.source.as_ref().map(|it| it as _)
+    }
+}
+
+impl From<Error> for io::Error {
+    /// An error of the kind that comes nearest, the system's own where that is known, with this one within it.
+    fn from(error: Error) -> io::Error {
+        let kind = match error.kind() {
+            ErrorKind::Device | ErrorKind::Failed => error.source.as_ref().map_or(io::ErrorKind::Other, io::Error::kind),
+            ErrorKind::Memory => io::ErrorKind::OutOfMemory,
+            ErrorKind::NotAStore => io::ErrorKind::InvalidData,
+            ErrorKind::KeyLength | ErrorKind::PoolSize | ErrorKind::Invalid => io::ErrorKind::InvalidInput,
+            ErrorKind::Locked | ErrorKind::Busy | ErrorKind::GiveWay => io::ErrorKind::WouldBlock,
+            _ => io::ErrorKind::Other,
+        };
+        io::Error::new(kind, error)
     }
 }

@@ -17,7 +17,10 @@ fn life(dir: &Path, acked: &mut Vec<u8>) -> Result<()> {
     for turn in 0..6 {
         let txn = store.begin()?;
         for k in 0..12 {
-            txn.insert(&key(turn, k), turn.into())?;
+            txn.put(&key(turn, k), 99)?;
+        }
+        for k in 0..12 {
+            assert_eq!(txn.put(&key(turn, k), turn.into())?, Some(99));
         }
         if turn == 2 {
             txn.rollback()?;

@@ -1,21 +1,7 @@
-use std::path::PathBuf;
+mod folder;
+
+use folder::Folder;
 use vahondrisa::{ErrorKind, Store};
-
-struct Folder(PathBuf);
-
-impl Folder {
-    fn new(name: &str) -> Folder {
-        let path = std::env::temp_dir().join(format!("vahondrisa-{name}-{}", std::process::id()));
-        let _ = std::fs::remove_dir_all(&path);
-        Folder(path)
-    }
-}
-
-impl Drop for Folder {
-    fn drop(&mut self) {
-        let _ = std::fs::remove_dir_all(&self.0);
-    }
-}
 
 #[test]
 fn keys_are_there_when_opened_again() {
@@ -25,7 +11,7 @@ fn keys_are_there_when_opened_again() {
     store.close().unwrap();
     let store = Store::open(&dir.0).unwrap();
     let txn = store.begin().unwrap();
-    let all: Vec<_> = txn.range(&[0], &[255; 8]).collect::<Result<_, _>>().unwrap();
+    let all: Vec<_> = txn.range(..).collect::<Result<_, _>>().unwrap();
     assert_eq!(all, (0..1000u64).map(|i| (i.to_be_bytes().to_vec(), i * i)).collect::<Vec<_>>());
     assert_eq!(txn.seek(&500u64.to_be_bytes()).unwrap().unwrap().1, 250_000);
     txn.commit().unwrap();
@@ -60,6 +46,35 @@ fn a_switch_is_made_where_nothing_is_active() {
 }
 
 #[test]
+fn each_number_of_how_a_store_stands() {
+    let dir = Folder::new("numbers");
+    let store = Store::options().frames(8).open(&dir.0).unwrap();
+    for i in 0..20u8 {
+        store.write(|txn| txn.put(&[i + 1], i.into())).unwrap();
+    }
+    let (older, younger) = (store.begin().unwrap(), store.begin().unwrap());
+    older.put(&[1], 5).unwrap();
+    assert_eq!(younger.get(&[1]).unwrap_err().kind(), ErrorKind::GiveWay);
+    older.commit().unwrap();
+    let active = [younger.again().unwrap(), store.begin().unwrap(), store.begin().unwrap()];
+    let info = store.info().unwrap();
+    assert_eq!((info.active, info.redo_from, info.redone, info.has_failed, info.restarts), (3, 0, 0, false, 1));
+    assert_eq!((info.waits, info.forces, info.page_reads, info.page_writes), (0, 21, 0, 0));
+    assert!((1..=2).contains(&info.dirty_pages) && (1_000..9_000).contains(&info.durable_end), "{info:?}");
+    assert!((22..900).contains(&info.syncs) && (10_000..90_000).contains(&info.log_bytes), "{info:?}");
+    drop(active);
+    assert!(store.switch().unwrap());
+    let info = store.info().unwrap();
+    assert_eq!((info.active, info.dirty_pages, info.restarts, info.page_reads, info.has_failed), (0, 0, 1, 0, false));
+    assert!(info.page_writes > 0);
+    store.close().unwrap();
+    let store = Store::open(&dir.0).unwrap();
+    assert_eq!(store.write(|txn| txn.get(&[1])).unwrap(), Some(5));
+    let info = store.info().unwrap();
+    assert!(info.page_reads > 0 && (info.page_writes, info.syncs) == (0, 0), "{info:?}");
+}
+
+#[test]
 fn refusals_have_their_kinds() {
     let dir = Folder::new("refusals");
     let store = Store::open(&dir.0).unwrap();
@@ -72,8 +87,8 @@ fn refusals_have_their_kinds() {
             txn.remove(key).unwrap_err(),
             txn.seek(key).unwrap_err(),
             txn.next(key).unwrap_err(),
-            txn.range(key, b"a").next().unwrap().unwrap_err(),
-            txn.range(b"a", key).next().unwrap().unwrap_err(),
+            txn.range(key..=b"a").next().unwrap().unwrap_err(),
+            txn.range(&b"a"[..]..=key).next().unwrap().unwrap_err(),
         ];
         assert!(errors.iter().all(|it| it.kind() == ErrorKind::KeyLength));
     }
@@ -99,8 +114,7 @@ fn threads_count_to_the_sum() {
                 for _ in 0..100 {
                     store.write(|txn| {
                         let n = txn.get(b"count")?.unwrap();
-                        txn.remove(b"count")?;
-                        txn.insert(b"count", n + 1)
+                        txn.put(b"count", n + 1)
                     }).unwrap();
                 }
             });
@@ -117,16 +131,16 @@ fn a_range_goes_on_past_256_entries() {
     store.write(|txn| (0..256u64 * 3).try_for_each(|i| txn.insert(&i.to_be_bytes(), i).map(drop))).unwrap();
     let txn = store.begin().unwrap();
     for (from, to) in [(0u64, 767u64), (0, 255), (0, 256), (1, 256), (0, 511), (0, 512), (5, 5), (9, 3)] {
-        let found: Vec<u64> = txn.range(&from.to_be_bytes(), &to.to_be_bytes()).map(|it| it.unwrap().1).collect();
+        let found: Vec<u64> = txn.range(from.to_be_bytes()..=to.to_be_bytes()).map(|it| it.unwrap().1).collect();
         assert_eq!(found, (from..=to).collect::<Vec<_>>());
         for batch in [0, 2, 3, 255] {
-            let range = txn.range(&from.to_be_bytes(), &to.to_be_bytes()).batch(batch);
+            let range = txn.range(from.to_be_bytes()..=to.to_be_bytes()).batch(batch);
             assert!(range.map(|it| it.unwrap().1).eq(from..=to), "{batch}");
         }
     }
     assert_eq!(txn.next(&766u64.to_be_bytes()).unwrap().unwrap().1, 767);
     assert!(txn.next(&767u64.to_be_bytes()).unwrap().is_none());
-    assert!(txn.range(b"", b"a").next().unwrap().is_err());
+    assert!(txn.range(""..="a").next().unwrap().is_err());
 }
 
 #[test]
@@ -147,7 +161,7 @@ fn the_recipes_of_callers() {
         txn.insert(&[1, b'a' + row as u8], row).unwrap();
         txn.insert(&with_row(city, row), row).unwrap();
     }
-    let rows: Vec<_> = txn.range(&with_row("oslo", 0), &with_row("oslo", u64::MAX)).map(|it| it.unwrap().1).collect();
+    let rows: Vec<_> = txn.range(with_row("oslo", 0)..=with_row("oslo", u64::MAX)).map(|it| it.unwrap().1).collect();
     assert_eq!((rows, txn.prefix(&[1]).count()), (vec![0, 2, 3], 4));
     txn.commit().unwrap();
 }
@@ -184,49 +198,4 @@ fn a_body_that_fails_is_rolled_back() {
     assert!(panicked.is_err());
     assert_eq!(store.info().unwrap().active, 0);
     assert_eq!(store.begin().unwrap().get(b"a").unwrap(), None);
-}
-
-/// Run as a child by the test below: commits ten keys with the number of each turn, and says so.
-#[test]
-#[ignore = "a child of a_kill_keeps_what_was_committed"]
-fn commits_until_it_is_killed() {
-    use std::io::Write;
-    let store = Store::open(std::env::var_os("VAHONDRISA_KILLED").unwrap()).unwrap();
-    for turn in 0u64.. {
-        store.write(|txn| (0..10).try_for_each(|j| txn.insert(format!("{turn}.{j}").as_bytes(), turn).map(drop))).unwrap();
-        let mut out = std::io::stdout();
-        writeln!(out, "\ncommitted {turn}").and_then(|()| out.flush()).unwrap();
-    }
-}
-
-#[test]
-fn a_kill_keeps_what_was_committed() {
-    use std::io::{BufRead, BufReader};
-    for turns in [1, 7, 30] {
-        let dir = Folder::new(&format!("kill{turns}"));
-        let mut child = std::process::Command::new(std::env::current_exe().unwrap())
-            .args(["--ignored", "--exact", "--nocapture", "commits_until_it_is_killed"])
-            .env("VAHONDRISA_KILLED", &dir.0)
-            .stdout(std::process::Stdio::piped())
-            .spawn()
-            .unwrap();
-        let mut last = 0;
-        let mut lines = BufReader::new(child.stdout.take().unwrap()).lines();
-        let turn_of = |line: &str| line.strip_prefix("committed ").and_then(|it| it.parse::<u64>().ok());
-        while last < turns {
-            last = turn_of(&lines.next().unwrap().unwrap()).unwrap_or(last);
-        }
-        child.kill().unwrap();
-        last = lines.filter_map(|it| turn_of(&it.ok()?)).max().unwrap_or(last);
-        child.wait().unwrap();
-        let store = Store::open(&dir.0).unwrap();
-        let txn = store.begin().unwrap();
-        let mut counts = std::collections::BTreeMap::new();
-        for entry in txn.prefix(b"") {
-            *counts.entry(entry.unwrap().1).or_insert(0) += 1;
-        }
-        assert!(counts.values().all(|it| *it == 10));
-        assert!((0..=last).all(|it| counts.contains_key(&it)));
-        assert!(counts.len() as u64 <= last + 2);
-    }
 }

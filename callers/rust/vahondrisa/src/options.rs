@@ -1,0 +1,127 @@
+use crate::error::{Error, Result};
+use crate::store::{done, Store};
+use crate::transaction::milliseconds;
+use std::any::Any;
+use std::ffi::{c_int, c_void, CString};
+use std::os::unix::ffi::OsStrExt;
+use std::panic::{catch_unwind, resume_unwind, AssertUnwindSafe};
+use std::path::Path;
+use std::ptr;
+use std::time::Duration;
+use vahondrisa_sys as sys;
+
+/// How a store is opened.
+///
+/// ```
+/// # let dir = std::env::temp_dir().join(format!("vahondrisa-doc-options-{}", std::process::id()));
+/// use std::time::Duration;
+/// use vahondrisa::Store;
+///
+/// let store = Store::options().frames(64).redo_bytes(1 << 20).wait(Duration::from_secs(5)).open(&dir)?;
+/// # store.close()?; std::fs::remove_dir_all(dir).unwrap();
+/// # Ok::<(), vahondrisa::Error>(())
+/// ```
+#[derive(Clone, Copy, Debug)]
+pub struct Options {
+    frames: u32,
+    max_pages: u32,
+    redo_bytes: u64,
+    log_bytes: u64,
+    wait_ms: u64,
+}
+
+impl Default for Options {
+    fn default() -> Options {
+        Options { frames: 1_024, max_pages: 1_000_000, redo_bytes: sys::VAH_REDO_GROWS, log_bytes: sys::VAH_LOG_GROWS, wait_ms: 0 }
+    }
+}
+
+impl Options {
+    /// 1,024 frames, a million pages at most, 16 MiB of log to redo, or 7 times the file of pages, and 64 MiB to read, or 8 times; waits as long as
+    /// is needed.
+    pub fn new() -> Options {
+        Options::default()
+    }
+
+    /// Pages of 4 KiB kept in memory, 8 to 1,024.
+    pub fn frames(mut self, frames: u32) -> Options {
+        self.frames = frames;
+        self
+    }
+
+    /// The most pages of the store.
+    pub fn max_pages(mut self, pages: u32) -> Options {
+        self.max_pages = pages;
+        self
+    }
+
+    /// The most bytes of log that an opening has to redo; 0: any.
+    pub fn redo_bytes(mut self, bytes: u64) -> Options {
+        self.redo_bytes = bytes;
+        self
+    }
+
+    /// The most bytes of log that an opening has to read, where now and then no transaction is active; 0: any.
+    pub fn log_bytes(mut self, bytes: u64) -> Options {
+        self.log_bytes = bytes;
+        self
+    }
+
+    /// How long a call waits at most for other transactions, in whole milliseconds and at least one; then it is refused `Busy`.
+    pub fn wait(mut self, limit: Duration) -> Options {
+        self.wait_ms = milliseconds(limit);
+        self
+    }
+
+    /// Opens the store in a folder, or makes one, with the folder and those above it.
+    pub fn open(&self, path: impl AsRef<Path>) -> Result<Store> {
+        self.open_watched(path.as_ref(), None, ptr::null_mut())
+    }
+
+    /// Opens the store, and tells `progress` now and then how many bytes were read so far. Where it answers false the opening is given up, `Stopped`, and
+    /// the store is as it was.
+    pub fn open_with_progress<F: FnMut(u64) -> bool>(&self, path: impl AsRef<Path>, progress: F) -> Result<Store> {
+        let mut told = Told { progress, panic: None };
+        let opened = self.open_watched(path.as_ref(), Some(tell::<F>), ptr::addr_of_mut!(told).cast());
+        if let Some(panic) = told.panic {
+            resume_unwind(panic);
+        }
+        opened
+    }
+
+    fn open_watched(&self, path: &Path, progress: Option<sys::vah_progress>, with: *mut c_void) -> Result<Store> {
+        let name = CString::new(path.as_os_str().as_bytes()).map_err(|it| Error::of_path(it.into()))?;
+        let config = sys::vah_config {
+            size: std::mem::size_of::<sys::vah_config>(),
+            frames: self.frames,
+            max_pages: self.max_pages,
+            redo_bytes: self.redo_bytes,
+            log_bytes: self.log_bytes,
+            wait_ms: self.wait_ms,
+            progress,
+            with,
+        };
+        let mut at = ptr::null_mut();
+        // SAFETY: the path ends with 0, all pointers are to what lives over the call, and `with` is what `progress` takes.
+        done(unsafe { sys::vah_open(name.as_ptr(), &config, &mut at) })?;
+        Ok(Store::of(at, path.to_path_buf()))
+    }
+}
+
+/// Who is told of an opening's progress, and the panic that it left, which may not pass through C.
+struct Told<F> {
+    progress: F,
+    panic: Option<Box<dyn Any + Send>>,
+}
+
+/// SAFETY: `with` is a `Told<F>`, and nobody else has it.
+unsafe extern "C" fn tell<F: FnMut(u64) -> bool>(with: *mut c_void, bytes: u64) -> c_int {
+    let told = unsafe { &mut *with.cast::<Told<F>>() };
+    match catch_unwind(AssertUnwindSafe(|| (told.progress)(bytes))) {
+        Ok(goes_on) => c_int::from(!goes_on),
+        Err(panic) => {
+            told.panic = Some(panic);
+            1
+        }
+    }
+}

@@ -1,0 +1,10 @@
+"""What the fragments in Python of docs/CALLERS.md stand in."""
+import tempfile
+
+import vahondrisa
+
+id, city, row = b"7", b"oslo", 7
+with tempfile.TemporaryDirectory() as folder, vahondrisa.open(folder) as store:
+    store.write(lambda txn: txn.put(b"user12", 7))
+    with store.begin() as txn:
+        # @block@
