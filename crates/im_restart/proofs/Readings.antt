@@ -33,14 +33,14 @@ module _ (b : Base) (tree : Tree) (laws : TreeLaws tree) (log : History) (c : Ch
   came = comes_to b tree laws log c l can goes
 
   next_said : is_key (what_of said) ≡ true → IsNext c.transaction log (logged_at l said)
-  next_said key = next_here b tree laws log c.transaction l can owner unfinished came (logged_at l said) is refl mine key
+  next_said key = next_here b tree laws log c.transaction l can.lawful owner unfinished came (logged_at l said) is refl mine key
 
   -- a key record is what the loser has to undo next
   pub to_undo_here : is_key (what_of said) ≡ true → IsLatest l log → IsToUndo log c said
   to_undo_here key latest = record { loser = goes.loser; last = goes.last; undo = goes.undo; lsn = l; next = next_said key; latest = latest }
 
   falls_said : leads_on (what_of said) ≡ true → named_next said < l
-  falls_said on = falls_here b tree laws log c.transaction l can owner unfinished came (logged_at l said) is refl mine on
+  falls_said on = falls_here b tree laws log c.transaction l can.lawful owner unfinished came (logged_at l said) is refl mine on
 
   -- a compensation or the end of a structure change leads on
   leads_said : leads_on (what_of said) ≡ true → GoesOnAt c (named_next said) log
@@ -48,8 +48,8 @@ module _ (b : Base) (tree : Tree) (laws : TreeLaws tree) (log : History) (c : Ch
     loser = goes.loser;
     last = goes.last;
     undo = goes.undo;
-    at = at_here b tree laws log c.transaction l can owner unfinished came (logged_at l said) is refl mine on;
-    same = reads_here b tree laws log c.transaction l can owner unfinished came (logged_at l said) is refl mine on ∙ goes.same;
+    at = at_here b tree laws log c.transaction l can.lawful owner unfinished came (logged_at l said) is refl mine on;
+    same = reads_here b tree laws log c.transaction l can.lawful owner unfinished came (logged_at l said) is refl mine on ∙ goes.same;
   }
 
   pub leads_so : MayLeadOn (what_of said) → GoesOnAt c (named_next said) log
@@ -58,7 +58,7 @@ module _ (b : Base) (tree : Tree) (laws : TreeLaws tree) (log : History) (c : Ch
 
   -- and to an earlier record
   pub leads_somewhere : LeadsNowhere said l → ⊥
-  leads_somewhere nowhere = elim (kind_here b tree laws log c.transaction l can owner unfinished came (logged_at l said) is refl mine) [
+  leads_somewhere nowhere = elim (kind_here b tree laws log c.transaction l can.lawful owner unfinished came (logged_at l said) is refl mine) [
     | inl key ↦ let low : l ≤ prev_of said = nowhere.key key in let falls : prev_of said < l = (next_said key).falls in omega (arith, low, falls)
     | inr on ↦ let low : l ≤ named_next said = nowhere.on on in let falls : named_next said < l = falls_said on in omega (arith, low, falls)
   ]

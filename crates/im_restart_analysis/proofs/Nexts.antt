@@ -7,7 +7,7 @@ use Rattle.im_theory_log.specs.Tree.{Tree}
 use Rattle.im_theory_log.specs.Histories.{History, Base, IsRecordOf, end_of, Rises, below}
 use Rattle.im_theory_log.specs.Structure.{open_smo}
 use Rattle.im_theory_log.specs.Transactions.{last_of, undo_next_of, to_undo, stack_after, rest_of, without_smo, top_of, undo_reads, reads_on, is_key, is_smo}
-use Rattle.im_theory_log.specs.Lawful.{IsLawful}
+use Rattle.im_theory_log.specs.Lawful.{IsLawful, IsOutside}
 use Rattle.im_theory_log.specs.LogLaws.{NoSmo}
 use Rattle.im_theory_log.proofs.Fronts.{rises}
 use Rattle.im_theory_log.proofs.Histories.{end_below, rises_below}
@@ -61,6 +61,17 @@ no_smo b tree log t law closed =
     let is : to_undo t log ≡ cut.bottom = cut.is ∙ ap (λ (going : History). part t going ++ cut.bottom) closed in
     subst (λ (l : History). NoSmo l) (sym is) cut.plain
 
+-- nor the stack of who has none open, beside that of another
+not_part : (t : ℕ) (going : History) → IsOutside t going → part t going ≡ []
+not_part t [] out = refl
+not_part t (s ∷ going) out = cond-false (s.txn == t) (s ∷ going) [] (ne_eqb s.txn t out)
+
+no_smo_beside : (b : Base) (tree : Tree) (log : History) (t : ℕ) → IsLawful b tree log → IsOutside t (open_smo log) → NoSmo (to_undo t log)
+no_smo_beside b tree log t law out =
+    let cut = split b tree log t law in
+    let is : to_undo t log ≡ cut.bottom = cut.is ∙ ap (λ (going : History). going ++ cut.bottom) (not_part t (open_smo log) out) in
+    subst (λ (l : History). NoSmo l) (sym is) cut.plain
+
 key_left : (k s : Bool) → (k || s) ≡ true → s ≡ false → k ≡ true
 key_left true s either plain = refl
 key_left false s either plain = sym plain ∙ either
@@ -107,18 +118,18 @@ reads_behind b l (r ∷ older) s up is = elim (cases_eq r.lsn l) [
 
 -- ---- the record that is next
 
-pub next_of : (b : Base) (tree : Tree) (log : History) (t : ℕ) (s : Logged) (rest : History) → IsUndoable b tree log → t ≢ 0 → to_undo t log ≡ s ∷ rest → IsNext t log s
-next_of b tree log t s rest can some is =
-    let up : Rises b log = rises b tree log can.lawful in
-    let ok : IsStack b log t (s ∷ rest) = subst (λ (l : History). IsStack b log t l) is (is_stack b tree log t can.lawful) in
-    let plain : NoSmo (s ∷ rest) = subst (λ (l : History). NoSmo l) is (no_smo b tree log t can.lawful can.closed) in
+pub next_of : (b : Base) (tree : Tree) (log : History) (t : ℕ) (s : Logged) (rest : History) → IsLawful b tree log → NoSmo (to_undo t log) → t ≢ 0 → to_undo t log ≡ s ∷ rest → IsNext t log s
+next_of b tree log t s rest law none some is =
+    let up : Rises b log = rises b tree log law in
+    let ok : IsStack b log t (s ∷ rest) = subst (λ (l : History). IsStack b log t l) is (is_stack b tree log t law) in
+    let plain : NoSmo (s ∷ rest) = subst (λ (l : History). NoSmo l) is none in
     let kind : AreUndone (s ∷ rest) = subst (λ (l : History). AreUndone l) is (are_undone t log) in
     let own : IsOwned t (s ∷ rest) = subst (λ (l : History). IsOwned t l) is (owned t log) in
     let f = below s.lsn log in
     let low : last_of t f ≤ end_of b f = last_le b t f (rises_below b s.lsn log up) in
     let high : end_of b f < s.lsn = end_below b s.lsn log ok.4 in
     let prev : s.prev ≡ last_of t f = ok.1 in
-    let reads : undo_reads (undo_next_of t log) log ≡ Some s = undo_reads_top b tree log t some can.lawful ∙ ap top_of is in
+    let reads : undo_reads (undo_next_of t log) log ≡ Some s = undo_reads_top b tree log t some law ∙ ap top_of is in
     record {
       rest = rest;
       stack = is;
@@ -129,9 +140,16 @@ next_of b tree log t s rest can some is =
       falls = omega (arith, low, high, prev);
     }
 
-pub comes_to : (b : Base) (tree : Tree) (log : History) (t : ℕ) → IsUndoable b tree log → t ≢ 0 → ComesTo t log (undo_reads (undo_next_of t log) log)
-comes_to b tree log t can some = subst (λ (o : Option Logged). ComesTo t log o) (sym (undo_reads_top b tree log t some can.lawful)) (by (to_undo t log) refl)
+comes : (b : Base) (tree : Tree) (log : History) (t : ℕ) → IsLawful b tree log → NoSmo (to_undo t log) → t ≢ 0 → ComesTo t log (undo_reads (undo_next_of t log) log)
+comes b tree log t law none some = subst (λ (o : Option Logged). ComesTo t log o) (sym (undo_reads_top b tree log t some law)) (by (to_undo t log) refl)
   where
     by : (stack : History) → to_undo t log ≡ stack → ComesTo t log (top_of stack)
     by [] is = is
-    by (s ∷ rest) is = next_of b tree log t s rest can some is
+    by (s ∷ rest) is = next_of b tree log t s rest law none some is
+
+pub comes_to : (b : Base) (tree : Tree) (log : History) (t : ℕ) → IsUndoable b tree log → t ≢ 0 → ComesTo t log (undo_reads (undo_next_of t log) log)
+comes_to b tree log t can some = comes b tree log t can.lawful (no_smo b tree log t can.lawful can.closed) some
+
+-- beside a structure change of another too
+pub comes_beside : (b : Base) (tree : Tree) (log : History) (t : ℕ) → IsLawful b tree log → IsOutside t (open_smo log) → t ≢ 0 → ComesTo t log (undo_reads (undo_next_of t log) log)
+comes_beside b tree log t law out some = comes b tree log t law (no_smo_beside b tree log t law out) some

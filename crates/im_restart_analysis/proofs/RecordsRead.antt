@@ -11,7 +11,7 @@ use Rattle.im_log_record.specs.Entry.{Entry, transaction_of}
 use Rattle.im_log.specs.Spelled.{logged_at}
 use Rattle.im_log.specs.Reading.{SpellsRecord}
 use Rattle.im_log_record.specs.Reading.{entry_of}
-use Rattle.im_restart_analysis.specs.Undo.{ComesTo, HasRecordAt, IsNext, IsUndoable, leads_on}
+use Rattle.im_restart_analysis.specs.Undo.{ComesTo, HasRecordAt, IsNext, leads_on}
 use Rattle.im_restart_analysis.proofs.Undoing.{undo_goes_on}
 
 -- a record of a lawful log might come where it stands
@@ -31,9 +31,9 @@ finished_by (r ∷ older) x (inr there) end = elim (cases_eq r.txn x.txn) [
   | inr other ↦ cond-false (r.txn == x.txn) (is_end r.what || is_finished x.txn older) (is_finished x.txn older) (ne_eqb r.txn x.txn other) ∙ finished_by older x there end
 ]
 
-module _ (b : Base) (tree : Tree) (laws : TreeLaws tree) (log : History) (t l : ℕ) (can : IsUndoable b tree log) (owner : 1 ≤ t) (unfinished : is_finished t log ≡ false) (came : ComesTo t log (undo_reads l log)) (x : Logged) (is : IsRecordOf x log) (here : x.lsn ≡ l) (mine : x.txn ≡ t) where
+module _ (b : Base) (tree : Tree) (laws : TreeLaws tree) (log : History) (t l : ℕ) (law : IsLawful b tree log) (owner : 1 ≤ t) (unfinished : is_finished t log ≡ false) (came : ComesTo t log (undo_reads l log)) (x : Logged) (is : IsRecordOf x log) (here : x.lsn ≡ l) (mine : x.txn ≡ t) where
   comes : ComesTo t log (reads_on x x.what (undo_reads x.undo_next log))
-  comes = subst (λ (o : Option Logged). ComesTo t log o) (ap (λ (n : ℕ). undo_reads n log) (sym here) ∙ (undo_goes_on tree laws).reads_record b log x can.lawful is) came
+  comes = subst (λ (o : Option Logged). ComesTo t log o) (ap (λ (n : ℕ). undo_reads n log) (sym here) ∙ (undo_goes_on tree laws).reads_record b log x law is) came
 
   none_ended : is_end x.what ≡ true → ⊥
   none_ended end =
@@ -58,7 +58,7 @@ module _ (b : Base) (tree : Tree) (laws : TreeLaws tree) (log : History) (t l : 
 
   -- a key record, or one that leads on
   pub kind_here : (is_key x.what ≡ true) ⊎ (leads_on x.what ≡ true)
-  kind_here = let may = may_come b tree log x can.lawful is in kinds x.what refl may.0 may.1 comes
+  kind_here = let may = may_come b tree log x law is in kinds x.what refl may.0 may.1 comes
 
   next_by : (w : What) → is_key w ≡ true → ComesTo t log (reads_on x w (undo_reads x.undo_next log)) → IsNext t log x
   next_by (InsertKey k i) key come = come
@@ -94,13 +94,13 @@ module _ (b : Base) (tree : Tree) (laws : TreeLaws tree) (log : History) (t l : 
 
   -- a compensation or the end of a structure change leads on to what reading comes to, at an earlier record
   pub reads_here : leads_on x.what ≡ true → undo_reads x.undo_next log ≡ undo_reads l log
-  reads_here on = sym (reads_by x.what on) ∙ sym ((undo_goes_on tree laws).reads_record b log x can.lawful is) ∙ ap (λ (n : ℕ). undo_reads n log) here
+  reads_here on = sym (reads_by x.what on) ∙ sym ((undo_goes_on tree laws).reads_record b log x law is) ∙ ap (λ (n : ℕ). undo_reads n log) here
 
   pub at_here : leads_on x.what ≡ true → x.undo_next ≢ 0 → HasRecordAt t x.undo_next log
-  at_here on = λ some. subst (λ (n : ℕ). HasRecordAt n x.undo_next log) mine ((undo_goes_on tree laws).leads_to b log x can.lawful is on some)
+  at_here on = λ some. subst (λ (n : ℕ). HasRecordAt n x.undo_next log) mine ((undo_goes_on tree laws).leads_to b log x law is on some)
 
   pub falls_here : leads_on x.what ≡ true → x.undo_next < l
-  falls_here on = subst (λ (n : ℕ). x.undo_next < n) here ((undo_goes_on tree laws).leads_back b log x can.lawful is on)
+  falls_here on = subst (λ (n : ℕ). x.undo_next < n) here ((undo_goes_on tree laws).leads_back b log x law is on)
 
 -- ---- the record that was read
 

@@ -15,7 +15,7 @@ use Rattle.im_restart_analysis.specs.Losers.{is_loser}
 use Rattle.im_restart_analysis.specs.Undo.{left_of, IsUndoable, IsNext, IsLinked, TakesBack, UndoesPage, LeavesOthers, TakesOff, HasEnded, UndoGoesOn}
 use Rattle.im_restart_analysis.proofs.Losers.{loser_number, loser_unfinished, own_stack, own_row, still_loser, loser_ends, leaves_others, numbered, has_its_record, loser_from, all_done}
 use Rattle.im_restart_analysis.proofs.Lefts.{left_loser, left_none, one_less}
-use Rattle.im_restart_analysis.proofs.Nexts.{comes_to}
+use Rattle.im_restart_analysis.proofs.Nexts.{comes_beside, comes_to}
 use Rattle.im_restart_analysis.proofs.Readings.{goes_on_at, reads_record, leads_back, leads_to}
 
 -- where no structure change is open, the settled pages are the pages as they are
@@ -46,7 +46,7 @@ module _ (t : ℕ) (log : History) (s r : Logged) (rest : History) (stack : to_u
 
 -- ---- a compensation, and an End
 
-module _ (tree : Tree) (laws : TreeLaws tree) (b : Base) (log : History) (t : ℕ) (r : Logged) (can : IsUndoable b tree log) (loser : is_loser t log ≡ true) (linked : IsLinked b t log r) where
+module _ (tree : Tree) (laws : TreeLaws tree) (b : Base) (log : History) (t : ℕ) (r : Logged) (law : IsLawful b tree log) (loser : is_loser t log ≡ true) (linked : IsLinked b t log r) where
   follows : (w : What) → r.what ≡ w → MayCome b tree r log w → Follows b tree r log
   follows w is may = record {
     rises = linked.rises;
@@ -58,9 +58,29 @@ module _ (tree : Tree) (laws : TreeLaws tree) (b : Base) (log : History) (t : �
     may = subst (λ (x : What). MayCome b tree r log x) (sym is) may;
   }
 
+  stays_lawful : (w : What) → r.what ≡ w → (w ≡ DummyClr → ⊥) → MayCome b tree r log w → IsLawful b tree (r ∷ log)
+  stays_lawful w is plain may = logs_stay_lawful tree laws b log r law (follows w is may) (λ e. absurd (plain (sym is ∙ e)))
+
+  mine_stack : (l : History) → to_undo t log ≡ l → to_undo r.txn log ≡ l
+  mine_stack l is = ap (λ (x : ℕ). to_undo x log) linked.owner ∙ is
+
+  -- an End leaves an open structure change as it was
+  ended : to_undo t log ≡ [] → r.what ≡ End → r.undo_next ≡ 0 → IsLawful b tree (r ∷ log) × (open_smo (r ∷ log) ≡ open_smo log) × HasEnded t log r
+  ended none is leads =
+      let others : LeavesOthers t r log = leaves_others r log t linked.owner (ap (λ (x : What). committed_after x (net r.txn log) (committed log)) is) in
+      let gone : is_loser t (r ∷ log) ≡ false = loser_ends r log t linked.owner (ap is_end is) in
+      let old : left_of t log ≡ length (to_undo t log) + 1 = left_loser t log loser in
+      let new : left_of t (r ∷ log) ≡ 0 = left_none t (r ∷ log) gone in
+      let long : length (to_undo t log) ≡ 0 = ap (λ (l : History). length l) none in (
+        stays_lawful End is (λ e. cc e) (record { no_undo_next = leads; nothing_left = mine_stack [] none }),
+        ap (λ (x : What). open_after r x (open_smo log)) is,
+        record { others = others; ended = gone; less = one_less t r log others (omega (arith, old, new, long)) },
+      )
+
+module _ (tree : Tree) (laws : TreeLaws tree) (b : Base) (log : History) (t : ℕ) (r : Logged) (can : IsUndoable b tree log) (loser : is_loser t log ≡ true) (linked : IsLinked b t log r) where
   stays : (w : What) → r.what ≡ w → (w ≡ DummyClr → ⊥) → MayCome b tree r log w → open_after r w (open_smo log) ≡ open_smo log → IsUndoable b tree (r ∷ log)
   stays w is plain may going = record {
-    lawful = logs_stay_lawful tree laws b log r can.lawful (follows w is may) (λ e. absurd (plain (sym is ∙ e)));
+    lawful = stays_lawful tree laws b log t r can.lawful loser linked w is plain may;
     closed = ap (λ (x : What). open_after r x (open_smo log)) is ∙ going ∙ can.closed;
   }
 
@@ -70,13 +90,13 @@ module _ (tree : Tree) (laws : TreeLaws tree) (b : Base) (log : History) (t : �
   not_in : IsNotIn r.page (open_smo log)
   not_in = subst (λ (l : History). IsNotIn r.page l) (sym can.closed) tt
 
-  mine_stack : (l : History) → to_undo t log ≡ l → to_undo r.txn log ≡ l
-  mine_stack l is = ap (λ (x : ℕ). to_undo x log) linked.owner ∙ is
+  own_list : (l : History) → to_undo t log ≡ l → to_undo r.txn log ≡ l
+  own_list l is = mine_stack tree laws b log t r can.lawful loser linked l is
 
   compensated : (s : Logged) → IsNext t log s → r.undo_next ≡ s.prev → (v : What) → s.what ≡ v → TakesBack tree (bodies b log) r.page v r.what → IsUndoable b tree (r ∷ log) × TakesOff t log s r
   compensated s next leads (InsertKey k i) is (same, takes) = (
     stays (UndoInsert k i) same (λ e. cc e) (record {
-      undoes = record { undone = s; rest = next.rest; stack = mine_stack (s ∷ next.rest) next.stack; inverse = is; leads = leads };
+      undoes = record { undone = s; rest = next.rest; stack = own_list (s ∷ next.rest) next.stack; inverse = is; leads = leads };
       outside = outside;
       can_drop = subst (λ (pages : ℕ → Body). tree.CanDrop pages r.page k i) (sym (settled_is b log can.closed)) takes;
       not_in = not_in;
@@ -85,7 +105,7 @@ module _ (tree : Tree) (laws : TreeLaws tree) (b : Base) (log : History) (t : �
   )
   compensated s next leads (DeleteKey k i) is (same, takes) = (
     stays (UndoDelete k i) same (λ e. cc e) (record {
-      undoes = record { undone = s; rest = next.rest; stack = mine_stack (s ∷ next.rest) next.stack; inverse = is; leads = leads };
+      undoes = record { undone = s; rest = next.rest; stack = own_list (s ∷ next.rest) next.stack; inverse = is; leads = leads };
       outside = outside;
       can_put = subst (λ (pages : ℕ → Body). tree.CanPut pages r.page k i) (sym (settled_is b log can.closed)) takes;
       not_in = not_in;
@@ -103,16 +123,8 @@ module _ (tree : Tree) (laws : TreeLaws tree) (b : Base) (log : History) (t : �
   compensated s next leads (Checkpoint n a d) is takes = absurd takes
   compensated s next leads Unreadable is takes = absurd takes
 
-  ended : to_undo t log ≡ [] → r.what ≡ End → r.undo_next ≡ 0 → IsUndoable b tree (r ∷ log) × HasEnded t log r
-  ended none is leads =
-      let others : LeavesOthers t r log = leaves_others r log t linked.owner (ap (λ (x : What). committed_after x (net r.txn log) (committed log)) is) in
-      let gone : is_loser t (r ∷ log) ≡ false = loser_ends r log t linked.owner (ap is_end is) in
-      let old : left_of t log ≡ length (to_undo t log) + 1 = left_loser t log loser in
-      let new : left_of t (r ∷ log) ≡ 0 = left_none t (r ∷ log) gone in
-      let long : length (to_undo t log) ≡ 0 = ap (λ (l : History). length l) none in (
-        stays End is (λ e. cc e) (record { no_undo_next = leads; nothing_left = mine_stack [] none }) refl,
-        record { others = others; ended = gone; less = one_less t r log others (omega (arith, old, new, long)) },
-      )
+  ended_closed : to_undo t log ≡ [] → r.what ≡ End → r.undo_next ≡ 0 → IsUndoable b tree (r ∷ log) × HasEnded t log r
+  ended_closed none is leads = let end = ended tree laws b log t r can.lawful loser linked none is leads in (record { lawful = end.0; closed = end.1 ∙ can.closed }, end.2)
 
 -- ---- a page of an open structure change
 
@@ -167,11 +179,13 @@ pub undo_goes_on : (tree : Tree) → TreeLaws tree → UndoGoesOn tree
 undo_goes_on tree laws = record {
   undoes_page = λ b log s rest r law going undoes. page_back tree laws b log s rest r law going undoes;
   reads = λ b log t can loser. comes_to b tree log t can (λ e. (let one : 1 ≤ t = loser_number t log loser in omega (arith, one, e)));
+  reads_beside = λ b log t law out one. comes_beside b tree log t law out (λ e. absurd (omega (arith, one, e)));
   goes_on_at = λ b log t law one some. goes_on_at b tree log t law some;
   reads_record = λ b log r law is. reads_record b tree log r law is;
   leads_back = λ b log r law is on. leads_back b tree log r law is on;
   leads_to = λ b log r law is on some. leads_to b tree log r law is on some;
   compensates = λ b log t s r can loser next c. compensated tree laws b log t r can loser c.linked s next c.leads s.what refl c.takes_back;
-  ends = λ b log t r can loser none e. ended tree laws b log t r can loser e.linked none e.what e.leads;
+  ends = λ b log t r can loser none e. ended_closed tree laws b log t r can loser e.linked none e.what e.leads;
+  ends_beside = λ b log t r law loser none e. ended tree laws b log t r law loser e.linked none e.what e.leads;
   finishes = λ b log law none. finished_tree tree b log law (all_done b tree log law none);
 }

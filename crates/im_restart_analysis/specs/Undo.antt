@@ -6,7 +6,7 @@ use Rattle.im_theory_log.specs.Tree.{Tree}
 use Rattle.im_theory_log.specs.Histories.{History, Base, IsRecordOf, end_of}
 use Rattle.im_theory_log.specs.Structure.{open_smo}
 use Rattle.im_theory_log.specs.Transactions.{last_of, undo_next_of, to_undo, undo_reads, reads_on, is_key, committed}
-use Rattle.im_theory_log.specs.Lawful.{IsLawful}
+use Rattle.im_theory_log.specs.Lawful.{IsLawful, IsOutside}
 use Rattle.im_theory_log.specs.LogLaws.{bodies, HoldsCommitted}
 use Rattle.im_log_record.specs.Entry.{Entry, prev_of, undo_next_of as named_next}
 use Rattle.im_log.specs.Whats.{what_of}
@@ -137,6 +137,8 @@ pub record UndoGoesOn (tree : Tree) : Type 0 where
       → IsLawful b tree (r ∷ log) × (open_smo (r ∷ log) ≡ rest) × TakesOff s.txn log s r
   -- reading from a loser's next LSN to undo
   pub reads : (b : Base) (log : History) (t : ℕ) → IsUndoable b tree log → is_loser t log ≡ true → ComesTo t log (undo_reads (undo_next_of t log) log)
+  -- beside an open structure change of another too
+  pub reads_beside : (b : Base) (log : History) (t : ℕ) → IsLawful b tree log → IsOutside t (open_smo log) → 1 ≤ t → ComesTo t log (undo_reads (undo_next_of t log) log)
   -- where a transaction's undo goes on it has a record; there reading stops or is led on, to an earlier record of the transaction
   pub goes_on_at : (b : Base) (log : History) (t : ℕ) → IsLawful b tree log → 1 ≤ t → undo_next_of t log ≢ 0 → HasRecordAt t (undo_next_of t log) log
   pub reads_record : (b : Base) (log : History) (r : Logged) → IsLawful b tree log → IsRecordOf r log → undo_reads r.lsn log ≡ reads_on r r.what (undo_reads r.undo_next log)
@@ -147,6 +149,9 @@ pub record UndoGoesOn (tree : Tree) : Type 0 where
       → IsUndoable b tree (r ∷ log) × TakesOff t log s r
   pub ends : (b : Base) (log : History) (t : ℕ) (r : Logged) → IsUndoable b tree log → is_loser t log ≡ true → to_undo t log ≡ [] → Ends b t log r
       → IsUndoable b tree (r ∷ log) × HasEnded t log r
+  -- an End beside an open structure change of another, which it leaves open
+  pub ends_beside : (b : Base) (log : History) (t : ℕ) (r : Logged) → IsLawful b tree log → is_loser t log ≡ true → to_undo t log ≡ [] → Ends b t log r
+      → IsLawful b tree (r ∷ log) × (open_smo (r ∷ log) ≡ open_smo log) × HasEnded t log r
   -- no loser is left: the tree has the committed effects alone
   pub finishes : (b : Base) (log : History) → IsLawful b tree log → ((t : ℕ) → is_loser t log ≡ false) → HoldsCommitted b tree log
 
