@@ -163,28 +163,29 @@ module _ (b : Base) (t undo_next : ℕ) (images : List Numbered) (done prev : �
   }
 
 -- ITS END: the pages are those of the images, put over the settled ones, but for marks
+module _ (b : Base) (t undo_next : ℕ) (images : List Numbered) (prev : ℕ) (log : History) (way : IsUnderWay b t undo_next images (length images) prev log) where
+  pub made_all : (p : ℕ) (o : Option Page) → image_of images p ≡ o → SameButMark (held (settled b log) images p) (bodies b log p)
+  made_all p None is =
+      let none_of : (k : ℕ) → k < length images → (image_at images k).0 ≢ p = λ k lt e.
+      (let clash : Some (image_at images k).1 ≡ None = sym (image_there images k way.rising lt) ∙ ap (image_of images) e ∙ is in absurd (cc clash)) in
+      let same : held (settled b log) images p ≡ bodies b log p =
+      applied_image (settled b log) images p ∙ ap (λ (o : Option Page). body_or o (settled b log p)) is ∙ sym (other_page_settled b t undo_next images (length images) prev log p way none_of) in
+      subst (λ (c : Body). SameButMark c (bodies b log p)) (sym same) (self (bodies b log p))
+    where
+      self : (c : Body) → SameButMark c c
+      self c = (record { kind = refl; level = refl; entries = refl; leftmost = refl }, record { prev = refl; next = refl })
+  made_all p (Some g) is =
+      let at = image_place images p g is in
+      let body : (image_at images at.place).1.body ≡ held (settled b log) images p =
+      ap (λ (x : Page). x.body) at.image ∙ sym (applied_image (settled b log) images p ∙ ap (λ (o : Option Page). body_or o (settled b log p)) is) in
+      subst (λ (q : ℕ). SameButMark (held (settled b log) images p) (bodies b log q)) at.number
+      (subst (λ (c : Body). SameButMark c (bodies b log (image_at images at.place).0)) body (way.made at.place at.within))
+
 pub closes_well : (b : Base) (t undo_next : ℕ) (images : List Numbered) (prev : ℕ) (log : History) → IsUnderWay b t undo_next images (length images) prev log → IsRebuilt b page_tree log
 closes_well b t undo_next images prev log way = record { good = kept.0; walk = kept.1 ∙ way.stands.same; named = count }
   where
-    by : (p : ℕ) (o : Option Page) → image_of images p ≡ o → SameButMark (held (settled b log) images p) (bodies b log p)
-    by p None is =
-        let none_of : (k : ℕ) → k < length images → (image_at images k).0 ≢ p = λ k lt e.
-        (let clash : Some (image_at images k).1 ≡ None = sym (image_there images k way.rising lt) ∙ ap (image_of images) e ∙ is in absurd (cc clash)) in
-        let same : held (settled b log) images p ≡ bodies b log p =
-        applied_image (settled b log) images p ∙ ap (λ (o : Option Page). body_or o (settled b log p)) is ∙ sym (other_page_settled b t undo_next images (length images) prev log p way none_of) in
-        subst (λ (c : Body). SameButMark c (bodies b log p)) (sym same) (self (bodies b log p))
-      where
-        self : (c : Body) → SameButMark c c
-        self c = (record { kind = refl; level = refl; entries = refl; leftmost = refl }, record { prev = refl; next = refl })
-    by p (Some g) is =
-        let at = image_place images p g is in
-        let body : (image_at images at.place).1.body ≡ held (settled b log) images p =
-        ap (λ (x : Page). x.body) at.image ∙ sym (applied_image (settled b log) images p ∙ ap (λ (o : Option Page). body_or o (settled b log p)) is) in
-        subst (λ (q : ℕ). SameButMark (held (settled b log) images p) (bodies b log q)) at.number
-        (subst (λ (c : Body). SameButMark c (bodies b log (image_at images at.place).0)) body (way.made at.place at.within))
-
     kept : IsGoodTree (bodies b log) [] × (walk (bodies b log) ≡ walk (held (settled b log) images))
-    kept = marks_keep (held (settled b log) images) (bodies b log) [] (λ p. by p (image_of images p) refl) way.stands.good
+    kept = marks_keep (held (settled b log) images) (bodies b log) [] (λ p. made_all b t undo_next images prev log way p (image_of images p) refl) way.stands.good
 
     count : (bodies b log 0).leftmost ≤ max (count_of b) (named_to log)
     count = elim (cases_lt 0 (length images)) [

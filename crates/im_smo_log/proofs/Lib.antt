@@ -10,4 +10,5 @@ pub mod DoneNumbers
 pub mod Others
 pub mod Going
 pub mod Coming
+pub mod BetweenSteps
 pub mod Stepping

@@ -30,7 +30,7 @@ use Rattle.im_smo_log.proofs.ImagePlaces.{held_leaf, image_there}
 use Rattle.im_theory_tree.proofs.WayBlind.{carried_dropped, carried_put}
 
 -- a record that is none of a structure change leaves the open one as it is
-open_same : (r : Logged) (w : What) (going : History) → is_structural w ≡ false → open_after r w going ≡ going
+pub open_same : (r : Logged) (w : What) (going : History) → is_structural w ≡ false → open_after r w going ≡ going
 open_same r (Smo old new) going plain = absurd (cc plain)
 open_same r (UndoSmo new) going plain = absurd (cc plain)
 open_same r DummyClr going plain = absurd (cc plain)

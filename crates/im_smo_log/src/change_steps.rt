@@ -1,6 +1,6 @@
 //! The steps of a structure change that is made page by page, with records of others between its pages.
 
-ghost use Rattle.std.specs.Prelude.{◌≡◌, ◌<◌, ◌≤◌, ◌↔◌, ℕ, false, [], ◌∷◌, ◌++◌, length, Some, IfErr, IfOk, IsTrue, OnErr, OnOk};
+ghost use Rattle.std.specs.Prelude.{◌≡◌, ◌<◌, ◌≤◌, ◌↔◌, ℕ, false, length, Some, IfErr, IfOk, IsTrue, OnErr};
 ghost use Rattle.im_base_types.specs.declared.fault.Fault.TheVariants.{Memory};
 ghost use Rattle.im_theory_log.specs.Histories.{Base};
 ghost use Rattle.im_theory_log.specs.Writer.{Writer};
@@ -13,6 +13,7 @@ ghost use Rattle.im_smo_log.specs.Stepping.{StepKept, CloseKept};
 
 use crate::change::Change;
 use crate::page_record::log_marked;
+use crate::plan_numbers::page_numbers;
 use crate::structure_change::are_counted;
 use im_base_disk::Disk;
 use im_base_types::{Fault, Lsn, PageNo, TxnId};
@@ -43,23 +44,6 @@ fn log_closing<D: Disk>(
     writer.log_only(disk, &closing)
 }
 
-// An empty list with room for so many page numbers.
-fn list_for(alloc: Global, len: usize) -> Result<Vec<PageNo>, Fault>
-    ensures none { IfOk result (λ list. list.items ≡ []) }
-    ensures memory { IfErr result (λ e. e ≡ Memory) }
-{
-    Vec::with_capacity(alloc, len).map_err(|_| Fault::Memory)
-}
-
-// Adds a page number to a list.
-fn add_number(list: &mut Vec<PageNo>, number: PageNo) -> Result<(), Fault>
-    ensures added { OnOk result (list.new.items ≡ list.old.items ++ number ∷ []) }
-    ensures memory { IfErr result (λ e. e ≡ Memory) }
-{
-    list.push(number).map_err(|_| Fault::Memory)?;
-    Ok(())
-}
-
 impl Change {
     /// A structure change of which no page is logged. It takes no memory; images that are none of a plan are refused `Memory`, as
     /// `run` refuses them.
@@ -76,13 +60,22 @@ impl Change {
         if !are_counted(&images) {
             return Err(Fault::Memory);
         }
-        Ok(Change {
+        Ok(Change::begin_counted(images, transaction, last, undo_next))
+    }
+
+    /// The same of images that are known to be those of a plan (`are_counted`), which is never refused.
+    pub fn begin_counted(images: Images, transaction: TxnId, last: Lsn, undo_next: Lsn) -> Change
+        requires owner { 1 ≤ transaction }
+        requires counted { AreCounted images }
+        ensures begun { (result.images ≡ images) × (result.done ≡ 0) × (result.transaction ≡ transaction) × (result.last ≡ last) × (result.undo_next ≡ undo_next) }
+    {
+        Change {
             images,
             done: 0,
             transaction,
             last,
             undo_next,
-        })
+        }
     }
 
     /// Logs the next page, as it is and as it will be, and makes it so. Where `marked` is asked for, the page will be with the mark
@@ -101,6 +94,7 @@ impl Change {
         ensures kept { (b : Base) (base : ℕ) (s : Writer) (e : ℕ) → StandsAs D.Disk b base s writer.old disk.old → s.redo_end ≡ Some e
             → StepKept D.Disk b base s self.old marked disk.old self.new writer.new disk.new result }
         ensures same { OnErr result (self.new ≡ self.old) }
+        ensures plan { (self.new.images ≡ self.old.images) × (self.new.transaction ≡ self.old.transaction) × (self.new.undo_next ≡ self.old.undo_next) }
     {
         let len = self.images.len();
         let highest = self.images.number(len - 1);
@@ -152,12 +146,7 @@ impl Change {
         ensures numbers { IfOk result (λ list. list.items ≡ numbers_of self.now.images) }
         ensures memory { IfErr result (λ e. e ≡ Memory) }
     {
-        let len = self.images.len();
-        let mut list = list_for(alloc, len)?;
-        for i in 0..len {
-            add_number(&mut list, self.images.number(i))?;
-        }
-        Ok(list)
+        page_numbers(alloc, &self.images)
     }
 
     /// The transaction whose change it is.

@@ -3,6 +3,7 @@
 ghost use Rattle.std.specs.Prelude.{◌≡◌, ◌≢◌, ℕ};
 ghost use Rattle.im_theory_log.specs.Histories.{Base, History};
 ghost use Rattle.im_theory_log.specs.Transactions.{committed, contents, net};
+ghost use Rattle.im_smo_log.specs.BetweenSteps.{OthersGoOn, PagesKeepSettled, InsertsMayEnd};
 ghost use Rattle.im_smo_log.specs.ChangePages.{FirstAreDone};
 ghost use Rattle.im_smo_log.specs.Changes.{GrowsByChange, IsSameOf};
 ghost use Rattle.im_smo_log.specs.GoingOn.{OthersKeep, OthersKeepWays, PagesGoOn, OtherPagesAreSettled, PagesAgree, ClosesWell, ChangesBegin, PagesMayCome, ClosesMayCome};
@@ -31,4 +32,13 @@ pub fn changes_go_on()
     ensures begins { ChangesBegin }
     ensures next { PagesMayCome }
     ensures ends { ClosesMayCome }
+{}
+
+/// A structure change that goes on over several steps stands, between two of them, as it did: behind all that others log in a step, and
+/// behind a page of its own, which leaves the settled pages as they were. Behind its end the leaf of a key is the one that
+/// the plan named, with the room that its image has.
+pub fn changes_outlast_steps()
+    ensures others { OthersGoOn }
+    ensures pages { PagesKeepSettled }
+    ensures ends { InsertsMayEnd }
 {}

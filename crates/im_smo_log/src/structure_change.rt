@@ -18,8 +18,8 @@ use im_log_record::Record;
 use im_page_writer::PageWriter;
 use im_smo_pages::Images;
 
-/// Whether page 0 is the first of them, and none is past the page count that it says there.
-pub(crate) fn are_counted(images: &Images) -> bool
+/// Whether page 0 is the first of them, and none is past the page count that it says there, as it is so of each plan.
+pub fn are_counted(images: &Images) -> bool
     ensures { IsTrue result ↔ AreCounted images.now }
 {
     let len = images.len();
