@@ -1,5 +1,5 @@
 -- A transaction between two structure changes, and what a stop leaves meanwhile.
-use Rattle.std.proofs.Common.{◌≡◌, ◌≢◌, ℕ, [], sym, ap, subst, ◌∙◌}
+use Rattle.std.proofs.Common.{◌≡◌, ◌≢◌, ℕ, [], Some, sym, ap, subst, ◌∙◌}
 use Rattle.std.proofs.Math.Path.{fun_ext}
 use Rattle.im_base_types.specs.Pages.{Page}
 use Rattle.im_theory_log.specs.Histories.{Base, History, page_at}
@@ -18,7 +18,7 @@ use Rattle.im_page_writer.specs.declared.page_writer.PageWriter.{PageWriter}
 use Rattle.im_page_table.specs.Growth.{Keeps}
 use Rattle.im_page_writer.specs.Outcome.{AllPages, pages_of, AreLoaded, HasPages}
 use Rattle.im_page_writer.specs.Writing.{LeavesGrown}
-use Rattle.im_page_writer.specs.PageWriter.{GoesOn}
+use Rattle.im_page_writer.specs.PageWriter.{GoesOn, StandsAs}
 use Rattle.im_page_writer.proofs.Goings.{leaves_so_far}
 use Rattle.im_page_writer.proofs.Outcomes.{pages_here}
 use Rattle.im_page_file.proofs.Standing.{wider_covered}
@@ -37,23 +37,34 @@ pub pages_stay : (b : Base) (s t : Writer) → Keeps b s t → pages_of t ≡ pa
 pages_stay b s t keeps = fun_ext (λ (p : ℕ). (keeps.pages p).page)
 
 module _ {D : Type 0} (d : Ghosts D) (b : Base) (base : ℕ) where
-  module _ (s : Writer) (e t last undo_next : ℕ) (w : PageWriter) (disk : D) (u : IsUnfinished d b base s e t last undo_next w disk) where
+  -- ---- how a writer stands behind redo
+
+  module _ (s : Writer) (e : ℕ) (w : PageWriter) (disk : D) (stands : StandsAs d b base s w disk) (over : s.redo_end ≡ Some e) where
     writer_kept : WriterKept b s
-    writer_kept = u.stands.writing.stands.kept
+    writer_kept = stands.writing.stands.kept
 
     -- no page waits for a copy
-    pub still_ready : AreLoaded s
-    still_ready p = ((writer_kept.pages p).run e u.over).0
+    pub stands_ready : AreLoaded s
+    stands_ready p = ((writer_kept.pages p).run e over).0
 
     -- each page is as the log's records have made it
-    page_is : (p : ℕ) → (s.pages p).page ≡ page_at b s.log p
-    page_is p =
+    pub stands_page : (p : ℕ) → (s.pages p).page ≡ page_at b s.log p
+    stands_page p =
         let kept = writer_kept.pages p in
-        let run = kept.run e u.over in
+        let run = kept.run e over in
         reached_end b s.log (s.pages p).upto p (s.pages p).page run.1 (kept.now run.0)
 
+    pub stands_bodies : bodies s ≡ logs.bodies b s.log
+    stands_bodies = fun_ext (λ (p : ℕ). ap (λ (x : Page). x.body) (stands_page p))
+
+  -- ---- an unfinished transaction
+
+  module _ (s : Writer) (e t last undo_next : ℕ) (w : PageWriter) (disk : D) (u : IsUnfinished d b base s e t last undo_next w disk) where
+    pub still_ready : AreLoaded s
+    still_ready = stands_ready s e w disk u.stands u.over
+
     bodies_are : bodies s ≡ logs.bodies b s.log
-    bodies_are = fun_ext (λ (p : ℕ). ap (λ (x : Page). x.body) (page_is p))
+    bodies_are = stands_bodies s e w disk u.stands u.over
 
     good_pages : IsGoodTree (logs.bodies b s.log) []
     good_pages = subst (λ (pages : Pages). IsGoodTree pages []) (fun_ext (λ (p : ℕ). ap (λ (l : History). taken_back l p (page_at b s.log p).body) u.closed)) (has_tree b page_tree s.log u.lawful).good

@@ -1,2 +1,3 @@
 pub mod DropPlan
 pub mod Structure
+pub mod GoingBeside
