@@ -26,9 +26,10 @@ use Rattle.im_smo_pages.specs.Images.{Numbered}
 use Rattle.im_smo_log.specs.Changes.{ChangeKept, MayChange}
 use Rattle.im_smo_split.specs.Plan.{Planned}
 use Rattle.im_smo_split.specs.declared.split_plan.SplitPlan.{SplitPlan}
+use Rattle.im_smo_actions.specs.GoingBeside.{settled_pages}
 use Rattle.im_restart_undo.specs.declared.back.Back.{Back}
 use Rattle.im_restart_undo.specs.declared.back.Back.TheVariants.{Plain, Split, Drop}
-use Rattle.im_restart_undo.specs.GoingBeside.{settled_pages, BackKept, HasSplit, IsGoingBeside, TakenBeside}
+use Rattle.im_restart_undo.specs.GoingBeside.{BackKept, HasSplit, IsGoingBeside, TakenBeside}
 use Rattle.im_restart_undo.specs.Planning.{CanBack, DropsFor, EmptiesLeaf, IsOutOf, SplitsFor}
 use Rattle.im_restart_undo.specs.Undoing.{CompensateKept, HasMadeRoom, IsGoing, IsToUndo, SplitKept, TakesIt, UsesUp, WantsRoom}
 use Rattle.im_restart_undo.proofs.Closed.{closed_beside, kept_closed, out_of_none, settled_pages_are, taken_closed}
@@ -41,14 +42,14 @@ use Rattle.im_restart_undo.proofs.StructureChanges.{emptied_kept, emptied_none, 
 -- ---- the record by its kind
 
 -- The record dropped a key, and the plan is the split of its leaf.
-record IsSplitOf (pages : AllPages) (w : What) (plan : SplitPlan) : Type 0 where
-  key : Key
-  rid : ℕ
-  same : w ≡ whats.DeleteKey key rid
-  planned : Planned pages key None plan.images plan.leaf
-  some : 1 ≤ length plan.images
+pub record IsSplitOf (pages : AllPages) (w : What) (plan : SplitPlan) : Type 0 where
+  pub key : Key
+  pub rid : ℕ
+  pub same : w ≡ whats.DeleteKey key rid
+  pub planned : Planned pages key None plan.images plan.leaf
+  pub some : 1 ≤ length plan.images
 
-split_of : (pages : AllPages) (w : What) (plan : SplitPlan) → SplitsFor pages w plan → IsSplitOf pages w plan
+pub split_of : (pages : AllPages) (w : What) (plan : SplitPlan) → SplitsFor pages w plan → IsSplitOf pages w plan
 split_of pages (whats.DeleteKey k i) plan is = record { key = k; rid = i; same = refl; planned = is.0; some = is.1 }
 split_of pages (whats.InsertKey k i) plan is = absurd is
 split_of pages (whats.UndoInsert k i) plan is = absurd is

@@ -20,9 +20,10 @@ use Rattle.im_theory_tree.specs.Good.{AllOf}
 use Rattle.im_tree_search.specs.Levels.{bodies}
 use Rattle.im_smo_pages.specs.Images.{Numbered}
 use Rattle.im_smo_split.specs.declared.split_plan.SplitPlan.{SplitPlan}
+use Rattle.im_smo_actions.specs.GoingBeside.{settled_pages}
 use Rattle.im_restart_undo.specs.declared.back.Back.{Back}
 use Rattle.im_restart_undo.specs.declared.back.Back.TheVariants.{Plain, Split, Drop}
-use Rattle.im_restart_undo.specs.GoingBeside.{settled_pages, BackKept, IsGoingBeside, TakenBeside}
+use Rattle.im_restart_undo.specs.GoingBeside.{BackKept, IsGoingBeside, TakenBeside}
 use Rattle.im_restart_undo.specs.Planning.{IsOutOf}
 use Rattle.im_restart_undo.specs.Undoing.{CompensateKept, IsGoing, TakenBack, UsesUp, WantsRoom}
 use Rattle.im_restart_undo.proofs.StructureChanges.{settled_here}
@@ -33,7 +34,7 @@ out_of_none going (Plain p) closed = subst (λ (l : History). IsNotIn p l) (sym 
 out_of_none going (Split plan) closed = closed
 out_of_none going (Drop p images) closed = closed
 
-if_err : {A : Type 0} (r : Result A Fault) {P : Fault → Type 0} → ((f : Fault) → P f) → IfErr r P
+pub if_err : {A : Type 0} (r : Result A Fault) {P : Fault → Type 0} → ((f : Fault) → P f) → IfErr r P
 if_err (Ok a) all = tt
 if_err (Err f) all = all f
 

@@ -35,6 +35,7 @@ use Rattle.im_theory_tree.proofs.TheoryLaws.{page_tree_laws}
 use Rattle.im_theory_page.specs.Split.{HasRoom}
 use Rattle.im_smo_log.specs.Under.{is_structural}
 use Rattle.im_smo_log.proofs.Others.{key_pages, left_alone}
+use Rattle.im_smo_actions.proofs.Standing.{stands_bodies}
 use Rattle.im_restart_analysis.specs.declared.rows.Loser.{Loser}
 use Rattle.im_restart_analysis.specs.Losers.{row_of}
 use Rattle.im_restart_analysis.specs.Undo.{IsNext}
@@ -45,7 +46,7 @@ use Rattle.im_restart_undo.specs.Records.{IsOfUndo, compensations, inverse_of, w
 use Rattle.im_restart_undo.specs.Undoing.{IsToUndo, LeavesUndo}
 use Rattle.im_restart_undo.proofs.Beside.{contents_longer, images_planned, lawful_longer, next_longer, open_longer, settled_longer, stack_longer}
 use Rattle.im_restart_undo.proofs.Ends.{began_working, never_short}
-use Rattle.im_restart_undo.proofs.Growth.{images_compensate, images_of_undo, left_images, owner_some, same_finished, same_row, stands_bodies}
+use Rattle.im_restart_undo.proofs.Growth.{images_compensate, images_of_undo, left_images, owner_some, same_finished, same_row}
 use Rattle.im_restart_undo.proofs.Shown.{settled_has, settled_shows}
 
 -- What a record of this kind does that takes one of that kind back, whatever it is.

@@ -1,9 +1,8 @@
 -- Logs that grow by Images, by structure changes and by compensations, what a stop leaves meanwhile, and calls in a row.
-use Rattle.std.proofs.Common.{◌≡◌, ◌≢◌, ◌≤◌, ℕ, [], ◌∷◌, ◌++◌, Bool, true, false, Some, inl, inr, refl, sym, ◌∙◌, ap, subst, append_assoc, arith, ◌==◌}
+use Rattle.std.proofs.Common.{◌≡◌, ◌≢◌, ◌≤◌, ℕ, [], ◌∷◌, ◌++◌, Bool, true, false, inl, inr, refl, sym, ◌∙◌, ap, subst, append_assoc, arith, ◌==◌}
 use Rattle.std.specs.Prelude.{not, ◌&&◌, ◌||◌, nat_le}
 use Rattle.std.proofs.lemmas.Bool.{and_parts, cond-false, eq-eqb, ne_eqb, or_right}
 use Rattle.std.proofs.Math.Path.{fun_ext}
-use Rattle.im_base_types.specs.Pages.{Page}
 use Rattle.im_base_types.specs.Records.{What, InsertKey, DeleteKey, UndoInsert, UndoDelete, Smo, UndoSmo, DummyClr, Commit, End, Image, Checkpoint, Unreadable, Logged}
 use Rattle.im_theory_log.specs.Histories.{Base, History, IsFront, IsRecordOf, page_at}
 use Rattle.im_theory_log.specs.Copies.{AreImages, GrowsByImages}
@@ -11,11 +10,10 @@ use Rattle.im_theory_log.specs.Lawful.{IsLawful}
 use Rattle.im_theory_log.specs.LogLaws as logs
 use Rattle.im_theory_log.specs.Structure.{taken_back}
 use Rattle.im_theory_log.specs.Transactions.{committed, committed_after, is_end, is_finished, net}
-use Rattle.im_theory_log.specs.Writer.{Writer, WriterKept}
+use Rattle.im_theory_log.specs.Writer.{Writer}
 use Rattle.im_theory_log.proofs.Fronts.{has_tree}
 use Rattle.im_theory_log.proofs.Histories.{front_self}
 use Rattle.im_theory_log.proofs.Images.{lawful_images}
-use Rattle.im_theory_log.proofs.Redo.{reached_end}
 use Rattle.im_base_disk.specs.declared.disk.Disk.{Ghosts}
 use Rattle.im_base_disk.specs.Disk.{Files}
 use Rattle.im_base_disk.proofs.Runs.{then_on, weakened}
@@ -23,7 +21,7 @@ use Rattle.im_log.proofs.Above.{front_then}
 use Rattle.im_page_writer.specs.declared.page_writer.PageWriter.{PageWriter}
 use Rattle.im_page_file.specs.Stands.{IsCovered}
 use Rattle.im_page_writer.specs.Writing.{LeavesGrown}
-use Rattle.im_page_writer.specs.PageWriter.{GoesOn, StandsAs}
+use Rattle.im_page_writer.specs.PageWriter.{GoesOn}
 use Rattle.im_page_writer.proofs.Goings.{leaves_so_far}
 use Rattle.im_page_writer.proofs.Outcomes.{pages_here}
 use Rattle.im_page_file.proofs.Standing.{wider_covered}
@@ -33,6 +31,7 @@ use Rattle.im_theory_tree.specs.Good.{AllOf, IsGoodTree}
 use Rattle.im_theory_tree.specs.Theory.{page_tree}
 use Rattle.im_tree_search.specs.Levels.{bodies}
 use Rattle.im_smo_log.specs.Changes.{IsOfChange, GrowsByChange, LeftByChange, LeavesChange}
+use Rattle.im_smo_actions.proofs.Standing.{stands_bodies, stands_page, stands_ready}
 use Rattle.im_restart_analysis.specs.Losers.{has_record, is_loser, row_of}
 use Rattle.im_restart_analysis.specs.Undo.{IsNext, IsUndoable, LeavesOthers}
 use Rattle.im_restart_analysis.proofs.Losers.{leaves_others, loser_from, loser_number}
@@ -215,37 +214,17 @@ good_pages b log can =
     subst (λ (pages : Pages). IsGoodTree pages []) (fun_ext (λ (p : ℕ). ap (λ (l : History). taken_back l p (page_at b log p).body) can.closed)) (has_tree b page_tree log can.lawful).good
 
 module _ {D : Type 0} (d : Ghosts D) (b : Base) (base : ℕ) where
-  -- ---- how a writer stands behind redo
-
-  module _ (s : Writer) (e : ℕ) (w : PageWriter) (disk : D) (stands : StandsAs d b base s w disk) (over : s.redo_end ≡ Some e) where
-    writer_kept : WriterKept b s
-    writer_kept = stands.writing.stands.kept
-
-    -- no page waits for a copy
-    pub stands_ready : (p : ℕ) → (s.pages p).waits ≡ false
-    stands_ready p = ((writer_kept.pages p).run e over).0
-
-    -- each page is as the log's records have made it
-    pub stands_page : (p : ℕ) → (s.pages p).page ≡ page_at b s.log p
-    stands_page p =
-        let kept = writer_kept.pages p in
-        let run = kept.run e over in
-        reached_end b s.log (s.pages p).upto p (s.pages p).page run.1 (kept.now run.0)
-
-    pub stands_bodies : bodies s ≡ logs.bodies b s.log
-    stands_bodies = fun_ext (λ (p : ℕ). ap (λ (x : Page). x.body) (stands_page p))
-
   -- ---- how a writer stands whose log is undone
 
   module _ (s : Writer) (e t last undo_next : ℕ) (w : PageWriter) (disk : D) (g : IsGoing d b base s e t last undo_next w disk) where
     pub going_ready : (p : ℕ) → (s.pages p).waits ≡ false
-    going_ready = stands_ready s e w disk g.stands g.over
+    going_ready = stands_ready d b base s e w disk g.stands g.over
 
     pub going_page : (p : ℕ) → (s.pages p).page ≡ page_at b s.log p
-    going_page = stands_page s e w disk g.stands g.over
+    going_page = stands_page d b base s e w disk g.stands g.over
 
     pub going_bodies : bodies s ≡ logs.bodies b s.log
-    going_bodies = stands_bodies s e w disk g.stands g.over
+    going_bodies = stands_bodies d b base s e w disk g.stands g.over
 
     -- and they are a good tree
     pub going_tree : HasWholeTree d (λ p. (s.pages p).page) w disk

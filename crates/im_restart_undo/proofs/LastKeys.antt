@@ -11,6 +11,7 @@ use Rattle.im_base_types.specs.Pages.{Entry, Page}
 use Rattle.im_base_types.specs.Records.{What, InsertKey}
 use Rattle.im_theory_log.specs.Tree.{with_entries}
 use Rattle.im_theory_log.specs.Histories.{Base}
+use Rattle.im_theory_log.specs.Lawful.{IsLawful}
 use Rattle.im_theory_log.specs.Structure.{settled}
 use Rattle.im_theory_log.specs.Writer.{Writer}
 use Rattle.im_base_disk.specs.declared.disk.Disk.{Ghosts}
@@ -19,14 +20,16 @@ use Rattle.im_log.specs.Spelled.{logged_at}
 use Rattle.im_log.specs.Whats.{what_of}
 use Rattle.im_page_writer.specs.declared.page_writer.PageWriter.{PageWriter}
 use Rattle.im_page_writer.specs.Outcome.{AllPages}
+use Rattle.im_theory_tree.specs.Theory.{page_tree}
 use Rattle.im_theory_tree.specs.Ways.{with_leaf}
 use Rattle.im_tree_search.specs.Levels.{bodies, bodies_of}
 use Rattle.im_smo_pages.specs.Bodies.{says}
 use Rattle.im_smo_pages.specs.Images.{Numbered}
 use Rattle.im_smo_drop_leaf.specs.Emptied.{emptied}
 use Rattle.im_smo_log.specs.Changes.{MayChange}
+use Rattle.im_smo_actions.specs.GoingBeside.{settled_pages}
 use Rattle.im_restart_undo.specs.declared.back.Back.TheVariants.{Plain}
-use Rattle.im_restart_undo.specs.GoingBeside.{settled_pages, entries_behind, TakenBeside}
+use Rattle.im_restart_undo.specs.GoingBeside.{entries_behind, TakenBeside}
 use Rattle.im_restart_undo.specs.Planning.{EmptiesLeaf}
 use Rattle.im_restart_undo.specs.Undoing.{IsGoing, IsToUndo, ShowsChange}
 use Rattle.im_restart_undo.proofs.Closed.{beside_closed}
@@ -56,25 +59,27 @@ emptied_is pages p es none = fun_ext (λ (q : ℕ). elim (cases_eq p q) [
 ])
 
 module _ {D : Type 0} (d : Ghosts D) (b : Base) (base : ℕ) where
-  module _ (s : Writer) (e t last undo_next : ℕ) (start : PageWriter) (old : D) (g : IsGoing d b base s e t last undo_next start old) (said : Said) (to : IsToUndo d b base s t said)
-      (key : Key) (rid : ℕ) (same : what_of said ≡ InsertKey key rid) (p : ℕ) (images : List Numbered) (leaf : EmptiesLeaf (settled_pages b s) key p images)
-      (l : ℕ) (v : PageWriter) (mid : D) (taken : TakenBeside d b base s e t said (Plain p) l old v mid) where
+  module _ (s : Writer) (e t : ℕ) (old : D) (law : IsLawful b page_tree s.log) (said : Said) (to : IsToUndo d b base s t said) (key : Key) (rid : ℕ) (same : what_of said ≡ InsertKey key rid) (p : ℕ) (images : List Numbered)
+      (leaf : EmptiesLeaf (settled_pages b s) key p images) (l : ℕ) (v : PageWriter) (mid : D) (taken : TakenBeside d b base s e t said (Plain p) l old v mid) where
     -- the leaf has the key
     has_key : find key_order key (settled b s.log p).entries ≡ Some rid
-    has_key =
-        settled_has b s.log g.can.lawful key p leaf.leaf
-        ∙ subst (λ (w : What). ShowsChange (settled b s.log) w) same (settled_shows b s.log g.can.lawful t (logged_at to.lsn said) to.next)
-
-    pub going_behind : IsGoing d b base taken.now e t l (prev_of said) v mid
-    going_behind = beside_closed d b base taken.now e t l (prev_of said) v mid (taken.going_on ∙ g.can.closed) taken.going
+    has_key = settled_has b s.log law key p leaf.leaf ∙ subst (λ (w : What). ShowsChange (settled b s.log) w) same (settled_shows b s.log law t (logged_at to.lsn said) to.next)
 
     -- behind the compensation it has none
-    emptied_behind : bodies taken.now ≡ bodies_of (emptied (settled_pages b s) p)
+    pub emptied_behind : settled b taken.now.log ≡ bodies_of (emptied (settled_pages b s) p)
     emptied_behind =
-        settled_here d b base taken.now e t l (prev_of said) v mid going_behind
-        ∙ sym taken.pages
+        sym taken.pages
         ∙ ap (λ (w : What). with_leaf (settled b s.log) p (entries_behind w (settled b s.log p).entries)) same
         ∙ emptied_is (settled_pages b s) p (without_key key (settled b s.log p).entries) (none_left key rid (settled b s.log p).entries leaf.one has_key)
 
+  module _ (s : Writer) (e t last undo_next : ℕ) (start : PageWriter) (old : D) (g : IsGoing d b base s e t last undo_next start old) (said : Said) (to : IsToUndo d b base s t said)
+      (key : Key) (rid : ℕ) (same : what_of said ≡ InsertKey key rid) (p : ℕ) (images : List Numbered) (leaf : EmptiesLeaf (settled_pages b s) key p images)
+      (l : ℕ) (v : PageWriter) (mid : D) (taken : TakenBeside d b base s e t said (Plain p) l old v mid) where
+    pub going_behind : IsGoing d b base taken.now e t l (prev_of said) v mid
+    going_behind = beside_closed d b base taken.now e t l (prev_of said) v mid (taken.going_on ∙ g.can.closed) taken.going
+
+    empty_here : bodies taken.now ≡ bodies_of (emptied (settled_pages b s) p)
+    empty_here = settled_here d b base taken.now e t l (prev_of said) v mid going_behind ∙ emptied_behind s e t old g.can.lawful said to key rid same p images leaf l v mid taken
+
     pub may_empty : MayChange d b base taken.now e images t l (prev_of said) v mid
-    may_empty = may_change d b base taken.now e t l (prev_of said) v mid going_behind (emptied (settled_pages b s) p) images emptied_behind leaf.plan.some leaf.plan.good leaf.plan.same
+    may_empty = may_change d b base taken.now e t l (prev_of said) v mid going_behind (emptied (settled_pages b s) p) images empty_here leaf.plan.some leaf.plan.good leaf.plan.same

@@ -1,5 +1,5 @@
 -- What a leaf that was found says of how a key record can be taken back.
-use Rattle.std.proofs.Common.{◌≡◌, ◌≢◌, ◌≤◌, ◌⊎◌, inl, inr, ⊎_elim, ℕ, zero, suc, Bool, Bor, true, false, List, [], length, take, None, Some, refl, sym, ◌∙◌, ap, subst, arith}
+use Rattle.std.proofs.Common.{◌≡◌, ◌≢◌, ◌≤◌, ◌⊎◌, inl, inr, ⊎_elim, ℕ, Bool, Bor, true, false, List, [], length, None, Some, refl, sym, ◌∙◌, ap, subst, arith}
 use Rattle.std.specs.Prelude.{Result, Ok, Err, IfErr, IfOk, IsErrAnd, ◌==◌}
 use Rattle.std.specs.List.{list_any}
 use Rattle.im_base_types.specs.declared.fault.Fault.{Fault}
@@ -26,7 +26,7 @@ use Rattle.im_tree_search.specs.declared.sight.Sight.{Sight}
 use Rattle.im_tree_search.specs.declared.sight.Sight.TheVariants.{Seen, Hidden}
 use Rattle.im_tree_search.specs.Levels.{bodies_of}
 use Rattle.im_tree_search.specs.Found.{IsLeafFor, IsReached}
-use Rattle.im_tree_search.specs.Sights.{is_done, IfSeen, IsWayMade}
+use Rattle.im_tree_search.specs.Sights.{IfSeen, IsWayMade}
 use Rattle.im_tree_search.proofs.Sighted.{at_seen, but_still}
 use Rattle.im_smo_pages.specs.Images.{Numbered}
 use Rattle.im_smo_drop_leaf.specs.Emptied.{emptied}
@@ -37,12 +37,14 @@ use Rattle.im_smo_split.specs.declared.split_plan.SplitPlan.{SplitPlan}
 use Rattle.im_smo_split.proofs.OneLeaf.{one_leaf}
 use Rattle.im_smo_actions.proofs.Changes.{runs_out}
 use Rattle.im_smo_actions.proofs.DropPlans.{reads_never_short}
+use Rattle.im_smo_actions.proofs.Told.{none_made}
+use Rattle.im_smo_actions.specs.GoingBeside.{is_planned, HasWholeTreeBut}
 use Rattle.im_restart_undo.specs.Undoing.{UsesUp, WantsRoom}
 use Rattle.im_restart_undo.proofs.KeyRecords.{delete_of}
 use Rattle.im_restart_undo.specs.declared.back.Back.{Back}
 use Rattle.im_restart_undo.specs.declared.back.Back.TheVariants.{Plain, Split, Drop}
-use Rattle.im_restart_undo.specs.Place.{HasGap, HasKey, HasWholeTree, HasWholeTreeBut, IsKnownLeaf, IsPlaceMade}
-use Rattle.im_restart_undo.specs.Planning.{is_planned, BackPlanned, HiddenBack, page_made, way_made, HoldsOneKey, IsBack, NeedsChange, CanBack, PlannedAlone}
+use Rattle.im_restart_undo.specs.Place.{HasGap, HasKey, HasWholeTree, IsKnownLeaf, IsPlaceMade}
+use Rattle.im_restart_undo.specs.Planning.{BackPlanned, HiddenBack, page_made, way_made, HoldsOneKey, IsBack, NeedsChange, CanBack, PlannedAlone}
 
 -- ---- trees
 
@@ -51,18 +53,7 @@ pub whole_but_still : {D : Type 0} (d : Ghosts D) {m : Fault → Bool} {pages : 
     → HasWholeTreeBut d pages beside w mid
 whole_but_still {D} d {m} {pages} {beside} {v} {old} {w} {mid} whole one = record { tree = but_still d whole.tree one; good = whole.good }
 
-take_nothing : (n : ℕ) → take {A = ℕ} n [] ≡ []
-take_nothing zero = refl
-take_nothing (suc n) = refl
-
-take_none : (n : ℕ) (ps : List ℕ) → ps ≡ [] → take n ps ≡ []
-take_none n ps none = ap (take n) none ∙ take_nothing n
-
--- beside no change no page is made
-pub none_made : (beside : Beside) (p : ℕ) → beside.pages.now ≡ [] → is_done beside p ≡ false
-none_made beside p none = ap (λ (ps : List ℕ). list_any (λ (q : ℕ). q == p) ps) (take_none beside.done beside.pages.now none)
-
--- so that the pages are these
+-- beside no change the pages are these
 pub pages_alone : {D : Type 0} (d : Ghosts D) {pages : AllPages} (beside : Beside) {w : PageWriter} {disk : D} → beside.pages.now ≡ [] → HasWholeTreeBut d pages beside w disk → HasPages d AreLoaded pages w disk
 pages_alone {D} d {pages} beside {w} {disk} none whole = record {
   b = whole.tree.has.b;

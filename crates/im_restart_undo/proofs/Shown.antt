@@ -1,15 +1,14 @@
 -- What the walk shows of the newest change that a transaction has left to undo.
 use Rattle.std.proofs.Common.{◌≡◌, ◌≢◌, ℕ, List, [], ◌∷◌, ◌++◌, inl, refl, sym, ap, subst, ◌∙◌}
-use Rattle.std.proofs.Math.Path.{fun_ext}
 use Rattle.std.specs.FinMap.{get}
 use Rattle.std.specs.FinMap.Entries.{find}
 use Rattle.im_base_types.specs.Keys.{Key, key_order}
 use Rattle.im_base_types.specs.Pages.{Entry}
 use Rattle.im_base_types.specs.Changes.{Put, Drop, Effect, apply, apply_all, Touches}
 use Rattle.im_base_types.specs.Records.{What, InsertKey, DeleteKey, UndoInsert, UndoDelete, Smo, UndoSmo, DummyClr, Commit, End, Image, Checkpoint, Unreadable, Logged}
-use Rattle.im_theory_log.specs.Histories.{Base, History, page_at}
+use Rattle.im_theory_log.specs.Histories.{Base, History}
 use Rattle.im_theory_log.specs.Lawful.{IsLawful}
-use Rattle.im_theory_log.specs.Structure.{open_smo, settled, taken_back}
+use Rattle.im_theory_log.specs.Structure.{settled}
 use Rattle.im_theory_log.specs.Transactions.{change_of, changes_of, committed, contents, net, to_undo}
 use Rattle.im_theory_log.specs.LogLaws.{bodies}
 use Rattle.im_base_types.proofs.Changes.{applied_at}
@@ -20,12 +19,9 @@ use Rattle.im_theory_tree.specs.Levels.{Pages, walk}
 use Rattle.im_theory_tree.specs.Search.{IsOnWay}
 use Rattle.im_theory_tree.specs.Theory.{page_tree}
 use Rattle.im_theory_tree.proofs.LookupLemmas.{leaf_value}
+use Rattle.im_smo_actions.proofs.Told.{settled_is}
 use Rattle.im_restart_analysis.specs.Undo.{IsNext, IsUndoable}
 use Rattle.im_restart_undo.specs.Undoing.{ShowsChange}
-
--- where no structure change is open, the settled pages are the pages as they are
-pub settled_is : (b : Base) (log : History) → open_smo log ≡ [] → settled b log ≡ bodies b log
-settled_is b log closed = fun_ext (λ (p : ℕ). ap (λ (l : History). taken_back l p (page_at b log p).body) closed)
 
 module _ (b : Base) (log : History) (law : IsLawful b page_tree log) where
   settled_get : (k : Key) → get (contents b log) k ≡ find key_order k (walk (settled b log))

@@ -23,11 +23,11 @@ use Rattle.im_restart_analysis.specs.declared.rows.Loser.{Loser}
 use Rattle.im_smo_log.specs.Changes.{LeavesChange, Begun, Changed, ChangeKept, MayChange, image_marks}
 use Rattle.im_smo_log.proofs.Closing.{change_contents}
 use Rattle.im_smo_log.proofs.Runs.{marked_is}
-use Rattle.im_restart_undo.specs.GoingBeside.{settled_pages}
+use Rattle.im_smo_actions.proofs.Told.{settled_is}
+use Rattle.im_smo_actions.specs.GoingBeside.{settled_pages}
 use Rattle.im_restart_undo.specs.Undoing.{IsGoing, HasBegun, Restructured, SplitKept, EmptiedKept}
 use Rattle.im_restart_undo.proofs.Growth.{going_bodies, grows_change, none_change, left_change}
 use Rattle.im_restart_undo.proofs.Composing.{images_made}
-use Rattle.im_restart_undo.proofs.Shown.{settled_is}
 use Rattle.im_restart_undo.proofs.StructureLogs.{same_stack, row_is}
 
 module _ {D : Type 0} (d : Ghosts D) (b : Base) (base : ℕ) where

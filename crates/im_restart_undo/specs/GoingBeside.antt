@@ -5,9 +5,8 @@ use Rattle.im_base_types.specs.declared.fault.Fault.TheVariants.{Failed, Memory}
 use Rattle.im_base_types.specs.Maps.{with_key, without_key}
 use Rattle.im_base_types.specs.Pages.{Entry}
 use Rattle.im_base_types.specs.Records.{What, InsertKey, DeleteKey, Logged}
-use Rattle.im_theory_log.specs.Histories.{Base, History, IsFront, changes_page}
-use Rattle.im_theory_log.specs.Lawful.{IsLawful, IsNotIn, IsOutside}
-use Rattle.im_theory_log.specs.LogLaws.{bodies}
+use Rattle.im_theory_log.specs.Histories.{Base, IsFront, changes_page}
+use Rattle.im_theory_log.specs.Lawful.{IsLawful, IsOutside}
 use Rattle.im_theory_log.specs.Structure.{open_smo, settled}
 use Rattle.im_theory_log.specs.Transactions.{to_undo, contents, contents_after, is_finished}
 use Rattle.im_theory_log.specs.Writer.{Writer}
@@ -24,28 +23,14 @@ use Rattle.im_theory_tree.specs.Theory.{page_tree}
 use Rattle.im_theory_tree.specs.Ways.{with_leaf}
 use Rattle.im_tree_search.specs.declared.change_beside.Beside.{Beside}
 use Rattle.im_tree_search.specs.Levels.{bodies_of}
-use Rattle.im_tree_search.specs.Sights.{is_done}
-use Rattle.im_smo_pages.specs.Images.{Numbered}
-use Rattle.im_smo_log.specs.ChangePages.{numbers_of}
-use Rattle.im_smo_log.specs.Under.{is_structural, IsUnderWay}
+use Rattle.im_smo_log.specs.Under.{is_structural}
+use Rattle.im_smo_actions.specs.GoingBeside.{is_planned, settled_pages, IsToldOf}
 use Rattle.im_restart_analysis.specs.Losers.{row_of}
 use Rattle.im_restart_undo.specs.declared.back.Back.{Back}
 use Rattle.im_restart_undo.specs.declared.back.Back.TheVariants.{Plain, Split, Drop}
-use Rattle.im_restart_undo.specs.Place.{HasWholeTreeBut}
-use Rattle.im_restart_undo.specs.Planning.{is_planned, IsBack, IsLeafOf, IsOutOf, NeedsChange}
+use Rattle.im_restart_undo.specs.Planning.{IsBack, IsLeafOf, IsOutOf, NeedsChange}
 use Rattle.im_restart_undo.specs.Records.{GrowsByUndo, compensations, inverse_of}
 use Rattle.im_restart_undo.specs.Undoing.{HasBegun, LeavesUndo}
-
--- the pages as they are settled: with the open structure change taken back
-abbrev pub settled_pages : Base → Writer → AllPages
-settled_pages b s p = record (s.pages p).page { body = settled b s.log p }
-
--- What is told of a structure change beside is the one that is under way in the log: a page that it has not made is the settled one, with page 0 made its page count of before is told, its pages are those that it is told of, and without one none is open.
-pub record IsToldOf (b : Base) (beside : Beside) (log : History) : Type 0 where
-  pub agrees : (p : ℕ) → is_done beside p ≡ false → bodies b log p ≡ settled b log p
-  pub count : is_done beside 0 ≡ true → beside.count ≡ (settled b log 0).leftmost
-  pub apart : (p : ℕ) → is_planned beside p ≡ false → IsNotIn p (open_smo log)
-  pub none : beside.pages.now ≡ [] → open_smo log ≡ []
 
 -- the record is as planned: where no change of the structure is, it is none of one, and changes no other page than this
 abbrev pub IsAsPlanned : Back → Logged → Type 0
@@ -70,6 +55,12 @@ abbrev pub HasSplit : Back → Type 0
 HasSplit (Plain p) = ⊥
 HasSplit (Split plan) = Unit {0}
 HasSplit (Drop p images) = ⊥
+
+-- a structure change is in the plan
+abbrev pub HasChange : Back → Type 0
+HasChange (Plain p) = ⊥
+HasChange (Split plan) = Unit {0}
+HasChange (Drop p images) = Unit {0}
 
 module _ {D : Type 0} (d : Ghosts D) (b : Base) (base : ℕ) where
   -- Redo is over, the log lawful, and the open structure change, if there is one, another's; the transaction is not finished, its records end at this LSN, and its undo goes on at this one.
@@ -105,23 +96,9 @@ module _ {D : Type 0} (d : Ghosts D) (b : Base) (base : ℕ) where
     pub short : IfErr result (λ e. e ≡ Memory → HasSplit back)
     pub begun : IfErr result (λ e. e ≡ Failed → HasBegun d b base s t w disk)
 
--- ---- what a plan is made beside, and where it may be logged
+-- ---- where a plan may be logged
 
--- Without a change beside, none is open.
-abbrev pub NoneIsTold : Type 0
-NoneIsTold = (b : Base) (beside : Beside) (log : History) → beside.pages.now ≡ [] → open_smo log ≡ [] → IsToldOf b beside log
-
--- A change under way is told of by the numbers of its pages, how many are made, and the settled page count.
-abbrev pub ChangesAreTold : Type 0
-ChangesAreTold = (b : Base) (t undo_next : ℕ) (images : List Numbered) (done prev : ℕ) (beside : Beside) (log : History) → IsUnderWay b t undo_next images done prev log
-    → beside.pages.now ≡ numbers_of images → beside.done ≡ done → beside.count ≡ (settled b log 0).leftmost → IsToldOf b beside log
-
--- Then the pages are a tree for a plan, but for those that are made.
-abbrev pub PlansHaveTrees : {D : Type 0} → Ghosts D → Type 0
-PlansHaveTrees {D} d = (b : Base) (base : ℕ) (s : Writer) (e t last undo_next : ℕ) (beside : Beside) (w : PageWriter) (disk : D) → IsGoingBeside d b base s e t last undo_next w disk → IsToldOf b beside s.log
-    → HasWholeTreeBut d (settled_pages b s) beside w disk
-
--- What was planned so may be logged.
+-- What was planned beside the change that is told of may be logged.
 abbrev pub PlansMayBeLogged : Type 0
 PlansMayBeLogged = (b : Base) (s : Writer) (beside : Beside) (w : What) (back : Back) → IsToldOf b beside s.log → IsBack (settled_pages b s) beside w back → IsOutOf (open_smo s.log) back
 

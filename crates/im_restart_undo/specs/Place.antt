@@ -15,7 +15,7 @@ use Rattle.im_theory_tree.specs.Levels.{Pages}
 use Rattle.im_theory_tree.specs.Good.{IsGoodTree}
 use Rattle.im_tree_search.specs.declared.change_beside.Beside.{Beside}
 use Rattle.im_tree_search.specs.Levels.{bodies_of}
-use Rattle.im_tree_search.specs.Sights.{is_done, HasTreeBut, IsWayMade}
+use Rattle.im_tree_search.specs.Sights.{is_done, IsWayMade}
 
 -- ---- what a page says of a key
 
@@ -71,11 +71,6 @@ pub record FindsPage (pages : AllPages) (P : ℕ → Type 0) (Wanted : Type 0) (
 -- The writer has these pages, all with their copies, and they are a good tree: each page below the page count is of the tree or free.
 pub record HasWholeTree {D : Type 0} (d : Ghosts D) (pages : AllPages) (w : PageWriter) (disk : D) : Type 0 where
   pub has : HasPages d AreLoaded pages w disk
-  pub good : IsGoodTree (bodies_of pages) []
-
--- The same of pages as they stand beside a structure change: but for those that it has made they are these.
-pub record HasWholeTreeBut {D : Type 0} (d : Ghosts D) (pages : AllPages) (beside : Beside) (w : PageWriter) (disk : D) : Type 0 where
-  pub tree : HasTreeBut d pages beside w disk
   pub good : IsGoodTree (bodies_of pages) []
 
 -- why the leaf of a key is hidden: the page that is looked at first is made, or it is not known as that leaf, and a page on the key's way is made

@@ -1,6 +1,5 @@
 -- What it asks of the tree to take a key record back, beside a structure change too.
-use Rattle.std.specs.Prelude.{◌≡◌, ◌≢◌, ◌≤◌, ◌==◌, ℕ, Bool, true, false, List, [], length, None, Result, IfErr}
-use Rattle.std.specs.List.{list_any}
+use Rattle.std.specs.Prelude.{◌≡◌, ◌≢◌, ◌≤◌, ℕ, true, false, List, [], length, None, Result, IfErr}
 use Rattle.im_base_types.specs.declared.fault.Fault.{Fault}
 use Rattle.im_base_types.specs.declared.fault.Fault.TheVariants.{Capacity, Memory}
 use Rattle.im_base_types.specs.Keys.{Key}
@@ -20,6 +19,7 @@ use Rattle.im_smo_drop_leaf.specs.Plan.{IsPlan}
 use Rattle.im_smo_split.specs.declared.split_plan.SplitPlan.{SplitPlan}
 use Rattle.im_smo_split.specs.Plan.{Planned}
 use Rattle.im_smo_split.specs.Tops.{LacksRoomFor}
+use Rattle.im_smo_actions.specs.GoingBeside.{is_planned}
 use Rattle.im_restart_undo.specs.declared.back.Back.{Back}
 use Rattle.im_restart_undo.specs.declared.back.Back.TheVariants.{Plain, Split, Drop}
 use Rattle.im_restart_undo.specs.Place.{HasGap, HasKey, IsKnownLeaf}
@@ -89,10 +89,6 @@ IsOutOf going (Split plan) = going ≡ []
 IsOutOf going (Drop p images) = going ≡ []
 
 -- ---- the plan
-
--- whether a page is one of the change beside, made or not
-abbrev pub is_planned : Beside → ℕ → Bool
-is_planned beside p = list_any (λ (q : ℕ). q == p) beside.pages.now
 
 -- the change beside leaves the page alone; and there is none where the plan has one of its own
 abbrev pub IsClearOf : Beside → Back → Type 0

@@ -4,10 +4,8 @@ ghost use Rattle.std.specs.Prelude.{◌≡◌, ◌≢◌, ℕ};
 ghost use Rattle.im_theory_log.specs.Histories.{History};
 ghost use Rattle.im_theory_log.specs.Transactions.{committed};
 ghost use Rattle.im_smo_log.specs.Changes.{IsSameOf};
-ghost use Rattle.im_restart_undo.specs.GoingBeside.{NoneIsTold, ChangesAreTold, PlansHaveTrees, PlansMayBeLogged, BarredPlansAreHidden};
+ghost use Rattle.im_restart_undo.specs.GoingBeside.{PlansMayBeLogged, BarredPlansAreHidden};
 ghost use Rattle.im_restart_undo.specs.Records.{GrowsByUndo};
-
-use im_base_disk::Disk;
 
 /// The records with which a transaction's key records are taken back leave the committed effects as they were, and of each
 /// other transaction all that undo asks. So a stop in the middle of an undo loses and adds nothing of what was committed.
@@ -16,13 +14,9 @@ pub fn undo_keeps()
     ensures others { (t u : ℕ) (older longer : History) → u ≢ 0 → u ≢ t → GrowsByUndo t older longer → IsSameOf u older longer }
 {}
 
-/// A key record is planned back and logged beside a structure change of another transaction: what the log has of the change is what a search
-/// beside it is told; then a plan has the settled tree to go on, and what it answers may be logged. A leaf of the change is never
-/// planned on, and a second change never beside it.
-pub fn plans_go_on<D: Disk>()
-    ensures none { NoneIsTold }
-    ensures told { ChangesAreTold }
-    ensures tree { PlansHaveTrees D.Disk }
+/// A key record is planned back beside a structure change of another transaction, over the settled tree that `told_beside` of im_smo_actions
+/// gives: what the plan answers may be logged. A leaf of the change is never planned on, and a second change never beside it.
+pub fn plans_go_on()
     ensures logged { PlansMayBeLogged }
     ensures barred { BarredPlansAreHidden }
 {}

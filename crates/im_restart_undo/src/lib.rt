@@ -16,8 +16,8 @@
 //!
 //! A rollback goes on beside a structure change of another transaction that is made page by page. Then the plan is made over the tree from
 //! before that change (`HasWholeTreeBut`), and is hidden where it would read a page that is made, change one of its pages, or begin a
-//! second change (`HiddenBack`); what is logged leaves the change open as it was (`IsGoingBeside`, `TakenBeside`). The contract of `plans_go_on`
-//! says how the log and what a search is told of the change hang together.
+//! second change (`HiddenBack`); what is logged leaves the change open as it was (`IsGoingBeside`, `TakenBeside`). `told_beside` of `im_smo_actions`
+//! says how the log and what a search is told of the change hang together, and `plans_go_on` that what is planned so may be logged.
 //!
 //! The contract, for a transaction with no Commit and no End, in a lawful log whose structure changes are all closed: once the newest of
 //! its changes that are left to undo is given, the log has one compensation more, beside structure changes and Images; the

@@ -1,6 +1,7 @@
 //! A key record of a transaction, taken back as planned.
 
-ghost use Rattle.std.specs.Prelude.{◌≡◌, ◌≤◌, ℕ, true, false};
+ghost use Rattle.std.specs.Prelude.{◌≡◌, ◌≤◌, ℕ, true, false, IfErr};
+ghost use Rattle.im_base_types.specs.declared.fault.Fault.TheVariants.{Failed};
 ghost use Rattle.im_theory_log.specs.Histories.{Base};
 ghost use Rattle.im_theory_log.specs.Structure.{open_smo};
 ghost use Rattle.im_theory_log.specs.Transactions.{is_key};
@@ -10,7 +11,8 @@ ghost use Rattle.im_log_record.specs.Spelling.{IsEntry};
 ghost use Rattle.im_log.specs.Whats.{what_of};
 ghost use Rattle.im_page_writer.specs.PageWriter.{IsReadyWriter};
 ghost use Rattle.im_page_writer.specs.Outcome.{fault_of, mild, no_page, Logs};
-ghost use Rattle.im_restart_undo.specs.GoingBeside.{settled_pages, IsGoingBeside, BackKept};
+ghost use Rattle.im_smo_actions.specs.GoingBeside.{settled_pages};
+ghost use Rattle.im_restart_undo.specs.GoingBeside.{IsGoingBeside, BackKept, HasChange};
 ghost use Rattle.im_restart_undo.specs.Planning.{CanBack, DropsFor, IsOutOf, SplitsFor};
 ghost use Rattle.im_restart_undo.specs.Undoing.{IsGoing, IsToUndo, CompensateKept};
 
@@ -103,8 +105,8 @@ fn log_before_drop<D: Disk>(
 /// wanted then. With `Back::Plain` the compensation is all that is logged beside Images, so that a change that is made in later steps is
 /// begun after it, or closed before it, by the caller.
 ///
-/// No lock is asked. Refused `Memory` only in front of a split, with all as it was, and `Failed` only where memory is wanted after a
-/// record of the transaction that joined the log; otherwise as `PageWriter::log_change` is.
+/// No lock is asked. Refused `Memory` only in front of a split, with all as it was, and `Failed` only where a structure change is planned and
+/// memory is wanted after a record of the transaction that joined the log; otherwise as `PageWriter::log_change` is.
 pub fn log_back<D: Disk>(
     writer: &mut PageWriter,
     disk: &mut D,
@@ -122,6 +124,7 @@ pub fn log_back<D: Disk>(
     ensures kept { (b : Base) (base : ℕ) (s : Writer) (e : ℕ) → IsGoingBeside D.Disk b base s e (transaction_of (view record.now)) last undo_next writer.old disk.old
         → IsToUndo D.Disk b base s (transaction_of (view record.now)) (view record.now) → CanBack (settled_pages b s) (what_of (view record.now)) back.now → IsOutOf (open_smo s.log) back.now
         → BackKept D.Disk b base s e (transaction_of (view record.now)) (view record.now) back.now disk.old writer.new disk.new result }
+    ensures early { IfErr result (λ e. e ≡ Failed → HasChange back.now) }
 {
     match back {
         Back::Plain(page) => compensate(writer, disk, record, last, *page),

@@ -9,7 +9,8 @@ ghost use Rattle.im_tree_search.specs.Levels.{HasLevel, bodies_of};
 ghost use Rattle.im_tree_search.specs.declared.sight.Sight.TheVariants.{Hidden};
 ghost use Rattle.im_tree_search.specs.Found.{IsReached};
 ghost use Rattle.im_tree_search.specs.Sights.{is_done, IfSeen};
-ghost use Rattle.im_restart_undo.specs.Place.{CountsPage, HasKey, HasGap, HasWholeTreeBut, IsKnownLeaf, IsPlaceMade, FindsPage};
+ghost use Rattle.im_smo_actions.specs.GoingBeside.{HasWholeTreeBut};
+ghost use Rattle.im_restart_undo.specs.Place.{CountsPage, HasKey, HasGap, IsKnownLeaf, IsPlaceMade, FindsPage};
 
 use im_base_disk::Disk;
 use im_base_types::{Fault, LONGEST_KEY, PageKind, PageNo};

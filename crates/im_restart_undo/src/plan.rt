@@ -13,7 +13,8 @@ ghost use Rattle.im_smo_alloc.specs.Kept.{mild_to_take, Plans};
 ghost use Rattle.im_tree_search.specs.declared.sight.Sight.TheVariants.{Seen, Hidden};
 ghost use Rattle.im_tree_search.specs.Levels.{bodies_of};
 ghost use Rattle.im_tree_search.specs.Sights.{is_done, IfSeen};
-ghost use Rattle.im_restart_undo.specs.Place.{HasWholeTree, HasWholeTreeBut};
+ghost use Rattle.im_smo_actions.specs.GoingBeside.{HasWholeTreeBut};
+ghost use Rattle.im_restart_undo.specs.Place.{HasWholeTree};
 ghost use Rattle.im_restart_undo.specs.Planning.{BackPlanned, NeedsChange, PlannedAlone};
 
 use crate::back::Back;

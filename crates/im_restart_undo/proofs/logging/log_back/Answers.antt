@@ -1,14 +1,17 @@
-use Rattle.std.proofs.Common.{refl, sym, subst}
+use Rattle.std.proofs.Common.{◌≡◌, refl, sym, subst}
+use Rattle.std.specs.Prelude.{IfErr}
+use Rattle.im_base_types.specs.declared.fault.Fault.TheVariants.{Failed}
 use Rattle.im_theory_log.specs.Structure.{open_smo}
 use Rattle.im_log.specs.Whats.{what_of}
 use Rattle.im_log_record.specs.Entry.{Entry, view, transaction_of}
 use Rattle.im_page_writer.specs.Outcome.{mild}
 use Rattle.im_page_writer.proofs.Outcomes.{logs_for_more, logs_late, no_page_for}
+use Rattle.im_smo_actions.specs.GoingBeside.{settled_pages}
 use Rattle.im_restart_undo.specs.declared.back.Back.{Back}
-use Rattle.im_restart_undo.specs.GoingBeside.{settled_pages, BackKept}
+use Rattle.im_restart_undo.specs.GoingBeside.{BackKept, HasChange}
 use Rattle.im_restart_undo.specs.Planning.{CanBack, IsOutOf}
-use Rattle.im_restart_undo.proofs.Closed.{beside_closed, kept_drop, kept_split}
-use Rattle.im_restart_undo.proofs.Ends.{never_short}
+use Rattle.im_restart_undo.proofs.Closed.{beside_closed, if_err, kept_drop, kept_split}
+use Rattle.im_restart_undo.proofs.Ends.{began_working, never_short}
 use Rattle.im_restart_undo.proofs.logging.log_back.Goals as goal
 
 pub returns-in-Plain-clause-outcome : goal.returns-in-Plain-clause-outcome
@@ -42,3 +45,13 @@ returns-in-Drop-clause-kept g c b base s e going to =
     (sym c.in-Drop.is)
     (λ can closed. kept_drop g.D.Disk b base s e t entry closed c.args.disk.now call.new.writer call.new.disk _ _ call.result (never_short g.D.Disk ⊥ call.result refl call.ensures.outcome)
     (call.ensures.kept b base s e c.args.undo_next (beside_closed g.D.Disk b base s e t c.args.last c.args.undo_next c.args.writer.now c.args.disk.now closed going) to can))
+
+-- it is refused as failed only for a structure change
+pub returns-in-Plain-clause-early : goal.returns-in-Plain-clause-early
+returns-in-Plain-clause-early g c = subst (λ (x : Back). IfErr c.compensate.result (λ f. f ≡ Failed → HasChange x)) (sym c.in-Plain.is) (began_working g.D.Disk ⊥ c.compensate.result c.requires.working c.compensate.ensures.outcome)
+
+pub returns-in-Split-clause-early : goal.returns-in-Split-clause-early
+returns-in-Split-clause-early g c = subst (λ (x : Back). IfErr c.log_behind_split.result (λ f. f ≡ Failed → HasChange x)) (sym c.in-Split.is) (if_err c.log_behind_split.result (λ f is. tt))
+
+pub returns-in-Drop-clause-early : goal.returns-in-Drop-clause-early
+returns-in-Drop-clause-early g c = subst (λ (x : Back). IfErr c.log_before_drop.result (λ f. f ≡ Failed → HasChange x)) (sym c.in-Drop.is) (if_err c.log_before_drop.result (λ f is. tt))

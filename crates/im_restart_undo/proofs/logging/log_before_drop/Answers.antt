@@ -5,8 +5,8 @@ use Rattle.im_page_writer.specs.Outcome.{mild, no_page}
 use Rattle.im_page_writer.proofs.Outcomes.{log_refused, logs_both, logs_late}
 use Rattle.im_tree_search.specs.Levels.{bodies}
 use Rattle.im_smo_actions.proofs.Changes.{memory_done, other_so}
+use Rattle.im_smo_actions.specs.GoingBeside.{settled_pages}
 use Rattle.im_restart_undo.specs.declared.back.Back.TheVariants.{Plain}
-use Rattle.im_restart_undo.specs.GoingBeside.{settled_pages}
 use Rattle.im_restart_undo.specs.Undoing.{UsesUp, WantsRoom}
 use Rattle.im_restart_undo.proofs.Behind.{back_before_drop, back_without_drop, drop_takes}
 use Rattle.im_restart_undo.proofs.Closed.{closed_beside, kept_closed, out_of_none}
