@@ -125,6 +125,10 @@ among_then : (numbers : List ℕ) (rs : List Logged) (r : Logged) → AreAmong n
 among_then numbers [] r all one = (one, tt)
 among_then numbers (x ∷ rs) r all one = (all.0, among_then numbers rs r all.1 one)
 
+among_at : (numbers : List ℕ) (done : List Logged) (r : Logged) (more : List Logged) → AreAmong numbers (done ++ r ∷ more) → IsAmong numbers r.page
+among_at numbers [] r more all = all.0
+among_at numbers (x ∷ done) r more all = among_at numbers done r more all.1
+
 -- What is done of the records, and what is left.
 pub record Went (workers worker from : ℕ) (span numbers left : List ℕ) (rs : List Logged) (g : ℕ → Page) (changed : ℕ → Bool) (count : ℕ) (hand : List RoundPage) : Type 0 where
   pub done : List Logged
@@ -209,6 +213,12 @@ module _ (workers worker from : ℕ) (span numbers : List ℕ) (rs : List Logged
       let n = next_of from span lsn left w.more w.stand in
       subst (λ (r : Logged). applies r r.page (redo_all w.done r.page (g r.page)) ≡ true → PageTakes r.what (redo_all w.done r.page (g r.page))) (sym (same n.first n.here))
       (taken_at w.done n.first n.rest g (subst (λ (x : List Logged). AllTaken x g) (sym (ap (λ (x : List Logged). w.done ++ x) (sym n.is) ∙ w.split)) all))
+
+  -- it is of one of the pages
+  pub amid : (lsn : ℕ) (left : List ℕ) (count : ℕ) (hand : List RoundPage) (w : Went workers worker from span numbers (lsn ∷ left) rs g changed count hand) (l : Logged) → ((r : Logged) → StandsIn from span lsn r → l ≡ r) → AreAmong numbers rs → IsAmong numbers l.page
+  amid lsn left count hand w l same all =
+      let n = next_of from span lsn left w.more w.stand in
+      subst (λ (r : Logged). IsAmong numbers r.page) (sym (same n.first n.here)) (among_at numbers w.done n.first n.rest (subst (λ (x : List Logged). AreAmong numbers x) (sym (ap (λ (x : List Logged). w.done ++ x) (sym n.is) ∙ w.split)) all))
 
   -- it is there
   pub there : (lsn : ℕ) (left : List ℕ) (count : ℕ) (hand : List RoundPage) (w : Went workers worker from span numbers (lsn ∷ left) rs g changed count hand) → ((r : Logged) → StandsIn from span lsn r → ⊥) → ⊥

@@ -1,9 +1,12 @@
 -- Which worker has which page of a round, and at which place.
-use Rattle.std.proofs.Common.{◌≡◌, ℕ, suc, zero, ◌+◌, ◌*◌, ◌/◌, ◌%◌, ◌<◌, ◌≤◌, List, [], ◌∷◌, length, get_or, vec_len, Bool, true, false, refl, sym, ◌∙◌, ap, subst, arith}
+use Rattle.std.proofs.Common.{◌≡◌, ℕ, suc, zero, ◌+◌, ◌*◌, ◌/◌, ◌%◌, ◌<◌, ◌≤◌, List, [], ◌∷◌, length, get_or, vec_len, Bool, true, false, refl, sym, ◌∙◌, ap, subst, arith, inl, inr, Err}
 use Rattle.std.specs.Prelude.{if◌then◌else◌, ◌==◌, slice_index_or}
+use Rattle.std.specs.Ordering.{nat_cmp}
+use Rattle.std.specs.List.Sorted.{IsBinarySearchResult}
+use Rattle.std.proofs.lemmas.List.Sorted.{searched}
 use Rattle.std.proofs.Math.Nat.{div-add-mod, div-lt_iff_lt-mul, mod-lt}
-use Rattle.std.proofs.lemmas.Bool.{cond-false, ne_eqb}
-use Rattle.im_page_rounds.specs.Hand.{AreRising}
+use Rattle.std.proofs.lemmas.Bool.{cases_eq, cases_lt, cond-false, ne_eqb}
+use Rattle.im_page_rounds.specs.Hand.{AreRising, IsAmong}
 use Rattle.im_page_rounds.specs.declared.round_page.RoundPage.{RoundPage}
 use Rattle.im_page_rounds.specs.declared.worker.Worker.{Worker}
 use Rattle.im_page_rounds.specs.Workers.{HaveRoom, SameRoom, place_in}
@@ -30,6 +33,18 @@ place_is (q ∷ qs) (suc i) rising lt =
     let low : q < p = rising 0 (suc i) (omega arith) lt in
     let rest : place_in qs p ≡ i = place_is qs i (λ j k less within. rising (suc j) (suc k) (omega (arith, less)) (omega (arith, within))) (omega (arith, lt)) in
     cond-false (q == p) 0 (suc (place_in qs p)) (ne_eqb q p (λ e. absurd (omega (arith, low, e)))) ∙ ap suc rest
+
+-- a number that a search does not find is none of a round's
+pub not_among : (numbers : List ℕ) (p at : ℕ) → AreRising numbers → IsBinarySearchResult (λ y. nat_cmp y p) numbers (Err at) → IsAmong numbers p → ⊥
+not_among numbers p at rising found among =
+    let (_, low, high) = searched numbers p (Err at) found (λ i j le lt. elim (cases_eq i j) [
+      | inl e ↦ subst (λ (k : ℕ). slice_index_or numbers i 0 ≤ slice_index_or numbers k 0) e (omega arith)
+      | inr ne ↦ (let less = rising i j (omega (arith, le, ne)) lt in omega (arith, less))
+    ]) in
+    elim (cases_lt among.place at) [
+      | inl lt ↦ (let under = low among.place lt in absurd (omega (arith, under, among.is)))
+      | inr ge ↦ (let above = high among.place ge among.within in absurd (omega (arith, above, among.is)))
+    ]
 
 -- ---- room
 

@@ -1,7 +1,7 @@
 -- A round by several workers: which pages each of them has, and what it makes of them.
-use Rattle.std.specs.Prelude.{◌≡◌, ◌≢◌, ◌⊎◌, IfOk, IfErr, ◌≤◌, ◌<◌, ◌+◌, ◌*◌, ◌/◌, ◌%◌, ℕ, zero, suc, List, [], ◌∷◌, length, slice_index_or, get_or, Bool, ◌==◌, ◌||◌, ◌&&◌, if◌then◌else◌, All, vec_len, Result, Ok, Err}
+use Rattle.std.specs.Prelude.{◌≡◌, IfOk, IfErr, ◌≤◌, ◌<◌, ◌+◌, ◌*◌, ◌/◌, ◌%◌, ℕ, zero, suc, List, [], ◌∷◌, length, slice_index_or, get_or, Bool, ◌==◌, ◌||◌, ◌&&◌, if◌then◌else◌, All, vec_len, Result, Ok, Err}
 use Rattle.im_base_types.specs.declared.fault.Fault.{Fault}
-use Rattle.im_base_types.specs.declared.fault.Fault.TheVariants.{Memory, NotAStore}
+use Rattle.im_base_types.specs.declared.fault.Fault.TheVariants.{NotAStore}
 use Rattle.im_base_types.specs.Pages.{Page}
 use Rattle.im_base_types.specs.Records.{Logged}
 use Rattle.im_theory_log.specs.Copies.{redo_all, redo_one}
@@ -82,6 +82,6 @@ count_below workers w (suc k) = count_below workers w k + count_in (get_or worke
 pub record Worked (workers number : ℕ) (numbers : List ℕ) (from : ℕ) (span lsns : List ℕ) (old new : Worker) : Type 0 where
   pub redone : (rs : List Logged) (g : ℕ → Page) (changed : ℕ → Bool) → StandIn from span lsns rs → AreDealt workers number numbers old.pages.items g changed
       → IfOk new.applied (λ count. HandRedone workers number numbers rs g changed count new.pages.items)
-  pub taken : (rs : List Logged) (g : ℕ → Page) (changed : ℕ → Bool) → StandIn from span lsns rs → AreDealt workers number numbers old.pages.items g changed → AllTaken rs g → IfErr new.applied (λ e. e ≢ NotAStore)
+  pub taken : (rs : List Logged) (g : ℕ → Page) (changed : ℕ → Bool) → StandIn from span lsns rs → AreDealt workers number numbers old.pages.items g changed → AreAmong numbers rs → AllTaken rs g → IfErr new.applied (λ e. ⊥)
   pub length : vec_len new.pages ≡ vec_len old.pages
-  pub causes : IfErr new.applied (λ e. (e ≡ Memory) ⊎ (e ≡ NotAStore))
+  pub refused : IfErr new.applied (λ e. e ≡ NotAStore)

@@ -1,6 +1,6 @@
 //! The records of a round, applied to the pages of one worker.
-ghost use Rattle.std.specs.Prelude.{◌≡◌, ◌≢◌, ◌≤◌, ◌<◌, ◌+◌, ◌-◌, ◌*◌, ◌^◌, ◌⊎◌, ◌||◌, ◌&&◌, ℕ, List, Bool, true, length, drop, take, get_or, if◌then◌else◌, IfErr, IfOk, OnOk};
-ghost use Rattle.im_base_types.specs.declared.fault.Fault.TheVariants.{Memory, NotAStore};
+ghost use Rattle.std.specs.Prelude.{◌≡◌, ◌≢◌, ◌≤◌, ◌<◌, ◌+◌, ◌-◌, ◌*◌, ◌^◌, ◌||◌, ◌&&◌, ℕ, List, Bool, true, length, drop, take, get_or, if◌then◌else◌, IfErr, IfOk, OnOk};
+ghost use Rattle.im_base_types.specs.declared.fault.Fault.TheVariants.{NotAStore};
 ghost use Rattle.im_base_types.specs.Pages.{Page};
 ghost use Rattle.im_base_types.specs.Records.{Logged};
 ghost use Rattle.im_theory_log.specs.Copies.{redo_one};
@@ -8,7 +8,7 @@ ghost use Rattle.im_theory_log.specs.WriterSteps.{applies};
 ghost use Rattle.im_log_record.specs.Entry.{view};
 ghost use Rattle.im_log_record.specs.Spelling.{IsEntry};
 ghost use Rattle.im_log.specs.Spelled.{logged_at};
-ghost use Rattle.im_page_rounds.specs.Hand.{AllTaken, AreRising, IsAmong, StandIn, StandsIn};
+ghost use Rattle.im_page_rounds.specs.Hand.{AllTaken, AreAmong, AreRising, IsAmong, StandIn, StandsIn};
 ghost use Rattle.im_page_rounds.specs.OnePage.{PageRefuses, PageTakes};
 ghost use Rattle.im_page_rounds.specs.declared.round_page.RoundPage.{RoundPage};
 ghost use Rattle.im_page_rounds.specs.Workers.{AreDealt, HandRedone, IsRedone, is_dealt};
@@ -58,8 +58,8 @@ fn redo_at(
     Ok(done)
 }
 
-// Goes past a record, which is one of a page of these numbers, and answers whether it was applied. It is where the page is one of this
-// worker's, which alone are changed.
+// Goes past a record, and answers whether it was applied. It is where the page is one of this worker's, which alone are changed. Refused
+// `NotAStore` where it is of a page of none of these numbers, or its page needs it and does not take it.
 fn redo_in(
     numbers: &[PageNo],
     workers: usize,
@@ -77,15 +77,15 @@ fn redo_in(
         → OnOk result (AreDealt workers worker numbers.now pages.new (λ q. redo_one (logged_at lsn (view record.now)) q (g q)) (λ q. changed q || applies (logged_at lsn (view record.now)) q (g q))) }
     ensures applied { (g : ℕ → Page) (changed : ℕ → Bool) → AreDealt workers worker numbers.now pages.old g changed
         → IfOk result (λ done. done ≡ (is_dealt workers worker numbers.now (logged_at lsn (view record.now)).page && applies (logged_at lsn (view record.now)) (logged_at lsn (view record.now)).page (g (logged_at lsn (view record.now)).page))) }
-    ensures taken { (g : ℕ → Page) (changed : ℕ → Bool) → AreDealt workers worker numbers.now pages.old g changed
+    ensures taken { (g : ℕ → Page) (changed : ℕ → Bool) → AreDealt workers worker numbers.now pages.old g changed → IsAmong numbers.now (logged_at lsn (view record.now)).page
         → (applies (logged_at lsn (view record.now)) (logged_at lsn (view record.now)).page (g (logged_at lsn (view record.now)).page) ≡ true → PageTakes (logged_at lsn (view record.now)).what (g (logged_at lsn (view record.now)).page))
-        → IfErr result (λ e. e ≢ NotAStore) }
+        → IfErr result (λ e. ⊥) }
     ensures among { OnOk result (IsAmong numbers.now (logged_at lsn (view record.now)).page) }
     ensures length { length pages.new ≡ length pages.old }
-    ensures causes { IfErr result (λ e. (e ≡ Memory) ⊎ (e ≡ NotAStore)) }
+    ensures refused { IfErr result (λ e. e ≡ NotAStore) }
 {
     match numbers.binary_search(&record.page()) {
-        Err(_) => Err(Fault::Memory),
+        Err(_) => Err(Fault::NotAStore),
         Ok(i) => {
             if i % workers != worker {
                 return Ok(false);
@@ -122,11 +122,11 @@ pub(crate) fn redo_own(
     requires rising { AreRising numbers.now }
     ensures redone { (rs : List Logged) (g : ℕ → Page) (changed : ℕ → Bool) → StandIn from span.now lsns.now rs → AreDealt workers worker numbers.now pages.old g changed
         → IfOk result (λ count. HandRedone workers worker numbers.now rs g changed count pages.new) }
-    ensures taken { (rs : List Logged) (g : ℕ → Page) (changed : ℕ → Bool) → StandIn from span.now lsns.now rs → AreDealt workers worker numbers.now pages.old g changed → AllTaken rs g
-        → IfErr result (λ e. e ≢ NotAStore) }
+    ensures taken { (rs : List Logged) (g : ℕ → Page) (changed : ℕ → Bool) → StandIn from span.now lsns.now rs → AreDealt workers worker numbers.now pages.old g changed → AreAmong numbers.now rs → AllTaken rs g
+        → IfErr result (λ e. ⊥) }
     ensures few { IfOk result (λ count. count ≤ length lsns.now) }
     ensures length { length pages.new ≡ length pages.old }
-    ensures causes { IfErr result (λ e. (e ≡ Memory) ⊎ (e ≡ NotAStore)) }
+    ensures refused { IfErr result (λ e. e ≡ NotAStore) }
 {
     let mut count = 0;
     for lsn in lsns {

@@ -1,10 +1,10 @@
 //! The records of a round, applied by several workers.
-ghost use Rattle.std.specs.Prelude.{◌≡◌, ◌≢◌, ◌≤◌, ◌<◌, ◌+◌, ◌*◌, ◌⊎◌, ℕ, List, All, Bool, length, get_or, min, vec_len, IfErr, IfOk, IsOk, OnOk};
+ghost use Rattle.std.specs.Prelude.{◌≡◌, ◌≤◌, ◌<◌, ◌+◌, ◌*◌, ℕ, List, All, Bool, length, get_or, min, vec_len, IfErr, IfOk, IsOk, OnOk};
 ghost use Rattle.im_base_types.specs.declared.fault.Fault.TheVariants.{Memory, NotAStore};
 ghost use Rattle.im_base_types.specs.Pages.{Page};
 ghost use Rattle.im_base_types.specs.Records.{Logged};
 ghost use Rattle.im_page_rounds.specs.declared.worker.Worker.{Worker};
-ghost use Rattle.im_page_rounds.specs.Hand.{AllTaken, AreRising, StandIn};
+ghost use Rattle.im_page_rounds.specs.Hand.{AllTaken, AreAmong, AreRising, StandIn};
 ghost use Rattle.im_page_rounds.specs.Workers.{AreDealt, AreRedone, AreThese, HandRedone, HaveRoom, SameRoom, Worked, count_below};
 
 use crate::hand::redo_own;
@@ -56,10 +56,10 @@ fn work<T: WorkerStart>(
     requires rising { AreRising numbers.now }
     ensures redone { (rs : List Logged) (g : ℕ → Page) (changed : ℕ → Bool) → StandIn from span.now lsns.now rs → AreDealt workers number numbers.now worker.old.pages.items g changed
         → IfOk worker.new.applied (λ count. HandRedone workers number numbers.now rs g changed count worker.new.pages.items) }
-    ensures taken { (rs : List Logged) (g : ℕ → Page) (changed : ℕ → Bool) → StandIn from span.now lsns.now rs → AreDealt workers number numbers.now worker.old.pages.items g changed → AllTaken rs g
-        → IfErr worker.new.applied (λ e. e ≢ NotAStore) }
+    ensures taken { (rs : List Logged) (g : ℕ → Page) (changed : ℕ → Bool) → StandIn from span.now lsns.now rs → AreDealt workers number numbers.now worker.old.pages.items g changed → AreAmong numbers.now rs → AllTaken rs g
+        → IfErr worker.new.applied (λ e. ⊥) }
     ensures length { vec_len worker.new.pages ≡ vec_len worker.old.pages }
-    ensures causes { IfErr worker.new.applied (λ e. (e ≡ Memory) ⊎ (e ≡ NotAStore)) }
+    ensures refused { IfErr worker.new.applied (λ e. e ≡ NotAStore) }
 {
     at_start.worker_starts(number as u64);
     worker.applied = redo_own(
@@ -90,8 +90,8 @@ fn at_most(one: u64, other: u64, most: u64) -> u64
 fn count_of(workers: &[Worker], most: u64) -> Result<u64, Fault>
     ensures all { (k : ℕ) (w : Worker) → k < length workers.now → OnOk result (IsOk (get_or workers.now k w).applied) }
     ensures count { (w : Worker) → IfOk result (λ n. n ≡ min (count_below workers.now w (length workers.now)) most) }
-    ensures taken { ((k : ℕ) (w : Worker) → k < length workers.now → IfErr (get_or workers.now k w).applied (λ e. e ≢ NotAStore)) → IfErr result (λ e. e ≢ NotAStore) }
-    ensures causes { ((k : ℕ) (w : Worker) → k < length workers.now → IfErr (get_or workers.now k w).applied (λ e. (e ≡ Memory) ⊎ (e ≡ NotAStore))) → IfErr result (λ e. (e ≡ Memory) ⊎ (e ≡ NotAStore)) }
+    ensures taken { ((k : ℕ) (w : Worker) → k < length workers.now → IfErr (get_or workers.now k w).applied (λ e. ⊥)) → IfErr result (λ e. ⊥) }
+    ensures refused { ((k : ℕ) (w : Worker) → k < length workers.now → IfErr (get_or workers.now k w).applied (λ e. e ≡ NotAStore)) → IfErr result (λ e. e ≡ NotAStore) }
 {
     let mut count = 0;
     for worker in workers {
@@ -118,9 +118,9 @@ fn work_all<R: Threads + Sync, T: WorkerStart + Sync>(
         → AreDealt (length workers.old) k numbers.now (get_or workers.old k w).pages.items g changed
         → IfOk (get_or workers.new k w).applied (λ count. HandRedone (length workers.old) k numbers.now rs g changed count (get_or workers.new k w).pages.items) }
     ensures taken { (k : ℕ) (w : Worker) (rs : List Logged) (g : ℕ → Page) (changed : ℕ → Bool) → k < length workers.old → StandIn from span.now lsns.now rs
-        → AreDealt (length workers.old) k numbers.now (get_or workers.old k w).pages.items g changed → AllTaken rs g
-        → IfErr (get_or workers.new k w).applied (λ e. e ≢ NotAStore) }
-    ensures causes { (k : ℕ) (w : Worker) → k < length workers.old → IfErr (get_or workers.new k w).applied (λ e. (e ≡ Memory) ⊎ (e ≡ NotAStore)) }
+        → AreDealt (length workers.old) k numbers.now (get_or workers.old k w).pages.items g changed → AreAmong numbers.now rs → AllTaken rs g
+        → IfErr (get_or workers.new k w).applied (λ e. ⊥) }
+    ensures refused { (k : ℕ) (w : Worker) → k < length workers.old → IfErr (get_or workers.new k w).applied (λ e. e ≡ NotAStore) }
 {
     let count = workers.len();
     let part = |number: usize, worker: &mut Worker|
@@ -135,8 +135,8 @@ fn work_all<R: Threads + Sync, T: WorkerStart + Sync>(
 /// records of its pages, in a thread of its own where one can be made, and calls `turn` with its number first. One worker starts no
 /// thread. It answers how many records were applied.
 ///
-/// Refused `NotAStore` where a page does not take a record that it needs, or no record stands at an LSN; `Memory` where a record is of
-/// none of these pages. The pages are then such as some of the records made them.
+/// Refused `NotAStore` alone: where a page does not take a record that it needs, no record stands at an LSN, or a record is of none of these
+/// pages. The pages are then such as some of the records made them. Nothing grows, so it is never refused for want of memory.
 pub fn redo_records<R: Threads + Sync, T: WorkerStart + Sync>(
     rt: &R,
     at_start: &T,
@@ -151,11 +151,11 @@ pub fn redo_records<R: Threads + Sync, T: WorkerStart + Sync>(
     requires rising { AreRising numbers.now }
     ensures redone { (rs : List Logged) (g : ℕ → Page) (changed : ℕ → Bool) → StandIn from span.now lsns.now rs → AreThese numbers.now workers.old g changed
         → IfOk result (λ count. AreRedone numbers.now rs g changed count workers.new) }
-    ensures taken { (rs : List Logged) (g : ℕ → Page) (changed : ℕ → Bool) → StandIn from span.now lsns.now rs → AreThese numbers.now workers.old g changed → AllTaken rs g
-        → IfErr result (λ e. e ≢ NotAStore) }
+    ensures taken { (rs : List Logged) (g : ℕ → Page) (changed : ℕ → Bool) → StandIn from span.now lsns.now rs → AreThese numbers.now workers.old g changed → AreAmong numbers.now rs → AllTaken rs g
+        → IfErr result (λ e. ⊥) }
     ensures few { IfOk result (λ count. count ≤ length lsns.now) }
     ensures room { SameRoom workers.old workers.new }
-    ensures causes { IfErr result (λ e. (e ≡ Memory) ⊎ (e ≡ NotAStore)) }
+    ensures refused { IfErr result (λ e. e ≡ NotAStore) }
 {
     work_all(rt, at_start, numbers, workers, lsns, from, span);
     count_of(workers, lsns.len() as u64)

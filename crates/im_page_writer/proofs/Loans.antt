@@ -1,23 +1,24 @@
 -- Pages are lent, one after another, and taken back.
-use Rattle.std.proofs.Common.{◌≡◌, ◌≢◌, ◌⊎◌, inl, inr, ⊎_elim, ℕ, ◌+◌, ◌<◌, ◌≤◌, List, length, Bool, true, false, refl, sym, ◌∙◌, ap, subst, arith, Option, Some, None}
-use Rattle.std.specs.Prelude.{slice_index_or, option_map, ◌||◌}
+use Rattle.std.proofs.Common.{◌≡◌, ◌≢◌, ◌⊎◌, inl, inr, ⊎_elim, ℕ, ◌+◌, ◌<◌, ◌≤◌, List, [], ◌∷◌, length, Bool, true, false, refl, sym, ◌∙◌, ap, subst, arith, Option, Some, None}
+use Rattle.std.specs.Prelude.{slice_index_or, option_map, is_some, nat_lt, ◌==◌, if◌then◌else◌, ◌||◌}
 use Rattle.std.specs.Option.{option_map_or}
 use Rattle.std.proofs.lemmas.Bool.{cases_eq, cases_lt}
 use Rattle.im_base_types.specs.Pages.{Page}
+use Rattle.im_theory_log.specs.Writer.{DirtyEntry}
 use Rattle.im_base_types.specs.Records.{Logged}
 use Rattle.im_theory_log.specs.Copies.{redo_all}
 use Rattle.im_theory_page.specs.Header.{initial}
 use Rattle.im_page_pool.specs.declared.frame.Frame.{Frame}
-use Rattle.im_page_pool.specs.Pool.{Held, PoolView, Sets, frame_of, held_of, is_changed, page_at}
+use Rattle.im_page_pool.specs.Pool.{Held, Holds, PoolView, Sets, frame_of, held_of, is_changed, page_at}
 use Rattle.im_page_table.specs.declared.table_entry.TableEntry.{TableEntry}
-use Rattle.im_page_table.specs.DirtyTable.{entry_in}
+use Rattle.im_page_table.specs.DirtyTable.{dirty_entry, entry_in, put, table_entry}
 use Rattle.im_page_rounds.specs.declared.round_page.RoundPage.{RoundPage}
 use Rattle.im_page_rounds.specs.declared.worker.Worker.{Worker}
 use Rattle.im_page_rounds.specs.Hand.{AreRising, is_applied}
 use Rattle.im_page_rounds.specs.Workers.{AreRedone, AreThese, page_in}
 use Rattle.im_page_rounds.proofs.Places.{item_at, page_of}
 use Rattle.im_page_writer.specs.declared.page_writer.PageWriter.{PageWriter}
-use Rattle.im_page_writer.specs.Rounds.{AreShown, IsBack, IsOther, Lends, LendsAll, RoundHere, TakesBack, entry_after}
+use Rattle.im_page_writer.specs.Rounds.{AreHeld, AreShown, IsBack, IsOther, Lends, LendsAll, RoundHere, TakesBack, entry_after}
 
 -- ---- different numbers
 
@@ -61,6 +62,14 @@ found pool number frame is = found_in pool number frame (held_of pool number) re
 changed_is : (pool : PoolView) (p : ℕ) (h : Held) → held_of pool p ≡ Some h → is_changed pool p ≡ h.changed
 changed_is pool p h is = ap (λ (o : Option Held). option_map_or (λ h. h.changed) o false) is
 
+lacking : (number : ℕ) (o : Option Held) → None ≡ option_map (λ (h : Held). frame_of (number, h)) o → is_some o ≡ true → ⊥
+lacking number None is held = let clash : false ≡ true = held in cc clash
+lacking number (Some h) is held = cc is
+
+-- a held page is found
+pub not_lacking : (pool : PoolView) (number : ℕ) → None ≡ option_map (λ (h : Held). frame_of (number, h)) (held_of pool number) → Holds pool number → ⊥
+not_lacking pool number is held = lacking number (held_of pool number) is held
+
 module _ (pool new : PoolView) (number : ℕ) (frame : Frame) (f : Found pool number frame) where
   pub lend_one : (x : RoundPage) (spare : Page) (changed : Bool) → changed ≡ is_changed pool frame.number → x.page.value ≡ page_at pool frame.number → x.changed ≡ false → Sets frame spare changed pool new → Lends number x pool new
   lend_one x spare changed marked out unchanged sets = record {
@@ -103,7 +112,33 @@ lends_more numbers n page next old mid new rising within so one kept others fram
   frames = frames ∙ so.frames;
 }
 
+-- a page that is still to be lent is held
+pub lends_next : (numbers : List ℕ) (n : ℕ) (page : ℕ → RoundPage) (old new : PoolView) → AreRising numbers → n < length numbers → AreHeld numbers old → LendsAll numbers n page old new → Holds new (slice_index_or numbers n 0)
+lends_next numbers n page old new rising within held so = ap (λ (o : Option Held). is_some o) (so.others (slice_index_or numbers n 0) (other_before numbers n rising within)) ∙ held n within
+
+-- a lent one is held
+pub lent_held : (numbers : List ℕ) (page : ℕ → RoundPage) (old new : PoolView) → LendsAll numbers (length numbers) page old new → AreHeld numbers new
+lent_held numbers page old new so i lt = ap (λ (o : Option Held). is_some o) (so.these i lt).now
+
 -- ---- pages that come back
+
+put_most : (p : ℕ) (f : Option DirtyEntry → DirtyEntry) (xs : List TableEntry) → length (put p f xs) ≤ length xs + 1
+put_most p f [] = omega arith
+put_most p f (x ∷ xs) = by (nat_lt x.page p) (x.page == p) (put_most p f xs)
+  where
+    by : (low here : Bool) → length (put p f xs) ≤ length xs + 1 → length (if low then x ∷ put p f xs else (if here then table_entry p (f (Some (dirty_entry x))) ∷ xs else table_entry p (f None) ∷ x ∷ xs)) ≤ length (x ∷ xs) + 1
+    by true here le = omega (arith, le)
+    by false true le = omega arith
+    by false false le = omega arith
+
+-- the table has one entry more at most
+pub entries_most : (p : ℕ) (f : Option DirtyEntry → DirtyEntry) (old new : List TableEntry) → new ≡ put p f old → length new ≤ length old + 1
+entries_most p f old new is = subst (λ (t : List TableEntry). length t ≤ length old + 1) (sym is) (put_most p f old)
+
+-- a page that is still to be taken back is held
+pub back_next : (numbers : List ℕ) (n point : ℕ) (known : ℕ → Bool) (page : ℕ → RoundPage) (old new : PoolView) (one two : List TableEntry) → AreRising numbers → n < length numbers → AreHeld numbers old → TakesBack numbers n point known page old new one two
+    → Holds new (slice_index_or numbers n 0)
+back_next numbers n point known page old new one two rising within held so = ap (λ (o : Option Held). is_some o) (so.others (slice_index_or numbers n 0) (other_before numbers n rising within)) ∙ held n within
 
 pub back_none : (numbers : List ℕ) (point : ℕ) (known : ℕ → Bool) (page : ℕ → RoundPage) (pool : PoolView) (table : List TableEntry) → TakesBack numbers 0 point known page pool pool table table
 back_none numbers point known page pool table = record { these = λ i was lt. absurd (omega (arith, lt)); others = λ q other. refl; entries = λ i lt. absurd (omega (arith, lt)); other_entries = λ q other. refl; frames = refl }

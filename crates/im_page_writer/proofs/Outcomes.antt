@@ -246,14 +246,10 @@ module _ {D : Type 0} (d : Ghosts D) where
   redo_refused {A} {m} {v} {w} {new} {f} (Ok a) is one = absurd is
   redo_refused {A} {m} {v} {w} {new} {f} (Err e) is one = subst (λ (x : Fault). Redoes d m v w new (Some x)) (sym is) one
 
-  own_ends : (v w : PageWriter) (new : D) → Works d v w new → (X : Type 0) (e : Fault) → (e ≡ Memory) ⊎ ((e ≡ NotAStore) × X) → RedoEnds d mild v w new (Some e)
-  own_ends v w new one X e (inl is) = subst (λ (f : Fault). RedoEnds d mild v w new (Some f)) (sym is) (refl, one)
-  own_ends v w new one X e (inr is) = subst (λ (f : Fault). RedoEnds d mild v w new (Some f)) (sym is.0) (refl, one)
-
   -- what is answered or refused of its own
-  pub redo_own : {A : Type 0} {v w : PageWriter} {new : D} (X : Type 0) (r : Result A Fault) → IsReadyWriter d w new → v.failed ≡ false → w.failed ≡ false → d.failed new ≡ false → IfErr r (λ e. (e ≡ Memory) ⊎ ((e ≡ NotAStore) × X)) → w.pool.frames ≡ v.pool.frames → Redoes d mild v w new (fault_of r)
+  pub redo_own : {A : Type 0} {v w : PageWriter} {new : D} (X : Type 0) (r : Result A Fault) → IsReadyWriter d w new → v.failed ≡ false → w.failed ≡ false → d.failed new ≡ false → IfErr r (λ e. (e ≡ NotAStore) × X) → w.pool.frames ≡ v.pool.frames → Redoes d no_page v w new (fault_of r)
   redo_own {A} {v} {w} {new} X (Ok a) ready began works alive is frames = record { ready = ready; frames = frames; ends = record { began = began; works = works; alive = alive } }
-  redo_own {A} {v} {w} {new} X (Err e) ready began works alive is frames = record { ready = ready; frames = frames; ends = own_ends v w new (record { began = began; works = works; alive = alive }) X e is }
+  redo_own {A} {v} {w} {new} X (Err e) ready began works alive is frames = record { ready = ready; frames = frames; ends = subst (λ (f : Fault). RedoEnds d no_page v w new (Some f)) (sym is.0) (refl, record { began = began; works = works; alive = alive }) }
 
 -- ---- searches
 

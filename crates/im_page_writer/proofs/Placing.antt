@@ -289,10 +289,10 @@ past_end d b base s log table pool disk q w past ready none =
 -- ---- the same pages are held
 
 pub held_none : (pool : PoolView) → SameHeld pool pool
-held_none pool = record { held = λ p. refl; frames = refl; gets = refl }
+held_none pool = record { held = λ p. refl; order = refl; frames = refl; gets = refl }
 
 pub held_then : (one two three : PoolView) → SameHeld one two → SameHeld two three → SameHeld one three
-held_then one two three first next = record { held = λ p. next.held p ∙ first.held p; frames = next.frames ∙ first.frames; gets = next.gets ∙ first.gets }
+held_then one two three first next = record { held = λ p. next.held p ∙ first.held p; order = next.order ∙ first.order; frames = next.frames ∙ first.frames; gets = next.gets ∙ first.gets }
 
 pub held_unmarked : (p : ℕ) (old new : PoolView) → Unmarks p old new → SameHeld old new
 held_unmarked p old new un = record {
@@ -300,6 +300,7 @@ held_unmarked p old new un = record {
     | inl here ↦ subst (λ (n : ℕ). is_some (held_of new n) ≡ is_some (held_of old n)) here (ap (λ (o : Option Held). is_some o) un.here ∙ still_held (held_of old p))
     | inr other ↦ ap (λ (o : Option Held). is_some o) (un.others q (λ e. other (sym e)))
   ];
+  order = un.order;
   frames = un.frames;
   gets = un.gets;
 }

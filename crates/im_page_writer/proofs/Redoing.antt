@@ -1,7 +1,8 @@
 -- The steps of redo on a page: a noted copy loaded, and a record applied, each with its entry in the dirty table.
-use Rattle.std.proofs.Common.{◌≡◌, inl, inr, ◌⊎◌, ℕ, ◌<◌, ◌≤◌, true, false, List, Option, None, Some, refl, sym, ◌∙◌, ap, subst, arith}
+use Rattle.std.proofs.Common.{◌≡◌, inl, inr, ◌⊎◌, ⊎_elim, length, ℕ, ◌<◌, ◌≤◌, true, false, List, Option, None, Some, refl, sym, ◌∙◌, ap, subst, arith}
 use Rattle.std.specs.Prelude.{◌≢◌, is_some, Result, Ok, Err, IfErr}
 use Rattle.std.proofs.lemmas.Bool.{cases_eq}
+use Rattle.std.proofs.lemmas.Map.Entries.{length-keys_of}
 use Rattle.im_base_types.specs.declared.fault.Fault.{Fault}
 use Rattle.im_base_types.specs.declared.fault.Fault.TheVariants.{Device, Failed, LogFull, Memory, NotAStore}
 use Rattle.im_base_types.specs.Pages.{Page}
@@ -17,9 +18,9 @@ use Rattle.im_page_pool.specs.declared.frame.Frame.{Frame}
 use Rattle.im_page_pool.specs.Pool.{Held, Holds, PoolView, held_of, page_at, Takes}
 use Rattle.im_page_table.specs.declared.table_entry.TableEntry.{TableEntry}
 use Rattle.im_page_table.specs.DirtyTable.{ChangesEntry, HasEntries}
-use Rattle.im_page_writer.specs.Writing.{IsShown, IsPooled, IsWriting}
+use Rattle.im_page_writer.specs.Writing.{IsShown, IsPooled, IsWriting, SameHeld}
 use Rattle.im_page_writer.specs.declared.page_writer.PageWriter.{PageWriter}
-use Rattle.im_page_writer.specs.Redoing.{LoadedHere}
+use Rattle.im_page_writer.specs.Redoing.{HasRooms, LoadedHere}
 use Rattle.im_page_table.proofs.KnownCopies.{knows_redoing}
 use Rattle.im_page_writer.proofs.LoggedChanges.{cause_of}
 use Rattle.im_page_file.proofs.Openings.{SameInFile, page_file_as}
@@ -29,10 +30,28 @@ use Rattle.im_page_table.proofs.TableSteps.{entries_put}
 -- ---- refusals
 
 -- a call that is refused as no store only for a cause that can't be
-pub not_no_store : {A : Type 0} (r : Result A Fault) (Cause : Type 0) → (Cause → ⊥) → IfErr r (λ e. (e ≡ Memory) ⊎ ((e ≡ NotAStore) × Cause)) → IfErr r (λ e. e ≢ NotAStore)
+pub not_no_store : {A : Type 0} (r : Result A Fault) (Cause : Type 0) → (Cause → ⊥) → IfErr r (λ e. (e ≡ NotAStore) × Cause) → IfErr r (λ e. e ≢ NotAStore)
 not_no_store (Ok a) Cause never is = tt
-not_no_store (Err e) Cause never (inl memory) = λ same. let clash : Memory ≡ NotAStore = sym memory ∙ same in cc clash
-not_no_store (Err e) Cause never (inr (same, cause)) = absurd (never cause)
+not_no_store (Err e) Cause never (same, cause) = absurd (never cause)
+
+-- nor does want of room, where there is some
+pub has_rooms : (number : ℕ) (pool : PoolView) (table : List TableEntry) (C : Type 0) → HasRooms number pool table → (Holds pool number ⊎ C → ⊥) → Holds pool number ⊎ C ⊎ (length pool.held ≡ pool.frames) ⊎ (length table ≡ 1024) → ⊥
+has_rooms number pool table C rooms never (inl held) = never (inl held)
+has_rooms number pool table C rooms never (inr (inl none)) = never (inr none)
+has_rooms number pool table C rooms never (inr (inr (inl full))) = ⊎_elim (λ held. never (inl held)) (λ free. omega (arith, free, full)) rooms.frame
+has_rooms number pool table C rooms never (inr (inr (inr full))) = let entry = rooms.entry in omega (arith, entry, full)
+
+pub rooms_still : (number : ℕ) (old new : PoolView) (table : List TableEntry) → SameHeld old new → Holds old number ⊎ (length old.held < old.frames) → length table < 1024 → HasRooms number new table
+rooms_still number old new table same room entry = record {
+  frame = ⊎_elim (λ held. inl (same.held number ∙ held))
+      (λ free. inr (let count : length new.held ≡ length old.held = sym (length-keys_of new.held) ∙ ap length same.order ∙ length-keys_of old.held in let frames = same.frames in omega (arith, free, count, frames))) room;
+  entry = entry;
+}
+
+pub has_taker : (X : Type 0) (table : ℕ) (o : Option Held) → (X → ⊥) → table < 1024 → is_some o ≡ true → X ⊎ (table ≡ 1024) ⊎ (o ≡ None) → ⊥
+has_taker X table o never room held (inl lacks) = never lacks
+has_taker X table o never room held (inr (inl full)) = omega (arith, full, room)
+has_taker X table o never room held (inr (inr none)) = let clash : false ≡ true = ap (λ (x : Option Held). is_some x) (sym none) ∙ held in cc clash
 
 -- one that fails the writer does not leave it working
 pub none_again : {A : Type 0} (r : Result A Fault) (P : Type 0) → IfErr r (λ e. (e ≡ Failed) ⊎ (e ≡ LogFull) ⊎ (e ≡ Device)) → IfErr r (λ e. (e ≡ Memory) ⊎ (e ≡ NotAStore) → P)

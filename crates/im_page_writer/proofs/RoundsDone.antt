@@ -1,8 +1,6 @@
 -- A round is done: the writer stands as its records in turn make it.
 use Rattle.std.proofs.Common.{◌≡◌, ◌≢◌, ◌⊎◌, inl, inr, ⊎_elim, ℕ, suc, zero, ◌+◌, ◌<◌, ◌≤◌, List, [], ◌∷◌, ◌++◌, length, Bool, true, false, not, refl, sym, ◌∙◌, ap, subst, arith, Option, None, Some, append_assoc}
-use Rattle.std.specs.Prelude.{slice_index_or, if◌then◌else◌, ◌==◌, ◌||◌, is_some, Result, Ok, Err, IfErr}
-use Rattle.im_base_types.specs.declared.fault.Fault.{Fault}
-use Rattle.im_base_types.specs.declared.fault.Fault.TheVariants.{Memory, NotAStore}
+use Rattle.std.specs.Prelude.{slice_index_or, if◌then◌else◌, ◌==◌, ◌||◌, is_some}
 use Rattle.std.proofs.Math.Bool.{or-false}
 use Rattle.std.proofs.lemmas.Bool.{cases_eq, ne_eqb}
 use Rattle.im_base_types.specs.Pages.{Page}
@@ -206,9 +204,3 @@ pub shown_still : (numbers : List ℕ) (pool : PoolView) (b : Base) (s t : Write
 shown_still numbers pool b s t keeps pooled i h lt held =
     let p : ℕ = slice_index_or numbers i 0 in
     (shown_page (held_of pool p) h (t.pages p) held (pooled.shows p)).0 ∙ (keeps.pages p).page
-
--- a refusal of its own
-pub own_causes : {A : Type 0} (r : Result A Fault) → IfErr r (λ e. (e ≡ Memory) ⊎ (e ≡ NotAStore)) → IfErr r (λ e. (e ≡ Memory) ⊎ ((e ≡ NotAStore) × Unit {0}))
-own_causes (Ok a) is = tt
-own_causes (Err e) (inl is) = inl is
-own_causes (Err e) (inr is) = inr (is, tt)

@@ -1,5 +1,5 @@
 -- What a round of redo keeps: its pages lent, changed by its records, and taken back.
-use Rattle.std.specs.Prelude.{◌≡◌, ◌≢◌, ◌<◌, ◌≤◌, ◌+◌, ◌||◌, ℕ, List, length, slice_index_or, Bool, true, false, if◌then◌else◌, Some, Option, Result, IfErr, IfOk, OnOk}
+use Rattle.std.specs.Prelude.{◌≡◌, ◌≢◌, ◌<◌, ◌≤◌, ◌+◌, ◌||◌, ℕ, List, length, slice_index_or, Bool, true, false, if◌then◌else◌, Some, Option, Result, IfErr, IfOk, IfSome}
 use Rattle.std.specs.Map.{keys_of}
 use Rattle.im_base_types.specs.declared.fault.Fault.{Fault}
 use Rattle.im_base_types.specs.declared.fault.Fault.TheVariants.{NotAStore}
@@ -10,17 +10,23 @@ use Rattle.im_theory_log.specs.Copies.{redo_all}
 use Rattle.im_theory_log.specs.Writer.{DirtyEntry, Writer}
 use Rattle.im_theory_log.specs.WriterSteps.{at_point, is_copied}
 use Rattle.im_base_disk.specs.declared.disk.Disk.{Ghosts}
-use Rattle.im_page_pool.specs.Pool.{Held, PoolView, held_of, page_at}
+use Rattle.im_page_pool.specs.Pool.{Held, Holds, PoolView, held_of, page_at}
 use Rattle.im_page_table.specs.declared.table_entry.TableEntry.{TableEntry}
 use Rattle.im_page_table.specs.DirtyTable.{entry_in}
 use Rattle.im_page_table.specs.Growth.{Keeps}
 use Rattle.im_page_rounds.specs.declared.round_page.RoundPage.{RoundPage}
 use Rattle.im_page_rounds.specs.Hand.{AllTaken, AreAmong, is_applied}
-use Rattle.im_page_rounds.specs.Rounds.{applied_of_all, redone_all}
+use Rattle.im_page_rounds.specs.Rounds.{applied_of_all, changing, redone_all}
 use Rattle.im_page_file.specs.Stands.{LeavesCovered}
 use Rattle.im_page_writer.specs.declared.page_writer.PageWriter.{PageWriter}
 use Rattle.im_page_writer.specs.Writing.{LeavesGrown}
 use Rattle.im_page_writer.specs.PageWriter.{StandsAs}
+
+-- ---- the pages of a round
+
+-- each of these pages is held
+abbrev pub AreHeld : List ℕ → PoolView → Type 0
+AreHeld numbers pool = (i : ℕ) → i < length numbers → Holds pool (slice_index_or numbers i 0)
 
 -- ---- loans
 
@@ -89,9 +95,9 @@ module _ {D : Type 0} (d : Ghosts D) (b : Base) (base : ℕ) where
     pub known : ℕ → Bool
     pub stands : StandsAs d b base (redone_all known rs before) w disk
 
-  -- what a round keeps; it is refused as no store only where a page needs a record and does not take it
-  pub record RoundKept (s : Writer) (rs : List Logged) (old : D) (w : PageWriter) (disk : D) (result : Result ℕ Fault) : Type 0 where
-    pub ok : OnOk result (RoundFrom s rs old w disk)
-    pub applied : IfOk result (λ n. n ≡ applied_of_all rs (λ q. (s.pages q).page))
+  -- What a round of these pages keeps, where it is redone; it is refused as no store only where a record is of another page, or a page needs one and does not take it.
+  pub record RoundKept (numbers : List ℕ) (s : Writer) (rs : List Logged) (old : D) (w : PageWriter) (disk : D) (result : Result (Option ℕ) Fault) : Type 0 where
+    pub ok : IfOk result (λ redone. IfSome redone (λ n. RoundFrom s rs old w disk))
+    pub applied : IfOk result (λ redone. IfSome redone (λ n. n ≡ applied_of_all rs (λ q. (s.pages q).page)))
     pub stops : LeavesGrown d b base s old disk
-    pub cause : AllTaken rs (λ q. (s.pages q).page) → IfErr result (λ e. e ≢ NotAStore)
+    pub cause : AreAmong numbers (changing rs) → AllTaken rs (λ q. (s.pages q).page) → IfErr result (λ e. e ≢ NotAStore)

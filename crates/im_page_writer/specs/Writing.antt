@@ -1,5 +1,6 @@
 -- How a writer of pages stands over its log, its pool, its dirty table and a disk, and what calls in a row keep.
 use Rattle.std.specs.Prelude.{◌≡◌, ◌≢◌, ◌≤◌, ◌<◌, ◌-◌, ◌+◌, ℕ, min, Bool, true, false, if◌then◌else◌, nat_lt, List, [], ◌∷◌, ◌++◌, length, slice_index_or, Option, None, Some, is_some, option_map, Result, IfOk, OnOk}
+use Rattle.std.specs.Map.{keys_of}
 use Rattle.std.specs.Option.{option_map_or}
 use Rattle.im_base_types.specs.declared.fault.Fault.{Fault}
 use Rattle.im_base_types.specs.Pages.{Page}
@@ -43,12 +44,14 @@ unmarked h = record h { changed = false }
 pub record Unmarks (p : ℕ) (old new : PoolView) : Type 0 where
   pub here : held_of new p ≡ option_map unmarked (held_of old p)
   pub others : (q : ℕ) → q ≢ p → held_of new q ≡ held_of old q
+  pub order : keys_of new.held ≡ keys_of old.held
   pub frames : new.frames ≡ old.frames
   pub gets : new.gets ≡ old.gets
 
--- The same pages are held, and none was got.
+-- The same pages are held, in the same order, and none was got.
 pub record SameHeld (old new : PoolView) : Type 0 where
   pub held : (p : ℕ) → is_some (held_of new p) ≡ is_some (held_of old p)
+  pub order : keys_of new.held ≡ keys_of old.held
   pub frames : new.frames ≡ old.frames
   pub gets : new.gets ≡ old.gets
 

@@ -2,11 +2,11 @@
 use Rattle.std.proofs.Common.{◌≡◌, ◌≢◌, ◌⊎◌, inl, inr, Bool, false, true, Option, None, Some, refl, sym, ◌∙◌, ap, subst}
 use Rattle.std.specs.Prelude.{◌↔◌, Result, Ok, Err, IsErrAnd, IfErr}
 use Rattle.im_base_types.specs.declared.fault.Fault.{Fault}
-use Rattle.im_base_types.specs.declared.fault.Fault.TheVariants.{Device, Failed, LogFull, NotAStore}
+use Rattle.im_base_types.specs.declared.fault.Fault.TheVariants.{Device, Failed, LogFull, Memory, NotAStore}
 use Rattle.im_base_disk.specs.declared.disk.Disk.{Ghosts}
 use Rattle.im_page_writer.specs.declared.page_writer.PageWriter.{PageWriter}
 use Rattle.im_page_writer.specs.PageWriter.{IsReadyWriter}
-use Rattle.im_page_writer.specs.Outcome.{Logs, LogEnds, RedoEnds, Redoes, Works, fault_of, mild, none_mild}
+use Rattle.im_page_writer.specs.Outcome.{Logs, LogEnds, RedoEnds, Redoes, Works, fault_of, mild, no_page, none_mild}
 use Rattle.im_page_file.proofs.LogEnds.{still_working}
 use Rattle.im_restart_redo.specs.Recovery.{RecoveryEnds, Recovers}
 
@@ -84,19 +84,24 @@ module _ {D : Type 0} (d : Ghosts D) (v w : PageWriter) (new : D) (began : v.fai
   moved {may} works = let opened = ready.opened works in record { ready = ready; frames = frames; ends = record { began = began; works = works; alive = opened.ready.reading.working (opened.working (ready.works works)) } }
 
   -- a read of a record, refused
-  pub read_refused : {A : Type 0} (r : Result A Fault) (f : Fault) → r ≡ Err f → w.failed ≡ true → (f ≡ Failed) ⊎ (f ≡ NotAStore) ⊎ (f ≡ Device) → (r ≡ Err Failed) ↔ (v.failed ≡ true) → (v.failed ≡ false → (r ≡ Err Device) ↔ (d.failed new ≡ true))
-      → Recovers d mild v w new (Some f)
-  read_refused {A} r f is broken causes already device = record {
+  pub read_none : {A : Type 0} {may : Fault → Bool} → may NotAStore ≡ true → (r : Result A Fault) (f : Fault) → r ≡ Err f → w.failed ≡ true → (f ≡ Failed) ⊎ (f ≡ NotAStore) ⊎ (f ≡ Device) → (r ≡ Err Failed) ↔ (v.failed ≡ true) → (v.failed ≡ false → (r ≡ Err Device) ↔ (d.failed new ≡ true))
+      → Recovers d may v w new (Some f)
+  read_none {A} {may} goes_on r f is broken causes already device = record {
     ready = ready;
     frames = frames;
     ends = by f causes (λ e. already.0 (is ∙ ap Err e)) ((λ e. (device began).0 (is ∙ ap Err e)), (λ lost. let same = sym is ∙ (device began).1 lost in cc same));
   }
     where
-      by : (e : Fault) → (e ≡ Failed) ⊎ (e ≡ NotAStore) ⊎ (e ≡ Device) → (e ≡ Failed → v.failed ≡ true) → (e ≡ Device) ↔ (d.failed new ≡ true) → RecoveryEnds d mild v w new (Some e)
+      by : (e : Fault) → (e ≡ Failed) ⊎ (e ≡ NotAStore) ⊎ (e ≡ Device) → (e ≡ Failed → v.failed ≡ true) → (e ≡ Device) ↔ (d.failed new ≡ true) → RecoveryEnds d may v w new (Some e)
       by e (inl is) before lost = absurd (let clash : false ≡ true = sym began ∙ before is in cc clash)
       by e (inr (inl is)) before lost =
-          subst (λ (x : Fault). RecoveryEnds d mild v w new (Some x)) (sym is) (refl, began, still_working (d.failed new) (λ gone. let clash : NotAStore ≡ Device = sym is ∙ lost.1 gone in cc clash))
-      by e (inr (inr is)) before lost = subst (λ (x : Fault). RecoveryEnds d mild v w new (Some x)) (sym is) (record { began = began; broken = broken }, lost.0 is)
+          subst (λ (x : Fault). RecoveryEnds d may v w new (Some x)) (sym is) (goes_on, began, still_working (d.failed new) (λ gone. let clash : NotAStore ≡ Device = sym is ∙ lost.1 gone in cc clash))
+      by e (inr (inr is)) before lost = subst (λ (x : Fault). RecoveryEnds d may v w new (Some x)) (sym is) (record { began = began; broken = broken }, lost.0 is)
+
+  -- of a call that may be refused for want of memory too
+  pub read_refused : {A : Type 0} (r : Result A Fault) (f : Fault) → r ≡ Err f → w.failed ≡ true → (f ≡ Failed) ⊎ (f ≡ NotAStore) ⊎ (f ≡ Device) → (r ≡ Err Failed) ↔ (v.failed ≡ true) → (v.failed ≡ false → (r ≡ Err Device) ↔ (d.failed new ≡ true))
+      → Recovers d mild v w new (Some f)
+  read_refused {A} r f is broken causes already device = read_none {A = A} {may = mild} refl r f is broken causes already device
 
 -- no store was refused as none by a call that refuses no bytes
 pub never_none : {D : Type 0} (d : Ghosts D) {v w : PageWriter} {new : D} (f : Fault) → Recovers d none_mild v w new (Some f) → f ≢ NotAStore
@@ -108,3 +113,22 @@ never_none {D} d {v} {w} {new} e one same = let clash = one.ends.0 in cc clash
 -- a call that refuses no bytes may be refused for those that others are
 pub mildly : (e : Fault) → none_mild e ≡ true → mild e ≡ true
 mildly e is = absurd (cc is)
+
+-- so it may for want of memory, where it is refused for bytes alone
+pub bytes_mildly : (e : Fault) → no_page e ≡ true → mild e ≡ true
+bytes_mildly NotAStore is = refl
+bytes_mildly e is = absurd (let clash : false ≡ true = is in cc clash)
+
+-- a call that makes nothing grow is never refused for want of memory
+pub never_memory : {D : Type 0} (d : Ghosts D) {v w : PageWriter} {new : D} (f : Fault) → Recovers d no_page v w new (Some f) → f ≢ Memory
+never_memory {D} d {v} {w} {new} Memory one same = let clash : false ≡ true = one.ends.0 in cc clash
+never_memory {D} d {v} {w} {new} e one same = cc same
+
+pub no_memory : {A : Type 0} {D : Type 0} (d : Ghosts D) {v w : PageWriter} {new : D} (r : Result A Fault) → Recovers d no_page v w new (fault_of r) → r ≡ Err Memory → ⊥
+no_memory {A} {D} d {v} {w} {new} (Ok a) one is = cc is
+no_memory {A} {D} d {v} {w} {new} (Err e) one is = never_memory d e one (cc is)
+
+-- what a refusal that is handed on was refused for
+pub refused_for : {A : Type 0} (r : Result A Fault) (f g : Fault) → IsErrAnd r (λ e. e ≡ f) → r ≡ Err g → f ≡ g
+refused_for (Ok a) f g is e = absurd is
+refused_for (Err x) f g is e = sym is ∙ (let same : x ≡ g = cc e in same)

@@ -13,12 +13,12 @@ use Rattle.im_log.specs.Spelled.{record_size}
 use Rattle.im_log.proofs.Places.{slice_is}
 use Rattle.im_log.proofs.Spans.{nothing_spans}
 use Rattle.im_page_writer.specs.declared.page_writer.PageWriter.{PageWriter}
-use Rattle.im_page_writer.specs.Outcome.{mild}
+use Rattle.im_page_writer.specs.Outcome.{no_page}
 use Rattle.im_page_writer.specs.PageWriter.{IsReadyWriter}
 use Rattle.im_restart_redo.specs.declared.window.Window.{Window}
 use Rattle.im_restart_redo.specs.Recovery.{Recovers}
 use Rattle.im_restart_redo.specs.Window.{AreAlsoOf, Shows}
-use Rattle.im_restart_redo.proofs.Recoveries.{read_refused}
+use Rattle.im_restart_redo.proofs.Recoveries.{read_none}
 
 -- a room that holds nothing of the log
 pub empty_shows : (log : History) (from : ℕ) (room : List ℕ) → IsSpanOf log from (take 0 room)
@@ -57,9 +57,9 @@ brought_there r room size said = subst (λ (n : ℕ). SpellsRecord r (take n (dr
 
 -- a read of a part of the log, refused
 pub span_refused : {D : Type 0} (d : Ghosts D) (v w : PageWriter) (new : D) → v.failed ≡ false → IsReadyWriter d w new → w.pool.frames ≡ v.pool.frames → {A : Type 0} (r : Result A Fault) (f : Fault) → r ≡ Err f → w.failed ≡ true → (f ≡ Failed) ⊎ (f ≡ Device)
-    → (r ≡ Err Failed) ↔ (v.failed ≡ true) → (v.failed ≡ false → (r ≡ Err Device) ↔ (d.failed new ≡ true)) → Recovers d mild v w new (Some f)
+    → (r ≡ Err Failed) ↔ (v.failed ≡ true) → (v.failed ≡ false → (r ≡ Err Device) ↔ (d.failed new ≡ true)) → Recovers d no_page v w new (Some f)
 span_refused d v w new began ready frames r f is broken causes already device =
-    read_refused d v w new began ready frames r f is broken (⊎_elim (λ (e : f ≡ Failed). inl e) (λ (e : f ≡ Device). inr (inr e)) causes) already device
+    read_none d v w new began ready frames {may = no_page} refl r f is broken (⊎_elim (λ (e : f ≡ Failed). inl e) (λ (e : f ≡ Device). inr (inr e)) causes) already device
 
 -- a working writer's read is refused for the device alone
 pub span_cause : (v : PageWriter) → v.failed ≡ false → {A : Type 0} (r : Result A Fault) (f : Fault) → r ≡ Err f → (f ≡ Failed) ⊎ (f ≡ Device) → (r ≡ Err Failed) ↔ (v.failed ≡ true) → f ≡ Device

@@ -1,5 +1,5 @@
 -- What a round of redo keeps.
-use Rattle.std.specs.Prelude.{ℕ, ◌+◌, ◌-◌, ◌≤◌, List, [], ◌∷◌, drop, Option, Result}
+use Rattle.std.specs.Prelude.{ℕ, ◌+◌, ◌-◌, ◌≤◌, List, [], ◌∷◌, drop, Option, None, Some, Result}
 use Rattle.im_base_types.specs.declared.fault.Fault.{Fault}
 use Rattle.im_base_types.specs.Pages.{Page}
 use Rattle.im_theory_log.specs.Histories.{Base, History}
@@ -23,3 +23,8 @@ AreWhole from span (l ∷ lsns) = IsWholeAt from span l × AreWhole from span ls
 -- what records keep of these that are left, with so many applied before
 abbrev pub PassedKept : {D : Type 0} → Ghosts D → Base → ℕ → History → (ℕ → Option Page) → List ℕ → ℕ → D → PageWriter → D → Result Passed Fault → Type 0
 PassedKept {D} d b base begun file lsns count from w disk result = RedoSound d b base begun (λ passed. IsApplying d b base begun file (drop passed.changes lsns) (count + passed.applied) from w disk) from disk result
+
+-- what went past, where a round of so many records was redone and so many were applied; or nothing, where it was not
+abbrev pub passed_of : ℕ → Option ℕ → Passed
+passed_of n None = record { changes = 0; applied = 0 }
+passed_of n (Some applied) = record { changes = n; applied = applied }

@@ -7,7 +7,7 @@ ghost use Rattle.im_theory_log.specs.RedoPoints.{redo_point};
 ghost use Rattle.im_theory_log.specs.WriterSteps.{opened};
 ghost use Rattle.im_restart_analysis.specs.Changes.{changes_from};
 ghost use Rattle.im_restart_analysis.specs.CopyLsns.{AreCopies};
-ghost use Rattle.im_page_writer.specs.Outcome.{fault_of, mild};
+ghost use Rattle.im_page_writer.specs.Outcome.{fault_of, no_page};
 ghost use Rattle.im_page_writer.specs.PageWriter.{IsReadyWriter, StandsAs};
 ghost use Rattle.im_restart_redo.specs.Applying.{IsApplying, ApplyingKept};
 ghost use Rattle.im_restart_redo.specs.Changes.{lsns_of};
@@ -43,7 +43,7 @@ fn redo_each<D: Disk>(
     requires room { 16384 ≤ length room.old }
     requires ready { IsReadyWriter D.Disk writer.old disk.old }
     requires working { writer.old.failed ≡ false }
-    ensures outcome { Recovers D.Disk mild writer.old writer.new disk.new (fault_of result) }
+    ensures outcome { Recovers D.Disk no_page writer.old writer.new disk.new (fault_of result) }
     ensures room { length room.new ≡ length room.old }
     ensures kept { (b : Base) (base : ℕ) (begun : History) (file : ℕ → Option Page) (from : D) → IsApplying D.Disk b base begun file (lsns_of changes.now) 0 from writer.old disk.old
         → AreApplicable b begun → point ≡ redo_point begun → AreCopies point copies.now begun → ApplyingKept D.Disk b base begun file from writer.new disk.new result }
@@ -75,7 +75,7 @@ pub fn redo_alone<D: Disk>(
 ) -> Result<u64, Fault>
     requires room { 16384 ≤ length room.old }
     requires ready { IsReadyWriter D.Disk writer.old disk.old }
-    ensures outcome { Recovers D.Disk mild writer.old writer.new disk.new (fault_of result) }
+    ensures outcome { Recovers D.Disk no_page writer.old writer.new disk.new (fault_of result) }
     ensures room { length room.new ≡ length room.old }
     ensures kept { (b : Base) (base : ℕ) (begun : History) (file : ℕ → Option Page) → StandsAs D.Disk b base (opened b begun file) writer.old disk.old
         → AreApplicable b begun → point ≡ redo_point begun → AreCopies point copies.now begun → changes.now ≡ changes_from point begun

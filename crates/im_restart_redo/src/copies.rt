@@ -4,7 +4,7 @@ ghost use Rattle.std.specs.Prelude.{◌≡◌, ◌≤◌, ◌∷◌, ℕ, List, 
 ghost use Rattle.im_base_types.specs.Pages.{Page};
 ghost use Rattle.im_theory_log.specs.Histories.{Base, History};
 ghost use Rattle.im_theory_log.specs.RedoPoints.{redo_point};
-ghost use Rattle.im_page_writer.specs.Outcome.{fault_of, mild};
+ghost use Rattle.im_page_writer.specs.Outcome.{fault_of, no_page};
 ghost use Rattle.im_page_writer.specs.PageWriter.{IsReadyWriter};
 ghost use Rattle.im_theory_log.specs.Writer.{Writer};
 ghost use Rattle.im_restart_redo.specs.Loading.{AreWaiting, HaveFirst, IsLoading, LoadingKept};
@@ -28,7 +28,7 @@ fn load_one<D: Disk>(
     requires room { 16384 ≤ length room.old }
     requires ready { IsReadyWriter D.Disk writer.old disk.old }
     requires working { writer.old.failed ≡ false }
-    ensures outcome { Recovers D.Disk mild writer.old writer.new disk.new (fault_of result) }
+    ensures outcome { Recovers D.Disk no_page writer.old writer.new disk.new (fault_of result) }
     ensures room { length room.new ≡ length room.old }
     ensures kept { (b : Base) (base : ℕ) (begun : History) (file : ℕ → Option Page) (from : D) (p : ℕ) (left : List (ℕ × ℕ)) → IsLoading D.Disk b base begun file ((p, lsn) ∷ left) from writer.old disk.old
         → point ≡ redo_point begun → LoadingKept D.Disk b base begun file left from writer.new disk.new result }
@@ -49,7 +49,7 @@ pub(crate) fn load_all<D: Disk>(
     requires room { 16384 ≤ length room.old }
     requires ready { IsReadyWriter D.Disk writer.old disk.old }
     requires working { writer.old.failed ≡ false }
-    ensures outcome { Recovers D.Disk mild writer.old writer.new disk.new (fault_of result) }
+    ensures outcome { Recovers D.Disk no_page writer.old writer.new disk.new (fault_of result) }
     ensures room { length room.new ≡ length room.old }
     ensures kept { (b : Base) (base : ℕ) (begun : History) (file : ℕ → Option Page) (from : D) (s : Writer) → IsWithinRedo D.Disk b base begun from s writer.old disk.old
         → AreWaiting begun copies.now.entries s.pages → HaveFirst b begun file s.pages → point ≡ redo_point begun → LoadingKept D.Disk b base begun file [] from writer.new disk.new result }

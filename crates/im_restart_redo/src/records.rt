@@ -7,12 +7,12 @@ ghost use Rattle.im_base_types.specs.Pages.{Page};
 ghost use Rattle.im_theory_log.specs.Histories.{Base, History};
 ghost use Rattle.im_theory_log.specs.RedoPoints.{redo_point};
 ghost use Rattle.im_restart_analysis.specs.CopyLsns.{AreCopies};
-ghost use Rattle.im_page_writer.specs.Outcome.{fault_of, mild};
+ghost use Rattle.im_page_writer.specs.Outcome.{fault_of, no_page};
 ghost use Rattle.im_page_writer.specs.PageWriter.{IsReadyWriter};
 ghost use Rattle.im_restart_redo.specs.Redo.{AreApplicable};
 ghost use Rattle.im_restart_redo.specs.Recovery.{Recovers};
 ghost use Rattle.im_restart_redo.specs.Applying.{IsApplying, AppliedKept, ApplyingKept};
-ghost use Rattle.im_restart_redo.specs.Changes.{lsns_of};
+ghost use Rattle.im_restart_redo.specs.Changes.{AreOwn, lsns_of};
 ghost use Rattle.im_restart_redo.specs.Window.{Shows};
 
 use crate::round_room::RoundRoom;
@@ -48,7 +48,7 @@ pub(crate) fn redo_one<D: Disk>(
     requires used { window.old.used ≤ length room.old }
     requires ready { IsReadyWriter D.Disk writer.old disk.old }
     requires working { writer.old.failed ≡ false }
-    ensures outcome { Recovers D.Disk mild writer.old writer.new disk.new (fault_of result) }
+    ensures outcome { Recovers D.Disk no_page writer.old writer.new disk.new (fault_of result) }
     ensures room { length room.new ≡ length room.old }
     ensures used { window.new.used ≤ length room.new }
     ensures kept { (b : Base) (base : ℕ) (begun : History) (file : ℕ → Option Page) (from : D) (left : List ℕ) (count : ℕ) → IsApplying D.Disk b base begun file (lsn ∷ left) count from writer.old disk.old
@@ -79,10 +79,10 @@ pub(crate) fn redo_all<D: Disk, R: Threads + Sync, T: WorkerStart + Sync>(
     requires frames { rounds.old.most ≤ writer.old.pool.frames }
     requires ready { IsReadyWriter D.Disk writer.old disk.old }
     requires working { writer.old.failed ≡ false }
-    ensures outcome { Recovers D.Disk mild writer.old writer.new disk.new (fault_of result) }
+    ensures outcome { Recovers D.Disk no_page writer.old writer.new disk.new (fault_of result) }
     ensures room { length room.new ≡ length room.old }
     ensures kept { (b : Base) (base : ℕ) (begun : History) (file : ℕ → Option Page) (from : D) → IsApplying D.Disk b base begun file (lsns_of changes.now) 0 from writer.old disk.old
-        → AreApplicable b begun → point ≡ redo_point begun → AreCopies point copies.now begun → ApplyingKept D.Disk b base begun file from writer.new disk.new result }
+        → AreOwn begun changes.now → AreApplicable b begun → point ≡ redo_point begun → AreCopies point copies.now begun → ApplyingKept D.Disk b base begun file from writer.new disk.new result }
 {
     let mut count = 0;
     let mut done = 0;

@@ -1,6 +1,7 @@
 //! Noted copies are loaded, and then the records from the redo point on applied.
 
-ghost use Rattle.std.specs.Prelude.{◌≡◌, ◌<◌, ◌≤◌, ℕ, length, Option};
+ghost use Rattle.std.specs.Prelude.{◌≡◌, ◌<◌, ◌≤◌, ℕ, Err, length, Option};
+ghost use Rattle.im_base_types.specs.declared.fault.Fault.TheVariants.{Memory};
 ghost use Rattle.im_base_types.specs.Pages.{Page};
 ghost use Rattle.im_theory_log.specs.Histories.{Base, History};
 ghost use Rattle.im_theory_log.specs.RedoPoints.{redo_point};
@@ -29,8 +30,8 @@ use std::thread::Threads;
 /// for any number. `copies` has the LSN of each noted copy, and `changes` those of the records, each with its page. Records are read again into `room`,
 /// of 16,384 bytes at least. It answers how many records were applied: those that change a page whose LSN was lower than theirs as redo first had it.
 ///
-/// Refused `NotAStore` where a page does not take its record or no such record stands there, `Memory` before the first call of the disk, or
-/// where a record is of another page than its change says; otherwise as the writer's `get` is.
+/// Refused `NotAStore` where a page does not take its record, no such record stands there, or one is of another page than its change says;
+/// `Memory` with nothing done, as all that grows is made first; otherwise as the writer's `get` is.
 /// After a refusal redo is not over: the store is to be opened again.
 pub fn redo<D: Disk, R: Threads + Sync, T: WorkerStart + Sync>(
     rt: &R,
@@ -48,6 +49,7 @@ pub fn redo<D: Disk, R: Threads + Sync, T: WorkerStart + Sync>(
     requires room { 16384 ≤ length room.old }
     requires ready { IsReadyWriter D.Disk writer.old disk.old }
     ensures outcome { Recovers D.Disk mild writer.old writer.new disk.new (fault_of result) }
+    ensures memory { result ≡ Err Memory → (writer.new ≡ writer.old) × (disk.new ≡ disk.old) }
     ensures room { length room.new ≡ length room.old }
     ensures kept { (b : Base) (base : ℕ) (begun : History) (file : ℕ → Option Page) → StandsAs D.Disk b base (opened b begun file) writer.old disk.old
         → AreApplicable b begun → point ≡ redo_point begun → AreCopies point copies.now begun → changes.now ≡ changes_from point begun

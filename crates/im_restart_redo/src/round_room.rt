@@ -1,10 +1,11 @@
 //! Rounds of redo: room for their pages, and which changes are one.
 
-ghost use Rattle.std.specs.Prelude.{◌≡◌, ◌<◌, ◌≤◌, ◌++◌, ◌∷◌, [], true, length, take, vec_len, IfErr, IfOk, OnErr, OnOk};
+ghost use Rattle.std.specs.Prelude.{◌≡◌, ◌<◌, ◌≤◌, ◌++◌, ◌∷◌, ℕ, [], true, false, length, take, vec_len, IfErr, IfOk};
 ghost use Rattle.im_base_types.specs.declared.fault.Fault.TheVariants.{Memory};
-ghost use Rattle.im_page_rounds.specs.Hand.{AreRising};
+ghost use Rattle.im_theory_log.specs.Histories.{History};
+ghost use Rattle.im_page_rounds.specs.Hand.{AreRising, IsAmong};
 ghost use Rattle.im_page_rounds.specs.Workers.{HaveRoom};
-ghost use Rattle.im_restart_redo.specs.Changes.{lsns_of};
+ghost use Rattle.im_restart_redo.specs.Changes.{AreNoted, AreOwn, lsns_of};
 ghost use Rattle.im_restart_redo.specs.Rounds.{AreWhole, IsWholeAt};
 
 use im_base_types::{Fault, Lsn, PageNo};
@@ -72,74 +73,89 @@ impl RoundRoom {
         })
     }
 
-    // Whether the round has the page, or takes it.
-    fn takes(&mut self, page: PageNo) -> Result<bool, Fault>
+    // Whether the round has the page, or takes it. Room for it was made at first.
+    fn takes(&mut self, page: PageNo) -> bool
         ensures most { self.new.most ≡ self.old.most }
         ensures lsns { self.new.lsns ≡ self.old.lsns }
-        ensures refused { IfErr result (λ e. e ≡ Memory) }
+        ensures among { result ≡ true → IsAmong self.new.numbers.items page }
+        ensures kept { (p : ℕ) → IsAmong self.old.numbers.items p → IsAmong self.new.numbers.items p }
     {
         match self.numbers.binary_search(&page) {
-            Ok(_) => Ok(true),
+            Ok(_) => true,
             Err(at) => {
                 if self.numbers.len() >= self.most {
-                    return Ok(false);
+                    return false;
                 }
-                self.numbers.insert(at, page).map_err(|_| Fault::Memory)?;
-                Ok(true)
+                self.numbers.insert(at, page).is_ok()
             }
         }
     }
 
-    // Notes one LSN more.
-    fn keep(&mut self, lsn: Lsn) -> Result<(), Fault>
+    // Whether one LSN more is noted. Room for it was made at first.
+    fn keep(&mut self, lsn: Lsn) -> bool
         ensures most { self.new.most ≡ self.old.most }
         ensures numbers { self.new.numbers ≡ self.old.numbers }
-        ensures lsns { OnOk result (self.new.lsns.items ≡ self.old.lsns.items ++ lsn ∷ []) }
-        ensures same { OnErr result (self.new.lsns.items ≡ self.old.lsns.items) }
-        ensures refused { IfErr result (λ e. e ≡ Memory) }
+        ensures lsns { result ≡ true → self.new.lsns.items ≡ self.old.lsns.items ++ lsn ∷ [] }
+        ensures same { result ≡ false → self.new.lsns.items ≡ self.old.lsns.items }
     {
-        self.lsns.push(lsn).map_err(|_| Fault::Memory)
+        self.lsns.push(lsn).is_ok()
+    }
+
+    // Whether the round takes one change more: all of its record stands in a part of the log, and the round has its page, or room for it.
+    fn note_one(&mut self, from: Lsn, span: &[u8], change: &Change) -> bool
+        ensures most { self.new.most ≡ self.old.most }
+        ensures lsns { result ≡ true → self.new.lsns.items ≡ self.old.lsns.items ++ change.now.lsn ∷ [] }
+        ensures same { result ≡ false → self.new.lsns.items ≡ self.old.lsns.items }
+        ensures whole { result ≡ true → IsWholeAt from span.now change.now.lsn }
+        ensures among { result ≡ true → IsAmong self.new.numbers.items change.now.page }
+        ensures kept { (p : ℕ) → IsAmong self.old.numbers.items p → IsAmong self.new.numbers.items p }
+    {
+        if self.lsns.len() >= MOST_CHANGES {
+            return false;
+        }
+        if !is_whole_at(change.lsn, from, span) {
+            return false;
+        }
+        if !self.takes(change.page) {
+            return false;
+        }
+        self.keep(change.lsn)
     }
 
     // Notes the pages and LSNs of as many changes, from the first on, as stand as wholes in a part of the log, and are of no more pages
     // than a round may have.
-    fn note(&mut self, from: Lsn, span: &[u8], changes: &[Change]) -> Result<(), Fault>
+    fn note(&mut self, from: Lsn, span: &[u8], changes: &[Change])
         ensures most { self.new.most ≡ self.old.most }
         ensures within { length self.new.lsns.items ≤ length changes.now }
         ensures lsns { self.new.lsns.items ≡ take (length self.new.lsns.items) (lsns_of changes.now) }
         ensures whole { AreWhole from span.now self.new.lsns.items }
-        ensures refused { IfErr result (λ e. e ≡ Memory) }
+        ensures noted { (log : History) → AreOwn log changes.now → AreNoted log self.new.numbers.items self.new.lsns.items }
     {
         self.numbers.clear();
         self.lsns.clear();
         for change in changes {
-            let lsn = change.lsn;
-            if self.lsns.len() >= MOST_CHANGES || !is_whole_at(lsn, from, span) {
+            if !self.note_one(from, span, change) {
                 break;
             }
-            if !self.takes(change.page)? {
-                break;
-            }
-            self.keep(lsn)?;
         }
-        Ok(())
     }
 
     /// Notes which of these changes, from the first on, are one round: as many as stand as wholes in a part of the log that begins at
-    /// `from`, and are of no more pages than a round may have. Refused `Memory`.
-    pub fn plan(&mut self, from: Lsn, span: &[u8], changes: &[Change]) -> Result<(), Fault>
+    /// `from`, and are of no more pages than a round may have; none where there is no room for the first.
+    pub fn plan(&mut self, from: Lsn, span: &[u8], changes: &[Change])
         ensures most { self.new.most ≡ self.old.most }
         ensures within { length self.new.lsns.items ≤ length changes.now }
         ensures lsns { self.new.lsns.items ≡ take (length self.new.lsns.items) (lsns_of changes.now) }
         ensures whole { AreWhole from span.now self.new.lsns.items }
-        ensures rising { OnOk result (AreRising self.new.numbers.items) }
-        ensures few { OnOk result (length self.new.numbers.items ≤ self.new.most) }
-        ensures refused { IfErr result (λ e. e ≡ Memory) }
+        ensures rising { AreRising self.new.numbers.items }
+        ensures few { length self.new.numbers.items ≤ self.new.most }
+        ensures noted { (log : History) → AreOwn log changes.now → AreNoted log self.new.numbers.items self.new.lsns.items }
     {
-        self.note(from, span, changes)?;
-        if self.numbers.len() > self.most || !are_rising(&self.numbers) {
-            return Err(Fault::Memory);
+        self.note(from, span, changes);
+        if self.numbers.len() <= self.most && are_rising(&self.numbers) {
+            return;
         }
-        Ok(())
+        self.numbers.clear();
+        self.lsns.clear();
     }
 }

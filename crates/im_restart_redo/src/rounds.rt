@@ -1,6 +1,6 @@
 //! Rounds: changes made again at once to the pages that they are of.
 
-ghost use Rattle.std.specs.Prelude.{◌≡◌, ◌≢◌, ◌≤◌, ◌<◌, ◌+◌, ℕ, List, false, if◌then◌else◌, length, take, drop, Option, IfErr, IfOk, OnOk};
+ghost use Rattle.std.specs.Prelude.{◌≡◌, ◌≢◌, ◌≤◌, ◌<◌, ◌+◌, ℕ, List, false, if◌then◌else◌, length, take, Option, IfErr, IfOk, OnOk};
 ghost use Rattle.im_base_types.specs.declared.fault.Fault.TheVariants.{NotAStore};
 ghost use Rattle.im_base_types.specs.Pages.{Page};
 ghost use Rattle.im_base_disk.specs.Runs.{Reads};
@@ -9,13 +9,13 @@ ghost use Rattle.im_theory_log.specs.RedoPoints.{redo_point};
 ghost use Rattle.im_theory_log.specs.Writer.{Writer};
 ghost use Rattle.im_restart_analysis.specs.CopyLsns.{AreCopies};
 ghost use Rattle.im_page_rounds.specs.Hand.{AreRising};
-ghost use Rattle.im_page_writer.specs.Outcome.{fault_of, mild};
+ghost use Rattle.im_page_writer.specs.Outcome.{fault_of, no_page};
 ghost use Rattle.im_page_writer.specs.PageWriter.{IsReadyWriter, StandsAs};
-ghost use Rattle.im_restart_redo.specs.Changes.{lsns_of};
-ghost use Rattle.im_restart_redo.specs.Redo.{AreApplicable, RedoSound};
+ghost use Rattle.im_restart_redo.specs.Changes.{AreNoted, AreOwn, lsns_of};
+ghost use Rattle.im_restart_redo.specs.Redo.{AreApplicable};
 ghost use Rattle.im_restart_redo.specs.Recovery.{Recovers};
 ghost use Rattle.im_restart_redo.specs.Applying.{IsApplying};
-ghost use Rattle.im_restart_redo.specs.Rounds.{AreWhole, PassedKept};
+ghost use Rattle.im_restart_redo.specs.Rounds.{AreWhole, PassedKept, passed_of};
 ghost use Rattle.im_restart_redo.specs.Window.{AreAlsoOf, Shows};
 
 use crate::records::redo_one;
@@ -57,7 +57,7 @@ fn redo_first<D: Disk>(
     requires used { window.old.used ≤ length room.old }
     requires ready { IsReadyWriter D.Disk writer.old disk.old }
     requires working { writer.old.failed ≡ false }
-    ensures outcome { Recovers D.Disk mild writer.old writer.new disk.new (fault_of result) }
+    ensures outcome { Recovers D.Disk no_page writer.old writer.new disk.new (fault_of result) }
     ensures room { length room.new ≡ length room.old }
     ensures used { window.new.used ≤ length room.new }
     ensures passed { IfOk result (λ passed. (passed.changes ≡ 1) × (passed.applied ≤ 1)) }
@@ -98,7 +98,7 @@ fn plan_round<D: Disk>(
     requires used { window.old.used ≤ length room.old }
     requires ready { IsReadyWriter D.Disk writer.old disk.old }
     requires working { writer.old.failed ≡ false }
-    ensures outcome { Recovers D.Disk mild writer.old writer.new disk.new (fault_of result) }
+    ensures outcome { Recovers D.Disk no_page writer.old writer.new disk.new (fault_of result) }
     ensures kept { (b : Base) (base : ℕ) (s : Writer) → StandsAs D.Disk b base s writer.old disk.old → OnOk result (StandsAs D.Disk b base s writer.new disk.new) }
     ensures shows { (b : Base) (base : ℕ) (s : Writer) (log : History) → StandsAs D.Disk b base s writer.old disk.old → AreAlsoOf log s.log → Shows log window.old room.old
         → OnOk result (Shows log window.new room.new) }
@@ -110,18 +110,37 @@ fn plan_round<D: Disk>(
     ensures within { OnOk result (length rounds.new.lsns.items ≤ length changes.now) }
     ensures lsns { OnOk result (rounds.new.lsns.items ≡ take (length rounds.new.lsns.items) (lsns_of changes.now)) }
     ensures whole { OnOk result (AreWhole window.new.from (take window.new.used room.new) rounds.new.lsns.items) }
+    ensures noted { (log : History) → AreOwn log changes.now → OnOk result (AreNoted log rounds.new.numbers.items rounds.new.lsns.items) }
     ensures rising { OnOk result (AreRising rounds.new.numbers.items) }
     ensures few { OnOk result (length rounds.new.numbers.items ≤ rounds.new.most) }
 {
-    rounds.plan(window.from, &room[..window.used], changes)?;
+    rounds.plan(window.from, &room[..window.used], changes);
     if has_all(*window, room, rounds.lsns.len(), changes) {
         return Ok(());
     }
     window.refill(writer, disk, changes[0].lsn, room)?;
-    rounds.plan(window.from, &room[..window.used], changes)
+    rounds.plan(window.from, &room[..window.used], changes);
+    Ok(())
 }
 
-// Redoes the round that was planned, of no more pages than there are frames, and answers how many of its records were applied.
+// What went past by a round of so many records, of which so many were applied, if it was redone.
+fn passed_by(planned: usize, redone: Option<u64>) -> Passed
+    ensures { result ≡ passed_of planned redone }
+{
+    match redone {
+        None => Passed {
+            changes: 0,
+            applied: 0,
+        },
+        Some(applied) => Passed {
+            changes: planned,
+            applied,
+        },
+    }
+}
+
+// Redoes the round that was planned, of no more pages than there are frames. None of its changes went past where its pages can't all be held
+// at once: then nothing was redone.
 #[tactic(auto, using(crate::proofs::Rooms::room_fewer, im_page_rounds::proofs::Places::room_same, im_page_rounds::proofs::Places::some_on))]
 fn redo_planned<D: Disk, R: Threads + Sync, T: WorkerStart + Sync>(
     rt: &R,
@@ -133,22 +152,23 @@ fn redo_planned<D: Disk, R: Threads + Sync, T: WorkerStart + Sync>(
     window: Window,
     room: &[u8],
     rounds: &mut RoundRoom,
-) -> Result<u64, Fault>
+) -> Result<Passed, Fault>
     requires some { 0 < length rounds.old.lsns.items }
     requires used { window.used ≤ length room.now }
     requires rising { AreRising rounds.old.numbers.items }
     requires few { length rounds.old.numbers.items ≤ rounds.old.most }
     requires frames { rounds.old.most ≤ writer.old.pool.frames }
     requires ready { IsReadyWriter D.Disk writer.old disk.old }
-    ensures outcome { Recovers D.Disk mild writer.old writer.new disk.new (fault_of result) }
+    ensures outcome { Recovers D.Disk no_page writer.old writer.new disk.new (fault_of result) }
     ensures most { rounds.new.most ≡ rounds.old.most }
-    ensures applied { IfOk result (λ n. n ≤ length rounds.old.lsns.items) }
+    ensures passed { IfOk result (λ passed. (passed.changes ≤ length rounds.old.lsns.items) × (passed.applied ≤ length rounds.old.lsns.items) × (passed.applied ≤ passed.changes)) }
     ensures kept { (b : Base) (base : ℕ) (begun : History) (file : ℕ → Option Page) (from : D) (lsns : List ℕ) (count : ℕ) → IsApplying D.Disk b base begun file lsns count from writer.old disk.old
         → length rounds.old.lsns.items ≤ length lsns → rounds.old.lsns.items ≡ take (length rounds.old.lsns.items) lsns → AreWhole window.from (take window.used room.now) rounds.old.lsns.items
-        → Shows begun window room.now → AreApplicable b begun → point ≡ redo_point begun → AreCopies point copies.now begun
-        → RedoSound D.Disk b base begun (λ n. IsApplying D.Disk b base begun file (drop (length rounds.old.lsns.items) lsns) (count + n) from writer.new disk.new) from disk.new result }
+        → AreNoted begun rounds.old.numbers.items rounds.old.lsns.items → Shows begun window room.now → AreApplicable b begun → point ≡ redo_point begun → AreCopies point copies.now begun
+        → PassedKept D.Disk b base begun file lsns count from writer.new disk.new result }
 {
-    writer.redo_round(
+    let planned = rounds.lsns.len();
+    let redone = writer.redo_round(
         rt,
         at_start,
         disk,
@@ -159,7 +179,8 @@ fn redo_planned<D: Disk, R: Threads + Sync, T: WorkerStart + Sync>(
         &rounds.lsns,
         window.from,
         &room[..window.used],
-    )
+    )?;
+    Ok(passed_by(planned, redone))
 }
 
 /// Makes the next changes: those that are one round, and one at least.
@@ -181,26 +202,25 @@ pub(crate) fn redo_some<D: Disk, R: Threads + Sync, T: WorkerStart + Sync>(
     requires frames { rounds.old.most ≤ writer.old.pool.frames }
     requires ready { IsReadyWriter D.Disk writer.old disk.old }
     requires working { writer.old.failed ≡ false }
-    ensures outcome { Recovers D.Disk mild writer.old writer.new disk.new (fault_of result) }
+    ensures outcome { Recovers D.Disk no_page writer.old writer.new disk.new (fault_of result) }
     ensures room { length room.new ≡ length room.old }
     ensures used { window.new.used ≤ length room.new }
     ensures most { rounds.new.most ≡ rounds.old.most }
     ensures passed { IfOk result (λ passed. (0 < passed.changes) × (passed.changes ≤ length changes.now) × (passed.applied ≤ passed.changes)) }
     ensures kept { (b : Base) (base : ℕ) (begun : History) (file : ℕ → Option Page) (from : D) (count : ℕ) → IsApplying D.Disk b base begun file (lsns_of changes.now) count from writer.old disk.old
-        → Shows begun window.old room.old → AreApplicable b begun → point ≡ redo_point begun → AreCopies point copies.now begun → PassedKept D.Disk b base begun file (lsns_of changes.now) count from writer.new disk.new result }
+        → AreOwn begun changes.now → Shows begun window.old room.old → AreApplicable b begun → point ≡ redo_point begun → AreCopies point copies.now begun → PassedKept D.Disk b base begun file (lsns_of changes.now) count from writer.new disk.new result }
     ensures shows { (b : Base) (base : ℕ) (begun : History) (file : ℕ → Option Page) (from : D) (count : ℕ) → IsApplying D.Disk b base begun file (lsns_of changes.now) count from writer.old disk.old
-        → Shows begun window.old room.old → OnOk result (Shows begun window.new room.new) }
+        → AreOwn begun changes.now → Shows begun window.old room.old → AreApplicable b begun → point ≡ redo_point begun → AreCopies point copies.now begun → OnOk result (Shows begun window.new room.new) }
 {
     plan_round(writer, disk, changes, window, room, rounds)?;
-    let planned = rounds.lsns.len();
-    if planned == 0 {
+    if rounds.lsns.len() == 0 {
         return redo_first(writer, disk, point, copies, changes, window, room);
     }
-    let applied = redo_planned(
+    let passed = redo_planned(
         rt, at_start, writer, disk, point, copies, *window, room, rounds,
     )?;
-    Ok(Passed {
-        changes: planned,
-        applied,
-    })
+    if passed.changes == 0 {
+        return redo_first(writer, disk, point, copies, changes, window, room);
+    }
+    Ok(passed)
 }

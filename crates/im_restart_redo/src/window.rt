@@ -7,7 +7,7 @@ ghost use Rattle.im_base_disk.specs.Runs.{Reads};
 ghost use Rattle.im_theory_log.specs.Histories.{Base, History, IsRecordOf};
 ghost use Rattle.im_theory_log.specs.Writer.{Writer};
 ghost use Rattle.im_log.specs.Reading.{SpellsRecord};
-ghost use Rattle.im_page_writer.specs.Outcome.{fault_of, mild};
+ghost use Rattle.im_page_writer.specs.Outcome.{fault_of, no_page};
 ghost use Rattle.im_page_writer.specs.PageWriter.{IsReadyWriter, StandsAs};
 ghost use Rattle.im_restart_redo.specs.Recovery.{Recovers};
 ghost use Rattle.im_restart_redo.specs.Window.{AreAlsoOf, BroughtKept, IsWithin, Shows, bytes_at};
@@ -68,7 +68,7 @@ impl Window {
     ) -> Result<(), Fault>
         requires ready { IsReadyWriter D.Disk writer.old disk.old }
         requires working { writer.old.failed ≡ false }
-        ensures outcome { Recovers D.Disk mild writer.old writer.new disk.new (fault_of result) }
+        ensures outcome { Recovers D.Disk no_page writer.old writer.new disk.new (fault_of result) }
         ensures kept { (b : Base) (base : ℕ) (s : Writer) → StandsAs D.Disk b base s writer.old disk.old → OnOk result (StandsAs D.Disk b base s writer.new disk.new) }
         ensures shows { (b : Base) (base : ℕ) (s : Writer) (log : History) → StandsAs D.Disk b base s writer.old disk.old → AreAlsoOf log s.log → OnOk result (Shows log self.new room.new) }
         ensures cause { IfErr result (λ e. e ≡ Device) }
@@ -96,7 +96,7 @@ impl Window {
         requires used { self.old.used ≤ length room.old }
         requires ready { IsReadyWriter D.Disk writer.old disk.old }
         requires working { writer.old.failed ≡ false }
-        ensures outcome { Recovers D.Disk mild writer.old writer.new disk.new (fault_of result) }
+        ensures outcome { Recovers D.Disk no_page writer.old writer.new disk.new (fault_of result) }
         ensures kept { (b : Base) (base : ℕ) (s : Writer) → StandsAs D.Disk b base s writer.old disk.old → OnOk result (StandsAs D.Disk b base s writer.new disk.new) }
         ensures shows { (b : Base) (base : ℕ) (s : Writer) (log : History) → StandsAs D.Disk b base s writer.old disk.old → AreAlsoOf log s.log → OnOk result (Shows log self.new room.new) }
         ensures found { (b : Base) (base : ℕ) (s : Writer) (log : History) (r : Logged) → StandsAs D.Disk b base s writer.old disk.old → AreAlsoOf log s.log → IsRecordOf r log → lsn ≡ r.lsn → BroughtKept r room.new result }
@@ -128,7 +128,7 @@ impl Window {
         requires used { self.old.used ≤ length room.old }
         requires ready { IsReadyWriter D.Disk writer.old disk.old }
         requires working { writer.old.failed ≡ false }
-        ensures outcome { Recovers D.Disk mild writer.old writer.new disk.new (fault_of result) }
+        ensures outcome { Recovers D.Disk no_page writer.old writer.new disk.new (fault_of result) }
         ensures kept { (b : Base) (base : ℕ) (s : Writer) → StandsAs D.Disk b base s writer.old disk.old → OnOk result (StandsAs D.Disk b base s writer.new disk.new) }
         ensures shows { (b : Base) (base : ℕ) (s : Writer) (log : History) → StandsAs D.Disk b base s writer.old disk.old → AreAlsoOf log s.log → Shows log self.old room.old
             → OnOk result (Shows log self.new room.new) }

@@ -89,7 +89,7 @@ fn add_pages<D: Disk>(
 }
 
 // Redoes the round by so many workers, over pages that are empty leaves, and answers how many records were applied. The pages' bytes are
-// added to a list.
+// added to a list. Refused `NotAStore` where the pages were not all held.
 fn redo<D: Disk, R: Threads + Sync, T: WorkerStart + Sync>(
     rt: &R,
     alloc: Global,
@@ -118,7 +118,7 @@ fn redo<D: Disk, R: Threads + Sync, T: WorkerStart + Sync>(
         &round.span,
     )?;
     add_pages(writer, disk, found)?;
-    Ok(applied)
+    applied.ok_or(Fault::NotAStore)
 }
 
 // The same over a store of its own.

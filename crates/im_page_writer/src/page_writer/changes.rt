@@ -35,7 +35,7 @@ impl PageWriter {
     }
 
     // Where a page is held that has room for its entry.
-    fn find_with_room(&self, number: PageNo) -> Result<Frame, Fault>
+    pub(super) fn find_with_room(&self, number: PageNo) -> Result<Frame, Fault>
         ensures at { IfOk result (IsAt self.now.pool) }
         ensures frame { IfOk result (λ f. f.number ≡ number) }
         ensures room { OnOk result (entry_in self.now.table number ≡ None → length self.now.table < 1024) }

@@ -1,6 +1,6 @@
 //! Redo: noted copies loaded, records applied to their pages by LSN, and records read again.
 ghost use Rattle.std.specs.Prelude.{◌≡◌, ◌≤◌, ◌<◌, ◌^◌, ◌⊎◌, ◌↔◌, ◌++◌, ◌∷◌, ℕ, None, Some, Ok, Err, true, false, not, is_ok, length, IfErr, IfOk, OnOk};
-ghost use Rattle.im_base_types.specs.declared.fault.Fault.TheVariants.{Device, Failed, LogFull, Memory, NotAStore};
+ghost use Rattle.im_base_types.specs.declared.fault.Fault.TheVariants.{Device, Failed, LogFull, NotAStore};
 ghost use Rattle.im_theory_log.specs.Histories.{Base, History, changes_page};
 ghost use Rattle.im_theory_log.specs.Writer.{Writer};
 ghost use Rattle.im_log_record.specs.Entry.{view};
@@ -12,7 +12,6 @@ use im_base_disk::Disk;
 use im_base_types::{Fault, Lsn, PageNo};
 use im_log_record::Record;
 use im_page_file::read_copy;
-use im_page_pool::Frame;
 
 impl PageWriter {
     ghost use Rattle.im_base_types.specs.Pages.{Page};
@@ -26,11 +25,10 @@ impl PageWriter {
     ghost use Rattle.im_log.specs.Whats.{what_of};
     ghost use Rattle.im_log.specs.Reading.{FoundKept};
     ghost use Rattle.im_base_disk.specs.Runs.{Reads};
-    ghost use Rattle.im_page_pool.specs.Pool.{Holds, IsAt};
-    ghost use Rattle.im_page_table.specs.DirtyTable.{entry_in};
-    ghost use Rattle.im_page_writer.specs.Outcome.{fault_of, mild, Flushes, Redoes};
+    ghost use Rattle.im_page_pool.specs.Pool.{Holds, held_of};
+    ghost use Rattle.im_page_writer.specs.Outcome.{fault_of, no_page, Flushes, Redoes};
     ghost use Rattle.im_page_writer.specs.PageWriter.{IsReadyWriter, StandsAs};
-    ghost use Rattle.im_page_writer.specs.Redoing.{LoadKept, RedoKept, LacksTaker, LoadedHere, RedoneHere};
+    ghost use Rattle.im_page_writer.specs.Redoing.{HasRooms, LoadKept, RedoKept, LacksTaker, LoadedHere, RedoneHere};
 
     /// Reads the record at an LSN into the room, and answers its size, as the log's `read_at` does.
     ///
@@ -69,6 +67,7 @@ impl PageWriter {
     fn make_rooms<D: Disk>(&mut self, disk: &mut D, number: PageNo) -> Result<(), Fault>
         requires ready { IsReadyWriter D.Disk self.old disk.old }
         ensures outcome { Flushes D.Disk self.old disk.old self.new disk.new (fault_of result) }
+        ensures rooms { (b : Base) (base : ℕ) (s : Writer) → StandsAs D.Disk b base s self.old disk.old → OnOk result (HasRooms number self.new.pool self.new.table) }
     {
         if self.failed {
             return Err(Fault::Failed);
@@ -91,13 +90,16 @@ impl PageWriter {
         ensures known { self.new.known ≡ self.old.known }
         ensures frames { self.new.pool.frames ≡ self.old.pool.frames }
         ensures failed { self.new.failed ≡ self.old.failed }
-        ensures refused { IfErr result (λ e. (e ≡ Memory) ⊎ ((e ≡ NotAStore) × (Holds self.old.pool number ⊎ (copy_in lsn (what_of (view record.now)) ≡ None)))) }
+        ensures refused { IfErr result (λ e. (e ≡ NotAStore) × (Holds self.old.pool number ⊎ (copy_in lsn (what_of (view record.now)) ≡ None) ⊎ (length self.old.pool.held ≡ self.old.pool.frames) ⊎ (length self.old.table ≡ 1024))) }
     {
         if self.pool.holds(number) {
             return Err(Fault::NotAStore);
         }
-        if self.pool.is_full() || self.lacks_room(number) {
-            return Err(Fault::Memory);
+        if self.pool.is_full() {
+            return Err(Fault::NotAStore);
+        }
+        if self.lacks_room(number) {
+            return Err(Fault::NotAStore);
         }
         if !read_copy(&mut self.spare, lsn, record) {
             return Err(Fault::NotAStore);
@@ -121,7 +123,7 @@ impl PageWriter {
     ) -> Result<(), Fault>
         requires entry { IsEntry (view record.now) }
         requires ready { IsReadyWriter D.Disk self.old disk.old }
-        ensures outcome { Redoes D.Disk mild self.old self.new disk.new (fault_of result) }
+        ensures outcome { Redoes D.Disk no_page self.old self.new disk.new (fault_of result) }
         ensures kept { (b : Base) (base : ℕ) (s : Writer) (copy : Page) → StandsAs D.Disk b base s self.old disk.old → s.redo_end ≡ None → s.point ≡ point
             → copy_in lsn (what_of (view record.now)) ≡ Some copy → (s.pages (page_of (view record.now))).waits ≡ true → (s.pages (page_of (view record.now))).found ≡ Some (lsn, copy)
             → ((q : ℕ) → q < page_of (view record.now) → (s.pages q).waits ≡ false)
@@ -130,22 +132,6 @@ impl PageWriter {
         let number = record.page();
         self.make_rooms(disk, number)?;
         self.put_copy(point, lsn, record, number)
-    }
-
-    // Where a page is held, with room for its entry in the dirty table. Refused `Memory`.
-    fn find_held(&self, number: PageNo) -> Result<Frame, Fault>
-        ensures at { IfOk result (IsAt self.now.pool) }
-        ensures frame { IfOk result (λ f. f.number ≡ number) }
-        ensures room { OnOk result (entry_in self.now.table number ≡ None → length self.now.table < 1024) }
-        ensures refused { IfErr result (λ e. e ≡ Memory) }
-    {
-        if self.lacks_room(number) {
-            return Err(Fault::Memory);
-        }
-        match self.pool.find(number) {
-            Some(frame) => Ok(frame),
-            None => Err(Fault::Memory),
-        }
     }
 
     // A held page is changed by a record, and entered, where the record's kind changes a page.
@@ -163,9 +149,9 @@ impl PageWriter {
         ensures known { self.new.known ≡ self.old.known }
         ensures frames { self.new.pool.frames ≡ self.old.pool.frames }
         ensures failed { self.new.failed ≡ self.old.failed }
-        ensures refused { IfErr result (λ e. (e ≡ Memory) ⊎ ((e ≡ NotAStore) × LacksTaker (what_of (view record.now)) number self.old.pool)) }
+        ensures refused { IfErr result (λ e. (e ≡ NotAStore) × (LacksTaker (what_of (view record.now)) number self.old.pool ⊎ (length self.old.table ≡ 1024) ⊎ (held_of self.old.pool number ≡ None))) }
     {
-        let frame = self.find_held(number)?;
+        let frame = self.find_with_room(number)?;
         if !redo_record(&mut self.pool, &mut self.spare, frame, lsn, record)? {
             return Ok(false);
         }
@@ -173,7 +159,7 @@ impl PageWriter {
         Ok(true)
     }
 
-    // The same of a page with an LSN below the record's, for whose entry room is made first.
+    // The same of a held page with an LSN below the record's, for whose entry room is made first.
     fn redo_with_room<D: Disk>(
         &mut self,
         disk: &mut D,
@@ -185,8 +171,9 @@ impl PageWriter {
     ) -> Result<bool, Fault>
         requires entry { IsEntry (view record.now) }
         requires page { page_of (view record.now) ≡ number }
+        requires held { Holds self.old.pool number }
         requires ready { IsReadyWriter D.Disk self.old disk.old }
-        ensures outcome { Redoes D.Disk mild self.old self.new disk.new (fault_of result) }
+        ensures outcome { Redoes D.Disk no_page self.old self.new disk.new (fault_of result) }
         ensures kept { (b : Base) (base : ℕ) (s : Writer) (newer older : History) → StandsAs D.Disk b base s self.old disk.old → s.redo_end ≡ None → s.point ≡ point
             → newer ++ logged_at lsn (view record.now) ∷ older ≡ s.durable → point ≤ lsn → ((p : ℕ) → ((s.pages p).waits ≡ false) × (end_of b older < (s.pages p).upto))
             → (s.pages number).page.lsn < lsn → (copied ≡ true → HasCopy s.durable number s.point) → RedoKept D.Disk b base s (logged_at lsn (view record.now)) disk.old self.new disk.new result }
@@ -208,7 +195,7 @@ impl PageWriter {
         requires entry { IsEntry (view record.now) }
         requires page { page_of (view record.now) ≡ number }
         requires ready { IsReadyWriter D.Disk self.old disk.old }
-        ensures outcome { Redoes D.Disk mild self.old self.new disk.new (fault_of result) }
+        ensures outcome { Redoes D.Disk no_page self.old self.new disk.new (fault_of result) }
         ensures kept { (b : Base) (base : ℕ) (s : Writer) (newer older : History) → StandsAs D.Disk b base s self.old disk.old → s.redo_end ≡ None → s.point ≡ point
             → newer ++ logged_at lsn (view record.now) ∷ older ≡ s.durable → point ≤ lsn → ((p : ℕ) → ((s.pages p).waits ≡ false) × (end_of b older < (s.pages p).upto))
             → (copied ≡ true → HasCopy s.durable number s.point) → RedoKept D.Disk b base s (logged_at lsn (view record.now)) disk.old self.new disk.new result }
@@ -238,7 +225,7 @@ impl PageWriter {
     ) -> Result<bool, Fault>
         requires entry { IsEntry (view record.now) }
         requires ready { IsReadyWriter D.Disk self.old disk.old }
-        ensures outcome { Redoes D.Disk mild self.old self.new disk.new (fault_of result) }
+        ensures outcome { Redoes D.Disk no_page self.old self.new disk.new (fault_of result) }
         ensures kept { (b : Base) (base : ℕ) (s : Writer) (newer older : History) → StandsAs D.Disk b base s self.old disk.old → s.redo_end ≡ None → s.point ≡ point
             → newer ++ logged_at lsn (view record.now) ∷ older ≡ s.durable → point ≤ lsn → ((p : ℕ) → ((s.pages p).waits ≡ false) × (end_of b older < (s.pages p).upto))
             → (copied ≡ true → HasCopy s.durable (page_of (view record.now)) s.point) → RedoKept D.Disk b base s (logged_at lsn (view record.now)) disk.old self.new disk.new result }

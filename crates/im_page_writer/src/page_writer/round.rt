@@ -1,8 +1,8 @@
 //! A round of redo: its pages are got, lent, changed by its records, and taken back.
-ghost use Rattle.std.specs.Prelude.{◌≡◌, ◌≢◌, ◌≤◌, ◌<◌, ◌+◌, ◌/◌, ◌%◌, ◌++◌, ◌⊎◌, ◌||◌, ℕ, List, Bool, None, Ok, true, false, get_or, is_some, length, vec_len, IfErr, IfOk, OnOk};
+ghost use Rattle.std.specs.Prelude.{◌≡◌, ◌≢◌, ◌≤◌, ◌<◌, ◌+◌, ◌/◌, ◌%◌, ◌++◌, ◌||◌, ℕ, List, [], Bool, None, Some, Ok, true, false, get_or, is_some, length, vec_len, IfErr, IfOk, IfSome, OnOk};
 ghost use Rattle.std.specs.BTreeMap.{get};
 ghost use Rattle.std.specs.Ordering.{nat_cmp};
-ghost use Rattle.im_base_types.specs.declared.fault.Fault.TheVariants.{Memory, NotAStore};
+ghost use Rattle.im_base_types.specs.declared.fault.Fault.TheVariants.{NotAStore};
 ghost use Rattle.im_base_types.specs.Records.{Logged};
 ghost use Rattle.im_theory_log.specs.Histories.{Base, History};
 ghost use Rattle.im_theory_log.specs.Copies.{HasCopy, onto};
@@ -32,16 +32,16 @@ fn either(one: bool, other: bool) -> bool
 
 impl PageWriter {
     ghost use Rattle.im_base_types.specs.Pages.{Page};
-    ghost use Rattle.im_page_pool.specs.Pool.{Held, held_of};
+    ghost use Rattle.im_page_pool.specs.Pool.{Held, Holds, held_of};
     ghost use Rattle.im_page_table.specs.DirtyTable.{entry_in};
     ghost use Rattle.im_page_rounds.specs.declared.round_page.RoundPage.{RoundPage};
     ghost use Rattle.im_page_rounds.specs.declared.worker.Worker.{Worker};
-    ghost use Rattle.im_page_rounds.specs.Hand.{AllTaken, AreRising, StandIn};
+    ghost use Rattle.im_page_rounds.specs.Hand.{AllTaken, AreAmong, AreRising, StandIn};
     ghost use Rattle.im_page_rounds.specs.Workers.{HaveRoom, SameRoom, page_in};
     ghost use Rattle.im_page_rounds.specs.Rounds.{AreFrom, HaveHad, applied_of_all, changing};
-    ghost use Rattle.im_page_writer.specs.Outcome.{fault_of, mild, AllPages, AreLoaded, Flushes, HasPages, Reads, Redoes};
+    ghost use Rattle.im_page_writer.specs.Outcome.{fault_of, no_page, AllPages, AreLoaded, Flushes, HasPages, Reads, Redoes};
     ghost use Rattle.im_page_writer.specs.PageWriter.{IsReadyWriter, StandsAs, GoesOn};
-    ghost use Rattle.im_page_writer.specs.Rounds.{AreShown, IsBack, Lends, LendsAll, RoundHere, RoundKept, TakesBack, entry_after};
+    ghost use Rattle.im_page_writer.specs.Rounds.{AreHeld, AreShown, IsBack, Lends, LendsAll, RoundFrom, RoundHere, RoundKept, TakesBack, entry_after};
     ghost use Rattle.im_page_writer.specs.Writing.{SameHeld};
 
     // Flushes the least recently used pages that were changed, with others that go next, until none is left.
@@ -146,23 +146,22 @@ impl PageWriter {
     }
 
     // Lends a held page, in exchange for a spare one.
-    fn lend(&mut self, number: PageNo, out: &mut RoundPage) -> Result<(), Fault>
-        ensures lent { OnOk result (Lends number out.new self.old.pool self.new.pool) }
-        ensures others { OnOk result ((q : ℕ) → q ≢ number → held_of self.new.pool q ≡ held_of self.old.pool q) }
+    fn lend(&mut self, number: PageNo, out: &mut RoundPage)
+        requires held { Holds self.old.pool number }
+        ensures lent { Lends number out.new self.old.pool self.new.pool }
+        ensures others { (q : ℕ) → q ≢ number → held_of self.new.pool q ≡ held_of self.old.pool q }
         ensures frames { self.new.pool.frames ≡ self.old.pool.frames }
         ensures log { self.new.log ≡ self.old.log }
         ensures table { self.new.table ≡ self.old.table }
         ensures known { self.new.known ≡ self.old.known }
         ensures failed { self.new.failed ≡ self.old.failed }
-        ensures refused { IfErr result (λ e. e ≡ Memory) }
     {
         match self.pool.find(number) {
-            None => Err(Fault::Memory),
+            None => {}
             Some(frame) => {
                 let changed = self.pool.is_changed(frame);
                 self.pool.exchange(frame, &mut out.page, changed);
                 out.changed = false;
-                Ok(())
             }
         }
     }
@@ -172,6 +171,7 @@ impl PageWriter {
         requires room { entry_in self.old.table number ≡ None → length self.old.table < 1024 }
         ensures entry { entry_in self.new.table number ≡ entry_after changed copied point (entry_in self.old.table number) }
         ensures other_entries { (q : ℕ) → q ≢ number → entry_in self.new.table q ≡ entry_in self.old.table q }
+        ensures most { length self.new.table ≤ length self.old.table + 1 }
         ensures pool { self.new.pool ≡ self.old.pool }
         ensures log { self.new.log ≡ self.old.log }
         ensures known { self.new.known ≡ self.old.known }
@@ -184,54 +184,46 @@ impl PageWriter {
     }
 
     // Takes a lent page back. Where a record was applied to it, it counts as changed, from the redo point on.
-    fn take_back(
-        &mut self,
-        point: Lsn,
-        number: PageNo,
-        copied: bool,
-        out: &mut RoundPage,
-    ) -> Result<(), Fault>
-        ensures back { (was : Held) → held_of self.old.pool number ≡ Some was → OnOk result (IsBack was out.old self.new.pool number) }
-        ensures others { OnOk result ((q : ℕ) → q ≢ number → held_of self.new.pool q ≡ held_of self.old.pool q) }
-        ensures entry { OnOk result (entry_in self.new.table number ≡ entry_after out.old.changed copied point (entry_in self.old.table number)) }
-        ensures other_entries { OnOk result ((q : ℕ) → q ≢ number → entry_in self.new.table q ≡ entry_in self.old.table q) }
+    fn take_back(&mut self, point: Lsn, number: PageNo, copied: bool, out: &mut RoundPage)
+        requires held { Holds self.old.pool number }
+        requires room { length self.old.table < 1024 }
+        ensures back { (was : Held) → held_of self.old.pool number ≡ Some was → IsBack was out.old self.new.pool number }
+        ensures others { (q : ℕ) → q ≢ number → held_of self.new.pool q ≡ held_of self.old.pool q }
+        ensures entry { entry_in self.new.table number ≡ entry_after out.old.changed copied point (entry_in self.old.table number) }
+        ensures other_entries { (q : ℕ) → q ≢ number → entry_in self.new.table q ≡ entry_in self.old.table q }
+        ensures most { length self.new.table ≤ length self.old.table + 1 }
         ensures frames { self.new.pool.frames ≡ self.old.pool.frames }
         ensures log { self.new.log ≡ self.old.log }
         ensures known { self.new.known ≡ self.old.known }
         ensures failed { self.new.failed ≡ self.old.failed }
-        ensures refused { IfErr result (λ e. e ≡ Memory) }
     {
-        if self.lacks_room(number) {
-            return Err(Fault::Memory);
-        }
         match self.pool.find(number) {
-            None => Err(Fault::Memory),
+            None => {}
             Some(frame) => {
                 let changed = either(self.pool.is_changed(frame), out.changed);
                 self.pool.exchange(frame, &mut out.page, changed);
                 self.enter_changed(point, number, copied, out.changed);
-                Ok(())
             }
         }
     }
 
     // Lends a held page to the worker that has the page at this place of the round.
-    fn lend_to(&mut self, number: PageNo, workers: &mut [Worker], i: usize) -> Result<(), Fault>
+    fn lend_to(&mut self, number: PageNo, workers: &mut [Worker], i: usize)
+        requires held { Holds self.old.pool number }
         requires some { 0 < length workers.old }
         requires room { (w : Worker) → i / length workers.old < vec_len (get_or workers.old (i % length workers.old) w).pages }
-        ensures lent { OnOk result ((w : Worker) (d : RoundPage) → Lends number (page_in workers.new i w d) self.old.pool self.new.pool) }
+        ensures lent { (w : Worker) (d : RoundPage) → Lends number (page_in workers.new i w d) self.old.pool self.new.pool }
         ensures kept { (j : ℕ) (w : Worker) (d : RoundPage) → j ≢ i → page_in workers.new j w d ≡ page_in workers.old j w d }
         ensures room { SameRoom workers.old workers.new }
-        ensures others { OnOk result ((q : ℕ) → q ≢ number → held_of self.new.pool q ≡ held_of self.old.pool q) }
+        ensures others { (q : ℕ) → q ≢ number → held_of self.new.pool q ≡ held_of self.old.pool q }
         ensures frames { self.new.pool.frames ≡ self.old.pool.frames }
         ensures log { self.new.log ≡ self.old.log }
         ensures table { self.new.table ≡ self.old.table }
         ensures known { self.new.known ≡ self.old.known }
         ensures failed { self.new.failed ≡ self.old.failed }
-        ensures refused { IfErr result (λ e. e ≡ Memory) }
     {
         let count = workers.len();
-        self.lend(number, &mut workers[i % count].pages[i / count])
+        self.lend(number, &mut workers[i % count].pages[i / count]);
     }
 
     // Takes a page back from the worker that has the page at this place of the round.
@@ -242,20 +234,22 @@ impl PageWriter {
         copied: bool,
         workers: &mut [Worker],
         i: usize,
-    ) -> Result<(), Fault>
+    )
+        requires held { Holds self.old.pool number }
+        requires entry { length self.old.table < 1024 }
         requires some { 0 < length workers.old }
         requires room { (w : Worker) → i / length workers.old < vec_len (get_or workers.old (i % length workers.old) w).pages }
-        ensures back { (was : Held) (w : Worker) (d : RoundPage) → held_of self.old.pool number ≡ Some was → OnOk result (IsBack was (page_in workers.old i w d) self.new.pool number) }
+        ensures back { (was : Held) (w : Worker) (d : RoundPage) → held_of self.old.pool number ≡ Some was → IsBack was (page_in workers.old i w d) self.new.pool number }
         ensures kept { (j : ℕ) (w : Worker) (d : RoundPage) → j ≢ i → page_in workers.new j w d ≡ page_in workers.old j w d }
         ensures room { SameRoom workers.old workers.new }
-        ensures others { OnOk result ((q : ℕ) → q ≢ number → held_of self.new.pool q ≡ held_of self.old.pool q) }
-        ensures entry { OnOk result ((w : Worker) (d : RoundPage) → entry_in self.new.table number ≡ entry_after (page_in workers.old i w d).changed copied point (entry_in self.old.table number)) }
-        ensures other_entries { OnOk result ((q : ℕ) → q ≢ number → entry_in self.new.table q ≡ entry_in self.old.table q) }
+        ensures others { (q : ℕ) → q ≢ number → held_of self.new.pool q ≡ held_of self.old.pool q }
+        ensures entry { (w : Worker) (d : RoundPage) → entry_in self.new.table number ≡ entry_after (page_in workers.old i w d).changed copied point (entry_in self.old.table number) }
+        ensures other_entries { (q : ℕ) → q ≢ number → entry_in self.new.table q ≡ entry_in self.old.table q }
+        ensures most { length self.new.table ≤ length self.old.table + 1 }
         ensures frames { self.new.pool.frames ≡ self.old.pool.frames }
         ensures log { self.new.log ≡ self.old.log }
         ensures known { self.new.known ≡ self.old.known }
         ensures failed { self.new.failed ≡ self.old.failed }
-        ensures refused { IfErr result (λ e. e ≡ Memory) }
     {
         let count = workers.len();
         self.take_back(
@@ -263,27 +257,26 @@ impl PageWriter {
             number,
             copied,
             &mut workers[i % count].pages[i / count],
-        )
+        );
     }
 
     // Lends held pages to the workers of the round, each in exchange for a spare one.
-    fn lend_all(&mut self, numbers: &[PageNo], workers: &mut [Worker]) -> Result<(), Fault>
+    fn lend_all(&mut self, numbers: &[PageNo], workers: &mut [Worker])
+        requires held { AreHeld numbers.now self.old.pool }
         requires some { 0 < length workers.old }
         requires room { HaveRoom (length numbers.now) workers.old }
         requires rising { AreRising numbers.now }
-        ensures lends { OnOk result ((w : Worker) (d : RoundPage) → LendsAll numbers.now (length numbers.now) (λ i. page_in workers.new i w d) self.old.pool self.new.pool) }
+        ensures lends { (w : Worker) (d : RoundPage) → LendsAll numbers.now (length numbers.now) (λ i. page_in workers.new i w d) self.old.pool self.new.pool }
         ensures room { SameRoom workers.old workers.new }
         ensures frames { self.new.pool.frames ≡ self.old.pool.frames }
         ensures log { self.new.log ≡ self.old.log }
         ensures table { self.new.table ≡ self.old.table }
         ensures known { self.new.known ≡ self.old.known }
         ensures failed { self.new.failed ≡ self.old.failed }
-        ensures refused { IfErr result (λ e. e ≡ Memory) }
     {
         for i in 0..numbers.len() {
-            self.lend_to(numbers[i], workers, i)?;
+            self.lend_to(numbers[i], workers, i);
         }
-        Ok(())
     }
 
     // Takes lent pages back.
@@ -293,23 +286,36 @@ impl PageWriter {
         copies: &BTreeMap<PageNo, Lsn>,
         numbers: &[PageNo],
         workers: &mut [Worker],
-    ) -> Result<(), Fault>
+    )
+        requires held { AreHeld numbers.now self.old.pool }
+        requires entries { length self.old.table + length numbers.now ≤ 1024 }
         requires some { 0 < length workers.old }
         requires room { HaveRoom (length numbers.now) workers.old }
         requires rising { AreRising numbers.now }
-        ensures takes { OnOk result ((w : Worker) (d : RoundPage) → TakesBack numbers.now (length numbers.now) point (λ q. is_some (get nat_cmp copies.now q)) (λ i. page_in workers.old i w d) self.old.pool self.new.pool self.old.table self.new.table) }
+        ensures takes { (w : Worker) (d : RoundPage) → TakesBack numbers.now (length numbers.now) point (λ q. is_some (get nat_cmp copies.now q)) (λ i. page_in workers.old i w d) self.old.pool self.new.pool self.old.table self.new.table }
         ensures room { SameRoom workers.old workers.new }
         ensures frames { self.new.pool.frames ≡ self.old.pool.frames }
         ensures log { self.new.log ≡ self.old.log }
         ensures known { self.new.known ≡ self.old.known }
         ensures failed { self.new.failed ≡ self.old.failed }
-        ensures refused { IfErr result (λ e. e ≡ Memory) }
     {
         for i in 0..numbers.len() {
             let copied = is_noted(copies, numbers[i]);
-            self.take_from(point, numbers[i], copied, workers, i)?;
+            self.take_from(point, numbers[i], copied, workers, i);
         }
-        Ok(())
+    }
+
+    // Whether each of these pages is held, and the dirty table has room for an entry of each.
+    fn holds_all(&self, numbers: &[PageNo]) -> bool
+        ensures held { result ≡ true → AreHeld numbers.now self.now.pool }
+        ensures entries { result ≡ true → length self.now.table + length numbers.now ≤ 1024 }
+    {
+        for i in 0..numbers.len() {
+            if !self.pool.holds(numbers[i]) {
+                return false;
+            }
+        }
+        self.has_entries_room(numbers.len())
     }
 
     // Redoes the records of a round, whose pages are all held. No call of the disk comes between the loan of the pages and their return.
@@ -328,20 +334,22 @@ impl PageWriter {
         requires some { 0 < length workers.old }
         requires room { HaveRoom (length numbers.now) workers.old }
         requires rising { AreRising numbers.now }
+        requires held { AreHeld numbers.now self.old.pool }
+        requires entries { length self.old.table + length numbers.now ≤ 1024 }
         ensures here { (rs : List Logged) → StandIn from span.now lsns.now rs → OnOk result (RoundHere numbers.now point (λ q. is_some (get nat_cmp copies.now q)) rs self.old self.new) }
         ensures count { (rs : List Logged) (g : ℕ → Page) → StandIn from span.now lsns.now rs → AreShown numbers.now self.old.pool g → IfOk result (λ n. n ≡ applied_of_all rs g) }
-        ensures taken { (rs : List Logged) (g : ℕ → Page) → StandIn from span.now lsns.now rs → AreShown numbers.now self.old.pool g → AllTaken rs g → IfErr result (λ e. e ≢ NotAStore) }
+        ensures taken { (rs : List Logged) (g : ℕ → Page) → StandIn from span.now lsns.now rs → AreShown numbers.now self.old.pool g → AreAmong numbers.now rs → AllTaken rs g → IfErr result (λ e. ⊥) }
         ensures few { IfOk result (λ n. n ≤ length lsns.now) }
         ensures room { SameRoom workers.old workers.new }
         ensures frames { self.new.pool.frames ≡ self.old.pool.frames }
         ensures log { self.new.log ≡ self.old.log }
         ensures known { self.new.known ≡ self.old.known }
         ensures failed { self.new.failed ≡ self.old.failed }
-        ensures causes { IfErr result (λ e. (e ≡ Memory) ⊎ (e ≡ NotAStore)) }
+        ensures refused { IfErr result (λ e. e ≡ NotAStore) }
     {
-        self.lend_all(numbers, workers)?;
+        self.lend_all(numbers, workers);
         let applied = redo_records(rt, at_start, numbers, workers, lsns, from, span);
-        self.take_all_back(point, copies, numbers, workers)?;
+        self.take_all_back(point, copies, numbers, workers);
         applied
     }
 
@@ -349,10 +357,11 @@ impl PageWriter {
     /// `from`. `numbers` are those of their pages, in rising order, no more than there are frames. Room is made for their entries first,
     /// then each page is got; then they are lent to the workers, who have a spare page for each, changed by the records, and taken back:
     /// page i of the round is worker i's, mod how many workers there are. Each calls `turn` with its number before its first record. It
-    /// answers how many records were applied, which is the same for any number of workers, as are the pages.
+    /// answers how many records were applied, which is the same for any number of workers, as are the pages; or none, where the pages can't
+    /// all be held at once with room for their entries: then no record was, and each can be redone alone.
     ///
-    /// Refused `NotAStore` where a page does not take a record, and `Memory` also where a page is not held or has no room for its entry, which
-    /// no sound file brings about; otherwise as `get` is.
+    /// Refused `NotAStore` where a page does not take a record, or one is of another page; otherwise as `get` is. Nothing grows, so it is
+    /// never refused for want of memory.
     pub fn redo_round<D: Disk, R: Threads + Sync, T: WorkerStart + Sync>(
         &mut self,
         rt: &R,
@@ -365,22 +374,27 @@ impl PageWriter {
         lsns: &[Lsn],
         from: Lsn,
         span: &[u8],
-    ) -> Result<u64, Fault>
+    ) -> Result<Option<u64>, Fault>
         requires some { 0 < length workers.old }
         requires room { HaveRoom (length numbers.now) workers.old }
         requires rising { AreRising numbers.now }
         requires ready { IsReadyWriter D.Disk self.old disk.old }
-        ensures outcome { Redoes D.Disk mild self.old self.new disk.new (fault_of result) }
+        ensures outcome { Redoes D.Disk no_page self.old self.new disk.new (fault_of result) }
         ensures kept { (b : Base) (base : ℕ) (s : Writer) (newer front : History) (rs : List Logged) → StandsAs D.Disk b base s self.old disk.old → s.redo_end ≡ None → s.point ≡ point
             → newer ++ onto rs front ≡ s.durable → AreFrom point rs → HaveHad b front s.pages → StandIn from span.now lsns.now (changing rs)
-            → ((p : ℕ) → is_some (get nat_cmp copies.now p) ≡ true → HasCopy s.durable p s.point) → RoundKept D.Disk b base s rs disk.old self.new disk.new result }
-        ensures few { IfOk result (λ n. n ≤ length lsns.now) }
+            → ((p : ℕ) → is_some (get nat_cmp copies.now p) ≡ true → HasCopy s.durable p s.point) → RoundKept D.Disk b base numbers.now s rs disk.old self.new disk.new result }
+        ensures none { (b : Base) (base : ℕ) (s : Writer) → StandsAs D.Disk b base s self.old disk.old → AreLoaded s → result ≡ Ok None → RoundFrom D.Disk b base s [] disk.old self.new disk.new }
+        ensures few { IfOk result (λ redone. IfSome redone (λ n. n ≤ length lsns.now)) }
         ensures room { SameRoom workers.old workers.new }
     {
         self.make_entries_room(disk, numbers.len())?;
         self.get_all(disk, numbers)?;
-        self.redo_lent(
+        if !self.holds_all(numbers) {
+            return Ok(None);
+        }
+        let applied = self.redo_lent(
             rt, at_start, point, copies, numbers, workers, lsns, from, span,
-        )
+        )?;
+        Ok(Some(applied))
     }
 }

@@ -6,7 +6,7 @@ use Rattle.im_log.specs.Spelled.{logged_at}
 use Rattle.im_page_rounds.specs.Hand.{is_applied}
 use Rattle.im_theory_log.specs.Copies.{redo_all}
 use Rattle.std.specs.Prelude.{◌||◌}
-use Rattle.im_page_rounds.proofs.HandPages.{Went, err_on, there, took, went_end, went_on}
+use Rattle.im_page_rounds.proofs.HandPages.{Went, amid, err_on, there, took, went_end, went_on}
 use Rattle.im_page_rounds.proofs.hand.redo_own.Goals as goal
 
 few_more : (count index : ℕ) (done : Bool) (n : ℕ) → n ≡ count + (if done then 1 else 0) → count ≤ index → n ≤ index + 1
@@ -31,7 +31,7 @@ loop-lsn-preserved c =
     }
 
 pub returns-in_err-record-clause-taken : goal.returns-in_err-record-clause-taken
-returns-in_err-record-clause-taken c rs g changed stand these all =
+returns-in_err-record-clause-taken c rs g changed stand these among all =
     let l = c.loop-lsn in
     let lsns = c.args.lsns.now in
     let left = drop (l.lsn-index + 1) lsns in
@@ -40,7 +40,7 @@ returns-in_err-record-clause-taken c rs g changed stand these all =
     absurd (there c.args.workers c.args.worker c.args.from c.args.span.now c.args.numbers.now rs g changed lsn left l.count l.pages w c.in_err-record.ensures.some)
 
 pub returns-in_err-applied-clause-taken : goal.returns-in_err-applied-clause-taken
-returns-in_err-applied-clause-taken c rs g changed stand these all =
+returns-in_err-applied-clause-taken c rs g changed stand these among all =
     let l = c.loop-lsn in
     let lsns = c.args.lsns.now in
     let left = drop (l.lsn-index + 1) lsns in
@@ -48,6 +48,7 @@ returns-in_err-applied-clause-taken c rs g changed stand these all =
     let w = subst (λ (x : List ℕ). Went c.args.workers c.args.worker c.args.from c.args.span.now c.args.numbers.now x rs g changed l.count l.pages) (drop_more lsns l.lsn-index 0 c.loop-lsn-test.true) (l.invariant.went rs g changed stand these) in
     err_on c.from_residual-in_err-applied.result c.in_err-applied.field-0.0 _ c.from_residual-in_err-applied.ensures.1
     (c.in_err-applied.ensures.taken (λ q. redo_all w.done q (g q)) (λ q. changed q || is_applied w.done q (g q)) w.redone.pages
+    (amid c.args.workers c.args.worker c.args.from c.args.span.now c.args.numbers.now rs g changed lsn left l.count l.pages w (logged_at lsn (view c.in_ok-record.record)) c.in_ok-record.ensures.found among)
     (took c.args.workers c.args.worker c.args.from c.args.span.now c.args.numbers.now rs g changed lsn left l.count l.pages w (logged_at lsn (view c.in_ok-record.record)) c.in_ok-record.ensures.found all))
 
 pub returns-clause-redone : goal.returns-clause-redone

@@ -13,10 +13,10 @@ returns-clause-redone g c rs pages changed stand these =
     (λ k w lt. all.redone k w rs pages changed lt stand (dealt_of numbers old pages changed these k w)) c.count_of.result c.count_of.ensures.all c.count_of.ensures.count
 
 pub returns-clause-taken : goal.returns-clause-taken
-returns-clause-taken g c rs pages changed stand these takes =
+returns-clause-taken g c rs pages changed stand these among takes =
     let old = c.args.workers.now in
     let all = c.work_all.ensures in
-    c.count_of.ensures.taken (λ k w lt. all.taken k w rs pages changed (subst (λ (n : ℕ). k < n) all.room.count lt) stand (dealt_of c.args.numbers.now old pages changed these k w) takes)
+    c.count_of.ensures.taken (λ k w lt. all.taken k w rs pages changed (subst (λ (n : ℕ). k < n) all.room.count lt) stand (dealt_of c.args.numbers.now old pages changed these k w) among takes)
 
 pub returns-clause-few : goal.returns-clause-few
 returns-clause-few g c =

@@ -1,7 +1,7 @@
 use Rattle.std.proofs.Common.{ap, sym, ◌∙◌}
 use Rattle.im_theory_log.specs.WriterSteps.{opened}
 use Rattle.im_restart_analysis.specs.CopyLsns.{copy_lsn}
-use Rattle.im_page_writer.specs.Outcome.{mild}
+use Rattle.im_page_writer.specs.Outcome.{no_page}
 use Rattle.im_page_writer.proofs.Outcomes.{sound_also, sound_on}
 use Rattle.im_page_writer.proofs.Writers.{goes_on_start}
 use Rattle.im_restart_redo.specs.Changes.{lsns_of}
@@ -16,7 +16,7 @@ use Rattle.im_restart_redo.proofs.alone.redo_alone.Goals as goal
 
 pub returns-in_err-load_all-clause-outcome : goal.returns-in_err-load_all-clause-outcome
 returns-in_err-load_all-clause-outcome g c =
-    recovery_refused g.D.Disk c.from_residual.result c.from_residual.ensures.1 (recovers_then g.D.Disk {m = mild} (unmoved g.D.Disk c.args.writer.now c.args.disk.now (sym c.has_failed.ensures ∙ c.if-has_failed.false) c.requires.ready) c.in_err-load_all.ensures.outcome)
+    recovery_refused g.D.Disk c.from_residual.result c.from_residual.ensures.1 (recovers_then g.D.Disk {m = no_page} (unmoved g.D.Disk c.args.writer.now c.args.disk.now (sym c.has_failed.ensures ∙ c.if-has_failed.false) c.requires.ready) c.in_err-load_all.ensures.outcome)
 
 pub returns-in_err-load_all-clause-kept : goal.returns-in_err-load_all-clause-kept
 returns-in_err-load_all-clause-kept g c b base begun file is can at copies changes =
@@ -27,7 +27,7 @@ returns-in_err-load_all-clause-kept g c b base begun file is can at copies chang
     record { sound = sound_on c.from_residual.result _ _ c.from_residual.ensures.1 one.sound; stops = one.stops }
 
 pub returns-clause-outcome : goal.returns-clause-outcome
-returns-clause-outcome g c = recovers_then g.D.Disk {m = mild} (unmoved g.D.Disk c.args.writer.now c.args.disk.now (sym c.has_failed.ensures ∙ c.if-has_failed.false) c.requires.ready) (recovers_then g.D.Disk c.in_ok-load_all.ensures.outcome c.redo_each.ensures.outcome)
+returns-clause-outcome g c = recovers_then g.D.Disk {m = no_page} (unmoved g.D.Disk c.args.writer.now c.args.disk.now (sym c.has_failed.ensures ∙ c.if-has_failed.false) c.requires.ready) (recovers_then g.D.Disk c.in_ok-load_all.ensures.outcome c.redo_each.ensures.outcome)
 
 pub returns-clause-kept : goal.returns-clause-kept
 returns-clause-kept g c b base begun file is can at copies changes =

@@ -2,7 +2,7 @@ use Rattle.std.proofs.Common.{◌≡◌, ◌≤◌, ℕ, drop, length, Option, N
 use Rattle.im_base_types.specs.Pages.{Page}
 use Rattle.im_theory_log.specs.Histories.{Base, History}
 use Rattle.im_theory_log.specs.RedoPoints.{redo_point}
-use Rattle.im_page_writer.specs.Outcome.{mild}
+use Rattle.im_page_writer.specs.Outcome.{no_page}
 use Rattle.im_restart_analysis.specs.CopyLsns.{AreCopies}
 use Rattle.im_restart_redo.specs.Recovery.{Recovers}
 use Rattle.im_restart_redo.specs.Redo.{AreApplicable}
@@ -13,7 +13,7 @@ use Rattle.im_restart_redo.proofs.alone.redo_each.Given as goal
 
 abbrev pub invariant-loop-change : goal.invariant-loop-change
 invariant-loop-change g l = record {
-  outcome : Recovers g.D.Disk mild l.fn.writer l.writer l.disk None;
+  outcome : Recovers g.D.Disk no_page l.fn.writer l.writer l.disk None;
   few : l.count ≤ l.change-index;
   room : length l.room ≡ length l.fn.room;
   used : l.window.used ≤ length l.room;

@@ -2,10 +2,10 @@ use Rattle.std.proofs.Common.{◌≡◌, ap, refl, sym, ◌∙◌}
 use Rattle.im_log_record.specs.Entry.{view}
 use Rattle.im_base_types.specs.declared.fault.Fault.TheVariants.{Device, NotAStore}
 use Rattle.im_restart_redo.proofs.Loading.{asks_load, holds_copy, in_log, loads}
-use Rattle.im_page_writer.specs.Outcome.{mild}
+use Rattle.im_page_writer.specs.Outcome.{no_page}
 use Rattle.im_page_writer.proofs.LoggedChanges.{err_on}
 use Rattle.im_page_writer.proofs.Outcomes.{sound_on}
-use Rattle.im_restart_redo.proofs.Recoveries.{moved, read_refused, redone, recovers_then, recovery_own, recovery_refused}
+use Rattle.im_restart_redo.proofs.Recoveries.{moved, read_none, redone, recovers_then, recovery_own, recovery_refused}
 use Rattle.im_restart_redo.proofs.Within.{leaves_read, read_is, read_some, within_read}
 use Rattle.im_restart_redo.proofs.copies.load_one.Goals as goal
 
@@ -13,7 +13,7 @@ pub returns-in_err-size-clause-outcome : goal.returns-in_err-size-clause-outcome
 returns-in_err-size-clause-outcome g c =
     let e = c.in_err-size.ensures in
     recovery_refused g.D.Disk c.from_residual.result c.from_residual.ensures.1
-    (read_refused g.D.Disk c.args.writer.now c.read_at.new.self c.read_at.new.disk c.requires.working e.ready e.frames _ c.in_err-size.field-0.0 refl e.failed e.causes e.already e.device)
+    (read_none g.D.Disk c.args.writer.now c.read_at.new.self c.read_at.new.disk c.requires.working e.ready e.frames refl _ c.in_err-size.field-0.0 refl e.failed e.causes e.already e.device)
 
 pub returns-in_err-size-clause-kept : goal.returns-in_err-size-clause-kept
 returns-in_err-size-clause-kept g c b base begun file from p left so at =
@@ -30,8 +30,8 @@ pub returns-in_err-record-clause-outcome : goal.returns-in_err-record-clause-out
 returns-in_err-record-clause-outcome g c =
     let e = c.in_ok-size.ensures in
     let r = c.from_residual-in_err-record.result in
-    recovery_own g.D.Disk {m = mild} refl refl refl r (moved g.D.Disk c.args.writer.now c.read_at.new.self c.read_at.new.disk c.requires.working e.ready e.frames e.works)
-    (err_on r c.in_err-record.field-0.0 _ c.from_residual-in_err-record.ensures.1 (ap mild c.in_err-record.ensures.entry.0))
+    recovery_own g.D.Disk {m = no_page} refl refl refl r (moved g.D.Disk c.args.writer.now c.read_at.new.self c.read_at.new.disk c.requires.working e.ready e.frames e.works)
+    (err_on r c.in_err-record.field-0.0 _ c.from_residual-in_err-record.ensures.1 (ap no_page c.in_err-record.ensures.entry.0))
 
 pub returns-in_err-record-clause-kept : goal.returns-in_err-record-clause-kept
 returns-in_err-record-clause-kept g c b base begun file from p left so at =
@@ -49,7 +49,7 @@ pub returns-clause-outcome : goal.returns-clause-outcome
 returns-clause-outcome g c =
     let d = g.D.Disk in
     let e = c.in_ok-size.ensures in
-    recovers_then d {m = mild} (moved d c.args.writer.now c.read_at.new.self c.read_at.new.disk c.requires.working e.ready e.frames e.works)
+    recovers_then d {m = no_page} (moved d c.args.writer.now c.read_at.new.self c.read_at.new.disk c.requires.working e.ready e.frames e.works)
     (redone d c.load_copy.ensures.outcome)
 
 pub returns-clause-kept : goal.returns-clause-kept

@@ -5,7 +5,7 @@ use Rattle.im_restart_analysis.specs.declared.changes.Change.{Change}
 use Rattle.im_page_writer.proofs.Outcomes.{sound_on}
 use Rattle.im_restart_redo.specs.Applying.{IsApplying}
 use Rattle.im_restart_redo.specs.Changes.{lsns_of}
-use Rattle.im_restart_redo.proofs.ChangeLsns.{sliced, sliced_lsns, sliced_more}
+use Rattle.im_restart_redo.proofs.ChangeLsns.{own_sliced, sliced, sliced_lsns, sliced_more}
 use Rattle.im_restart_redo.proofs.Recoveries.{moved, recovers_then, recovery_refused}
 use Rattle.im_restart_redo.proofs.Within.{leaves_now}
 use Rattle.im_restart_redo.proofs.records.redo_all.Goals as goal
@@ -19,7 +19,7 @@ loop-round-init g c = record {
   frames = c.requires.frames;
   room = refl;
   used = omega (arith, c.empty-window.ensures.none);
-  kept = λ b base begun file from is can at are. (is, c.empty-window.ensures.shows begun c.args.room.now);
+  kept = λ b base begun file from is own can at are. (is, c.empty-window.ensures.shows begun c.args.room.now);
 }
 
 pub loop-round-preserved : goal.loop-round-preserved
@@ -36,12 +36,13 @@ loop-round-preserved g c =
       frames = omega (arith, l.invariant.frames, p.most, p.outcome.frames);
       room = search rules;
       used = p.used;
-      kept = λ b base begun file from is can at are.
-          let held = l.invariant.kept b base begun file from is can at are in
+      kept = λ b base begun file from is own can at are.
+          let held = l.invariant.kept b base begun file from is own can at are in
           let so = subst (λ (left : List ℕ). IsApplying g.D.Disk b base begun file left l.count from l.writer l.disk) (sym (sliced_lsns all l.done)) held.0 in
-          let one = p.kept b base begun file from l.count so held.1 can at are in (
+          let own' = own_sliced begun all l.done own in
+          let one = p.kept b base begun file from l.count so own' held.1 can at are in (
             subst (λ (left : List ℕ). IsApplying g.D.Disk b base begun file left (l.count + c.in_ok-passed.passed.applied) from c.redo_some.new.writer c.redo_some.new.disk) (sliced_more all l.done c.in_ok-passed.passed.changes) one.sound,
-            p.shows b base begun file from l.count so held.1,
+            p.shows b base begun file from l.count so own' held.1 can at are,
           );
     }
 
@@ -49,21 +50,21 @@ pub returns-in_err-passed-clause-outcome : goal.returns-in_err-passed-clause-out
 returns-in_err-passed-clause-outcome g c = recovery_refused g.D.Disk c.from_residual.result c.from_residual.ensures.1 (recovers_then g.D.Disk c.loop-round.invariant.outcome c.in_err-passed.ensures.outcome)
 
 pub returns-in_err-passed-clause-kept : goal.returns-in_err-passed-clause-kept
-returns-in_err-passed-clause-kept g c b base begun file from is can at are =
+returns-in_err-passed-clause-kept g c b base begun file from is own can at are =
     let l = c.loop-round in
     let all = c.args.changes.now in
-    let held = l.invariant.kept b base begun file from is can at are in
+    let held = l.invariant.kept b base begun file from is own can at are in
     let so = subst (λ (left : List ℕ). IsApplying g.D.Disk b base begun file left l.count from l.writer l.disk) (sym (sliced_lsns all l.done)) held.0 in
-    let one = c.in_err-passed.ensures.kept b base begun file from l.count so held.1 can at are in
+    let one = c.in_err-passed.ensures.kept b base begun file from l.count so (own_sliced begun all l.done own) held.1 can at are in
     record { sound = sound_on c.from_residual.result _ _ c.from_residual.ensures.1 one.sound; stops = one.stops }
 
 pub returns-after-loop-round-clause-outcome : goal.returns-after-loop-round-clause-outcome
 returns-after-loop-round-clause-outcome g c = c.loop-round.invariant.outcome
 
 pub returns-after-loop-round-clause-kept : goal.returns-after-loop-round-clause-kept
-returns-after-loop-round-clause-kept g c b base begun file from is can at are =
+returns-after-loop-round-clause-kept g c b base begun file from is own can at are =
     let l = c.loop-round in
-    let held = l.invariant.kept b base begun file from is can at are in
+    let held = l.invariant.kept b base begun file from is own can at are in
     let past : length (lsns_of c.args.changes.now) ≤ l.done = omega (arith, length-map c.args.changes.now (λ (x : Change). x.lsn), c.loop-round-test.false, l.invariant.on) in
     let so = subst (λ (left : List ℕ). IsApplying g.D.Disk b base begun file left l.count from l.writer l.disk) (drop_of_length-le (lsns_of c.args.changes.now) past) held.0 in
     record { sound = so; stops = leaves_now g.D.Disk b base begun from so.passed.now l.writer l.disk so.passed.within }
@@ -72,9 +73,9 @@ pub returns-then-done-changes-clause-outcome : goal.returns-then-done-changes-cl
 returns-then-done-changes-clause-outcome g c = c.loop-round.invariant.outcome
 
 pub returns-then-done-changes-clause-kept : goal.returns-then-done-changes-clause-kept
-returns-then-done-changes-clause-kept g c b base begun file from is can at are =
+returns-then-done-changes-clause-kept g c b base begun file from is own can at are =
     let l = c.loop-round in
-    let held = l.invariant.kept b base begun file from is can at are in
+    let held = l.invariant.kept b base begun file from is own can at are in
     let past : length (lsns_of c.args.changes.now) ≤ l.done = omega (arith, length-map c.args.changes.now (λ (x : Change). x.lsn), c.if-done-changes.true) in
     let so = subst (λ (left : List ℕ). IsApplying g.D.Disk b base begun file left l.count from l.writer l.disk) (drop_of_length-le (lsns_of c.args.changes.now) past) held.0 in
     record { sound = so; stops = leaves_now g.D.Disk b base begun from so.passed.now l.writer l.disk so.passed.within }

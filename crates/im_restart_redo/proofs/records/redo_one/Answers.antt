@@ -7,7 +7,7 @@ use Rattle.im_log_record.specs.Entry.{view, page_of}
 use Rattle.im_log.specs.Spelled.{logged_at}
 use Rattle.im_base_types.specs.declared.fault.Fault.TheVariants.{Device, NotAStore}
 use Rattle.im_restart_redo.proofs.Applying.{applied, begun_in_log, next_durable, next_in_begun, next_is, next_record, next_taken, noted_still}
-use Rattle.im_page_writer.specs.Outcome.{mild}
+use Rattle.im_page_writer.specs.Outcome.{no_page}
 use Rattle.im_page_writer.proofs.LoggedChanges.{err_on}
 use Rattle.im_page_writer.proofs.Outcomes.{sound_on}
 use Rattle.im_restart_redo.proofs.Recoveries.{redone, recovers_then, recovery_own, recovery_refused}
@@ -33,8 +33,8 @@ returns-in_err-place-clause-kept g c b base begun file from left count so shows 
 pub returns-in_err-record-clause-outcome : goal.returns-in_err-record-clause-outcome
 returns-in_err-record-clause-outcome g c =
     let r = c.from_residual-in_err-record.result in
-    recovery_own g.D.Disk {m = mild} refl refl refl r c.in_ok-place.ensures.outcome
-    (err_on r c.in_err-record.field-0.0 _ c.from_residual-in_err-record.ensures.1 (ap mild c.in_err-record.ensures.entry.0))
+    recovery_own g.D.Disk {m = no_page} refl refl refl r c.in_ok-place.ensures.outcome
+    (err_on r c.in_err-record.field-0.0 _ c.from_residual-in_err-record.ensures.1 (ap no_page c.in_err-record.ensures.entry.0))
 
 pub returns-in_err-record-clause-kept : goal.returns-in_err-record-clause-kept
 returns-in_err-record-clause-kept g c b base begun file from left count so shows can at are =
@@ -54,7 +54,7 @@ pub returns-in_err-applied-clause-outcome : goal.returns-in_err-applied-clause-o
 returns-in_err-applied-clause-outcome g c =
     let d = g.D.Disk in
     recovery_refused d c.from_residual-in_err-applied.result c.from_residual-in_err-applied.ensures.1
-    (recovers_then d {m = mild} c.in_ok-place.ensures.outcome (redone d c.in_err-applied.ensures.outcome))
+    (recovers_then d {m = no_page} c.in_ok-place.ensures.outcome (redone d c.in_err-applied.ensures.outcome))
 
 pub returns-in_err-applied-clause-kept : goal.returns-in_err-applied-clause-kept
 returns-in_err-applied-clause-kept g c b base begun file from left count so shows can at are =
@@ -79,7 +79,7 @@ returns-in_err-applied-clause-kept g c b base begun file from left count so show
     }
 
 pub returns-clause-outcome : goal.returns-clause-outcome
-returns-clause-outcome g c = recovers_then g.D.Disk {m = mild} c.in_ok-place.ensures.outcome (redone g.D.Disk c.in_ok-applied.ensures.outcome)
+returns-clause-outcome g c = recovers_then g.D.Disk {m = no_page} c.in_ok-place.ensures.outcome (redone g.D.Disk c.in_ok-applied.ensures.outcome)
 
 pub returns-clause-kept : goal.returns-clause-kept
 returns-clause-kept g c b base begun file from left count so shows can at are =

@@ -1,5 +1,5 @@
 use Rattle.std.proofs.Common.{rules}
-use Rattle.im_page_writer.proofs.Loans.{found, lend_one, set_others}
+use Rattle.im_page_writer.proofs.Loans.{found, lend_one, not_lacking, set_others}
 use Rattle.im_page_writer.proofs.page_writer.PageWriter.lend.Goals as goal
 
 pub returns-in-Some-clause-lent : goal.returns-in-Some-clause-lent
@@ -12,3 +12,6 @@ pub returns-in-Some-clause-others : goal.returns-in-Some-clause-others
 returns-in-Some-clause-others c =
     let pool = c.args.self.now.pool in
     set_others pool c.exchange.new.self c.args.number c.in-Some.frame (found pool c.args.number c.in-Some.frame c.in-Some.ensures.found) _ _ c.exchange.ensures.here
+
+pub returns-in-None-clause-lent : goal.returns-in-None-clause-lent
+returns-in-None-clause-lent c = absurd (not_lacking c.args.self.now.pool c.args.number c.in-None.ensures.found c.requires.held)

@@ -1,8 +1,9 @@
 use Rattle.std.proofs.Common.{◌≡◌, ◌∙◌, ℕ, length, arith, refl, rules, subst}
+use Rattle.im_page_rounds.specs.declared.worker.Worker.{Worker}
 use Rattle.im_page_rounds.specs.Workers.{page_in}
-use Rattle.im_page_rounds.proofs.Places.{room_still, room_then}
+use Rattle.im_page_rounds.proofs.Places.{item_at, page_of, room_still, room_then}
 use Rattle.im_page_writer.specs.Rounds.{LendsAll}
-use Rattle.im_page_writer.proofs.Loans.{lends_more, lends_none}
+use Rattle.im_page_writer.proofs.Loans.{lends_more, lends_next, lends_none}
 use Rattle.im_page_writer.proofs.page_writer.PageWriter.lend_all.Goals as goal
 
 pub loop-i-init : goal.loop-i-init
@@ -16,10 +17,16 @@ loop-i-init c = record {
   failed = refl;
 }
 
+pub lend_to-requires-clause-held : goal.lend_to-requires-clause-held
+lend_to-requires-clause-held c =
+    let l = c.loop-i in
+    let w : Worker = item_at c.args.workers.now 0 c.requires.some in
+    lends_next c.args.numbers.now l.i (λ k. page_in l.workers k w (page_of w)) c.args.self.now.pool l.self.pool c.requires.rising c.loop-i-test.true c.requires.held (l.invariant.lends w (page_of w))
+
 pub loop-i-preserved : goal.loop-i-preserved
 loop-i-preserved c =
     let l = c.loop-i in
-    let e = c.in_ok-lend_to.ensures in
+    let e = c.lend_to.ensures in
     record {
       lends = λ w d.
           lends_more c.args.numbers.now l.i (λ k. page_in l.workers k w d) (λ k. page_in c.lend_to.new.workers k w d) c.args.self.now.pool l.self.pool c.lend_to.new.self.pool c.requires.rising (search rules) (l.invariant.lends w d) (e.lent w d)

@@ -9,7 +9,7 @@ use Rattle.im_page_table.proofs.Growing.{on_ok}
 use Rattle.im_page_writer.proofs.Goings.{leaves_so_far}
 use Rattle.im_page_writer.proofs.LoggedChanges.{err_on}
 use Rattle.im_page_writer.proofs.Outcomes.{flush_sound, leaves_of_end, none_mildly, redo_of, redo_own, redo_refused}
-use Rattle.im_page_writer.proofs.Redoing.{copy_loaded, load_taken, not_no_store}
+use Rattle.im_page_writer.proofs.Redoing.{copy_loaded, has_rooms, load_taken, not_no_store}
 use Rattle.im_page_writer.proofs.page_writer.PageWriter.load_copy.Goals as goal
 
 pub returns-in_err-make_rooms-clause-outcome : goal.returns-in_err-make_rooms-clause-outcome
@@ -49,5 +49,5 @@ returns-clause-kept g c b base s copy is over at holds waits found low =
         };
       });
       stops = leaves_so_far g.D.Disk b base s c.args.disk.now t mid.log mid.table mid.pool disk room.on.goes;
-      cause = not_no_store c.put_copy.result _ (load_taken g.D.Disk b base t mid.log mid.table mid.pool disk room.on.goes.writing going p c.args.lsn c.page-number.result copy what holds waits_still c.page-number.ensures) c.put_copy.ensures.refused;
+      cause = not_no_store c.put_copy.result _ (has_rooms c.page-number.result mid.pool mid.table _ (c.in_ok-make_rooms.ensures.rooms b base s is) (load_taken g.D.Disk b base t mid.log mid.table mid.pool disk room.on.goes.writing going p c.args.lsn c.page-number.result copy what holds waits_still c.page-number.ensures)) c.put_copy.ensures.refused;
     }

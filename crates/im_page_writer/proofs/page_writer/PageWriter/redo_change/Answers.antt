@@ -6,14 +6,14 @@ use Rattle.im_page_table.specs.KnownCopies.{redone_as}
 use Rattle.im_page_writer.proofs.SyncedPages.{known_redone}
 use Rattle.im_page_writer.proofs.Goings.{leaves_so_far}
 use Rattle.im_page_table.proofs.Growing.{keeps_none}
-use Rattle.im_page_writer.specs.Outcome.{mild, AsksNothing}
+use Rattle.im_page_writer.specs.Outcome.{no_page, AsksNothing}
 use Rattle.im_page_writer.proofs.Outcomes.{idle_any, redo_of}
 use Rattle.im_page_writer.proofs.RedoneRecords.{applies_none, redone_none}
 use Rattle.im_page_writer.proofs.Writers.{goes_on_start}
 use Rattle.im_page_writer.proofs.page_writer.PageWriter.redo_change.Goals as goal
 
 pub returns-then-not-may_change-clause-outcome : goal.returns-then-not-may_change-clause-outcome
-returns-then-not-may_change-clause-outcome g c = redo_of g.D.Disk {n = mild} (λ e is. is) (idle_any g.D.Disk g.met.D.Disk.only_now {asks = AsksNothing} c.args.self.now c.args.disk.now (search rules) c.requires.ready)
+returns-then-not-may_change-clause-outcome g c = redo_of g.D.Disk {n = no_page} (λ e is. is) (idle_any g.D.Disk g.met.D.Disk.only_now {asks = AsksNothing} c.args.self.now c.args.disk.now (search rules) c.requires.ready)
 
 pub returns-then-not-may_change-clause-kept : goal.returns-then-not-may_change-clause-kept
 returns-then-not-may_change-clause-kept g c b base s newer older is over at there from ready has =

@@ -1,14 +1,15 @@
-use Rattle.std.proofs.Common.{◌≡◌, ◌<◌, ◌≤◌, ◌++◌, ℕ, false, sym, ◌∙◌, ap, subst, arith, rules, refl}
+use Rattle.std.proofs.Common.{◌≡◌, ◌<◌, ◌≤◌, ◌++◌, ℕ, false, true, sym, ◌∙◌, ap, subst, arith, rules, refl}
+use Rattle.std.specs.Prelude.{is_some}
 use Rattle.im_base_types.specs.Pages.{Page}
 use Rattle.im_theory_log.specs.WriterSteps.{applies}
 use Rattle.im_log_record.specs.Entry.{view, page_of}
 use Rattle.im_log.specs.Spelled.{logged_at}
-use Rattle.im_page_pool.specs.Pool.{page_at}
+use Rattle.im_page_pool.specs.Pool.{held_of, page_at}
 use Rattle.im_page_table.specs.KnownCopies.{redone_as}
 use Rattle.im_page_writer.proofs.SyncedPages.{known_redone}
 use Rattle.im_page_writer.proofs.Goings.{leaves_so_far}
 use Rattle.im_page_writer.specs.Outcome.{pages_of}
-use Rattle.im_page_writer.proofs.LoggedChanges.{err_on}
+use Rattle.im_page_writer.proofs.LoggedChanges.{at_held, err_on}
 use Rattle.im_page_writer.proofs.Outcomes.{no_page_for, leaves_of_end, pages_as, redo_of, redo_refused, redo_then}
 use Rattle.im_page_writer.proofs.RedoneRecords.{applied_already, copy_still, ready_still, redo_kept_then, redone_none, there_still}
 use Rattle.im_page_writer.proofs.page_writer.PageWriter.redo_on.Goals as goal
@@ -25,6 +26,12 @@ returns-in_err-frame-clause-kept g c b base s newer older is over at there from 
       stops = leaves_of_end g.D.Disk c.in_err-frame.ensures.outcome b base s is loaded;
       cause = λ takes. err_on c.from_residual.result c.in_err-frame.field-0.0 _ c.from_residual.ensures.1 (c.in_err-frame.ensures.kept (pages_of s) (pages_as g.D.Disk b base s c.args.self.now c.args.disk.now is loaded));
     }
+
+pub redo_with_room-requires-clause-held : goal.redo_with_room-requires-clause-held
+redo_with_room-requires-clause-held g c =
+    let mid = c.get.new.self in
+    let frame = c.in_ok-frame.frame in
+    subst (λ (n : ℕ). is_some (held_of mid.pool n) ≡ true) c.in_ok-frame.ensures.frame (at_held (held_of mid.pool frame.number) frame.place c.in_ok-frame.ensures.at)
 
 pub returns-then-lsn-clause-outcome : goal.returns-then-lsn-clause-outcome
 returns-then-lsn-clause-outcome g c = redo_of g.D.Disk (no_page_for _ refl) c.in_ok-frame.ensures.outcome

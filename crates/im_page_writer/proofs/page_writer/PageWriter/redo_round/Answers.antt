@@ -1,12 +1,12 @@
-use Rattle.std.proofs.Common.{◌≡◌, ◌<◌, ◌≤◌, ◌++◌, ℕ, Bool, None, true, refl, sym, ◌∙◌, ap, subst, rules}
+use Rattle.std.proofs.Common.{◌≡◌, ◌<◌, ◌≤◌, ◌++◌, ℕ, Bool, None, true, false, Result, Ok, Err, refl, sym, ◌∙◌, ap, subst, rules}
 use Rattle.std.specs.Prelude.{is_some}
 use Rattle.std.specs.BTreeMap.{get}
 use Rattle.std.specs.Ordering.{nat_cmp}
+use Rattle.im_base_types.specs.declared.fault.Fault.{Fault}
 use Rattle.im_log.specs.declared.log_file.LogFile.{LogFile}
 use Rattle.im_page_rounds.specs.Rounds.{AreFrom, changing, redone_all}
 use Rattle.im_page_rounds.proofs.Changes.{changes_alone}
 use Rattle.im_page_rounds.proofs.Rounds.{round_leaves}
-use Rattle.im_page_table.proofs.Growing.{if_ok, on_ok}
 use Rattle.im_page_writer.specs.Outcome.{no_page, pages_of}
 use Rattle.im_page_writer.specs.Rounds.{RoundHere}
 use Rattle.im_page_writer.specs.Synced.{IsKnown}
@@ -16,7 +16,7 @@ use Rattle.im_page_writer.proofs.Goings.{leaves_so_far, leaves_then}
 use Rattle.im_page_writer.proofs.LoggedChanges.{err_on}
 use Rattle.im_page_writer.proofs.Outcomes.{flush_asks, flush_sound, leaves_of_end, loaded_still, no_page_for, none_mildly, pages_as, redo_of, redo_own, redo_refused, redo_then, stands_on, then}
 use Rattle.im_page_writer.proofs.RedoneRecords.{copy_still}
-use Rattle.im_page_writer.proofs.RoundsDone.{had_still, own_causes, round_done, round_there, shown_still, taken_changing}
+use Rattle.im_page_writer.proofs.RoundsDone.{had_still, round_done, round_there, shown_still, taken_changing}
 use Rattle.im_page_writer.proofs.SyncedPages.{known_redone}
 use Rattle.im_page_writer.proofs.page_writer.PageWriter.redo_round.Goals as goal
 
@@ -28,7 +28,7 @@ returns-in_err-make_entries_room-clause-kept g c b base s newer front rs is over
   ok = search rules;
   applied = search rules;
   stops = leaves_of_end g.D.Disk c.in_err-make_entries_room.ensures.outcome b base s is tt;
-  cause = λ all. err_on c.from_residual.result c.in_err-make_entries_room.field-0.0 _ c.from_residual.ensures.1 (flush_sound g.D.Disk c.in_err-make_entries_room.ensures.outcome);
+  cause = λ among all. err_on c.from_residual.result c.in_err-make_entries_room.field-0.0 _ c.from_residual.ensures.1 (flush_sound g.D.Disk c.in_err-make_entries_room.ensures.outcome);
 }
 
 pub returns-in_err-get_all-clause-outcome : goal.returns-in_err-get_all-clause-outcome
@@ -49,13 +49,55 @@ returns-in_err-get_all-clause-kept g c b base s newer front rs is over at there 
       ok = search rules;
       applied = search rules;
       stops = leaves_then d b base s c.args.disk.now t mid.log mid.table mid.pool disk room.on.goes c.get_all.new.disk (leaves_of_end d c.in_err-get_all.ensures.outcome b base t here loaded);
-      cause = λ all. err_on c.from_residual-in_err-get_all.result c.in_err-get_all.field-0.0 _ c.from_residual-in_err-get_all.ensures.1 (c.in_err-get_all.ensures.kept (pages_of t) (pages_as d b base t mid disk here loaded));
+      cause = λ among all. err_on c.from_residual-in_err-get_all.result c.in_err-get_all.field-0.0 _ c.from_residual-in_err-get_all.ensures.1 (c.in_err-get_all.ensures.kept (pages_of t) (pages_as d b base t mid disk here loaded));
+    }
+
+pub returns-then-not-holds_all-clause-outcome : goal.returns-then-not-holds_all-clause-outcome
+returns-then-not-holds_all-clause-outcome g c = redo_of g.D.Disk (no_page_for _ refl) (then g.D.Disk {m = no_page} (flush_asks g.D.Disk c.in_ok-make_entries_room.ensures.outcome) c.in_ok-get_all.ensures.outcome)
+
+pub returns-then-not-holds_all-clause-kept : goal.returns-then-not-holds_all-clause-kept
+returns-then-not-holds_all-clause-kept g c b base s newer front rs is over at there from had stand has =
+    let d = g.D.Disk in
+    let both = then d {m = no_page} (flush_asks d c.in_ok-make_entries_room.ensures.outcome) c.in_ok-get_all.ensures.outcome in
+    let got = both.ends.goes b base s is (λ q. (had q).0) in
+    let mid = c.get_all.new.self in
+    record { ok = tt; applied = tt; stops = leaves_so_far d b base s c.args.disk.now got.now mid.log mid.table mid.pool c.get_all.new.disk got.on.goes; cause = λ among all. tt }
+
+pub returns-then-not-holds_all-clause-none : goal.returns-then-not-holds_all-clause-none
+returns-then-not-holds_all-clause-none g c b base s is loaded none =
+    let d = g.D.Disk in
+    let both = then d {m = no_page} (flush_asks d c.in_ok-make_entries_room.ensures.outcome) c.in_ok-get_all.ensures.outcome in
+    let got = both.ends.goes b base s is loaded in
+    record { before = got.now; keeps = got.on.goes.keeps; stops = got.on.goes.stops; known = λ q. false; stands = stands_on d b base s c.args.disk.now got.now c.get_all.new.self c.get_all.new.disk got.on }
+
+pub returns-in_err-applied-clause-outcome : goal.returns-in_err-applied-clause-outcome
+returns-in_err-applied-clause-outcome g c =
+    let both = then g.D.Disk {m = no_page} (flush_asks g.D.Disk c.in_ok-make_entries_room.ensures.outcome) c.in_ok-get_all.ensures.outcome in
+    let e = c.in_err-applied.ensures in
+    let refusal : Result ℕ Fault = Err c.in_err-applied.field-0.0 in
+    redo_refused g.D.Disk c.from_residual-in_err-applied.result c.from_residual-in_err-applied.ensures.1
+    (redo_own g.D.Disk (Unit {0}) refusal (search rules) both.ends.began (e.failed ∙ both.ends.works) both.ends.alive (e.refused, tt) (e.frames ∙ both.frames))
+
+pub returns-in_err-applied-clause-kept : goal.returns-in_err-applied-clause-kept
+returns-in_err-applied-clause-kept g c b base s newer front rs is over at there from had stand has =
+    let d = g.D.Disk in
+    let both = then d {m = no_page} (flush_asks d c.in_ok-make_entries_room.ensures.outcome) c.in_ok-get_all.ensures.outcome in
+    let got = both.ends.goes b base s is (λ q. (had q).0) in
+    let mid = c.get_all.new.self in
+    let shown = shown_still c.args.numbers.now mid.pool b s got.now got.on.goes.keeps got.on.goes.writing.pooled in
+    record {
+      ok = search rules;
+      applied = search rules;
+      stops = leaves_so_far d b base s c.args.disk.now got.now mid.log mid.table mid.pool c.get_all.new.disk got.on.goes;
+      cause = λ among all. absurd (c.in_err-applied.ensures.taken (changing rs) (λ q. (s.pages q).page) stand shown among (taken_changing rs (λ q. (s.pages q).page) all));
     }
 
 pub returns-clause-outcome : goal.returns-clause-outcome
 returns-clause-outcome g c =
     let both = then g.D.Disk {m = no_page} (flush_asks g.D.Disk c.in_ok-make_entries_room.ensures.outcome) c.in_ok-get_all.ensures.outcome in
-    redo_own g.D.Disk _ c.redo_lent.result (search rules) both.ends.began (c.redo_lent.ensures.failed ∙ both.ends.works) both.ends.alive (own_causes c.redo_lent.result c.redo_lent.ensures.causes) (c.redo_lent.ensures.frames ∙ both.frames)
+    let e = c.in_ok-applied.ensures in
+    let answer : Result ℕ Fault = Ok c.in_ok-applied.applied in
+    redo_own g.D.Disk (Unit {0}) answer (search rules) both.ends.began (e.failed ∙ both.ends.works) both.ends.alive tt (e.frames ∙ both.frames)
 
 pub returns-clause-kept : goal.returns-clause-kept
 returns-clause-kept g c b base s newer front rs is over at there from had stand has =
@@ -73,21 +115,22 @@ returns-clause-kept g c b base s newer front rs is over at there from had stand 
     let known : ℕ → Bool = λ q. is_some (get nat_cmp c.args.copies.now q) in
     let leaves = round_leaves known rs t in
     let shown = shown_still numbers mid.pool b s t keeps got.on.goes.writing.pooled in
+    let e = c.in_ok-applied.ensures in
     record {
-      ok = on_ok c.redo_lent.result _ _ (c.redo_lent.ensures.here (changing rs) stand) (λ here. record {
+      ok = record {
         before = t;
         keeps = keeps;
         stops = got.on.goes.stops;
         known = known;
         stands = record {
-          working = c.redo_lent.ensures.failed ∙ got.on.working;
-          known = known_redone t (redone_all known rs t) new.known going leaves.redo_end leaves.log leaves.point (subst (λ (k : Known). IsKnown t k) (sym c.redo_lent.ensures.known) got.on.known);
-          writing = subst (λ (x : LogFile). IsWriting d b base (redone_all known rs t) x new.table new.pool disk) (sym c.redo_lent.ensures.log)
+          working = e.failed ∙ got.on.working;
+          known = known_redone t (redone_all known rs t) new.known going leaves.redo_end leaves.log leaves.point (subst (λ (k : Known). IsKnown t k) (sym e.known) got.on.known);
+          writing = subst (λ (x : LogFile). IsWriting d b base (redone_all known rs t) x new.table new.pool disk) (sym e.log)
               (round_done d b base t mid disk got.on.goes.writing going (keeps.durable.newer ++ newer) front rs (round_there b s t keeps newer front rs there) (subst (λ (n : ℕ). AreFrom n rs) (sym point) from) (had_still b s t keeps newer front rs had) known
-              (λ p yes. copy_still b s t keeps p (has p yes)) numbers new (subst (λ (n : ℕ). RoundHere numbers n known (changing rs) mid new) (sym point) here));
+              (λ p yes. copy_still b s t keeps p (has p yes)) numbers new (subst (λ (n : ℕ). RoundHere numbers n known (changing rs) mid new) (sym point) (e.here (changing rs) stand)));
         };
-      });
-      applied = if_ok c.redo_lent.result _ _ (c.redo_lent.ensures.count (changing rs) (λ q. (s.pages q).page) stand shown) (λ n is. is ∙ changes_alone.all rs (λ q. (s.pages q).page));
+      };
+      applied = e.count (changing rs) (λ q. (s.pages q).page) stand shown ∙ changes_alone.all rs (λ q. (s.pages q).page);
       stops = leaves_so_far d b base s c.args.disk.now t mid.log mid.table mid.pool disk got.on.goes;
-      cause = λ all. c.redo_lent.ensures.taken (changing rs) (λ q. (s.pages q).page) stand shown (taken_changing rs (λ q. (s.pages q).page) all);
+      cause = λ among all. tt;
     }

@@ -1,5 +1,6 @@
-use Rattle.std.proofs.Common.{◌≡◌, ◌<◌, ◌≤◌, ◌++◌, ℕ, Option, true, refl, sym, ◌∙◌, ap, subst, rules}
+use Rattle.std.proofs.Common.{◌≡◌, ◌<◌, ◌≤◌, ◌++◌, ℕ, length, Option, true, refl, sym, ◌∙◌, ap, subst, rules}
 use Rattle.im_base_types.specs.Pages.{Page}
+use Rattle.im_page_pool.specs.Pool.{held_of}
 use Rattle.im_theory_log.specs.Copies.{HasCopy}
 use Rattle.im_theory_log.specs.WriterSteps.{applies}
 use Rattle.im_log_record.specs.Entry.{view, page_of}
@@ -13,7 +14,7 @@ use Rattle.im_page_writer.proofs.Goings.{leaves_so_far}
 use Rattle.im_page_table.proofs.Growing.{if_ok}
 use Rattle.im_page_writer.proofs.LoggedChanges.{err_on}
 use Rattle.im_page_writer.proofs.Outcomes.{flush_sound, leaves_of_end, none_mildly, redo_of, redo_own, redo_refused}
-use Rattle.im_page_writer.proofs.Redoing.{not_no_store}
+use Rattle.im_page_writer.proofs.Redoing.{has_taker, not_no_store}
 use Rattle.im_page_writer.proofs.RedoneRecords.{applies_is, copy_still, on_of, redone_here, ready_still, taker_there, there_still}
 use Rattle.im_page_writer.proofs.page_writer.PageWriter.redo_with_room.Goals as goal
 
@@ -60,6 +61,6 @@ returns-clause-kept g c b base s newer older is over at there from ready below h
       applied = if_ok c.redo_held.result _ _ c.redo_held.ensures.ok (λ done here. here.applied.changes ∙ sym (applies_is r (s.pages r.page).page below_s));
       stops = leaves_so_far g.D.Disk b base s c.args.disk.now t mid.log mid.table mid.pool disk room.on.goes;
       cause = λ takes. not_no_store c.redo_held.result _
-          (taker_there r mid.pool n (t.pages n) number (room.on.goes.writing.pooled.shows n) (subst (λ (g : Page). g.lsn < c.args.lsn) (sym page_is) below_s)
-          (subst (λ (g : Page). applies r r.page g ≡ true → TakesRecord r.what g) (sym page_is) takes)) c.redo_held.ensures.refused;
+          (has_taker _ (length mid.table) (held_of mid.pool n) (taker_there r mid.pool n (t.pages n) number (room.on.goes.writing.pooled.shows n) (subst (λ (g : Page). g.lsn < c.args.lsn) (sym page_is) below_s)
+          (subst (λ (g : Page). applies r r.page g ≡ true → TakesRecord r.what g) (sym page_is) takes)) room.room (c.in_ok-make_entry_room.ensures.held.held n ∙ c.requires.held)) c.redo_held.ensures.refused;
     }

@@ -1,4 +1,4 @@
-use Rattle.std.proofs.Common.{◌≡◌, ◌≤◌, ℕ}
+use Rattle.std.proofs.Common.{◌≡◌, ◌≤◌, ◌+◌, ℕ, length}
 use Rattle.std.specs.Prelude.{is_some}
 use Rattle.std.specs.BTreeMap.{get}
 use Rattle.std.specs.Ordering.{nat_cmp}
@@ -12,6 +12,7 @@ abbrev pub invariant-loop-i : goal.invariant-loop-i
 invariant-loop-i l = record {
   takes : (w : Worker) (d : RoundPage) → TakesBack l.numbers l.i l.point (λ q. is_some (get nat_cmp l.copies q)) (λ k. page_in l.fn.workers k w d) l.fn.self.pool l.self.pool l.fn.self.table l.self.table;
   left : (k : ℕ) (w : Worker) (d : RoundPage) → l.i ≤ k → page_in l.workers k w d ≡ page_in l.fn.workers k w d;
+  most : length l.self.table ≤ length l.fn.self.table + l.i;
   room : SameRoom l.fn.workers l.workers;
   frames : l.self.pool.frames ≡ l.fn.self.pool.frames;
   log : l.self.log ≡ l.fn.self.log;

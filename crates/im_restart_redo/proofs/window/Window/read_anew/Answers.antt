@@ -1,8 +1,8 @@
 use Rattle.std.proofs.Common.{take, refl, rules, arith}
 use Rattle.im_base_disk.proofs.Runs.{reads_then}
 use Rattle.im_log.proofs.Spans.{nothing_spans}
-use Rattle.im_page_writer.specs.Outcome.{mild}
-use Rattle.im_restart_redo.proofs.Recoveries.{moved, read_refused, recovers_then, recovery_refused}
+use Rattle.im_page_writer.specs.Outcome.{no_page}
+use Rattle.im_restart_redo.proofs.Recoveries.{moved, read_none, recovers_then, recovery_refused}
 use Rattle.im_restart_redo.proofs.Windows.{brought_there}
 use Rattle.im_restart_redo.proofs.window.Window.read_anew.Goals as goal
 
@@ -30,7 +30,7 @@ returns-in_err-size-clause-outcome g c =
     let o = c.in_ok-refill.ensures.outcome in
     let r = c.in_err-size.ensures in
     recovery_refused d c.from_residual-in_err-size.result c.from_residual-in_err-size.ensures.1
-    (recovers_then d {m = mild} o (read_refused d c.refill.new.writer c.read_at.new.self c.read_at.new.disk o.ends.works r.ready r.frames _ c.in_err-size.field-0.0 refl r.failed r.causes r.already r.device))
+    (recovers_then d {m = no_page} o (read_none d c.refill.new.writer c.read_at.new.self c.read_at.new.disk o.ends.works r.ready r.frames refl _ c.in_err-size.field-0.0 refl r.failed r.causes r.already r.device))
 
 pub returns-in_err-size-clause-found : goal.returns-in_err-size-clause-found
 returns-in_err-size-clause-found g c b base s log r st also has same =
@@ -42,7 +42,7 @@ returns-clause-outcome g c =
     let d = g.D.Disk in
     let o = c.in_ok-refill.ensures.outcome in
     let r = c.in_ok-size.ensures in
-    recovers_then d {m = mild} o (moved d c.refill.new.writer c.read_at.new.self c.read_at.new.disk o.ends.works r.ready r.frames r.works)
+    recovers_then d {m = no_page} o (moved d c.refill.new.writer c.read_at.new.self c.read_at.new.disk o.ends.works r.ready r.frames r.works)
 
 pub returns-clause-kept : goal.returns-clause-kept
 returns-clause-kept g c b base s st = c.in_ok-size.ensures.kept b base s (c.in_ok-refill.ensures.kept b base s st)
