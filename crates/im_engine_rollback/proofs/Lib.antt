@@ -1,3 +1,5 @@
 pub mod Ends
 pub mod Readings
 pub mod Turning
+pub mod LoggingBack
+pub mod TurningBeside

@@ -1,10 +1,11 @@
 -- Calls in a row within one turn.
-use Rattle.std.proofs.Common.{◌≡◌, ◌≢◌, ℕ, true, [], Some, refl, sym, ap, subst}
+use Rattle.std.proofs.Common.{◌≡◌, ◌≢◌, ℕ, true, [], Some, refl, sym, ◌∙◌, ap, subst}
 use Rattle.std.specs.Prelude.{Result, Ok, Err}
 use Rattle.im_base_types.specs.declared.fault.Fault.{Fault}
 use Rattle.im_base_types.specs.declared.fault.Fault.TheVariants.{Memory}
 use Rattle.im_theory_log.specs.Histories.{Base}
 use Rattle.im_theory_log.specs.Lawful.{IsLawful}
+use Rattle.im_theory_log.specs.Structure.{open_smo}
 use Rattle.im_base_types.specs.Records.{Logged}
 use Rattle.im_theory_log.specs.Transactions.{net, to_undo}
 use Rattle.im_theory_log.specs.Writer.{Writer}
@@ -18,6 +19,7 @@ use Rattle.im_page_writer.specs.declared.page_writer.PageWriter.{PageWriter}
 use Rattle.im_page_file.specs.Stands.{IsCovered, LeavesCovered}
 use Rattle.im_page_writer.specs.PageWriter.{Evicted, GoesOn, LoggedOnly, StandsAs}
 use Rattle.im_page_writer.specs.Outcome.{fault_of, AreLoaded, Logs}
+use Rattle.im_page_writer.proofs.Goings.{leaves_so_far}
 use Rattle.im_page_writer.proofs.Outcomes.{stands_on}
 use Rattle.im_page_writer.proofs.Writers.{goes_on_start, goes_on_then}
 use Rattle.im_theory_tree.specs.Theory.{page_tree}
@@ -28,13 +30,16 @@ use Rattle.im_restart_analysis.specs.Losers.{is_loser}
 use Rattle.im_restart_analysis.specs.Undo.{Ends, IsNext}
 use Rattle.im_engine_rollback.specs.Going.{IsNextAt}
 use Rattle.im_restart_analysis.proofs.Undoing.{undo_goes_on}
+use Rattle.im_restart_undo.specs.GoingBeside.{IsGoingBeside}
 use Rattle.im_restart_undo.specs.Undoing.{CompensateKept, IsGoing, IsToUndo, LeavesUndo, LeftByUndo}
-use Rattle.im_restart_undo.proofs.Growth.{goes_start as going_starts, grows_none, left_both, left_then, loser_of, loser_still}
+use Rattle.im_restart_undo.proofs.Closed.{closed_beside}
+use Rattle.im_restart_undo.proofs.Growth.{grows_none, left_both, left_images, left_then, loser_of, loser_still}
 use Rattle.im_engine_rollback.specs.declared.undone.Undone.{Undone}
 use Rattle.im_engine_rollback.specs.declared.undone.Undone.TheVariants.{More, Ended}
 use Rattle.im_engine_rollback.specs.Ends.{may_be_full, TurnOutcome}
 use Rattle.im_engine_rollback.proofs.Ends.{never_capacity, never_failed, never_memory}
-use Rattle.im_engine_rollback.specs.Turns.{EndedNow, EndIfUndoneKept, HasMore, TakeKept, Took, TurnKept}
+use Rattle.im_engine_rollback.specs.EndsBeside.{EndedBeside, EndIfUndoneBesideKept}
+use Rattle.im_engine_rollback.specs.Turns.{EndIfUndoneKept, HasMore, TakeKept, Took, TurnKept}
 
 module _ {D : Type 0} (d : Ghosts D) (b : Base) (base : ℕ) where
   -- calls that only read
@@ -43,10 +48,17 @@ module _ {D : Type 0} (d : Ghosts D) (b : Base) (base : ℕ) where
       let start = goes_on_start d b base s w old only_now stands in
       record { working = after.working; goes = record { writing = after.writing; stops = reads_on d old old new (IsCovered b base s.durable s.log) start.goes.stops reads; keeps = start.goes.keeps }; known = after.known }
 
+  pub read_stops_beside : (s : Writer) (e t last undo_next : ℕ) (w : PageWriter) (old new : D) → ((c : Files) → d.left_since old (d.moment old) c → d.may_leave old c) → IsGoingBeside d b base s e t last undo_next w old → Reads d old new → LeavesUndo d b base s t old new
+  read_stops_beside s e t last undo_next w old new only_now g reads =
+      reads_on d old old new (LeftByUndo d b base s t) (left_images d b base s t old old g.lawful (leaves_so_far d b base s old s w.log w.table w.pool old (goes_on_start d b base s w old only_now g.stands).goes)) reads
+
   pub read_stops : (s : Writer) (e t last undo_next : ℕ) (w : PageWriter) (old new : D) → ((c : Files) → d.left_since old (d.moment old) c → d.may_leave old c) → IsGoing d b base s e t last undo_next w old → Reads d old new → LeavesUndo d b base s t old new
-  read_stops s e t last undo_next w old new only_now g reads = reads_on d old old new (LeftByUndo d b base s t) (going_starts d b base s e t last undo_next w old only_now g).stops reads
+  read_stops s e t last undo_next w old new only_now g reads = read_stops_beside s e t last undo_next w old new only_now (closed_beside d b base s e t last undo_next w old g) reads
 
   -- the transaction is as it was behind calls that only read
+  pub beside_read : (s : Writer) (e t last undo_next : ℕ) (w x : PageWriter) (old new : D) → IsGoingBeside d b base s e t last undo_next w old → StandsAs d b base s x new → IsGoingBeside d b base s e t last undo_next x new
+  beside_read s e t last undo_next w x old new g after = record { stands = after; over = g.over; lawful = g.lawful; outside = g.outside; owner = g.owner; unfinished = g.unfinished; row = g.row }
+
   pub going_read : (s : Writer) (e t last undo_next : ℕ) (w x : PageWriter) (old new : D) → IsGoing d b base s e t last undo_next w old → StandsAs d b base s x new → IsGoing d b base s e t last undo_next x new
   going_read s e t last undo_next w x old new g after = record { stands = after; over = g.over; can = g.can; owner = g.owner; unfinished = g.unfinished; row = g.row }
 
@@ -56,12 +68,23 @@ module _ {D : Type 0} (d : Ghosts D) (b : Base) (base : ℕ) where
       weakened d old new (IsCovered b base s.durable s.log) (LeftByUndo d b base s t) stops (λ told c is. record { high = s.log; lawful = law; grows = grows_none t s.log; covered = is })
 
   -- an End
-  pub ended_so : (s : Writer) (e t last undo_next lsn : ℕ) (old : D) (start w : PageWriter) (new : D) → IsGoing d b base s e t last undo_next start old → is_loser t s.log ≡ true → to_undo t s.log ≡ [] → LoggedOnly d b base s (End t last) lsn w new → EndedNow d b base s e t last w new
+  pub ended_so : (s : Writer) (e t last undo_next lsn : ℕ) (old : D) (start w : PageWriter) (new : D) → IsGoingBeside d b base s e t last undo_next start old → is_loser t s.log ≡ true → to_undo t s.log ≡ [] → LoggedOnly d b base s (End t last) lsn w new → EndedBeside d b base s e t last w new
   ended_so s e t last undo_next lsn old start w new g loser none logged =
       let r : Logged = logged_at lsn (End t last) in
       let ends : Ends b t s.log r = record { linked = record { rises = logged.high; owner = refl; prev = sym (ap (λ (x : Loser). x.last) g.row) }; what = refl; leads = refl } in
-      let after = (undo_goes_on page_tree page_tree_laws).ends b s.log t r g.can loser none ends in
-      record { now = _; lsn = lsn; log = refl; ended = after.1; stands = logged.stands; over = g.over; can = after.0; durable = logged.grows }
+      let after = (undo_goes_on page_tree page_tree_laws).ends_beside b s.log t r g.lawful loser none ends in
+      record { now = _; lsn = lsn; log = refl; ended = after.2; stands = logged.stands; over = g.over; lawful = after.0; going_on = after.1; durable = logged.grows }
+
+  -- where none is open, an End leaves none open
+  pub end_closed : (s : Writer) (e t last undo_next : ℕ) (old : D) (w : PageWriter) (new : D) (result : Result Undone Fault) → open_smo s.log ≡ [] → EndIfUndoneBesideKept d b base s e t last undo_next old w new result → EndIfUndoneKept d b base s e t last undo_next old w new result
+  end_closed s e t last undo_next old w new (Ok (More l n)) closed k = record { sound = k.sound; stops = k.stops }
+  end_closed s e t last undo_next old w new (Ok Ended) closed k =
+      let end = k.sound.1 in
+      record {
+        sound = (k.sound.0, record { now = end.now; lsn = end.lsn; log = end.log; ended = end.ended; stands = end.stands; over = end.over; can = record { lawful = end.lawful; closed = end.going_on ∙ closed }; durable = end.durable });
+        stops = k.stops;
+      }
+  end_closed s e t last undo_next old w new (Err f) closed k = record { sound = k.sound; stops = k.stops }
 
   -- a change that was taken back behind calls that only read
   pub took_behind : (s : Writer) (e t m n : ℕ) (old mid : D) (w : PageWriter) (new : D) → LeavesUndo d b base s t old mid → Took d b base s e t m n mid w new → Took d b base s e t m n old w new

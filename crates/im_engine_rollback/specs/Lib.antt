@@ -1,3 +1,5 @@
 pub mod Ends
 pub mod Going
 pub mod Turns
+pub mod EndsBeside
+pub mod TurnsBeside

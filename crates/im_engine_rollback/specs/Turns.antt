@@ -59,11 +59,6 @@ module _ {D : Type 0} (d : Ghosts D) (b : Base) (base : ℕ) where
     pub can : IsUndoable b page_tree now.log
     pub durable : IsFront s.durable now.durable
 
-  -- what an End keeps
-  pub record EndKept (s : Writer) (e t last : ℕ) (old : D) (w : PageWriter) (disk : D) (result : Result Unit Fault) : Type 0 where
-    pub sound : IsSound result (λ _. EndedNow s e t last w disk)
-    pub stops : LeavesUndo d b base s t old disk
-
   -- ---- a turn
 
   -- behind a change that was taken back: others are left, or the transaction has ended

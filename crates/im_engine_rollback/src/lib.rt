@@ -10,12 +10,22 @@
 //! alone; where the transaction's net is empty then, its End joins the log too, and it is unfinished no more. It is not refused
 //! `NotAStore`. A stop at any moment leaves the older log with some of these records (`LeavesUndo`), lawful again.
 //!
+//! `undo_beside` does so in a store whose structure changes are made page by page, beside one of another transaction: it makes none itself, but
+//! hands out the one that is needed, in front of the compensation or behind it. What it did or planned is what im_restart_undo planned over the
+//! settled tree (`IsBack`), and where that is hidden it says why. A change that is handed out may begin at once (`IsUnderWay`), with all that wants
+//! memory had before the first record. `end_if_undone` ends what such a change interrupts.
+//!
 //! It stands on `im_restart_undo` for the one change, and on `im_restart_analysis` for what reading from record to record comes to.
 #![tactic(auto)]
 
+mod logged_back;
 mod next_record;
+mod step_beside;
 mod undo_step;
 mod undone;
+mod undone_beside;
 
-pub use undo_step::undo_next;
+pub use step_beside::undo_beside;
+pub use undo_step::{end_if_undone, undo_next};
 pub use undone::Undone;
+pub use undone_beside::UndoneBeside;

@@ -6,7 +6,7 @@ ghost use Rattle.im_theory_log.specs.Writer.{Writer};
 ghost use Rattle.im_base_disk.specs.Runs.{Reads};
 ghost use Rattle.im_page_writer.specs.PageWriter.{IsReadyWriter};
 ghost use Rattle.im_page_writer.specs.Outcome.{fault_of, none_mild, IsSound};
-ghost use Rattle.im_restart_undo.specs.Undoing.{IsGoing};
+ghost use Rattle.im_restart_undo.specs.GoingBeside.{IsGoingBeside};
 ghost use Rattle.im_engine_rollback.specs.Ends.{TurnOutcome};
 ghost use Rattle.im_engine_rollback.specs.Going.{Finds, GoesOnAt, ReadOne};
 
@@ -29,7 +29,7 @@ fn read_one<D: Disk>(
     requires working { writer.old.failed ≡ false }
     ensures outcome { TurnOutcome D.Disk none_mild writer.old writer.new disk.new (fault_of result) }
     ensures room { length room.new ≡ length room.old }
-    ensures kept { (b : Base) (base : ℕ) (s : Writer) (e last undo_next : ℕ) → IsGoing D.Disk b base s e transaction last undo_next writer.old disk.old → GoesOnAt transaction lsn s.log → lsn ≢ 0
+    ensures kept { (b : Base) (base : ℕ) (s : Writer) (e last undo_next : ℕ) → IsGoingBeside D.Disk b base s e transaction last undo_next writer.old disk.old → GoesOnAt transaction lsn s.log → lsn ≢ 0
         → IsSound result (ReadOne D.Disk b base s transaction lsn writer.new disk.new) }
     ensures reads { Reads D.Disk disk.old disk.new }
     ensures falls { IfOk result (λ next. IfSome next (λ l. l < lsn)) }
@@ -63,7 +63,7 @@ pub(crate) fn next_key_record<D: Disk>(
     requires working { writer.old.failed ≡ false }
     ensures outcome { TurnOutcome D.Disk none_mild writer.old writer.new disk.new (fault_of result) }
     ensures room { length room.new ≡ length room.old }
-    ensures kept { (b : Base) (base : ℕ) (s : Writer) (e last : ℕ) → IsGoing D.Disk b base s e transaction last from writer.old disk.old
+    ensures kept { (b : Base) (base : ℕ) (s : Writer) (e last : ℕ) → IsGoingBeside D.Disk b base s e transaction last from writer.old disk.old
         → IsSound result (Finds D.Disk b base s transaction writer.new disk.new) }
     ensures reads { Reads D.Disk disk.old disk.new }
 {

@@ -7,10 +7,12 @@ ghost use Rattle.im_theory_log.specs.Writer.{Writer};
 ghost use Rattle.im_page_writer.specs.PageWriter.{IsReadyWriter};
 ghost use Rattle.im_page_writer.specs.Outcome.{fault_of, none_mild, Logs};
 ghost use Rattle.im_restart_analysis.specs.Losers.{is_loser};
+ghost use Rattle.im_restart_undo.specs.GoingBeside.{IsGoingBeside};
 ghost use Rattle.im_restart_undo.specs.Undoing.{IsGoing};
 ghost use Rattle.im_engine_rollback.specs.Ends.{may_be_full, may_turn, TurnOutcome};
 ghost use Rattle.im_engine_rollback.specs.Going.{IsNextAt};
-ghost use Rattle.im_engine_rollback.specs.Turns.{EndKept, EndIfUndoneKept, TakeKept, TurnKept};
+ghost use Rattle.im_engine_rollback.specs.EndsBeside.{EndBesideKept, EndIfUndoneBesideKept};
+ghost use Rattle.im_engine_rollback.specs.Turns.{EndIfUndoneKept, TakeKept, TurnKept};
 
 use crate::next_record::next_key_record;
 use crate::undone::Undone;
@@ -66,8 +68,8 @@ fn log_end<D: Disk>(
     requires working { writer.old.failed ≡ false }
     requires owner { 1 ≤ transaction }
     ensures outcome { Logs D.Disk false none_mild writer.old disk.old writer.new disk.new (fault_of result) }
-    ensures kept { (b : Base) (base : ℕ) (s : Writer) (e undo_next : ℕ) → IsGoing D.Disk b base s e transaction last undo_next writer.old disk.old → is_loser transaction s.log ≡ true → to_undo transaction s.log ≡ []
-        → EndKept D.Disk b base s e transaction last disk.old writer.new disk.new result }
+    ensures kept { (b : Base) (base : ℕ) (s : Writer) (e undo_next : ℕ) → IsGoingBeside D.Disk b base s e transaction last undo_next writer.old disk.old → is_loser transaction s.log ≡ true → to_undo transaction s.log ≡ []
+        → EndBesideKept D.Disk b base s e transaction last disk.old writer.new disk.new result }
 {
     let record = Record::End {
         transaction,
@@ -77,8 +79,11 @@ fn log_end<D: Disk>(
     Ok(())
 }
 
-// What is left of a transaction whose change was taken back: where nothing is, its End is logged.
-fn end_if_undone<D: Disk>(
+/// What is left of a transaction whose change was taken back: where nothing is, its End is logged. A structure change of another
+/// transaction that goes on beside stays open as it was.
+///
+/// Refused `NotAStore` where the records are not as a log of the store has them; otherwise as `PageWriter::log_only` is.
+pub fn end_if_undone<D: Disk>(
     writer: &mut PageWriter,
     disk: &mut D,
     transaction: TxnId,
@@ -94,6 +99,8 @@ fn end_if_undone<D: Disk>(
     ensures room { length room.new ≡ length room.old }
     ensures kept { (b : Base) (base : ℕ) (s : Writer) (e : ℕ) → IsGoing D.Disk b base s e transaction last undo_next writer.old disk.old → is_loser transaction s.log ≡ true
         → EndIfUndoneKept D.Disk b base s e transaction last undo_next disk.old writer.new disk.new result }
+    ensures beside { (b : Base) (base : ℕ) (s : Writer) (e : ℕ) → IsGoingBeside D.Disk b base s e transaction last undo_next writer.old disk.old → is_loser transaction s.log ≡ true
+        → EndIfUndoneBesideKept D.Disk b base s e transaction last undo_next disk.old writer.new disk.new result }
 {
     let next = next_key_record(writer, disk, transaction, undo_next, room)?;
     if next == 0 {

@@ -51,7 +51,7 @@ returns-then-is_key_record-clause-kept g c b base s e last undo_next going goes 
     let found = c.in_ok-size.ensures.found b base s at.found going.stands at.logged (sym at.here) in
     let here = spelled_here t c.args.lsn s.log at _ found.ok said c.in_ok-record.ensures.entry in
     let key = sym c.is_key_record.ensures ∙ c.if-is_key_record.true in
-    (c.in_ok-size.ensures.kept b base s going.stands, next_here b page_tree page_tree_laws s.log t c.args.lsn going.can going.owner going.unfinished goes (logged_at c.args.lsn said) here.0 refl here.1 key)
+    (c.in_ok-size.ensures.kept b base s going.stands, next_here b page_tree page_tree_laws s.log t c.args.lsn going.lawful going.owner going.unfinished goes (logged_at c.args.lsn said) here.0 refl here.1 key)
 
 pub returns-in_err-next-clause-outcome : goal.returns-in_err-next-clause-outcome
 returns-in_err-next-clause-outcome g c = turn_refused_on g.D.Disk c.from_residual-in_err-next.result c.from_residual-in_err-next.ensures.1 (no_record g.D.Disk c.in_err-next.ensures.refused.0 (read_ends g.D.Disk {A = ℕ} (Ok c.in_ok-size.size) c.in_ok-size.ensures.ready c.requires.working c.in_ok-size.ensures.failed tt c.in_ok-size.ensures.already (c.in_ok-size.ensures.device c.requires.working) c.in_ok-size.ensures.frames))
@@ -64,7 +64,7 @@ returns-in_err-next-clause-kept g c b base s e last undo_next going goes some =
     let found = c.in_ok-size.ensures.found b base s at.found going.stands at.logged (sym at.here) in
     let here = spelled_here t c.args.lsn s.log at _ found.ok said c.in_ok-record.ensures.entry in
     let other = sym c.is_key_record.ensures ∙ c.if-is_key_record.false in
-    absurd (leads_down b page_tree page_tree_laws s.log t c.args.lsn going.can going.owner going.unfinished goes (logged_at c.args.lsn said) here.0 refl here.1 other c.in_err-next.ensures.refused.1.on)
+    absurd (leads_down b page_tree page_tree_laws s.log t c.args.lsn going.lawful going.owner going.unfinished goes (logged_at c.args.lsn said) here.0 refl here.1 other c.in_err-next.ensures.refused.1.on)
 
 pub returns-clause-outcome : goal.returns-clause-outcome
 returns-clause-outcome g c = read_ends g.D.Disk {A = ℕ} (Ok c.in_ok-size.size) c.in_ok-size.ensures.ready c.requires.working c.in_ok-size.ensures.failed tt c.in_ok-size.ensures.already (c.in_ok-size.ensures.device c.requires.working) c.in_ok-size.ensures.frames
@@ -77,5 +77,5 @@ returns-clause-kept g c b base s e last undo_next going goes some =
     let found = c.in_ok-size.ensures.found b base s at.found going.stands at.logged (sym at.here) in
     let here = spelled_here t c.args.lsn s.log at _ found.ok said c.in_ok-record.ensures.entry in
     let other = sym c.is_key_record.ensures ∙ c.if-is_key_record.false in
-    let on = (leads_else b page_tree page_tree_laws s.log t c.args.lsn going.can going.owner going.unfinished goes (logged_at c.args.lsn said) here.0 refl here.1 other).0 in
+    let on = (leads_else b page_tree page_tree_laws s.log t c.args.lsn going.lawful going.owner going.unfinished goes (logged_at c.args.lsn said) here.0 refl here.1 other).0 in
     (c.in_ok-size.ensures.kept b base s going.stands, subst (λ n. GoesOnAt t n s.log) (sym (c.in_ok-next.ensures.other other).1) on)

@@ -1,6 +1,7 @@
 use Rattle.std.proofs.Common.{refl}
 use Rattle.im_page_writer.proofs.LoggedChanges.{err_on}
 use Rattle.im_page_writer.proofs.Outcomes.{sound_on}
+use Rattle.im_restart_undo.proofs.Closed.{closed_beside}
 use Rattle.im_engine_rollback.specs.Turns.{Took}
 use Rattle.im_engine_rollback.specs.Ends.{may_turn}
 use Rattle.im_engine_rollback.proofs.Ends.{full_may, never_capacity, never_failed, never_memory, none_may, not_a_store, turn_behind, turn_more, turn_refused_on}
@@ -13,7 +14,7 @@ returns-in_err-lsn-clause-outcome g c = turn_refused_on g.D.Disk c.from_residual
 pub returns-in_err-lsn-clause-kept : goal.returns-in_err-lsn-clause-kept
 returns-in_err-lsn-clause-kept g c b base s e going some =
     let t = c.args.transaction in
-    let k = c.in_err-lsn.ensures.kept b base s e c.args.last going in
+    let k = c.in_err-lsn.ensures.kept b base s e c.args.last (closed_beside g.D.Disk b base s e t c.args.last c.args.undo_next c.args.writer.now c.args.disk.now going) in
     let one = turn_refused_on g.D.Disk c.from_residual.result c.from_residual.ensures.1 c.in_err-lsn.ensures.outcome in
     record {
       sound = sound_on c.from_residual.result _ _ c.from_residual.ensures.1 k;
@@ -29,7 +30,7 @@ returns-then-lsn-eq0-clause-outcome g c = not_a_store g.D.Disk c.in_ok-lsn.ensur
 
 pub returns-then-lsn-eq0-clause-kept : goal.returns-then-lsn-eq0-clause-kept
 returns-then-lsn-eq0-clause-kept g c b base s e going some =
-    let k = c.in_ok-lsn.ensures.kept b base s e c.args.last going in
+    let k = c.in_ok-lsn.ensures.kept b base s e c.args.last (closed_beside g.D.Disk b base s e c.args.transaction c.args.last c.args.undo_next c.args.writer.now c.args.disk.now going) in
     absurd (some (k.1.none c.if-lsn-eq0.true))
 
 pub returns-in_err-behind-clause-outcome : goal.returns-in_err-behind-clause-outcome
@@ -45,7 +46,7 @@ returns-in_err-behind-clause-kept g c b base s e going some =
     let v = c.next_key_record.new.writer in
     let mid = c.next_key_record.new.disk in
     let f = c.in_err-behind.field-0.0 in
-    let k = c.in_ok-lsn.ensures.kept b base s e last going in
+    let k = c.in_ok-lsn.ensures.kept b base s e last (closed_beside g.D.Disk b base s e t last next w old going) in
     let only_now = g.met.D.Disk.only_now old in
     let still = going_read g.D.Disk b base s e t last next w v old mid going k.0 in
     let r = turn_refused g.D.Disk b base s e t old v mid (read_on g.D.Disk b base s w v old mid only_now going.stands c.next_key_record.ensures.reads k.0) (read_stops g.D.Disk b base s e t last next w old mid only_now going c.next_key_record.ensures.reads)
@@ -73,7 +74,7 @@ returns-clause-kept g c b base s e going some =
     let mid = c.next_key_record.new.disk in
     let x = c.undo_at.new.writer in
     let late = c.undo_at.new.disk in
-    let k = c.in_ok-lsn.ensures.kept b base s e last going in
+    let k = c.in_ok-lsn.ensures.kept b base s e last (closed_beside g.D.Disk b base s e t last next w old going) in
     let only_now = g.met.D.Disk.only_now old in
     let still = going_read g.D.Disk b base s e t last next w v old mid going k.0 in
     let taken = c.in_ok-behind.ensures.kept b base s e still (k.1.some c.if-lsn-eq0.false) in
