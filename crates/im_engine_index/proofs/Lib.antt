@@ -4,3 +4,4 @@ pub mod KeyLogs
 pub mod Deletes
 pub mod Inserts
 pub mod Planning
+pub mod Beside

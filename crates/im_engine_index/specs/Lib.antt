@@ -1,4 +1,5 @@
 pub mod LockAnswers
+pub mod Hidden
 pub mod Reads
 pub mod Asks
 pub mod LockCalls

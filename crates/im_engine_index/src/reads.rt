@@ -13,14 +13,11 @@ ghost use Rattle.im_page_pool.specs.Pool.{page_at, IsAt};
 ghost use Rattle.im_tree_search.specs.Found.{HasTree, IsReached};
 ghost use Rattle.im_tree_search.specs.HeldPages.{HoldsOn, IsQuiet};
 ghost use Rattle.im_theory_machine.specs.Table.{SameLasting, SameTable};
-ghost use Rattle.im_engine_locks.specs.Requests.{named, named_if};
-ghost use Rattle.im_engine_locks.specs.Found.{name_below};
-ghost use Rattle.im_theory_machine.specs.Rows.{name_of};
 ghost use Rattle.im_theory_page.specs.Entry.{entry_at};
 ghost use Rattle.im_engine_index.specs.LockAnswers.{seek_at};
 ghost use Rattle.im_engine_index.specs.Reads.{IsRead};
 
-use crate::asking::{name_in, outcome_of};
+use crate::asking::{name_found, name_if_found, name_in, outcome_of};
 use crate::lock_answer::LockAnswer;
 use im_base_disk::Disk;
 use im_base_types::{Fault, Key, Rid, TxnId};
@@ -88,22 +85,12 @@ pub fn fetch<D: Disk>(
 }
 
 // An entry of a page, copied.
-fn entry_of(page: &Page, at: usize) -> Result<(Key, Rid), Fault>
+pub(crate) fn entry_of(page: &Page, at: usize) -> Result<(Key, Rid), Fault>
     requires { at < length page.now.body.entries }
     ensures entry { IfOk result (λ entry. entry ≡ entry_at page.now.body.entries at) }
     ensures always { IfErr result (λ e. ⊥) }
 {
     Ok((Key::new(page.key(at))?, page.value(at)))
-}
-
-// The name of what was found.
-fn name_found(found: &Option<(Key, Rid)>) -> Name<'_>
-    ensures { named result ≡ name_of found.now }
-{
-    match found {
-        Some((key, _)) => Name::Key(key.bytes()),
-        None => Name::End,
-    }
 }
 
 // The first entry at or above a key, or above it, copied.
@@ -148,16 +135,6 @@ pub fn seek<D: Disk>(
     let row = seek_row(name_found(&found));
     let verdict = locks.try_all(transaction, row.as_slice())?;
     Ok(outcome_of(verdict, found))
-}
-
-// The name of what was found below a key, where anything was.
-fn name_if_found(found: &Option<(Key, Rid)>) -> Option<Name<'_>>
-    ensures { named_if result ≡ name_below found.now }
-{
-    match found {
-        Some((key, _)) => Some(Name::Key(key.bytes())),
-        None => None,
-    }
 }
 
 // The last entry below a key, copied.

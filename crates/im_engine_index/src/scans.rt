@@ -1,11 +1,11 @@
 //! The entries of a range.
 
-ghost use Rattle.std.specs.Prelude.{◌≡◌, ◌≤◌, ℕ, length, IfOk, IfErr, IfSome, OnErr};
+ghost use Rattle.std.specs.Prelude.{◌≡◌, ◌≤◌, ℕ, false, true, length, IfOk, IfErr, IfSome, OnErr};
 ghost use Rattle.std.specs.FinMap.{entries};
 ghost use Rattle.im_base_types.specs.declared.fault.Fault.TheVariants.{Memory};
 ghost use Rattle.im_base_types.specs.Keys.{Key as KeyBytes};
 ghost use Rattle.im_base_types.specs.Pages.{Entry};
-ghost use Rattle.im_base_types.specs.Maps.{IndexMap};
+ghost use Rattle.im_base_types.specs.Maps.{IndexMap, is_below};
 ghost use Rattle.im_base_types.specs.Answers.{Scan, limit_of};
 ghost use Rattle.im_page_writer.specs.PageWriter.{IsReadyWriter};
 ghost use Rattle.im_page_writer.specs.Outcome.{fault_of, AllPages, IsSound};
@@ -14,22 +14,23 @@ ghost use Rattle.im_theory_tree.specs.Levels.{walk};
 ghost use Rattle.im_tree_search.specs.Levels.{bodies_of};
 ghost use Rattle.im_tree_search.specs.Found.{HasTree};
 ghost use Rattle.im_tree_search.specs.NextKeys.{IsFar};
+ghost use Rattle.im_tree_search.specs.Sights.{HasTreeBut, IfSeen};
 ghost use Rattle.im_theory_machine.specs.Locks.{IsFree};
 ghost use Rattle.im_theory_machine.specs.Rows.{asked};
 ghost use Rattle.im_engine_locks.specs.Found.{IsScanOf};
 ghost use Rattle.im_engine_locks.specs.Requests.{named_if};
 ghost use Rattle.im_theory_machine.specs.Table.{Decides, SameLasting, SameTable, locks_of};
 ghost use Rattle.im_engine_index.specs.LockAnswers.{name_behind, entries_found, IfGranted};
-ghost use Rattle.im_engine_index.specs.Reads.{IsRead};
+ghost use Rattle.im_engine_index.specs.Reads.{IsRead, IsReadBeside};
 
 use crate::asking::outcome_of;
 use crate::lock_answer::LockAnswer;
 use im_base_disk::Disk;
-use im_base_types::{Fault, Key, MOST_ENTRIES, Rid, TxnId};
+use im_base_types::{Fault, Key, MOST_ENTRIES, Rid, TxnId, compare};
 use im_engine_locks::{LockTable, Name, scan_row};
 use im_page_writer::PageWriter;
 use im_theory_machine::Verdict;
-use im_tree_search::{NextKey, entries_between};
+use im_tree_search::{Beside, NextKey, Sight, entries_between, entries_between_beside};
 use std::alloc::Global;
 
 // A limit, brought into 1 to 256.
@@ -102,4 +103,56 @@ pub fn scan<D: Disk>(
     let (list, behind) = entries_between(alloc, writer, disk, lo, hi, bounded(limit))?;
     let verdict = ask_range(alloc, locks, transaction, list.as_slice(), &behind)?;
     Ok(outcome_of(verdict, list))
+}
+
+// Whether a range is empty by its bounds.
+fn lacks_keys(lo: &[u8], hi: &[u8]) -> bool
+    ensures { result ≡ is_below hi.now lo.now }
+{
+    compare(hi, lo).is_lt()
+}
+
+/// What `scan` answers, beside a structure change of another transaction that is made page by page. It is hidden where a page that is made
+/// stands on the way to `lo`, or where the walk along the leaves comes to before it has `limit` entries; then no lock was asked. Where `hi`
+/// is below `lo` nothing is read, and so nothing is hidden.
+///
+/// Refused as `scan` is.
+pub fn scan_beside<D: Disk>(
+    alloc: Global,
+    writer: &mut PageWriter,
+    disk: &mut D,
+    locks: &mut LockTable,
+    transaction: TxnId,
+    lo: &[u8],
+    hi: &[u8],
+    limit: usize,
+    beside: Beside<'_>,
+) -> Result<Sight<LockAnswer<Vec<(Key, Rid)>>>, Fault>
+    requires ready { IsReadyWriter D.Disk writer.old disk.old }
+    requires working { writer.old.failed ≡ false }
+    ensures outcome { AsksLocks D.Disk writer.old disk.old writer.new disk.new (fault_of result) }
+    ensures kept { (pages : AllPages) (m : IndexMap) → HasTreeBut D.Disk pages beside.entry writer.old disk.old → walk (bodies_of pages) ≡ entries m
+        → IsSound result (IsReadBeside entries_found transaction (Scan lo.now hi.now limit) m (bodies_of pages) beside.entry locks.old locks.new) }
+    ensures most { IfOk result (IfSeen (λ outcome. IfGranted outcome (λ list. length list.items ≤ limit_of limit)) Unit) }
+    ensures empty { is_below hi.now lo.now ≡ true → (writer.new ≡ writer.old) × (disk.new ≡ disk.old) × IfOk result (IfSeen (λ _. Unit) ⊥) × IfErr result (λ _. ⊥) }
+    ensures table { OnErr result (SameTable locks.old locks.new) }
+    ensures lasting { OnErr result (SameLasting locks.old locks.new) }
+{
+    if lacks_keys(lo, hi) {
+        return Ok(Sight::Seen(LockAnswer::Granted(Vec::new(alloc))));
+    }
+    let Sight::Seen((list, behind)) = entries_between_beside(
+        alloc,
+        writer,
+        disk,
+        lo,
+        hi,
+        bounded(limit),
+        beside,
+    )?
+    else {
+        return Ok(Sight::Hidden);
+    };
+    let verdict = ask_range(alloc, locks, transaction, list.as_slice(), &behind)?;
+    Ok(Sight::Seen(outcome_of(verdict, list)))
 }
