@@ -5,9 +5,9 @@ use im_base_steps::Step;
 use im_base_two_logs::Renamed;
 use im_engine::{Config, Engine};
 use im_engine_upkeep::Bounds;
-use im_tool::{
-    Causes, Form, LoadCount, Loaded, Present, ProgressLine, Untold, WhyBad, dump_text, load_text,
-};
+use im_tool::{LoadCount, Loaded, dump_text, load_text};
+use im_tool_files::{Causes, ProgressLine, Untold};
+use im_tool_user::{Form, Present, WhyBad};
 use std::alloc::Global;
 use std::io;
 use std::io::{BufReader, Write};

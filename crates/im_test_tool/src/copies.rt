@@ -2,7 +2,8 @@
 
 use im_base_disk::{Disk, read_vec};
 use im_base_types::{Fault, FileId};
-use im_tool::{ScratchDisk, Untold, check_text};
+use im_tool::check_text;
+use im_tool_files::{ScratchDisk, Untold};
 use std::alloc::Global;
 use std::fs;
 use std::test::Fail;
@@ -19,30 +20,37 @@ pub(crate) struct Copies {
     pub(crate) log2: Vec<u8>,
 }
 
+// The bytes of a file in a folder.
+pub(crate) fn file_in(rt: &HostRuntime, folder: &str, name: &str) -> Result<Vec<u8>, Fail> {
+    let path = format!(in rt.alloc(); "{folder}/{name}")?;
+    Ok(fs::read(rt, path.as_str())?)
+}
+
 // The files of the store that a folder has.
 pub(crate) fn copies_in(rt: &HostRuntime, folder: &str) -> Result<Copies, Fail> {
-    let log = format!(in rt.alloc(); "{folder}/log")?;
-    let pages = format!(in rt.alloc(); "{folder}/pages")?;
-    let log2 = format!(in rt.alloc(); "{folder}/log2")?;
     Ok(Copies {
-        log: fs::read(rt, log.as_str())?,
-        pages: fs::read(rt, pages.as_str())?,
-        log2: fs::read(rt, log2.as_str())?,
+        log: file_in(rt, folder, "log")?,
+        pages: file_in(rt, folder, "pages")?,
+        log2: file_in(rt, folder, "log2")?,
     })
+}
+
+// The bytes of a file of a disk.
+fn file_of(alloc: Global, disk: &mut ScratchDisk, file: FileId) -> Result<Vec<u8>, Fault> {
+    if disk.has_failed() {
+        return Err(Fault::Device);
+    }
+    let length = disk.len(file)?;
+    read_vec(alloc, disk, file, 0, length as usize)
 }
 
 // The files of a disk.
 pub(crate) fn copies_of(alloc: Global, disk: &mut ScratchDisk) -> Result<Copies, Fail> {
-    if disk.has_failed() {
-        return Err(Fail::from(Fault::Device));
-    }
-    let log = disk.len(FileId::Log)?;
-    let log = read_vec(alloc, disk, FileId::Log, 0, log as usize)?;
-    let pages = disk.len(FileId::Pages)?;
-    let pages = read_vec(alloc, disk, FileId::Pages, 0, pages as usize)?;
-    let log2 = disk.len(FileId::Log2)?;
-    let log2 = read_vec(alloc, disk, FileId::Log2, 0, log2 as usize)?;
-    Ok(Copies { log, pages, log2 })
+    Ok(Copies {
+        log: file_of(alloc, disk, FileId::Log)?,
+        pages: file_of(alloc, disk, FileId::Pages)?,
+        log2: file_of(alloc, disk, FileId::Log2)?,
+    })
 }
 
 // A disk with these files.

@@ -7,25 +7,40 @@ use im_base_two_logs::Renamed;
 use im_base_types::{Fault, LONGEST_KEY};
 use im_engine::{Config, Engine};
 use im_engine_upkeep::Bounds;
-use im_tool::{Causes, Manner, ScratchDisk, Untold, stat_text, store_text};
+use im_tool::{stat_text, store_text};
+use im_tool_files::{Causes, ScratchDisk, Untold};
+use im_tool_user::Manner;
 use std::alloc::Global;
-use std::io::{BufReader, Write};
+use std::fs;
+use std::io::BufReader;
 use std::process::Abort;
 use std::test::Fail;
 use std::thread::Threads;
-use std::{fs, io};
 
 // Fifteen keys of 255 bytes fill the root; one of them is deleted, another transaction takes its room, and the first never ends.
-fn write_lines(lines: &mut Vec<u8>) -> io::Result<()> {
-    lines.extend_from_slice(b"begin\n")?;
-    for n in 1..16u32 {
-        writeln!(lines, "insert 1 {}{}+z*253 {n}", n / 10, n % 10)?;
-    }
-    lines.extend_from_slice(
-        b"commit 1\nbegin\ndelete 2 15+z*253\nbegin\ninsert 3 00+z*253 0\ncommit 3\n",
-    )?;
-    Ok(())
-}
+static GOING: &str = "begin
+insert 1 01+z*253 1
+insert 1 02+z*253 2
+insert 1 03+z*253 3
+insert 1 04+z*253 4
+insert 1 05+z*253 5
+insert 1 06+z*253 6
+insert 1 07+z*253 7
+insert 1 08+z*253 8
+insert 1 09+z*253 9
+insert 1 10+z*253 10
+insert 1 11+z*253 11
+insert 1 12+z*253 12
+insert 1 13+z*253 13
+insert 1 14+z*253 14
+insert 1 15+z*253 15
+commit 1
+begin
+delete 2 15+z*253
+begin
+insert 3 00+z*253 0
+commit 3
+";
 
 // Makes the steps of these lines in the store of a folder.
 pub(crate) fn fill<R: Threads + Sync>(
@@ -54,6 +69,20 @@ pub(crate) fn fill<R: Threads + Sync>(
         &mut causes,
     )?;
     Ok(())
+}
+
+// The files of the store that these lines make in a new folder, which goes again.
+pub(crate) fn made_by<R: Threads + Sync>(
+    rt: &HostRuntime,
+    threads: &R,
+    folder: &str,
+    lines: &str,
+) -> Result<Copies, Fail> {
+    let _ = fs::remove_dir_all(rt, folder);
+    fill(rt, threads, folder, lines.as_bytes())?;
+    let copies = copies_in(rt, folder)?;
+    fs::remove_dir_all(rt, folder)?;
+    Ok(copies)
 }
 
 // The numbers of a store, with the status.
@@ -91,33 +120,42 @@ fn has_empty_leaf<R: Threads + Sync>(rt: &R, alloc: Global, copies: &Copies) -> 
 // The key comes back in a leaf that lacks room for it: the opening splits the root, and takes pages 2 and 3.
 #[test]
 fn pages_that_the_opening_takes_are_known(rt: HostRuntime) -> Result<(), Fail> {
-    let _ = fs::remove_dir_all(&rt, "im_tool_looked");
-    let mut lines = Vec::new(rt.alloc());
-    write_lines(&mut lines)?;
-    fill(&rt, &rt, "im_tool_looked", &lines)?;
-    let copies = copies_in(&rt, "im_tool_looked")?;
-    fs::remove_dir_all(&rt, "im_tool_looked")?;
-    assert!(rt; is_whole(&rt, rt.alloc(), &copies)?);
-    assert!(rt; has_two_leaves(&rt, rt.alloc(), &copies)?);
+    let copies = made_by(&rt, &rt, "im_tool_looked", GOING)?;
+    assert!(rt; is_whole(&rt, rt.alloc(), &copies)? && has_two_leaves(&rt, rt.alloc(), &copies)?);
     Ok(())
 }
 
 // Seven keys are committed; nine more split the root, and are taken back one by one, which leaves the second leaf empty.
-fn write_emptying_lines(lines: &mut Vec<u8>) -> io::Result<()> {
-    lines.extend_from_slice(b"begin\n")?;
-    for n in 1..8u32 {
-        writeln!(lines, "insert 1 0{n}+z*253 {n}")?;
-    }
-    lines.extend_from_slice(b"commit 1\nbegin\n")?;
-    for n in 8..17u32 {
-        writeln!(lines, "insert 2 {}{}+z*253 {n}", n / 10, n % 10)?;
-    }
-    lines.extend_from_slice(b"rollback 2\n")?;
-    for _turn in 0..9u32 {
-        lines.extend_from_slice(b"continue 2\n")?;
-    }
-    Ok(())
-}
+static EMPTYING: &str = "begin
+insert 1 01+z*253 1
+insert 1 02+z*253 2
+insert 1 03+z*253 3
+insert 1 04+z*253 4
+insert 1 05+z*253 5
+insert 1 06+z*253 6
+insert 1 07+z*253 7
+commit 1
+begin
+insert 2 08+z*253 8
+insert 2 09+z*253 9
+insert 2 10+z*253 10
+insert 2 11+z*253 11
+insert 2 12+z*253 12
+insert 2 13+z*253 13
+insert 2 14+z*253 14
+insert 2 15+z*253 15
+insert 2 16+z*253 16
+rollback 2
+continue 2
+continue 2
+continue 2
+continue 2
+continue 2
+continue 2
+continue 2
+continue 2
+continue 2
+";
 
 // The files as a stop leaves them by which the gate at this place is closed.
 fn cut_at(alloc: Global, copies: &Copies, gate: usize) -> Result<Copies, Fail> {
@@ -138,12 +176,7 @@ fn next_gate(log: &[u8], gate: usize) -> Option<usize> {
 
 #[test]
 fn a_leaf_that_a_stop_left_empty_is_no_damage(rt: HostRuntime) -> Result<(), Fail> {
-    let _ = fs::remove_dir_all(&rt, "im_tool_emptied");
-    let mut lines = Vec::new(rt.alloc());
-    write_emptying_lines(&mut lines)?;
-    fill(&rt, &rt, "im_tool_emptied", &lines)?;
-    let copies = copies_in(&rt, "im_tool_emptied")?;
-    fs::remove_dir_all(&rt, "im_tool_emptied")?;
+    let copies = made_by(&rt, &rt, "im_tool_emptied", EMPTYING)?;
     stop_at_each_gate(&rt, rt.alloc(), &copies)
 }
 
@@ -241,16 +274,31 @@ static BEHIND: [(u64, u64, u32, u8, &str); 2] = [
     (240, 240, 1, 1, "\n"),
 ];
 
+// Whether the check says that of a store with so many keys.
+fn is_told_behind<R: Threads + Sync>(
+    rt: &R,
+    alloc: Global,
+    count: u64,
+    together: u64,
+    closed: u32,
+    status: u8,
+    end: &str,
+) -> Result<bool, Fail> {
+    let copies = filled(rt, alloc, count, together)?;
+    let gate = gate_after(&copies.log, closed);
+    let closed = closed_at(alloc, &copies, gate)?;
+    let (found, printed) = said_of(rt, alloc, &closed)?;
+    let said = format!(in alloc; " whole batches behind the closed gate at {gate}{end}")?;
+    Ok(found == status && printed.ends_with(said.as_bytes()))
+}
+
 #[test]
 fn batches_that_a_stop_left_are_no_damage(rt: HostRuntime) -> Result<(), Fail> {
     for (count, together, closed, status, end) in &BEHIND {
-        let copies = filled(&rt, rt.alloc(), *count, *together)?;
-        let gate = gate_after(&copies.log, *closed);
-        let closed = closed_at(rt.alloc(), &copies, gate)?;
-        let (found, printed) = said_of(&rt, rt.alloc(), &closed)?;
-        let said = format!(in rt.alloc(); " whole batches behind the closed gate at {gate}{end}")?;
-        assert!(rt; found == *status, "{count}");
-        assert!(rt; printed.ends_with(said.as_bytes()), "{count}");
+        assert!(rt;
+            is_told_behind(&rt, rt.alloc(), *count, *together, *closed, *status, end)?,
+            "{count}"
+        );
     }
     Ok(())
 }

@@ -2,7 +2,8 @@
 
 ghost use Rattle.std.specs.Prelude.{◌≡◌, false};
 
-use crate::copies::{Copies, FIRST_GATE, copied, copies_in, scratch};
+use crate::copies::{Copies, FIRST_GATE, copied, copies_in, said_of};
+use crate::looked::numbers_of;
 use im_base_disk::Disk;
 use im_base_file_disk::FileDisk;
 use im_base_model_disk::ModelDisk;
@@ -10,7 +11,9 @@ use im_base_two_logs::Renamed;
 use im_base_types::{Fault, PAGE_SIZE};
 use im_engine::{Config, Engine};
 use im_engine_upkeep::Bounds;
-use im_tool::{Causes, Manner, Untold, check_text, stat_text, store_text};
+use im_tool::store_text;
+use im_tool_files::Causes;
+use im_tool_user::Manner;
 use std::alloc::Global;
 use std::io::{BufReader, Write};
 use std::test::Fail;
@@ -134,37 +137,32 @@ fn is_named<R: Threads + Sync>(
     damage: Damage,
     name: &str,
 ) -> Result<bool, Fail> {
-    let mut printed = Vec::new(alloc);
-    let mut numbers = Vec::new(alloc);
     let copies = damaged(alloc, copies, damage)?;
-    let (check, _disk) = check_text(
-        rt,
-        alloc,
-        &mut printed,
-        scratch(alloc, &copies)?,
-        &mut Untold,
-    );
-    let (stat, _disk) = stat_text(
-        rt,
-        alloc,
-        &mut numbers,
-        scratch(alloc, &copies)?,
-        &mut Untold,
-    );
-    Ok(check? == 1 && stat? == 1 && has_part(&printed, name) && has_part(&numbers, name))
+    let (check, printed) = said_of(rt, alloc, &copies)?;
+    let (stat, numbers) = numbers_of(rt, alloc, &copies)?;
+    Ok(check == 1 && stat == 1 && has_part(&printed, name) && has_part(&numbers, name))
 }
 
 // Whether the opening is refused, or the first look at page 0 is.
-fn is_refused<R: Threads + Sync>(rt: &R, alloc: Global, copies: Copies, in_opening: bool) -> bool {
-    let disk = ModelDisk::with_log2(copies.log, copies.pages, copies.log2);
-    match Engine::open_or_create(rt, alloc, Renamed::new(disk, false), Config::default()) {
-        Ok(mut engine) => {
-            let looked = matches!(&engine.header(0), Err(Fault::NotAStore));
-            let _disk = engine.into_disk();
-            !in_opening && looked
-        }
-        Err((fault, _disk)) => in_opening && fault == Fault::NotAStore,
-    }
+fn is_refused<R: Threads + Sync>(
+    rt: &R,
+    alloc: Global,
+    copies: &Copies,
+    damage: Damage,
+    in_opening: bool,
+) -> Result<bool, Fail> {
+    let files = damaged(alloc, copies, damage)?;
+    let disk = ModelDisk::with_log2(files.log, files.pages, files.log2);
+    Ok(
+        match Engine::open_or_create(rt, alloc, Renamed::new(disk, false), Config::default()) {
+            Ok(mut engine) => {
+                let looked = matches!(&engine.header(0), Err(Fault::NotAStore));
+                let _disk = engine.into_disk();
+                !in_opening && looked
+            }
+            Err((fault, _disk)) => in_opening && fault == Fault::NotAStore,
+        },
+    )
 }
 
 // A store that was closed in order is opened without a look at a page: also where none of the file's bytes is one.
@@ -175,12 +173,8 @@ fn files_that_do_not_belong_together_are_refused_by_name(rt: HostRuntime) -> Res
     fs::remove_dir_all(&rt, "im_tool_mixed")?;
     for (damage, name, in_opening) in &DAMAGES {
         assert!(rt;
-            is_named(&rt, rt.alloc(), &copies, *damage, name)?,
-            "{damage:?}"
-        );
-        let files = damaged(rt.alloc(), &copies, *damage)?;
-        assert!(rt;
-            is_refused(&rt, rt.alloc(), files, *in_opening),
+            is_named(&rt, rt.alloc(), &copies, *damage, name)?
+                && is_refused(&rt, rt.alloc(), &copies, *damage, *in_opening)?,
             "{damage:?}"
         );
     }
@@ -195,7 +189,9 @@ fn a_call_that_fails_is_named(rt: HostRuntime) -> Result<(), Fail> {
     let lines = b"begin\ninsert 2 a 1\ncommit 2\n";
     let (printed, told) = answered(&rt, rt.alloc(), disk, lines)?;
     fs::remove_dir_all(&rt, "im_tool_failing")?;
-    assert!(rt; printed.starts_with(b"started 2\ninserted\nrefused 8\n"));
-    assert!(rt; told.starts_with(b"imstore: folder: a write to `log` at byte "));
+    assert!(rt;
+        printed.starts_with(b"started 2\ninserted\nrefused 8\n")
+            && told.starts_with(b"imstore: folder: a write to `log` at byte ")
+    );
     Ok(())
 }

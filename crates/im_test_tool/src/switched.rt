@@ -1,6 +1,6 @@
 //! A look at a store whose log goes on in the other file, and at logs of which one is damaged.
 
-use crate::copies::{Copies, copied, copies_in, is_whole, lay, said_of};
+use crate::copies::{Copies, copied, copies_in, file_in, is_whole, lay, said_of};
 use crate::looked::{fill, numbers_of};
 use crate::mixed::has_part;
 use im_base_file_disk::FileDisk;
@@ -41,21 +41,41 @@ static LOGS: [(u64, &str); 4] = [
     (3, "\nlog generation 4 in log2, from LSN "),
 ];
 
+// The files of such a store, whose folder goes again.
+fn copies_after<R: Threads + Sync>(
+    rt: &HostRuntime,
+    threads: &R,
+    folder: &str,
+    switches: u64,
+) -> Result<Copies, Fail> {
+    make_store(rt, threads, folder, switches)?;
+    let copies = copies_in(rt, folder)?;
+    fs::remove_dir_all(rt, folder)?;
+    Ok(copies)
+}
+
+// Whether that is told of these files.
+fn is_told<R: Threads + Sync>(
+    rt: &R,
+    alloc: Global,
+    copies: &Copies,
+    said: &str,
+) -> Result<bool, Fail> {
+    let (status, numbers) = numbers_of(rt, alloc, copies)?;
+    Ok(
+        status == 0
+            && has_part(&numbers, said)
+            && has_part(&numbers, "\ncommits 2\n")
+            && has_part(&numbers, "\nswitch waits for 0 transactions\n")
+            && is_whole(rt, alloc, copies)?,
+    )
+}
+
 #[test]
 fn a_store_is_looked_at_by_its_current_log(rt: HostRuntime) -> Result<(), Fail> {
     for (switches, said) in &LOGS {
-        make_store(&rt, &rt, "im_tool_logs", *switches)?;
-        let copies = copies_in(&rt, "im_tool_logs")?;
-        fs::remove_dir_all(&rt, "im_tool_logs")?;
-        assert!(rt; is_whole(&rt, rt.alloc(), &copies)?, "{switches}");
-        let (status, numbers) = numbers_of(&rt, rt.alloc(), &copies)?;
-        assert!(rt; status == 0, "{switches}");
-        assert!(rt; has_part(&numbers, said), "{switches}");
-        assert!(rt; has_part(&numbers, "\ncommits 2\n"), "{switches}");
-        assert!(rt;
-            has_part(&numbers, "\nswitch waits for 0 transactions\n"),
-            "{switches}"
-        );
+        let copies = copies_after(&rt, &rt, "im_tool_logs", *switches)?;
+        assert!(rt; is_told(&rt, rt.alloc(), &copies, said)?, "{switches}");
     }
     Ok(())
 }
@@ -131,88 +151,245 @@ fn damaged(
     Ok(files)
 }
 
+// Whether the check says this of files whose logs are so damaged.
+fn is_named<R: Threads + Sync>(
+    rt: &R,
+    alloc: Global,
+    copies: &Copies,
+    log: Log,
+    at: usize,
+    bytes: &[u8],
+    said: &str,
+) -> Result<bool, Fail> {
+    let files = damaged(alloc, copies, log, at, bytes)?;
+    let (status, printed) = said_of(rt, alloc, &files)?;
+    Ok(status == 1 && has_part(&printed, said))
+}
+
 #[test]
 fn a_damaged_log_is_named(rt: HostRuntime) -> Result<(), Fail> {
-    make_store(&rt, &rt, "im_tool_damaged", 1)?;
-    let copies = copies_in(&rt, "im_tool_damaged")?;
-    fs::remove_dir_all(&rt, "im_tool_damaged")?;
+    let copies = copies_after(&rt, &rt, "im_tool_damaged", 1)?;
     for (log, at, bytes, said) in &DAMAGES {
-        let files = damaged(rt.alloc(), &copies, *log, *at, bytes)?;
-        let (status, printed) = said_of(&rt, rt.alloc(), &files)?;
-        assert!(rt; status == 1, "{log:?} {at}");
-        assert!(rt; has_part(&printed, said), "{log:?} {at}");
+        assert!(rt;
+            is_named(&rt, rt.alloc(), &copies, *log, *at, bytes, said)?,
+            "{log:?} {at}"
+        );
     }
     Ok(())
+}
+
+// How many bytes `pages` has in the place of its own, all of them 0, and what the check says then.
+static BEFORE: [(usize, &str); 2] = [
+    (
+        0,
+        "pages: the file has 0 whole pages, and it was synced with page 1: pages are missing\n",
+    ),
+    (
+        2 * PAGE_SIZE,
+        "page 1: its LSN is 0, and its file was synced with its record at 134: the page is older than the log\n",
+    ),
+];
+
+// Whether the check says this where `pages` has so many bytes.
+fn is_compared<R: Threads + Sync>(
+    rt: &R,
+    alloc: Global,
+    copies: &Copies,
+    size: usize,
+    said: &str,
+) -> Result<bool, Fail> {
+    let mut files = copied(alloc, copies)?;
+    files.pages.clear();
+    files.pages.resize(size, 0)?;
+    let (status, printed) = said_of(rt, alloc, &files)?;
+    Ok(status == 1 && has_part(&printed, said))
 }
 
 // The current log names no page that was synced: the log that was left for it does.
 #[test]
 fn pages_are_compared_with_the_log_before(rt: HostRuntime) -> Result<(), Fail> {
-    make_store(&rt, &rt, "im_tool_before", 1)?;
-    let copies = copies_in(&rt, "im_tool_before")?;
-    fs::remove_dir_all(&rt, "im_tool_before")?;
-    let mut emptied = copied(rt.alloc(), &copies)?;
-    emptied.pages.clear();
-    let (status, printed) = said_of(&rt, rt.alloc(), &emptied)?;
-    assert!(rt; status == 1);
-    assert!(rt;
-        printed.as_slice()
-            == b"pages: the file has 0 whole pages, and it was synced with page 1: pages are missing\n".as_slice()
-    );
-    let mut older = copied(rt.alloc(), &copies)?;
-    older.pages.fill(0);
-    let (status, printed) = said_of(&rt, rt.alloc(), &older)?;
-    assert!(rt; status == 1);
-    assert!(rt;
-        has_part(
-            &printed,
-            "page 1: its LSN is 0, and its file was synced with its record at 134: the page is older than the log\n"
-        )
-    );
+    let copies = copies_after(&rt, &rt, "im_tool_before", 1)?;
+    for (size, said) in &BEFORE {
+        assert!(rt;
+            is_compared(&rt, rt.alloc(), &copies, *size, said)?,
+            "{size}"
+        );
+    }
     Ok(())
 }
 
-// The refusal of an opening of a folder, and its words.
-fn refused(rt: &HostRuntime, dir: &str) -> Result<Option<(Fault, String)>, Fail> {
-    match FileDisk::open(rt, dir) {
-        Ok(_) => Ok(None),
-        Err(error) => Ok(Some((error.fault(), format!(in rt.alloc(); "{error}")?))),
-    }
+// What is done in turn to the files of a store in a folder.
+#[derive(Clone, Copy, Debug)]
+enum Act {
+    // A new store goes on in its other file, so many times, with keys of each of its logs.
+    Make(u64),
+    // A new store without keys goes on so.
+    Empty(u64),
+    // Steps are made.
+    Fill(&'static str),
+    // Bytes of a file are written over from a place on.
+    Overwrite(&'static str, usize, &'static [u8]),
+    // A file that is longer gets so many bytes.
+    Cut(&'static str, usize),
+    Remove(&'static str),
 }
 
-fn is_refused(rt: &HostRuntime, dir: &str, words: &str) -> Result<bool, Fail> {
-    match refused(rt, dir)? {
-        Some((fault, said)) => Ok(fault == Fault::NotAStore && said.as_str() == words),
-        None => Ok(false),
-    }
+// What an opening then comes to.
+#[derive(Clone, Copy, Debug)]
+enum Comes {
+    Open,
+    // It is opened, and `pages` had so many bytes.
+    OpenWith(usize),
+    Refused(&'static str),
+    // It is not read either.
+    Unread(&'static str),
 }
 
-// Writes bytes over those of a file from a place on.
-fn overwrite(rt: &HostRuntime, path: &str, at: usize, bytes: &[u8]) -> Result<(), Fail> {
-    let mut file = fs::read(rt, path)?;
+fn switch_empty<R: Threads + Sync>(
+    rt: &HostRuntime,
+    threads: &R,
+    folder: &str,
+    switches: u64,
+) -> Result<(), Fail> {
+    let _ = fs::remove_dir_all(rt, folder);
+    let mut lines = Vec::new(rt.alloc());
+    for _ in 0..switches {
+        lines.extend_from_slice(b"switch\n")?;
+    }
+    fill(rt, threads, folder, &lines)
+}
+
+// Writes a file of a folder.
+fn put_file(rt: &HostRuntime, folder: &str, name: &str, bytes: &[u8]) -> Result<(), Fail> {
+    let path = format!(in rt.alloc(); "{folder}/{name}")?;
+    fs::write(rt, path.as_str(), bytes)?;
+    Ok(())
+}
+
+fn overwrite(
+    rt: &HostRuntime,
+    folder: &str,
+    name: &str,
+    at: usize,
+    bytes: &[u8],
+) -> Result<(), Fail> {
+    let mut file = file_in(rt, folder, name)?;
     lay(&mut file, at, bytes);
-    fs::write(rt, path, &file)?;
+    put_file(rt, folder, name, &file)
+}
+
+fn shorten(rt: &HostRuntime, folder: &str, name: &str, size: usize) -> Result<(), Fail> {
+    let mut file = file_in(rt, folder, name)?;
+    file.truncate(size);
+    put_file(rt, folder, name, &file)
+}
+
+fn take_away(rt: &HostRuntime, folder: &str, name: &str) -> Result<(), Fail> {
+    let path = format!(in rt.alloc(); "{folder}/{name}")?;
+    fs::remove_file(rt, path.as_str())?;
     Ok(())
 }
 
-// A log whose first byte is damaged is not passed over for the older one. One that a stop left in the midst of its making is: its first gate is closed.
+fn act_on<R: Threads + Sync>(
+    rt: &HostRuntime,
+    threads: &R,
+    folder: &str,
+    act: Act,
+) -> Result<(), Fail> {
+    match act {
+        Act::Make(switches) => make_store(rt, threads, folder, switches),
+        Act::Empty(switches) => switch_empty(rt, threads, folder, switches),
+        Act::Fill(lines) => fill(rt, threads, folder, lines.as_bytes()),
+        Act::Overwrite(name, at, bytes) => overwrite(rt, folder, name, at, bytes),
+        Act::Cut(name, size) => shorten(rt, folder, name, size),
+        Act::Remove(name) => take_away(rt, folder, name),
+    }
+}
+
+// Whether an opening of a folder is refused as none of a store, with these words.
+fn is_refused(rt: &HostRuntime, folder: &str, words: &str) -> Result<bool, Fail> {
+    match FileDisk::open(rt, folder) {
+        Ok(_) => Ok(false),
+        Err(error) => {
+            let said = format!(in rt.alloc(); "{error}")?;
+            Ok(error.fault() == Fault::NotAStore && said.as_str() == words)
+        }
+    }
+}
+
+fn comes_to(rt: &HostRuntime, folder: &str, comes: Comes) -> Result<bool, Fail> {
+    match comes {
+        Comes::Open => Ok(FileDisk::open(rt, folder).is_ok()),
+        Comes::OpenWith(size) => {
+            let pages = file_in(rt, folder, "pages")?;
+            Ok(pages.len() == size && FileDisk::open(rt, folder).is_ok())
+        }
+        Comes::Refused(words) => is_refused(rt, folder, words),
+        Comes::Unread(words) => Ok(
+            is_refused(rt, folder, words)? && FileDisk::open_to_read(rt, folder).is_err(),
+        ),
+    }
+}
+
+// Whether an opening comes to that once this is done.
+fn leads_to<R: Threads + Sync>(
+    rt: &HostRuntime,
+    threads: &R,
+    folder: &str,
+    act: Act,
+    comes: Comes,
+) -> Result<bool, Fail> {
+    act_on(rt, threads, folder, act)?;
+    comes_to(rt, folder, comes)
+}
+
+static TURNS: [(Act, Comes); 12] = [
+    // A log whose first byte is damaged is not passed over for the older one. One that a stop left in the midst of its making is: its first gate is closed.
+    (Act::Make(1), Comes::Open),
+    (
+        Act::Overwrite("log2", 0, &[0]),
+        Comes::Unread(
+            "the first byte of `log2` in it is damaged: it is the newer log of the store",
+        ),
+    ),
+    (Act::Overwrite("log2", 47, &[0]), Comes::Open),
+    (
+        Act::Remove("log"),
+        Comes::Refused("there is no `log` in it"),
+    ),
+    (Act::Make(0), Comes::Open),
+    (
+        Act::Remove("log2"),
+        Comes::Refused("there is no `log2` in it"),
+    ),
+    // Both of the first two pages were written before the log went on, as the one before has keys.
+    (Act::Make(1), Comes::OpenWith(2 * PAGE_SIZE)),
+    (
+        Act::Cut("pages", PAGE_SIZE),
+        Comes::Refused("`pages` in it lacks pages that the store had when its log began"),
+    ),
+    (
+        Act::Cut("pages", 0),
+        Comes::Refused("`pages` in it lacks pages that the store had when its log began"),
+    ),
+    // A store without keys has no pages, however often its log goes on; and the first that it writes may be there alone.
+    (Act::Empty(100), Comes::OpenWith(0)),
+    (
+        Act::Fill("begin\ninsert 1 a 1\ncommit 1\nflush 0\nflush 1\n"),
+        Comes::OpenWith(2 * PAGE_SIZE),
+    ),
+    (Act::Cut("pages", PAGE_SIZE), Comes::OpenWith(PAGE_SIZE)),
+];
+
 #[test]
-fn a_damaged_first_byte_opens_no_older_log(rt: HostRuntime) -> Result<(), Fail> {
-    let dir = "im_tool_first_byte";
-    let words = "the first byte of `log2` in it is damaged: it is the newer log of the store";
-    make_store(&rt, &rt, dir, 1)?;
-    overwrite(&rt, "im_tool_first_byte/log2", 0, &[0])?;
-    assert!(rt; is_refused(&rt, dir, words)?);
-    assert!(rt; FileDisk::open_to_read(&rt, dir).is_err());
-    overwrite(&rt, "im_tool_first_byte/log2", 47, &[0])?;
-    assert!(rt; refused(&rt, dir)?.is_none());
-    fs::remove_file(&rt, "im_tool_first_byte/log")?;
-    assert!(rt; is_refused(&rt, dir, "there is no `log` in it")?);
-    fs::remove_dir_all(&rt, dir)?;
-    make_store(&rt, &rt, dir, 0)?;
-    fs::remove_file(&rt, "im_tool_first_byte/log2")?;
-    assert!(rt; is_refused(&rt, dir, "there is no `log2` in it")?);
-    fs::remove_dir_all(&rt, dir)?;
+fn an_opening_asks_whether_the_files_are_all_there(rt: HostRuntime) -> Result<(), Fail> {
+    for (act, comes) in &TURNS {
+        assert!(rt;
+            leads_to(&rt, &rt, "im_tool_turns", *act, *comes)?,
+            "{act:?}"
+        );
+    }
+    fs::remove_dir_all(&rt, "im_tool_turns")?;
     Ok(())
 }
 
@@ -220,57 +397,23 @@ fn a_damaged_first_byte_opens_no_older_log(rt: HostRuntime) -> Result<(), Fail> 
 static HEADER: [u8; 47] =
     *b"ARIESIM2\0\0\x10\0\0\0\0\0\0\0\0\0\0\0\x04\0\0\0\0\0\x01\0\0\0\0\0\0\0\0\0\x07\0\0\0\0\0\0\0\0";
 
+// Whether a store is opened whose log was left with so many bytes of that header.
+fn opens_cut(rt: &HostRuntime, folder: &str, log: &[u8], size: usize) -> Result<bool, Fail> {
+    let mut log = Vec::from_slice(rt.alloc(), log)?;
+    lay(&mut log, 0, &[0]);
+    lay(&mut log, 1, HEADER.get(..size).unwrap_or(&[]));
+    put_file(rt, folder, "log2", &log)?;
+    Ok(FileDisk::open(rt, folder).is_ok())
+}
+
 // A stop within the write of a switch's header leaves bytes of it, and after them a record of the log before the current one.
 #[test]
 fn a_header_that_was_cut_is_no_damage(rt: HostRuntime) -> Result<(), Fail> {
-    let dir = "im_tool_header";
-    make_store(&rt, &rt, dir, 2)?;
-    let copies = copies_in(&rt, dir)?;
-    for (cut, _) in HEADER.iter().enumerate() {
-        let mut files = copied(rt.alloc(), &copies)?;
-        lay(&mut files.log2, 0, &[0]);
-        lay(&mut files.log2, 1, HEADER.get(..cut).unwrap_or(&[]));
-        fs::write(&rt, "im_tool_header/log2", &files.log2)?;
-        assert!(rt; refused(&rt, dir)?.is_none(), "{cut}");
+    make_store(&rt, &rt, "im_tool_header", 2)?;
+    let log = file_in(&rt, "im_tool_header", "log2")?;
+    for (size, _) in HEADER.iter().enumerate() {
+        assert!(rt; opens_cut(&rt, "im_tool_header", &log, size)?, "{size}");
     }
-    fs::remove_dir_all(&rt, dir)?;
-    Ok(())
-}
-
-// Both of the first two pages were written before the log went on, as the one before has keys.
-#[test]
-fn pages_that_were_cut_are_missed(rt: HostRuntime) -> Result<(), Fail> {
-    let dir = "im_tool_cut";
-    let words = "`pages` in it lacks pages that the store had when its log began";
-    make_store(&rt, &rt, dir, 1)?;
-    let mut copies = copies_in(&rt, dir)?;
-    copies.pages.truncate(PAGE_SIZE);
-    fs::write(&rt, "im_tool_cut/pages", &copies.pages)?;
-    assert!(rt; is_refused(&rt, dir, words)?);
-    fs::write(&rt, "im_tool_cut/pages", "")?;
-    assert!(rt; is_refused(&rt, dir, words)?);
-    fs::remove_dir_all(&rt, dir)?;
-    Ok(())
-}
-
-// A store without keys has no pages, however often its log goes on; and the first that it writes may be there alone.
-#[test]
-fn a_store_without_keys_lacks_no_pages(rt: HostRuntime) -> Result<(), Fail> {
-    let dir = "im_tool_no_keys";
-    let _ = fs::remove_dir_all(&rt, dir);
-    let mut lines = Vec::new(rt.alloc());
-    for _ in 0..100u32 {
-        lines.extend_from_slice(b"switch\n")?;
-    }
-    fill(&rt, &rt, dir, &lines)?;
-    let empty = copies_in(&rt, dir)?;
-    assert!(rt; empty.pages.is_empty());
-    assert!(rt; refused(&rt, dir)?.is_none());
-    fill(&rt, &rt, dir, b"begin\ninsert 1 a 1\ncommit 1\n")?;
-    let mut copies = copies_in(&rt, dir)?;
-    copies.pages.truncate(PAGE_SIZE);
-    fs::write(&rt, "im_tool_no_keys/pages", &copies.pages)?;
-    assert!(rt; refused(&rt, dir)?.is_none());
-    fs::remove_dir_all(&rt, dir)?;
+    fs::remove_dir_all(&rt, "im_tool_header")?;
     Ok(())
 }

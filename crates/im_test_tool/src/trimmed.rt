@@ -34,34 +34,64 @@ fn has_keys<R: Threads + Sync>(rt: &HostRuntime, threads: &R, count: u64) -> Res
     Ok(status == 0 && has_part(&numbers, said.as_str()) && is_whole(threads, rt.alloc(), &copies)?)
 }
 
-// While the store is open elsewhere, nothing is done.
-fn is_refused_meanwhile<R: Threads + Sync>(rt: &HostRuntime, threads: &R) -> Result<bool, Fail> {
-    let before = lengths(rt)?;
+// The status of a trim while the store is open elsewhere.
+fn trimmed_meanwhile<R: Threads + Sync>(rt: &HostRuntime, threads: &R) -> Result<u8, Fail> {
     let _disk = FileDisk::open(rt, FOLDER)?;
-    Ok(trimmed(rt, threads, FOLDER)? == 1 && lengths(rt)? == before)
+    trimmed(rt, threads, FOLDER)
+}
+
+// What a trim empties: of a store whose log never went on nothing, and then the log that was left.
+#[derive(Clone, Copy)]
+enum Left {
+    Nothing,
+    First,
+    Second,
+}
+
+// The lengths that a trim leaves of these.
+fn left_of(left: Left, lengths: (usize, usize)) -> (usize, usize) {
+    match left {
+        Left::Nothing => lengths,
+        Left::First => (0, lengths.1),
+        Left::Second => (lengths.0, 0),
+    }
+}
+
+// Lines in turn for one folder, how many keys the store then has, and what a trim empties.
+static TURNS: [(&str, u64, Left); 3] = [
+    ("begin\ninsert 1 a 1\ncommit 1\n", 1, Left::Nothing),
+    ("switch\nbegin\ninsert 2 b 2\ncommit 2\n", 2, Left::First),
+    ("switch\nbegin\ninsert 3 c 3\ncommit 3\n", 3, Left::Second),
+];
+
+// Whether a trim is refused, and does nothing, while the store is open, and whether two then empty that, and no key goes.
+fn is_trimmed<R: Threads + Sync>(
+    rt: &HostRuntime,
+    threads: &R,
+    count: u64,
+    left: Left,
+) -> Result<bool, Fail> {
+    let before = lengths(rt)?;
+    if trimmed_meanwhile(rt, threads)? != 1 || lengths(rt)? != before {
+        return Ok(false);
+    }
+    for _time in 0..2u8 {
+        if trimmed(rt, threads, FOLDER)? != 0 || lengths(rt)? != left_of(left, before) {
+            return Ok(false);
+        }
+    }
+    has_keys(rt, threads, count)
 }
 
 #[test]
 fn the_log_that_a_store_left_is_emptied(rt: HostRuntime) -> Result<(), Fail> {
     let _ = fs::remove_dir_all(&rt, FOLDER);
-    assert!(rt; trimmed(&rt, &rt, FOLDER)? == 1);
-    assert!(rt; !fs::exists(&rt, FOLDER)?);
-    fill(&rt, &rt, FOLDER, b"begin\ninsert 1 a 1\ncommit 1\n")?;
-    let made = lengths(&rt)?;
-    assert!(rt; trimmed(&rt, &rt, FOLDER)? == 0);
-    assert!(rt; lengths(&rt)? == made);
-    fill(&rt, &rt, FOLDER, b"switch\nbegin\ninsert 2 b 2\ncommit 2\n")?;
-    let (_, newer) = lengths(&rt)?;
-    assert!(rt; is_refused_meanwhile(&rt, &rt)?);
-    assert!(rt; trimmed(&rt, &rt, FOLDER)? == 0);
-    assert!(rt; lengths(&rt)? == (0, newer));
-    assert!(rt; trimmed(&rt, &rt, FOLDER)? == 0);
-    assert!(rt; has_keys(&rt, &rt, 2)?);
-    fill(&rt, &rt, FOLDER, b"switch\nbegin\ninsert 3 c 3\ncommit 3\n")?;
-    assert!(rt; has_keys(&rt, &rt, 3)?);
-    assert!(rt; trimmed(&rt, &rt, FOLDER)? == 0);
-    assert!(rt; lengths(&rt)?.1 == 0);
-    assert!(rt; has_keys(&rt, &rt, 3)?);
+    assert!(rt; trimmed(&rt, &rt, FOLDER)? == 1 && !fs::exists(&rt, FOLDER)?);
+    for (lines, count, left) in &TURNS {
+        fill(&rt, &rt, FOLDER, lines.as_bytes())?;
+        assert!(rt; has_keys(&rt, &rt, *count)?, "{count}");
+        assert!(rt; is_trimmed(&rt, &rt, *count, *left)?, "{count}");
+    }
     fs::remove_dir_all(&rt, FOLDER)?;
     Ok(())
 }

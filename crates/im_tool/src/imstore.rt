@@ -3,21 +3,21 @@
 ghost use Rattle.std.specs.Prelude.{◌≡◌, ◌≤◌, false, IfOk};
 ghost use Rattle.im_base_disk.specs.Runs.{IsSynced};
 
-use crate::causes::{Cause, Causes};
-use crate::line_input::LineInput;
-use crate::options::{Options, Task, parse_options};
-use crate::store::{Manner, StoreEnd, print_refused_opening, store_text};
+use crate::limits::{bounds_of, config_of};
+use crate::store::{StoreEnd, store_text};
 use crate::tasks::{load_program, look_program, tell_damage};
-use crate::trim::trim_program;
-use crate::watched_disk::{Opening, WatchedDisk};
 use clap::Error;
 use im_base_disk::Disk;
-use im_base_file_disk::{FileDisk, OpenError};
+use im_base_file_disk::FileDisk;
 use im_base_model_disk::ModelDisk;
 use im_base_two_logs::Renamed;
 use im_base_types::Fault;
+use im_engine::MOST_WORKERS;
+use im_tool_files::{
+    Cause, Causes, Opening, WatchedDisk, print_refused_opening, tell, tell_unopened, trim_program,
+};
+use im_tool_user::{LineInput, Manner, Options, Task, parse_options};
 use std::alloc::AllocError;
-use std::fmt::Display;
 use std::io;
 use std::io::{BufReader, BufWriter, IsTerminal, Write};
 use std::thread::Threads;
@@ -35,7 +35,7 @@ pub fn store_program<T: Threads + Sync>(
 ) -> io::Result<u8>
     ensures { IfOk result (λ status. status ≤ 3) }
 {
-    match parse_options(rt.alloc(), words) {
+    match parse_options(rt.alloc(), words, MOST_WORKERS as u64) {
         Ok(options) => run_task(rt, threads, &options),
         Err(error) => {
             if error.kind() == clap::error::ErrorKind::OutOfMemory {
@@ -151,7 +151,7 @@ fn run_steps<D: Disk + Cause + Opening + Drop, R: LineInput, W: Write, T: Thread
     requires working { D.failed disk ≡ false }
     requires synced { IsSynced D.Disk disk }
 {
-    let (config, bounds) = (options.config(), options.bounds());
+    let (config, bounds) = (config_of(options), bounds_of(options));
     let mut causes = Causes {
         writer: rt.stderr(),
         dir,
@@ -189,14 +189,4 @@ fn manner_of(rt: &HostRuntime, options: &Options) -> Manner {
         has_prompt: has_user,
         is_batch: options.is_batch,
     }
-}
-
-// Says something of the folder on standard error. Where that is closed nobody reads it.
-pub(crate) fn tell<T: Display>(rt: &HostRuntime, dir: &str, words: &T) {
-    let _ = eprintln!(rt; "imstore: {dir}: {words}");
-}
-
-/// Says on standard error why a store was not opened.
-pub(crate) fn tell_unopened(rt: &HostRuntime, dir: &str, error: &OpenError) {
-    tell(rt, dir, error);
 }

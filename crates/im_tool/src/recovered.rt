@@ -1,10 +1,10 @@
 //! A store as an opening finds it, over its files, of which nothing is changed.
 
-use crate::scratch_disk::ScratchDisk;
 use im_base_steps::{Reply, Step};
 use im_base_two_logs::Renamed;
 use im_base_types::{Fault, MOST_DIRTY, MOST_FRAMES};
 use im_engine::{BufferSize, Config, Engine};
+use im_tool_files::ScratchDisk;
 use std::alloc::Global;
 use std::thread::Threads;
 

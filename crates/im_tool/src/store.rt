@@ -3,35 +3,21 @@
 ghost use Rattle.std.specs.Prelude.{◌≡◌, ◌≤◌, false, IfOk};
 ghost use Rattle.im_base_disk.specs.Runs.{IsSynced};
 
-use crate::causes::{Cause, Causes};
-use crate::help::{write_help, write_help_on};
-use crate::line_input::{LineInput, without_newline};
-use crate::no_step::why_no_step;
-use crate::watched_disk::Opening;
-use crate::words_step::words_step;
 use im_base_steps::{Reply, Step};
 use im_base_two_logs::TwoLogs;
-use im_base_types::{Fault, Key, MOST_ENTRIES, Rid, TxnId};
+use im_base_types::Fault;
 use im_engine::{Config, Engine};
 use im_engine_upkeep::{Bounds, Due, Upkeep, has_first_format};
-use im_tool_look::write_key;
-use im_tool_words::{entries_text, reply_text, report_text, step_line};
+use im_tool_files::{Cause, Causes, Opening, print_refused_opening};
+use im_tool_user::{
+    LineInput, Manner, end_prompt, is_help, print_entries, print_prompt, print_refused,
+    print_reply, print_stop, refuse, run_help, step_in, why_no_step, without_newline,
+};
+use im_tool_words::report_text;
 use std::alloc::{AllocError, Global};
-use std::fmt::Display;
 use std::io;
 use std::io::Write;
 use std::thread::Threads;
-
-/// How lines are read and replies are written.
-#[derive(Clone, Copy, Debug, Default, PartialEq, Eq)]
-pub struct Manner {
-    /// Refusals are told in words, and keys are written and read so that they can be typed.
-    pub has_words: bool,
-    /// A prompt stands in front of each line.
-    pub has_prompt: bool,
-    /// The first line that is refused ends the run.
-    pub is_batch: bool,
-}
 
 /// How a run of lines ended.
 #[derive(Clone, Copy, Debug, PartialEq, Eq)]
@@ -111,12 +97,6 @@ pub fn store_text<
             Ok(StoreEnd::RefusedOpening(fault))
         }
     }
-}
-
-/// Writes that the opening was refused.
-pub(crate) fn print_refused_opening<W: Write>(writer: &mut W, fault: Fault) -> io::Result<()> {
-    writeln!(writer, "open refused {}", fault.number())?;
-    writer.flush()
 }
 
 // Makes the steps that the lines ask for, and closes the store after them.
@@ -249,21 +229,6 @@ fn name_of(due: Due) -> &'static str {
     }
 }
 
-fn print_prompt<W: Write>(manner: Manner, writer: &mut W) -> io::Result<()> {
-    if manner.has_prompt {
-        writer.write_all(b"> ")?;
-    }
-    Ok(())
-}
-
-// The line of the last prompt, after which the input ended.
-fn end_prompt<W: Write>(manner: Manner, writer: &mut W) -> io::Result<()> {
-    if manner.has_prompt {
-        writeln!(writer)?;
-    }
-    Ok(())
-}
-
 // Makes what a line asks for, and answers the refusal, if it was refused.
 fn run_line<D: TwoLogs, W: Write>(
     alloc: Global,
@@ -290,12 +255,7 @@ fn run_line<D: TwoLogs, W: Write>(
     if manner.has_words && is_help(line) {
         return run_help(manner, line, writer);
     }
-    let step = if manner.has_words {
-        words_step(alloc, line)
-    } else {
-        step_line(alloc, line)
-    };
-    match step {
+    match step_in(alloc, manner, line) {
         Ok(step) => run_step(alloc, engine, upkeep, manner, &step, writer),
         Err(Fault::BadScript) => {
             let why = why_no_step(alloc, line);
@@ -304,29 +264,6 @@ fn run_line<D: TwoLogs, W: Write>(
         }
         Err(_) => Err(io::Error::from(AllocError)),
     }
-}
-
-// Writes a refusal, and answers it.
-fn refuse<W: Write>(writer: &mut W, manner: Manner, fault: Fault) -> io::Result<Option<Fault>> {
-    print_refused(writer, manner, fault.number(), &fault)?;
-    Ok(Some(fault))
-}
-
-// The line is `help`, or begins with that word.
-fn is_help(line: &[u8]) -> bool {
-    line == b"help".as_slice() || line.starts_with(b"help ")
-}
-
-// Writes the lines that may be written, or what is to be known of a word; and answers the refusal of one that there is not.
-fn run_help<W: Write>(manner: Manner, line: &[u8], writer: &mut W) -> io::Result<Option<Fault>> {
-    let Some(word) = line.strip_prefix(b"help ") else {
-        write_help(writer)?;
-        return Ok(None);
-    };
-    if write_help_on(writer, word)? {
-        return Ok(None);
-    }
-    refuse(writer, manner, Fault::BadScript)
 }
 
 fn run_step<D: TwoLogs, W: Write>(
@@ -350,109 +287,4 @@ fn run_step<D: TwoLogs, W: Write>(
         writer.flush()?;
     }
     Ok(None)
-}
-
-// Writes the words of a reply, its keys as they can be typed where words are wanted.
-fn print_reply<W: Write>(
-    alloc: Global,
-    writer: &mut W,
-    manner: Manner,
-    reply: &Reply,
-) -> io::Result<()> {
-    if !manner.has_words {
-        return reply_text(alloc, writer, reply);
-    }
-    match reply {
-        Reply::Entry(key, rid) => {
-            write!(writer, "entry ")?;
-            write_key(alloc, writer, key.bytes())?;
-            write!(writer, " {rid}")
-        }
-        Reply::Entries(list) => {
-            write!(writer, "entries")?;
-            for (key, rid) in list {
-                write!(writer, " ")?;
-                write_key(alloc, writer, key.bytes())?;
-                write!(writer, " {rid}")?;
-            }
-            Ok(())
-        }
-        _ => reply_text(alloc, writer, reply),
-    }
-}
-
-// Where a scan stopped at the most entries that it lists though more were asked for, a line that says how to go on.
-fn print_stop<W: Write>(
-    alloc: Global,
-    writer: &mut W,
-    step: &Step,
-    reply: &Reply,
-) -> io::Result<()> {
-    if let Step::Scan(number, _, _, limit) = step {
-        if let Reply::Entries(list) = reply {
-            if *limit > MOST_ENTRIES as u64 && list.len() >= MOST_ENTRIES {
-                return print_last(alloc, writer, *number, list);
-            }
-        }
-    }
-    Ok(())
-}
-
-fn print_last<W: Write>(
-    alloc: Global,
-    writer: &mut W,
-    number: TxnId,
-    list: &[(Key, Rid)],
-) -> io::Result<()> {
-    let Some((key, _)) = list.last() else {
-        return Ok(());
-    };
-    write!(
-        writer,
-        "stopped at {} entries; to go on: next {number} ",
-        list.len()
-    )?;
-    write_key(alloc, writer, key.bytes())?;
-    writeln!(writer)
-}
-
-fn print_entries<W: Write>(
-    alloc: Global,
-    writer: &mut W,
-    manner: Manner,
-    entries: &[(Key, Rid)],
-) -> io::Result<()> {
-    if !manner.has_words {
-        return entries_text(alloc, writer, "total", entries);
-    }
-    writeln!(writer, "total {}", entries.len())?;
-    print_keys(alloc, writer, entries)
-}
-
-/// Writes each key as it can be typed, and its row id, one a line.
-pub(crate) fn print_keys<W: Write>(
-    alloc: Global,
-    writer: &mut W,
-    entries: &[(Key, Rid)],
-) -> io::Result<()> {
-    for (key, rid) in entries {
-        write_key(alloc, writer, key.bytes())?;
-        writeln!(writer, " {rid}")?;
-    }
-    Ok(())
-}
-
-// Writes a refusal by its number, and in words where they are wanted. It answers true.
-fn print_refused<W: Write, F: Display>(
-    writer: &mut W,
-    manner: Manner,
-    number: u8,
-    words: &F,
-) -> io::Result<bool> {
-    if manner.has_words {
-        writeln!(writer, "refused {number}: {words}")?;
-    } else {
-        writeln!(writer, "refused {number}")?;
-    }
-    Ok(true)
 }

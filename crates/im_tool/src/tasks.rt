@@ -2,22 +2,20 @@
 
 ghost use Rattle.std.specs.Prelude.{◌≤◌, IfOk};
 
-use crate::causes::{Cause, Causes};
-use crate::entry_text::{Form, WhyBad, dump_text};
-use crate::imstore::{tell, tell_unopened};
-use crate::line_input::LineInput;
+use crate::dump::dump_text;
+use crate::limits::{bounds_of, config_of};
 use crate::look::{check_text, stat_text};
-use crate::options::{Options, Task};
-use crate::progress::{Progress, ProgressLine, Untold};
 use crate::recovered::opened;
-use crate::scratch_disk::ScratchDisk;
-use crate::store::print_refused_opening;
-use crate::transfer::{LoadCount, Loaded, Present, load_text};
-use crate::watched_disk::WatchedDisk;
-use im_base_file_disk::{FileDisk, OpenError};
+use crate::transfer::{LoadCount, Loaded, load_text};
+use im_base_file_disk::FileDisk;
 use im_base_two_logs::Renamed;
 use im_base_types::Fault;
+use im_tool_files::{
+    Cause, Causes, Progress, ProgressLine, ScratchDisk, Untold, WatchedDisk, print_refused_opening,
+    tell, tell_unopened, tell_unread,
+};
 use im_tool_look::{LogDamage, log_text, read_log};
+use im_tool_user::{Form, LineInput, Options, Present, Task, WhyBad};
 use std::fmt::{Display, Formatter};
 use std::io::{BufReader, BufWriter, IsTerminal, Write};
 use std::thread::Threads;
@@ -84,14 +82,6 @@ fn look_at<W: Write, T: Threads + Sync>(
         Task::Log => print_log(rt, dir, writer, disk),
         Task::Dump(form) => dump(rt, threads, dir, writer, form, disk),
         Task::Steps | Task::Load(_) | Task::Trim => (Ok(0), disk),
-    }
-}
-
-/// Says on standard error why the files of a store were not opened that it has. No folder is made for that.
-pub(crate) fn tell_unread(rt: &HostRuntime, dir: &str, error: &OpenError) {
-    match error {
-        OpenError::NoFolder(_) => tell(rt, dir, &"there is no such folder"),
-        _ => tell_unopened(rt, dir, error),
     }
 }
 
@@ -275,7 +265,7 @@ fn load_from<R: LineInput, W: Write, T: Threads + Sync>(
             let disk = WatchedDisk::new(files, rt.stderr(), rt);
             let is_shown = rt.stderr().is_terminal();
             let mut progress = ProgressLine::new(rt.stderr(), is_shown, "entries", rt);
-            let (config, bounds) = (options.config(), options.bounds());
+            let (config, bounds) = (config_of(options), bounds_of(options));
             let mut causes = Causes {
                 writer: rt.stderr(),
                 dir,

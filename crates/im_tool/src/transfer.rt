@@ -3,16 +3,13 @@
 ghost use Rattle.std.specs.Prelude.{◌≡◌, false};
 ghost use Rattle.im_base_disk.specs.Runs.{IsSynced};
 
-use crate::causes::{Cause, Causes};
-use crate::entry_text::{EntryText, Next, WhyBad};
-use crate::line_input::LineInput;
-use crate::progress::Progress;
-use crate::watched_disk::Opening;
 use im_base_steps::{Reply, Step};
 use im_base_two_logs::TwoLogs;
 use im_base_types::{Fault, Rid, TxnId};
 use im_engine::{Config, Engine};
 use im_engine_upkeep::{Bounds, Upkeep, has_first_format};
+use im_tool_files::{Cause, Causes, Opening, Progress};
+use im_tool_user::{EntryText, LineInput, Next, Present, WhyBad};
 use std::alloc::Global;
 use std::io;
 use std::io::Write;
@@ -20,18 +17,6 @@ use std::thread::Threads;
 
 /// How many entries are put in between one commit and the next.
 const A_COMMIT: u64 = 1_000;
-
-/// What is done with a key that is in the store already.
-#[derive(Clone, Copy, Debug, Default, PartialEq, Eq)]
-pub enum Present {
-    /// The load ends there.
-    #[default]
-    Refused,
-    /// It stays as it is.
-    Skipped,
-    /// It gets the row id of the text.
-    Replaced,
-}
 
 /// How many entries of a text were put in, and how many keys were there already.
 #[derive(Clone, Copy, Debug, Default, PartialEq, Eq)]

@@ -41,7 +41,7 @@ pub struct Causes<'a, W> {
 
 impl<'a, W: Write> Causes<'a, W> {
     /// Tells the disk's last error, unless one was told. Where that cannot be written nobody reads it, and the run goes on.
-    pub(crate) fn tell<D: Disk + Cause>(&mut self, disk: &D) {
+    pub fn tell<D: Disk + Cause>(&mut self, disk: &D) {
         if self.is_told {
             return;
         }
@@ -52,7 +52,7 @@ impl<'a, W: Write> Causes<'a, W> {
     }
 
     /// Tells, unless a cause was told, who names what is broken in a store that is open.
-    pub(crate) fn tell_broken(&mut self) {
+    pub fn tell_broken(&mut self) {
         if self.is_told {
             return;
         }

@@ -125,7 +125,7 @@ static WORDS: [(&str, &str); 4] = [
 ];
 
 /// Writes all lines that may be written, and what they do.
-pub(crate) fn write_help<W: Write>(writer: &mut W) -> io::Result<()> {
+pub fn write_help<W: Write>(writer: &mut W) -> io::Result<()> {
     for (usage, what, _) in &LINES {
         writeln!(writer, "{usage:<24} {what}")?;
     }
@@ -133,7 +133,7 @@ pub(crate) fn write_help<W: Write>(writer: &mut W) -> io::Result<()> {
 }
 
 /// Writes what is to be known of a word. It answers whether there is such a word.
-pub(crate) fn write_help_on<W: Write>(writer: &mut W, word: &[u8]) -> io::Result<bool> {
+pub fn write_help_on<W: Write>(writer: &mut W, word: &[u8]) -> io::Result<bool> {
     for (usage, what, more) in &LINES {
         if is_of(usage, word) {
             writeln!(writer, "{usage:<24} {what}")?;

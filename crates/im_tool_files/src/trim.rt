@@ -4,10 +4,8 @@ ghost use Rattle.std.specs.Prelude.{◌≡◌, ◌≢◌, ◌≤◌, false, IfOk
 ghost use Rattle.im_base_types.specs.declared.file_id.FileId.TheVariants.{Pages};
 
 use crate::causes::Cause;
-use crate::imstore::tell;
 use crate::scratch_disk::ScratchDisk;
-use crate::store::print_refused_opening;
-use crate::tasks::tell_unread;
+use crate::telling::{print_refused_opening, tell, tell_unread};
 use im_base_disk::Disk;
 use im_base_file_disk::FileDisk;
 use im_base_types::{Fault, FileId};
@@ -19,7 +17,7 @@ use std::io::{BufWriter, Write};
 /// Empties the log of the lower generation of the store in a folder, which no other program has open, and cuts the current one to its end where it has no
 /// record. The store goes on in the current one, and makes the other anew when it leaves that. It answers the exit status: 0, or 1 where nothing was done
 /// because of a refusal.
-pub(crate) fn trim_program(rt: &HostRuntime, dir: &str) -> io::Result<u8>
+pub fn trim_program(rt: &HostRuntime, dir: &str) -> io::Result<u8>
     ensures { IfOk result (λ status. status ≤ 1) }
 {
     let mut writer = BufWriter::new(rt.alloc(), io::writer(rt))?;

@@ -11,7 +11,7 @@ use std::alloc::Global;
 /// The step that a line asks for: a line of the grammar of steps, or one of them with `x'6100'` or `"a b"` for a key.
 ///
 /// Refused `BadScript` where the line asks for none; `Memory`.
-pub(crate) fn words_step(alloc: Global, line: &[u8]) -> Result<Step, Fault> {
+pub fn words_step(alloc: Global, line: &[u8]) -> Result<Step, Fault> {
     let Some(place) = key_place(line) else {
         return step_line(alloc, line);
     };

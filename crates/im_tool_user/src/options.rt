@@ -1,19 +1,26 @@
 //! The command line of the program that keeps a store.
 
 use crate::entry_text::Form;
-use crate::transfer::Present;
 use crate::version::VERSION;
 use clap::builder::ValueParser;
 use clap::{Arg, ArgAction, ArgMatches, Command, Error};
 use im_base_types::{LEAST_FRAMES, MOST_FRAMES};
-use im_engine::{BufferSize, Config, MOST_WORKERS};
-use im_engine_upkeep::{Bounds, LogBound, RedoBound};
 use std::alloc::Global;
 
 /// The most MiB that may be named.
-const MOST_MIB: u64 = 1_048_576;
+pub const MOST_MIB: u64 = 1_048_576;
 
-const MIB: u64 = 1_048_576;
+/// What is done with a key that is in the store already.
+#[derive(Clone, Copy, Debug, Default, PartialEq, Eq)]
+pub enum Present {
+    /// The load ends there.
+    #[default]
+    Refused,
+    /// It stays as it is.
+    Skipped,
+    /// It gets the row id of the text.
+    Replaced,
+}
 
 /// What the program is asked for.
 #[derive(Clone, Copy, Debug, PartialEq, Eq)]
@@ -56,59 +63,13 @@ pub struct Options<'a> {
     pub is_batch: bool,
 }
 
-impl<'a> Options<'a> {
-    /// The limits of the engine: 1,024 frames for a folder and 64 in memory, a million pages, and one worker of redo, where the words say nothing
-    /// else. The log of a store in a folder has the buffer that suits files.
-    pub(crate) fn config(&self) -> Config {
-        let mut config = Config::default();
-        if let Some(workers) = self.workers {
-            config.workers = workers as usize;
-        }
-        if self.dir.is_some() {
-            config.frames = MOST_FRAMES;
-            config.buffer = BufferSize::OVER_FILES;
-        }
-        if let Some(frames) = self.frames {
-            config.frames = frames as usize;
-        }
-        if let Some(pages) = self.pages {
-            config.max_pages = u32::try_from(pages).unwrap_or(u32::MAX);
-        }
-        config
-    }
-
-    /// How much log an opening may have to redo: as many MiB as the words say. Where they say nothing, 16 MiB for a folder, or seven times as much as the
-    /// file of pages has, whichever is more. A store in memory is never opened again, and takes no Checkpoint then.
-    fn redo_bound(&self) -> RedoBound {
-        match self.checkpoint {
-            Some(mib) => RedoBound::of_bytes(mib.min(MOST_MIB) * MIB),
-            None if self.dir.is_some() => RedoBound::default(),
-            None => RedoBound::of_bytes(0),
-        }
-    }
-
-    /// How long the log may get that an opening reads: as many MiB as the words say. Where they say nothing, 64 MiB for a folder, or eight times as much as the
-    /// file of pages has, whichever is more. A store in memory is never opened again.
-    fn log_bound(&self) -> LogBound {
-        match self.switch {
-            Some(mib) => LogBound::of_bytes(mib.min(MOST_MIB) * MIB),
-            None if self.dir.is_some() => LogBound::default(),
-            None => LogBound::of_bytes(0),
-        }
-    }
-
-    /// What an opening may cost.
-    pub(crate) fn bounds(&self) -> Bounds {
-        Bounds {
-            redo: self.redo_bound(),
-            log: self.log_bound(),
-        }
-    }
-}
-
-/// Reads the words of the command line, of which the first is the program's name.
-pub(crate) fn parse_options<'a>(alloc: Global, words: &'a [String]) -> Result<Options<'a>, Error> {
-    let matches = command(alloc)?.try_get_matches_from(words)?;
+/// Reads the words of the command line, of which the first is the program's name. So many workers may be named at most.
+pub fn parse_options<'a>(
+    alloc: Global,
+    words: &'a [String],
+    most_workers: u64,
+) -> Result<Options<'a>, Error> {
+    let matches = command(alloc, most_workers)?.try_get_matches_from(words)?;
     Ok(Options {
         dir: matches.get_str("DIR"),
         task: task_of(&matches),
@@ -158,15 +119,22 @@ fn present_of(matches: &ArgMatches) -> Present {
     }
 }
 
-fn command<'a>(alloc: Global) -> Result<Command<'a>, Error> {
+fn command<'a>(alloc: Global, most_workers: u64) -> Result<Command<'a>, Error> {
     let command = Command::new(alloc, "imstore").version(VERSION).about(
         "Keeps keys with their row ids in a store, and makes the steps that standard input asks for",
     );
-    with_tasks(alloc, with_flags(alloc, with_numbers(alloc, command)?)?)
+    with_tasks(
+        alloc,
+        with_flags(alloc, with_numbers(alloc, command, most_workers)?)?,
+    )
 }
 
 // The folder, and the options that are numbers.
-fn with_numbers<'a>(alloc: Global, command: Command<'a>) -> Result<Command<'a>, Error> {
+fn with_numbers<'a>(
+    alloc: Global,
+    command: Command<'a>,
+    most_workers: u64,
+) -> Result<Command<'a>, Error> {
     let command = command
         .arg(Arg::new(alloc, "DIR").help(
             "The folder of the store; without one the store is in memory",
@@ -202,7 +170,7 @@ fn with_numbers<'a>(alloc: Global, command: Command<'a>) -> Result<Command<'a>, 
         .arg(
             Arg::new(alloc, "workers")
                 .long("workers")
-                .value_parser(ValueParser::unsigned(1, MOST_WORKERS as u64))
+                .value_parser(ValueParser::unsigned(1, most_workers))
                 .help("Threads that share the redo of an opening, 1 to 16 [1]"),
         )?;
     Ok(command)

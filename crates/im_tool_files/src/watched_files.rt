@@ -11,7 +11,7 @@ const A_PIECE: u64 = 4 * MIB;
 
 /// Files each few MiB of which are told as they are read: how far the one file is, of how much.
 #[derive(Drop)]
-pub(crate) struct WatchedFiles<'a, F, P> {
+pub struct WatchedFiles<'a, F, P> {
     files: &'a mut F,
     progress: &'a mut P,
     // How many bytes were read since they were told last.
@@ -22,7 +22,7 @@ pub(crate) struct WatchedFiles<'a, F, P> {
 
 impl<'a, F: Files, P: Progress> WatchedFiles<'a, F, P> {
     /// Nothing was read.
-    pub(crate) fn new(files: &'a mut F, progress: &'a mut P) -> WatchedFiles<'a, F, P> {
+    pub fn new(files: &'a mut F, progress: &'a mut P) -> WatchedFiles<'a, F, P> {
         WatchedFiles {
             files,
             progress,

@@ -23,7 +23,7 @@ impl<R: Read + Drop> LineInput for BufReader<R> {
 }
 
 /// The line without its newline, and without the carriage return in front of it.
-pub(crate) fn without_newline(line: &[u8]) -> &[u8] {
+pub fn without_newline(line: &[u8]) -> &[u8] {
     match line {
         [front @ .., b'\r', b'\n'] => front,
         [front @ .., b'\n'] => front,

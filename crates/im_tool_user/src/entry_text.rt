@@ -4,22 +4,15 @@
 //! Berkeley DB dump and load: a head, from `VERSION=3` to `HEADER=END`; two lines an entry, its key and its row id in 8 bytes, the highest
 //! first, each a space and hexadecimal digits; and `DATA=END`.
 
-use crate::entry_walk::EntryWalk;
 use crate::line_input::{LineInput, without_newline};
-use crate::progress::Progress;
-use crate::store::print_keys;
-use im_base_two_logs::TwoLogs;
+use crate::replies::print_keys;
 use im_base_types::{Fault, Key, Rid};
-use im_engine::Engine;
 use im_tool_look::noted_key;
 use im_tool_words::bytes_of;
 use std::alloc::Global;
 use std::fmt::{Display, Formatter};
 use std::io::Write;
 use std::{fmt, io};
-
-/// How many entries are written between one word of the progress and the next.
-const A_PART: u64 = 10_000;
 
 const TITLE: &[u8] = b"imstore entries ";
 
@@ -40,77 +33,8 @@ pub enum Form {
     Portable,
 }
 
-/// Writes all entries of a store in a form, a part at a time, and tells how far it is. It answers the refusal of a step, if one was refused: then only a
-/// part of the text may be there, and none where the entries could not be counted.
-pub fn dump_text<D: TwoLogs, W: Write, P: Progress>(
-    alloc: Global,
-    engine: &mut Engine<D>,
-    writer: &mut W,
-    form: Form,
-    progress: &mut P,
-) -> io::Result<Option<Fault>> {
-    let all = match count_entries(alloc, engine) {
-        Ok(all) => all,
-        Err(fault) => return Ok(Some(fault)),
-    };
-    write_head(writer, form, all)?;
-    let walk = match EntryWalk::new(alloc) {
-        Ok(walk) => walk,
-        Err(fault) => return Ok(Some(fault)),
-    };
-    let refused = write_entries(alloc, engine, writer, form, walk, all, progress)?;
-    progress.end();
-    if refused.is_none() {
-        write_end(writer, form)?;
-    }
-    Ok(refused)
-}
-
-fn count_entries<D: TwoLogs>(alloc: Global, engine: &mut Engine<D>) -> Result<u64, Fault> {
-    let mut walk = EntryWalk::new(alloc)?;
-    let mut all = 0u64;
-    for _part in 0..u64::MAX {
-        let part = walk.next_part(alloc, engine)?;
-        if part.is_empty() {
-            break;
-        }
-        all = all.saturating_add(part.len() as u64);
-    }
-    Ok(all)
-}
-
-// Writes what is left of a walk, and answers the refusal of a step.
-fn write_entries<D: TwoLogs, W: Write, P: Progress>(
-    alloc: Global,
-    engine: &mut Engine<D>,
-    writer: &mut W,
-    form: Form,
-    walk: EntryWalk,
-    all: u64,
-    progress: &mut P,
-) -> io::Result<Option<Fault>> {
-    let mut walk = walk;
-    let mut done = 0u64;
-    let mut shown = 0u64;
-    for _part in 0..u64::MAX {
-        let part = match walk.next_part(alloc, engine) {
-            Ok(part) => part,
-            Err(fault) => return Ok(Some(fault)),
-        };
-        if part.is_empty() {
-            break;
-        }
-        write_part(alloc, writer, form, &part)?;
-        done = done.saturating_add(part.len() as u64);
-        if done.saturating_sub(shown) >= A_PART || done == all {
-            progress.show(done, Some(all));
-            shown = done;
-        }
-    }
-    Ok(None)
-}
-
-fn write_head<W: Write>(writer: &mut W, form: Form, all: u64) -> io::Result<()> {
+/// Writes what stands before so many entries.
+pub fn write_head<W: Write>(writer: &mut W, form: Form, all: u64) -> io::Result<()> {
     match form {
         Form::Own => {
             writer.write_all(TITLE)?;
@@ -120,7 +44,8 @@ fn write_head<W: Write>(writer: &mut W, form: Form, all: u64) -> io::Result<()> 
     }
 }
 
-fn write_part<W: Write>(
+/// Writes some entries.
+pub fn write_part<W: Write>(
     alloc: Global,
     writer: &mut W,
     form: Form,
@@ -142,7 +67,8 @@ fn write_pairs<W: Write>(alloc: Global, writer: &mut W, part: &[(Key, Rid)]) -> 
     Ok(())
 }
 
-fn write_end<W: Write>(writer: &mut W, form: Form) -> io::Result<()> {
+/// Writes what stands after the last entry.
+pub fn write_end<W: Write>(writer: &mut W, form: Form) -> io::Result<()> {
     match form {
         Form::Own => Ok(()),
         Form::Portable => {
@@ -205,7 +131,7 @@ enum Unread {
 
 /// What comes next in a text of entries.
 #[derive(Drop)]
-pub(crate) enum Next {
+pub enum Next {
     /// An entry, and the number of the line at which it stands.
     Entry(Vec<u8>, Rid, u64),
     /// No entry is left.
@@ -218,7 +144,7 @@ pub(crate) enum Next {
 
 /// A text of entries that is read line by line.
 #[derive(Drop)]
-pub(crate) struct EntryText {
+pub struct EntryText {
     // The line that was read last, and its number from 1.
     line: Vec<u8>,
     number: u64,
@@ -230,7 +156,7 @@ pub(crate) struct EntryText {
 
 impl EntryText {
     /// No line was read.
-    pub(crate) fn new(alloc: Global) -> EntryText {
+    pub fn new(alloc: Global) -> EntryText {
         EntryText {
             line: Vec::new(alloc),
             number: 0,
@@ -241,12 +167,12 @@ impl EntryText {
     }
 
     /// The number of the line that was read last, from 1.
-    pub(crate) fn number(&self) -> u64 {
+    pub fn number(&self) -> u64 {
         self.number
     }
 
     /// How many entries the text says that it has. None where it does not say.
-    pub(crate) fn all(&self) -> Option<u64> {
+    pub fn all(&self) -> Option<u64> {
         match self.form {
             Form::Own => Some(self.all),
             Form::Portable => None,
@@ -261,7 +187,7 @@ impl EntryText {
     }
 
     /// Reads what stands before the entries, in either form. It answers why that is bad, if it is.
-    pub(crate) fn read_head<R: LineInput>(&mut self, reader: &mut R) -> io::Result<Option<WhyBad>> {
+    pub fn read_head<R: LineInput>(&mut self, reader: &mut R) -> io::Result<Option<WhyBad>> {
         if !self.read_line(reader)? {
             return Ok(Some(WhyBad::NoDump));
         }
@@ -298,11 +224,7 @@ impl EntryText {
     }
 
     /// Reads the next entry.
-    pub(crate) fn next_entry<R: LineInput>(
-        &mut self,
-        alloc: Global,
-        reader: &mut R,
-    ) -> io::Result<Next> {
+    pub fn next_entry<R: LineInput>(&mut self, alloc: Global, reader: &mut R) -> io::Result<Next> {
         match self.form {
             Form::Own => self.next_own(alloc, reader),
             Form::Portable => self.next_pair(alloc, reader),

@@ -162,7 +162,7 @@ impl ScratchDisk {
     }
 
     /// The files of the folder, as they are. None where there is no folder.
-    pub(crate) fn into_files(self) -> Option<FileDisk> {
+    pub fn into_files(self) -> Option<FileDisk> {
         self.files.base
     }
 

@@ -8,7 +8,7 @@ use std::fmt::{Display, Formatter};
 
 /// Why a line that asks for no step is none, where that can be told. The usage is how the line of that word is written, and a part of it one of its words.
 #[derive(Clone, Copy, Debug, PartialEq, Eq)]
-pub(crate) enum NoStep {
+pub enum NoStep {
     /// No line begins with this word.
     OtherWord,
     /// The line ends before this part.
@@ -49,7 +49,7 @@ impl Display for NoStep {
 }
 
 /// Why such a line is none.
-pub(crate) fn why_no_step(alloc: Global, line: &[u8]) -> NoStep {
+pub fn why_no_step(alloc: Global, line: &[u8]) -> NoStep {
     let (word, rest) = piece_of(line);
     let Some(usage) = usage_of(word) else {
         return NoStep::OtherWord;

@@ -52,8 +52,8 @@ pub struct WatchedDisk<'a, W> {
 
 impl<'a, W: Write> WatchedDisk<'a, W> {
     /// Nothing was read. What is told goes to the writer, where standard error is a terminal.
-    pub(crate) fn new(files: FileDisk, writer: W, rt: &'a HostRuntime) -> WatchedDisk<'a, W>
-        ensures files { result.files ≡ files }
+    pub fn new(files: FileDisk, writer: W, rt: &'a HostRuntime) -> WatchedDisk<'a, W>
+        ensures { ⟦<WatchedDisk<'a, W> as Disk>⟧.failed result ≡ ⟦<FileDisk as Disk>⟧.failed files }
     {
         let is_shown = rt.stderr().is_terminal();
         WatchedDisk {

@@ -1,0 +1,56 @@
+//! The limits of the engine, as the words of the command line name them.
+
+use im_base_types::MOST_FRAMES;
+use im_engine::{BufferSize, Config};
+use im_engine_upkeep::{Bounds, LogBound, RedoBound};
+use im_tool_user::{MOST_MIB, Options};
+
+const MIB: u64 = 1_048_576;
+
+/// The limits of the engine: 1,024 frames for a folder and 64 in memory, a million pages, and one worker of redo, where the words say nothing
+/// else. The log of a store in a folder has the buffer that suits files.
+pub(crate) fn config_of(options: &Options) -> Config {
+    let mut config = Config::default();
+    if let Some(workers) = options.workers {
+        config.workers = workers as usize;
+    }
+    if options.dir.is_some() {
+        config.frames = MOST_FRAMES;
+        config.buffer = BufferSize::OVER_FILES;
+    }
+    if let Some(frames) = options.frames {
+        config.frames = frames as usize;
+    }
+    if let Some(pages) = options.pages {
+        config.max_pages = u32::try_from(pages).unwrap_or(u32::MAX);
+    }
+    config
+}
+
+/// What an opening may cost.
+pub(crate) fn bounds_of(options: &Options) -> Bounds {
+    Bounds {
+        redo: redo_bound(options),
+        log: log_bound(options),
+    }
+}
+
+// How much log an opening may have to redo: as many MiB as the words say. Where they say nothing, 16 MiB for a folder, or seven times as much as the
+// file of pages has, whichever is more. A store in memory is never opened again, and takes no Checkpoint then.
+fn redo_bound(options: &Options) -> RedoBound {
+    match options.checkpoint {
+        Some(mib) => RedoBound::of_bytes(mib.min(MOST_MIB) * MIB),
+        None if options.dir.is_some() => RedoBound::default(),
+        None => RedoBound::of_bytes(0),
+    }
+}
+
+// How long the log may get that an opening reads: as many MiB as the words say. Where they say nothing, 64 MiB for a folder, or eight times as much as the
+// file of pages has, whichever is more. A store in memory is never opened again.
+fn log_bound(options: &Options) -> LogBound {
+    match options.switch {
+        Some(mib) => LogBound::of_bytes(mib.min(MOST_MIB) * MIB),
+        None if options.dir.is_some() => LogBound::default(),
+        None => LogBound::of_bytes(0),
+    }
+}

@@ -1,0 +1,28 @@
+//! What does a user of `imstore` write, and what does it answer him, whatever store there is?
+//!
+//! `parse_options` reads the command line, `LineInput` is a reader of lines, `step_in` reads the step that a line asks for, in the grammar of steps or in the
+//! notation of keys that users type, and `why_no_step` tells why a line asks for none. `print_reply` and its kin write replies, prompts and refusals in the
+//! `Manner` that is wanted; `write_head`, `write_part` and `EntryText` are entries as text, in two forms, written and read.
+//!
+//! It stands on `im_tool_words` for the lines of steps and the words of replies, on `im_tool_look` for the notation of keys, and on `clap` for command
+//! lines. No disk and no engine is needed here, so it is proved beside them. Its words are tested in im_test_answers, and stand in no clause.
+#![tactic(auto)]
+
+mod entry_text;
+mod help;
+mod line_input;
+mod manner;
+mod no_step;
+mod options;
+mod replies;
+mod version;
+mod words_step;
+
+pub use entry_text::{EntryText, Form, Next, WhyBad, write_end, write_head, write_part};
+pub use line_input::{LineInput, without_newline};
+pub use manner::{
+    Manner, end_prompt, is_help, print_prompt, print_refused, refuse, run_help, step_in,
+};
+pub use no_step::{NoStep, why_no_step};
+pub use options::{MOST_MIB, Options, Present, Task, parse_options};
+pub use replies::{print_entries, print_reply, print_stop};
