@@ -50,8 +50,8 @@ module _ {D : Type 0} (d : Ghosts D) (only_now : (disk : D) (c : Files) → d.le
       turns = turns;
       disk = refl;
       since = stops_since;
-      run = λ told n le c left. runs_on (d.seen old) steps replies n c (stops_since told n le c left);
       within = stops_within;
+      run = λ told n m le most c left. runs_on (d.seen old) (take m steps) (take m replies) n c (stops_within told n m le most c left);
       ends = λ told c left before stands. let kept = opening.kept before told stands in cut_at_end d only_now before steps replies nothing_shown _ opened last turns kept.ok.0 c left;
       alive = alive_at_end d steps replies opened last turns opening.opened.3;
     }

@@ -48,11 +48,12 @@ module _ {D : Type 0} (d : Ghosts D) where
     pub disk : new ≡ last.disk
     -- what a stop leaves that falls when the first n replies have been handed out, at any moment since
     pub since : d.tells → (n : ℕ) → n ≤ length replies → (c : Files) → d.left_since new (d.moment (disk_at old n steps replies opened last turns)) c → TakesFiles steps replies n (d.seen old) c
-    -- with it, it is a life of those that the promise speaks of
-    pub run : d.tells → (n : ℕ) → n ≤ length replies → (c : Files) → d.left_since new (d.moment (disk_at old n steps replies opened last turns)) c → IsRunOn StandsFor (d.seen old) (record { steps = steps; replies = replies; answered = n; shown = None; left = c })
     -- and what one leaves that falls no later than the reply to the m-th step
     pub within : d.tells → (n m : ℕ) → n ≤ m → m ≤ length replies → (c : Files) → d.left_since (behind d m steps replies opened last turns).disk (d.moment (disk_at old n steps replies opened last turns)) c
         → TakesFiles (take m steps) (take m replies) n (d.seen old) c
+    -- with it, it is a life of those that the promise speaks of, which had asked no step after the m-th
+    pub run : d.tells → (n m : ℕ) → n ≤ m → m ≤ length replies → (c : Files) → d.left_since (behind d m steps replies opened last turns).disk (d.moment (disk_at old n steps replies opened last turns)) c
+        → IsRunOn StandsFor (d.seen old) (record { steps = take m steps; replies = take m replies; answered = n; shown = None; left = c })
     -- a stop behind the last
     pub ends : d.tells → (c : Files) → d.may_leave new c → TakesFiles steps replies (length replies) (d.seen old) c
     -- the disk has failed only where a reply says so

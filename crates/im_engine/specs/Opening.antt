@@ -21,6 +21,7 @@ module _ {D : Type 0} (d : Ghosts D) where
     pub opened : IfOk result (λ e. (e.failed ≡ false) × (e.txns.rows ≡ []) × (e.locks ≡ []) × (d.failed e.disk ≡ false))
     pub limit : IfOk result (λ e. e.max_pages ≡ config.max_pages)
     pub pool : IfOk result (λ e. e.writer.pool.frames ≡ config.frames)
+    pub group : IfOk result (λ e. e.txns.group ≡ config.group)
     pub spelled : IfOk result (λ _. d.tells → SpellsCurrent (d.seen old))
     pub frames : IsErrAnd result (λ x. x.0 ≡ PoolSize) ↔ ((config.frames < 8) ⊎ (1024 < config.frames))
     pub workers : IsErrAnd result (λ x. x.0 ≡ Workers) ↔ ((8 ≤ config.frames) × (config.frames ≤ 1024)) × ((config.workers < 1) ⊎ (16 < config.workers))

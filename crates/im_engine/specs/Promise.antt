@@ -71,7 +71,11 @@ abbrev pub AreRun : {F : Type 0} → (List Effect → F → Type 0) → F → Li
 AreRun StandsFor files [] = Unit {0}
 AreRun StandsFor files (life ∷ later) = IsRunOn StandsFor files life × AreRun StandsFor life.left later
 
--- So it is of every list of lives from new files, which stand for no effect, wherever each stops.
+-- So it is of every list of lives from files that stand for some effects, wherever each stops.
+abbrev pub PromiseFrom : {F : Type 0} → List Effect → (List Effect → F → Type 0) → F → Type 0
+PromiseFrom {F} before StandsFor files = StandsFor before files → (lives : List (Life F)) → AreRun StandsFor files lives → OneList before lives
+
+-- And from new files, which stand for none.
 abbrev pub Promise : {F : Type 0} → (List Effect → F → Type 0) → F → Type 0
 Promise {F} StandsFor new = (lives : List (Life F)) → AreRun StandsFor new lives → OneList [] lives
 

@@ -12,7 +12,9 @@ use std::alloc::Global;
 
 impl<D: Disk> Engine<D> {
     ghost use Rattle.std.specs.Prelude.{false};
-    ghost use Rattle.im_base_types.specs.Changes.{Effect};
+    ghost use Rattle.std.specs.Prelude.{Ok};
+    ghost use Rattle.std.specs.FinMap.{empty, entries};
+    ghost use Rattle.im_base_types.specs.Changes.{Effect, apply_all};
     ghost use Rattle.im_theory_log.specs.Histories.{Base};
     ghost use Rattle.im_theory_log.specs.Histories as histories;
     ghost use Rattle.im_base_types.specs.Lives.{Shown};
@@ -23,13 +25,18 @@ impl<D: Disk> Engine<D> {
     ghost use Rattle.im_engine.specs.Running.{IsRunning, IsLife};
     ghost use Rattle.im_engine.specs.Kept.{LookKept, EntriesKept};
     ghost use Rattle.im_engine.specs.Looking.{Looks, header_of};
+    ghost use Rattle.im_engine.specs.declared.config.Config.{Config};
+    ghost use Rattle.im_engine.specs.Opening.{IsOpening};
+    ghost use Rattle.im_engine.specs.Stands.{StandsFor};
 
-    /// The entries of the store, those of active transactions included, in rising key order. Refused `Failed`, `Memory`, and as a step is
+    /// The entries of the store, those of active transactions included, in rising key order: of one that was just opened those that the
+    /// effects make of an empty index for which its files stood (`shown`), whatever steps it makes after that. Refused `Failed`, `Memory`, and as a step is
     /// that reads a leaf; every refusal but `Memory` then breaks the engine.
     pub fn entries(&mut self, alloc: Global) -> Result<Vec<(Key, Rid)>, Fault>
         ensures outcome { Looks D.Disk (fault_of result) self.old self.new }
         ensures kept { (before : List Effect) (s : Shown) (v : View) → IsLife D.Disk before s v self.old → LookKept D.Disk before s v self.old self.new }
         ensures entries { IfOk result (λ list. (before : List Effect) (s : Shown) (v : View) → IsLife D.Disk before s v self.old → EntriesKept before s v list.items) }
+        ensures shown { IfOk result (λ list. (config : Config) (from : D) → IsOpening D.Disk config from (Ok self.old) → D.tells → (before : List Effect) → StandsFor before (D.seen from) → list.items ≡ entries (apply_all empty before)) }
         ensures never { IfErr result (λ e. (before : List Effect) (s : Shown) (v : View) → IsLife D.Disk before s v self.old → e ≢ NotAStore) }
     {
         if self.failed {

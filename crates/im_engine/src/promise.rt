@@ -3,10 +3,11 @@
 ghost use Rattle.std.specs.Prelude.{ℕ, List, []};
 ghost use Rattle.im_base_types.specs.Changes.{Effect};
 ghost use Rattle.im_base_disk.specs.Disk.{Files, both};
+ghost use Rattle.im_base_two_logs.specs.Runs.{IsNameless};
 ghost use Rattle.im_engine.specs.FirstFormat.{StandsForFirst};
 ghost use Rattle.im_engine.specs.Stands.{StandsFor};
 ghost use Rattle.im_engine.specs.Counted.{FilesAreCounted, LivesAreCounted, OpeningsAreCounted, StepsAreCounted};
-ghost use Rattle.im_engine.specs.Promise.{Life, Promise};
+ghost use Rattle.im_engine.specs.Promise.{Life, Promise, PromiseFrom};
 ghost use Rattle.im_engine.specs.Lived.{AreLives, AreKept};
 
 use im_base_disk::Disk;
@@ -23,10 +24,14 @@ pub fn changes_are_taken_back_once<D: Disk>()
 
 /// The promise. From new files, whatever lives are run, and wherever each stops, there is one list of effects, which only grows. What an
 /// opening hands out is what the list makes of an empty index. Each life adds to its end a prefix of the commits that it had asked when it
-/// stopped, in their order, each whole, with every acknowledged one in it. `live` and `look` say of each life what it asks (`IsRunOn`). A law,
-/// and nothing that runs.
+/// stopped, in their order, each whole, with every acknowledged one in it. `live` and `look` say of each life what it asks (`IsRunOn`). So it
+/// is from whatever files stand for some effects (`from`), those that lives of the first format left among them (`first_format`), and by
+/// whichever names files have their two logs (`nameless`). A law, and nothing that runs.
 pub fn the_promise()
-    ensures { Promise StandsFor (both [] []) }
+    ensures promise { Promise StandsFor (both [] []) }
+    ensures from { (before : List Effect) (files : Files) → PromiseFrom before StandsFor files }
+    ensures first_format { (before : List Effect) (log pages : List ℕ) → StandsForFirst before log pages → StandsFor before (both log pages) }
+    ensures nameless { (before : List Effect) → IsNameless (StandsFor before) }
 {}
 
 /// Over every list of lives, one after another, each an opening with steps of many transactions as `live` makes it, stopped at any

@@ -1,4 +1,8 @@
 use Rattle.std.proofs.Common.{refl, None, Some, ◌∙◌}
+use Rattle.std.specs.FinMap.{empty}
+use Rattle.im_base_types.specs.Changes.{apply_all}
+use Rattle.im_base_types.specs.Lives.{nothing_shown}
+use Rattle.im_theory_machine.specs.Machine.{start}
 use Rattle.im_page_writer.specs.Outcome.{pages_of}
 use Rattle.im_engine.proofs.Running.{has_good_tree, walk_is}
 use Rattle.im_engine.proofs.Looked.{looks_of, look_kept, look_refused, look_barred, entries_kept}
@@ -22,6 +26,13 @@ returns-in-Ok-clause-entries g c before s v life =
     let old = c.args.self.now in
     let r = (life.running c.if-self.false).1 in
     entries_kept g.D.Disk before s v old r c.in-Ok.list.items (c.in-Ok.ensures.kept (pages_of r.now) (has_good_tree g.D.Disk before s v old r) ∙ walk_is g.D.Disk before s v old r)
+
+pub returns-in-Ok-clause-shown : goal.returns-in-Ok-clause-shown
+returns-in-Ok-clause-shown g c config from opening told before stands =
+    let e = c.args.self.now in
+    let v = start (apply_all empty before) e.txns.next in
+    let r = ((opening.kept before told stands).ok.0.running c.if-self.false).1 in
+    (entries_kept g.D.Disk before nothing_shown v e r c.in-Ok.list.items (c.in-Ok.ensures.kept (pages_of r.now) (has_good_tree g.D.Disk before nothing_shown v e r) ∙ walk_is g.D.Disk before nothing_shown v e r)).walk
 
 pub returns-in-Err-clause-kept : goal.returns-in-Err-clause-kept
 returns-in-Err-clause-kept g c before s v life =

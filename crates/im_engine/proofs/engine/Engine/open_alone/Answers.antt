@@ -8,6 +8,7 @@ returns-clause-opening g c =
       opened = is.opened;
       limit = is.limit;
       pool = is.pool;
+      group = is.group;
       spelled = is.spelled;
       frames = is.frames;
       workers = is.workers;
