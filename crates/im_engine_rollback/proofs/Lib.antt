@@ -3,3 +3,5 @@ pub mod Readings
 pub mod Turning
 pub mod LoggingBack
 pub mod TurningBeside
+pub mod SplitsBack
+pub mod BehindChanges

@@ -7,7 +7,6 @@ use Rattle.im_base_types.specs.Pages.{Body, Entry as PageEntry}
 use Rattle.im_base_types.specs.Records.{What}
 use Rattle.im_theory_log.specs.Copies.{GrowsByImages}
 use Rattle.im_theory_log.specs.Histories.{Base}
-use Rattle.im_theory_log.specs.LogLaws as logs
 use Rattle.im_theory_log.specs.Structure.{open_smo, settled}
 use Rattle.im_theory_log.specs.Tree.{with_entries}
 use Rattle.im_theory_log.specs.Writer.{Writer}

@@ -38,8 +38,8 @@ use Rattle.im_engine_rollback.specs.declared.undone.Undone.{Undone}
 use Rattle.im_engine_rollback.specs.declared.undone.Undone.TheVariants.{More, Ended}
 use Rattle.im_engine_rollback.specs.Ends.{may_be_full, TurnOutcome}
 use Rattle.im_engine_rollback.proofs.Ends.{never_capacity, never_failed, never_memory}
-use Rattle.im_engine_rollback.specs.EndsBeside.{EndedBeside, EndIfUndoneBesideKept}
-use Rattle.im_engine_rollback.specs.Turns.{EndIfUndoneKept, HasMore, TakeKept, Took, TurnKept}
+use Rattle.im_engine_rollback.specs.EndsBeside.{EndedBeside, EndIfUndoneBesideKept, WentOnBeside}
+use Rattle.im_engine_rollback.specs.Turns.{EndedNow, EndIfUndoneKept, WentOn, HasMore, TakeKept, Took, TurnKept}
 
 module _ {D : Type 0} (d : Ghosts D) (b : Base) (base : ℕ) where
   -- calls that only read
@@ -76,14 +76,24 @@ module _ {D : Type 0} (d : Ghosts D) (b : Base) (base : ℕ) where
       record { now = _; lsn = lsn; log = refl; ended = after.2; stands = logged.stands; over = g.over; lawful = after.0; going_on = after.1; durable = logged.grows }
 
   -- where none is open, an End leaves none open
+  pub ended_now : (s : Writer) (e t last : ℕ) (w : PageWriter) (disk : D) → open_smo s.log ≡ [] → EndedBeside d b base s e t last w disk → EndedNow d b base s e t last w disk
+  ended_now s e t last w disk closed end = record {
+    now = end.now;
+    lsn = end.lsn;
+    log = end.log;
+    ended = end.ended;
+    stands = end.stands;
+    over = end.over;
+    can = record { lawful = end.lawful; closed = end.going_on ∙ closed };
+    durable = end.durable;
+  }
+
+  pub went_closed : (s : Writer) (e t last undo_next : ℕ) (w : PageWriter) (disk : D) (undone : Undone) → open_smo s.log ≡ [] → WentOnBeside d b base s e t last undo_next w disk undone → WentOn d b base s e t last undo_next w disk undone
+  went_closed s e t last undo_next w disk (More l n) closed is = is
+  went_closed s e t last undo_next w disk Ended closed is = (is.0, ended_now s e t last w disk closed is.1)
+
   pub end_closed : (s : Writer) (e t last undo_next : ℕ) (old : D) (w : PageWriter) (new : D) (result : Result Undone Fault) → open_smo s.log ≡ [] → EndIfUndoneBesideKept d b base s e t last undo_next old w new result → EndIfUndoneKept d b base s e t last undo_next old w new result
-  end_closed s e t last undo_next old w new (Ok (More l n)) closed k = record { sound = k.sound; stops = k.stops }
-  end_closed s e t last undo_next old w new (Ok Ended) closed k =
-      let end = k.sound.1 in
-      record {
-        sound = (k.sound.0, record { now = end.now; lsn = end.lsn; log = end.log; ended = end.ended; stands = end.stands; over = end.over; can = record { lawful = end.lawful; closed = end.going_on ∙ closed }; durable = end.durable });
-        stops = k.stops;
-      }
+  end_closed s e t last undo_next old w new (Ok undone) closed k = record { sound = went_closed s e t last undo_next w new undone closed k.sound; stops = k.stops }
   end_closed s e t last undo_next old w new (Err f) closed k = record { sound = k.sound; stops = k.stops }
 
   -- a change that was taken back behind calls that only read

@@ -3,3 +3,4 @@ pub mod Going
 pub mod Turns
 pub mod EndsBeside
 pub mod TurnsBeside
+pub mod SplitsBack

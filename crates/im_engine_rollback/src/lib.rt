@@ -13,18 +13,23 @@
 //! `undo_beside` does so in a store whose structure changes are made page by page, beside one of another transaction: it makes none itself, but
 //! hands out the one that is needed, in front of the compensation or behind it. What it did or planned is what im_restart_undo planned over the
 //! settled tree (`IsBack`), and where that is hidden it says why. A change that is handed out may begin at once (`IsUnderWay`), with all that wants
-//! memory had before the first record. `end_if_undone` ends what such a change interrupts.
+//! memory had before the first record. Behind its last page `close_split` and `close_drop` go on with the turn that it interrupts: a split is then known
+//! to have made room (`IsSplitBack`), so that none is needed twice.
 //!
 //! It stands on `im_restart_undo` for the one change, and on `im_restart_analysis` for what reading from record to record comes to.
 #![tactic(auto)]
 
+mod behind_changes;
 mod logged_back;
 mod next_record;
+mod split_laws;
 mod step_beside;
 mod undo_step;
 mod undone;
 mod undone_beside;
 
+pub use behind_changes::{close_drop, close_split};
+pub use split_laws::splits_go_on_back;
 pub use step_beside::undo_beside;
 pub use undo_step::{end_if_undone, undo_next};
 pub use undone::Undone;
