@@ -3,7 +3,7 @@
 
 `rt` builds nothing that is not proved, and `rt try` lowers an unproved program, runs it with checks, and throws it away. So `rt try` is run in a copy
 of the crates, from a copy of the kit whose clang only keeps the module that it is handed; and the kit's own clang compiles that module. im_capi is a
-program in that copy, whose `main` calls the three functions that C sees; these are then to be seen from outside, in place of `main`.
+program in that copy, whose `main` calls the functions that C sees; these are then to be seen from outside, in place of `main`.
 
 A try puts checks into the module, of what a proof would have shown. They are taken out, so that the work takes as long as in a proved build: it is
 the same program, and nothing shows that it is right. What is built says so by the symbol `im_unproved`, which the Makefile looks for.
@@ -16,10 +16,14 @@ import sys
 import tempfile
 
 LIBRARY = "im_capi"
-SEEN = {"im_size", "im_init", "im_step"}
+SEEN = {"im_size", "im_init", "im_step", "im_may_begin", "im_oldest", "im_earliest", "im_has_own", "im_is_left_alone"}
 MAIN = """
 fn main(rt: HostRuntime) {
     let _size = im_size();
+    let asker = Asker { ticket: 0, mine: 0, came: 0, thread: 0, tick: 0, patience: 0 };
+    let going = [Going { number: 0, seen: 0, thread: 0, had: 0, agains: 0 }];
+    let _may = im_may_begin(&going, 0, &asker) || im_has_own(&going, 0) || im_is_left_alone(0, 0, 0);
+    let _least = (im_oldest(&going, &asker, 0), im_earliest(&going));
     unsafe {
         im_init(rt.alloc(), std::ptr::null_mut());
         im_step(std::ptr::null_mut(), std::ptr::null_mut());

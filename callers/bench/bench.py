@@ -1,4 +1,6 @@
-"""The same work as bench.c, by vahondrisa and by the module lmdb. bench.py vah|lmdb FOLDER THREADS"""
+"""The same work as bench.c, by vahondrisa and by the modules lmdb and sqlite3. bench.py vah|lmdb|sqlite FOLDER THREADS"""
+import os
+import sqlite3
 import sys
 import threading
 import time
@@ -74,7 +76,41 @@ class Lmdb:
         self.env.close()
 
 
-user = Vah() if who == "vah" else Lmdb()
+class Sqlite:
+    def __init__(self) -> None:
+        os.mkdir(folder)
+        self.own = threading.local()
+        self.db().executescript("PRAGMA journal_mode=WAL; CREATE TABLE t(k BLOB PRIMARY KEY, n INTEGER) WITHOUT ROWID")
+
+    def db(self) -> sqlite3.Connection:
+        """The thread's own connection."""
+        if not hasattr(self.own, "db"):
+            self.own.db = sqlite3.connect(f"{folder}/db", timeout=60, isolation_level=None)
+            self.own.db.execute("PRAGMA synchronous=FULL")
+        return self.own.db
+
+    def insert(self, pairs: list) -> None:
+        db = self.db()
+        db.execute("BEGIN IMMEDIATE")
+        for pair in pairs:
+            db.execute("INSERT INTO t VALUES (?, ?)", pair)
+        db.execute("COMMIT")
+
+    def look_up(self, keys: list) -> int:
+        db = self.db()
+        db.execute("BEGIN")
+        found = sum(db.execute("SELECT n FROM t WHERE k = ?", (key,)).fetchone()[0] for key in keys)
+        db.execute("COMMIT")
+        return found
+
+    def scan(self, key: bytes) -> int:
+        return sum(1 for _ in self.db().execute("SELECT k, n FROM t WHERE k >= ? ORDER BY k LIMIT 100", (key,)))
+
+    def close(self) -> None:
+        self.db().close()
+
+
+user = {"vah": Vah, "lmdb": Lmdb, "sqlite": Sqlite}[who]()
 keys = [mix(i) for i in range(KEYS)]
 late = [mix(1000000 + i) for i in range(COMMITS)]
 wanted = [i * 7919 % KEYS for i in range(READS)]

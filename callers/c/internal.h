@@ -14,6 +14,23 @@ size_t im_size(void);
 void im_init(struct handle *at);
 void im_step(struct handle *at, struct call *call);
 
+/* Who may begin now: crates/im_base_turns/src/going.rt and asker.rt, in the order of C, and what is asked of them, which crates/im_capi says. The
+ * numbers that are atomic here are changed under the store's lock alone, and read by the proved library under it. */
+struct going {
+	atomic_ullong number;   /* the engine's; 0 where it has not begun */
+	uint64_t seen;          /* when it made its last step; UINT64_MAX while its call waits for a force, or to begin again */
+	atomic_ullong thread;   /* that sleeps in a call of it, or made its last one; 0 where the place is free */
+	uint64_t had;           /* while its call waits to begin again, the number that it had; else 0 */
+	uint64_t agains;        /* how often it gave way, since it was first */
+};
+struct asker { uint64_t ticket, mine, came, thread, tick, patience; };
+_Static_assert(sizeof(struct going) == 40 && sizeof(struct asker) == 48, "both are laid out as im_base_turns has them");
+_Bool im_may_begin(const struct going *going, size_t len, uint64_t first, const struct asker *asker);
+uint64_t im_oldest(const struct going *going, size_t len, const struct asker *asker, uint64_t came);
+uint64_t im_earliest(const struct going *going, size_t len);
+_Bool im_has_own(const struct going *going, size_t len, uint64_t thread);
+_Bool im_is_left_alone(uint64_t now, uint64_t patience, uint64_t since);
+
 /* A question to the proved library, with its answer: crates/im_calls_form/src/call.rt, in the order of C. */
 struct call {
 	uint32_t step, word, fault, limit;
@@ -87,22 +104,18 @@ enum { PLACES = 64, SHELLS = 4096 };
 
 /* The place of a transaction. It is used under the store's lock; what is atomic is also read without it, by who looks for a deadlock. */
 struct place {
+	struct going *going;    /* its row in the table of those that are active */
 	uint64_t serial;        /* which transaction has it, or had it: a part of its name */
 	int is_taken;
 	int is_committing;      /* its call waits for a force, and no other call has to do with it */
 	int is_ending;          /* its call takes it back, and no other call has to do with it */
 	int is_to_end;          /* while it was taken back to begin again another thread asked for its end */
-	int is_returning;       /* its call waits to begin again */
 	int is_doomed;          /* a put failed half way: it can only be rolled back */
 	int is_own_victim;      /* it gave way, and none but its own thread's transactions were older */
 	unsigned flags;
-	unsigned agains;        /* how often it gave way, since it was first */
 	uint64_t wait_ms;
 	uint64_t had;           /* its number before it gave way */
-	uint64_t tick;          /* when it made its last step */
 	uint64_t from;          /* when it began to wait to begin again */
-	atomic_ullong number;   /* the engine's; 0 where it has not begun */
-	atomic_ullong thread;   /* that sleeps in a call of it, or made its last one; 0 where the place is free */
 	unsigned sleeping;      /* calls of it that sleep until a lock is free */
 	struct call *answer;    /* of its scans in place */
 };
@@ -129,6 +142,7 @@ struct store {
 	int has_failed;
 
 	struct place places[PLACES];
+	struct going going[PLACES];
 	unsigned taken;         /* of them */
 	struct place *first;    /* nobody else begins before this one has ended */
 	uint64_t tick;          /* rises ten times a second at most, while somebody waits to begin, or asks to */
@@ -181,6 +195,9 @@ struct told force_for_all(struct store *s);
 
 /* ---- transactions: txns.c ---- */
 
+/* Its number in the engine; 0 where it has not begun, or gave way. */
+static inline uint64_t txn_number(const struct place *p) { return atomic_load_explicit(&p->going->number, memory_order_relaxed); }
+
 /* Whether a transaction can only be rolled back, as this layer knows. */
 int is_over(const struct place *p);
 
@@ -218,22 +235,6 @@ uint64_t this_thread(void);
 /* How long a call may wait, and since when it does. */
 struct wait { uint64_t limit_ms, until, closings; int is_begun; };
 
-/* Who may go on now: 1 where a transaction may begin. `mine` is the number that it had before it gave way, or 0; `oldest` the least number of the
- * others that are active and are not left out, or 0; `first` 0 where nobody has precedence, 1 where it has, 2 where another one has; `own` whether
- * its thread has another transaction active, so that somebody may wait for what this one would wait for. */
-static inline int may_go_on(uint64_t mine, uint64_t oldest, unsigned first, int own)
-{
-	if (own)
-		return 1;
-	if (first)
-		return first == 1 && !oldest;
-	return !mine || !oldest || mine < oldest;
-}
-
-/* Whether a transaction that has given way so often is first from now on, where nobody is yet. Both rules are those of crates/im_front, where they
- * are proved (who_begins.rt). */
-static inline int becomes_first(unsigned agains, unsigned first) { return !first && agains >= 4; }
-
 /* Waits until a transaction may begin, in a place that is free where `p` is NULL, and else again in that one. */
 int wait_to_begin(struct store *s, struct place *p, unsigned flags, struct wait *w);
 
@@ -259,7 +260,7 @@ void send_back(struct store *s);
 void hold_sleepers(void);
 void let_go_of_sleepers(int is_child);
 
-/* Whether the thread has a transaction active but this one. */
-int has_own(const struct store *s, const struct place *p);
+/* Whether the thread has a transaction active. */
+int has_own(const struct store *s);
 
 #endif

@@ -11,24 +11,24 @@ struct asking { struct question q; struct call *call; struct told told; };
 /* Makes what is asked once. */
 typedef void make(struct store *s, struct place *p, struct asking *a);
 
-static void make_step(struct store *s, struct place *p, struct asking *a) { a->told = ask_in(s, a->call, atomic_load(&p->number), &a->q); }
+static void make_step(struct store *s, struct place *p, struct asking *a) { a->told = ask_in(s, a->call, txn_number(p), &a->q); }
 
 /* Makes what is asked in a transaction, again each time that one has ended while it is blocked. Its code; VAH_BUSY and VAH_DEADLOCK where it was not
  * waited any longer. */
 static int make_in(struct store *s, struct place *p, make *makes, struct asking *a)
 {
 	struct wait w = { .limit_ms = p->wait_ms };
-	uint64_t serial = p->serial, number = atomic_load(&p->number);
+	uint64_t serial = p->serial, number = txn_number(p);
 	if (is_over(p))
 		return VAH_MUST_ROLL_BACK;
 	while (makes(s, p, a), a->told.word == BLOCKED || a->told.word == BLOCKED_TREE) {
 		int code = wait_for_lock(s, p, a->told.number, &w);
-		if (p->serial != serial || p->is_ending || atomic_load(&p->number) != number)
+		if (p->serial != serial || p->is_ending || txn_number(p) != number)
 			return VAH_NO_TRANSACTION; /* another thread has taken it back meanwhile */
 		if (code)
 			return code;
 	}
-	p->tick = s->tick;
+	p->going->seen = s->tick;
 	if (a->told.word == DIE)
 		note_victim(s, p);
 	return told_code(&a->told);

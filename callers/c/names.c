@@ -52,6 +52,8 @@ static struct store *new_shell(uint64_t index)
 	if (!s)
 		return NULL;
 	s->index = index;
+	for (int i = 0; i < PLACES; i++)
+		s->places[i].going = &s->going[i];
 	pthread_mutex_init(&s->lock, NULL);
 	pthread_condattr_init(&steady);
 	pthread_condattr_setclock(&steady, CLOCK_MONOTONIC);
@@ -162,7 +164,7 @@ static int find_txn(const vah_txn *name, int is_to_end, struct store **to, struc
 		return code;
 	}
 	if (!p->sleeping) /* else those that wait for it wait for the thread that sleeps */
-		atomic_store_explicit(&p->thread, this_thread(), memory_order_relaxed);
+		atomic_store_explicit(&p->going->thread, this_thread(), memory_order_relaxed);
 	*to = s;
 	*at = p;
 	return VAH_OK;

@@ -57,7 +57,7 @@ struct told ask_in(struct store *s, struct call *call, uint64_t txn, const struc
 
 struct told ask_store(struct store *s, uint32_t what) { return ask_in(s, s->call, 0, &(struct question){ .what = what }); }
 
-struct told ask(struct store *s, const struct place *p, const struct question *q) { return ask_in(s, s->call, atomic_load(&p->number), q); }
+struct told ask(struct store *s, const struct place *p, const struct question *q) { return ask_in(s, s->call, txn_number(p), q); }
 
 struct told ask_what(struct store *s, const struct place *p, uint32_t what) { return ask(s, p, &(struct question){ .what = what }); }
 

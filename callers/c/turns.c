@@ -149,7 +149,7 @@ static struct sleeper *find_sleeper(uint64_t thread)
 /* Whether the thread that has a place can go on, as it does not sleep here, or nobody has it. Else it is one more of those to look at. */
 static int is_awake(const struct place *p, struct sleeper **todo)
 {
-	uint64_t thread = atomic_load(&p->thread);
+	uint64_t thread = atomic_load(&p->going->thread);
 	struct sleeper *it = thread ? find_sleeper(thread) : NULL;
 	if (!it)
 		return 1;
@@ -165,7 +165,7 @@ static int is_awake(const struct place *p, struct sleeper **todo)
 static int waits_for_awake(const struct sleeper *it, struct sleeper **todo)
 {
 	if (it->holder)
-		return atomic_load(&it->holder->number) != it->number || is_awake(it->holder, todo);
+		return atomic_load(&it->holder->going->number) != it->number || is_awake(it->holder, todo);
 	for (int i = 0; i < PLACES; i++)
 		if (is_awake(&it->store->places[i], todo))
 			return 1;
@@ -237,7 +237,7 @@ static int sleep_among(struct sleeper *mine, pthread_cond_t *told, unsigned *cou
 static struct place *place_of_number(struct store *s, uint64_t number)
 {
 	for (int i = 0; i < PLACES; i++)
-		if (atomic_load(&s->places[i].number) == number)
+		if (txn_number(&s->places[i]) == number)
 			return &s->places[i];
 	return NULL;
 }
@@ -267,37 +267,18 @@ int wait_for_lock(struct store *s, struct place *p, uint64_t holder, struct wait
 	return code;
 }
 
-/* ---- turns ---- */
+/* ---- turns: who begins now is decided by the proved library ---- */
 
-static int is_alone(const struct store *s, const struct place *p, uint64_t since)
+static uint64_t ticket_of(const struct store *s, const struct place *p) { return p ? (uint64_t)(p - s->places) + 1 : 0; }
+
+/* Who asks, in a place or for one. */
+static struct asker asker_of(const struct store *s, const struct place *p)
 {
-	uint64_t last = p->tick > since ? p->tick : since;
-	return !p->is_returning && !p->is_committing && s->tick - last >= ALONE_TICKS;
+	return (struct asker){ .ticket = ticket_of(s, p), .mine = p ? p->had : 0, .came = p ? p->from : 0, .thread = this_thread(),
+		.tick = s->tick, .patience = ALONE_TICKS };
 }
 
-static int is_active(const struct place *p) { return atomic_load_explicit(&p->number, memory_order_relaxed) != 0; }
-
-static int is_own(const struct place *p) { return atomic_load_explicit(&p->thread, memory_order_relaxed) == this_thread(); }
-
-int has_own(const struct store *s, const struct place *p)
-{
-	for (const struct place *it = s->places; it < s->places + PLACES; it++)
-		if (it != p && is_active(it) && is_own(it))
-			return 1;
-	return 0;
-}
-
-/* The least number of the others that are active, of other threads, and not left alone since a tick; 0 where there is none. */
-static uint64_t oldest_beside(const struct store *s, const struct place *p, uint64_t since)
-{
-	uint64_t least = 0;
-	for (const struct place *it = s->places; it < s->places + PLACES; it++) {
-		uint64_t number = atomic_load_explicit(&it->number, memory_order_relaxed);
-		if (number && it != p && (!least || number < least) && !is_own(it) && !is_alone(s, it, since))
-			least = number;
-	}
-	return least;
-}
+int has_own(const struct store *s) { return im_has_own(s->going, PLACES, this_thread()); }
 
 static void let_go_of_first(struct store *s)
 {
@@ -308,29 +289,32 @@ static void let_go_of_first(struct store *s)
 		pthread_cond_broadcast(&s->room);
 }
 
-/* Who is to be first: of those that gave way often, and wait to begin again, the one that began the earliest. */
+static struct place *place_of_returning(struct store *s, uint64_t had)
+{
+	for (struct place *it = s->places; had && it < s->places + PLACES; it++)
+		if (it->going->had == had)
+			return it;
+	return NULL;
+}
+
+/* Who is to be first, where nobody is any more. */
 static void choose_first(struct store *s, const struct place *asks)
 {
-	struct place *next = NULL;
-	if (s->first && is_alone(s, s->first, 0))
+	if (s->first && im_is_left_alone(s->tick, ALONE_TICKS, s->first->going->seen))
 		let_go_of_first(s);
 	if (s->first)
 		return;
-	for (struct place *it = s->places; it < s->places + PLACES; it++)
-		if (it->is_returning && becomes_first(it->agains, 0) && !(it->flags & VAH_NO_WAIT) && (!next || it->had < next->had))
-			next = it;
-	s->first = next;
-	if (next && next != asks && s->waiting)
+	s->first = place_of_returning(s, im_earliest(s->going, PLACES));
+	if (s->first && s->first != asks && s->waiting)
 		pthread_cond_broadcast(&s->ended);
 }
 
-/* Whether it is a transaction's turn to begin. Who is first does not wait for those that are left alone, however long they have been; another one
- * waits for them a while, as it may have met one of them, and would meet it again at once. */
+/* Whether it is a transaction's turn to begin. */
 static int is_turn(struct store *s, const struct place *p)
 {
 	choose_first(s, p);
-	unsigned first = !s->first ? 0 : s->first == p ? 1 : 2;
-	return may_go_on(p ? p->had : 0, p ? oldest_beside(s, p, first == 1 ? 0 : p->from) : 0, first, has_own(s, p));
+	struct asker asker = asker_of(s, p);
+	return im_may_begin(s->going, PLACES, ticket_of(s, s->first), &asker);
 }
 
 static int sleep_for_place(struct store *s, struct wait *w)
@@ -390,36 +374,36 @@ static int sleep_to_begin(struct store *s, struct place *p, unsigned flags, stru
 int wait_to_begin(struct store *s, struct place *p, unsigned flags, struct wait *w)
 {
 	int code;
-	if (p)
-		p->is_returning = 1;
+	if (p && !(flags & VAH_NO_WAIT)) {
+		p->going->had = p->had;
+		p->going->seen = UINT64_MAX;
+	}
 	code = sleep_to_begin(s, p, flags, w);
 	if (code == VAH_NO_TRANSACTION)
 		return code;
 	if (p) {
-		p->is_returning = 0;
-		p->tick = s->tick;
+		p->going->had = 0;
+		p->going->seen = s->tick;
 	}
 	if (!p && w->is_begun && s->queueing && s->taken + !code < PLACES)
 		pthread_cond_signal(&s->room); /* there is more room, or what it was woken for is of use to another */
 	return code;
 }
 
-/* Whether one that is older is active, of another thread. */
+/* Whether one that is older is active, of another thread, left alone or not. */
 static int has_older_beside(const struct store *s, const struct place *p)
 {
-	uint64_t own = atomic_load_explicit(&p->number, memory_order_relaxed);
-	for (const struct place *it = s->places; it < s->places + PLACES; it++)
-		if (is_active(it) && !is_own(it) && atomic_load_explicit(&it->number, memory_order_relaxed) < own)
-			return 1;
-	return 0;
+	struct asker asker = asker_of(s, p);
+	uint64_t oldest = im_oldest(s->going, PLACES, &asker, asker.tick);
+	return oldest && oldest < txn_number(p);
 }
 
 void note_victim(struct store *s, struct place *p)
 {
 	p->is_own_victim = !has_older_beside(s, p);
-	p->agains++;
+	p->going->agains++;
 	if (s->first == p) {
-		p->agains = 0;
+		p->going->agains = 0;
 		let_go_of_first(s);
 	}
 }
@@ -433,15 +417,15 @@ struct place *take_place(struct store *s, unsigned flags, uint64_t wait_ms, uint
 		p++;
 	p->serial++;
 	p->is_taken = 1;
-	p->is_committing = p->is_ending = p->is_to_end = p->is_returning = p->is_doomed = p->is_own_victim = 0;
+	p->is_committing = p->is_ending = p->is_to_end = p->is_doomed = p->is_own_victim = 0;
 	p->sleeping = 0;
 	p->flags = flags;
-	p->agains = 0;
 	p->wait_ms = wait_ms;
 	p->had = p->from = 0;
-	p->tick = s->tick;
-	atomic_store(&p->number, number);
-	atomic_store(&p->thread, this_thread());
+	p->going->agains = p->going->had = 0;
+	p->going->seen = s->tick;
+	atomic_store(&p->going->number, number);
+	atomic_store(&p->going->thread, this_thread());
 	s->taken++;
 	return p;
 }
@@ -449,9 +433,9 @@ struct place *take_place(struct store *s, unsigned flags, uint64_t wait_ms, uint
 void free_place(struct store *s, struct place *p)
 {
 	p->is_taken = 0;
-	p->is_returning = 0; /* its call may still sleep, and is not to be first by a place that is free */
-	atomic_store(&p->number, 0);
-	atomic_store(&p->thread, 0);
+	p->going->had = 0; /* its call may still sleep, and is not to be first by a place that is free */
+	atomic_store(&p->going->number, 0);
+	atomic_store(&p->going->thread, 0);
 	s->taken--;
 	if (s->waiting)
 		pthread_cond_broadcast(&s->ended); /* who begins again may wait for this place, which a force for several commits left as it was */

@@ -40,7 +40,7 @@ int vah_set_wait(vah_txn *txn, uint64_t wait_ms)
 
 /* ---- its end ---- */
 
-int is_over(const struct place *p) { return p->is_doomed || !atomic_load(&p->number); }
+int is_over(const struct place *p) { return p->is_doomed || !txn_number(p); }
 
 /* Makes a transaction durable, with all that wait for the same. While it waits no other call has to do with its place. */
 static struct told commit_in(struct store *s, struct place *p)
@@ -49,8 +49,10 @@ static struct told commit_in(struct store *s, struct place *p)
 	if (told.word != MORE)
 		return told;
 	p->is_committing = 1;
+	p->going->seen = UINT64_MAX;
 	told = force_for_all(s);
 	p->is_committing = 0;
+	p->going->seen = s->tick;
 	return told;
 }
 
@@ -79,7 +81,7 @@ static int take_back(struct store *s, struct place *p)
 		done(s);
 		enter(s);
 		told = ask_what(s, p, CONTINUE);
-		p->tick = s->tick;
+		p->going->seen = s->tick;
 	}
 	p->is_ending = 0;
 	return told_code(&told);
@@ -94,7 +96,7 @@ int vah_rollback(vah_txn *txn)
 	int code = enter_txn_to_end(txn, &s, &p);
 	if (code)
 		return fail(NULL, code);
-	if (atomic_load(&p->number))
+	if (txn_number(p))
 		code = take_back(s, p);
 	free_place(s, p);
 	return leave_with(s, code);
@@ -103,10 +105,10 @@ int vah_rollback(vah_txn *txn)
 /* Takes back what a transaction did that is to begin again. */
 static int give_way(struct store *s, struct place *p)
 {
-	uint64_t had = atomic_load(&p->number);
+	uint64_t had = txn_number(p);
 	int code = had ? take_back(s, p) : VAH_OK;
 	if (!code && had) {
-		atomic_store(&p->number, 0);
+		atomic_store(&p->going->number, 0);
 		p->had = had;
 		p->from = s->tick;
 		p->is_doomed = 0;
@@ -118,7 +120,7 @@ static int give_way(struct store *s, struct place *p)
 static int begin_again(struct store *s, struct place *p)
 {
 	struct wait w = { .limit_ms = p->wait_ms };
-	if (p->is_own_victim && !(p->flags & VAH_NO_WAIT) && has_own(s, p))
+	if (p->is_own_victim && !(p->flags & VAH_NO_WAIT) && has_own(s))
 		return VAH_DEADLOCK;
 	int code = wait_to_begin(s, p, p->flags, &w);
 	if (code)
@@ -127,7 +129,7 @@ static int begin_again(struct store *s, struct place *p)
 	if (told.word == STARTED) {
 		s->restarts++;
 		p->is_own_victim = 0;
-		atomic_store(&p->number, told.number);
+		atomic_store(&p->going->number, told.number);
 	}
 	return told_code(&told);
 }
@@ -139,7 +141,7 @@ int vah_again(vah_txn *txn)
 	int code = enter_txn(txn, &s, &p);
 	if (code)
 		return fail(NULL, code);
-	if (p->is_returning)
+	if (p->going->had)
 		return leave_with(s, VAH_BUSY); /* another thread waits to begin it */
 	uint64_t serial = p->serial;
 	if (!(code = give_way(s, p)))

@@ -28,7 +28,7 @@
  *  The store below these functions is proved: each call answers what one
  *  caller alone would be answered in some order of the commits, and a stop at
  *  any moment leaves each transaction whole or absent. The functions of this
- *  header are C over three exports of the proved library, and are tested. They
+ *  header are C over the exports of the proved library, and are tested. They
  *  hold one lock around each call, and keep the duties that the proofs ask of a
  *  caller in C. Do not write past the memory that you hand in.
  *

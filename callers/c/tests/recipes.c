@@ -127,6 +127,65 @@ static void half_a_value(vah_store *store, unsigned long refused)
 	OK(vah_commit(txn));
 }
 
+/* A name that finds no memory for its first, second or third entry: it is none, and may be given to what it was not asked for. */
+static void half_a_name(vah_store *store)
+{
+	static const uint8_t row[] = { 0, 'h', 'a', 'l', 'f' };
+	for (unsigned long refused = 1; refused < 5; refused++) {
+		vah_txn *txn;
+		uint64_t kind = 0;
+		OK(vah_begin(store, &txn));
+		if (refused == 1) { /* the entry above the catalogue is put in with its first name */
+			uint8_t catalogue[VAH_KEY_MAX] = { 0 };
+			named_end(catalogue, 1);
+			OK(vah_delete(txn, catalogue, sizeof catalogue));
+		}
+		vah_test_refused_insert = refused;
+		IS(named_make(txn, "half", NAMED_INDEX), refused < 4 ? VAH_MEMORY : VAH_OK);
+		IS(vah_fetch(txn, row, sizeof row, &kind), refused < 4 ? VAH_NOT_FOUND : VAH_OK);
+		OK(vah_commit(txn));
+	}
+	vah_test_refused_insert = 0;
+}
+
+/* Parts that are no value: one is missing, the last one too, one has another number, or says that more or less is left. */
+static void not_whole(vah_txn *txn)
+{
+	static uint8_t value[1000], found[1000];
+	uint8_t lo[VAH_KEY_MAX + 8], part[VAH_KEY_MAX];
+	vah_ref refs[VAH_SCAN_MAX];
+	vah_entry parts[8];
+	size_t len, count, size = 0;
+	OK(long_put(txn, "notes", "w", 1, value, sizeof value));
+	OK(long_prefix("notes", "w", 1, lo, &len));
+	OK(long_parts(txn, lo, len, 0, refs, &count));
+	HOLDS(count > 3 && count < 8);
+	for (size_t i = 0; i < count; i++) {
+		parts[i].len = (uint8_t)refs[i].len;
+		parts[i].rid = refs[i].rid;
+		memcpy(parts[i].key, refs[i].key, refs[i].len);
+	}
+	for (size_t i = 0; i < count; i++) {
+		OK(vah_delete(txn, parts[i].key, parts[i].len));
+		IS(long_get(txn, "notes", "w", 1, found, sizeof found, &size), LONG_NOT_WHOLE);
+		memcpy(part, parts[i].key, parts[i].len);
+		part[len] = 1; /* as a later part */
+		OK(vah_insert(txn, part, parts[i].len, parts[i].rid));
+		IS(long_get(txn, "notes", "w", 1, found, sizeof found, &size), LONG_NOT_WHOLE);
+		OK(vah_delete(txn, part, parts[i].len));
+		OK(vah_insert(txn, part, len + 1, parts[i].rid)); /* too short for a number */
+		IS(long_get(txn, "notes", "w", 1, found, sizeof found, &size), LONG_NOT_WHOLE);
+		OK(vah_delete(txn, part, len + 1));
+		for (uint64_t off = 0; off < 3; off++) {
+			OK(vah_put(txn, parts[i].key, parts[i].len, parts[i].rid + 1 - off, NULL, NULL));
+			IS(long_get(txn, "notes", "w", 1, found, sizeof found, &size), off == 1 ? VAH_OK : LONG_NOT_WHOLE);
+		}
+		OK(vah_put(txn, parts[i].key, parts[i].len, parts[i].rid, NULL, NULL));
+	}
+	is_value(txn, "w", 1, value, sizeof value);
+	OK(long_delete(txn, "notes", "w", 1));
+}
+
 /* What a program in Rust or Python makes of the same names, keys and values: each entry's key and row id in an FNV-1a hash. */
 static void same_entries(const char *dir)
 {
@@ -200,7 +259,9 @@ int main(int argc, char **argv)
 	printf(" - %zu\n", count_of(txn, "\1", 1, hi, sizeof hi));
 	with_names(txn);
 	long_values(txn);
+	not_whole(txn);
 	OK(vah_commit(txn));
+	half_a_name(store);
 	half_a_value(store, 1);
 	half_a_value(store, 3);
 	OK(vah_close(store));

@@ -1,28 +1,11 @@
-/* Restarts that end: threads whose transactions overlap all come through, each after few restarts, and none is stopped by one that is left alone; the rule
- * itself on all small numbers. restarts FOLDER [TRANSACTIONS] */
+/* Restarts that end: threads whose transactions overlap all come through, each after few restarts, and none is stopped by one that is left alone.
+ * restarts FOLDER [TRANSACTIONS] */
 #define _GNU_SOURCE
 #include "test.h"
-#include "internal.h"
+#include <pthread.h>
+#include <stdatomic.h>
 #include <time.h>
 #include <unistd.h>
-
-/* ---- the rule ---- */
-
-/* Nobody that holds something waits; else nobody begins before who is first; who begins again comes after all older ones, and who is first after all. */
-static void rule(void)
-{
-	for (uint64_t mine = 0; mine < 5; mine++)
-		for (uint64_t oldest = 0; oldest < 5; oldest++)
-			for (unsigned first = 0; first < 3; first++) {
-				int goes = may_go_on(mine, oldest, first, 0);
-				HOLDS(may_go_on(mine, oldest, first, 1));
-				HOLDS(first != 2 || !goes);
-				HOLDS(first != 1 || goes == (oldest == 0));
-				HOLDS(first || goes == (mine == 0 || oldest == 0 || oldest > mine));
-			}
-	for (unsigned agains = 0; agains < 9; agains++)
-		for (unsigned first = 0; first < 3; first++) HOLDS(becomes_first(agains, first) == (first == 0 && agains > 3));
-}
 
 /* ---- threads that overlap ---- */
 
@@ -362,7 +345,6 @@ int main(int argc, char **argv)
 {
 	if (argc < 2) return 1;
 	if (argc > 2) each_has = atoi(argv[2]);
-	rule();
 	OK(vah_open(argv[1], NULL, &store));
 	all_come_through();
 	beside_one_alone();

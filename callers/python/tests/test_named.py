@@ -217,6 +217,10 @@ class Named(Case):
             for part in (0, 3, -2):  # (behind the last one is the guard)
                 rid = txn.pop(parts[part])
                 self.assertRaisesRegex(ValueError, "^the parts of a long value do not agree$", texts.within(txn).get, b"a")
+                moved = parts[part][:8] + b"\1" + parts[part][9:]  # as a later part
+                txn[moved] = rid
+                self.assertRaisesRegex(ValueError, "^the parts of a long value do not agree$", texts.within(txn).get, b"a")
+                del txn[moved]
                 txn[parts[part]] = rid
             self.assertEqual(texts.within(txn)[b"a"], b"one" * 1000)
 

@@ -1,12 +1,15 @@
 //! Which functions does C see?
 //!
-//! The store for C. C hands in memory: as many bytes as `im_size` says for a store, and a `Call` for each question.
+//! The store for C. C hands in memory: as many bytes as `im_size` says for a store, and a `Call` for each question. Beside it the rule of `im_base_turns`, over
+//! C's own table of transactions: who may begin now.
 #![tactic(auto)]
 
-ghost use Rattle.std.specs.Prelude.{◌≡◌};
+ghost use Rattle.std.specs.Prelude.{◌≡◌, ◌≤◌, ◌+◌, ◌↔◌, true};
 ghost use Rattle.std.specs.Borrow.{sem};
 ghost use Rattle.im_capi.specs.Pointers.{bytes_of_store, room_for_store, store_at, call_at};
+ghost use Rattle.im_base_turns.specs.Turns.{IsAwaitedBy, IsLeastOf, IsPatient, MayBegin, Owns};
 
+use im_base_turns::{Asker, Going};
 use im_calls::{Session, blank, made};
 use im_calls_form::Call;
 use std::alloc::Global;
@@ -42,4 +45,44 @@ pub unsafe extern "C" fn im_step(at: *mut Handle, call: *mut Call)
     ensures* { sem 𝓛 (store_at at) ∗ sem 𝓛 (call_at call) }
 {
     made(&mut *(at as *mut Session), &mut *call);
+}
+
+/// Whether a transaction may begin now.
+#[unsafe(no_mangle)]
+pub extern "C" fn im_may_begin(going: &[Going], first: u64, asker: &Asker) -> bool
+    ensures { result ≡ true ↔ MayBegin going.now first asker.now }
+{
+    im_base_turns::may_begin(going, first, asker)
+}
+
+/// The least number of those that one waits for which asks, and came at this tick; 0 where there is none.
+#[unsafe(no_mangle)]
+pub extern "C" fn im_oldest(going: &[Going], asker: &Asker, came: u64) -> u64
+    ensures { IsLeastOf (IsAwaitedBy asker.now came) (λ g. g.number) going.now result }
+{
+    im_base_turns::oldest(going, asker, came)
+}
+
+/// Who is to be first, where nobody is, by the number that it had; 0 where there is none.
+#[unsafe(no_mangle)]
+pub extern "C" fn im_earliest(going: &[Going]) -> u64
+    ensures { IsLeastOf IsPatient (λ g. g.had) going.now result }
+{
+    im_base_turns::earliest(going)
+}
+
+/// Whether this thread has a transaction active.
+#[unsafe(no_mangle)]
+pub extern "C" fn im_has_own(going: &[Going], thread: u64) -> bool
+    ensures { result ≡ true ↔ Owns thread going.now }
+{
+    im_base_turns::has_own(going, thread)
+}
+
+/// Whether one that made its last step at a tick is left alone by now.
+#[unsafe(no_mangle)]
+pub extern "C" fn im_is_left_alone(now: u64, patience: u64, since: u64) -> bool
+    ensures { result ≡ true ↔ (since + patience ≤ now) }
+{
+    im_base_turns::is_left_alone(now, patience, since)
 }

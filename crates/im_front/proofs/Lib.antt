@@ -3,5 +3,4 @@ pub mod Balance
 pub mod Growing
 pub mod Replies
 pub mod Steps
-pub mod Waiting
 mod Cuts

@@ -18,7 +18,7 @@
 //!
 //! **What an answer says**: an Ok of `commit` that the Commit was made and acknowledged, at once or by a force that came after it (`IsAcknowledged`); an Ok of
 //! `Open::write` that its work was done last between a Begin and such a Commit of one transaction, and that each time before was rolled back (`IsWritten`). Who
-//! may begin again, and when, is a decision over plain numbers (`may_go_on`).
+//! may begin again, and when, is a decision over plain numbers (`may_begin` of `im_base_turns`).
 //!
 //! **The engine** is any `Store` of `im_theory_store`: its replies suit their steps, and it counts its transactions; where it tells
 //! what it holds its steps are the machine's, a stop keeps what it acknowledged, and where nothing is active a new life begins with
@@ -27,13 +27,11 @@
 
 mod callers;
 mod front;
-mod going;
 mod held;
 mod line;
 mod load_args;
 mod open;
 mod plain;
-mod precedence;
 mod recorded;
 mod scoped;
 mod seat;
@@ -42,16 +40,13 @@ mod stats;
 mod stop;
 mod told;
 mod trace;
-mod who_begins;
 mod writing;
 
 pub use front::Front;
-pub use going::Going;
 pub use held::{Closed, Held};
 pub use load_args::LoadArgs;
 pub use open::{Kept, Left, Open};
 pub use plain::{Ended, Plain, Shared};
-pub use precedence::Precedence;
 pub use recorded::Recorded;
 pub use scoped::{Work, serve};
 pub use seat::{Rested, Seat};
@@ -60,4 +55,3 @@ pub use stats::Stats;
 pub use stop::Stop;
 pub use told::Told;
 pub use trace::Trace;
-pub use who_begins::{becomes_first, may_go_on};

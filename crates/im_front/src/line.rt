@@ -5,16 +5,24 @@
 
 ghost use Rattle.std.specs.Prelude.{◌≡◌, ◌≢◌, ◌<◌, ◌≤◌, ◌+◌, ◌⊎◌, ◌↔◌, true, false, length};
 ghost use Rattle.std.specs.List.{All};
-ghost use Rattle.im_front.specs.Line.{IsWaitedFor, whose};
+ghost use Rattle.im_front.specs.Line.{IsWaitedFor, asker_of};
+ghost use Rattle.im_base_turns.specs.Turns.{MayBegin};
 
-use crate::going::Going;
-use crate::precedence::{FEW, Precedence};
-use crate::who_begins::{becomes_first, may_go_on};
 use im_base_steps::{Reply, Step};
+use im_base_turns::{Asker, FEW, Going, becomes_first, is_left_alone, may_begin, whose};
 use im_base_types::TxnId;
 
 /// For how many ticks a transaction makes no step before it counts as left alone.
 const PATIENCE: u64 = 10;
+
+/// A place where none is active. A front is told no threads: one has a single transaction.
+const NONE: Going = Going {
+    number: 0,
+    seen: 0,
+    thread: 0,
+    had: 0,
+    agains: 0,
+};
 
 /// How many transactions are known. An engine has no more that are active at once; of another store those beyond are not waited for.
 const PLACES: usize = 64;
@@ -37,12 +45,28 @@ impl Turn {
     pub(crate) fn is_patient(&self) -> bool {
         self.agains >= FEW
     }
+
+    // What it asks at a tick.
+    fn asks(&self, tick: u64) -> Asker
+        ensures { result ≡ asker_of self.now tick }
+    {
+        Asker {
+            ticket: self.ticket,
+            mine: self.mine,
+            came: self.came,
+            thread: 0,
+            tick,
+            patience: PATIENCE,
+        }
+    }
 }
 
 /// The transactions that are active, and who is first.
 #[derive(Drop)]
 pub(crate) struct Line {
     going: [Going; 64],
+    // Whether the Commit of the transaction in this place waits for a force.
+    waits: [bool; 64],
     // How long somebody has waited, in hundredths of a second.
     tick: u64,
     tickets: u64,
@@ -56,11 +80,8 @@ impl Line {
     /// Nobody.
     pub(crate) fn new() -> Line {
         Line {
-            going: [Going {
-                number: 0,
-                seen: 0,
-                waits: false,
-            }; 64],
+            going: [NONE; 64],
+            waits: [false; 64],
             tick: 0,
             tickets: 0,
             first: 0,
@@ -103,6 +124,7 @@ impl Line {
         ensures stays { 0 < self.old.first → (self.new.first ≡ self.old.first) ⊎ ((0 < self.old.first_number) × (self.old.first_seen + 10 ≤ self.old.tick)) }
         ensures few { 4 ≤ turn.now.agains → 0 < turn.now.ticket → 0 < self.new.first }
         ensures same { (self.new.going ≡ self.old.going) × (self.new.tick ≡ self.old.tick) }
+        ensures goes { result ≡ true ↔ MayBegin self.old.going self.new.first (asker_of turn.now self.old.tick) }
     {
         if self.first != 0 && self.is_first_left() {
             self.first = 0;
@@ -111,13 +133,7 @@ impl Line {
             self.first = turn.ticket;
             self.first_number = 0;
         }
-        let first = whose(self.first, turn.ticket);
-        let came = if matches!(first, Precedence::Asker) {
-            0
-        } else {
-            turn.came
-        };
-        may_go_on(turn.mine, oldest(&self.going, self.tick, came), first)
+        may_begin(&self.going, self.first, &turn.asks(self.tick))
     }
 
     /// One begins with this turn: its transaction has this number.
@@ -159,10 +175,12 @@ impl Line {
     pub(crate) fn note(&mut self, step: &Step, reply: &Reply) {
         let tick = self.tick;
         match (step, reply) {
-            (_, Reply::Started(number)) => put(&mut self.going, *number, tick),
-            (Step::Force, Reply::Done) => end_all_that_wait(&mut self.going),
+            (_, Reply::Started(number)) => put(&mut self.going, &mut self.waits, *number, tick),
+            (Step::Force, Reply::Done) => end_all_that_wait(&mut self.going, &mut self.waits),
             (_, Reply::Committed | Reply::RolledBack) => end(&mut self.going, asker(step)),
-            (Step::Commit(number), Reply::More) => wait(&mut self.going, *number, tick),
+            (Step::Commit(number), Reply::More) => {
+                wait(&mut self.going, &mut self.waits, *number, tick);
+            }
             _ => see(&mut self.going, asker(step), tick),
         }
         if self.first_number != 0 && self.first_number == asker(step) {
@@ -174,61 +192,8 @@ impl Line {
     fn is_first_left(&self) -> bool
         ensures { result ≡ true ↔ ((0 < self.now.first_number) × (self.now.first_seen + 10 ≤ self.now.tick)) }
     {
-        self.first_number > 0 && is_over(self.tick, self.first_seen)
+        self.first_number > 0 && is_left_alone(self.tick, PATIENCE, self.first_seen)
     }
-}
-
-// Who is first, for one with this ticket.
-fn whose(first: u64, ticket: u64) -> Precedence
-    ensures { result ≡ whose first ticket }
-{
-    if first == 0 {
-        Precedence::Nobody
-    } else if first == ticket {
-        Precedence::Asker
-    } else {
-        Precedence::Another
-    }
-}
-
-// Whether so long has passed since this tick as is waited for one that is left alone.
-fn is_over(tick: u64, since: u64) -> bool
-    ensures { result ≡ true ↔ (since + 10 ≤ tick) }
-{
-    tick >= PATIENCE && tick - PATIENCE >= since
-}
-
-// The least number of those that are active and are waited for by one that came at this tick; 0 where there is none.
-fn oldest(going: &[Going], tick: u64, came: u64) -> u64
-    ensures least { All (λ g. IsWaitedFor tick came g → (0 < result) × (result ≤ g.number)) going.now }
-{
-    let mut least = 0;
-    for one in going {
-        if is_waited_for(tick, came, one) {
-            least = older(least, one.number);
-        }
-    }
-    least
-}
-
-// The less of two numbers, where 0 is none.
-fn older(number: u64, other: u64) -> u64
-    requires { 0 < other }
-    ensures some { (0 < result) × (result ≤ other) }
-    ensures less { 0 < number → result ≤ number }
-{
-    if number == 0 || other < number {
-        other
-    } else {
-        number
-    }
-}
-
-// Whether one that came at this tick waits for a transaction.
-fn is_waited_for(tick: u64, came: u64, one: &Going) -> bool
-    ensures { result ≡ true ↔ IsWaitedFor tick came one.now }
-{
-    one.number != 0 && (!is_over(tick, one.seen) || !is_over(tick, came))
 }
 
 // The number of the transaction that a step is of, or 0.
@@ -249,14 +214,12 @@ fn asker(step: &Step) -> TxnId {
 }
 
 // A transaction of this number is active, where there is a place for it.
-fn put(going: &mut [Going; 64], number: TxnId, tick: u64) {
+fn put(going: &mut [Going; 64], waits: &mut [bool; 64], number: TxnId, tick: u64) {
     for place in 0..PLACES {
         if going[place].number == 0 {
-            going[place] = Going {
-                number,
-                seen: tick,
-                waits: false,
-            };
+            going[place].number = number;
+            going[place].seen = tick;
+            waits[place] = false;
             break;
         }
     }
@@ -272,11 +235,11 @@ fn see(going: &mut [Going; 64], number: TxnId, tick: u64) {
 }
 
 // Its Commit waits for a force.
-fn wait(going: &mut [Going; 64], number: TxnId, tick: u64) {
+fn wait(going: &mut [Going; 64], waits: &mut [bool; 64], number: TxnId, tick: u64) {
     for place in 0..PLACES {
         if number != 0 && going[place].number == number {
             going[place].seen = tick;
-            going[place].waits = true;
+            waits[place] = true;
         }
     }
 }
@@ -291,11 +254,11 @@ fn end(going: &mut [Going; 64], number: TxnId) {
 }
 
 // A force was made: those whose Commits waited for it have ended.
-fn end_all_that_wait(going: &mut [Going; 64]) {
+fn end_all_that_wait(going: &mut [Going; 64], waits: &mut [bool; 64]) {
     for place in 0..PLACES {
-        if going[place].waits {
+        if waits[place] {
             going[place].number = 0;
-            going[place].waits = false;
+            waits[place] = false;
         }
     }
 }

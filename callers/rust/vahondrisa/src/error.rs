@@ -26,6 +26,18 @@ pub struct Error {
 }
 
 /// What a call of this crate returns.
+///
+/// ```
+/// # let dir = std::env::temp_dir().join(format!("vahondrisa-doc-result-{}", std::process::id()));
+/// fn names(txn: &vahondrisa::Transaction) -> vahondrisa::Result<usize> {
+///     txn.range(..).try_fold(0, |count, entry| entry.map(|_| count + 1))
+/// }
+/// # let store = vahondrisa::Store::open(&dir)?;
+/// store.write(|txn| txn.insert(b"apple", 7))?;
+/// assert_eq!(store.write(names)?, 1);
+/// # store.close()?; std::fs::remove_dir_all(dir).unwrap();
+/// # Ok::<(), vahondrisa::Error>(())
+/// ```
 pub type Result<T, E = Error> = std::result::Result<T, E>;
 
 /// The causes, by the numbers of `vahondrisa.h`.

@@ -69,3 +69,25 @@ fn every_call_fails_in_turn() {
     }
     std::fs::remove_dir_all(&dir).unwrap();
 }
+
+#[test]
+#[ignore = "over a library that refuses an insert: make -C callers test"]
+fn a_name_that_is_refused_half_way_is_none() {
+    for refused in 1..5 {
+        let dir = std::env::temp_dir().join(format!("vahondrisa-half-a-name-{}-{refused}", std::process::id()));
+        let _ = std::fs::remove_dir_all(&dir);
+        std::env::set_var("VAH_REFUSE_INSERT", refused.to_string());
+        let store = Store::open(&dir).unwrap();
+        std::env::remove_var("VAH_REFUSE_INSERT");
+        let index = store.index("half"); // its three entries
+        if refused < 4 {
+            assert_eq!(index.unwrap_err().kind(), ErrorKind::Memory);
+            assert_eq!((store.indexes().unwrap(), store.begin().unwrap().range(..).count()), (vec![], 0));
+            store.blob("half").unwrap();
+        } else {
+            assert_eq!((index.unwrap().name(), store.indexes().unwrap()), ("half", vec!["half".to_string()]));
+        }
+        store.close().unwrap();
+        std::fs::remove_dir_all(&dir).unwrap();
+    }
+}

@@ -271,6 +271,11 @@ fn long_values() {
         let rid = txn.get(part).unwrap().unwrap();
         assert!(txn.remove(part).unwrap());
         assert_eq!(texts.get(&txn, b"a").unwrap_err().kind(), ErrorKind::Invalid);
+        let mut moved = part.clone(); // as a later part
+        moved[8] = 1;
+        txn.put(&moved, rid).unwrap();
+        assert_eq!(texts.get(&txn, b"a").unwrap_err().kind(), ErrorKind::Invalid);
+        assert!(txn.remove(&moved).unwrap());
         txn.put(part, rid).unwrap();
     }
     assert_eq!(texts.get(&txn, b"a").unwrap(), Some(vec![1; 1_000]));

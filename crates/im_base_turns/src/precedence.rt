@@ -1,7 +1,7 @@
 //! Who goes before all others.
 
 /// How often a transaction gives way before nobody begins before it.
-pub(crate) const FEW: u64 = 4;
+pub const FEW: u64 = 4;
 
 /// Who is first: nobody begins before it.
 #[derive(Clone, Copy, Debug, PartialEq, Eq)]

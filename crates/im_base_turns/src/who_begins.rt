@@ -1,8 +1,8 @@
 //! Who may begin now, over plain numbers.
 
-ghost use Rattle.std.specs.Prelude.{◌≡◌, ◌<◌, ◌≤◌, ◌↔◌, true};
-ghost use Rattle.im_front.specs.declared.precedence.Precedence.TheVariants.{Nobody};
-ghost use Rattle.im_front.specs.Line.{MayGoOn};
+ghost use Rattle.std.specs.Prelude.{◌≡◌, ◌<◌, ◌≤◌, ◌+◌, ◌↔◌, true};
+ghost use Rattle.im_base_turns.specs.declared.precedence.Precedence.TheVariants.{Nobody};
+ghost use Rattle.im_base_turns.specs.Turns.{MayGoOn, precedence_of};
 
 use crate::precedence::{FEW, Precedence};
 
@@ -23,4 +23,24 @@ pub fn becomes_first(agains: u64, first: Precedence) -> bool
     ensures { result ≡ true ↔ ((4 ≤ agains) × (first ≡ Nobody)) }
 {
     agains >= FEW && matches!(first, Precedence::Nobody)
+}
+
+/// Who is first, for one with this ticket, where the one that is first has the other; 0 is nobody's.
+pub fn whose(first: u64, ticket: u64) -> Precedence
+    ensures { result ≡ precedence_of first ticket }
+{
+    if first == 0 {
+        Precedence::Nobody
+    } else if first == ticket {
+        Precedence::Asker
+    } else {
+        Precedence::Another
+    }
+}
+
+/// Whether one that made its last step, or came, at a tick is left alone by now.
+pub fn is_left_alone(now: u64, patience: u64, since: u64) -> bool
+    ensures { result ≡ true ↔ (since + patience ≤ now) }
+{
+    now >= patience && now - patience >= since
 }
