@@ -16,10 +16,12 @@ import sys
 import tempfile
 
 LIBRARY = "im_capi"
-SEEN = {"im_size", "im_init", "im_step", "im_may_begin", "im_oldest", "im_earliest", "im_has_own", "im_is_left_alone"}
+SEEN = {"im_size", "im_belong", "im_init", "im_step", "im_may_begin", "im_oldest", "im_earliest", "im_has_own", "im_is_left_alone"}
 MAIN = """
 fn main(rt: HostRuntime) {
     let _size = im_size();
+    let none = im_base_guard::Front::NONE;
+    let _word = im_belong(&im_base_guard::Folder { log: none, log2: none, pages: im_base_guard::PagesFront::NONE });
     let asker = Asker { ticket: 0, mine: 0, came: 0, thread: 0, tick: 0, patience: 0 };
     let going = [Going { number: 0, seen: 0, thread: 0, had: 0, agains: 0 }];
     let _may = im_may_begin(&going, 0, &asker) || im_has_own(&going, 0) || im_is_left_alone(0, 0, 0);

@@ -1,10 +1,11 @@
-/* The files of a store, and the calls of the system that it asks for. What is guarded here is what FileDisk guards
- * (crates/im_base_file_disk): the two are tested on one list, examples/imstore_guards_files. */
+/* The files of a store, and the calls of the system that it asks for. Whether the files of a folder belong together is decided by what FileDisk asks too
+ * (crates/im_base_guard), which is proved: here they are opened, locked, read and synced. The two are tested on one list, examples/imstore_guards_files. */
 #define _GNU_SOURCE
 #include "internal.h"
 #include <errno.h>
 #include <fcntl.h>
 #include <signal.h>
+#include <stdbool.h>
 #include <stdio.h>
 #include <stdlib.h>
 #include <string.h>
@@ -182,8 +183,7 @@ ssize_t vah_device_read(int fd, void *to, size_t len)
 
 /* ---- the opening ---- */
 
-/* A stop of a creation leaves no more bytes of a log that was not made: its header, and the first gate. */
-enum { UNMADE_LOG = 48, PAGE_SIZE = 4096 };
+enum { PAGE_SIZE = 4096 };
 
 /* Where an opening is: the folder, where its refusal's words go, and the code. */
 struct opening { const char *path; char *text; size_t size; int code, why; };
@@ -264,8 +264,8 @@ static int sync_folders(struct opening *o, char *path)
 	}
 }
 
-/* Whether the folder has a plain file of this name, of so many bytes at least; -1 where the name is taken by something else. */
-static int has_bytes(struct opening *o, const char *name, off_t least)
+/* Whether the folder has a plain file of this name; -1 where the name is taken by something else. */
+static int has_file(struct opening *o, const char *name)
 {
 	char words[64], *path;
 	struct stat st;
@@ -277,12 +277,10 @@ static int has_bytes(struct opening *o, const char *name, off_t least)
 	if (!is_there)
 		return errno == ENOENT ? 0 : refuse_system(o);
 	if (S_ISREG(st.st_mode))
-		return st.st_size >= least;
+		return 1;
 	snprintf(words, sizeof words, "`%s` in it is no plain file", name);
 	return refuse(o, VAH_NOT_A_STORE, words);
 }
-
-static int has_file(struct opening *o, const char *name) { return has_bytes(o, name, 0); }
 
 /* Opens a file of the folder, made where it is missing; -1 where it is refused. It must not have the descriptor of a standard stream: what the
  * program prints there would be written over the store. */
@@ -302,172 +300,88 @@ static int open_file(struct opening *o, const char *name)
 	return refuse(o, VAH_DEVICE, "no descriptor is left but those of the standard streams");
 }
 
-/* How long a log is, and its first bytes, zeros where it has no more: up to the number of the transaction that its first record is of. */
-struct front { uint64_t len; uint8_t bytes[65]; };
+/* What is read of the files of a folder, as crates/im_base_guard has it (src/folder.rt): how long each is, its first bytes, zeros where it has no more, and
+ * whether it is there. Of `pages` no byte is read where it has no whole page. */
+struct log_front { uint64_t len; uint8_t bytes[65]; bool is_there; };
+struct pages_front { uint64_t len; uint8_t bytes[28]; bool is_there; };
+struct folder { struct log_front log, log2; struct pages_front pages; };
 
-static int front_of(struct opening *o, int fd, struct front *front)
+/* Whether they belong together: 0 where they do and no log was made, 1 where one was, and else why not, by a number. */
+uint32_t im_belong(const struct folder *folder);
+
+/* The words for these numbers. */
+static const char *const why_apart[] = {
+	[2] = "there is no `log` in it",
+	[3] = "there is no `log2` in it: bring it back; if it was empty, as in a store that never switched, an empty file will do",
+	[4] = "there is no `pages` in it beside a log that was made: the pages of the store are missing",
+	[5] = "`pages` in it lacks pages that the store had when its log began",
+	[6] = "`log` in it does not begin as the log of a store",
+	[7] = "`log2` in it does not begin as the log of a store",
+};
+
+/* Reads the beginning of a file: as many bytes as there is room for, and none where it has fewer than so many. */
+static int front_of(struct opening *o, int fd, uint64_t *len, uint8_t *bytes, size_t room, uint64_t least)
 {
 	struct stat st;
 	if (fstat(fd, &st))
 		return refuse_system(o);
-	front->len = (uint64_t)st.st_size;
-	size_t size = front->len < sizeof front->bytes ? (size_t)front->len : sizeof front->bytes;
-	return whole_at(fd, 0, front->bytes, size, 0) ? refuse_system(o) : 0;
+	*len = (uint64_t)st.st_size;
+	if (*len < least)
+		return 0;
+	return whole_at(fd, 0, bytes, *len < room ? (size_t)*len : room, 0) ? refuse_system(o) : 0;
 }
 
-/* The number in so many bytes, the greatest first. */
-static uint64_t number_of(const uint8_t *bytes, size_t size)
+static int log_front_of(struct opening *o, int fd, struct log_front *front)
 {
-	uint64_t number = 0;
-	for (size_t i = 0; i < size; i++)
-		number = number << 8 | bytes[i];
-	return number;
+	front->is_there = fd >= 0;
+	return front->is_there ? front_of(o, fd, &front->len, front->bytes, sizeof front->bytes, 0) : 0;
 }
 
-/* Whether a log says that it was made, and is of the second format. */
-static int is_of_second_format(const uint8_t *front) { return front[0] == 1 && front[8] == '2'; }
-
-/* The generation of a log: 0 where it is not made, and 1 in the first format. */
-static uint64_t generation_of(const uint8_t *front)
+/* Opens a file that the folder has, and that was not opened yet. */
+static int open_if_made(struct opening *o, int *fd, const char *name)
 {
-	return front[0] != 1 ? 0 : is_of_second_format(front) ? number_of(front + 16, 8) : 1;
+	int is_there = *fd >= 0 ? 0 : has_file(o, name);
+	if (is_there > 0)
+		*fd = open_file(o, name);
+	return is_there < 0 || (is_there && *fd < 0) ? -1 : 0;
 }
 
-/* The LSN of a log's first byte: 0 in the first format. */
-static uint64_t base_of(const uint8_t *front) { return is_of_second_format(front) ? number_of(front + 24, 8) : 0; }
-
-/* The least number that a transaction of a log may have: 0 where it does not say one. */
-static uint64_t least_of(const uint8_t *front) { return is_of_second_format(front) ? number_of(front + 32, 8) : 0; }
-
-/* Whether the first record is of a transaction that the header allows, and the header allows none that is older than the other log. */
-static int has_own_record(const uint8_t *front, const uint8_t *other)
+/* Looks at the files that the folder has, and asks whether they belong together: 1 where a log was made, 0 where none was, -1 where they are refused.
+ * Nothing is made, and nothing is written. It stands for FileDisk's look. */
+static int look(struct opening *o, int *files)
 {
-	uint64_t allowed = number_of(front + 32, 8), txn = number_of(front + 57, 8);
-	return txn > 0 && allowed <= txn && least_of(other) <= allowed;
-}
-
-/* Whether a log was made, and its first byte does not say so any more: it has a whole header of a later generation than the other log and of a
- * greater base, its first gate is open, and the record after it is of a transaction that the header allows, which is not older than the other log.
- * Where a stop has cut the header of a switch, what stands there is the record of the log that the file had before, whose transaction is older than
- * the other log. Where the first record is of no transaction, as a Checkpoint is, a damaged first byte is not found. */
-static int lacks_first_byte(const uint8_t *front, const uint8_t *other)
-{
-	static const char name[] = "ARIESIM2\0\0\x10\0\0\0\0";
-	static const uint8_t zeros[7];
-	return front[0] != 1 && !memcmp(front + 1, name, 15) && !memcmp(front + 40, zeros, 7)
-		&& generation_of(other) < number_of(front + 16, 8) && base_of(other) < number_of(front + 24, 8)
-		&& front[47] == 1 && has_own_record(front, other);
-}
-
-/* What the two logs of a folder say of it: whether one of them was made, the LSN with which the current one begins, whether that one has a record,
- * and the first bytes of the other. */
-struct logs { int is_made; uint64_t base; int has_record; uint8_t left[65]; };
-
-/* Whether the first gate, at this place, is open, and the record after it changes a page, as those of the kinds 1 to 6 do. */
-static int has_change_at(const uint8_t *front, size_t gate)
-{
-	return front[gate] == 1 && front[gate + 9] >= 1 && front[gate + 9] <= 6;
-}
-
-/* Whether the log, of either format, was made, and begins with a record that changes a page. Of one that a stop has cut while it was being made
- * nothing is asked: its bytes may be any. */
-static int begins_with_change(const uint8_t *front)
-{
-	return front[0] == 1
-		&& ((!memcmp(front + 1, "ARIESIM1", 8) && has_change_at(front, 31)) || (!memcmp(front + 1, "ARIESIM2", 8) && has_change_at(front, 47)));
-}
-
-/* Whether the current log has a record: its first gate is open. */
-static int has_record(const uint8_t *current) { return current[47] == 1; }
-
-/* Whether page 0 is older than the log, and counts more pages than the file has, and than the two that count from the start. Asked while the log
- * has no record: page 0 was not written since then, while a record is durable before a page that it changes is written, and a stop within that
- * write may leave any bytes. */
-static int lacks_counted(uint64_t base, uint64_t pages, const uint8_t *front)
-{
-	uint64_t count = number_of(front + 24, 4);
-	return number_of(front, 8) < base && count > 2 && pages < count;
-}
-
-/* Whether the file of pages, of so many whole pages, whose first has these first bytes, was cut. At a switch every page that was ever changed is
- * written, and no write makes a file shorter: it has each page that page 0 counts, as long as page 0 is as it was then, but for the two that count
- * from the start; and it has these two where the log that was left begins with a record that changes a page. */
-static int lacks_pages(const struct logs *logs, uint64_t pages, const uint8_t *front)
-{
-	return (!logs->has_record && lacks_counted(logs->base, pages, front)) || (logs->base > 0 && pages < 2 && begins_with_change(logs->left));
-}
-
-/* Refuses for what is wrong with the file of this name: the words have its name once. */
-static int refuse_file(struct opening *o, const char *format, const char *name)
-{
-	char words[96];
-	snprintf(words, sizeof words, format, name);
-	return refuse(o, VAH_NOT_A_STORE, words);
-}
-
-/* What the two logs say; refused where they are no logs of a store, nor what a stop of a creation leaves. Nothing is written. It stands for
- * FileDisk's logs_say. */
-static int guard(struct opening *o, const int *files, struct logs *logs)
-{
-	struct front log = { 0 }, log2 = { 0 };
-	if (front_of(o, files[LOG], &log) || (files[LOG2] >= 0 && front_of(o, files[LOG2], &log2)))
+	struct folder folder = { 0 };
+	if (open_if_made(o, &files[LOG2], "log2") || open_if_made(o, &files[PAGES], "pages"))
 		return -1;
-	const char *damaged = lacks_first_byte(log.bytes, log2.bytes) ? "log" : lacks_first_byte(log2.bytes, log.bytes) ? "log2" : NULL;
-	if (damaged)
-		return refuse_file(o, "the first byte of `%s` in it is damaged: it is the newer log of the store", damaged);
-	if (is_of_second_format(log.bytes) && files[LOG2] < 0)
-		return refuse_file(o, "there is no `%s` in it", "log2");
-	int is_first = generation_of(log2.bytes) < generation_of(log.bytes);
-	logs->is_made = log.bytes[0] == 1 || log2.bytes[0] == 1;
-	logs->base = base_of(is_first ? log.bytes : log2.bytes);
-	logs->has_record = has_record(is_first ? log.bytes : log2.bytes);
-	memcpy(logs->left, is_first ? log2.bytes : log.bytes, sizeof logs->left);
-	if (!logs->is_made && (log.len > UNMADE_LOG || log2.len > UNMADE_LOG))
-		return refuse_file(o, "`%s` in it does not begin as the log of a store", log.len > UNMADE_LOG ? "log" : "log2");
-	return 0;
+	if (log_front_of(o, files[LOG], &folder.log) || log_front_of(o, files[LOG2], &folder.log2))
+		return -1;
+	folder.pages.is_there = files[PAGES] >= 0;
+	if (folder.pages.is_there && front_of(o, files[PAGES], &folder.pages.len, folder.pages.bytes, sizeof folder.pages.bytes, PAGE_SIZE))
+		return -1;
+	uint32_t word = im_belong(&folder);
+	return word < 2 ? (int)word : refuse(o, VAH_NOT_A_STORE, why_apart[word]);
 }
 
-/* Refused where the file of pages lacks pages that it had when the current log began. It stands for FileDisk's has_whole_pages. */
-static int guard_pages(struct opening *o, int fd, const struct logs *logs)
-{
-	struct stat st;
-	uint8_t front[28] = { 0 };
-	if (fstat(fd, &st))
-		return refuse_system(o);
-	uint64_t pages = (uint64_t)st.st_size / PAGE_SIZE;
-	if (pages && whole_at(fd, 0, front, sizeof front, 0))
-		return refuse_system(o);
-	if (lacks_pages(logs, pages, front))
-		return refuse(o, VAH_NOT_A_STORE, "`pages` in it lacks pages that the store had when its log began");
-	return 0;
-}
-
-/* Opens, locks, guards, makes and syncs, in the order of FileDisk::open. */
+/* Opens, locks, looks, makes and syncs, in the order of FileDisk::open. */
 static int open_files(struct opening *o, int *files, int folder, char *path)
 {
-	int is_there;
-	struct logs logs = { 0 };
-	if ((is_there = has_file(o, "log")) < 0 || has_file(o, "pages") < 0)
+	int is_there = has_file(o, "log"), is_made;
+	/* Where the others say that a store is here, no log is made. */
+	if (is_there < 0 || (!is_there && look(o, files) < 0))
 		return -1;
-	if (!is_there && (is_there = has_bytes(o, "log2", 1)))
-		return is_there < 0 ? -1 : refuse_file(o, "there is no `%s` in it", "log");
 	if ((files[LOG] = open_file(o, "log")) < 0)
 		return -1;
 	if (flock(files[LOG], LOCK_EX | LOCK_NB))
 		return errno == EWOULDBLOCK ? refuse(o, VAH_LOCKED, "the store is open elsewhere") : refuse_system(o);
-	if ((is_there = has_file(o, "log2")) < 0 || (is_there && (files[LOG2] = open_file(o, "log2")) < 0))
+	if ((is_made = look(o, files)) < 0)
 		return -1;
-	if (guard(o, files, &logs) || (is_there = has_file(o, "pages")) < 0)
-		return -1;
-	if (logs.is_made && !is_there)
-		return refuse(o, VAH_NOT_A_STORE, "there is no `pages` in it beside a log that was made: the pages of the store are missing");
-	if ((files[PAGES] = open_file(o, "pages")) < 0 || guard_pages(o, files[PAGES], &logs))
+	if (files[PAGES] < 0 && (files[PAGES] = open_file(o, "pages")) < 0)
 		return -1;
 	if (files[LOG2] < 0 && (files[LOG2] = open_file(o, "log2")) < 0)
 		return -1;
 	if (fsync(files[LOG]) || fsync(files[LOG2]) || fsync(files[PAGES]) || fsync(folder))
 		return refuse_system(o);
-	return logs.is_made ? 0 : sync_folders(o, path);
+	return is_made ? 0 : sync_folders(o, path);
 }
 
 int vah_device_open(struct device *device, const char *path, char *text, size_t size)

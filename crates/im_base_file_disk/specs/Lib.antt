@@ -1,2 +1,1 @@
 pub mod RealFiles
-pub mod Fronts

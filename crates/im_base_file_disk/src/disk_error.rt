@@ -25,11 +25,16 @@ pub struct DiskError {
 impl DiskError {
     /// The name that the file has in the folder.
     pub fn file_name(&self) -> &'static str {
-        match self.file {
-            FileId::Log => "log",
-            FileId::Pages => "pages",
-            FileId::Log2 => "log2",
-        }
+        file_name(self.file)
+    }
+}
+
+/// The name of a file of a store in its folder.
+pub(crate) fn file_name(file: FileId) -> &'static str {
+    match file {
+        FileId::Log => "log",
+        FileId::Pages => "pages",
+        FileId::Log2 => "log2",
     }
 }
 

@@ -2,15 +2,12 @@
 ghost use Rattle.std.specs.Prelude.{◌≡◌, ◌↔◌, [], true, false, IfOk, IfErr, IfSome, OnOk, Ok, Err, Some, is_err, option_map};
 ghost use Rattle.im_base_types.specs.declared.fault.Fault.TheVariants.{Device};
 ghost use Rattle.im_base_disk.specs.Disk.{Answers};
-ghost use Rattle.im_base_file_disk.specs.RealFiles.{IsApart, HasOwnDescriptors, LacksPages};
+ghost use Rattle.im_base_file_disk.specs.RealFiles.{AreApart, IsApart, HasOwnDescriptors};
 
 use crate::folders::{make_folders, sync_folders};
-use crate::fronts::{
-    FRONT, Front, Logs, UNMADE_LOG, current_base, has_record, lacks_first_byte, lacks_other,
-    lacks_pages, left_front, may_be_store,
-};
 use crate::{DiskCall, DiskError, OpenError};
 use im_base_disk::{Count, Disk};
+use im_base_guard::{FIRST_BYTES, FRONT, Folder, Front, PagesFront, belong};
 use im_base_types::{Fault, FileId, PAGE_SIZE};
 use std::fs::{self, File, OpenOptions, TryLockError};
 use std::io;
@@ -44,9 +41,8 @@ impl FileDisk {
     /// program was started without one of them: what it prints there would be written over the store.
     ///
     /// Refused `NotAFile` where a name in the folder is taken by something else, `Locked` where another opening holds
-    /// the log, `NotALog` where neither log says that it was made, and they are none that a stop of a creation leaves, `NoFirstByte` where the newer one
-    /// does not say so, `NoFile` where one says so and the other is missing, `NoPages` where one says so and there is no `pages`, `ShortPages` where that lacks
-    /// pages: in these seven no byte of a file was changed and none was made but an empty `log`. The other errors are the system's.
+    /// the log, and for each reason for which files do not belong together (`im_base_guard`): `NoFile`, `NoPages`, `ShortPages`, `NotALog`. In these six no byte of
+    /// a file was changed and none was made but an empty `log`. The other errors are the system's.
     pub fn open(rt: &HostRuntime, dir: &str) -> Result<FileDisk, OpenError>
         ensures working { IfOk result (λ disk. ⟦<FileDisk as Disk>⟧.failed disk ≡ false) }
         ensures descriptors { IfOk result HasOwnDescriptors }
@@ -59,22 +55,21 @@ impl FileDisk {
         let mut options = OpenOptions::new();
         options.read(true).write(true).create(true);
         let log_path = path_of_file(rt, dir, "log")?;
-        let pages_path = path_of_file(rt, dir, "pages")?;
-        if !fs::exists(rt, log_path.as_str())? && has_bytes(rt, dir, "log2")? {
-            return Err(OpenError::NoFile("log"));
+        if !fs::exists(rt, log_path.as_str())? {
+            // Where the others say that a store is here, none is made.
+            look(rt, dir, &options, None)?;
         }
         let log = open_file(rt, log_path.as_str(), &options)?;
         lock(&log)?;
-        let found = open_if_made(rt, dir, &options)?;
-        let logs = logs_say(&log, found.as_ref())?;
-        if !may_make_pages(logs.is_made, fs::exists(rt, pages_path.as_str())?) {
-            return Err(OpenError::NoPages);
-        }
-        let pages = open_file(rt, pages_path.as_str(), &options)?;
-        has_whole_pages(&pages, &logs)?;
-        let log2 = made(rt, dir, &options, found)?;
+        let Found {
+            pages,
+            log2,
+            is_made,
+        } = look(rt, dir, &options, Some(&log))?;
+        let pages = made(rt, dir, "pages", &options, pages)?;
+        let log2 = made(rt, dir, "log2", &options, log2)?;
         sync_all(&[&log, &log2, &pages, &folder])?;
-        if !logs.is_made {
+        if !is_made {
             sync_folders(rt, dir)?;
         }
         Ok(FileDisk {
@@ -230,13 +225,13 @@ fn open_files(rt: &HostRuntime, dir: &str, options: &OpenOptions) -> Result<File
     let _second = open_folder(rt, dir)?;
     let _third = open_folder(rt, dir)?;
     let log_path = path_of_made_file(rt, dir, "log")?;
-    let pages_path = path_of_made_file(rt, dir, "pages")?;
+    path_of_made_file(rt, dir, "pages")?;
     let log = open_file(rt, log_path.as_str(), options)?;
     lock(&log)?;
-    let log2 = open_if_made(rt, dir, options)?;
-    let logs = logs_say(&log, log2.as_ref())?;
-    let pages = open_file(rt, pages_path.as_str(), options)?;
-    has_whole_pages(&pages, &logs)?;
+    let Found { pages, log2, .. } = look(rt, dir, options, Some(&log))?;
+    let Some(pages) = pages else {
+        return Err(OpenError::NoFile("pages"));
+    };
     Ok(FileDisk {
         log,
         pages,
@@ -246,12 +241,6 @@ fn open_files(rt: &HostRuntime, dir: &str, options: &OpenOptions) -> Result<File
         writes: Count::new(),
         syncs: Count::new(),
     })
-}
-
-// Whether the folder has a file of this name with a byte in it.
-fn has_bytes(rt: &HostRuntime, dir: &str, name: &'static str) -> Result<bool, OpenError> {
-    let path = path_of_file(rt, dir, name)?;
-    Ok(fs::exists(rt, path.as_str())? && fs::metadata(rt, path.as_str())?.len() > 0)
 }
 
 // The path of a file that the folder has.
@@ -295,15 +284,16 @@ fn lock(file: &File) -> Result<(), OpenError> {
     }
 }
 
-// The other log of a folder that is only read, if it has one.
+// A file of the folder, if it has it.
 fn open_if_made(
     rt: &HostRuntime,
     dir: &str,
+    name: &'static str,
     options: &OpenOptions,
 ) -> Result<Option<File>, OpenError>
-    ensures { IfOk result (λ log2. IfSome log2 IsApart) }
+    ensures { IfOk result (λ file. IfSome file IsApart) }
 {
-    let path = path_of_file(rt, dir, "log2")?;
+    let path = path_of_file(rt, dir, name)?;
     if fs::exists(rt, path.as_str())? {
         Ok(Some(open_file(rt, path.as_str(), options)?))
     } else {
@@ -311,82 +301,80 @@ fn open_if_made(
     }
 }
 
-// The other log, which is made where it was not found.
+// A file of the folder, which is made where it was not found.
 fn made(
     rt: &HostRuntime,
     dir: &str,
+    name: &'static str,
     options: &OpenOptions,
     found: Option<File>,
 ) -> Result<File, OpenError>
     requires { IfSome found IsApart }
     ensures { IfOk result IsApart }
 {
-    if let Some(log2) = found {
-        return Ok(log2);
+    if let Some(file) = found {
+        return Ok(file);
     }
-    let path = path_of_file(rt, dir, "log2")?;
+    let path = path_of_file(rt, dir, name)?;
     open_file(rt, path.as_str(), options)
 }
 
-// What the two logs say, where they are those of a store, or what a stop of a creation leaves. Nothing is written.
-fn logs_say(log: &File, log2: Option<&File>) -> Result<Logs, OpenError> {
-    let front = front_of(log)?;
-    let front2 = match log2 {
-        Some(log2) => front_of(log2)?,
-        None => Front::EMPTY,
-    };
-    if lacks_first_byte(&front.bytes, &front2.bytes) {
-        return Err(OpenError::NoFirstByte("log"));
-    }
-    if lacks_first_byte(&front2.bytes, &front.bytes) {
-        return Err(OpenError::NoFirstByte("log2"));
-    }
-    if lacks_other(&front.bytes, log2.is_some()) {
-        return Err(OpenError::NoFile("log2"));
-    }
-    if may_be_store(front.long, front.bytes[0], front2.long, front2.bytes[0]) {
-        return Ok(Logs {
-            is_made: front.is_made() || front2.is_made(),
-            base: current_base(&front.bytes, &front2.bytes),
-            left: left_front(&front.bytes, &front2.bytes),
-            has_record: has_record(&front.bytes, &front2.bytes),
-        });
-    }
-    Err(OpenError::NotALog(if front.long > UNMADE_LOG {
-        "log"
-    } else {
-        "log2"
-    }))
+// What a folder has beside its `log`.
+#[derive(Drop)]
+struct Found {
+    pages: Option<File>,
+    log2: Option<File>,
+    // A log says that it was made.
+    is_made: bool,
 }
 
-// The length of a file, and its first bytes.
-fn front_of(file: &File) -> Result<Front, OpenError> {
-    let mut front = Front::EMPTY;
-    front.long = len_of(file)?;
-    let size = usize::try_from(front.long).unwrap_or(FRONT).min(FRONT);
-    file.read_exact_at(&mut front.bytes[..size], 0)?;
+// Looks at the files that the folder has, and asks whether they belong together. Nothing is made, and nothing is written.
+fn look(
+    rt: &HostRuntime,
+    dir: &str,
+    options: &OpenOptions,
+    log: Option<&File>,
+) -> Result<Found, OpenError>
+    ensures { IfOk result AreApart }
+{
+    let log2 = open_if_made(rt, dir, "log2", options)?;
+    let pages = open_if_made(rt, dir, "pages", options)?;
+    let folder = Folder {
+        log: front_of(log)?,
+        log2: front_of(log2.as_ref())?,
+        pages: pages_front_of(pages.as_ref())?,
+    };
+    let logs = belong(&folder)?;
+    Ok(Found {
+        pages,
+        log2,
+        is_made: logs.is_made,
+    })
+}
+
+// The length of a log, and its first bytes.
+fn front_of(file: Option<&File>) -> Result<Front, OpenError> {
+    let mut front = Front::NONE;
+    if let Some(file) = file {
+        front.is_there = true;
+        front.long = len_of(file)?;
+        let size = usize::try_from(front.long).unwrap_or(FRONT).min(FRONT);
+        file.read_exact_at(&mut front.bytes[..size], 0)?;
+    }
     Ok(front)
 }
 
-// The file of pages has what it had when the current log began. Nothing is written.
-fn has_whole_pages(pages: &File, logs: &Logs) -> Result<(), OpenError> {
-    let count = len_of(pages)? / PAGE_SIZE as u64;
-    let mut front = [0; 28];
-    if count > 0 {
-        pages.read_exact_at(&mut front, 0)?;
+// The length of a file of pages, and the first bytes of page 0, where that is whole.
+fn pages_front_of(file: Option<&File>) -> Result<PagesFront, OpenError> {
+    let mut front = PagesFront::NONE;
+    if let Some(file) = file {
+        front.is_there = true;
+        front.long = len_of(file)?;
+        if front.long >= PAGE_SIZE as u64 {
+            file.read_exact_at(&mut front.bytes[..FIRST_BYTES], 0)?;
+        }
     }
-    if lacks_pages(logs.base, count, &front, &logs.left, logs.has_record) {
-        Err(OpenError::ShortPages)
-    } else {
-        Ok(())
-    }
-}
-
-// A log that was made stands beside the file of pages, which a creation makes first: where that is missing it is not made anew.
-fn may_make_pages(is_made: bool, has_pages: bool) -> bool
-    ensures { (result ≡ false) ↔ LacksPages is_made has_pages }
-{
-    !is_made || has_pages
+    Ok(front)
 }
 
 fn sync_all(files: &[&File]) -> io::Result<()> {

@@ -3,14 +3,13 @@
 //! The disk of real files: a folder with two logs and pages.
 //!
 //! `FileDisk` is a disk in the words of `im_base_disk`. It tells no bytes: code over it is safe and total, and nothing
-//! is said of what it reads. `FileDisk::open` makes what is missing, and `OpenError` says why it refused: which first bytes of logs may be a store's stands
-//! in functions over bytes (`fronts`). `FileDisk::empty` gives the room of a log back that its store has left.
+//! is said of what it reads. `FileDisk::open` makes what is missing, and `OpenError` says why it refused: whether the files of a folder belong
+//! together it asks `im_base_guard`, before it makes one. `FileDisk::empty` gives the room of a log back that its store has left.
 #![tactic(auto)]
 
 mod disk_error;
 mod file_disk;
 mod folders;
-mod fronts;
 mod open_error;
 
 pub use disk_error::{DiskCall, DiskError};

@@ -1,8 +1,10 @@
 //! Why a folder's files were not opened.
 ghost use Rattle.std.specs.Prelude.{◌≡◌};
-ghost use Rattle.im_base_file_disk.specs.RealFiles.{fault_of};
+ghost use Rattle.im_base_file_disk.specs.RealFiles.{fault_of, Says};
 
-use im_base_types::Fault;
+use crate::disk_error::file_name;
+use im_base_guard::Apart;
+use im_base_types::{Fault, FileId};
 use std::io;
 use std::io::ErrorKind;
 use thiserror::Error;
@@ -26,6 +28,9 @@ pub enum OpenError {
     /// The folder has no file of that name, and none was to be made.
     #[error("there is no `{0}` in it")]
     NoFile(&'static str),
+    /// There is no `log2` beside a `log` of the second format, which was made together with it. Some tools leave out empty files in a copy.
+    #[error("there is no `log2` in it: bring it back; if it was empty, as in a store that never switched, an empty file will do")]
+    NoOtherLog,
     /// A log says that it was made, so that there was a file of pages beside it: it is missing.
     #[error("there is no `pages` in it beside a log that was made: the pages of the store are missing")]
     NoPages,
@@ -36,10 +41,6 @@ pub enum OpenError {
     /// byte is damaged, or it is a file of another program. It is left as it is.
     #[error("`{0}` in it does not begin as the log of a store")]
     NotALog(&'static str),
-    /// This log is of a later generation than the other, and was made: its first byte, which does not say so, is damaged. With 1 there the folder
-    /// is the store again. It is left as it is.
-    #[error("the first byte of `{0}` in it is damaged: it is the newer log of the store")]
-    NoFirstByte(&'static str),
     /// Another opening, of this program or of another, holds the files.
     #[error("the store is open elsewhere")]
     Locked,
@@ -62,10 +63,10 @@ impl OpenError {
         match self {
             OpenError::NotAFile(_) => Fault::NotAStore,
             OpenError::NoFile(_) => Fault::NotAStore,
+            OpenError::NoOtherLog => Fault::NotAStore,
             OpenError::NoPages => Fault::NotAStore,
             OpenError::ShortPages => Fault::NotAStore,
             OpenError::NotALog(_) => Fault::NotAStore,
-            OpenError::NoFirstByte(_) => Fault::NotAStore,
             OpenError::Locked => Fault::Locked,
             OpenError::Memory => Fault::Memory,
             OpenError::NoFolder(_) => Fault::Device,
@@ -73,6 +74,21 @@ impl OpenError {
             OpenError::Denied(_) => Fault::Device,
             OpenError::NoDescriptor => Fault::Device,
             OpenError::System(_) => Fault::Device,
+        }
+    }
+}
+
+impl From<Apart> for OpenError {
+    ghost from_gives = { λ why error. Says error why };
+
+    fn from(why: Apart) -> OpenError {
+        match why {
+            Apart::NoFile(FileId::Log) => OpenError::NoFile("log"),
+            Apart::NoFile(FileId::Log2) => OpenError::NoOtherLog,
+            Apart::NoFile(FileId::Pages) => OpenError::NoFile("pages"),
+            Apart::NoPages => OpenError::NoPages,
+            Apart::ShortPages => OpenError::ShortPages,
+            Apart::NotALog(file) => OpenError::NotALog(file_name(file)),
         }
     }
 }

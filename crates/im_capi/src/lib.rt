@@ -1,12 +1,13 @@
 //! Which functions does C see?
 //!
-//! The store for C. C hands in memory: as many bytes as `im_size` says for a store, and a `Call` for each question. Beside it the rule of `im_base_turns`, over
-//! C's own table of transactions: who may begin now.
+//! The store for C. C hands in memory: as many bytes as `im_size` says for a store, and a `Call` for each question. Beside it two decisions over what C
+//! has read or keeps itself: whether the files of a folder belong together (`im_base_guard`), and who may begin now (`im_base_turns`).
 #![tactic(auto)]
 
 ghost use Rattle.std.specs.Prelude.{◌≡◌, ◌≤◌, ◌+◌, ◌↔◌, true};
 ghost use Rattle.std.specs.Borrow.{sem};
 ghost use Rattle.im_capi.specs.Pointers.{bytes_of_store, room_for_store, store_at, call_at};
+ghost use Rattle.im_base_guard.specs.Belonging.{Decides};
 ghost use Rattle.im_base_turns.specs.Turns.{IsAwaitedBy, IsLeastOf, IsPatient, MayBegin, Owns};
 
 use im_base_turns::{Asker, Going};
@@ -27,6 +28,14 @@ pub extern "C" fn im_size() -> usize
     ensures { result ≡ bytes_of_store }
 {
     std::mem::size_of::<Session>()
+}
+
+/// Whether the files of a folder belong together, by their beginnings: the number of `im_base_guard`.
+#[unsafe(no_mangle)]
+pub extern "C" fn im_belong(folder: &im_base_guard::Folder) -> u32
+    ensures { Decides folder.now result }
+{
+    im_base_guard::decide(folder)
 }
 
 /// Makes a store that is not open in the room at a pointer.

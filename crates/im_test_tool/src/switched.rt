@@ -178,6 +178,39 @@ fn a_damaged_log_is_named(rt: HostRuntime) -> Result<(), Fail> {
     Ok(())
 }
 
+// What is written at a place of the newer log, whose first byte is damaged, and whether the check tells that.
+static DOUBTS: [(usize, &[u8], bool); 2] = [(0, &[0], true), (47, &[0], false)];
+
+// Whether the check tells that the first byte of the newer log, which is damaged, may be so.
+fn is_doubted<R: Threads + Sync>(
+    rt: &R,
+    alloc: Global,
+    copies: &Copies,
+    at: usize,
+    bytes: &[u8],
+) -> Result<bool, Fail> {
+    let mut files = damaged(alloc, copies, Log::Newer, 0, &[0])?;
+    lay(&mut files.log2, at, bytes);
+    let (_, printed) = said_of(rt, alloc, &files)?;
+    Ok(has_part(
+        &printed,
+        "log2: behind its first byte, which is not 1, stand a newer header and a record: that byte may be damaged\n",
+    ))
+}
+
+// One that a stop left in the midst of its making is not told: its first gate is closed.
+#[test]
+fn a_damaged_first_byte_is_told(rt: HostRuntime) -> Result<(), Fail> {
+    let copies = copies_after(&rt, &rt, "im_tool_doubted", 1)?;
+    for (at, bytes, told) in &DOUBTS {
+        assert!(rt;
+            is_doubted(&rt, rt.alloc(), &copies, *at, bytes)? == *told,
+            "{at}"
+        );
+    }
+    Ok(())
+}
+
 // How many bytes `pages` has in the place of its own, all of them 0, and what the check says then.
 static BEFORE: [(usize, &str); 2] = [
     (
@@ -344,14 +377,9 @@ fn leads_to<R: Threads + Sync>(
 }
 
 static TURNS: [(Act, Comes); 12] = [
-    // A log whose first byte is damaged is not passed over for the older one. One that a stop left in the midst of its making is: its first gate is closed.
+    // A log whose first byte is damaged is passed over as one that a stop left in the midst of its making: the check tells it.
     (Act::Make(1), Comes::Open),
-    (
-        Act::Overwrite("log2", 0, &[0]),
-        Comes::Unread(
-            "the first byte of `log2` in it is damaged: it is the newer log of the store",
-        ),
-    ),
+    (Act::Overwrite("log2", 0, &[0]), Comes::Open),
     (Act::Overwrite("log2", 47, &[0]), Comes::Open),
     (
         Act::Remove("log"),
@@ -360,13 +388,15 @@ static TURNS: [(Act, Comes); 12] = [
     (Act::Make(0), Comes::Open),
     (
         Act::Remove("log2"),
-        Comes::Refused("there is no `log2` in it"),
+        Comes::Refused(
+            "there is no `log2` in it: bring it back; if it was empty, as in a store that never switched, an empty file will do",
+        ),
     ),
     // Both of the first two pages were written before the log went on, as the one before has keys.
     (Act::Make(1), Comes::OpenWith(2 * PAGE_SIZE)),
     (
         Act::Cut("pages", PAGE_SIZE),
-        Comes::Refused("`pages` in it lacks pages that the store had when its log began"),
+        Comes::Unread("`pages` in it lacks pages that the store had when its log began"),
     ),
     (
         Act::Cut("pages", 0),

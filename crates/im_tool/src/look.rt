@@ -67,7 +67,7 @@ fn tree_behind<T: Threads + Sync, P: Progress>(
 
 /// Checks a store: the records of its current log, the file of pages beside them, the whole batches after the log's end, and the tree and the free list as an opening
 /// finds them. Writes `ok`, or a line for each rule that does not hold, and answers the exit status, 0 or 1, and the disk. Whole batches after the log's end
-/// are told, and are no damage as long as one put can have left them.
+/// are told, and are no damage as long as one put can have left them; so is a newer log that lacks nothing but its first byte, as a stop may have left that too.
 pub fn check_text<W: Write, P: Progress, T: Threads + Sync>(
     rt: &T,
     alloc: Global,

@@ -3,10 +3,10 @@
 ghost use Rattle.std.specs.Prelude.{◌≤◌, IfOk};
 
 use crate::telling::print_refused_opening;
-use im_base_types::{Fault, PAGE_ROOM};
+use im_base_types::{Fault, FileId, PAGE_ROOM};
 use im_tool_look::{
     BatchesBehind, Compared, Files, LogDamage, Survey, TreeSurvey, batches_behind, compare_pages,
-    file_name, read_log,
+    doubted_log, file_name, read_log,
 };
 use std::alloc::{AllocError, Global};
 use std::io;
@@ -16,7 +16,8 @@ use std::io::Write;
 #[derive(Drop)]
 pub enum Broken {
     Log(LogDamage),
-    Pages(Compared),
+    // And a log that may be the newer one.
+    Pages(Compared, Option<FileId>),
     Opening(Fault),
 }
 
@@ -28,6 +29,8 @@ pub struct Surveyed {
     file: u64,
     other: u64,
     behind: Option<BatchesBehind>,
+    // This log may be the newer one.
+    doubted: Option<FileId>,
     compared: Compared,
 }
 
@@ -37,9 +40,10 @@ pub fn survey_files<F: Files>(alloc: Global, disk: &mut F) -> Result<Surveyed, B
     let behind = batches_behind(alloc, disk, &said).map_err(Broken::Log)?;
     let file = disk.length(said.log.file).map_err(Broken::Opening)?;
     let other = disk.length(said.log.other_file()).map_err(Broken::Opening)?;
+    let doubted = doubted_log(disk, &said.log).map_err(Broken::Opening)?;
     let compared = compare_pages(alloc, &said, disk).map_err(Broken::Opening)?;
     if !compared.damages.is_empty() {
-        return Err(Broken::Pages(compared));
+        return Err(Broken::Pages(compared, doubted));
     }
     // Each record makes a page at most.
     let most = compared
@@ -55,6 +59,7 @@ pub fn survey_files<F: Files>(alloc: Global, disk: &mut F) -> Result<Surveyed, B
         file,
         other,
         behind,
+        doubted,
         compared,
     })
 }
@@ -68,6 +73,7 @@ pub fn whole_text<W: Write>(
     ensures { IfOk result (λ status. status ≤ 1) }
 {
     let is_cut = behind_text(writer, surveyed)?;
+    doubt_text(writer, surveyed.doubted)?;
     for damage in &tree.damages {
         writeln!(writer, "{damage}")?;
     }
@@ -98,6 +104,18 @@ fn behind_text<W: Write>(writer: &mut W, surveyed: &Surveyed) -> io::Result<bool
     Ok(false)
 }
 
+// That a log may be the newer one.
+fn doubt_text<W: Write>(writer: &mut W, doubted: Option<FileId>) -> io::Result<()> {
+    let Some(log) = doubted else {
+        return Ok(());
+    };
+    writeln!(
+        writer,
+        "{}: behind its first byte, which is not 1, stand a newer header and a record: that byte may be damaged",
+        file_name(log)
+    )
+}
+
 /// Writes what is broken. It answers the exit status.
 pub fn broken_text<W: Write>(writer: &mut W, broken: &Broken) -> io::Result<u8>
     ensures { IfOk result (λ status. status ≤ 1) }
@@ -109,7 +127,8 @@ pub fn broken_text<W: Write>(writer: &mut W, broken: &Broken) -> io::Result<u8>
         Broken::Log(LogDamage::Unread(fault)) => print_refused_opening(writer, *fault)?,
         Broken::Opening(Fault::Device) => print_refused_opening(writer, Fault::Device)?,
         Broken::Log(damage) => writeln!(writer, "{damage}")?,
-        Broken::Pages(compared) => {
+        Broken::Pages(compared, doubted) => {
+            doubt_text(writer, *doubted)?;
             for damage in &compared.damages {
                 writeln!(writer, "{damage}")?;
             }

@@ -98,24 +98,21 @@ fn synced_pages(said: &Survey, last: &LastChanges) -> u64 {
     least
 }
 
-// One page. Of its LSN a torn write leaves the old or the new one, and both are of this log.
+// One page. An opening takes one with a copy in the log from there: a torn write leaves any bytes of it.
 fn compare(
     compared: &mut Compared,
     said: &Survey,
     number: PageNo,
     bytes: &[u8],
 ) -> Result<(), Fault> {
-    let end = said.end_lsn();
-    let is_copied = said.analysed.copies.get(&number).is_some();
-    if is_copied {
+    if said.analysed.copies.get(&number).is_some() {
         compared.copied = compared.copied.saturating_add(1);
+        return Ok(());
     }
+    let end = said.end_lsn();
     let lsn = lsn_of(bytes);
     if lsn >= end && lsn > 0 {
         return compared.add_damage(PageDamage::PastTheLog(number, lsn, end));
-    }
-    if is_copied {
-        return Ok(());
     }
     let Some((least, count)) = said.synced(number) else {
         return Ok(());

@@ -1,0 +1,23 @@
+//! Do the files of a folder belong together?
+//!
+//! Whether the two logs and the file of pages of a folder can be those of one store, by the beginnings of the logs, the length of the file of pages
+//! and the beginning of its page 0.
+//!
+//! `belong` decides it before a file is made or a byte is written: which log is the current one, or why the files do not belong together. It is asked by
+//! whoever opens a folder, in Rattle and in C (`decide` answers a number). It stands on no other layer but the words of all, and its
+//! numbers are those of the headers of logs (docs/FORMATS.md).
+//!
+//! A refusal here is for ever, so what a stop may leave is never refused: `im_engine_guards` has that as a law. `may_lack_first_byte` is therefore
+//! no part of the decision: it tells a look at the files what they may have been.
+#![tactic(auto)]
+
+mod belonging;
+mod deciding;
+mod folder;
+mod fronts;
+mod pages;
+
+pub use belonging::{Apart, Logs, belong};
+pub use deciding::decide;
+pub use folder::{FIRST_BYTES, FRONT, Folder, Front, PagesFront};
+pub use fronts::may_lack_first_byte;

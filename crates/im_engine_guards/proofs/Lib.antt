@@ -1,0 +1,5 @@
+mod FreePages
+mod LogFronts
+mod PageFronts
+mod Counts
+mod Sound

@@ -1,0 +1,68 @@
+-- What the guard of a folder says of a store.
+use Rattle.std.specs.Prelude.{◌≡◌, ◌≤◌, ◌<◌, ◌+◌, ℕ, true, List, [], ◌++◌, length, take, replicate, Result, IfErr, IfOk}
+use Rattle.im_base_types.specs.Changes.{Effect}
+use Rattle.im_base_types.specs.declared.file_id.FileId.TheVariants.{Log, Pages as PagesFile, Log2}
+use Rattle.im_base_types.specs.declared.page_kind.PageKind.TheVariants.{Free}
+use Rattle.im_base_disk.specs.Disk.{Files}
+use Rattle.im_base_guard.specs.declared.folder.Front.{Front}
+use Rattle.im_base_guard.specs.declared.folder.PagesFront.{PagesFront}
+use Rattle.im_base_guard.specs.declared.folder.Folder.{Folder}
+use Rattle.im_base_guard.specs.Fronts.{BeginsWithChange}
+use Rattle.im_base_guard.specs.Belonging.{left, IsVerdict, Decides}
+use Rattle.im_base_guard.specs.declared.belonging.Apart.{Apart}
+use Rattle.im_base_guard.specs.declared.belonging.Logs.{Logs}
+use Rattle.im_log_choice.specs.Current.{IsCurrent}
+use Rattle.im_engine.specs.Stands.{StandsFor}
+use Rattle.im_log_header.specs.Header.{IsUnmade}
+use Rattle.im_theory_page.specs.PageFile.{page_count}
+use Rattle.im_theory_tree.specs.Levels.{Pages}
+use Rattle.im_theory_tree.specs.Good.{IsGoodTree}
+
+-- ---- a folder that has these files
+
+-- The beginning of a log: its first bytes, zeros where it has no more.
+pub record IsFront (file : List ℕ) (front : Front) : Type 0 where
+  pub there : front.is_there ≡ true
+  pub long : front.long ≡ length file
+  pub bytes : front.bytes ≡ take 65 (file ++ replicate 65 0)
+
+-- The beginning of a file of pages: the first bytes of page 0, zeros where there is no whole page.
+pub record IsPagesFront (file : List ℕ) (front : PagesFront) : Type 0 where
+  pub there : front.is_there ≡ true
+  pub long : front.long ≡ length file
+  pub bytes : 4096 ≤ length file → front.bytes ≡ take 28 file
+  pub none : length file < 4096 → front.bytes ≡ replicate 28 0
+
+-- The folder has all three files, and these are their beginnings.
+pub record IsFolder (files : Files) (f : Folder) : Type 0 where
+  pub log : IsFront (files Log) f.log
+  pub log2 : IsFront (files Log2) f.log2
+  pub pages : IsPagesFront (files PagesFile) f.pages
+
+-- What the files that stand for effects say nothing of: where no log was made, neither is longer than a creation leaves it; and where the log that was left begins with a record that
+-- changes a page, the file of pages has the first two. A Switch makes both true, and no write makes a file shorter.
+pub record IsLeft (files : Files) (f : Folder) : Type 0 where
+  pub fresh : IsUnmade (files Log) → IsUnmade (files Log2) → (length (files Log) ≤ 48) × (length (files Log2) ≤ 48)
+  pub first : BeginsWithChange (left f) → 2 ≤ page_count (files PagesFile)
+
+-- ---- the law
+
+-- It is no refusal, where the folder has files that stand for effects.
+abbrev pub IsSparing : Folder → Result Logs Apart → Type 0
+IsSparing f verdict = (effects : List Effect) (files : Files) → StandsFor effects files → IsFolder files f → IsLeft files f → IfErr verdict (λ why. ⊥)
+
+-- It names the log that is the current one.
+abbrev pub TakesCurrent : Folder → Result Logs Apart → Type 0
+TakesCurrent f verdict = (effects : List Effect) (files : Files) → StandsFor effects files → IsFolder files f → IfOk verdict (λ logs. IsCurrent logs.other_is_current files)
+
+-- So is each verdict of the guard, in Rattle and as the number that C is told.
+pub record NeverRefused : Type 0 where
+  pub belong : (f : Folder) (verdict : Result Logs Apart) → IsVerdict f verdict → IsSparing f verdict
+  pub current : (f : Folder) (verdict : Result Logs Apart) → IsVerdict f verdict → TakesCurrent f verdict
+  pub told : (f : Folder) (word : ℕ) → Decides f word → (effects : List Effect) (files : Files) → StandsFor effects files → IsFolder files f → IsLeft files f → word ≤ 1
+
+-- ---- why page 0 counts no more
+
+-- Of the pages that a good tree counts, one at most is as it was before anything was put: a free one at the end of the list.
+abbrev pub FewAreLacking : Type 0
+FewAreLacking = (pages : Pages) (many : ℕ) → IsGoodTree pages [] → ((p : ℕ) → many ≤ p → ((pages p).kind ≡ Free) × ((pages p).next ≡ 0)) → (pages 0).leftmost ≤ many + 1

@@ -1,0 +1,26 @@
+//! Is a sound store ever refused by the guard of its folder?
+//!
+//! That `im_base_guard`, which an opening of a folder asks first, refuses no files that stand for effects: those that lives and stops leave, also within a write, of
+//! which any bytes may be left. No lower crate can say so, since what files stand for is a word of `im_engine`.
+//!
+//! `guards_never_refuse` is the law of every verdict, `verdict` the guard with the law as its contract. Two things are supposed, of which that word says nothing
+//! (`IsLeft`): where no log was made, neither is longer than a creation leaves it; and where the log that was left begins with a record that changes a page, the first two
+//! pages are in the file. Whether a file is there at all is no part of files as the theory has them.
+#![tactic(auto)]
+
+ghost use Rattle.im_engine_guards.specs.Guards.{NeverRefused, IsSparing, TakesCurrent};
+
+use im_base_guard::{Apart, Folder, Logs, belong};
+
+/// The guard of a folder refuses no files that stand for effects, and takes the log that is the current one.
+pub fn guards_never_refuse()
+    ensures { NeverRefused }
+{}
+
+/// What the guard says of a folder.
+pub fn verdict(folder: &Folder) -> Result<Logs, Apart>
+    ensures never { IsSparing folder.now result }
+    ensures current { TakesCurrent folder.now result }
+{
+    belong(folder)
+}
