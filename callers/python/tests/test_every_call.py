@@ -60,7 +60,7 @@ class EveryCall(unittest.TestCase):
         self.assertGreater(n, 20)
 
     def test_a_name_that_is_refused_half_way_is_none(self):
-        for refused in range(1, 5):
+        for refused in (1, 2, 3):  # of its three entries
             with self.subTest(refused=refused), tempfile.TemporaryDirectory() as room:
                 os.environ["VAH_REFUSE_INSERT"] = str(refused)
                 try:
@@ -68,14 +68,12 @@ class EveryCall(unittest.TestCase):
                 finally:
                     del os.environ["VAH_REFUSE_INSERT"]
                 with store:
-                    if refused < 4:  # of its three entries
-                        self.assertRaises(MemoryError, store.index, "half")
-                        self.assertEqual(store.indexes(), [])
-                        with store.begin() as txn:
-                            self.assertEqual(len(txn), 0)
-                        store.blob("half")
-                    else:
-                        self.assertEqual((store.index("half").name, store.indexes()), ("half", ["half"]))
+                    self.assertRaises(MemoryError, store.index, "half")
+                    self.assertEqual(store.indexes(), [])
+                    with store.begin() as txn:
+                        self.assertEqual(len(txn), 0)
+                    store.blob("half")  # the name is free
+                    self.assertEqual(store.blobs(), ["half"])
 
 
 if __name__ == "__main__":

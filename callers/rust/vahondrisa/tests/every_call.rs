@@ -2,7 +2,11 @@
 //! `make -C callers test` runs this.
 use std::error::Error;
 use std::path::Path;
+use std::sync::{Mutex, PoisonError};
 use vahondrisa::{ErrorKind, Result, Store};
+
+/// What fails is said by the environment, which is the whole process's.
+static ALONE: Mutex<()> = Mutex::new(());
 
 /// Keys of 220 bytes split pages soon.
 fn key(turn: u8, k: u8) -> [u8; 220] {
@@ -41,6 +45,7 @@ fn life(dir: &Path, acked: &mut Vec<u8>) -> Result<()> {
 #[test]
 #[ignore = "over a library whose device fails: make -C callers test"]
 fn every_call_fails_in_turn() {
+    let _alone = ALONE.lock().unwrap_or_else(PoisonError::into_inner);
     let dir = std::env::temp_dir().join(format!("vahondrisa-every-call-{}", std::process::id()));
     for n in 1.. {
         let _ = std::fs::remove_dir_all(&dir);
@@ -73,20 +78,17 @@ fn every_call_fails_in_turn() {
 #[test]
 #[ignore = "over a library that refuses an insert: make -C callers test"]
 fn a_name_that_is_refused_half_way_is_none() {
-    for refused in 1..5 {
+    let _alone = ALONE.lock().unwrap_or_else(PoisonError::into_inner);
+    for refused in 1..4 {
         let dir = std::env::temp_dir().join(format!("vahondrisa-half-a-name-{}-{refused}", std::process::id()));
         let _ = std::fs::remove_dir_all(&dir);
         std::env::set_var("VAH_REFUSE_INSERT", refused.to_string());
         let store = Store::open(&dir).unwrap();
         std::env::remove_var("VAH_REFUSE_INSERT");
-        let index = store.index("half"); // its three entries
-        if refused < 4 {
-            assert_eq!(index.unwrap_err().kind(), ErrorKind::Memory);
-            assert_eq!((store.indexes().unwrap(), store.begin().unwrap().range(..).count()), (vec![], 0));
-            store.blob("half").unwrap();
-        } else {
-            assert_eq!((index.unwrap().name(), store.indexes().unwrap()), ("half", vec!["half".to_string()]));
-        }
+        assert_eq!(store.index("half").unwrap_err().kind(), ErrorKind::Memory); // one of its three entries
+        assert_eq!((store.indexes().unwrap(), store.begin().unwrap().range(..).count()), (vec![], 0));
+        store.blob("half").unwrap(); // the name is free
+        assert_eq!(store.blobs().unwrap(), ["half"]);
         store.close().unwrap();
         std::fs::remove_dir_all(&dir).unwrap();
     }
