@@ -1,6 +1,9 @@
 -- What was made is upkeep.
-use Rattle.std.proofs.Common.{◌∙◌, refl, sym}
-use Rattle.std.specs.Prelude.{◌≡◌, ℕ, true, false, Result, OnOk, IfErr, Ok, Err, ◌≤◌, IsTrue}
+use Rattle.std.proofs.Common.{◌∙◌, inl, inr, refl, subst, sym, arith}
+use Rattle.std.proofs.lemmas.Bool.{cases_lt}
+use Rattle.std.specs.Prelude.{◌≡◌, ◌+◌, ◌-◌, ◌^◌, ℕ, min, max, None, Some, true, false, Result, OnOk, IfErr, Ok, Err, ◌≤◌, IsTrue}
+use Rattle.im_base_types.specs.declared.tables.DirtyPage.{DirtyPage}
+use Rattle.im_page_table.specs.DirtyTable.{oldest}
 use Rattle.im_base_disk.specs.declared.disk.Disk.{Ghosts}
 use Rattle.im_base_types.specs.declared.fault.Fault.{Fault}
 use Rattle.im_base_steps.specs.declared.step.Step.{Step}
@@ -13,7 +16,7 @@ use Rattle.im_engine.specs.Told.{IsStep}
 use Rattle.im_engine_upkeep.specs.declared.upkeep.Upkeep.{Upkeep}
 use Rattle.im_engine_upkeep.specs.declared.due.Due.TheVariants as due
 use Rattle.im_engine_upkeep.specs.Upkeep.{IsKeptUp, none, more}
-use Rattle.im_engine_upkeep.specs.Rule.{IsByRule, IsDue, IsEnded, IsLongAtEnd, IsWritten, IsTaken, MadeLast, WasForced, WasRefused}
+use Rattle.im_engine_upkeep.specs.Rule.{IsByRule, IsDue, IsEnded, IsLongAtEnd, IsWritten, IsTaken, KnowsPages, MadeLast, WasForced, WasRefused}
 use Rattle.im_engine_upkeep.specs.Rule as rule
 
 -- what follows where it was made
@@ -138,3 +141,19 @@ module _ {D : Type 0} (d : Ghosts D) where
     failed = λ fails. absurd (let never : true ≡ false = sym fails ∙ works in cc never);
     forced = λ _ _. record { mid = mid; reply = forced.reply; forced = forced.made; switched = switched };
   }
+
+  -- ---- the pages that are known
+
+  pub knows_more : (old mid : Engine D d) (known pages n : ℕ) (change : DirtyPage) → KnowsPages d old known pages → IsKeptUp d old mid → oldest None mid.writer.table ≡ Some change → n ≡ max pages (min (change.page + 1) (2 ^ 32 - 1)) → KnowsPages d old known n
+  knows_more old mid known pages n change knows before is grown = elim (cases_lt pages (min (change.page + 1) (2 ^ 32 - 1))) [
+    | inl lt ↦ inr (at_least old known pages n knows (omega (arith, grown, lt)), change.page, record { mid = mid; before = before; change = change; first = is; is = refl }, (omega (arith, grown, lt)))
+    | inr ge ↦ (let same : n ≡ pages = omega (arith, grown, ge) in subst (λ (k : ℕ). KnowsPages d old known k) (sym same) knows)
+  ]
+    where
+      at_least : (old : Engine D d) (known pages n : ℕ) → KnowsPages d old known pages → pages ≤ n → known ≤ n
+      at_least old known pages n (inl same) le = omega (arith, same, le)
+      at_least old known pages n (inr found) le = (let low = found.0 in omega (arith, low, le))
+
+  pub knows_after : (old mid : Engine D d) (known pages : ℕ) → IsKeptUp d old mid → KnowsPages d mid known pages → KnowsPages d old known pages
+  knows_after old mid known pages before (inl same) = inl same
+  knows_after old mid known pages before (inr (le, page, had, is)) = inr (le, page, record { mid = had.mid; before = kept_then old mid had.mid before had.before; change = had.change; first = had.first; is = had.is }, is)

@@ -1,5 +1,5 @@
 -- What upkeep makes of an engine, and when: the rule.
-use Rattle.std.specs.Prelude.{◌≡◌, ◌⊎◌, ◌≤◌, ◌*◌, ℕ, true, false}
+use Rattle.std.specs.Prelude.{◌≡◌, ◌⊎◌, ◌≤◌, ◌+◌, ◌-◌, ◌*◌, ◌^◌, ℕ, min, None, Some, true, false}
 use Rattle.im_base_disk.specs.declared.disk.Disk.{Ghosts}
 use Rattle.im_base_steps.specs.declared.step.Step.{Step}
 use Rattle.im_base_steps.specs.declared.step.Step.TheVariants.{FlushPage, Force, Checkpoint, Switch}
@@ -8,6 +8,8 @@ use Rattle.im_base_steps.specs.declared.reply.Reply.TheVariants.{Refused}
 use Rattle.im_base_types.specs.declared.fault.Fault.{Fault}
 use Rattle.im_base_steps.specs.Calls.{asked_by}
 use Rattle.im_base_steps.specs.Replies.{is_service}
+use Rattle.im_base_types.specs.declared.tables.DirtyPage.{DirtyPage}
+use Rattle.im_page_table.specs.DirtyTable.{oldest}
 use Rattle.im_engine.specs.declared.engine.Engine.{Engine}
 use Rattle.im_engine.specs.Told.{IsStep}
 use Rattle.im_engine_upkeep.specs.declared.upkeep.Upkeep.{Upkeep}
@@ -79,6 +81,18 @@ module _ {D : Type 0} (d : Ghosts D) where
     pub before : IsKeptUp d old mid
     pub service : is_service (asked_by step) ≡ true
     pub made : IsStep d step (Refused fault) mid new
+
+  -- A page had the oldest change of all, at some moment of upkeep.
+  pub record HadOldest (old : Engine D d) (page : ℕ) : Type 0 where
+    pub mid : Engine D d
+    pub before : IsKeptUp d old mid
+    pub change : DirtyPage
+    pub first : oldest None mid.writer.table ≡ Some change
+    pub is : change.page ≡ page
+
+  -- The pages that the file is known to have are as many as before, or more, by a page that had the oldest change.
+  abbrev pub KnowsPages : Engine D d → ℕ → ℕ → Type 0
+  KnowsPages old known pages = (pages ≡ known) ⊎ ((known ≤ pages) × (page : ℕ) × HadOldest old page × (pages ≡ min (page + 1) (2 ^ 32 - 1)))
 
   -- What is due was made, where the engine works.
   pub record IsByRule (u : Upkeep) (old new : Engine D d) : Type 0 where

@@ -1,13 +1,13 @@
 //! Upkeep of an open store: Checkpoints, so that its next opening has little to redo, and Switches, so that it has little to read.
 
-ghost use Rattle.std.specs.Prelude.{◌≡◌, ◌↔◌, ◌≤◌, true, OnOk, IfErr, IsTrue};
+ghost use Rattle.std.specs.Prelude.{◌≡◌, ◌↔◌, ◌≤◌, true, false, OnOk, IfErr, IsTrue};
 ghost use Rattle.im_base_steps.specs.Calls.{asked_by};
 ghost use Rattle.im_base_steps.specs.Replies.{is_service};
 ghost use Rattle.im_base_steps.specs.declared.step.Step.TheVariants as steps;
 ghost use Rattle.im_base_steps.specs.declared.reply.Reply.TheVariants.{Refused};
 ghost use Rattle.im_engine.specs.Told.{IsStep};
 ghost use Rattle.im_engine_upkeep.specs.Upkeep.{IsKeptUp};
-ghost use Rattle.im_engine_upkeep.specs.Rule.{IsByRule, IsDue, IsEnded, IsHeldUp, IsLongAtEnd, IsRedoLong, IsSwitchDue, IsTaken, IsWritten, MadeLast, WasRefused};
+ghost use Rattle.im_engine_upkeep.specs.Rule.{IsByRule, IsDue, IsEnded, IsHeldUp, IsLongAtEnd, IsRedoLong, IsSwitchDue, IsTaken, IsWritten, KnowsPages, MadeLast, WasRefused};
 
 use crate::bounds::Bounds;
 use crate::due::Due;
@@ -46,7 +46,10 @@ pub struct Upkeep {
 
 impl Upkeep {
     /// That of a store that was just opened. Of a log that has no record nothing is to be redone, wherever redo began: an opening reads from the log's begin on.
-    pub fn of<D: Disk>(engine: &Engine<D>, bounds: Bounds) -> Upkeep {
+    pub fn of<D: Disk>(engine: &Engine<D>, bounds: Bounds) -> Upkeep
+        ensures bounds { result.bounds ≡ bounds }
+        ensures first { result.is_upgraded ≡ false }
+    {
         let begun = engine.durable_end().saturating_sub(engine.log_length());
         Upkeep {
             bounds,
@@ -68,6 +71,7 @@ impl Upkeep {
     /// Makes a step, and answers it.
     pub fn step<D: TwoLogs>(&mut self, engine: &mut Engine<D>, step: &Step) -> Reply
         ensures made { IsStep D.Disk step.now result engine.old engine.new }
+        ensures pages { self.new.pages ≡ self.old.pages }
         ensures bounds { self.new.bounds ≡ self.old.bounds }
     {
         let end = engine.durable_end();
@@ -119,6 +123,8 @@ impl Upkeep {
         ensures kept { IsKeptUp D.Disk engine.old engine.new }
         ensures rule { OnOk result (IsByRule D.Disk self.old engine.old engine.new) }
         ensures refused { IfErr result (WasRefused D.Disk engine.old engine.new) }
+        ensures bounds { self.new.bounds ≡ self.old.bounds }
+        ensures pages { KnowsPages D.Disk engine.old self.old.pages self.new.pages }
     {
         if engine.failed() {
             return Ok(());
@@ -139,6 +145,8 @@ impl Upkeep {
         ensures kept { IsKeptUp D.Disk engine.old engine.new }
         ensures rule { OnOk result (IsEnded D.Disk self.old engine.old engine.new) }
         ensures refused { IfErr result (WasRefused D.Disk engine.old engine.new) }
+        ensures bounds { self.new.bounds ≡ self.old.bounds }
+        ensures pages { KnowsPages D.Disk engine.old self.old.pages self.new.pages }
     {
         if engine.failed() {
             return Ok(());
@@ -157,6 +165,8 @@ impl Upkeep {
         ensures switched { OnOk result (IsLongAtEnd D.Disk self.old.bounds.log.bytes engine.old → IsTaken D.Disk steps.Switch engine.old engine.new) }
         ensures kept { OnOk result (IsKeptUp D.Disk engine.old engine.new) }
         ensures refused { IfErr result (WasRefused D.Disk engine.old engine.new) }
+        ensures bounds { self.new.bounds ≡ self.old.bounds }
+        ensures pages { KnowsPages D.Disk engine.old self.old.pages self.new.pages }
     {
         if self.is_long_at_end(engine) {
             return self.make(engine, &Step::Switch);
@@ -218,6 +228,8 @@ impl Upkeep {
     ) -> Result<(), Fault>
         ensures taken { OnOk result (MadeLast D.Disk steps.Checkpoint engine.old engine.new) }
         ensures refused { IfErr result (WasRefused D.Disk engine.old engine.new) }
+        ensures bounds { self.new.bounds ≡ self.old.bounds }
+        ensures pages { KnowsPages D.Disk engine.old self.old.pages self.new.pages }
     {
         if let Err(fault) = self.write_oldest(engine, is_last) {
             return Err(fault);
@@ -234,6 +246,8 @@ impl Upkeep {
     ) -> Result<(), Fault>
         ensures written { OnOk result (IsWritten D.Disk engine.old engine.new) }
         ensures refused { IfErr result (WasRefused D.Disk engine.old engine.new) }
+        ensures bounds { self.new.bounds ≡ self.old.bounds }
+        ensures pages { KnowsPages D.Disk engine.old self.old.pages self.new.pages }
     {
         let mut pages = engine.dirty_count();
         for _written in 0..MOST_DIRTY {
@@ -263,6 +277,8 @@ impl Upkeep {
     fn write_ahead<D: TwoLogs>(&mut self, engine: &mut Engine<D>) -> Result<(), Fault>
         ensures written { OnOk result (IsWritten D.Disk engine.old engine.new) }
         ensures refused { IfErr result (WasRefused D.Disk engine.old engine.new) }
+        ensures bounds { self.new.bounds ≡ self.old.bounds }
+        ensures pages { KnowsPages D.Disk engine.old self.old.pages self.new.pages }
     {
         if !self.is_near(engine) {
             return Ok(());
@@ -289,6 +305,7 @@ impl Upkeep {
         ensures taken { OnOk result (IsTaken D.Disk step.now engine.old engine.new) }
         ensures refused { IfErr result (λ fault. IsStep D.Disk step.now (Refused fault) engine.old engine.new) }
         ensures bounds { self.new.bounds ≡ self.old.bounds }
+        ensures pages { self.new.pages ≡ self.old.pages }
     {
         match self.step(engine, step) {
             Reply::Refused(fault) => Err(fault),

@@ -1,9 +1,9 @@
-use Rattle.std.proofs.Common.{rules, refl, inr, subst}
+use Rattle.std.proofs.Common.{ℕ, rules, refl, inr, subst}
 use Rattle.im_base_steps.specs.declared.step.Step.TheVariants as steps
 use Rattle.im_engine_upkeep.specs.declared.bounds.Bounds.{Bounds}
-use Rattle.im_engine_upkeep.specs.Rule.{IsLongAtEnd, IsTaken}
+use Rattle.im_engine_upkeep.specs.Rule.{IsLongAtEnd, IsTaken, KnowsPages}
 use Rattle.im_engine_upkeep.specs.Upkeep.{none}
-use Rattle.im_engine_upkeep.proofs.Keeping.{either_way, err_on, failed_is_ended, first_kept, first_refused, forced_is_ended, kept_then, ok_on, refused_kept, refused_then, unset_is_ended}
+use Rattle.im_engine_upkeep.proofs.Keeping.{either_way, err_on, failed_is_ended, first_kept, first_refused, forced_is_ended, kept_then, knows_after, ok_on, refused_kept, refused_then, unset_is_ended}
 use Rattle.im_engine_upkeep.proofs.upkeep.Upkeep.close.Goals as goal
 
 pub returns-then-failed-clause-rule : goal.returns-then-failed-clause-rule
@@ -42,3 +42,8 @@ returns-then-failed-clause-kept g c = none
 
 pub returns-then-not-are_set-clause-kept : goal.returns-then-not-are_set-clause-kept
 returns-then-not-are_set-clause-kept g c = none
+
+pub returns-clause-pages : goal.returns-clause-pages
+returns-clause-pages g c =
+    knows_after g.D.Disk c.args.engine.now c.make.new.engine c.args.self.now.pages c.end.new.self.pages (first_kept g.D.Disk c.args.engine.now c.make.new.engine steps.Force refl c.in_default.ensures.taken)
+    (subst (λ (n : ℕ). KnowsPages g.D.Disk c.make.new.engine n c.end.new.self.pages) c.make.ensures.pages c.end.ensures.pages)

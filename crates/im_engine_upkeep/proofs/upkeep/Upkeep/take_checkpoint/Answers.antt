@@ -1,5 +1,6 @@
-use Rattle.std.proofs.Common.{refl}
+use Rattle.std.proofs.Common.{ℕ, refl, subst, sym}
 use Rattle.im_base_steps.specs.declared.step.Step.TheVariants as steps
+use Rattle.im_engine_upkeep.specs.Rule.{KnowsPages}
 use Rattle.im_engine_upkeep.proofs.Keeping.{err_on, ok_on, refused_after_writes, taken_last}
 use Rattle.im_engine_upkeep.proofs.upkeep.Upkeep.take_checkpoint.Goals as goal
 
@@ -10,3 +11,6 @@ returns-clause-refused g c =
 pub returns-clause-taken : goal.returns-clause-taken
 returns-clause-taken g c =
     ok_on c.make.result c.make.ensures.taken (taken_last g.D.Disk c.args.engine.now c.write_oldest.new.engine c.make.new.engine steps.Checkpoint c.in_default.ensures.written)
+
+pub returns-clause-pages : goal.returns-clause-pages
+returns-clause-pages g c = subst (λ (n : ℕ). KnowsPages g.D.Disk c.args.engine.now c.args.self.now.pages n) (sym c.make.ensures.pages) c.write_oldest.ensures.pages

@@ -1,14 +1,31 @@
+use Rattle.std.proofs.Common.{◌≡◌, ◌+◌, ◌-◌, ◌^◌, ℕ, inl, min, max, refl, rules, sym, ◌∙◌}
+use Rattle.im_base_types.specs.declared.tables.DirtyPage.{DirtyPage}
 use Rattle.im_engine_upkeep.specs.Rule as rule
-use Rattle.im_engine_upkeep.proofs.Keeping.{page_refused, page_written}
+use Rattle.im_engine_upkeep.proofs.Keeping.{knows_more, page_refused, page_written, written_kept}
 use Rattle.im_engine_upkeep.proofs.upkeep.Upkeep.write_oldest.Goals as goal
 
 pub returns-in-Err-clause-refused : goal.returns-in-Err-clause-refused
 returns-in-Err-clause-refused g c =
-    page_refused g.D.Disk c.args.engine.now c.loop-written.engine c.make.new.engine c.in-Some.change.page c.in-Err.fault c.loop-written.invariant c.in-Err.ensures.refused
+    page_refused g.D.Disk c.args.engine.now c.loop-written.engine c.make.new.engine c.in-Some.change.page c.in-Err.fault c.loop-written.invariant.written c.in-Err.ensures.refused
+
+pub returns-in-Err-clause-pages : goal.returns-in-Err-clause-pages
+returns-in-Err-clause-pages g c =
+    let l = c.loop-written in
+    knows_more g.D.Disk c.args.engine.now l.engine c.args.self.now.pages l.self.pages c.make.new.self.pages c.in-Some.change l.invariant.known (written_kept g.D.Disk c.args.engine.now l.engine l.invariant.written) (search rules) (search rules)
+
+pub returns-then-not-wants_write-clause-pages : goal.returns-then-not-wants_write-clause-pages
+returns-then-not-wants_write-clause-pages g c =
+    let l = c.loop-written in
+    knows_more g.D.Disk c.args.engine.now l.engine c.args.self.now.pages l.self.pages _ c.in-Some.change l.invariant.known (written_kept g.D.Disk c.args.engine.now l.engine l.invariant.written) (search rules) (search rules)
 
 pub loop-written-init : goal.loop-written-init
-loop-written-init g c = rule.none
+loop-written-init g c = record { written = rule.none; bounds = refl; known = inl refl }
 
 pub loop-written-preserved : goal.loop-written-preserved
 loop-written-preserved g c =
-    page_written g.D.Disk c.args.engine.now c.loop-written.engine c.make.new.engine c.in-Some.change.page c.loop-written.invariant c.in_default-make.ensures.taken
+    let l = c.loop-written in
+    record {
+      written = page_written g.D.Disk c.args.engine.now l.engine c.make.new.engine c.in-Some.change.page l.invariant.written c.in_default-make.ensures.taken;
+      bounds = search rules;
+      known = knows_more g.D.Disk c.args.engine.now l.engine c.args.self.now.pages l.self.pages c.make.new.self.pages c.in-Some.change l.invariant.known (written_kept g.D.Disk c.args.engine.now l.engine l.invariant.written) (search rules) (search rules);
+    }

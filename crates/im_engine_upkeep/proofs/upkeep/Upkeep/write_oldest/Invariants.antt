@@ -1,5 +1,10 @@
-use Rattle.im_engine_upkeep.specs.Rule.{IsWritten}
+use Rattle.std.proofs.Common.{◌≡◌}
+use Rattle.im_engine_upkeep.specs.Rule.{IsWritten, KnowsPages}
 use Rattle.im_engine_upkeep.proofs.upkeep.Upkeep.write_oldest.Given as goal
 
 abbrev pub invariant-loop-written : goal.invariant-loop-written
-invariant-loop-written g l = IsWritten g.D.Disk l.fn.engine l.engine
+invariant-loop-written g l = record {
+  written : IsWritten g.D.Disk l.fn.engine l.engine;
+  bounds : l.self.bounds ≡ l.fn.self.bounds;
+  known : KnowsPages g.D.Disk l.fn.engine l.fn.self.pages l.self.pages;
+}
