@@ -1,17 +1,23 @@
 -- What a caller of a front learns behind its lock.
-use Rattle.std.proofs.Common.{◌≡◌, ◌+◌, ℕ, List, [], ◌∷◌, ◌++◌, Result, Ok, Err, IfOk, ap, ◌∙◌, arith}
+use Rattle.std.proofs.Common.{◌≡◌, ◌+◌, ◌⊎◌, inl, inr, ℕ, List, [], ◌∷◌, ◌++◌, true, false, Result, Ok, Err, IfOk, refl, subst, ap, ◌∙◌, arith}
+use Rattle.std.specs.Prelude.{IfErr}
+use Rattle.std.proofs.lemmas.Bool.{cases_Bool}
 use Rattle.im_base_types.specs.Pages.{Entry}
 use Rattle.im_base_types.specs.Answers as answers
 use Rattle.im_base_types.specs.declared.fault.Fault.{Fault}
+use Rattle.im_base_types.specs.declared.fault.Fault.TheVariants.{Memory, TraceFull}
 use Rattle.im_base_steps.specs.declared.step.Step.{Step}
 use Rattle.im_base_steps.specs.declared.reply.Reply.{Reply}
 use Rattle.im_base_steps.specs.declared.step.Step.TheVariants as steps
+use Rattle.im_base_steps.specs.declared.reply.Reply.TheVariants as replies
 use Rattle.im_base_steps.specs.Calls.{told_by}
+use Rattle.im_base_steps.specs.Replies.{is_full, lacks_memory}
 use Rattle.im_theory_store.specs.declared.store.Store.{Ghosts}
 use Rattle.im_front.specs.Held.{State, IsRun, waits_in, forces_in}
 use Rattle.im_front.specs.Traces.{trace_of}
 use Rattle.im_front.specs.Plain.{PlainState, seen_of, IsKeptFrom}
-use Rattle.im_front.specs.Acknowledged.{Point, point_of, point_in, IsHeld, IsLast}
+use Rattle.im_front.specs.Acknowledged.{Point, point_of, point_in, IsHeld, IsLast, IsNotAcknowledged, IsNotForced, IsStepOf}
+use Rattle.im_front.specs.Writing.{IsUnmade}
 use Rattle.im_front.proofs.Growing.{seen_of-push}
 
 module _ {E : Type 0} (d : Ghosts E) where
@@ -43,3 +49,61 @@ module _ {E : Type 0} (d : Ghosts E) where
 pub map_ok : (r : Result Unit Fault) (P Q : Type 0) → (P → Q) → IfOk r (λ x. P) → IfOk r (λ x. Q)
 map_ok (Ok x) P Q f h = f h
 map_ok (Err e) P Q f h = tt
+
+-- ---- refusals
+
+full_is : (fault : Fault) → is_full (told_by (replies.Refused fault)) ≡ true → fault ≡ TraceFull
+full_is TraceFull is = refl
+full_is fault is = absurd (let clash : false ≡ true = is in cc clash)
+
+memory_is : (fault : Fault) → lacks_memory (told_by (replies.Refused fault)) ≡ true → fault ≡ Memory
+memory_is Memory is = refl
+memory_is fault is = absurd (let clash : false ≡ true = is in cc clash)
+
+-- a refusal is that of the step, or no more steps are made
+pub refused_plain : {E : Type 0} (made : E → Step → Reply → E → Type 0) (step : Step) (reply : Reply) (fault : Fault) → reply ≡ replies.Refused fault → (is_full (told_by reply) ≡ false → IsStepOf made step reply)
+    → IsStepOf made step (replies.Refused fault) ⊎ (fault ≡ TraceFull)
+refused_plain made step reply fault is so = elim (cases_Bool (is_full (told_by reply))) [
+  | inl full ↦ inr (full_is fault (subst (λ (r : Reply). is_full (told_by r) ≡ true) is full))
+  | inr room ↦ inl (subst (λ (r : Reply). IsStepOf made step r) is (so room))
+]
+
+-- or there was no memory for it
+pub refused_whole : {E : Type 0} (made : E → Step → Reply → E → Type 0) (step : Step) (reply : Reply) (fault : Fault) → reply ≡ replies.Refused fault
+    → (is_full (told_by reply) ≡ false → lacks_memory (told_by reply) ≡ false → IsStepOf made step reply) → IsStepOf made step (replies.Refused fault) ⊎ (fault ≡ TraceFull) ⊎ (fault ≡ Memory)
+refused_whole made step reply fault is so = elim (cases_Bool (lacks_memory (told_by reply))) [
+  | inl lacks ↦ inr (inr (memory_is fault (subst (λ (r : Reply). lacks_memory (told_by r) ≡ true) is lacks)))
+  | inr has ↦ (elim (refused_plain made step reply fault is (λ room. so room has)) [ inl one ↦ inl one | inr full ↦ inr (inl full) ])
+]
+
+module _ {E : Type 0} (d : Ghosts E) where
+  pub not_forced : (fault : Fault) → IsStepOf d.made steps.Force (replies.Refused fault) ⊎ (fault ≡ TraceFull) → IsNotForced d fault
+  not_forced fault (inl one) = inl one
+  not_forced fault (inr full) = inr (inr full)
+
+  pub not_forced_whole : (fault : Fault) → IsStepOf d.made steps.Force (replies.Refused fault) ⊎ (fault ≡ TraceFull) ⊎ (fault ≡ Memory) → IsNotForced d fault ⊎ (fault ≡ Memory)
+  not_forced_whole fault (inl one) = inl (inl one)
+  not_forced_whole fault (inr (inl full)) = inl (inr (inr full))
+  not_forced_whole fault (inr (inr lacks)) = inr lacks
+
+  pub not_acknowledged : (t : ℕ) (fault : Fault) → IsStepOf d.made (steps.Commit t) (replies.Refused fault) ⊎ (fault ≡ TraceFull) → IsNotAcknowledged d t fault
+  not_acknowledged t fault (inl one) = inl one
+  not_acknowledged t fault (inr full) = inr (inr (inr full))
+
+  pub not_acknowledged_whole : (t : ℕ) (fault : Fault) → IsStepOf d.made (steps.Commit t) (replies.Refused fault) ⊎ (fault ≡ TraceFull) ⊎ (fault ≡ Memory) → IsNotAcknowledged d t fault ⊎ (fault ≡ Memory)
+  not_acknowledged_whole t fault (inl one) = inl (inl one)
+  not_acknowledged_whole t fault (inr (inl full)) = inl (inr (inr (inr full)))
+  not_acknowledged_whole t fault (inr (inr lacks)) = inr lacks
+
+  -- of a step of any kind
+  pub unmade : (step : Step) (reply : Reply) (fault : Fault) → reply ≡ replies.Refused fault → (is_full (told_by reply) ≡ false → IsStepOf d.made step reply) → IsUnmade d fault
+  unmade step reply fault is so = elim (refused_plain d.made step reply fault is so) [ inl one ↦ inl (step, one) | inr full ↦ inr (inr full) ]
+
+  pub unmade_commit : (t : ℕ) (fault : Fault) → IsNotAcknowledged d t fault → IsUnmade d fault
+  unmade_commit t fault (inl one) = inl (steps.Commit t, one)
+  unmade_commit t fault (inr (inl force)) = inl (steps.Force, force)
+  unmade_commit t fault (inr (inr other)) = inr other
+
+pub map_err : (r : Result Unit Fault) (P Q : Fault → Type 0) → ((e : Fault) → P e → Q e) → IfErr r P → IfErr r Q
+map_err (Ok x) P Q f h = tt
+map_err (Err e) P Q f h = f e h

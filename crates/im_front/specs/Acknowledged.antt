@@ -5,6 +5,9 @@ use Rattle.im_base_types.specs.Answers as answers
 use Rattle.im_base_steps.specs.declared.step.Step.{Step}
 use Rattle.im_base_steps.specs.declared.reply.Reply.{Reply}
 use Rattle.im_base_steps.specs.declared.step.Step.TheVariants as steps
+use Rattle.im_base_steps.specs.declared.reply.Reply.TheVariants as replies
+use Rattle.im_base_types.specs.declared.fault.Fault.{Fault}
+use Rattle.im_base_types.specs.declared.fault.Fault.TheVariants.{Failed, TraceFull}
 use Rattle.im_base_steps.specs.Calls.{told_by}
 use Rattle.im_theory_store.specs.declared.store.Store.{Ghosts}
 use Rattle.im_front.specs.Traces.{trace_of}
@@ -61,6 +64,14 @@ module _ {E : Type 0} (d : Ghosts E) where
   pub data IsAcknowledged (t : ℕ) : Type 0 where
     at_once : (reply : Reply) → told_by reply ≡ answers.Committed → IsStepOf d.made (steps.Commit t) reply → IsAcknowledged t
     by_force : (reply : Reply) → told_by reply ≡ answers.More → IsStepOf d.made (steps.Commit t) reply → (p : Point E) → IsLast t p → IsForced p.forces → IsAcknowledged t
+
+  -- Why no force came: it was made, and refused so; the store has failed; or no more steps are made.
+  abbrev pub IsNotForced : Fault → Type 0
+  IsNotForced fault = IsStepOf d.made steps.Force (replies.Refused fault) ⊎ (fault ≡ Failed) ⊎ (fault ≡ TraceFull)
+
+  -- Why nothing was acknowledged: the Commit was made, and refused so; or no force came.
+  abbrev pub IsNotAcknowledged : ℕ → Fault → Type 0
+  IsNotAcknowledged t fault = IsStepOf d.made (steps.Commit t) (replies.Refused fault) ⊎ IsNotForced fault
 
   -- Behind the lock nobody waited for a force; or one came after.
   pub data IsSettled : Type 0 where

@@ -12,7 +12,7 @@ ghost use Rattle.im_front.specs.Traces.{trace_of, counts_of};
 ghost use Rattle.im_base_steps.specs.Replies.{is_full, lacks_memory, IsReply};
 ghost use Rattle.im_theory_store.specs.Store.{LookKept};
 ghost use Rattle.im_front.specs.Held.{IsResting, IsRun, StopKeeps};
-ghost use Rattle.im_front.specs.Acknowledged.{IsAcknowledged, IsForced, IsSettled, IsStepOf};
+ghost use Rattle.im_front.specs.Acknowledged.{IsAcknowledged, IsForced, IsNotAcknowledged, IsNotForced, IsSettled, IsStepOf};
 
 use crate::callers::{Behind, Callers};
 use crate::held::{Closed, Held};
@@ -90,6 +90,7 @@ impl<E: Store, L: Ledger> Front<E, L> {
     pub fn commit<R: Wait>(&self, rt: &R, mine: &mut Share<L>, t: TxnId) -> Result<(), Fault>
         ensures made { IfOk result (λ _. mine.old.made.amount + 1 ≤ mine.new.made.amount) }
         ensures acknowledged { IfOk result (λ _. IsAcknowledged E.Store t) }
+        ensures causes { IfErr result (λ fault. IsNotAcknowledged E.Store t fault ⊎ (fault ≡ Memory)) }
         ensures few { (mine.old.made.amount ≤ mine.new.made.amount) × (mine.new.made.amount ≤ mine.old.made.amount + 2) }
     {
         let step = Step::Commit(t);
@@ -115,6 +116,7 @@ impl<E: Store, L: Ledger> Front<E, L> {
     /// waits. `Failed` where the store has failed, else refused as the force is.
     pub fn settle<R: Wait>(&self, rt: &R, mine: &mut Share<L>) -> Result<(), Fault>
         ensures settled { IfOk result (λ _. IsSettled E.Store) }
+        ensures causes { IfErr result (λ fault. IsNotForced E.Store fault ⊎ (fault ≡ Memory)) }
         ensures few { (mine.old.made.amount ≤ mine.new.made.amount) × (mine.new.made.amount ≤ mine.old.made.amount + 1) }
     {
         self.callers.come();
@@ -142,6 +144,7 @@ impl<E: Store, L: Ledger> Front<E, L> {
         forces: u64,
     ) -> Result<(), Fault>
         ensures forced { IfOk result (λ _. IsForced E.Store forces) }
+        ensures causes { IfErr result (λ fault. IsNotForced E.Store fault ⊎ (fault ≡ Memory)) }
         ensures few { (mine.old.made.amount ≤ mine.new.made.amount) × (mine.new.made.amount ≤ mine.old.made.amount + 1) }
     {
         let mut held = self.callers.sleep_until_due(rt, held, forces);

@@ -12,7 +12,7 @@ ghost use Rattle.im_front.specs.Traces.{counts_of};
 ghost use Rattle.im_base_steps.specs.Replies.{is_full, IsReply};
 ghost use Rattle.im_front.specs.Held.{IsResting, Stands, after_trace, waits_in, forces_in};
 ghost use Rattle.im_front.specs.Plain.{none, seen_of, Notes, GoesOn, IsKeptFrom};
-ghost use Rattle.im_front.specs.Acknowledged.{IsAcknowledged, IsForced, IsSettled, IsStepOf};
+ghost use Rattle.im_front.specs.Acknowledged.{IsAcknowledged, IsForced, IsNotAcknowledged, IsNotForced, IsSettled, IsStepOf};
 
 use crate::callers::{Behind, Callers, Pace};
 use crate::held::{counted, forces_after, passed_after, publish};
@@ -339,6 +339,7 @@ impl<E: Store> Open<E> {
     /// Refused as the Commit is. `Device` or `Failed` where the force failed: whether it is committed shows when the store is opened again.
     pub fn commit<R: Wait>(&self, rt: &R, t: TxnId) -> Result<(), Fault>
         ensures acknowledged { IfOk result (λ _. IsAcknowledged E.Store t) }
+        ensures causes { IfErr result (λ fault. IsNotAcknowledged E.Store t fault) }
     {
         let step = Step::Commit(t);
         self.callers.come();
@@ -363,6 +364,7 @@ impl<E: Store> Open<E> {
     /// waits. `Failed` where the store has failed, else refused as the force is.
     pub fn settle<R: Wait>(&self, rt: &R) -> Result<(), Fault>
         ensures settled { IfOk result (λ _. IsSettled E.Store) }
+        ensures causes { IfErr result (λ fault. IsNotForced E.Store fault) }
     {
         self.callers.come();
         let held = self.held.lock(rt);
@@ -388,6 +390,7 @@ impl<E: Store> Open<E> {
         forces: u64,
     ) -> Result<(), Fault>
         ensures forced { IfOk result (λ _. IsForced E.Store forces) }
+        ensures causes { IfErr result (λ fault. IsNotForced E.Store fault) }
     {
         let mut held = self.callers.sleep_until_due(rt, held, forces);
         let done = if held.is_settled(forces) {

@@ -12,7 +12,7 @@ ghost use Rattle.im_front.specs.Traces.{counts_of};
 ghost use Rattle.im_base_steps.specs.Replies.{is_full, IsReply};
 ghost use Rattle.im_front.specs.Held.{IsResting, Stands, after_trace, waits_in, forces_in};
 ghost use Rattle.im_front.specs.Plain.{none, seen_of, Notes, GoesOn, IsKeptFrom};
-ghost use Rattle.im_front.specs.Acknowledged.{IsAcknowledged, IsForced, IsSettled, IsStepOf};
+ghost use Rattle.im_front.specs.Acknowledged.{IsAcknowledged, IsForced, IsNotAcknowledged, IsNotForced, IsSettled, IsStepOf};
 
 use crate::callers::{Behind, Callers, Pace};
 use crate::held::{SHARES, counted, forces_after, gather, passed_after, publish};
@@ -323,6 +323,7 @@ impl<E: Store, L: Ledger> Shared<E, L> {
     pub fn commit<R: Wait>(&self, rt: &R, mine: &mut Share<L>, t: TxnId) -> Result<(), Fault>
         ensures made { IfOk result (λ _. mine.old.made.amount + 1 ≤ mine.new.made.amount) }
         ensures acknowledged { IfOk result (λ _. IsAcknowledged E.Store t) }
+        ensures causes { IfErr result (λ fault. IsNotAcknowledged E.Store t fault) }
         ensures few { (mine.old.made.amount ≤ mine.new.made.amount) × (mine.new.made.amount ≤ mine.old.made.amount + 2) }
     {
         let step = Step::Commit(t);
@@ -348,6 +349,7 @@ impl<E: Store, L: Ledger> Shared<E, L> {
     /// waits. `Failed` where the store has failed, else refused as the force is.
     pub fn settle<R: Wait>(&self, rt: &R, mine: &mut Share<L>) -> Result<(), Fault>
         ensures settled { IfOk result (λ _. IsSettled E.Store) }
+        ensures causes { IfErr result (λ fault. IsNotForced E.Store fault) }
         ensures few { (mine.old.made.amount ≤ mine.new.made.amount) × (mine.new.made.amount ≤ mine.old.made.amount + 1) }
     {
         self.callers.come();
@@ -375,6 +377,7 @@ impl<E: Store, L: Ledger> Shared<E, L> {
         forces: u64,
     ) -> Result<(), Fault>
         ensures forced { IfOk result (λ _. IsForced E.Store forces) }
+        ensures causes { IfErr result (λ fault. IsNotForced E.Store fault) }
         ensures few { (mine.old.made.amount ≤ mine.new.made.amount) × (mine.new.made.amount ≤ mine.old.made.amount + 1) }
     {
         let mut held = self.callers.sleep_until_due(rt, held, forces);

@@ -1,7 +1,7 @@
 //! Transactions that are made again where they have to give way.
 
-ghost use Rattle.std.specs.Prelude.{◌≡◌, IfOk};
-ghost use Rattle.im_front.specs.Writing.{IsBegun, IsTakenBack, IsWritten};
+ghost use Rattle.std.specs.Prelude.{◌≡◌, IfErr, IfOk};
+ghost use Rattle.im_front.specs.Writing.{IsBegun, IsTakenBack, IsUnmade, IsUnwritten, IsWritten};
 
 use crate::callers::Behind;
 use crate::line::Turn;
@@ -31,6 +31,7 @@ impl<E: Store> Open<E> {
     ) -> Result<T, Fault>
         requires { F.IsAlwaysCallable work }
         ensures written { IfOk result (λ x. IsWritten E.Store F.step x work) }
+        ensures causes { IfErr result (IsUnwritten E.Store F.step) }
     {
         let mut work = work;
         let mut turn = self.come(rt);
@@ -69,6 +70,7 @@ impl<E: Store> Open<E> {
     // Begins a transaction, once it may.
     fn begin<R: Wait + Clock>(&self, rt: &R, turn: &Turn) -> Result<TxnId, Fault>
         ensures begun { IfOk result (λ t. IsBegun E.made t) }
+        ensures causes { IfErr result (IsUnmade E.Store) }
     {
         self.callers.come();
         let mut held = self.held.lock(rt);
@@ -108,6 +110,7 @@ impl<E: Store> Open<E> {
     // Rolls a transaction back whole.
     fn take_back<R: Wait>(&self, rt: &R, turn: &Turn, t: TxnId) -> Result<(), Fault>
         ensures taken { IfOk result (λ _. IsTakenBack E.made t) }
+        ensures causes { IfErr result (IsUnmade E.Store) }
     {
         let mut reply = self.call(rt, Step::Rollback(t));
         for _ in rt.forever() {

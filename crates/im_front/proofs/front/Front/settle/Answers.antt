@@ -23,3 +23,6 @@ returns-clause-settled g c = elim c.else-pace-gt0.branch [
       let same = ap (λ s. s.waiting) (c.deref.ensures ∙ sym c.deref-2.ensures) in
       none_waits _ held (omega (arith, w.if-pace-gt0.false, c.pace-pace.ensures, same))
 ]
+
+pub returns-then-not-pace-clause-causes : goal.returns-then-not-pace-clause-causes
+returns-then-not-pace-clause-causes g c = c.settle_all.ensures.causes

@@ -1,15 +1,18 @@
-use Rattle.std.proofs.Common.{rules, ◌≡◌, true, false, Err, Result, IfOk, ℕ, refl, sym, ap, subst, ◌∙◌}
+use Rattle.std.proofs.Common.{rules, ◌≡◌, ◌⊎◌, inl, inr, true, false, Err, Result, IfOk, ℕ, refl, sym, ap, subst, ◌∙◌}
 use Rattle.im_base_types.specs.declared.fault.Fault.{Fault}
+use Rattle.im_base_types.specs.declared.fault.Fault.TheVariants.{Memory}
+use Rattle.std.specs.Prelude.{IfErr}
+use Rattle.im_base_steps.specs.declared.step.Step.TheVariants as steps
 use Rattle.im_base_steps.specs.Calls.{told_by, is_blocked}
 use Rattle.im_base_steps.specs.Replies.{is_full}
-use Rattle.im_front.specs.Acknowledged.{IsForced, IsStepOf, IsAcknowledged}
+use Rattle.im_front.specs.Acknowledged.{IsForced, IsNotAcknowledged, IsNotForced, IsStepOf, IsAcknowledged}
 use Rattle.im_front.specs.Acknowledged.IsAcknowledged.{at_once, by_force}
-use Rattle.im_front.proofs.Acknowledging.{held_plain, last_plain, map_ok}
+use Rattle.im_front.proofs.Acknowledging.{not_acknowledged, refused_plain, map_err, held_plain, last_plain, map_ok}
 use Rattle.im_front.proofs.open.Open.commit.Goals as goal
 use Rattle.im_front.proofs.open.Open.commit.Goals.{in-Committed, in-Refused, in_default}
 
-pub returns-in-More : goal.returns-in-More
-returns-in-More g c =
+pub returns-in-More-clause-acknowledged : goal.returns-in-More-clause-acknowledged
+returns-in-More-clause-acknowledged g c =
     let more = c.in-More.is in
     let full : is_full (told_by c.step-reply.result) ≡ false = ap (λ r. is_full (told_by r)) more in
     let blocked : is_blocked (told_by c.step-reply.result) ≡ false = ap (λ r. is_blocked (told_by r)) more in
@@ -17,20 +20,28 @@ returns-in-More g c =
     let grown = ap (λ s. s.trace) c.deref.ensures ∙ c.step-reply.ensures.adds blocked full in
     let held = held_plain g.E.Store c.deref.result.now c.holds_always.ensures.kept c.holds_always.ensures.forces c.holds_always.ensures.waiting in
     let last = last_plain g.E.Store c.args.t c.deref.result.now _ c.step-reply.result held grown (ap told_by more) in
-    record {
-      acknowledged = map_ok c.settle_all.result (IsForced g.E.Store c.forces-forces.result) (IsAcknowledged g.E.Store c.args.t)
-          (λ forced. by_force c.step-reply.result (ap told_by more) (record { was = _; now = _; step_made = c.step-reply.ensures.made full }) _ last
-          (subst (λ (n : ℕ). IsForced g.E.Store n) at forced))
-          c.settle_all.ensures.forced;
-    }
+    map_ok c.settle_all.result (IsForced g.E.Store c.forces-forces.result) (IsAcknowledged g.E.Store c.args.t)
+    (λ forced. by_force c.step-reply.result (ap told_by more) (record { was = _; now = _; step_made = c.step-reply.ensures.made full }) _ last
+    (subst (λ (n : ℕ). IsForced g.E.Store n) at forced))
+    c.settle_all.ensures.forced
 
-pub returns : goal.returns
-returns g c = record {
-  acknowledged =
-      let Says : Result Unit Fault → Type 0 = λ r. IfOk r (λ x. IsAcknowledged g.E.Store c.args.t) in
-      elim c.match-reply.branch [
-        | in-Committed w ↦ subst Says (sym w.done-is) (at_once c.step-reply.result (ap told_by w.in-Committed.is) (record { was = _; now = _; step_made = c.step-reply.ensures.made (ap (λ r. is_full (told_by r)) w.in-Committed.is) }))
-        | in-Refused w ↦ subst Says (sym w.done-is) tt
-        | in_default w ↦ subst Says (sym w.done-is) tt
-      ];
-}
+pub returns-clause-acknowledged : goal.returns-clause-acknowledged
+returns-clause-acknowledged g c =
+    let Says : Result Unit Fault → Type 0 = λ r. IfOk r (λ x. IsAcknowledged g.E.Store c.args.t) in
+    elim c.match-reply.branch [
+      | in-Committed w ↦ subst Says (sym w.done-is) (at_once c.step-reply.result (ap told_by w.in-Committed.is) (record { was = _; now = _; step_made = c.step-reply.ensures.made (ap (λ r. is_full (told_by r)) w.in-Committed.is) }))
+      | in-Refused w ↦ subst Says (sym w.done-is) tt
+      | in_default w ↦ subst Says (sym w.done-is) tt
+    ]
+
+pub returns-in-More-clause-causes : goal.returns-in-More-clause-causes
+returns-in-More-clause-causes g c = map_err c.settle_all.result _ _ (λ e why. inr why) c.settle_all.ensures.causes
+
+pub returns-clause-causes : goal.returns-clause-causes
+returns-clause-causes g c =
+    let Says : Result Unit Fault → Type 0 = λ r. IfErr r (λ e. IsNotAcknowledged g.E.Store c.args.t e) in
+    elim c.match-reply.branch [
+      | in-Committed w ↦ subst Says (sym w.done-is) tt
+      | in-Refused w ↦ subst Says (sym w.done-is) (not_acknowledged g.E.Store c.args.t w.in-Refused.fault (refused_plain g.E.Store.made (steps.Commit c.args.t) c.step-reply.result w.in-Refused.fault w.in-Refused.is (λ room. record { was = _; now = _; step_made = c.step-reply.ensures.made room })))
+      | in_default w ↦ subst Says (sym w.done-is) (inr (inr (inl refl)))
+    ]

@@ -7,23 +7,22 @@ use Rattle.im_front.proofs.Acknowledging.{held_plain, map_ok}
 use Rattle.im_front.proofs.open.Open.settle.Goals as goal
 use Rattle.im_front.proofs.open.Open.settle.Goals.{else-pace-gt0-via-then-pace-gt0+else-not-pace, else-pace-gt0-via-else-pace-gt0}
 
-pub returns-then-not-pace : goal.returns-then-not-pace
-returns-then-not-pace g c =
+pub returns-then-not-pace-clause-settled : goal.returns-then-not-pace-clause-settled
+returns-then-not-pace-clause-settled g c =
     let held = held_plain g.E.Store c.deref.result.now c.holds_always.ensures.kept c.holds_always.ensures.forces c.holds_always.ensures.waiting in
     let at = c.forces-forces.ensures ∙ ap (λ s. s.forces) (c.deref-then-not-pace.ensures ∙ sym c.deref.ensures) in
-    record {
-      settled = map_ok c.settle_all.result (IsForced g.E.Store c.forces-forces.result) (IsSettled g.E.Store)
-          (λ forced. by_force _ held (subst (λ (n : ℕ). IsForced g.E.Store n) at forced))
-          c.settle_all.ensures.forced;
-    }
+    map_ok c.settle_all.result (IsForced g.E.Store c.forces-forces.result) (IsSettled g.E.Store)
+    (λ forced. by_force _ held (subst (λ (n : ℕ). IsForced g.E.Store n) at forced))
+    c.settle_all.ensures.forced
 
-pub returns : goal.returns
-returns g c = record {
-  settled = elim c.else-pace-gt0.branch [
-    | else-pace-gt0-via-then-pace-gt0+else-not-pace w ↦ absurd (true≢false (sym (ap not c.if-pace.false) ∙ w.if-not-pace.false))
-    | else-pace-gt0-via-else-pace-gt0 w ↦
-        let held = held_plain g.E.Store c.deref.result.now c.holds_always.ensures.kept c.holds_always.ensures.forces c.holds_always.ensures.waiting in
-        let same = ap (λ s. s.waiting) (c.deref.ensures ∙ sym c.deref-2.ensures) in
-        none_waits _ held (omega (arith, w.if-pace-gt0.false, c.pace-pace.ensures, same))
-  ];
-}
+pub returns-clause-settled : goal.returns-clause-settled
+returns-clause-settled g c = elim c.else-pace-gt0.branch [
+  | else-pace-gt0-via-then-pace-gt0+else-not-pace w ↦ absurd (true≢false (sym (ap not c.if-pace.false) ∙ w.if-not-pace.false))
+  | else-pace-gt0-via-else-pace-gt0 w ↦
+      let held = held_plain g.E.Store c.deref.result.now c.holds_always.ensures.kept c.holds_always.ensures.forces c.holds_always.ensures.waiting in
+      let same = ap (λ s. s.waiting) (c.deref.ensures ∙ sym c.deref-2.ensures) in
+      none_waits _ held (omega (arith, w.if-pace-gt0.false, c.pace-pace.ensures, same))
+]
+
+pub returns-then-not-pace-clause-causes : goal.returns-then-not-pace-clause-causes
+returns-then-not-pace-clause-causes g c = c.settle_all.ensures.causes

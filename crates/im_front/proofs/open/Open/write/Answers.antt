@@ -8,6 +8,7 @@ pub returns-in-Ok-commit : goal.returns-in-Ok-commit
 returns-in-Ok-commit g c =
     let ran = subst (λ (r : Result g.row.T.Denot Stop). goal.F-step g c.loop.work c.in_ok-t.t r c.work.new.self) c.in-Ok.is c.work.ensures in record {
       written = c.loop.invariant.2 c.in-Ok.done (committed c.loop.work c.in_ok-t.t c.work.new.self c.in_ok-t.ensures.begun ran c.in-Ok-commit.ensures.acknowledged);
+      causes = tt;
     }
 
 pub loop-preserved : goal.loop-preserved

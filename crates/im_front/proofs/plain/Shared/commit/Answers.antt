@@ -1,10 +1,13 @@
-use Rattle.std.proofs.Common.{rules, ◌≡◌, true, false, Err, Result, IfOk, ℕ, refl, sym, ap, subst, ◌∙◌}
+use Rattle.std.proofs.Common.{rules, ◌≡◌, ◌⊎◌, inl, inr, true, false, Err, Result, IfOk, ℕ, refl, sym, ap, subst, ◌∙◌}
 use Rattle.im_base_types.specs.declared.fault.Fault.{Fault}
+use Rattle.im_base_types.specs.declared.fault.Fault.TheVariants.{Memory}
+use Rattle.std.specs.Prelude.{IfErr}
+use Rattle.im_base_steps.specs.declared.step.Step.TheVariants as steps
 use Rattle.im_base_steps.specs.Calls.{told_by, is_blocked}
 use Rattle.im_base_steps.specs.Replies.{is_full}
-use Rattle.im_front.specs.Acknowledged.{IsForced, IsStepOf, IsAcknowledged}
+use Rattle.im_front.specs.Acknowledged.{IsForced, IsNotAcknowledged, IsNotForced, IsStepOf, IsAcknowledged}
 use Rattle.im_front.specs.Acknowledged.IsAcknowledged.{at_once, by_force}
-use Rattle.im_front.proofs.Acknowledging.{held_plain, last_plain, map_ok}
+use Rattle.im_front.proofs.Acknowledging.{not_acknowledged, refused_plain, map_err, held_plain, last_plain, map_ok}
 use Rattle.im_front.proofs.plain.Shared.commit.Goals as goal
 use Rattle.im_front.proofs.plain.Shared.commit.Goals.{in-Committed, in-Refused, in_default}
 
@@ -29,4 +32,16 @@ returns-clause-acknowledged g c =
       | in-Committed w ↦ subst Says (sym w.done-is) (at_once c.step-reply.result (ap told_by w.in-Committed.is) (record { was = _; now = _; step_made = c.step-reply.ensures.made (ap (λ r. is_full (told_by r)) w.in-Committed.is) }))
       | in-Refused w ↦ subst Says (sym w.done-is) tt
       | in_default w ↦ subst Says (sym w.done-is) tt
+    ]
+
+pub returns-in-More-clause-causes : goal.returns-in-More-clause-causes
+returns-in-More-clause-causes g c = map_err c.settle_all.result _ _ (λ e why. inr why) c.settle_all.ensures.causes
+
+pub returns-clause-causes : goal.returns-clause-causes
+returns-clause-causes g c =
+    let Says : Result Unit Fault → Type 0 = λ r. IfErr r (λ e. IsNotAcknowledged g.E.Store c.args.t e) in
+    elim c.match-reply.branch [
+      | in-Committed w ↦ subst Says (sym w.done-is) tt
+      | in-Refused w ↦ subst Says (sym w.done-is) (not_acknowledged g.E.Store c.args.t w.in-Refused.fault (refused_plain g.E.Store.made (steps.Commit c.args.t) c.step-reply.result w.in-Refused.fault w.in-Refused.is (λ room. record { was = _; now = _; step_made = c.step-reply.ensures.made room })))
+      | in_default w ↦ subst Says (sym w.done-is) (inr (inr (inl refl)))
     ]

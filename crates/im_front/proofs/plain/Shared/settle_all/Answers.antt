@@ -1,10 +1,13 @@
-use Rattle.std.proofs.Common.{rules, ◌≡◌, ◌<◌, true, false, Err, Result, IfOk, ℕ, refl, sym, ap, subst, ◌∙◌}
+use Rattle.std.proofs.Common.{rules, ◌≡◌, ◌<◌, ◌⊎◌, inl, inr, true, false, Err, Result, IfOk, ℕ, refl, sym, ap, subst, ◌∙◌}
 use Rattle.im_base_types.specs.declared.fault.Fault.{Fault}
+use Rattle.im_base_types.specs.declared.fault.Fault.TheVariants.{Memory}
+use Rattle.std.specs.Prelude.{IfErr}
+use Rattle.im_base_steps.specs.declared.step.Step.TheVariants as steps
 use Rattle.im_base_steps.specs.Calls.{told_by}
 use Rattle.im_base_steps.specs.Replies.{is_full}
-use Rattle.im_front.specs.Acknowledged.{IsForced, IsStepOf}
+use Rattle.im_front.specs.Acknowledged.{IsForced, IsNotForced, IsStepOf}
 use Rattle.im_front.specs.Acknowledged.IsForced.{by_another, by_caller}
-use Rattle.im_front.proofs.Acknowledging.{held_plain}
+use Rattle.im_front.proofs.Acknowledging.{not_forced, refused_plain, held_plain}
 use Rattle.im_front.proofs.plain.Shared.settle_all.Goals as goal
 use Rattle.im_front.proofs.plain.Shared.settle_all.Goals.{then-is_settled, else-is_settled+then-pace, else-is_settled+else-pace, in-Done, in-Refused, in_default}
 
@@ -23,5 +26,19 @@ returns-clause-forced g c =
             | in-Done w' ↦ subst Says (sym (w.done-is ∙ w'.done-is)) (by_caller w.step-reply.result (ap told_by w'.in-Done.is) (record { was = _; now = _; step_made = w.step-reply.ensures.made (ap (λ r. is_full (told_by r)) w'.in-Done.is) }))
             | in-Refused w' ↦ subst Says (sym (w.done-is ∙ w'.done-is)) tt
             | in_default w' ↦ subst Says (sym (w.done-is ∙ w'.done-is)) tt
+          ]
+    ]
+
+pub returns-clause-causes : goal.returns-clause-causes
+returns-clause-causes g c =
+    let Says : Result Unit Fault → Type 0 = λ r. IfErr r (λ e. IsNotForced g.E.Store e) in
+    elim c.if-is_settled.branch [
+      | then-is_settled w ↦ subst Says (sym w.done-is) tt
+      | else-is_settled+then-pace w ↦ subst Says (sym w.done-is) (inr (inl refl))
+      | else-is_settled+else-pace w ↦
+          elim w.match-reply.branch [
+            | in-Done w' ↦ subst Says (sym (w.done-is ∙ w'.done-is)) tt
+            | in-Refused w' ↦ subst Says (sym (w.done-is ∙ w'.done-is)) (not_forced g.E.Store w'.in-Refused.fault (refused_plain g.E.Store.made steps.Force w.step-reply.result w'.in-Refused.fault w'.in-Refused.is (λ room. record { was = _; now = _; step_made = w.step-reply.ensures.made room })))
+            | in_default w' ↦ subst Says (sym (w.done-is ∙ w'.done-is)) (inr (inl refl))
           ]
     ]
