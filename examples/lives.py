@@ -249,9 +249,9 @@ class Judge:
         reply = told[at] if at < len(told) else "nothing"
         disturbed = disturbed or reply != self.plain[at]
         if base is None or not reply.startswith("open ok "):
-            usual = {"open refused 8", "open refused 9", "open stopped", "open refused 13", "open refused 18"}
-            allowed = reply in usual and (reply[-2:] not in ("13", "18") or not disturbed)
-            if not allowed and (base is not None or reply != self.plain[at]):
+            # of no store, with too few frames or workers, or with a full log, it is refused as it is undisturbed
+            usual = base is None or reply in ("open refused 7", "open refused 13", "open refused 18")
+            if reply not in ("open refused 8", "open refused 9", "open stopped") and not (usual and reply == self.plain[at]):
                 raise Wrong(f"line {at + 1}: {reply}")
             return self.lives(told, index + 1, at + 1, [base], next_number, disturbed)
         life = Life(base, lines[0], next_number)
@@ -296,7 +296,8 @@ class Judge:
 
     def end(self, told, at, base):
         left = told[at:] or ["nothing"]
-        if left[0] in ("final refused 8", "final refused 9") or (base is None and left[0] == self.plain[-1]):
+        usual = base is None or left[0] == "final refused 7"
+        if left[0] in ("final refused 8", "final refused 9") or (usual and left[0] == self.plain[-1]):
             return
         if entries_in(left) != base:
             raise Wrong(f"line {at + 1}: other entries in the end")
