@@ -1,10 +1,11 @@
 //! A store that is open, over any disk.
 
-ghost use Rattle.std.specs.Prelude.{◌≡◌, ◌↔◌, ◌⊎◌, ◌≤◌, [], false, true, IfOk, IfErr};
+ghost use Rattle.std.specs.Prelude.{◌≡◌, ◌↔◌, ◌⊎◌, ◌≤◌, ◌<◌, ◌-◌, ◌^◌, ◌∷◌, [], if◌then◌else◌, false, true, IfOk, IfErr};
 ghost use Rattle.im_base_disk.specs.Runs.{IsSynced};
 ghost use Rattle.im_base_disk.specs.Runs.{Reads};
 ghost use Rattle.im_base_types.specs.declared.fault.Fault.TheVariants.{Device};
-ghost use Rattle.im_calls.specs.Sessions.{RefusesOpening};
+ghost use Rattle.im_calls.specs.Sessions.{HasBounds, IsOpenedOn, RefusesOpening};
+ghost use Rattle.im_engine_upkeep.specs.LogBound.{least_or_none};
 
 use im_base_disk::Disk;
 use im_base_steps::{Reply, Step};
@@ -24,10 +25,11 @@ pub struct Opened<D: Disk> {
 
 impl<D: TwoLogs + Drop> Opened<D> {
     ghost use Rattle.im_base_disk.specs.Runs.{IsSynced};
-    ghost use Rattle.im_calls_form.specs.Calls.{IsAnswered, Asks, Says};
+    ghost use Rattle.im_calls_form.specs.Calls.{IsAnswered, Asks, Says, Shows, numbers_bytes};
+    ghost use Rattle.im_engine_upkeep.specs.Numbers.{active_of, dirty_of, durable_end_of};
     ghost use Rattle.im_base_steps.specs.Calls.{asked_by};
     ghost use Rattle.im_engine_upkeep.specs.Upkeep.{IsKeptUp};
-    ghost use Rattle.im_calls.specs.Sessions.{IsMade, Serves, IsOpening, IsRefused};
+    ghost use Rattle.im_calls.specs.Sessions.{IsMade, Serves, IsOpening, IsRefused, WasEnded};
 
     /// Opens the store of a disk as a call asks it: `limit` frames, `txn` pages at most, `number` bytes of log that the opening after this one
     /// may have to redo, and `out_len` bytes that it may have to read, or with the greatest number the usual bounds, which grow with the file of pages; with 1 as
@@ -38,7 +40,7 @@ impl<D: TwoLogs + Drop> Opened<D> {
     pub fn open(alloc: Global, disk: D, call: &mut Call) -> Option<Opened<D>>
         requires working { D.failed disk ≡ false }
         requires synced { IsSynced D.Disk disk }
-        ensures opening { IsOpening D.Disk call.old call.new result }
+        ensures opening { IsOpening D.Disk call.old call.new disk result }
         ensures question { IsAnswered call.old call.new }
     {
         let bounds = bounds_of(call);
@@ -61,6 +63,7 @@ impl<D: TwoLogs + Drop> Opened<D> {
     /// Makes the step that a call asks, answers it, and takes a Checkpoint or goes on in the other log where that is due.
     pub fn step(&mut self, alloc: Global, call: &mut Call)
         ensures served { Serves D.Disk call.old call.new self.old.engine self.new.engine }
+        ensures bounds { self.new.upkeep.bounds ≡ self.old.upkeep.bounds }
         ensures question { IsAnswered call.old call.new }
     {
         match step_of(alloc, call) {
@@ -73,6 +76,7 @@ impl<D: TwoLogs + Drop> Opened<D> {
     fn make(&mut self, step: &Step, call: &mut Call)
         requires { Asks call.old (asked_by step.now) }
         ensures made { IsMade D.Disk call.old call.new self.old.engine self.new.engine }
+        ensures bounds { self.new.upkeep.bounds ≡ self.old.upkeep.bounds }
         ensures question { IsAnswered call.old call.new }
     {
         let reply = self.upkeep.step(&mut self.engine, step);
@@ -82,7 +86,8 @@ impl<D: TwoLogs + Drop> Opened<D> {
 
     // Makes what is due after a step.
     fn keep_up(&mut self, reply: &Reply)
-        ensures { IsKeptUp D.Disk self.old.engine self.new.engine }
+        ensures kept { IsKeptUp D.Disk self.old.engine self.new.engine }
+        ensures bounds { self.new.upkeep.bounds ≡ self.old.upkeep.bounds }
     {
         if !logs(reply) {
             return;
@@ -95,6 +100,7 @@ impl<D: TwoLogs + Drop> Opened<D> {
     pub fn stat(&self, call: &mut Call)
         ensures told { Says call.new 14 6 }
         ensures question { IsAnswered call.old call.new }
+        ensures shown { Shows call.new (numbers_bytes (active_of D.Disk self.now.engine ∷ dirty_of D.Disk self.now.engine ∷ durable_end_of D.Disk self.now.engine ∷ self.now.engine.report.point ∷ self.now.engine.report.applied ∷ (if self.now.engine.failed then 1 else 0) ∷ [])) }
     {
         let redo = self.engine.redo_report();
         let numbers = [
@@ -112,6 +118,7 @@ impl<D: TwoLogs + Drop> Opened<D> {
     pub fn close(self, call: &mut Call)
         ensures told { Says call.new 14 0 ⊎ IsRefused call.new }
         ensures question { IsAnswered call.old call.new }
+        ensures ended { Says call.new 14 0 → WasEnded D.Disk self.engine }
     {
         let Opened {
             mut engine,
@@ -138,10 +145,7 @@ fn engine_of<D: TwoLogs + Drop>(
 ) -> Result<(Engine<D>, bool), Fault>
     requires working { D.failed disk ≡ false }
     requires synced { IsSynced D.Disk disk }
-    ensures opened { IfOk result (λ x. (x.0.failed ≡ false) × (x.0.txns.rows ≡ [])) }
-    ensures pages { IfOk result (λ x. x.0.max_pages ≡ call.now.txn) }
-    ensures pool { IfOk result (λ x. x.0.writer.pool.frames ≡ call.now.limit) }
-    ensures group { IfOk result (λ x. (x.0.txns.group ≡ true) ↔ (call.now.word ≡ 1)) }
+    ensures opened { IfOk result (λ x. IsOpenedOn D.Disk call.now disk x.0) }
     ensures causes { IfErr result (RefusesOpening call.now) }
 {
     let mut disk = disk;
@@ -184,14 +188,18 @@ fn waits(call: &Call) -> bool
 }
 
 // How much log an opening may have to redo, and to read: so many bytes, or the usual bound where they are the greatest number.
-fn bounds_of(call: &Call) -> Bounds {
+fn bounds_of(call: &Call) -> Bounds
+    ensures { HasBounds call.now result }
+{
     Bounds {
         redo: redo_bound_of(call.number),
         log: log_bound_of(call.out_len),
     }
 }
 
-fn redo_bound_of(bytes: u64) -> RedoBound {
+fn redo_bound_of(bytes: u64) -> RedoBound
+    ensures { bytes < 2 ^ 64 - 1 → (result.bytes ≡ bytes) × (result.grows ≡ false) }
+{
     if bytes == u64::MAX {
         RedoBound::default()
     } else {
@@ -199,7 +207,9 @@ fn redo_bound_of(bytes: u64) -> RedoBound {
     }
 }
 
-fn log_bound_of(bytes: u64) -> LogBound {
+fn log_bound_of(bytes: u64) -> LogBound
+    ensures { bytes < 2 ^ 64 - 1 → (result.bytes ≡ least_or_none bytes) × (result.grows ≡ false) }
+{
     if bytes == u64::MAX {
         LogBound::default()
     } else {

@@ -1,8 +1,9 @@
 //! A store that may be open.
 
-ghost use Rattle.std.specs.Prelude.{◌≡◌, ◌≢◌, IfSome};
-ghost use Rattle.im_calls_form.specs.Calls.{IsAnswered, Refuses, Says};
-ghost use Rattle.im_calls.specs.Sessions.{IsOpeningOver, IsServed, IsOther};
+ghost use Rattle.std.specs.Prelude.{◌≡◌, ◌≢◌, ◌∷◌, [], if◌then◌else◌, IfSome};
+ghost use Rattle.im_calls_form.specs.Calls.{IsAnswered, Refuses, Says, Shows, numbers_bytes};
+ghost use Rattle.im_engine_upkeep.specs.Numbers.{active_of, dirty_of, durable_end_of};
+ghost use Rattle.im_calls.specs.Sessions.{IsOpeningOver, IsServed, IsOther, WasEnded};
 
 use crate::opened::Opened;
 use im_base_caller_disk::CallerDisk;
@@ -42,6 +43,8 @@ pub fn made(session: &mut Session, call: &mut Call)
     ensures twice { IfSome session.old.store (λ store. call.old.step ≡ 14 → Refuses call.new 10 × (session.new.store ≡ Some store)) }
     ensures ended { call.old.step ≡ 15 → session.new.store ≡ None }
     ensures stat { IfSome session.old.store (λ store. call.old.step ≡ 13 → Says call.new 14 6 × (session.new.store ≡ Some store)) }
+    ensures shown { IfSome session.old.store (λ store. call.old.step ≡ 13 → Shows call.new (numbers_bytes (active_of ⟦<Renamed<CallerDisk> as Disk>⟧ store.engine ∷ dirty_of ⟦<Renamed<CallerDisk> as Disk>⟧ store.engine ∷ durable_end_of ⟦<Renamed<CallerDisk> as Disk>⟧ store.engine ∷ store.engine.report.point ∷ store.engine.report.applied ∷ (if store.engine.failed then 1 else 0) ∷ []))) }
+    ensures left { IfSome session.old.store (λ store. call.old.step ≡ 15 → Says call.new 14 0 → WasEnded ⟦<Renamed<CallerDisk> as Disk>⟧ store.engine) }
     ensures served { IfSome session.old.store (λ store. IsOther call.old.step → IsServed ⟦<Renamed<CallerDisk> as Disk>⟧ call.old call.new store session.new.store) }
 {
     match call.step {
@@ -84,6 +87,7 @@ fn close(session: &mut Session, call: &mut Call)
     ensures question { IsAnswered call.old call.new }
     ensures closed { session.old.store ≡ None → Refuses call.new 10 }
     ensures ended { session.new.store ≡ None }
+    ensures left { IfSome session.old.store (λ store. Says call.new 14 0 → WasEnded ⟦<Renamed<CallerDisk> as Disk>⟧ store.engine) }
 {
     match session.store.take() {
         Some(store) => store.close(call),
@@ -95,6 +99,7 @@ fn stat(session: &Session, call: &mut Call)
     ensures question { IsAnswered call.old call.new }
     ensures closed { session.now.store ≡ None → Refuses call.new 10 }
     ensures told { IfSome session.now.store (λ _. Says call.new 14 6) }
+    ensures shown { IfSome session.now.store (λ store. Shows call.new (numbers_bytes (active_of ⟦<Renamed<CallerDisk> as Disk>⟧ store.engine ∷ dirty_of ⟦<Renamed<CallerDisk> as Disk>⟧ store.engine ∷ durable_end_of ⟦<Renamed<CallerDisk> as Disk>⟧ store.engine ∷ store.engine.report.point ∷ store.engine.report.applied ∷ (if store.engine.failed then 1 else 0) ∷ []))) }
 {
     match &session.store {
         Some(store) => store.stat(call),

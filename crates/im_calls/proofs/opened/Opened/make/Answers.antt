@@ -7,6 +7,6 @@ returns-clause-made g c = record {
   between = c.step-reply.new.engine;
   asks = c.requires;
   made = c.step-reply.ensures.made;
-  kept = c.keep_up.ensures;
+  kept = c.keep_up.ensures.kept;
   tells = c.answer.ensures.told;
 }
