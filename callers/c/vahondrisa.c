@@ -75,9 +75,13 @@ static int open_session(struct store *s, const vah_config *config)
 	call->key_len = call->hi_len = 0; /* descriptors: any, since vah_device_write and _read stand for them */
 	step(s, call);
 	s->device.progress = NULL;
-	if (s->device.is_stopped) /* also by its last call, when the store is open: it is left as a kill would leave it */
-		return fail(s, VAH_STOPPED);
-	return call->word == REFUSED ? fail(s, (int)call->fault) : VAH_OK;
+	if (!s->device.is_stopped)
+		return call->word == REFUSED ? fail(s, (int)call->fault) : VAH_OK;
+	if (call->word != REFUSED) { /* by the last call, when the store is open: as each call of its device fails, it is left as a kill would leave it */
+		call->step = CLOSE;
+		step(s, call);
+	}
+	return fail(s, VAH_STOPPED);
 }
 
 /* Opens the files, and the store over them. */
