@@ -9,6 +9,10 @@ import unittest
 import vahondrisa
 
 
+# A shell that is not at a terminal has what it runs beside it ignore interrupts, and Python then leaves them so. No test waits for ever.
+BEGIN = "import signal; signal.signal(signal.SIGINT, signal.default_int_handler); signal.alarm(300)\n"
+
+
 class Case(unittest.TestCase):
     """A test with a folder for its store."""
 
@@ -22,7 +26,7 @@ class Case(unittest.TestCase):
     def run_on(self, text, **options):
         """Runs a program in a process of its own, with the folder as its argument."""
         environment = dict(os.environ, PYTHONPATH=os.pathsep.join(filter(None, sys.path)))
-        return subprocess.Popen([sys.executable, "-c", text, self.dir], stdout=subprocess.PIPE, env=environment, **options)
+        return subprocess.Popen([sys.executable, "-c", BEGIN + text, self.dir], stdout=subprocess.PIPE, env=environment, **options)
 
     def turns(self):
         """The keys of each row id that the store has."""
