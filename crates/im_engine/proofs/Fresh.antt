@@ -53,6 +53,10 @@ none_in_empty start = no_entries (entries ((new_from start).map)) (sym (len-entr
 two_once : (p : ℕ) → times p (0 ∷ 1 ∷ []) ≡ (if nat_lt p 2 then 1 else 0)
 two_once p = grind (arith, nat_tests)
 
+-- past these two each page is free
+first_past : (start p : ℕ) → 2 ≤ p → ((new_from start).pages p).body.kind ≡ Free
+first_past start p past = rw (ne_eqb p 0 (λ e. omega (arith, e, past)), ne_eqb p 1 (λ e. omega (arith, e, past))) refl
+
 -- the pages that a new store finds: the meta page, and the root as an empty leaf
 first_good : (start : ℕ) → IsGoodTree (bodies (new_from start) []) []
 first_good start = record {
@@ -62,6 +66,7 @@ first_good start = record {
   chained = (refl, refl, tt);
   free = refl;
   cover = λ p. two_once p;
+  past = first_past start;
 }
 
 lsn_low : (start p : ℕ) → ((new_from start).pages p).lsn ≤ start

@@ -46,10 +46,12 @@ next_other pages spare good e = elim (cases_eq (pages 0).prev 0) [
       cc clash
 ]
 
--- if there is a free page, the next one is free
-pub next_is_free : (pages : Pages) (spare : List ℕ) → IsGoodTree pages spare → 1 ≤ (pages 0).prev → (pages (next_page (pages 0))).kind ≡ Free
-next_is_free pages spare good some =
-    ap (λ (x : ℕ). (pages x).kind) (next_free (pages 0) (λ none. omega (arith, none, some))) ∙ first_is_free pages spare good some
+-- the next page of a good tree is free: the first free one, or the one past the count
+pub next_is_free : (pages : Pages) (spare : List ℕ) → IsGoodTree pages spare → (pages (next_page (pages 0))).kind ≡ Free
+next_is_free pages spare good = elim (cases_eq (pages 0).prev 0) [
+  | inl none ↦ ap (λ (x : ℕ). (pages x).kind) (next_counted (pages 0) none) ∙ good.past (pages 0).leftmost (omega arith)
+  | inr some ↦ ap (λ (x : ℕ). (pages x).kind) (next_free (pages 0) some) ∙ first_is_free pages spare good (omega (arith, some))
+]
 
 -- and below the page count
 pub first_known : (pages : Pages) (spare : List ℕ) → IsGoodTree pages spare → 1 ≤ (pages 0).prev → (pages 0).next < (pages 0).leftmost
@@ -96,10 +98,9 @@ module _ (s : AllPages) (xs : List Numbered) (spare : List ℕ) (up : IsRising x
     pub meta_kind : old.body.kind ≡ Meta
     meta_kind = ap (λ (b : Body). b.kind) meta_says ∙ good.meta
 
-    pub taken_kind : 1 ≤ old.body.prev → g.body.kind ≡ Free
-    taken_kind some =
-        ap (λ (b : Body). b.kind) taken_says ∙ ap (λ (x : ℕ). (seen s xs x).kind) number_is
-        ∙ next_is_free (seen s xs) spare good (subst (λ (b : Body). 1 ≤ b.prev) meta_says some)
+    pub taken_kind : g.body.kind ≡ Free
+    taken_kind =
+        ap (λ (b : Body). b.kind) taken_says ∙ ap (λ (x : ℕ). (seen s xs x).kind) number_is ∙ next_is_free (seen s xs) spare good
 
     pub takes : (new : List Numbered) → new ≡ both xs up q (says old (meta_behind old.body g.body)) g → TakesPage s xs spare q new
     takes new is =

@@ -5,15 +5,15 @@ ghost use Rattle.im_base_types.specs.declared.fault.Fault.TheVariants.{Capacity,
 ghost use Rattle.im_base_types.specs.declared.page_kind.PageKind.TheVariants.{Free, Meta};
 ghost use Rattle.im_theory_page.specs.Header.{empty_body};
 ghost use Rattle.im_page_writer.specs.PageWriter.{IsReadyWriter};
-ghost use Rattle.im_page_writer.specs.Outcome.{fault_of, AllPages, AreLoaded, IsSound, Outcome};
+ghost use Rattle.im_page_writer.specs.Outcome.{fault_of, AllPages, AreLoaded, HasPages, IsSound, Outcome};
 ghost use Rattle.im_smo_pages.specs.Bodies.{says, meta_with_first};
-ghost use Rattle.im_smo_pages.specs.Images.{put_image};
-ghost use Rattle.im_smo_alloc.specs.Seen.{next_page, meta_behind, seen, GivesPage, TakesPage};
+ghost use Rattle.im_smo_pages.specs.Images.{put_image, without_image};
+ghost use Rattle.im_smo_alloc.specs.Seen.{next_page, page_in, meta_behind, seen, GivesPage, TakesPage};
 ghost use Rattle.im_smo_alloc.specs.Kept.{mild_to_take, HasImages, Plans};
 
 use crate::page_image::image;
 use im_base_disk::Disk;
-use im_base_types::{Fault, PageNo};
+use im_base_types::{Fault, PageKind, PageNo};
 use im_page::Page;
 use im_page_writer::PageWriter;
 use im_smo_pages::{Images, give_free, take_count, take_free};
@@ -37,13 +37,17 @@ fn next_number(meta: &Page) -> Result<PageNo, Fault>
     Ok(first)
 }
 
-// Takes it, in page 0.
+// Takes it, in page 0. It has to be free: one that the page count leaves out may be in use where the count was damaged.
 fn take_next(meta: &mut Page, page: &Page) -> Result<(), Fault>
     ensures new { OnOk result (meta.new ≡ says meta.old (meta_behind meta.old.body page.now.body)) }
     ensures causes { IfErr result (λ e. (e ≡ NotAStore) ⊎ (e ≡ Capacity)) }
     ensures used_up { IfErr result (λ e. e ≡ Capacity → (meta.old.body.prev ≡ 0) × (meta.old.body.leftmost + 1 ≡ 2 ^ 32)) }
-    ensures sound { meta.old.body.kind ≡ Meta → (1 ≤ meta.old.body.prev → page.now.body.kind ≡ Free) → IfErr result (λ e. e ≢ NotAStore) }
+    ensures free { OnOk result (page.now.body.kind ≡ Free) }
+    ensures sound { meta.old.body.kind ≡ Meta → page.now.body.kind ≡ Free → IfErr result (λ e. e ≢ NotAStore) }
 {
+    if page.kind() != PageKind::Free {
+        return Err(Fault::NotAStore);
+    }
     if meta.prev() == 0 {
         take_count(meta)?;
         return Ok(());
@@ -77,7 +81,8 @@ fn settle_taken(
     ensures new { OnOk result (images.new ≡ put_image 0 (says meta.value (meta_behind meta.value.body page.value.body)) (put_image number page.value images.old)) }
     ensures causes { IfErr result (λ e. (e ≡ Memory) ⊎ (e ≡ NotAStore) ⊎ (e ≡ Capacity)) }
     ensures used_up { IfErr result (λ e. e ≡ Capacity → (meta.value.body.prev ≡ 0) × (meta.value.body.leftmost + 1 ≡ 2 ^ 32)) }
-    ensures sound { meta.value.body.kind ≡ Meta → (1 ≤ meta.value.body.prev → page.value.body.kind ≡ Free) → IfErr result (λ e. e ≢ NotAStore) }
+    ensures free { OnOk result (page.value.body.kind ≡ Free) }
+    ensures sound { meta.value.body.kind ≡ Meta → page.value.body.kind ≡ Free → IfErr result (λ e. e ≢ NotAStore) }
 {
     take_next(&mut meta, &page)?;
     put_both(images, meta, number, page)?;
@@ -87,8 +92,10 @@ fn settle_taken(
 /// Takes a page for a structure change, and answers its number: the first free page, and where there is none, the one past
 /// the page count. Its page and page 0, which says that it is taken, are among the images after it.
 ///
-/// Refused `Capacity` where no page is free and the page count is 2^32 - 1; `NotAStore` where page 0 is no meta page, or the
-/// first free page is not free or not below the page count; otherwise as `image` is. After a refusal the images may lack pages: the structure change is
+/// A page that is taken is free, whatever page 0 says: none that is in use is taken because the page count became smaller.
+///
+/// Refused `Capacity` where no page is free and the page count is 2^32 - 1; `NotAStore` where page 0 is no meta page, the
+/// next page is not free, or the first free one is not below the page count; otherwise as `image` is. After a refusal the images may lack pages: the structure change is
 /// given up.
 pub fn allocate<D: Disk>(
     alloc: Global,
@@ -102,6 +109,7 @@ pub fn allocate<D: Disk>(
     ensures kept { (pages : AllPages) (spare : List ℕ) → HasImages D.Disk pages images.old spare writer.old disk.old → IsSound result (λ q. TakesPage pages images.old spare q images.new) }
     ensures used_up { (pages : AllPages) (spare : List ℕ) → HasImages D.Disk pages images.old spare writer.old disk.old
         → IfErr result (λ e. e ≡ Capacity → ((seen pages images.old 0).prev ≡ 0) × ((seen pages images.old 0).leftmost + 1 ≡ 2 ^ 32)) }
+    ensures free { (pages : AllPages) → HasPages D.Disk AreLoaded pages writer.old disk.old → IfOk result (λ q. (page_in pages (without_image 0 images.old) q).body.kind ≡ Free) }
 {
     let _rises = images.len();
     let meta = image(alloc, images, writer, disk, 0)?;

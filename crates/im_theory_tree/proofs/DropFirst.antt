@@ -10,6 +10,7 @@ use Rattle.im_theory_tree.proofs.Frame.{AllOf-left, AllOf-right, AllOf-append, b
 use Rattle.im_theory_tree.proofs.Keeps.{levels_same, inner_pages_same, chained_front, chained_same, times-append}
 use Rattle.im_theory_tree.proofs.Descent.{pages_above, leaves_descend, pages_descend, descend_same, levels_descend, all_elsewhere, times-here}
 use Rattle.im_theory_tree.proofs.LeafSplit.{height_same, free_kept, nonzero, chained_right}
+use Rattle.im_theory_tree.proofs.PastCount.{past_kept}
 use Rattle.im_theory_tree.proofs.InnerSplit.{good_once}
 use Rattle.im_theory_tree.proofs.DropLeaf.{walk_drop, ordered_rebind}
 use Rattle.im_theory_tree.proofs.DropChild.{times_under-append, levels-append, levels-left, levels-right, bare_leaves, last_of, leaves_among}
@@ -238,6 +239,7 @@ first_gone pages new spare d h a b parent after c r s =
               times-append x gone spare,
             ) in
             same ∙ was_cover;
+        past = past_kept pages new spare changed s.good (omega (arith, s_zero.leftmost)) s.others (λ x none. omega (arith, part x, none, in_level x));
       };
       same = walks;
       front = lf;

@@ -9,6 +9,7 @@ use Rattle.im_theory_tree.proofs.Keeps.{times-append}
 use Rattle.im_theory_tree.proofs.Descent.{all_elsewhere}
 use Rattle.im_theory_tree.proofs.LeafSplit.{free_kept}
 use Rattle.im_theory_tree.proofs.InnerSplit.{good_once}
+use Rattle.im_theory_tree.proofs.PastCount.{past_kept}
 use Rattle.im_theory_tree.proofs.DropChild.{bare_leaves}
 
 pub empty_root : (pages new : Pages) (spare : List ℕ) (h : ℕ) → EmptiesRoot pages new spare h → IsGoodTree new (pages_under pages h (below pages the_root) ++ spare) × (walk new ≡ walk pages)
@@ -59,6 +60,7 @@ empty_root pages new spare h s =
               times-append x gone spare,
             ) in
             same ∙ s.good.cover x ∙ ap (λ c. if nat_lt x c then 1 else 0) (sym s_zero.leftmost);
+        past = past_kept pages new spare changed s.good (omega (arith, s_zero.leftmost)) (λ x t. (s.others x t).0) (λ x none. omega (arith, part x, none));
       },
       none_new ∙ sym none_old,
     )

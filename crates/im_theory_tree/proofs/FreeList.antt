@@ -10,6 +10,7 @@ use Rattle.im_theory_tree.proofs.Keeps.{ordered_same, levels_same, chained_same,
 use Rattle.im_theory_tree.proofs.Descent.{all_elsewhere}
 use Rattle.im_theory_tree.proofs.LeafSplit.{free_links}
 use Rattle.im_theory_tree.proofs.InnerSplit.{good_once}
+use Rattle.im_theory_tree.proofs.PastCount.{past_kept}
 
 -- what holds of the tree where none of its pages changes
 pub record TreeKept (pages new : Pages) : Type 0 where
@@ -79,6 +80,7 @@ take_free pages new spare n q h =
               times-append x tree_new free_now,
             ) in
             count ∙ was;
+        past = past_kept pages new spare (0 ∷ []) h.good (omega (arith, h.zero.leftmost)) (λ x t. (h.others x t).0) (λ x none. omega (arith, none));
       },
       kept.walks,
     )
@@ -120,6 +122,7 @@ give_free pages new spare q h =
               times-append x tree_new free_now,
             ) in
             count ∙ was;
+        past = past_kept pages new (q ∷ spare) (0 ∷ q ∷ []) h.good (omega (arith, h.zero.leftmost)) (λ x t. (h.others x t).0) (λ x none. omega (arith, none));
       },
       kept.walks,
     )
@@ -164,6 +167,7 @@ take_count pages new spare h =
             let one : times x (c ∷ []) + times x (0 ∷ tree ++ free_old ++ spare) ≡ (if nat_lt x (suc c) then 1 else 0) =
             omega (arith, h.good.cover x, grows x c) in
             count ∙ one ∙ ap (λ d. if nat_lt x d then 1 else 0) (sym h.count);
+        past = past_kept pages new spare (0 ∷ []) h.good (omega (arith, h.count)) (λ x t. (h.others x t).0) (λ x none. omega (arith, none));
       },
       kept.walks,
     )

@@ -1,6 +1,7 @@
 -- A split of an inner page whose parent has room, and of an inner root: the tree stays good, and the walk stays.
 use Rattle.std.proofs.Common.{◌≡◌, ℕ, suc, ◌+◌, ◌≤◌, List, [], ◌∷◌, ◌++◌, map, Some, None, sym, ap, ap₂, subst, ◌∙◌, append_assoc, arith, nat_lt, if◌then◌else◌}
 use Rattle.std.proofs.lemmas.List.{map-append}
+use Rattle.im_base_types.specs.declared.page_kind.PageKind.TheVariants.{Free}
 use Rattle.im_theory_tree.specs.Good.{AllOf, IsInnerPage, HaveLevels, AreOrdered, AreChained, free_from, times, IsGoodTree}
 use Rattle.im_theory_tree.specs.Levels.{Pages, Node, child_of, children, below, leaves_under, pages_under, entries_in, the_root, height, walk, page_numbers, descend, lifted}
 use Rattle.im_theory_tree.specs.Same.{SameTree, SameOn, SameLinks}
@@ -11,6 +12,7 @@ use Rattle.im_theory_tree.proofs.Split.{below_put, below_was, below_split, below
 use Rattle.im_theory_tree.proofs.Keeps.{ordered_same, levels_same, inner_pages_same, chained_same, times-append}
 use Rattle.im_theory_tree.proofs.Descent.{pages_above, leaves_descend, pages_descend, descend_same, levels_descend, all_elsewhere}
 use Rattle.im_theory_tree.proofs.LeafSplit.{height_same, free_kept}
+use Rattle.im_theory_tree.proofs.PastCount.{past_kept}
 
 -- What is left to show once the leaves are the same list: the pages that stay, the levels and the count.
 pub record Rest (pages new : Pages) (old_spare spare : List ℕ) (leaves : List Node) : Type 0 where
@@ -24,6 +26,7 @@ pub record Rest (pages new : Pages) (old_spare spare : List ℕ) (leaves : List 
   pub free_tree : SameOn pages new (free_from pages (pages 0).prev (pages 0).next)
   pub free_links : AllOf (λ x. SameLinks (pages x) (new x)) (free_from pages (pages 0).prev (pages 0).next)
   pub levels : HaveLevels new (height new) the_root
+  pub past : (x : ℕ) → (new 0).leftmost ≤ x → (new x).kind ≡ Free
   pub count : (x : ℕ) → times x (pages_under new (height new) the_root) + times x spare ≡ times x (pages_under pages (height pages) the_root) + times x old_spare
 
 pub rest_good : (pages new : Pages) (old_spare spare : List ℕ) (leaves : List Node) → Rest pages new old_spare spare leaves → IsGoodTree new spare × (walk new ≡ walk pages)
@@ -52,6 +55,7 @@ rest_good pages new old_spare spare leaves h =
               ap (times x) freed.0,
             ) in
             same ∙ was;
+        past = h.past;
       },
       ap (entries_in new) h.now ∙ entries_same pages new leaves h.tree ∙ ap (entries_in pages) (sym h.was),
     )
@@ -115,6 +119,7 @@ root_rest pages new spare h left right up s =
           subst (HaveLevels new h) (sym down) (levels_same pages new h (below pages the_root) s_under (subst (λ k. HaveLevels pages k the_root) s.tall s.good.levels).1),
         ),
       );
+      past = past_kept pages new (left ∷ right ∷ spare) changed s.good (omega (arith, s_zero.leftmost)) s.others (λ x none. omega (arith, part x, none));
       count = λ x.
           let one : times x (pages_under new (height new) the_root) ≡ times x (1 ∷ []) + (times x (left ∷ right ∷ []) + times x under) =
           ap (λ k. times x (pages_under new k the_root)) tall
@@ -209,6 +214,7 @@ inner_rest pages new spare d h a b parent before after n q up s =
               subst (HaveLevels new h) (sym same_below) (levels_same pages new h (below pages mine) s_under have1.1),
             ),
           )));
+      past = past_kept pages new (q ∷ spare) changed s.good (omega (arith, s_zero.leftmost)) s.others (λ x none. omega (arith, part x, none, in_level x, in_mine x));
       count = λ x.
           let in_new : times x (page_numbers (fr ++ n ∷ m ∷ bk)) ≡ times x (page_numbers fr) + times x (n.page ∷ q ∷ page_numbers bk) =
           ap (times x) (map-append f fr (n ∷ m ∷ bk)) ∙ times-append x (page_numbers fr) (page_numbers (n ∷ m ∷ bk)) in

@@ -11,6 +11,7 @@ use Rattle.im_theory_tree.proofs.Keeps.{ordered_same, ordered_front, leaf_pages_
 use Rattle.im_theory_tree.proofs.Descent.{pages_above, leaves_descend, pages_descend, descend_same, levels_descend, all_elsewhere}
 use Rattle.im_theory_tree.proofs.LeafSplit.{free_kept, only_one}
 use Rattle.im_theory_tree.proofs.InnerSplit.{good_once}
+use Rattle.im_theory_tree.proofs.PastCount.{past_kept}
 
 pub lifted_self : (d : ℕ) → lifted d zero ≡ d
 lifted_self zero = refl
@@ -80,6 +81,7 @@ leaf_change pages new spare left n right h =
             let same : times x (0 ∷ pages_under new (height new) the_root ++ free_from new (new 0).prev (new 0).next ++ spare) ≡ times x (0 ∷ tree ++ free ++ spare) =
             ap₂ (λ t u. times x (0 ∷ t ++ u ++ spare)) tree_now freed.0 in
             same ∙ h.good.cover x ∙ ap (λ c. if nat_lt x c then 1 else 0) (sym s_zero.leftmost);
+        past = past_kept pages new spare (n.page ∷ []) h.good (omega (arith, s_zero.leftmost)) (λ x t. (h.others x t).0) (λ x none. omega (arith, part x, none));
       },
       now,
     )

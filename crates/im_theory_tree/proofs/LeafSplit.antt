@@ -1,5 +1,5 @@
 -- A split of a leaf whose parent has room, at any height: the tree stays good, and the walk stays.
-use Rattle.std.proofs.Common.{◌≡◌, ℕ, zero, suc, ◌+◌, ◌≤◌, List, [], ◌∷◌, ◌++◌, Some, None, refl, sym, ap, ap₂, subst, ◌∙◌, arith, nat_lt, if◌then◌else◌}
+use Rattle.std.proofs.Common.{◌≡◌, ℕ, zero, suc, ◌+◌, ◌≤◌, Bool, true, false, List, [], ◌∷◌, ◌++◌, Some, None, refl, sym, ap, ap₂, subst, ◌∙◌, arith, nat_lt, if◌then◌else◌}
 use Rattle.std.proofs.lemmas.List.{map-append}
 use Rattle.im_theory_tree.specs.Good.{AllOf, IsLeafPage, IsInnerPage, HaveLevels, AreOrdered, first_page, AreChained, free_from, AreFree, times, IsGoodTree}
 use Rattle.im_theory_tree.specs.Levels.{Pages, Node, below, leaves_under, pages_under, entries_in, the_root, height, walk, page_numbers, descend, lifted}
@@ -11,6 +11,7 @@ use Rattle.im_theory_tree.proofs.Split.{below_put, below_was, walk_split_leaf}
 use Rattle.im_theory_tree.proofs.Order.{ordered_right}
 use Rattle.im_theory_tree.proofs.Keeps.{ordered_front, ordered_halves, leaf_pages_same, inner_pages_same, chained_front, rechained, times-append, free_same}
 use Rattle.im_theory_tree.proofs.Descent.{pages_above, leaves_descend, pages_descend, descend_same, levels_descend, all_elsewhere, times-here}
+use Rattle.im_theory_tree.proofs.PastCount.{past_kept}
 
 -- the level of the leaves, before and after
 abbrev pub front : Pages → List Node → List Node → List Node
@@ -50,7 +51,11 @@ once pages new spare d a b parent before after n q s h x =
     let tree = pages_under pages (height pages) the_root in
     let one = times-append x (tree ++ free) (q ∷ spare) in
     let two = times-append x tree free in
-    grind (arith, h.good.cover x, one, two)
+    omega (arith, h.good.cover x, at_most (nat_lt x (pages 0).leftmost), one, two)
+  where
+    at_most : (t : Bool) → (if t then 1 else 0) ≤ 1
+    at_most true = omega arith
+    at_most false = omega arith
 
 pub chained_right : (pages : Pages) (prev : ℕ) (a b : List Node) → AreChained pages prev (a ++ b) → (p : ℕ) × AreChained pages p b
 chained_right pages prev [] b h = (prev, h)
@@ -214,6 +219,7 @@ leaf_split pages new spare d a b parent before after n q s h =
         free = freed.1;
         cover = λ x. cover_after pages new spare d a b parent before after n q s h fr bk s_zero.leftmost (level ∙ h.tall) down.0 down.1 freed.0
             (below_put pages new a b parent before after n sep h.put s_a s_b) refl refl x;
+        past = past_kept pages new (q ∷ spare) changed h.good (omega (arith, s_zero.leftmost)) h.others (λ x none. omega (arith, split_parts x, none));
       },
       walks,
     )

@@ -18,6 +18,7 @@ pub mod MarkLemmas
 pub mod KeyLemmas
 pub mod TheoryLaws
 pub mod Counting
+pub mod PastCount
 pub mod Ascent
 pub mod LookupLemmas
 pub mod HalvesLemmas

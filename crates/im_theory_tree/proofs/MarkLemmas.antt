@@ -1,10 +1,11 @@
 -- The mark of a structure change means nothing to the tree.
-use Rattle.std.proofs.Common.{◌≡◌, ℕ, List, [], ◌∷◌, ◌++◌, sym, ap, ap₂, ◌∙◌, nat_lt, if◌then◌else◌}
+use Rattle.std.proofs.Common.{◌≡◌, ℕ, List, [], ◌∷◌, ◌++◌, refl, sym, ap, ap₂, ◌∙◌, arith, nat_lt, if◌then◌else◌}
 use Rattle.im_theory_tree.specs.Levels.{Pages, pages_under, the_root, height, walk}
 use Rattle.im_theory_tree.specs.Same.{SameTree, SameLinks, SameButMark}
 use Rattle.im_theory_tree.specs.Good.{AllOf, free_from, times, IsGoodTree}
 use Rattle.im_theory_tree.proofs.LeafSplit.{free_kept}
 use Rattle.im_theory_tree.proofs.FreeList.{tree_kept}
+use Rattle.im_theory_tree.proofs.PastCount.{past_kept}
 
 pub all_everywhere : (P : ℕ → Type 0) (qs : List ℕ) → ((x : ℕ) → P x) → AllOf P qs
 all_everywhere P [] h = tt
@@ -25,6 +26,7 @@ marks_keep pages new spare same good =
         chained = kept.chained;
         free = freed.1;
         cover = λ x. ap₂ (λ t u. times x (0 ∷ t ++ u ++ spare)) kept.tree freed.0 ∙ good.cover x ∙ ap (λ c. if nat_lt x c then 1 else 0) (sym (same 0).0.leftmost);
+        past = past_kept pages new spare [] good (omega (arith, (same 0).0.leftmost)) (λ x t. (same x).0) (λ x none. refl);
       },
       kept.walks,
     )

@@ -1,6 +1,9 @@
 -- A split of a root that is a leaf, and the pages of a new store.
-use Rattle.std.proofs.Common.{◌≡◌, ℕ, zero, suc, List, [], ◌∷◌, ◌++◌, map, Some, None, refl, sym, ap, subst, ◌∙◌, append-nil, inl, inr, arith, nat_lt, if◌then◌else◌}
+use Rattle.std.proofs.Common.{◌≡◌, ◌≤◌, ℕ, zero, suc, List, [], ◌∷◌, ◌++◌, map, Some, None, refl, sym, ap, subst, ◌∙◌, append-nil, inl, inr, arith, nat_lt, if◌then◌else◌}
+use Rattle.std.proofs.lemmas.Bool.{ne_eqb}
 use Rattle.std.proofs.lemmas.Bool.Decides.{nat_tests}
+use Rattle.im_base_types.specs.declared.page_kind.PageKind.TheVariants.{Free}
+use Rattle.im_theory_page.specs.Header.{initial}
 use Rattle.im_theory_tree.specs.Allocations.{initial_bodies}
 use Rattle.im_theory_tree.specs.Good.{AllOf, IsLeafPage, HaveLevels, AtOrAbove, IsUnder, AreOrdered, AreChained, free_from, times, IsGoodTree}
 use Rattle.im_theory_tree.specs.Levels.{Pages, Node, below, leaves_under, pages_under, entries_in, the_root, height, walk}
@@ -14,6 +17,7 @@ use Rattle.im_theory_tree.proofs.Split.{below_root}
 use Rattle.im_theory_tree.proofs.Descent.{all_elsewhere}
 use Rattle.im_theory_tree.proofs.LeafSplit.{free_kept}
 use Rattle.im_theory_tree.proofs.InnerSplit.{good_once}
+use Rattle.im_theory_tree.proofs.PastCount.{past_kept}
 
 pub leaf_root_split : (pages new : Pages) (spare : List ℕ) (left right : ℕ) (s : List ℕ) → SplitsLeafRootOf pages new spare left right s → IsGoodTree new spare × (walk new ≡ walk pages)
 leaf_root_split pages new spare left right s h =
@@ -69,12 +73,17 @@ leaf_root_split pages new spare left right s h =
               times-append x tree_new free_new,
             ) in
             same ∙ cover_was;
+        past = past_kept pages new (left ∷ right ∷ spare) changed h.good (omega (arith, s_zero.leftmost)) (λ x t. (h.others x t).0) (λ x none. omega (arith, count_old x, none));
       },
       ap (entries_in new) now ∙ ap (λ es. (new left).entries ++ es) (append-nil (new right).entries) ∙ h.halves.joined ∙ sym (append-nil (pages 1).entries) ∙ ap (entries_in pages) (sym was),
     )
 
 pub two_pages : (p : ℕ) → times p (0 ∷ 1 ∷ []) ≡ (if nat_lt p 2 then 1 else 0)
 two_pages p = grind (arith, nat_tests)
+
+-- past the first two, a page is free
+pub two_past : (p : ℕ) → 2 ≤ p → (initial p).body.kind ≡ Free
+two_past p past = rw (ne_eqb p 0 (λ e. omega (arith, e, past)), ne_eqb p 1 (λ e. omega (arith, e, past))) refl
 
 pub initial_good : IsGoodTree initial_bodies [] × (walk initial_bodies ≡ [])
 initial_good = (
@@ -85,6 +94,7 @@ initial_good = (
     chained = (refl, refl, tt);
     free = refl;
     cover = λ p. two_pages p;
+    past = two_past;
   },
   refl,
 )

@@ -41,6 +41,7 @@ relisted pages spare left same good =
           let count : times x (0 ∷ tree ++ free ++ left) ≡ times x (0 ∷ tree ++ free ++ spare) =
           omega (arith, same x, times-append x (tree ++ free) left, times-append x (tree ++ free) spare) in
           count ∙ good.cover x;
+      past = good.past;
     }
 
 -- what one step keeps

@@ -1,6 +1,8 @@
 -- A tree of two leaves by computation, and what is wrong with trees that wrong steps leave.
-use Rattle.std.proofs.Common.{◌≡◌, ℕ, [], ◌∷◌, Some, None, refl, ap, inl, inr, ⊎_elim, arith, nat_lt, if◌then◌else◌}
+use Rattle.std.proofs.Common.{◌≡◌, ◌≤◌, ℕ, [], ◌∷◌, Some, None, refl, ap, inl, inr, ⊎_elim, arith, nat_lt, if◌then◌else◌}
+use Rattle.std.proofs.lemmas.Bool.{ne_eqb}
 use Rattle.std.proofs.lemmas.Bool.Decides.{nat_tests}
+use Rattle.im_base_types.specs.declared.page_kind.PageKind.TheVariants.{Free}
 use Rattle.std.specs.FinMap.Entries.{find}
 use Rattle.im_base_types.specs.Keys.{Key, key_order, IsBelow}
 use Rattle.im_theory_tree.specs.Levels.{walk}
@@ -9,6 +11,11 @@ use Rattle.im_theory_tree.specs.Variants.{key_a, key_b, key_c, two_leaves, lost_
 
 four_once : (p : ℕ) → times p (0 ∷ 1 ∷ 2 ∷ 3 ∷ []) ≡ (if nat_lt p 4 then 1 else 0)
 four_once p = grind (arith, nat_tests)
+
+-- past the first four, a page is free
+four_past : (p : ℕ) → 4 ≤ p → (two_leaves p).kind ≡ Free
+four_past p past =
+    rw (ne_eqb p 0 (λ e. omega (arith, e, past)), ne_eqb p 1 (λ e. omega (arith, e, past)), ne_eqb p 2 (λ e. omega (arith, e, past)), ne_eqb p 3 (λ e. omega (arith, e, past))) refl
 
 pub two_leaves_good : IsGoodTree two_leaves [] × (walk two_leaves ≡ (key_a, 7) ∷ (key_b, 8) ∷ (key_c, 9) ∷ [])
 two_leaves_good = (
@@ -19,6 +26,7 @@ two_leaves_good = (
     chained = (refl, refl, (refl, refl, tt));
     free = refl;
     cover = λ p. four_once p;
+    past = four_past;
   },
   refl,
 )

@@ -1,5 +1,5 @@
 -- What a good tree is.
-use Rattle.std.specs.Prelude.{◌≡◌, ◌⊎◌, ℕ, zero, suc, ◌+◌, List, [], ◌∷◌, ◌++◌, Option, Some, None, ◌==◌, nat_lt, if◌then◌else◌}
+use Rattle.std.specs.Prelude.{◌≡◌, ◌≤◌, ◌⊎◌, ℕ, zero, suc, ◌+◌, List, [], ◌∷◌, ◌++◌, Option, Some, None, ◌==◌, nat_lt, if◌then◌else◌}
 use Rattle.im_theory_tree.specs.Levels.{Pages, Node, below, leaves_under, pages_under, the_root, height}
 use Rattle.im_base_types.specs.Keys.{Key, IsBelow}
 use Rattle.im_base_types.specs.Pages.{Entry}
@@ -93,7 +93,7 @@ abbrev pub times : ℕ → List ℕ → ℕ
 times p [] = 0
 times p (q ∷ qs) = (if p == q then 1 else 0) + times p qs
 
--- A good tree, beside spare pages: those that a structure change has taken and not yet put in their place. Each page below the page count is the meta page, in the tree, free or spare, and one of these once.
+-- A good tree, beside spare pages: those that a structure change has taken and not yet put in their place. Each page below the page count is the meta page, in the tree, free or spare, and one of these once; each past it is free.
 pub record IsGoodTree (pages : Pages) (spare : List ℕ) : Type 0 where
   pub meta : (pages 0).kind ≡ Meta
   pub levels : HaveLevels pages (height pages) the_root
@@ -102,3 +102,4 @@ pub record IsGoodTree (pages : Pages) (spare : List ℕ) : Type 0 where
   pub free : AreFree pages (pages 0).prev (pages 0).next
   pub cover : (p : ℕ) → times p (0 ∷ pages_under pages (height pages) the_root ++ free_from pages (pages 0).prev (pages 0).next ++ spare)
       ≡ (if nat_lt p (pages 0).leftmost then 1 else 0)
+  pub past : (p : ℕ) → (pages 0).leftmost ≤ p → (pages p).kind ≡ Free

@@ -7,7 +7,7 @@ use Rattle.im_smo_pages.specs.Bodies.{says}
 use Rattle.im_smo_pages.specs.Images.{Numbered, put_image, without_image}
 use Rattle.im_smo_alloc.specs.Kept.{mild_to_take}
 use Rattle.im_smo_alloc.specs.Seen.{page_in, next_page, meta_behind, seen}
-use Rattle.im_smo_alloc.proofs.Results.{if_err, ok_and}
+use Rattle.im_smo_alloc.proofs.Results.{if_err, if_ok, ok_and}
 use Rattle.im_smo_alloc.proofs.Seeing.{page_says}
 use Rattle.im_smo_alloc.proofs.Taking.{first_known, meta_kind, meta_says, taken_kind, takes}
 use Rattle.im_smo_alloc.proofs.Goings.{mildly_taken, no_store, take_mildly}
@@ -89,3 +89,12 @@ returns-clause-used_up g c pages spare tree =
     let is : page ≡ page_in pages (without_image 0 images) n = two ∙ ap (λ (l : List Numbered). page_in pages l n) c.in_ok-meta.ensures.images in
     if_err c.settle_taken.result _ _ c.settle_taken.ensures.used_up
     (λ e up_to same. subst (λ (m : Body). (m.prev ≡ 0) × (m.leftmost + 1 ≡ 2 ^ 32)) (meta_says pages images spare up tree.good n meta page one number is) (up_to same))
+
+pub returns-clause-free : goal.returns-clause-free
+returns-clause-free g c pages has =
+    let page : Page = c.in_ok-page.page.value in
+    let two = c.in_ok-page.ensures.kept pages (pages_still g.D.Disk has c.in_ok-meta.ensures.outcome) in
+    let is : page ≡ page_in pages (without_image 0 c.args.images.now) c.in_ok-number.number =
+    two ∙ ap (λ (l : List Numbered). page_in pages l c.in_ok-number.number) c.in_ok-meta.ensures.images in
+    if_ok c.settle_taken.result _ _ (ok_and c.settle_taken.result _ _ c.settle_taken.ensures.number c.settle_taken.ensures.free)
+    (λ q both. ap (λ (n : ℕ). (page_in pages (without_image 0 c.args.images.now) n).body.kind) both.0 ∙ ap (λ (p : Page). p.body.kind) (sym is) ∙ both.1)
