@@ -82,10 +82,10 @@ grows_within t older longer by = record { more = by.more; is = sym by.is; within
 -- ---- the tree of a log, with an open structure change taken back
 
 module _ (b : Base) (log : History) (law : IsLawful b page_tree log) where
-  good_pages : IsGoodTree (settled b log) []
+  pub good_pages : IsGoodTree (settled b log) []
   good_pages = (has_tree b page_tree log law).good
 
-  settled_walk : walk (settled b log) ≡ entries (contents b log)
+  pub settled_walk : walk (settled b log) ≡ entries (contents b log)
   settled_walk = (has_tree b page_tree log law).walk
 
   -- what the walk has of a key, the map has
@@ -93,7 +93,7 @@ module _ (b : Base) (log : History) (law : IsLawful b page_tree log) where
   get_is k = sorted_find (contents b log) k ∙ ap (λ (es : List Item). find key_order k es) (sym settled_walk)
 
   -- and so the key's leaf
-  leaf_has : (k : Key) (p : ℕ) → IsOnWay (settled b log) 0 k p → find key_order k (settled b log p).entries ≡ get (contents b log) k
+  pub leaf_has : (k : Key) (p : ℕ) → IsOnWay (settled b log) 0 k p → find key_order k (settled b log p).entries ≡ get (contents b log) k
   leaf_has k p way = sym (leaf_value (settled b log) [] k p good_pages way) ∙ sym (get_is k)
 
   -- where none is open, these are the pages as they stand
@@ -165,10 +165,10 @@ module _ (b : Base) (older longer : History) (by : GrowsByImages b older longer)
   pub unchanged : Stays b older longer × IsOfAll older longer
   unchanged = images_change_nothing b older longer (copies_are_images page_tree b older longer by).images
 
-  open_longer : open_smo longer ≡ open_smo older
+  pub open_longer : open_smo longer ≡ open_smo older
   open_longer = (copies_are_images page_tree b older longer by).opened
 
-  settled_longer : settled b longer ≡ settled b older
+  pub settled_longer : settled b longer ≡ settled b older
   settled_longer = fun_ext (λ (p : ℕ). ap (λ (l : History). taken_back l p (page_at b longer p).body) open_longer
       ∙ ap (λ (g : Page). taken_back (open_smo older) p g.body) (ap (λ (l : History). page_at b l p) by.is ∙ images_pages b by.images older p by.all))
 

@@ -5,3 +5,10 @@ pub mod Deletes
 pub mod Inserts
 pub mod Planning
 pub mod Beside
+pub mod Comings
+pub mod NoneBeside
+pub mod EditsBeside
+pub mod OwnChanges
+pub mod Leavings
+pub mod InsertsBeside
+pub mod DeletesBeside

@@ -113,7 +113,7 @@ never_so {A} (Err y) f is = is.1
 -- ---- its locks
 
 -- a plan keeps the limit of pages, or is told that page numbers or levels are used up
-limited_by : (pages : AllPages) (key : Key) (max : ℕ) (spare : List ℕ) → IsGoodTree (bodies_of pages) spare → (plan : Plan) → IsInsertPlan pages key max plan → find key_order key (walk (bodies_of pages)) ≡ None → IsLimited (bodies_of pages) key max
+pub limited_by : (pages : AllPages) (key : Key) (max : ℕ) (spare : List ℕ) → IsGoodTree (bodies_of pages) spare → (plan : Plan) → IsInsertPlan pages key max plan → find key_order key (walk (bodies_of pages)) ≡ None → IsLimited (bodies_of pages) key max
 limited_by pages key max spare good Fits (inl there) none lacks = absurd (there none)
 limited_by pages key max spare good Fits (inr fits) none lacks = absurd (lacks.lacks (subst (λ (p : ℕ). HasRoom true (bodies_of pages p).entries (key, 0)) (one_leaf (bodies_of pages) spare key fits.page lacks.page good fits.way lacks.way) fits.room))
 limited_by pages key max spare good (Split plan) planned none lacks =
@@ -152,7 +152,7 @@ late_is f g e memory other not is = by (want_of_memory f) refl
     by true short = absurd (not (sym (memory (is_memory f short)) ∙ is))
     by false short = sym (other (λ same. let clash : true ≡ false = ap want_of_memory (sym same) ∙ short in cc clash)) ∙ is
 
-late_why : (f g : Fault) → (f ≡ Memory → g ≡ Failed) → (f ≢ Memory → g ≡ f) → g ≡ Failed → (f ≡ Memory) ⊎ (f ≡ Failed)
+pub late_why : (f g : Fault) → (f ≡ Memory → g ≡ Failed) → (f ≢ Memory → g ≡ f) → g ≡ Failed → (f ≡ Memory) ⊎ (f ≡ Failed)
 late_why f g memory other is = by (want_of_memory f) refl
   where
     by : (short : Bool) → want_of_memory f ≡ short → (f ≡ Memory) ⊎ (f ≡ Failed)

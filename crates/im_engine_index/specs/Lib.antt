@@ -6,3 +6,6 @@ pub mod LockCalls
 pub mod KeyLogs
 pub mod Edits
 pub mod InsertPlans
+pub mod Barred
+pub mod ChangePlans
+pub mod EditsBeside

@@ -72,7 +72,7 @@ fn goes_in(writer: &PageWriter, place: Place, key: &[u8]) -> bool
 }
 
 // The pages of the split that an absent key's leaf wants, which lacks room for the key.
-fn plan_pages<D: Disk>(
+pub(crate) fn plan_pages<D: Disk>(
     alloc: Global,
     writer: &mut PageWriter,
     disk: &mut D,

@@ -18,12 +18,19 @@
 //! - `delete` asks its locks, drops the key where they are granted, and takes out of the tree the leaf that it leaves empty. What it
 //!   logged is one record of the key, Images, and those of that structure change. A leaf stays empty only for want of memory, and the
 //!   answer says so.
+//! - `insert_beside` and `delete_beside` are these for a store whose structure changes go on over several steps, beside another transaction's: one of
+//!   their own begins only where none is under way (`Inserting`, `Deleting`), and a page of another's is never changed. What bars them is told before
+//!   a lock is asked. `insert_end` closes a split that is all logged, and puts the key for which it was made.
 #![tactic(auto)]
 
 mod asking;
+mod begun;
+mod change_plan;
 mod changes;
 mod deleting;
+mod deleting_beside;
 mod inserting;
+mod inserting_beside;
 mod lock_answer;
 mod logging;
 mod noted;
@@ -33,9 +40,12 @@ mod reads;
 mod reads_beside;
 mod scans;
 
+pub use begun::{Deleting, Inserting};
 pub use changes::ask_delete;
 pub use deleting::delete;
+pub use deleting_beside::delete_beside;
 pub use inserting::insert;
+pub use inserting_beside::{insert_beside, insert_end};
 pub use lock_answer::LockAnswer;
 pub use logging::{log_delete, log_insert};
 pub use noted::{Noted, Taken};
