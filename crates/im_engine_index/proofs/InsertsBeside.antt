@@ -101,6 +101,18 @@ no_numbers {D} d {late} {m} {v} {old} {w} {new} {f} none one is =
 pub lacks_numbers : {D : Type 0} (d : Ghosts D) {m : Fault → Bool} {v : PageWriter} {old : D} {w : PageWriter} {new : D} → Ends d AreLoaded m v old w new None → Logs d true wants_numbers v old w new (Some Capacity)
 lacks_numbers {D} d {m} {v} {old} {w} {new} one = record { ready = one.ready; frames = one.frames; ends = (refl, one.ends) }
 
+-- the record of a key over a writer that works
+pub put_logs : {D : Type 0} (d : Ghosts D) {v : PageWriter} {old : D} {w : PageWriter} {new : D} {why : Option Fault} → v.failed ≡ false → Logs d false no_page v old w new why → Logs d true wants_numbers v old w new why
+put_logs {D} d {v} {old} {w} {new} {why} works one = record { ready = one.ready; frames = one.frames; ends = by why one.ends }
+  where
+    by : (o : Option Fault) → LogEnds d false no_page v old w new o → LogEnds d true wants_numbers v old w new o
+    by None ends = ends
+    by (Some Failed) ends = absurd (let clash : false ≡ true = sym works ∙ ends.0 in let never : ⊥ = cc clash in never)
+    by (Some NotAStore) ends = record { began = ends.1.began; works = ends.1.works; alive = ends.1.alive }
+    by (Some Device) ends = ends
+    by (Some LogFull) ends = ends
+    by (Some f) ends = absurd (let clash : false ≡ true = ends.0 in let never : ⊥ = cc clash in never)
+
 -- what is laid down has no refusal for want of memory or pages
 pub laid_never : {D : Type 0} (d : Ghosts D) {v : PageWriter} {old : D} {w : PageWriter} {new : D} {f : Fault} → Logs d true wants_numbers v old w new (Some f) → (f ≡ Memory) ⊎ (f ≡ PagesFull) → ⊥
 laid_never {D} d {v} {old} {w} {new} {f} one (inl is) =

@@ -19,7 +19,7 @@ returns-in_err-lsn-in-Takes-clause-kept g c b base s e beside may =
     let a = c.args in
     let t = a.transaction.now in
     let at = from g.D.Disk b base s e t.number t.last t.undo_next a.key.now beside a.leaving a.writer.now a.disk.now may c.requires.owner in
-    take_fails g.D.Disk b base s e t.number t.last t.undo_next a.key.now beside a.leaving a.writer.now a.disk.now may c.requires.owner c.in_err-lsn-in-Takes.page.0 c.in-Takes.page c.in-Takes.rid c.log_delete.new.writer c.log_delete.new.disk c.from_residual.result c.from_residual.ensures.1
+    take_fails g.D.Disk b base s e t.number t.last t.undo_next a.key.now beside a.leaving a.writer.now a.disk.now may c.requires.owner c.in_err-lsn-in-Takes.field-0.0 c.in-Takes.page c.in-Takes.rid c.log_delete.new.writer c.log_delete.new.disk c.from_residual.result c.from_residual.ensures.1
     (c.in_err-lsn-in-Takes.ensures.kept b base at.now e t.undo_next (may_take_one g.D.Disk b base s e t.number t.last t.undo_next a.key.now beside a.leaving a.writer.now a.disk.now may c.requires.owner c.in-Takes.page c.in-Takes.rid c.in-Takes.is))
 
 pub returns-in_ok-lsn-in-Takes-clause-kept : goal.returns-in_ok-lsn-in-Takes-clause-kept
@@ -38,7 +38,7 @@ returns-in_err-lsn-in-Empties-clause-kept g c b base s e beside may =
     let a = c.args in
     let t = a.transaction.now in
     let at = from g.D.Disk b base s e t.number t.last t.undo_next a.key.now beside a.leaving a.writer.now a.disk.now may c.requires.owner in
-    take_fails g.D.Disk b base s e t.number t.last t.undo_next a.key.now beside a.leaving a.writer.now a.disk.now may c.requires.owner c.in_err-lsn-in-Empties.page.0 c.in-Empties.page c.in-Empties.rid c.log_delete-in-Empties.new.writer c.log_delete-in-Empties.new.disk c.from_residual-in_err-lsn-in-Empties.result c.from_residual-in_err-lsn-in-Empties.ensures.1
+    take_fails g.D.Disk b base s e t.number t.last t.undo_next a.key.now beside a.leaving a.writer.now a.disk.now may c.requires.owner c.in_err-lsn-in-Empties.field-0.0 c.in-Empties.page c.in-Empties.rid c.log_delete-in-Empties.new.writer c.log_delete-in-Empties.new.disk c.from_residual-in_err-lsn-in-Empties.result c.from_residual-in_err-lsn-in-Empties.ensures.1
     (c.in_err-lsn-in-Empties.ensures.kept b base at.now e t.undo_next (may_take_last g.D.Disk b base s e t.number t.last t.undo_next a.key.now beside a.leaving a.writer.now a.disk.now may c.requires.owner c.in-Empties.page c.in-Empties.rid c.in-Empties.plan c.in-Empties.is))
 
 pub returns-in_ok-lsn-in-Empties-clause-kept : goal.returns-in_ok-lsn-in-Empties-clause-kept

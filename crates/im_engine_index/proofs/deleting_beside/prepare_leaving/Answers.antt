@@ -63,7 +63,7 @@ returns-then-has-clause-kept g c pages m but is =
     leaving_hidden pages a.beside a.transaction key m a.locks.now a.locks.now (barred (some_there m key c.in-Some.rid there, bars)) refl
 
 pub returns-then-not-is_last_entry-clause-outcome : goal.returns-then-not-is_last_entry-clause-outcome
-returns-then-not-is_last_entry-clause-outcome g c = then g.D.Disk c.in_ok-leaf.ensures.outcome c.ask_leaving.ensures.outcome
+returns-then-not-is_last_entry-clause-outcome g c = then g.D.Disk c.in_ok-leaf.ensures.outcome c.ask_leaving-then-not-is_last_entry.ensures.outcome
 
 pub returns-then-not-is_last_entry-clause-kept : goal.returns-then-not-is_last_entry-clause-kept
 returns-then-not-is_last_entry-clause-kept g c pages m but is =
@@ -76,9 +76,9 @@ returns-then-not-is_last_entry-clause-kept g c pages m but is =
     let apart = sym c.has.ensures ∙ c.if-has.false in
     let more = more_at p (pages p) c.leaf_beside.new.writer.pool r.shown (c.is_last_entry.ensures.more c.if-not-is_last_entry.true) in
     let takes : KeyTakes pages a.beside key m p c.in-Some.rid = record { there = there; apart = apart; way = r.way; more = more } in
-    leaving_seen pages a.beside a.transaction key m a.locks.now c.ask_leaving.new.locks (Takes p c.in-Some.rid) c.ask_leaving.result takes
+    leaving_seen pages a.beside a.transaction key m a.locks.now c.ask_leaving-then-not-is_last_entry.new.locks (Takes p c.in-Some.rid) c.ask_leaving-then-not-is_last_entry.result takes
     (λ bars. apart_bars (bodies_of pages) but.tree.spare a.beside key (HasOne (bodies_of pages) key) p but.tree.good r.way apart (more_not (bodies_of pages) but.tree.spare key p but.tree.good r.way more) bars.1)
-    (c.ask_leaving.ensures.kept pages m (but_still g.D.Disk but.tree c.in_ok-leaf.ensures.outcome) r is (ap is_some there))
+    (c.ask_leaving-then-not-is_last_entry.ensures.kept pages m (but_still g.D.Disk but.tree c.in_ok-leaf.ensures.outcome) r is (ap is_some there))
 
 pub returns-then-not-is_none-clause-outcome : goal.returns-then-not-is_none-clause-outcome
 returns-then-not-is_none-clause-outcome g c = read_more g.D.Disk mild refl c.in_ok-leaf.ensures.outcome

@@ -1,8 +1,8 @@
 use Rattle.std.proofs.Common.{refl}
-use Rattle.im_page_writer.proofs.Outcomes.{changed_none, idle, log_refused, logs_for_more, logs_late, no_page_for}
-use Rattle.im_engine_index.specs.ChangePlans.{wants_numbers}
+use Rattle.im_page_writer.specs.Outcome.{mild}
+use Rattle.im_page_writer.proofs.Outcomes.{changed_none, idle, log_refused, logs_for_more, logs_late}
 use Rattle.im_engine_index.proofs.Deletes.{log_works}
-use Rattle.im_engine_index.proofs.InsertsBeside.{from, going_now, lacks_numbers, logs_none, logs_put, logs_split, logs_there, may_put_fits, no_numbers, none_more, put_fails, split_fails}
+use Rattle.im_engine_index.proofs.InsertsBeside.{from, going_now, lacks_numbers, logs_none, logs_put, logs_split, logs_there, may_put_fits, no_numbers, none_more, put_fails, put_logs, split_fails}
 use Rattle.im_engine_index.proofs.inserting_beside.log_coming.Goals as goal
 
 pub returns-in-There-clause-outcome : goal.returns-in-There-clause-outcome
@@ -15,7 +15,7 @@ returns-in-There-clause-kept g c b base s e max beside may =
     logs_there g.D.Disk b base s e t.number t.last t.undo_next a.key.now a.rid max beside a.coming a.writer.now a.disk.now may c.requires.owner c.in-There.is
 
 pub returns-in_err-lsn-in-Fits-clause-outcome : goal.returns-in_err-lsn-in-Fits-clause-outcome
-returns-in_err-lsn-in-Fits-clause-outcome g c = log_refused g.D.Disk c.from_residual.result c.from_residual.ensures.1 (logs_late g.D.Disk (no_page_for wants_numbers refl) c.requires.working c.in_err-lsn-in-Fits.ensures.outcome)
+returns-in_err-lsn-in-Fits-clause-outcome g c = log_refused g.D.Disk c.from_residual.result c.from_residual.ensures.1 (put_logs g.D.Disk c.requires.working c.in_err-lsn-in-Fits.ensures.outcome)
 
 pub returns-in_err-lsn-in-Fits-clause-kept : goal.returns-in_err-lsn-in-Fits-clause-kept
 returns-in_err-lsn-in-Fits-clause-kept g c b base s e max beside may =
@@ -27,7 +27,7 @@ returns-in_err-lsn-in-Fits-clause-kept g c b base s e max beside may =
     (c.in_err-lsn-in-Fits.ensures.kept b base at.now e t.undo_next (may_put_fits g.D.Disk b base s e t.number t.last t.undo_next a.key.now a.rid max beside a.coming a.writer.now a.disk.now may c.requires.owner c.in-Fits.page c.in-Fits.is))
 
 pub returns-in_ok-lsn-in-Fits-clause-outcome : goal.returns-in_ok-lsn-in-Fits-clause-outcome
-returns-in_ok-lsn-in-Fits-clause-outcome g c = logs_late g.D.Disk (no_page_for wants_numbers refl) c.requires.working c.in_ok-lsn-in-Fits.ensures.outcome
+returns-in_ok-lsn-in-Fits-clause-outcome g c = put_logs g.D.Disk c.requires.working c.in_ok-lsn-in-Fits.ensures.outcome
 
 pub returns-in_ok-lsn-in-Fits-clause-kept : goal.returns-in_ok-lsn-in-Fits-clause-kept
 returns-in_ok-lsn-in-Fits-clause-kept g c b base s e max beside may =
@@ -63,7 +63,7 @@ returns-in_ok-begun-in-Splits-clause-kept g c b base s e max beside may =
     c.in_ok-begun-in-Splits.begun c.log_first.new.writer c.log_first.new.disk (c.in_ok-begun-in-Splits.ensures.kept b base at.now e going.stands going.over) c.in_ok-begun-in-Splits.ensures.plan.3
 
 pub returns-in-UsedUp-clause-outcome : goal.returns-in-UsedUp-clause-outcome
-returns-in-UsedUp-clause-outcome g c = lacks_numbers g.D.Disk (idle g.D.Disk g.met.D.Disk.only_now c.args.writer.now c.args.disk.now c.requires.working c.requires.ready)
+returns-in-UsedUp-clause-outcome g c = lacks_numbers g.D.Disk {m = mild} (idle g.D.Disk g.met.D.Disk.only_now c.args.writer.now c.args.disk.now c.requires.working c.requires.ready)
 
 pub returns-in-UsedUp-clause-kept : goal.returns-in-UsedUp-clause-kept
 returns-in-UsedUp-clause-kept g c b base s e max beside may =

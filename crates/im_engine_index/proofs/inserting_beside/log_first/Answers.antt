@@ -1,3 +1,4 @@
+use Rattle.im_page_writer.specs.Outcome.{mild}
 use Rattle.im_page_writer.proofs.Outcomes.{changed_none, idle, late_behind}
 use Rattle.im_engine_index.proofs.Inserts.{late_sound}
 use Rattle.im_engine_index.proofs.InsertsBeside.{first_late}
@@ -11,7 +12,7 @@ returns-in-Ok-clause-kept g c b base s e stands over = let k = c.in-Ok.ensures.k
 
 pub returns-in-Err-clause-outcome : goal.returns-in-Err-clause-outcome
 returns-in-Err-clause-outcome g c =
-    late_behind g.D.Disk (changed_none g.D.Disk (λ e is. is) (idle g.D.Disk g.met.D.Disk.only_now c.args.writer.now c.args.disk.now c.requires.working c.requires.ready)) c.in-Err.ensures.outcome c.late.ensures.memory c.late.ensures.others
+    late_behind g.D.Disk {m = mild} (changed_none g.D.Disk {n = mild} (λ e is. is) (idle g.D.Disk g.met.D.Disk.only_now c.args.writer.now c.args.disk.now c.requires.working c.requires.ready)) c.in-Err.ensures.outcome c.late.ensures.memory c.late.ensures.others
 
 pub returns-in-Err-clause-kept : goal.returns-in-Err-clause-kept
 returns-in-Err-clause-kept g c b base s e stands over =
