@@ -1,6 +1,6 @@
 -- An insert that is laid down beside a structure change of another: what it asks, what bars it, and what is kept of it.
-use Rattle.std.proofs.Common.{◌≡◌, ◌≢◌, ◌⊎◌, inl, inr, ⊎_elim, ◌≤◌, ℕ, Bool, true, false, List, [], length, None, Some, Option, Result, Ok, Err, refl, sym, ◌∙◌, ap, subst, ◌==◌}
-use Rattle.std.specs.Prelude.{IsErrAnd, IfErr, IfOk}
+use Rattle.std.proofs.Common.{◌≡◌, ◌≢◌, ◌⊎◌, inl, inr, ⊎_elim, ◌≤◌, ℕ, true, false, List, [], length, None, Some, Option, Result, Ok, Err, refl, sym, ◌∙◌, ap, subst, ◌==◌}
+use Rattle.std.specs.Prelude.{IsErrAnd}
 use Rattle.std.specs.FinMap.{entries, get}
 use Rattle.std.specs.FinMap.Entries.{find}
 use Rattle.std.specs.List.{list_any}
@@ -8,14 +8,12 @@ use Rattle.im_base_types.specs.declared.fault.Fault.{Fault}
 use Rattle.im_base_types.specs.declared.fault.Fault.TheVariants.{Capacity, Device, Failed, LogFull, Memory, NotAStore, PagesFull}
 use Rattle.im_base_types.specs.Keys.{Key, key_order}
 use Rattle.im_base_types.specs.Maps.{IndexMap}
-use Rattle.im_base_types.specs.Answers.{Insert, Delete}
+use Rattle.im_base_types.specs.Answers.{Insert}
 use Rattle.im_base_types.specs.Pages.{Page}
 use Rattle.im_base_disk.specs.declared.disk.Disk.{Ghosts}
-use Rattle.im_page_pool.specs.declared.frame.Frame.{Frame}
 use Rattle.im_page_pool.specs.Pool.{PoolView, page_at}
 use Rattle.im_page_writer.specs.declared.page_writer.PageWriter.{PageWriter}
-use Rattle.im_page_writer.specs.Outcome.{fault_of, mild, no_page, AllPages, AreLoaded, HasPages, IsSound, Outcome as Ends, Reads}
-use Rattle.im_theory_machine.specs.Changing.{asked_begun}
+use Rattle.im_page_writer.specs.Outcome.{fault_of, AllPages, AreLoaded, HasPages, IsSound, Reads}
 use Rattle.im_theory_machine.specs.Locks.{Request}
 use Rattle.im_theory_machine.specs.Rows.{asked}
 use Rattle.im_theory_machine.specs.Table.{Table, Decides}
@@ -35,12 +33,12 @@ use Rattle.im_tree_search.specs.Levels.{bodies_of}
 use Rattle.im_tree_search.specs.Sights.{HasTreeBut, IfSeen}
 use Rattle.im_smo_pages.specs.Images.{Numbered, IsRising}
 use Rattle.im_smo_split.specs.declared.split_plan.SplitPlan.{SplitPlan}
-use Rattle.im_smo_split.specs.Plan.{IsOver, IsWithin, Planned}
+use Rattle.im_smo_split.specs.Plan.{IsOver, Planned}
 use Rattle.im_smo_split.specs.Tops.{HasRoomFor, LacksRoomFor}
 use Rattle.im_smo_split.proofs.OneLeaf.{one_leaf}
 use Rattle.im_smo_split.proofs.Reasons.{never_pages_full}
 use Rattle.im_smo_actions.specs.declared.planned_change.PlannedChange.{PlannedChange}
-use Rattle.im_smo_actions.specs.GoingBeside.{is_planned, HasWholeTreeBut}
+use Rattle.im_smo_actions.specs.GoingBeside.{is_planned}
 use Rattle.im_smo_actions.proofs.Told.{none_made}
 use Rattle.im_engine_index.specs.declared.change_plan.Coming.{Coming}
 use Rattle.im_engine_index.specs.declared.change_plan.Coming.TheVariants.{There, Fits, Splits, UsedUp}
@@ -48,10 +46,10 @@ use Rattle.im_engine_index.specs.declared.lock_answer.LockAnswer.{LockAnswer}
 use Rattle.im_engine_index.specs.declared.lock_answer.LockAnswer.TheVariants.{Granted, Wait, Die}
 use Rattle.im_engine_index.specs.declared.plan.Plan as plans
 use Rattle.im_engine_index.specs.declared.plan.Plan.{Plan}
-use Rattle.im_engine_index.specs.Barred.{Bars, IsBarred, IsBarredOff, TreeCause}
-use Rattle.im_engine_index.specs.ChangePlans.{asks_of, ComingKept, ComingPlanned, IsComing, IsComingDecided, KeyFits}
-use Rattle.im_engine_index.specs.Edits.{HasOne, IsLimited}
-use Rattle.im_engine_index.specs.InsertPlans.{IsInsertPlan, PlanKept}
+use Rattle.im_engine_index.specs.Barred.{Bars, IsBarred, TreeCause}
+use Rattle.im_engine_index.specs.ChangePlans.{asks_of, ComingKept, ComingPlanned, IsComing, IsComingDecided}
+use Rattle.im_engine_index.specs.Edits.{IsLimited}
+use Rattle.im_engine_index.specs.InsertPlans.{IsInsertPlan}
 use Rattle.im_engine_index.specs.LockAnswers.{verdict_of, IfGranted}
 use Rattle.im_engine_index.specs.LockCalls.{AsksLocks}
 use Rattle.im_engine_index.proofs.Calls.{decided_as}

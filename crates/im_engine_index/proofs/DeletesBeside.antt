@@ -1,16 +1,15 @@
 -- A delete beside a structure change of another, by how it goes on behind what was laid down.
-use Rattle.std.proofs.Common.{◌≡◌, ◌≢◌, inl, inr, ◌∷◌, ◌≤◌, ℕ, Bool, true, false, [], List, length, is_some, Option, None, Some, Result, Ok, Err, refl, sym, ◌∙◌, ap, subst, cond}
+use Rattle.std.proofs.Common.{◌≡◌, ◌≢◌, ◌≤◌, ℕ, true, false, Option, None, Some, Result, Ok, Err, refl, sym, ◌∙◌, ap, subst}
 use Rattle.std.specs.Prelude.{IsErrAnd}
 use Rattle.std.specs.FinMap.{entries, get}
 use Rattle.im_base_types.specs.declared.fault.Fault.{Fault}
 use Rattle.im_base_types.specs.declared.fault.Fault.TheVariants.{Memory}
 use Rattle.im_base_types.specs.Keys.{Key}
-use Rattle.im_base_types.specs.Changes.{Change, Drop}
-use Rattle.im_base_types.specs.Answers.{Delete, changes, dropped}
+use Rattle.im_base_types.specs.Changes.{Drop}
+use Rattle.im_base_types.specs.Answers.{Delete, dropped}
 use Rattle.im_base_types.specs.Records.{DeleteKey}
 use Rattle.im_theory_log.specs.Histories.{Base, History}
-use Rattle.im_theory_log.specs.Lawful as lawful
-use Rattle.im_theory_log.specs.Structure.{open_smo, settled}
+use Rattle.im_theory_log.specs.Structure.{settled}
 use Rattle.im_theory_log.specs.Lawful.{IsNotIn}
 use Rattle.im_theory_log.specs.Transactions.{contents}
 use Rattle.im_theory_log.specs.Writer.{Writer}
@@ -20,9 +19,8 @@ use Rattle.im_page_writer.specs.Outcome.{mild, no_page, AreLoaded, Logs, Outcome
 use Rattle.im_page_writer.specs.PageWriter.{Evicted}
 use Rattle.im_theory_machine.specs.Rows.{asked}
 use Rattle.im_theory_machine.specs.Table.{Table, Decides}
-use Rattle.im_theory_machine.specs.declared.verdict.Verdict.TheVariants.{Granted as GrantedAll, Wait as MustWait, Die as MustDie}
+use Rattle.im_theory_machine.specs.declared.verdict.Verdict.TheVariants.{Granted as GrantedAll}
 use Rattle.im_theory_tree.specs.Levels.{walk}
-use Rattle.im_theory_tree.specs.Search.{IsOnWay}
 use Rattle.im_tree_search.specs.declared.change_beside.Beside.{Beside}
 use Rattle.im_tree_search.specs.declared.sight.Sight.{Sight}
 use Rattle.im_tree_search.specs.declared.sight.Sight.TheVariants.{Seen, Hidden}
@@ -39,8 +37,8 @@ use Rattle.im_engine_index.specs.declared.lock_answer.LockAnswer.{LockAnswer}
 use Rattle.im_engine_index.specs.declared.lock_answer.LockAnswer.TheVariants.{Granted, Wait, Die}
 use Rattle.im_engine_index.specs.Barred.{Bars, TreeCause}
 use Rattle.im_engine_index.specs.ChangePlans.{IsLeaving, IsLeavingDecided, KeyEmpties, KeyTakes, LeavingKept}
-use Rattle.im_engine_index.specs.EditsBeside.{DeleteBesideKept, IsDeleting, LeavingLogKept, MayEditBeside, MayLeave}
-use Rattle.im_engine_index.specs.KeyLogs.{IsGoingOn, KeyLogKept, LeavesEdit, MayTake}
+use Rattle.im_engine_index.specs.EditsBeside.{DeleteBesideKept, LeavingLogKept, MayEditBeside, MayLeave}
+use Rattle.im_engine_index.specs.KeyLogs.{KeyLogKept, LeavesEdit, MayTake}
 use Rattle.im_engine_index.specs.LockAnswers.{verdict_of, IfGranted}
 use Rattle.im_engine_index.proofs.OwnChanges.{delete_begun}
 use Rattle.im_engine_index.proofs.EditsBeside.{going_evicted, going_left, going_tree, left_on, logged_on, may_take_on}

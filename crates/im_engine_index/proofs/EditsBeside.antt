@@ -1,20 +1,19 @@
 -- What an insert or a delete logs beside a structure change of another, and where it begins one of its own.
-use Rattle.std.proofs.Common.{◌≡◌, ◌≢◌, inl, inr, ◌≤◌, ◌<◌, ℕ, zero, suc, Bool, true, false, List, [], ◌∷◌, ◌++◌, length, None, Some, Option, Result, Ok, Err, refl, sym, ◌∙◌, ap, subst, arith}
-use Rattle.std.specs.Prelude.{not, cond, ◌==◌, IsErrAnd, IsSome}
+use Rattle.std.proofs.Common.{◌≡◌, inl, inr, ◌≤◌, ℕ, Bool, true, false, List, [], ◌∷◌, length, None, Some, Option, sym, ◌∙◌, ap, subst, arith}
+use Rattle.std.specs.Prelude.{not, cond, ◌==◌}
 use Rattle.std.specs.Ordering.{eq_by_cmp}
 use Rattle.std.specs.FinMap.{get}
 use Rattle.std.specs.FinMap.Entries.{find}
 use Rattle.std.proofs.Math.Path.{fun_ext}
 use Rattle.std.proofs.lemmas.Bool.{cases_Bool, cases_eq, cond-true, cond-false, eq-eqb, ne_eqb}
 use Rattle.im_base_types.specs.declared.fault.Fault.{Fault}
-use Rattle.im_base_types.specs.declared.fault.Fault.TheVariants.{Failed, NotAStore}
 use Rattle.im_base_types.specs.Keys.{Key, key_order}
 use Rattle.im_base_types.specs.Maps.{IndexMap, without_key}
-use Rattle.im_base_types.specs.Pages.{Body, Entry, Page}
+use Rattle.im_base_types.specs.Pages.{Entry, Page}
 use Rattle.im_base_types.specs.Changes.{Effect, Touches}
-use Rattle.im_base_types.specs.Records.{InsertKey, DeleteKey, What, Logged}
+use Rattle.im_base_types.specs.Records.{What}
 use Rattle.im_theory_log.specs.Copies.{GrowsByImages}
-use Rattle.im_theory_log.specs.Histories.{Base, History, IsFront}
+use Rattle.im_theory_log.specs.Histories.{Base, History}
 use Rattle.im_theory_log.specs.Lawful.{IsLawful, IsNotIn, IsOutside}
 use Rattle.im_theory_log.specs.Lawful as lawful
 use Rattle.im_theory_log.specs.Structure.{open_smo, settled}
@@ -25,32 +24,25 @@ use Rattle.im_base_disk.specs.declared.disk.Disk.{Ghosts}
 use Rattle.im_log.proofs.Above.{front_then}
 use Rattle.im_page_table.proofs.Growing.{grows_then}
 use Rattle.im_page_writer.specs.declared.page_writer.PageWriter.{PageWriter}
-use Rattle.im_page_writer.specs.Outcome.{AllPages, AreLoaded, IsSound, Outcome as Ends}
-use Rattle.im_page_writer.specs.PageWriter.{Evicted, GoesOn, StandsAs}
-use Rattle.im_page_writer.specs.Writing.{LeavesGrown}
+use Rattle.im_page_writer.specs.Outcome.{AllPages, AreLoaded, Outcome as Ends}
+use Rattle.im_page_writer.specs.PageWriter.{Evicted, GoesOn}
 use Rattle.im_page_writer.proofs.Outcomes.{leaves_of_end}
 use Rattle.im_theory_page.specs.Split.{HasRoom}
-use Rattle.im_theory_steps.specs.Growth.{GrowsWithin}
-use Rattle.im_theory_steps.specs.Steps.{key_record}
 use Rattle.im_theory_tree.specs.Levels.{Pages}
 use Rattle.im_theory_tree.specs.Search.{IsOnWay}
-use Rattle.im_theory_tree.specs.Theory.{page_tree}
-use Rattle.im_theory_tree.specs.Ways.{StandsFor, with_leaf}
+use Rattle.im_theory_tree.specs.Ways.{with_leaf}
 use Rattle.im_tree_search.specs.declared.change_beside.Beside.{Beside}
 use Rattle.im_tree_search.specs.Levels.{bodies_of}
 use Rattle.im_smo_pages.specs.Bodies.{says}
-use Rattle.im_smo_pages.specs.Images.{Numbered, IsRising, image_of, held}
-use Rattle.im_smo_pages.specs.OnWay.{IsApart}
 use Rattle.im_smo_drop_leaf.specs.Emptied.{emptied}
-use Rattle.im_smo_log.specs.Under.{IsUnderWay}
 use Rattle.im_smo_log.proofs.ChangeLogs.{images_lawful}
 use Rattle.im_smo_actions.specs.GoingBeside.{settled_pages, IsToldOf, HasWholeTreeBut}
 use Rattle.im_smo_actions.proofs.Growth.{images_as_change}
 use Rattle.im_smo_actions.proofs.Standing.{left_images, stands_ready}
 use Rattle.im_smo_actions.proofs.Told.{plans_have_trees}
-use Rattle.im_engine_index.specs.KeyLogs.{IsGoingOn, KeyLogged, KeyLogKept, LeavesEdit, MayPut, MayTake}
+use Rattle.im_engine_index.specs.KeyLogs.{IsGoingOn, KeyLogged, LeavesEdit, MayPut, MayTake}
 use Rattle.im_engine_index.proofs.Inserts.{edit_then}
-use Rattle.im_engine_index.proofs.KeyLogs.{grows_within, left_edit, open_longer, owner_some, settled_longer, unchanged}
+use Rattle.im_engine_index.proofs.KeyLogs.{grows_within, left_edit, open_longer, settled_longer, unchanged}
 
 -- ---- pages of which one has no entries
 

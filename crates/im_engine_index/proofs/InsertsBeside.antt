@@ -1,16 +1,15 @@
 -- An insert beside a structure change of another, by how it goes on behind what was laid down.
-use Rattle.std.proofs.Common.{◌≡◌, ◌≢◌, ◌⊎◌, inl, inr, ◌∷◌, ◌≤◌, ℕ, Bool, true, false, [], List, length, is_some, Option, None, Some, Result, Ok, Err, refl, sym, ◌∙◌, ap, subst, cond}
-use Rattle.std.specs.Prelude.{IsErrAnd, IfErr, IfOk}
+use Rattle.std.proofs.Common.{◌≡◌, ◌≢◌, ◌⊎◌, inl, inr, ◌∷◌, ◌≤◌, ℕ, Bool, true, false, [], is_some, Option, None, Some, Result, Ok, Err, refl, sym, ◌∙◌, ap, subst, cond}
+use Rattle.std.specs.Prelude.{IsErrAnd}
 use Rattle.std.specs.FinMap.{entries, get}
 use Rattle.im_base_types.specs.declared.fault.Fault.{Fault}
 use Rattle.im_base_types.specs.declared.fault.Fault.TheVariants.{Capacity, Device, Failed, LogFull, Memory, NotAStore, PagesFull}
 use Rattle.im_base_types.specs.Keys.{Key}
 use Rattle.im_base_types.specs.Maps.{IndexMap}
-use Rattle.im_base_types.specs.Changes.{Change, Put}
-use Rattle.im_base_types.specs.Answers.{Insert, changes}
+use Rattle.im_base_types.specs.Changes.{Put}
+use Rattle.im_base_types.specs.Answers.{Insert}
 use Rattle.im_base_types.specs.Records.{InsertKey}
 use Rattle.im_theory_log.specs.Histories.{Base}
-use Rattle.im_theory_log.specs.Lawful as lawful
 use Rattle.im_theory_log.specs.Structure.{settled}
 use Rattle.im_theory_log.specs.Transactions.{contents}
 use Rattle.im_theory_log.specs.Writer.{Writer}
@@ -20,20 +19,15 @@ use Rattle.im_page_writer.specs.Outcome.{mild, no_page, none_mild, AreLoaded, Lo
 use Rattle.im_page_writer.specs.PageWriter.{Evicted, StandsAs}
 use Rattle.im_page_writer.specs.Writing.{LeavesGrown}
 use Rattle.im_page_writer.proofs.Writers.{goes_on_then}
-use Rattle.im_theory_machine.specs.Changing.{asked_begun}
-use Rattle.im_theory_machine.specs.Rows.{asked}
 use Rattle.im_theory_machine.specs.Table.{Table, Decides}
-use Rattle.im_theory_machine.specs.declared.verdict.Verdict.TheVariants.{Granted as GrantedAll, Wait as MustWait, Die as MustDie}
+use Rattle.im_theory_machine.specs.declared.verdict.Verdict.TheVariants.{Granted as GrantedAll}
 use Rattle.im_theory_tree.specs.Levels.{walk}
 use Rattle.im_tree_search.specs.declared.change_beside.Beside.{Beside}
 use Rattle.im_tree_search.specs.declared.sight.Sight.{Sight}
 use Rattle.im_tree_search.specs.declared.sight.Sight.TheVariants.{Seen, Hidden}
 use Rattle.im_tree_search.specs.Levels.{bodies_of}
 use Rattle.im_tree_search.specs.Sights.{IfSeen}
-use Rattle.im_smo_log.specs.Stepping.{Stepped}
 use Rattle.im_smo_split.specs.Kept.{mild_to_split}
-use Rattle.im_smo_split.specs.Plan.{IsOver}
-use Rattle.im_smo_split.specs.Tops.{LacksRoomFor}
 use Rattle.im_smo_actions.specs.declared.begun_change.BegunChange.{BegunChange}
 use Rattle.im_smo_actions.specs.declared.planned_change.PlannedChange.{PlannedChange}
 use Rattle.im_smo_actions.specs.GoingBeside.{settled_pages, HasWholeTreeBut}
@@ -45,14 +39,14 @@ use Rattle.im_engine_index.specs.declared.change_plan.Coming.{Coming}
 use Rattle.im_engine_index.specs.declared.change_plan.Coming.TheVariants.{There, Fits, Splits, UsedUp}
 use Rattle.im_engine_index.specs.declared.lock_answer.LockAnswer.{LockAnswer}
 use Rattle.im_engine_index.specs.declared.lock_answer.LockAnswer.TheVariants.{Granted, Wait, Die}
-use Rattle.im_engine_index.specs.Barred.{Bars, IsBarredOff, TreeCause}
+use Rattle.im_engine_index.specs.Barred.{Bars, TreeCause}
 use Rattle.im_engine_index.specs.ChangePlans.{ComingKept, IsComing, IsComingDecided, KeyFits, KeySplits, asks_of, asks_row, begins, wants_numbers}
 use Rattle.im_engine_index.specs.Edits.{IsLimited}
-use Rattle.im_engine_index.specs.EditsBeside.{has_begun, ComingLogKept, FirstKept, InsertBesideKept, IsAskedFor, IsInserting, MayCome, MayEditBeside}
+use Rattle.im_engine_index.specs.EditsBeside.{has_begun, ComingLogKept, FirstKept, InsertBesideKept, IsAskedFor, MayCome, MayEditBeside}
 use Rattle.im_engine_index.specs.KeyLogs.{IsGoingOn, KeyLogKept, LeavesEdit, MayPut}
 use Rattle.im_engine_index.proofs.Deletes.{log_works}
 use Rattle.im_engine_index.proofs.Planning.{late_why}
-use Rattle.im_engine_index.proofs.OwnChanges.{begun_goes, insert_begun}
+use Rattle.im_engine_index.proofs.OwnChanges.{insert_begun}
 use Rattle.im_engine_index.proofs.EditsBeside.{going_evicted, going_left, going_on, going_tree, left_on, logged_on, may_put_on}
 use Rattle.im_engine_index.proofs.KeyLogs.{left_edit, settled_walk}
 

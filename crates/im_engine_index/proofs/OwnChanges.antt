@@ -1,8 +1,7 @@
 -- A structure change of its own that an insert or a delete begins, and the end of an insert behind one.
-use Rattle.std.proofs.Common.{◌≡◌, ◌≢◌, inl, inr, ◌≤◌, ◌<◌, ℕ, suc, Bool, true, false, List, [], ◌∷◌, length, None, Some, Option, Result, Ok, Err, refl, sym, ◌∙◌, ap, subst, arith}
-use Rattle.std.specs.Prelude.{IsSome, ◌⊎◌, ◌-◌, ◌==◌}
+use Rattle.std.proofs.Common.{◌≡◌, ◌≢◌, inl, inr, ◌≤◌, ℕ, suc, true, List, [], ◌∷◌, length, None, Some, Option, Result, Ok, Err, refl, sym, ◌∙◌, ap, subst, arith}
+use Rattle.std.specs.Prelude.{IsSome, ◌⊎◌, ◌==◌}
 use Rattle.std.specs.FinMap.{get}
-use Rattle.std.specs.FinMap.Entries.{find}
 use Rattle.std.proofs.Math.Path.{fun_ext}
 use Rattle.std.proofs.lemmas.Bool.{cond-false, ne_eqb}
 use Rattle.im_base_types.specs.declared.page_kind.PageKind.TheVariants.{Leaf, Meta}
@@ -11,32 +10,28 @@ use Rattle.im_base_types.specs.Keys.{Key}
 use Rattle.im_base_types.specs.Maps.{IndexMap, without_key}
 use Rattle.im_base_types.specs.Pages.{Body, Page}
 use Rattle.im_base_types.specs.Changes.{Effect, Touches}
-use Rattle.im_base_types.specs.Records.{InsertKey, DeleteKey, DummyClr, Logged}
-use Rattle.im_theory_log.specs.Histories.{Base, History, IsFront}
-use Rattle.im_theory_log.specs.Lawful.{IsLawful, IsNotIn, IsOutside}
+use Rattle.im_base_types.specs.Records.{InsertKey, DeleteKey, Logged}
+use Rattle.im_theory_log.specs.Histories.{Base, History}
+use Rattle.im_theory_log.specs.Lawful.{IsNotIn, IsOutside}
 use Rattle.im_theory_log.specs.Structure.{open_smo, settled}
 use Rattle.im_theory_log.specs.Transactions.{contents}
 use Rattle.im_theory_log.specs.Writer.{Writer}
 use Rattle.im_theory_log.specs.WriterSteps.{appended}
-use Rattle.im_theory_log.proofs.Histories.{front_self}
 use Rattle.im_base_disk.specs.declared.disk.Disk.{Ghosts}
 use Rattle.im_base_disk.proofs.Runs.{weakened}
-use Rattle.im_log_record.specs.Entry as entries
 use Rattle.im_log.proofs.Above.{front_then}
 use Rattle.im_page_file.specs.Stands.{IsCovered, LeavesCovered}
 use Rattle.im_page_table.specs.KnownCopies.{changed_as}
 use Rattle.im_page_table.proofs.Growing.{grows_then}
 use Rattle.im_page_writer.specs.declared.page_writer.PageWriter.{PageWriter}
-use Rattle.im_page_writer.specs.Outcome.{AllPages}
-use Rattle.im_page_writer.specs.PageWriter.{GoesOn, LoggedOnly}
+use Rattle.im_page_writer.specs.PageWriter.{GoesOn}
 use Rattle.im_theory_page.specs.Split.{HasRoom}
-use Rattle.im_theory_steps.specs.Growth.{GrowsByStructure, GrowsWithin, IsRestructured}
+use Rattle.im_theory_steps.specs.Growth.{GrowsWithin, IsRestructured}
 use Rattle.im_theory_steps.specs.Steps.{key_record}
 use Rattle.im_theory_steps.proofs.Growth.{structure_changes_no_key}
 use Rattle.im_theory_tree.specs.Levels.{Pages}
 use Rattle.im_theory_tree.specs.Good.{IsGoodTree}
 use Rattle.im_theory_tree.specs.Search.{IsOnWay}
-use Rattle.im_theory_tree.specs.Theory.{page_tree}
 use Rattle.im_theory_tree.specs.Ways.{StandsFor, with_leaf}
 use Rattle.im_theory_tree.proofs.LookupLemmas.{way_leaf}
 use Rattle.im_tree_search.specs.declared.change_beside.Beside.{Beside}
@@ -61,7 +56,7 @@ use Rattle.im_smo_actions.specs.declared.planned_change.PlannedChange.{PlannedCh
 use Rattle.im_smo_actions.specs.GoingBeside.{settled_pages, IsToldOf}
 use Rattle.im_smo_actions.proofs.Told.{deletions_stand, splits_stand}
 use Rattle.im_engine_index.specs.ChangePlans.{KeyEmpties, KeySplits}
-use Rattle.im_engine_index.specs.EditsBeside.{DeleteBegun, InsertBegun, InsertEnded, InsertEndKept, KeyGoesTo, MayEnd}
+use Rattle.im_engine_index.specs.EditsBeside.{DeleteBegun, InsertBegun, InsertEndKept, KeyGoesTo, MayEnd}
 use Rattle.im_engine_index.specs.KeyLogs.{IsGoingOn, KeyLogged, KeyLogKept, LeavesEdit, LeftByEdit, MayPut}
 use Rattle.im_engine_index.proofs.EditsBeside.{emptied_is, going_on, none_left, settled_on}
 use Rattle.im_engine_index.proofs.Inserts.{edit_then}

@@ -1,5 +1,5 @@
 -- What an insert or a delete keeps beside a structure change of another, and where it begins one of its own that goes on over several steps.
-use Rattle.std.specs.Prelude.{◌≡◌, ◌≢◌, ◌≤◌, ℕ, Bool, true, false, List, [], ◌∷◌, length, None, Some, Result, IfOk, IfErr}
+use Rattle.std.specs.Prelude.{◌≡◌, ◌≢◌, ℕ, Bool, true, false, List, [], ◌∷◌, None, Some, Result, IfOk, IfErr}
 use Rattle.std.specs.FinMap.{get}
 use Rattle.im_base_types.specs.declared.fault.Fault.{Fault}
 use Rattle.im_base_types.specs.declared.fault.Fault.TheVariants.{Capacity, Failed, PagesFull}
@@ -49,7 +49,6 @@ use Rattle.im_engine_index.specs.declared.begun.Deleting.TheVariants.{Gone, Take
 use Rattle.im_engine_index.specs.declared.change_plan.Coming.{Coming}
 use Rattle.im_engine_index.specs.declared.change_plan.Coming.TheVariants.{Fits, Splits, UsedUp}
 use Rattle.im_engine_index.specs.declared.change_plan.Leaving.{Leaving}
-use Rattle.im_engine_index.specs.declared.change_plan.Leaving.TheVariants.{Takes}
 use Rattle.im_engine_index.specs.declared.lock_answer.LockAnswer.{LockAnswer}
 use Rattle.im_engine_index.specs.declared.lock_answer.LockAnswer.TheVariants.{Granted, Wait, Die}
 use Rattle.im_engine_index.specs.Barred.{Bars, IsBarredOff, TreeCause}

@@ -1,4 +1,4 @@
-use Rattle.std.proofs.Common.{◌≡◌, ◌∙◌, Some, ap, is_some, refl, sym, subst}
+use Rattle.std.proofs.Common.{ap, is_some, refl, sym, subst}
 use Rattle.im_page_writer.proofs.Outcomes.{pages_still, refused, then, read_more}
 use Rattle.im_page_writer.specs.Outcome.{mild}
 use Rattle.im_tree_search.specs.Found.{IsReached}

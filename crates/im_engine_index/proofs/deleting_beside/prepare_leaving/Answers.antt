@@ -1,6 +1,5 @@
-use Rattle.std.proofs.Common.{◌≡◌, None, Some, false, true, inl, inr, is_some, refl, sym, ◌∙◌, ap, subst, length, ◌≢◌, ◌⊎◌}
+use Rattle.std.proofs.Common.{◌≡◌, None, Some, inl, inr, is_some, refl, sym, ◌∙◌, ap}
 use Rattle.std.specs.FinMap.{get}
-use Rattle.im_base_types.specs.Pages.{Page}
 use Rattle.im_page_writer.specs.Outcome.{mild}
 use Rattle.im_page_writer.proofs.Outcomes.{refused, then, read_more}
 use Rattle.im_tree_search.specs.Beside.{on_way}

@@ -1,5 +1,4 @@
-use Rattle.std.proofs.Common.{◌≡◌, ℕ, Result, refl, sym, subst}
-use Rattle.im_base_types.specs.declared.fault.Fault.{Fault}
+use Rattle.std.proofs.Common.{ℕ, sym, subst}
 use Rattle.im_base_types.specs.Records.{InsertKey}
 use Rattle.im_page_writer.specs.Outcome.{fault_of}
 use Rattle.im_page_writer.proofs.Outcomes.{log_refused, logs_late, sound_on}

@@ -1,5 +1,4 @@
 use Rattle.std.proofs.Common.{refl, Some, ◌∙◌, subst}
-use Rattle.im_page_writer.proofs.LoggedChanges.{err_on}
 use Rattle.im_page_writer.proofs.Outcomes.{pages_still, refused, then, with_more}
 use Rattle.im_smo_split.specs.Kept.{mild_to_split}
 use Rattle.im_smo_split.proofs.Reasons.{mild_splits, never_pages_full}
@@ -8,7 +7,6 @@ use Rattle.im_tree_search.specs.Levels.{bodies_of}
 use Rattle.im_engine_index.specs.InsertPlans.{IsInsertPlan}
 use Rattle.im_engine_index.proofs.Comings.{plan_coming_refused, plan_splits, plan_used_up}
 use Rattle.im_engine_index.proofs.Names.{walk_says_map}
-use Rattle.im_engine_index.proofs.Planning.{none_used_up}
 use Rattle.im_engine_index.proofs.inserting_beside.plan_coming.Goals as goal
 
 pub returns-in_err-pages-clause-kept : goal.returns-in_err-pages-clause-kept

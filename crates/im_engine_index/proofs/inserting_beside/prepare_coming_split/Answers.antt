@@ -1,4 +1,4 @@
-use Rattle.std.proofs.Common.{Some, refl, sym, ◌∙◌, subst}
+use Rattle.std.proofs.Common.{Some, refl, sym, subst}
 use Rattle.im_page_writer.proofs.LoggedChanges.{err_on}
 use Rattle.im_page_writer.proofs.Outcomes.{pages_still, refused, then, with_more, read_more}
 use Rattle.im_tree_search.specs.Found.{IsReached}
