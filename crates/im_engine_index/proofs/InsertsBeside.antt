@@ -1,6 +1,6 @@
 -- An insert beside a structure change of another, by how it goes on behind what was laid down.
 use Rattle.std.proofs.Common.{◌≡◌, ◌≢◌, ◌⊎◌, inl, inr, ◌∷◌, ◌≤◌, ℕ, Bool, true, false, [], is_some, Option, None, Some, Result, Ok, Err, refl, sym, ◌∙◌, ap, subst, cond}
-use Rattle.std.specs.Prelude.{IsErrAnd}
+use Rattle.std.specs.Prelude.{IsErrAnd, IfErr}
 use Rattle.std.specs.FinMap.{entries, get}
 use Rattle.im_base_types.specs.declared.fault.Fault.{Fault}
 use Rattle.im_base_types.specs.declared.fault.Fault.TheVariants.{Capacity, Device, Failed, LogFull, Memory, NotAStore, PagesFull}
@@ -15,7 +15,7 @@ use Rattle.im_theory_log.specs.Transactions.{contents}
 use Rattle.im_theory_log.specs.Writer.{Writer}
 use Rattle.im_base_disk.specs.declared.disk.Disk.{Ghosts}
 use Rattle.im_page_writer.specs.declared.page_writer.PageWriter.{PageWriter}
-use Rattle.im_page_writer.specs.Outcome.{mild, no_page, none_mild, AreLoaded, LogEnds, Logs, Outcome as Ends}
+use Rattle.im_page_writer.specs.Outcome.{fault_of, mild, no_page, none_mild, AreLoaded, LogEnds, Logs, Outcome as Ends}
 use Rattle.im_page_writer.specs.PageWriter.{Evicted, StandsAs}
 use Rattle.im_page_writer.specs.Writing.{LeavesGrown}
 use Rattle.im_page_writer.proofs.Writers.{goes_on_then}
@@ -106,6 +106,11 @@ put_logs {D} d {v} {old} {w} {new} {why} works one = record { ready = one.ready;
     by (Some Device) ends = ends
     by (Some LogFull) ends = ends
     by (Some f) ends = absurd (let clash : false ≡ true = ends.0 in let never : ⊥ = cc clash in never)
+
+-- and so it never fails
+pub put_works : {D : Type 0} (d : Ghosts D) {A : Type 0} {v : PageWriter} {old : D} {w : PageWriter} {new : D} (r : Result A Fault) → v.failed ≡ false → Logs d false no_page v old w new (fault_of r) → IfErr r (λ e. e ≢ Failed)
+put_works {D} d {A} {v} {old} {w} {new} (Ok a) works one = tt
+put_works {D} d {A} {v} {old} {w} {new} (Err e) works one = log_works d works one
 
 -- what is laid down has no refusal for want of memory or pages
 pub laid_never : {D : Type 0} (d : Ghosts D) {v : PageWriter} {old : D} {w : PageWriter} {new : D} {f : Fault} → Logs d true wants_numbers v old w new (Some f) → (f ≡ Memory) ⊎ (f ≡ PagesFull) → ⊥

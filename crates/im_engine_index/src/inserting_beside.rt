@@ -2,7 +2,7 @@
 
 ghost use Rattle.std.specs.Prelude.{◌≡◌, ◌≢◌, ◌≤◌, ◌<◌, ◌⊎◌, ℕ, [], None, Some, length, false, true, IfOk, IfErr, OnErr};
 ghost use Rattle.std.specs.FinMap.{entries, get};
-ghost use Rattle.im_base_types.specs.declared.fault.Fault.TheVariants.{Memory, PagesFull, Capacity};
+ghost use Rattle.im_base_types.specs.declared.fault.Fault.TheVariants.{Memory, PagesFull, Capacity, Failed};
 ghost use Rattle.im_base_types.specs.Answers.{Insert};
 ghost use Rattle.im_base_types.specs.Maps.{IndexMap};
 ghost use Rattle.im_theory_log.specs.Histories.{Base};
@@ -321,7 +321,8 @@ pub fn insert_beside<D: Disk>(
 /// Ends an insert whose leaf was split first: all pages of its change are logged. It closes the change, and puts the key into the page that
 /// `insert_beside` answered beside it. It answers the LSN of the key's record, the transaction's newest, from which its undo goes on.
 ///
-/// It wants no memory; refused `LogFull` or `Device`, and otherwise as `PageWriter::log_change` is, behind the record that closes the change.
+/// It wants no memory, and a writer that works refuses it `LogFull` or `Device` alone; or, where a page's bytes are none, `NotAStore` behind the
+/// record that closes the change.
 pub fn insert_end<D: Disk>(
     writer: &mut PageWriter,
     disk: &mut D,
@@ -338,6 +339,7 @@ pub fn insert_end<D: Disk>(
     ensures outcome { Logs D.Disk true none_mild writer.old disk.old writer.new disk.new (fault_of result) }
     ensures kept { (b : Base) (base : ℕ) (s : Writer) (e : ℕ) → MayEnd D.Disk b base s e change.now page key.now writer.old disk.old
         → InsertEndKept D.Disk b base s e change.now page key.now rid disk.old writer.new disk.new result }
+    ensures never { IfErr result (λ e. e ≢ Failed) }
 {
     let last = change.close(writer, disk)?;
     log_insert(writer, disk, change.owner(), last, page, key, rid)

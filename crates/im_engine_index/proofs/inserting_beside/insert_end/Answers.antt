@@ -3,7 +3,9 @@ use Rattle.im_base_types.specs.Records.{InsertKey}
 use Rattle.im_page_writer.specs.Outcome.{fault_of}
 use Rattle.im_page_writer.proofs.Outcomes.{log_refused, logs_late, sound_on}
 use Rattle.im_engine_index.specs.KeyLogs.{KeyLogKept, MayPut}
-use Rattle.im_engine_index.proofs.InsertsBeside.{end_logs}
+use Rattle.im_page_writer.proofs.LoggedChanges.{err_on}
+use Rattle.im_engine_index.proofs.Deletes.{log_works}
+use Rattle.im_engine_index.proofs.InsertsBeside.{end_logs, put_works}
 use Rattle.im_engine_index.proofs.OwnChanges.{close_refused, insert_ended, may_put_end, mid}
 use Rattle.im_engine_index.proofs.inserting_beside.insert_end.Goals as goal
 
@@ -34,3 +36,9 @@ returns-clause-kept g c b base s e may =
     subst (λ (t : ℕ). KeyLogKept g.D.Disk b base at e t c.in_ok-last.last a.page (InsertKey a.key.now a.rid) disk c.log_insert.new.writer c.log_insert.new.disk c.log_insert.result) c.owner.ensures
     (c.log_insert.ensures.kept b base at e a.change.now.undo_next (subst (λ (t : ℕ). MayPut g.D.Disk b base at e t c.in_ok-last.last a.change.now.undo_next a.page a.key.now w disk) (sym c.owner.ensures) put)) in
     insert_ended g.D.Disk b base s e a.change.now a.page a.key.now a.writer.now a.disk.now may a.change.now.owned c.requires.end c.in_ok-last.last w disk k.sound a.rid c.log_insert.new.writer c.log_insert.new.disk c.log_insert.result k.stops logged
+
+pub returns-in_err-last-clause-never : goal.returns-in_err-last-clause-never
+returns-in_err-last-clause-never g c = err_on c.from_residual.result _ _ c.from_residual.ensures.1 (log_works g.D.Disk c.requires.working c.in_err-last.ensures.outcome)
+
+pub returns-clause-never : goal.returns-clause-never
+returns-clause-never g c = put_works g.D.Disk c.log_insert.result c.in_ok-last.ensures.outcome.ends.works c.log_insert.ensures.outcome
