@@ -42,29 +42,25 @@ use Rattle.im_restart_analysis.specs.Losers.{has_record, is_loser}
 use Rattle.im_restart_analysis.specs.Undo.{ComesTo, IsNext}
 use Rattle.im_restart_analysis.proofs.Losers.{loser_from}
 use Rattle.im_restart_analysis.proofs.Undoing.{undo_goes_on}
-use Rattle.im_restart_undo.specs.declared.back.Back.TheVariants.{Plain}
 use Rattle.im_restart_undo.specs.Planning.{HiddenBack, page_made, way_made, leaf_planned, change_needed, NeedsChange}
 use Rattle.im_restart_undo.specs.GoingBeside.{IsGoingBeside}
 use Rattle.im_restart_undo.specs.Records.{GrowsByUndo}
 use Rattle.im_restart_undo.specs.Undoing.{IsToUndo, LeavesUndo, UsesUp}
 use Rattle.im_restart_undo.specs.Planning.{IsWayOfMade}
-use Rattle.im_restart_undo.proofs.Closed.{taken_closed}
 use Rattle.im_restart_undo.proofs.Growth.{grows_one, left_both, left_from}
 use Rattle.im_restart_undo.proofs.Plans.{never_planned}
 use Rattle.im_restart_undo.proofs.StructureLogs.{row_is}
 use Rattle.im_engine_rollback.specs.declared.undone.Undone.{Undone}
-use Rattle.im_engine_rollback.specs.declared.undone.Undone.TheVariants.{More, Ended}
 use Rattle.im_engine_rollback.specs.declared.undone_beside.UndoneBeside.{UndoneBeside}
 use Rattle.im_engine_rollback.specs.declared.undone_beside.UndoneBeside.TheVariants.{Made, Splits, Drops}
 use Rattle.im_engine_rollback.specs.EndsBeside.{EndIfUndoneBesideKept}
 use Rattle.im_engine_rollback.specs.SplitsBack.{IsSplitBack, ClosedBack, CloseDropKept, CloseSplitKept}
-use Rattle.im_engine_rollback.specs.Turns.{Took, Turned}
-use Rattle.im_engine_rollback.specs.TurnsBeside.{TakesPlain, TurnedBeside, TurnBesideKept}
+use Rattle.im_engine_rollback.specs.TurnsBeside.{TurnBesideKept}
 use Rattle.im_engine_rollback.specs.Ends.{may_be_full, may_turn, TurnOutcome}
 use Rattle.im_engine_rollback.proofs.Ends.{never_capacity, never_failed, never_memory}
 use Rattle.im_engine_rollback.proofs.LoggingBack.{drop_needs, split_needs}
 use Rattle.im_engine_rollback.proofs.SplitsBack.{reads_still}
-use Rattle.im_engine_rollback.proofs.Turning.{ended_now, went_closed}
+use Rattle.im_engine_rollback.proofs.Turning.{went_closed}
 
 -- ---- beside none
 
@@ -230,22 +226,6 @@ module _ {D : Type 0} (d : Ghosts D) (b : Base) (base : ℕ) where
       -- ---- the turn behind it
 
       module _ (beside : Beside) (none : beside.pages.now ≡ []) (w : PageWriter) (new : D) where
-        took_closed : (entry : Entry) (l n : ℕ) (v : PageWriter) (late : D) → IsToUndo d b base closed t entry → TakesPlain d b base closed e t l n beside entry mid v late → Took d b base closed e t l n mid v late
-        took_closed entry l n v late next took = record { entry = entry; next = next; taken = taken_closed d b base closed e t entry shut.going.can.closed mid v late (Plain took.page) l took.taken; leads = took.leads }
-
-        turned : (undone : Undone) → TurnedBeside d b base closed e t lsn undo_next beside mid w new (Made undone) → Turned d b base closed e t mid w new undone
-        unfolding took_closed taken_closed
-        turned (More l n) made = record { took = took_closed made.entry l n w new made.next.next made.took; left = made.left }
-        turned Ended made = record {
-          last = made.last;
-          undo_next = made.undo_next;
-          between = made.between;
-          mid = made.mid;
-          took = took_closed made.entry made.last made.undo_next made.between made.mid made.next.next made.took;
-          none = made.none;
-          end = ended_now d b base made.took.taken.now e t made.last w new (made.took.taken.going_on ∙ shut.going.can.closed) made.end;
-        }
-
         -- what is seen is made
         made_sight : (sight : Sight UndoneBeside) → TurnBesideKept d b base closed e t lsn undo_next beside mid w new (Ok sight) → (undone : Undone) × (sight ≡ Seen (Made undone))
         made_sight (Seen (Made undone)) k = (undone, refl)
@@ -259,7 +239,7 @@ module _ {D : Type 0} (d : Ghosts D) (b : Base) (base : ℕ) where
           split_closed sight k (Ok undone) made other =
               let kept : TurnBesideKept d b base closed e t lsn undo_next beside mid w new (Ok (Seen (Made undone))) = subst (λ (x : Sight UndoneBeside). TurnBesideKept d b base closed e t lsn undo_next beside mid w new (Ok x)) made k in
               record {
-                sound = record { lsn = lsn; closed = closed; between = between; mid = mid; shut = shut; turned = turned undone kept.sound };
+                sound = record { lsn = lsn; closed = closed; between = between; mid = mid; shut = shut; beside = beside; none = none; turned = kept.sound };
                 stops = left_closed old new left kept.stops;
                 never = tt;
               }

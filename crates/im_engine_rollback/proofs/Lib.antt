@@ -5,3 +5,4 @@ pub mod LoggingBack
 pub mod TurningBeside
 pub mod SplitsBack
 pub mod BehindChanges
+pub mod InSteps

@@ -4,3 +4,4 @@ pub mod Turns
 pub mod EndsBeside
 pub mod TurnsBeside
 pub mod SplitsBack
+pub mod InSteps

@@ -1,5 +1,5 @@
 -- A key that comes back into a leaf that is split first, over several steps; and what comes behind a structure change of a rollback.
-use Rattle.std.specs.Prelude.{◌≡◌, ◌⊎◌, ◌++◌, ℕ, true, List, ◌∷◌, Some, Result, IfErr}
+use Rattle.std.specs.Prelude.{◌≡◌, ◌⊎◌, ◌++◌, ℕ, true, List, [], ◌∷◌, Some, Result, IfErr}
 use Rattle.im_base_types.specs.declared.fault.Fault.{Fault}
 use Rattle.im_base_types.specs.declared.fault.Fault.TheVariants.{Capacity, Failed, Memory}
 use Rattle.im_base_types.specs.Keys.{Key}
@@ -26,8 +26,9 @@ use Rattle.im_smo_actions.specs.declared.planned_change.PlannedChange.{PlannedCh
 use Rattle.im_restart_undo.specs.GoingBeside.{IsGoingBeside}
 use Rattle.im_restart_undo.specs.Undoing.{IsGoing, IsToUndo, LeavesUndo}
 use Rattle.im_engine_rollback.specs.declared.undone.Undone.{Undone}
-use Rattle.im_engine_rollback.specs.Turns.{Turned, WentOn}
-use Rattle.im_engine_rollback.specs.TurnsBeside.{SplitsFirst}
+use Rattle.im_engine_rollback.specs.declared.undone_beside.UndoneBeside.TheVariants.{Made}
+use Rattle.im_engine_rollback.specs.Turns.{WentOn}
+use Rattle.im_engine_rollback.specs.TurnsBeside.{SplitsFirst, TurnedBeside}
 
 -- What the split is for: reading from where undo goes on behind it comes to a record that dropped this key, and the key's leaf behind it is this page, one of its images, with room for the key.
 pub record IsSplitBack (b : Base) (undo_next : ℕ) (images : List Numbered) (log : History) : Type 0 where
@@ -69,14 +70,16 @@ module _ {D : Type 0} (d : Ghosts D) (b : Base) (base : ℕ) where
     pub point : closed.point ≡ s.point
     pub durable : IsFront s.durable closed.durable
 
-  -- A split is closed, and then the key came back by a compensation alone, as in a turn where no change is open.
+  -- A split is closed, and then the key came back by a compensation alone, as in a turn beside no change.
   pub record SplitClosed (s : Writer) (e t last undo_next : ℕ) (w : PageWriter) (disk : D) (undone : Undone) : Type 0 where
     pub lsn : ℕ
     pub closed : Writer
     pub between : PageWriter
     pub mid : D
     pub shut : ClosedBack s e t last undo_next lsn closed between mid
-    pub turned : Turned d b base closed e t mid w disk undone
+    pub beside : Beside
+    pub none : beside.pages.now ≡ []
+    pub turned : TurnedBeside d b base closed e t lsn undo_next beside mid w disk (Made undone)
 
   -- A deletion is closed, and then the transaction ended, where it had nothing left to undo.
   pub record DropClosed (s : Writer) (e t last undo_next : ℕ) (w : PageWriter) (disk : D) (undone : Undone) : Type 0 where

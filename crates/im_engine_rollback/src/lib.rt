@@ -14,12 +14,14 @@
 //! hands out the one that is needed, in front of the compensation or behind it. What it did or planned is what im_restart_undo planned over the
 //! settled tree (`IsBack`), and where that is hidden it says why. A change that is handed out may begin at once (`IsUnderWay`), with all that wants
 //! memory had before the first record. Behind its last page `close_split` and `close_drop` go on with the turn that it interrupts: a split is then known
-//! to have made room (`IsSplitBack`), so that none is needed twice.
+//! to have made room (`IsSplitBack`), so that none is needed twice. `undo_in_steps` is `undo_beside` so far as one step goes: a change that it hands
+//! out has begun, a split with its first page.
 //!
 //! It stands on `im_restart_undo` for the one change, and on `im_restart_analysis` for what reading from record to record comes to.
 #![tactic(auto)]
 
 mod behind_changes;
+mod first_step;
 mod logged_back;
 mod next_record;
 mod split_laws;
@@ -27,10 +29,13 @@ mod step_beside;
 mod undo_step;
 mod undone;
 mod undone_beside;
+mod undone_in_steps;
 
 pub use behind_changes::{close_drop, close_split};
+pub use first_step::undo_in_steps;
 pub use split_laws::splits_go_on_back;
 pub use step_beside::undo_beside;
 pub use undo_step::{end_if_undone, undo_next};
 pub use undone::Undone;
 pub use undone_beside::UndoneBeside;
+pub use undone_in_steps::UndoneInSteps;
