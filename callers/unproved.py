@@ -16,12 +16,17 @@ import sys
 import tempfile
 
 LIBRARY = "im_capi"
-SEEN = {"im_size", "im_belong", "im_init", "im_step", "im_may_begin", "im_oldest", "im_earliest", "im_has_own", "im_is_left_alone"}
+SEEN = {"im_size", "im_belong", "im_left_log", "im_left_take", "im_is_older", "im_init", "im_step", "im_may_begin", "im_oldest", "im_earliest", "im_has_own", "im_is_left_alone"}
 MAIN = """
 fn main(rt: HostRuntime) {
     let _size = im_size();
     let none = im_base_guard::Front::NONE;
-    let _word = im_belong(&im_base_guard::Folder { log: none, log2: none, pages: im_base_guard::PagesFront::NONE });
+    let folder = im_base_guard::Folder { log: none, log2: none, pages: im_base_guard::PagesFront::NONE };
+    let _word = im_belong(&folder);
+    let mut left = im_base_guard::LeftLog::begin(&folder);
+    im_left_log(&folder, &mut left);
+    im_left_take(&mut left, &[0]);
+    let _older = im_is_older(&left, 0, 0);
     let asker = Asker { ticket: 0, mine: 0, came: 0, thread: 0, tick: 0, patience: 0 };
     let going = [Going { number: 0, seen: 0, thread: 0, had: 0, agains: 0 }];
     let _may = im_may_begin(&going, 0, &asker) || im_has_own(&going, 0) || im_is_left_alone(0, 0, 0);

@@ -309,6 +309,12 @@ struct folder { struct log_front log, log2; struct pages_front pages; };
 /* Whether they belong together: 0 where they do and no log was made, 1 where one was, and else why not, by a number. */
 uint32_t im_belong(const struct folder *folder);
 
+/* A walk over the log that was left: the place of the next byte that is wanted, the page of its newest change and whether it is over (src/left_log.rt). */
+struct left_log { uint64_t place, end, base, lsn, pages; uint32_t page; bool is_over, is_log2; };
+void im_left_log(const struct folder *folder, struct left_log *left);
+void im_left_take(struct left_log *left, const uint8_t *piece, size_t len);
+bool im_is_older(const struct left_log *left, uint64_t pages, uint64_t lsn);
+
 /* The words for these numbers. */
 static const char *const why_apart[] = {
 	[2] = "there is no `log` in it",
@@ -346,6 +352,43 @@ static int open_if_made(struct opening *o, int *fd, const char *name)
 	return is_there < 0 || (is_there && *fd < 0) ? -1 : 0;
 }
 
+/* Walks over a log to its end. */
+static int walk(struct opening *o, int fd, uint64_t len, struct left_log *left)
+{
+	uint8_t *room = malloc(TOLD_EACH);
+	if (!room)
+		return refuse(o, VAH_MEMORY, "out of memory");
+	for (uint64_t from = ~left->place; !left->is_over && left->place < len && left->place != from; ) {
+		size_t size = len - left->place < TOLD_EACH ? (size_t)(len - left->place) : TOLD_EACH;
+		from = left->place;
+		if (whole_at(fd, 0, room, size, (off_t)from)) {
+			free(room);
+			return refuse_system(o);
+		}
+		im_left_take(left, room, size);
+	}
+	free(room);
+	return 0;
+}
+
+/* Refused where the file of pages lacks the newest change of the log that was left. It stands for FileDisk's look_back. */
+static int look_back(struct opening *o, const int *files, const struct folder *folder)
+{
+	struct left_log left;
+	uint8_t bytes[8] = { 0 };
+	uint64_t lsn = 0, pages = folder->pages.len / PAGE_SIZE;
+	im_left_log(folder, &left);
+	if (left.is_over || files[PAGES] < 0)
+		return 0;
+	if (walk(o, files[left.is_log2 ? LOG2 : LOG], left.is_log2 ? folder->log2.len : folder->log.len, &left))
+		return -1;
+	if (left.page < pages && whole_at(files[PAGES], 0, bytes, sizeof bytes, (off_t)left.page * PAGE_SIZE))
+		return refuse_system(o);
+	for (size_t i = 0; i < sizeof bytes; i++)
+		lsn = lsn << 8 | bytes[i];
+	return im_is_older(&left, pages, lsn) ? refuse(o, VAH_NOT_A_STORE, "`pages` in it is older than its logs: it lacks the newest change from before the last switch") : 0;
+}
+
 /* Looks at the files that the folder has, and asks whether they belong together: 1 where a log was made, 0 where none was, -1 where they are refused.
  * Nothing is made, and nothing is written. It stands for FileDisk's look. */
 static int look(struct opening *o, int *files)
@@ -359,7 +402,9 @@ static int look(struct opening *o, int *files)
 	if (folder.pages.is_there && front_of(o, files[PAGES], &folder.pages.len, folder.pages.bytes, sizeof folder.pages.bytes, PAGE_SIZE))
 		return -1;
 	uint32_t word = im_belong(&folder);
-	return word < 2 ? (int)word : refuse(o, VAH_NOT_A_STORE, why_apart[word]);
+	if (word >= 2)
+		return refuse(o, VAH_NOT_A_STORE, why_apart[word]);
+	return look_back(o, files, &folder) ? -1 : (int)word;
 }
 
 /* Opens, locks, looks, makes and syncs, in the order of FileDisk::open. */

@@ -10,7 +10,7 @@ use Rattle.im_base_guard.specs.declared.belonging.Apart.TheVariants as apart
 use Rattle.im_base_file_disk.specs.declared.file_disk.FileDisk.{FileDisk}
 use Rattle.im_base_file_disk.specs.declared.file_disk.Found.{Found}
 use Rattle.im_base_file_disk.specs.declared.open_error.OpenError.{OpenError}
-use Rattle.im_base_file_disk.specs.declared.open_error.OpenError.TheVariants.{NotAFile, NoFile, NoOtherLog, NoPages, ShortPages, NotALog, Locked, NoFolder, NotAFolder, Denied, NoDescriptor, System, Memory as NoMemory}
+use Rattle.im_base_file_disk.specs.declared.open_error.OpenError.TheVariants.{NotAFile, NoFile, NoOtherLog, NoPages, ShortPages, OlderPages, NotALog, Locked, NoFolder, NotAFolder, Denied, NoDescriptor, System, Memory as NoMemory}
 
 -- The file's descriptor is none of standard input, output and error.
 abbrev pub IsApart : File → Type 0
@@ -33,6 +33,7 @@ fault_of (NoFile name) = NotAStore
 fault_of NoOtherLog = NotAStore
 fault_of NoPages = NotAStore
 fault_of ShortPages = NotAStore
+fault_of OlderPages = NotAStore
 fault_of (NotALog name) = NotAStore
 fault_of Locked = LockedFault
 fault_of NoMemory = Memory

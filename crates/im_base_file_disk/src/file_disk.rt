@@ -7,8 +7,8 @@ ghost use Rattle.im_base_file_disk.specs.RealFiles.{AreApart, IsApart, HasOwnDes
 use crate::folders::{make_folders, sync_folders};
 use crate::{DiskCall, DiskError, OpenError};
 use im_base_disk::{Count, Disk};
-use im_base_guard::{FIRST_BYTES, FRONT, Folder, Front, PagesFront, belong};
-use im_base_types::{Fault, FileId, PAGE_SIZE};
+use im_base_guard::{FIRST_BYTES, FRONT, Folder, Front, LeftLog, PagesFront, belong, is_older};
+use im_base_types::{Fault, FileId, PAGE_SIZE, PageNo};
 use std::fs::{self, File, OpenOptions, TryLockError};
 use std::io;
 use std::io::ErrorKind;
@@ -17,6 +17,9 @@ use std::os::unix::fs::FileExt;
 
 // The greatest of the descriptors of standard input, output and error.
 const STANDARD_ERROR: i32 = 2;
+
+// How much of a log is read at once.
+const PIECE: usize = 262_144;
 
 /// A folder with the files `log`, `pages` and `log2`. A call of the disk is one call of the system, and a further one
 /// where the system read or wrote a part, or was interrupted. Until it is dropped it holds the lock of the system
@@ -41,7 +44,7 @@ impl FileDisk {
     /// program was started without one of them: what it prints there would be written over the store.
     ///
     /// Refused `NotAFile` where a name in the folder is taken by something else, `Locked` where another opening holds
-    /// the log, and for each reason for which files do not belong together (`im_base_guard`): `NoFile`, `NoPages`, `ShortPages`, `NotALog`. In these six no byte of
+    /// the log, and for each reason for which files do not belong together (`im_base_guard`): `NoFile`, `NoOtherLog`, `NoPages`, `ShortPages`, `NotALog`, `OlderPages`. In these eight no byte of
     /// a file was changed and none was made but an empty `log`. The other errors are the system's.
     pub fn open(rt: &HostRuntime, dir: &str) -> Result<FileDisk, OpenError>
         ensures working { IfOk result (λ disk. ⟦<FileDisk as Disk>⟧.failed disk ≡ false) }
@@ -106,18 +109,8 @@ impl FileDisk {
         open_files(rt, dir, &options)
     }
 
-    /// Takes all bytes of a file away, and brings that to the disk. No step of a store does that: it is for a log of which its store, which is closed, has no
-    /// use.
-    ///
-    /// Refused `Device`.
-    pub fn empty(&mut self, file: FileId) -> Result<(), Fault>
-        requires working { ⟦<FileDisk as Disk>⟧.failed self.old ≡ false }
-        ensures answers { Answers (⟦<FileDisk as Disk>⟧.failed self.new) result }
-    {
-        self.cut(file, 0)
-    }
-
-    /// Takes all bytes of a file away that stand at a place or after it, and brings that to the disk, as `empty` does.
+    /// Takes all bytes of a file away that stand at a place or after it, and brings that to the disk. No step of a store does that: it is for a log of which
+    /// its store, which is closed, has no use.
     ///
     /// Refused `Device`.
     pub fn cut(&mut self, file: FileId, end: u64) -> Result<(), Fault>
@@ -345,11 +338,72 @@ fn look(
         pages: pages_front_of(pages.as_ref())?,
     };
     let logs = belong(&folder)?;
+    let start = LeftLog::begin(&folder);
+    let left = if start.is_log2 { log2.as_ref() } else { log };
+    look_back(rt, start, left, pages.as_ref())?;
     Ok(Found {
         pages,
         log2,
         is_made: logs.is_made,
     })
+}
+
+// Walks over the log that was left, and asks whether the file of pages has its newest change.
+fn look_back(
+    rt: &HostRuntime,
+    start: LeftLog,
+    log: Option<&File>,
+    pages: Option<&File>,
+) -> Result<(), OpenError> {
+    let (Some(log), Some(pages)) = (log, pages) else {
+        return Ok(());
+    };
+    if start.is_over {
+        return Ok(());
+    }
+    let left = walked(rt, start, log)?;
+    let long = len_of(pages)?;
+    if is_older(
+        &left,
+        long / PAGE_SIZE as u64,
+        lsn_of(pages, long, left.page)?,
+    ) {
+        Err(OpenError::OlderPages)
+    } else {
+        Ok(())
+    }
+}
+
+// The walk over a log from there on, to its end.
+fn walked(rt: &HostRuntime, start: LeftLog, log: &File) -> Result<LeftLog, OpenError> {
+    let mut left = start;
+    let long = len_of(log)?;
+    let mut room = vec![in rt.alloc(); 0; PIECE].map_err(|_| OpenError::Memory)?;
+    for _count in 0..u64::MAX {
+        let from = left.place;
+        let size = usize::try_from(long.saturating_sub(from))
+            .unwrap_or(PIECE)
+            .min(PIECE);
+        if left.is_over || size == 0 {
+            break;
+        }
+        log.read_exact_at(&mut room[..size], from)?;
+        left.take(&room[..size]);
+        if left.place == from {
+            break;
+        }
+    }
+    Ok(left)
+}
+
+// The LSN of a page in a file that is so long, 0 where it is not there.
+fn lsn_of(pages: &File, long: u64, page: PageNo) -> Result<u64, OpenError> {
+    let mut lsn = [0; 8];
+    let place = u64::from(page) * PAGE_SIZE as u64;
+    if place < long / PAGE_SIZE as u64 * PAGE_SIZE as u64 {
+        pages.read_exact_at(&mut lsn, place)?;
+    }
+    Ok(u64::from_be_bytes(lsn))
 }
 
 // The length of a log, and its first bytes.

@@ -37,6 +37,9 @@ pub enum OpenError {
     /// The file of pages is shorter than it was when the current log began: it was cut, or emptied.
     #[error("`pages` in it lacks pages that the store had when its log began")]
     ShortPages,
+    /// The file of pages lacks the newest change of the log that was left for the current one, which had every change in it.
+    #[error("`pages` in it is older than its logs: it lacks the newest change from before the last switch")]
+    OlderPages,
     /// Neither log says that it was made, and this one is longer than a stop leaves one of which that is true: its first
     /// byte is damaged, or it is a file of another program. It is left as it is.
     #[error("`{0}` in it does not begin as the log of a store")]
@@ -66,6 +69,7 @@ impl OpenError {
             OpenError::NoOtherLog => Fault::NotAStore,
             OpenError::NoPages => Fault::NotAStore,
             OpenError::ShortPages => Fault::NotAStore,
+            OpenError::OlderPages => Fault::NotAStore,
             OpenError::NotALog(_) => Fault::NotAStore,
             OpenError::Locked => Fault::Locked,
             OpenError::Memory => Fault::Memory,

@@ -7,6 +7,9 @@
 //! whoever opens a folder, in Rattle and in C (`decide` answers a number). It stands on no other layer but the words of all, and its
 //! numbers are those of the headers of logs (docs/FORMATS.md).
 //!
+//! After a switch, while the current log has no record, the log that was left tells an older file of pages: `LeftLog` walks over it, a piece at a time, to its newest
+//! change, and `is_older` asks whether that is in the file.
+//!
 //! A refusal here is for ever, so what a stop may leave is never refused: `im_engine_guards` has that as a law. `may_lack_first_byte` is therefore
 //! no part of the decision: it tells a look at the files what they may have been.
 #![tactic(auto)]
@@ -15,9 +18,11 @@ mod belonging;
 mod deciding;
 mod folder;
 mod fronts;
+mod left_log;
 mod pages;
 
 pub use belonging::{Apart, Logs, belong};
 pub use deciding::decide;
 pub use folder::{FIRST_BYTES, FRONT, Folder, Front, PagesFront};
 pub use fronts::may_lack_first_byte;
+pub use left_log::{LeftLog, is_older};

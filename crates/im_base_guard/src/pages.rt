@@ -14,8 +14,8 @@ pub(crate) fn has_current_other(folder: &Folder) -> bool
     generation(&folder.log) < generation(&folder.log2)
 }
 
-// The current log.
-fn current_of(folder: &Folder) -> Front
+/// The current log.
+pub(crate) fn current_of(folder: &Folder) -> Front
     ensures { result ≡ current folder.now }
 {
     if has_current_other(folder) {
@@ -25,8 +25,8 @@ fn current_of(folder: &Folder) -> Front
     }
 }
 
-// The log that is not the current one.
-fn left_of(folder: &Folder) -> Front
+/// The log that is not the current one.
+pub(crate) fn left_of(folder: &Folder) -> Front
     ensures { result ≡ left folder.now }
 {
     if has_current_other(folder) {

@@ -4,10 +4,11 @@
 //! has read or keeps itself: whether the files of a folder belong together (`im_base_guard`), and who may begin now (`im_base_turns`).
 #![tactic(auto)]
 
-ghost use Rattle.std.specs.Prelude.{◌≡◌, ◌≤◌, ◌+◌, ◌↔◌, true};
+ghost use Rattle.std.specs.Prelude.{◌≡◌, ◌≤◌, ◌+◌, ◌↔◌, true, length};
 ghost use Rattle.std.specs.Borrow.{sem};
 ghost use Rattle.im_capi.specs.Pointers.{bytes_of_store, room_for_store, store_at, call_at};
 ghost use Rattle.im_base_guard.specs.Belonging.{Decides};
+ghost use Rattle.im_base_guard.specs.LeftLog.{left_log_of, walk, IsOlder};
 ghost use Rattle.im_base_turns.specs.Turns.{IsAwaitedBy, IsLeastOf, IsPatient, MayBegin, Owns};
 
 use im_base_turns::{Asker, Going};
@@ -36,6 +37,30 @@ pub extern "C" fn im_belong(folder: &im_base_guard::Folder) -> u32
     ensures { Decides folder.now result }
 {
     im_base_guard::decide(folder)
+}
+
+/// The walk over the log that was left, at its first gate.
+#[unsafe(no_mangle)]
+pub extern "C" fn im_left_log(folder: &im_base_guard::Folder, left: &mut im_base_guard::LeftLog)
+    ensures { left.new ≡ left_log_of folder.now }
+{
+    *left = im_base_guard::LeftLog::begin(folder);
+}
+
+/// Takes bytes of that log, those from the wanted place on, and walks on as far as they reach.
+#[unsafe(no_mangle)]
+pub extern "C" fn im_left_take(left: &mut im_base_guard::LeftLog, piece: &[u8])
+    ensures { left.new ≡ walk (length piece.now) left.old.place piece.now left.old }
+{
+    left.take(piece);
+}
+
+/// Whether the file of pages lacks that log's newest change.
+#[unsafe(no_mangle)]
+pub extern "C" fn im_is_older(left: &im_base_guard::LeftLog, pages: u64, lsn: u64) -> bool
+    ensures { (result ≡ true) ↔ IsOlder left.now pages lsn }
+{
+    im_base_guard::is_older(left, pages, lsn)
 }
 
 /// Makes a store that is not open in the room at a pointer.

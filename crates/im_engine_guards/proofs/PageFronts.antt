@@ -1,15 +1,15 @@
 -- The beginning of a file of pages says what page 0 says.
-use Rattle.std.proofs.Common.{◌≡◌, ℕ, ◌+◌, ◌*◌, ◌<◌, ◌≤◌, List, length, take, drop, get_or, replicate, slice_index, Option, Some, None, Bool, true, false, refl, sym, ◌∙◌, ap, subst, arith, inl, inr}
-use Rattle.std.specs.Int.{w32, from_be_bytes}
-use Rattle.std.proofs.lemmas.Bool.{cases_Bool, cond-true, cond-false}
+use Rattle.std.proofs.Common.{◌≡◌, ℕ, nat_lt, ◌+◌, ◌*◌, ◌<◌, ◌≤◌, List, length, take, drop, get_or, replicate, slice_index, Option, Some, None, Bool, true, false, refl, sym, ◌∙◌, ap, subst, arith, inl, inr}
+use Rattle.std.specs.Int.{w32, w64, from_be_bytes}
+use Rattle.std.proofs.lemmas.Bool.{cases_Bool, cond-true, cond-false, lt-ltb}
 use Rattle.std.proofs.lemmas.List.{get_or-take, get_or-drop}
 use Rattle.im_base_types.specs.Pages.{Page}
-use Rattle.im_theory_page.specs.Number.{u32_at}
+use Rattle.im_theory_page.specs.Number.{u32_at, u64_at}
 use Rattle.im_theory_page.specs.Page.{is_form, page_of, said_by}
 use Rattle.im_theory_page.specs.PageFile.{file_page, page_bytes, page_count}
-use Rattle.im_theory_page.proofs.PageFileLemmas.{page_here}
+use Rattle.im_theory_page.proofs.PageFileLemmas.{counted_within, page_here}
 use Rattle.im_base_guard.specs.declared.folder.PagesFront.{PagesFront}
-use Rattle.im_engine_guards.specs.Guards.{IsPagesFront}
+use Rattle.im_engine_guards.specs.Guards.{IsPagesFront, lsn_in}
 
 -- a page that bytes are is what they say
 said : (bytes : List ℕ) (g : Page) → page_of bytes ≡ Some g → g ≡ said_by bytes
@@ -40,3 +40,23 @@ front_count file front g is there page =
 
 pub no_count : (file : List ℕ) (front : PagesFront) → IsPagesFront file front → length file < 4096 → from_be_bytes w32 (take 4 (drop 24 front.bytes)) ≡ 0
 no_count file front is none = ap (λ (l : List ℕ). from_be_bytes w32 (take 4 (drop 24 l))) (is.none none)
+
+-- ---- the LSN of a page
+
+eight : (l : List ℕ) → from_be_bytes w64 l ≡ u64_at l 0
+eight l = omega arith
+
+at_place : (file : List ℕ) (k i : ℕ) → i < 8 → slice_index (take 8 (drop k file)) i ≡ slice_index (take 4096 (drop k file)) i
+at_place file k i lt = get_or-take 8 (drop k file) i 0 lt ∙ sym (get_or-take 4096 (drop k file) i 0 (omega (arith, lt)))
+
+lsn_at : (file : List ℕ) (k : ℕ) → from_be_bytes w64 (take 8 (drop k file)) ≡ u64_at (take 4096 (drop k file)) 0
+lsn_at file k =
+    eight (take 8 (drop k file))
+    ∙ omega (arith, at_place file k 0 (omega arith), at_place file k 1 (omega arith), at_place file k 2 (omega arith), at_place file k 3 (omega arith), at_place file k 4 (omega arith), at_place file k 5 (omega arith), at_place file k 6 (omega arith), at_place file k 7 (omega arith))
+
+-- the first bytes of a page that is there are its LSN
+pub page_lsn : (file : List ℕ) (p : ℕ) (g : Page) → p < page_count file → file_page file p ≡ Some g → lsn_in file p ≡ g.lsn
+page_lsn file p g there page =
+    cond-true (nat_lt p (page_count file)) (from_be_bytes w64 (take 8 (drop (p * 4096) file))) 0 (lt-ltb p (page_count file) there)
+    ∙ lsn_at file (p * 4096)
+    ∙ sym (ap (λ (x : Page). x.lsn) (said (page_bytes file p) g (sym (page_here file p (counted_within file p there)) ∙ page)))

@@ -1,12 +1,16 @@
 -- What the guard of a folder says of a store.
-use Rattle.std.specs.Prelude.{◌≡◌, ◌≤◌, ◌<◌, ◌+◌, ℕ, true, List, [], ◌++◌, length, take, replicate, Result, IfErr, IfOk}
+use Rattle.std.specs.Prelude.{◌≡◌, ◌≤◌, ◌<◌, ◌+◌, ◌*◌, nat_lt, if◌then◌else◌, ℕ, true, false, List, [], ◌++◌, length, take, drop, replicate, Result, IfErr, IfOk}
+use Rattle.std.specs.Int.{w64, from_be_bytes}
 use Rattle.im_base_types.specs.Changes.{Effect}
+use Rattle.im_base_types.specs.Records.{Logged}
 use Rattle.im_base_types.specs.declared.file_id.FileId.TheVariants.{Log, Pages as PagesFile, Log2}
 use Rattle.im_base_types.specs.declared.page_kind.PageKind.TheVariants.{Free}
 use Rattle.im_base_disk.specs.Disk.{Files}
 use Rattle.im_base_guard.specs.declared.folder.Front.{Front}
 use Rattle.im_base_guard.specs.declared.folder.PagesFront.{PagesFront}
 use Rattle.im_base_guard.specs.declared.folder.Folder.{Folder}
+use Rattle.im_base_guard.specs.declared.left_log.LeftLog.{LeftLog}
+use Rattle.im_base_guard.specs.LeftLog.{left_log_of, IsOlder}
 use Rattle.im_base_guard.specs.Fronts.{BeginsWithChange}
 use Rattle.im_base_guard.specs.Belonging.{left, IsVerdict, Decides}
 use Rattle.im_base_guard.specs.declared.belonging.Apart.{Apart}
@@ -14,6 +18,8 @@ use Rattle.im_base_guard.specs.declared.belonging.Logs.{Logs}
 use Rattle.im_log_choice.specs.Current.{IsCurrent}
 use Rattle.im_engine.specs.Stands.{StandsFor}
 use Rattle.im_log_header.specs.Header.{IsUnmade}
+use Rattle.im_theory_left.specs.Left.{IsPast}
+use Rattle.im_theory_log.specs.Histories.{History, IsRecordOf, changes_page}
 use Rattle.im_theory_page.specs.PageFile.{page_count}
 use Rattle.im_theory_tree.specs.Levels.{Pages}
 use Rattle.im_theory_tree.specs.Good.{IsGoodTree}
@@ -60,6 +66,30 @@ pub record NeverRefused : Type 0 where
   pub belong : (f : Folder) (verdict : Result Logs Apart) → IsVerdict f verdict → IsSparing f verdict
   pub current : (f : Folder) (verdict : Result Logs Apart) → IsVerdict f verdict → TakesCurrent f verdict
   pub told : (f : Folder) (word : ℕ) → Decides f word → (effects : List Effect) (files : Files) → StandsFor effects files → IsFolder files f → IsLeft files f → word ≤ 1
+
+-- ---- older pages
+
+-- The newest change that a walk over the log that was left has found is one of its records, and so is a change of the greatest page.
+pub record Names (l : LeftLog) (before : History) : Type 0 where
+  pub newest : Logged
+  pub of : IsRecordOf newest before
+  pub changes : changes_page newest.what ≡ true
+  pub lsn : newest.lsn ≡ l.lsn
+  pub page : newest.page ≡ l.page
+  pub greatest : Logged
+  pub among : IsRecordOf greatest before
+  pub changed : changes_page greatest.what ≡ true
+  pub some : 1 ≤ greatest.lsn
+  pub last : greatest.page + 1 ≡ l.pages
+
+-- the LSN of a page in a file of pages, 0 where it is not there
+abbrev pub lsn_in : List ℕ → ℕ → ℕ
+lsn_in file p = if nat_lt p (page_count file) then from_be_bytes w64 (take 8 (drop (p * 4096) file)) else 0
+
+-- The walk finds no older pages beside files that stand for effects, whose current log has no record: over pages in which each change of the log that was left is, as a Switch makes them (`PastAfter`).
+abbrev pub NeverOlder : Type 0
+NeverOlder = (effects : List Effect) (files : Files) (f : Folder) (stands : StandsFor effects files) → IsFolder files f → (left_log_of f).is_over ≡ false → (before : History) → IsPast stands.b before → (l : LeftLog) → Names l before
+    → IsOlder l (page_count (files PagesFile)) (lsn_in (files PagesFile) l.page) → ⊥
 
 -- ---- why page 0 counts no more
 

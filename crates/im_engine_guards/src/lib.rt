@@ -8,13 +8,15 @@
 //! pages are in the file. Whether a file is there at all is no part of files as the theory has them.
 #![tactic(auto)]
 
-ghost use Rattle.im_engine_guards.specs.Guards.{NeverRefused, IsSparing, TakesCurrent};
+ghost use Rattle.im_engine_guards.specs.Guards.{NeverOlder, NeverRefused, IsSparing, TakesCurrent};
 
 use im_base_guard::{Apart, Folder, Logs, belong};
 
-/// The guard of a folder refuses no files that stand for effects, and takes the log that is the current one.
+/// The guard of a folder refuses no files that stand for effects, and takes the log that is the current one. Nor does the walk over the log that was left find older pages
+/// beside them, where what it names are changes of that log, each of which is in the pages that the current log is over.
 pub fn guards_never_refuse()
-    ensures { NeverRefused }
+    ensures refused { NeverRefused }
+    ensures older { NeverOlder }
 {}
 
 /// What the guard says of a folder.

@@ -2,7 +2,7 @@
 //!
 //! `WatchedDisk` is the files of a folder, with a line that tells how far an opening has read the log; `ScratchDisk` is files that are only read, over which
 //! what is written stays in memory. `Causes` tells why a call of a disk failed, `ProgressLine` how far a long task is. `survey_files` reads the files of a store
-//! as they stand, and the texts here tell what it found; `trim_program` empties the log that a store has left.
+//! as they stand, and the texts here tell what it found; `trim_program` cuts the log that a store has left to its first batch.
 //!
 //! It stands on `im_tool_look` for what the bytes of a store's files say. No store is opened here, so it is proved beside the engine. What goes to which
 //! stream is tested in im_test_tool, and stands in no clause.

@@ -1,4 +1,4 @@
-//! The log that a store has left, emptied.
+//! The log that a store has left, cut to its first batch.
 
 ghost use Rattle.std.specs.Prelude.{◌≡◌, ◌≢◌, ◌≤◌, false, IfOk, IfSome};
 ghost use Rattle.im_base_types.specs.declared.file_id.FileId.TheVariants.{Pages};
@@ -9,14 +9,14 @@ use crate::telling::{print_refused_opening, tell, tell_unread};
 use im_base_disk::Disk;
 use im_base_file_disk::FileDisk;
 use im_base_types::{Fault, FileId};
-use im_tool_look::{Files, LogDamage, read_log};
+use im_tool_look::{Files, LogDamage, first_batch_end, read_log};
 use std::alloc::Global;
 use std::io;
 use std::io::{BufWriter, Write};
 
-/// Empties the log of the lower generation of the store in a folder, which no other program has open, and cuts the current one to its end where it has no
-/// record. The store goes on in the current one, and makes the other anew when it leaves that. It answers the exit status: 0, or 1 where nothing was done
-/// because of a refusal.
+/// Cuts the log of the lower generation of the store in a folder, which no other program has open, to its first batch, which tells a file of pages from before
+/// that log; and the current one to its end where it has no record. The store goes on in the current one, and makes the other anew when it leaves that. It
+/// answers the exit status: 0, or 1 where nothing was done because of a refusal.
 pub fn trim_program(rt: &HostRuntime, dir: &str) -> io::Result<u8>
     ensures { IfOk result (λ status. status ≤ 1) }
 {
@@ -76,8 +76,9 @@ struct Spare {
     // log that is in use has room there for what it gets next.
     end: u64,
     behind: u64,
-    // The log that was left, and how many bytes it has.
+    // The log that was left, how many bytes of it are kept, and how many come after these.
     left: FileId,
+    kept: u64,
     bytes: u64,
 }
 
@@ -98,7 +99,11 @@ fn spare_of(alloc: Global, disk: &mut ScratchDisk) -> Result<Option<Spare>, LogD
     let said = read_log(alloc, disk)?;
     let left = said.log.other_file();
     let current = other_log(left);
-    let bytes = disk.length(left).map_err(LogDamage::Unread)?;
+    let kept = first_batch_end(alloc, disk, &said)?;
+    let bytes = disk
+        .length(left)
+        .map_err(LogDamage::Unread)?
+        .saturating_sub(kept);
     let length = disk.length(current).map_err(LogDamage::Unread)?;
     let end = said.end.saturating_add(1);
     let behind = if said.records == 0 {
@@ -114,6 +119,7 @@ fn spare_of(alloc: Global, disk: &mut ScratchDisk) -> Result<Option<Spare>, LogD
         end,
         behind,
         left,
+        kept,
         bytes,
     }))
 }
@@ -126,7 +132,7 @@ fn is_given_back(files: &mut FileDisk, spare: Spare) -> bool
     if files.sync(spare.current).is_err() {
         return false;
     }
-    if spare.bytes > 0 && files.empty(spare.left).is_err() {
+    if spare.bytes > 0 && files.cut(spare.left, spare.kept).is_err() {
         return false;
     }
     spare.behind == 0 || files.cut(spare.current, spare.end).is_ok()

@@ -11,6 +11,9 @@ use std::alloc::Global;
 /// What stands in front of a batch's records: its gate and its length.
 const AHEAD: usize = 5;
 
+/// What stands after them: the next gate.
+const NEXT_GATE: usize = 1;
+
 /// The most bytes that one put has, of batches with what stands in front of them: those of a buffer for 64.
 const MOST_PUT: u64 = 64 * (LONGEST_BATCH as u64 + AHEAD as u64);
 
@@ -81,8 +84,14 @@ impl LogPiece {
         Ok(self.piece.held(gate, 1).first().copied() == Some(1))
     }
 
-    /// How long the records of the whole batch after the gate at a place are, whether that gate is open or not. None where none stands there.
-    fn batch_at<F: Files>(&mut self, files: &mut F, gate: Lsn) -> Result<Option<usize>, LogDamage> {
+    /// How long the records of the whole batch after the gate at a place are, whether that gate is open or not, with so many bytes after it. None where
+    /// they do not stand there.
+    fn batch_at<F: Files>(
+        &mut self,
+        files: &mut F,
+        gate: Lsn,
+        more: usize,
+    ) -> Result<Option<usize>, LogDamage> {
         self.hold(files, gate, AHEAD)?;
         let [_, a, b, c, d] = self.piece.held(gate, AHEAD) else {
             return Ok(None);
@@ -91,8 +100,7 @@ impl LogPiece {
         if size == 0 || size > LONGEST_BATCH {
             return Ok(None);
         }
-        // And the next gate.
-        let whole = AHEAD + size + 1;
+        let whole = AHEAD + size + more;
         self.hold(files, gate, whole)?;
         if self.piece.held(gate, whole).len() < whole {
             return Ok(None);
@@ -109,7 +117,7 @@ impl LogPiece {
         if !self.is_open(files, gate)? {
             return Ok(None);
         }
-        match self.batch_at(files, gate)? {
+        match self.batch_at(files, gate, NEXT_GATE)? {
             Some(size) => Ok(Some(size)),
             None => Err(LogDamage::BrokenBatch(self.name, gate)),
         }
@@ -121,7 +129,7 @@ impl LogPiece {
         files: &mut F,
         gate: Lsn,
     ) -> Result<Option<(usize, TxnId)>, LogDamage> {
-        let Some(size) = self.batch_at(files, gate)? else {
+        let Some(size) = self.batch_at(files, gate, NEXT_GATE)? else {
             return Ok(None);
         };
         match greatest_transaction(self.records(gate, size)) {
@@ -174,6 +182,28 @@ fn read_records<F: Files>(
         }
     }
     Ok((said, gate))
+}
+
+/// The end of the first batch of the log that was left for the current one; 0 where that batch is not there.
+pub fn first_batch_end<F: Files>(
+    alloc: Global,
+    files: &mut F,
+    said: &Survey,
+) -> Result<u64, LogDamage> {
+    let Some(before) = said.log.log_before() else {
+        return Ok(0);
+    };
+    let Some(gate) = before.first_gate() else {
+        return Ok(0);
+    };
+    let mut log = LogPiece::new(alloc, before.file);
+    if !log.is_open(files, gate)? {
+        return Ok(0);
+    }
+    match log.batch_at(files, gate, 0)? {
+        Some(size) => Ok(next_gate(gate, size)),
+        None => Ok(0),
+    }
 }
 
 // The last change of each page in the log that was left for this one.
