@@ -309,9 +309,11 @@ struct folder { struct log_front log, log2; struct pages_front pages; };
 /* Whether they belong together: 0 where they do and no log was made, 1 where one was, and else why not, by a number. */
 uint32_t im_belong(const struct folder *folder);
 
-/* A walk over the log that was left: the place of the next byte that is wanted, the page of its newest change and whether it is over (src/left_log.rt). */
-struct left_log { uint64_t place, end, base, lsn, pages; uint32_t page; bool is_over, is_log2; };
+/* A walk over the log that was left, and then over the current one: the place of the next byte that is wanted, the page of the newest change of the first,
+ * whether it is over and in which file (src/left_log.rt). */
+struct left_log { uint64_t place, end, base, lsn, pages; uint32_t page; bool is_over, is_log2, is_current; };
 void im_left_log(const struct folder *folder, struct left_log *left);
+void im_left_go_on(const struct folder *folder, struct left_log *left);
 void im_left_take(struct left_log *left, const uint8_t *piece, size_t len);
 bool im_is_older(const struct left_log *left, uint64_t pages, uint64_t lsn);
 
@@ -352,11 +354,13 @@ static int open_if_made(struct opening *o, int *fd, const char *name)
 	return is_there < 0 || (is_there && *fd < 0) ? -1 : 0;
 }
 
-/* Walks over a log to its end. */
-static int walk(struct opening *o, int fd, uint64_t len, struct left_log *left)
+/* Walks to the end of the log. */
+static int walk(struct opening *o, const int *files, const struct folder *folder, struct left_log *left)
 {
-	uint8_t *room = malloc(TOLD_EACH);
-	if (!room)
+	int fd = files[left->is_log2 ? LOG2 : LOG];
+	uint64_t len = left->is_log2 ? folder->log2.len : folder->log.len;
+	uint8_t *room = left->is_over ? NULL : malloc(TOLD_EACH);
+	if (!left->is_over && !room)
 		return refuse(o, VAH_MEMORY, "out of memory");
 	for (uint64_t from = ~left->place; !left->is_over && left->place < len && left->place != from; ) {
 		size_t size = len - left->place < TOLD_EACH ? (size_t)(len - left->place) : TOLD_EACH;
@@ -371,16 +375,19 @@ static int walk(struct opening *o, int fd, uint64_t len, struct left_log *left)
 	return 0;
 }
 
-/* Refused where the file of pages lacks the newest change of the log that was left. It stands for FileDisk's look_back. */
+/* Refused where the file of pages lacks the newest change of the log that was left, and the current one has no copy of its page. It stands for FileDisk's look_back. */
 static int look_back(struct opening *o, const int *files, const struct folder *folder)
 {
 	struct left_log left;
 	uint8_t bytes[8] = { 0 };
 	uint64_t lsn = 0, pages = folder->pages.len / PAGE_SIZE;
-	im_left_log(folder, &left);
-	if (left.is_over || files[PAGES] < 0)
+	if (files[PAGES] < 0)
 		return 0;
-	if (walk(o, files[left.is_log2 ? LOG2 : LOG], left.is_log2 ? folder->log2.len : folder->log.len, &left))
+	im_left_log(folder, &left);
+	if (walk(o, files, folder, &left))
+		return -1;
+	im_left_go_on(folder, &left);
+	if (walk(o, files, folder, &left))
 		return -1;
 	if (left.page < pages && whole_at(files[PAGES], 0, bytes, sizeof bytes, (off_t)left.page * PAGE_SIZE))
 		return refuse_system(o);

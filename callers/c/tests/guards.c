@@ -1,5 +1,5 @@
 /* Files that a stop leaves, which no guard refuses: page 0 whose write was cut so that its LSN is old and its count new; a log that was being made, whose bytes
- * are any. And a file of pages that was cut is refused. What imstore guards too is in examples/imstore_guards_files. guards FOLDER */
+ * are any. And a file of pages that was cut, or is older than its logs, is refused. What imstore guards too is in examples/imstore_guards_files. guards FOLDER */
 #define _GNU_SOURCE
 #include "test.h"
 #include <fcntl.h>
@@ -62,20 +62,39 @@ static void has_keys(int wanted)
 	HOLDS(count == wanted);
 }
 
-/* A program that is killed with so many keys in the file of pages and more in the log alone. */
-static void leave_store(int written, int logged)
+/* A program that puts the keys from one on up to another, switches, and is killed with more in the log alone. */
+static void leave_more(int first, int written, int logged)
 {
 	int status;
 	pid_t child = fork();
 	if (!child) {
 		vah_store *store;
 		OK(vah_open(dir, NULL, &store));
-		put_keys(store, 0, written);
+		put_keys(store, first, written);
 		OK(vah_switch(store));
-		put_keys(store, written, written + logged);
+		if (logged)
+			put_keys(store, written, written + logged);
 		_exit(0);
 	}
 	HOLDS(child > 0 && waitpid(child, &status, 0) == child && WIFEXITED(status) && WEXITSTATUS(status) == 0);
+}
+
+static void leave_store(int written, int logged)
+{
+	leave_more(0, written, logged);
+}
+
+static void copy_file(const char *from, const char *to)
+{
+	char at[4200];
+	uint8_t page[PAGE];
+	snprintf(at, sizeof at, "%.4000s/%s", dir, to);
+	int in = open_file(from), out = open(at, O_WRONLY | O_CREAT | O_TRUNC, 0600);
+	HOLDS(out >= 0);
+	for (ssize_t len; (len = read(in, page, sizeof page)) > 0; )
+		HOLDS(write(out, page, (size_t)len) == len);
+	close(in);
+	close(out);
 }
 
 /* The write of page 0 was cut: its count is the new one, and all else as it was at the switch. The log has the whole page. */
@@ -100,6 +119,21 @@ static void cut_pages(void)
 	HOLDS(!store && strstr(vah_last_error(), "lacks pages"));
 }
 
+/* Pages from before the log that the last switch left, with or without a record since. */
+static void older_pages(int logged)
+{
+	vah_store *store = NULL;
+	leave_store(60, 0);
+	copy_file("pages", "older");
+	leave_more(60, 200, logged);
+	copy_file("pages", "newer");
+	copy_file("older", "pages");
+	IS(vah_open(dir, NULL, &store), VAH_NOT_A_STORE);
+	HOLDS(!store && strstr(vah_last_error(), "older than its logs"));
+	copy_file("newer", "pages");
+	has_keys(200 + logged);
+}
+
 /* A store without keys, whose other log was being made when it was stopped: where a record of a log before stood there are any bytes. */
 static void unmade_log(void)
 {
@@ -122,6 +156,10 @@ int main(int argc, char **argv)
 	torn_count();
 	snprintf(dir, sizeof dir, "%.4000s/cut", argv[1]);
 	cut_pages();
+	snprintf(dir, sizeof dir, "%.4000s/older", argv[1]);
+	older_pages(0);
+	snprintf(dir, sizeof dir, "%.4000s/older_logged", argv[1]);
+	older_pages(3);
 	snprintf(dir, sizeof dir, "%.4000s/unmade", argv[1]);
 	unmade_log();
 	return 0;

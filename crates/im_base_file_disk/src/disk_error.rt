@@ -22,13 +22,6 @@ pub struct DiskError {
     pub error: io::Error,
 }
 
-impl DiskError {
-    /// The name that the file has in the folder.
-    pub fn file_name(&self) -> &'static str {
-        file_name(self.file)
-    }
-}
-
 /// The name of a file of a store in its folder.
 pub(crate) fn file_name(file: FileId) -> &'static str {
     match file {
@@ -40,7 +33,7 @@ pub(crate) fn file_name(file: FileId) -> &'static str {
 
 impl Display for DiskError {
     fn fmt<W: Write>(&self, f: &mut Formatter<W>) -> fmt::Result {
-        let name = self.file_name();
+        let name = file_name(self.file);
         match self.call {
             DiskCall::Len => write!(f, "the length of `{name}` was not answered: {}", self.error),
             DiskCall::Read(at) => write!(

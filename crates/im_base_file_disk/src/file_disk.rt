@@ -338,9 +338,7 @@ fn look(
         pages: pages_front_of(pages.as_ref())?,
     };
     let logs = belong(&folder)?;
-    let start = LeftLog::begin(&folder);
-    let left = if start.is_log2 { log2.as_ref() } else { log };
-    look_back(rt, start, left, pages.as_ref())?;
+    look_back(rt, &folder, (log, log2.as_ref()), pages.as_ref())?;
     Ok(Found {
         pages,
         log2,
@@ -348,52 +346,58 @@ fn look(
     })
 }
 
-// Walks over the log that was left, and asks whether the file of pages has its newest change.
+// Walks over the log that was left, and over the current one, and asks whether the file of pages has the newest change of the first.
 fn look_back(
     rt: &HostRuntime,
-    start: LeftLog,
-    log: Option<&File>,
+    folder: &Folder,
+    logs: (Option<&File>, Option<&File>),
     pages: Option<&File>,
 ) -> Result<(), OpenError> {
-    let (Some(log), Some(pages)) = (log, pages) else {
+    let start = LeftLog::begin(folder);
+    let Some(pages) = pages else {
         return Ok(());
     };
-    if start.is_over {
-        return Ok(());
-    }
-    let left = walked(rt, start, log)?;
+    let left = walked(rt, start, logs)?;
+    let found = walked(rt, left.go_on(folder), logs)?;
     let long = len_of(pages)?;
-    if is_older(
-        &left,
-        long / PAGE_SIZE as u64,
-        lsn_of(pages, long, left.page)?,
-    ) {
+    let lsn = lsn_of(pages, long, found.page)?;
+    if is_older(&found, long / PAGE_SIZE as u64, lsn) {
         Err(OpenError::OlderPages)
     } else {
         Ok(())
     }
 }
 
-// The walk over a log from there on, to its end.
-fn walked(rt: &HostRuntime, start: LeftLog, log: &File) -> Result<LeftLog, OpenError> {
-    let mut left = start;
+// A walk from there on, to the end of its log.
+fn walked(
+    rt: &HostRuntime,
+    start: LeftLog,
+    logs: (Option<&File>, Option<&File>),
+) -> Result<LeftLog, OpenError> {
+    let mut walk = start;
+    let Some(log) = (if walk.is_log2 { logs.1 } else { logs.0 }) else {
+        return Ok(walk);
+    };
+    if walk.is_over {
+        return Ok(walk);
+    }
     let long = len_of(log)?;
     let mut room = vec![in rt.alloc(); 0; PIECE].map_err(|_| OpenError::Memory)?;
     for _count in 0..u64::MAX {
-        let from = left.place;
+        let from = walk.place;
         let size = usize::try_from(long.saturating_sub(from))
             .unwrap_or(PIECE)
             .min(PIECE);
-        if left.is_over || size == 0 {
+        if walk.is_over || size == 0 {
             break;
         }
         log.read_exact_at(&mut room[..size], from)?;
-        left.take(&room[..size]);
-        if left.place == from {
+        walk.take(&room[..size]);
+        if walk.place == from {
             break;
         }
     }
-    Ok(left)
+    Ok(walk)
 }
 
 // The LSN of a page in a file that is so long, 0 where it is not there.

@@ -11,7 +11,7 @@ use Rattle.im_base_guard.specs.Belonging.{current, left, other_is_current}
 abbrev pub guard_gate : Front → ℕ
 guard_gate front = if says_second front then 47 else 31
 
--- the walk at the first gate: over at once where the current log is a first one or has a record, or none was left
+-- the walk at the first gate of the log that was left: over at once where the current log is a first one, or none was left
 abbrev pub left_log_of : Folder → LeftLog
 left_log_of f = record {
   place = guard_gate (left f);
@@ -20,8 +20,20 @@ left_log_of f = record {
   lsn = 0;
   pages = 0;
   page = 0;
-  is_over = (base_of (current f) == 0) || (slice_index (current f).bytes 47 == 1) || not (says_made (left f));
+  is_over = (base_of (current f) == 0) || not (says_made (left f));
   is_log2 = not (other_is_current f);
+  is_current = false;
+}
+
+-- and then at that of the current one, with what was found: over at once where that is nothing
+abbrev pub current_log_of : Folder → LeftLog → LeftLog
+current_log_of f l = record l {
+  place = guard_gate (current f);
+  end = guard_gate (current f);
+  base = base_of (current f);
+  is_over = l.lsn == 0;
+  is_log2 = other_is_current f;
+  is_current = true;
 }
 
 -- a sum that a number of eight bytes holds
@@ -42,7 +54,7 @@ gate_step l bytes =
     then over l
     else record l { place = sum l.place 5; end = sum (sum l.place 5) (number (drop 1 bytes)) }
 
--- Over a record that changes this page, to this place.
+-- Over a record of the log that was left which changes this page, to this place.
 abbrev pub noted_step : LeftLog → (place page : ℕ) → LeftLog
 noted_step l place page = record l { place = place; lsn = sum l.base l.place; page = page; pages = if nat_lt l.pages (page + 1) then page + 1 else l.pages }
 
@@ -50,18 +62,25 @@ noted_step l place page = record l { place = place; lsn = sum l.base l.place; pa
 abbrev pub leaves_batch : LeftLog → ℕ → Bool
 leaves_batch l size = nat_lt size 33 || nat_lt l.end (sum l.place size)
 
--- A record of this kind changes no page: those of the kinds 1 to 6 do.
-abbrev pub keeps_page : ℕ → Bool
-keeps_page kind = (kind == 0) || nat_lt 6 kind
+-- Over a record of the current log which has a full copy of this page: a stop may have torn that page since, and any LSN may stand there.
+abbrev pub copied_step : LeftLog → (place page : ℕ) → LeftLog
+copied_step l place page = record l { place = place; lsn = if page == l.page then 0 else l.lsn; pages = if page + 1 == l.pages then 0 else l.pages }
+
+abbrev pub found_step : LeftLog → (place page : ℕ) → LeftLog
+found_step l place page = if l.is_current then copied_step l place page else noted_step l place page
+
+-- A record of this kind says nothing: in the log that was left those of the kinds 1 to 6 change a page, in the current one those of the kinds 5, 6 and 10 have a full copy of it.
+abbrev pub says_nothing : Bool → ℕ → Bool
+says_nothing current kind = if current then not ((kind == 5) || (kind == 6) || (kind == 10)) else (kind == 0) || nat_lt 6 kind
 
 -- Over a record, where it ends within the batch.
 abbrev pub record_step : LeftLog → List ℕ → LeftLog
 record_step l bytes =
     if leaves_batch l (number bytes)
     then over l
-    else (if keeps_page (slice_index bytes 4)
+    else (if says_nothing l.is_current (slice_index bytes 4)
     then record l { place = sum l.place (number bytes) }
-    else noted_step l (sum l.place (number bytes)) (number (drop 29 bytes)))
+    else found_step l (sum l.place (number bytes)) (number (drop 29 bytes)))
 
 -- One step on, by the bytes from the wanted place on; none where they are too few.
 abbrev pub step_of : LeftLog → List ℕ → LeftLog
@@ -77,6 +96,6 @@ abbrev pub walk : ℕ → ℕ → List ℕ → LeftLog → LeftLog
 walk zero start piece l = l
 walk (suc n) start piece l = step_of (walk n start piece l) (drop ((walk n start piece l).place - start) piece)
 
--- The newest change of the log that was left is not in a file of so many pages, where its page has this LSN; or a page that it changed is not there.
+-- A page that the log changed is not in a file of so many pages, or the page of its newest change has this LSN there, a lower one.
 abbrev pub IsOlder : LeftLog → (pages lsn : ℕ) → Type 0
-IsOlder l pages lsn = (0 < l.lsn) × ((pages < l.pages) ⊎ (lsn < l.lsn))
+IsOlder l pages lsn = (pages < l.pages) ⊎ (lsn < l.lsn)

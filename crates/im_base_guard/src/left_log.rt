@@ -1,7 +1,7 @@
-//! What the log that was left says of the pages.
+//! What the log that was left says of the pages, as far as the current one has no copies of them.
 ghost use Rattle.std.specs.Prelude.{◌≡◌, ◌≤◌, ◌↔◌, true, false, drop, length, take};
 ghost use Rattle.std.specs.Int.{w32, from_be_bytes};
-ghost use Rattle.im_base_guard.specs.LeftLog.{gate_step, guard_gate, keeps_page, leaves_batch, left_log_of, noted_step, record_step, step_of, walk, IsOlder};
+ghost use Rattle.im_base_guard.specs.LeftLog.{copied_step, current_log_of, found_step, gate_step, guard_gate, leaves_batch, left_log_of, noted_step, record_step, says_nothing, step_of, walk, IsOlder};
 
 use crate::folder::{Folder, Front};
 use crate::fronts::{base, is_made, is_second};
@@ -14,7 +14,8 @@ const AHEAD: u64 = 5;
 // What each record begins with, up to its page.
 const HEAD: u64 = 33;
 
-/// A walk over the log that was left, by the heads of its batches and records. Such a log says the newest change that each page had before the current log began.
+/// A walk by the heads of batches and records, over the log that was left, and then over the current one. The first says which change was the newest before the current log
+/// began, and which page the greatest that had one; the second of which pages it has full copies.
 #[repr(C)]
 #[derive(Clone, Copy)]
 pub struct LeftLog {
@@ -24,9 +25,9 @@ pub struct LeftLog {
     pub end: u64,
     /// The LSN of the log's first byte.
     pub base: u64,
-    /// The LSN of the newest change so far, 0 where there is none.
+    /// The LSN of the newest change so far, 0 where there is none, or the current log has a copy of its page.
     pub lsn: u64,
-    /// The least number above the pages that changes so far name.
+    /// The least number above the pages that changes so far name, 0 where there are none, or the current log has a copy of the greatest.
     pub pages: u64,
     /// The page of the newest change.
     pub page: u32,
@@ -34,6 +35,8 @@ pub struct LeftLog {
     pub is_over: bool,
     /// The log is `log2`.
     pub is_log2: bool,
+    /// It is the current one.
+    pub is_current: bool,
 }
 
 // The place of the first gate of a log that was made.
@@ -73,7 +76,7 @@ fn over_gate(left: LeftLog, bytes: &[u8]) -> LeftLog
     }
 }
 
-// Over a record that changes this page, to this place.
+// Over a record of the log that was left which changes this page, to this place.
 fn noted(left: LeftLog, place: u64, page: u32) -> LeftLog
     ensures { result ≡ noted_step left place page }
 {
@@ -91,6 +94,33 @@ fn noted(left: LeftLog, place: u64, page: u32) -> LeftLog
     }
 }
 
+// Over a record of the current log which has a full copy of this page.
+fn copied(left: LeftLog, place: u64, page: u32) -> LeftLog
+    ensures { result ≡ copied_step left place page }
+{
+    LeftLog {
+        place,
+        lsn: if page == left.page { 0 } else { left.lsn },
+        pages: if u64::from(page) + 1 == left.pages {
+            0
+        } else {
+            left.pages
+        },
+        ..left
+    }
+}
+
+// Over a record that says something of this page.
+fn found(left: LeftLog, place: u64, page: u32) -> LeftLog
+    ensures { result ≡ found_step left place page }
+{
+    if left.is_current {
+        copied(left, place, page)
+    } else {
+        noted(left, place, page)
+    }
+}
+
 // A record of so many bytes is none, or does not end within the batch.
 fn leaves(left: &LeftLog, size: u64) -> bool
     ensures { result ≡ leaves_batch left.now size }
@@ -98,11 +128,15 @@ fn leaves(left: &LeftLog, size: u64) -> bool
     size < HEAD || left.place.saturating_add(size) > left.end
 }
 
-// A record of this kind changes no page.
-fn keeps(kind: u8) -> bool
-    ensures { result ≡ keeps_page kind }
+// A record of this kind says nothing: in the log that was left it changes no page, in the current one it has no full copy.
+fn is_passed(is_current: bool, kind: u8) -> bool
+    ensures { result ≡ says_nothing is_current kind }
 {
-    kind == 0 || kind > 6
+    if is_current {
+        !(kind == 5 || kind == 6 || kind == 10)
+    } else {
+        kind == 0 || kind > 6
+    }
 }
 
 // Over a record, where it ends within the batch.
@@ -118,10 +152,10 @@ fn over_record(left: LeftLog, bytes: &[u8]) -> LeftLog
         };
     }
     let place = left.place.saturating_add(size);
-    if keeps(bytes[4]) {
+    if is_passed(left.is_current, bytes[4]) {
         return LeftLog { place, ..left };
     }
-    noted(left, place, number(&bytes[29..]))
+    found(left, place, number(&bytes[29..]))
 }
 
 // One step on, by the bytes from the place on that is wanted; none where they are too few.
@@ -163,8 +197,7 @@ fn is_stuck(left: &LeftLog, bytes: &[u8]) -> bool
 }
 
 impl LeftLog {
-    /// The walk over the log that was left, at its first gate. It is over at once where the current log is a first one or has a record: page 0 and others may have been written since,
-    /// and a stop may have left any bytes of them.
+    /// The walk over the log that was left, at its first gate. It is over at once where the current log is a first one, or none was left.
     pub fn begin(folder: &Folder) -> LeftLog
         ensures { result ≡ left_log_of folder.now }
     {
@@ -178,8 +211,27 @@ impl LeftLog {
             lsn: 0,
             pages: 0,
             page: 0,
-            is_over: base(&current) == 0 || current.bytes[47] == 1 || !is_made(&left),
+            is_over: base(&current) == 0 || !is_made(&left),
             is_log2: !has_current_other(folder),
+            is_current: false,
+        }
+    }
+
+    /// The walk over the current log, at its first gate, with what the one over the log that was left has found. A page that has a full copy there may have been written since, and a
+    /// stop may have left any bytes of it: nothing is asked of it. It is over at once where nothing was found.
+    pub fn go_on(&self, folder: &Folder) -> LeftLog
+        ensures { result ≡ current_log_of folder.now self.now }
+    {
+        let current = current_of(folder);
+        let gate = first_gate(&current);
+        LeftLog {
+            place: gate,
+            end: gate,
+            base: base(&current),
+            is_over: self.lsn == 0,
+            is_log2: has_current_other(folder),
+            is_current: true,
+            ..*self
         }
     }
 
@@ -201,9 +253,10 @@ impl LeftLog {
 }
 
 /// The file of pages, of so many whole pages, is older than the log that was left, or lacks pages that it had: the page of that log's newest change has this LSN in the file, a lower
-/// one, or a page that it changed is not there. A Switch writes every page that was changed, and no write makes a file shorter.
+/// one, or a page that it changed is not there. A Switch writes every page that was changed, a page without a full copy in the current log is as it was then or newer, and no write
+/// makes a file shorter.
 pub fn is_older(left: &LeftLog, pages: u64, lsn: u64) -> bool
     ensures { (result ≡ true) ↔ IsOlder left.now pages lsn }
 {
-    left.lsn > 0 && (pages < left.pages || lsn < left.lsn)
+    pages < left.pages || lsn < left.lsn
 }

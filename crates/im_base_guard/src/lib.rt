@@ -7,8 +7,8 @@
 //! whoever opens a folder, in Rattle and in C (`decide` answers a number). It stands on no other layer but the words of all, and its
 //! numbers are those of the headers of logs (docs/FORMATS.md).
 //!
-//! After a switch, while the current log has no record, the log that was left tells an older file of pages: `LeftLog` walks over it, a piece at a time, to its newest
-//! change, and `is_older` asks whether that is in the file.
+//! After a switch the log that was left tells an older file of pages: `LeftLog` walks over it, a piece at a time, to its newest change, and over the current log for the
+//! copies that this has of pages; `is_older` asks whether the file has that change.
 //!
 //! A refusal here is for ever, so what a stop may leave is never refused: `im_engine_guards` has that as a law. `may_lack_first_byte` is therefore
 //! no part of the decision: it tells a look at the files what they may have been.

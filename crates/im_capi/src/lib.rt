@@ -8,7 +8,7 @@ ghost use Rattle.std.specs.Prelude.{◌≡◌, ◌≤◌, ◌+◌, ◌↔◌, tr
 ghost use Rattle.std.specs.Borrow.{sem};
 ghost use Rattle.im_capi.specs.Pointers.{bytes_of_store, room_for_store, store_at, call_at};
 ghost use Rattle.im_base_guard.specs.Belonging.{Decides};
-ghost use Rattle.im_base_guard.specs.LeftLog.{left_log_of, walk, IsOlder};
+ghost use Rattle.im_base_guard.specs.LeftLog.{current_log_of, left_log_of, walk, IsOlder};
 ghost use Rattle.im_base_turns.specs.Turns.{IsAwaitedBy, IsLeastOf, IsPatient, MayBegin, Owns};
 
 use im_base_turns::{Asker, Going};
@@ -47,7 +47,15 @@ pub extern "C" fn im_left_log(folder: &im_base_guard::Folder, left: &mut im_base
     *left = im_base_guard::LeftLog::begin(folder);
 }
 
-/// Takes bytes of that log, those from the wanted place on, and walks on as far as they reach.
+/// The walk over the current log, at its first gate, with what that over the log that was left has found.
+#[unsafe(no_mangle)]
+pub extern "C" fn im_left_go_on(folder: &im_base_guard::Folder, left: &mut im_base_guard::LeftLog)
+    ensures { left.new ≡ current_log_of folder.now left.old }
+{
+    *left = left.go_on(folder);
+}
+
+/// Takes bytes of the log, those from the wanted place on, and walks on as far as they reach.
 #[unsafe(no_mangle)]
 pub extern "C" fn im_left_take(left: &mut im_base_guard::LeftLog, piece: &[u8])
     ensures { left.new ≡ walk (length piece.now) left.old.place piece.now left.old }
@@ -55,7 +63,7 @@ pub extern "C" fn im_left_take(left: &mut im_base_guard::LeftLog, piece: &[u8])
     left.take(piece);
 }
 
-/// Whether the file of pages lacks that log's newest change.
+/// Whether the file of pages lacks the newest change of the log that was left.
 #[unsafe(no_mangle)]
 pub extern "C" fn im_is_older(left: &im_base_guard::LeftLog, pages: u64, lsn: u64) -> bool
     ensures { (result ≡ true) ↔ IsOlder left.now pages lsn }

@@ -4,7 +4,7 @@ use Rattle.std.specs.Int.{w32, from_be_bytes}
 use Rattle.std.proofs.lemmas.Bool.{cases_lt, cond-false, ne_eqb}
 use Rattle.im_base_types.specs.Pages.{Body, Page}
 use Rattle.im_base_types.specs.declared.page_kind.PageKind.TheVariants.{Free, Leaf, Meta}
-use Rattle.im_theory_log.specs.Histories.{Base, History}
+use Rattle.im_theory_log.specs.Histories.{Base}
 use Rattle.im_theory_log.specs.Lawful.{IsLawful}
 use Rattle.im_theory_log.specs.RedoPoints.{Covers}
 use Rattle.im_theory_log.specs.Structure.{settled}
@@ -14,12 +14,9 @@ use Rattle.im_theory_page.proofs.PageFileLemmas.{page_past}
 use Rattle.im_theory_tree.specs.Theory.{page_tree}
 use Rattle.im_base_guard.specs.declared.folder.PagesFront.{PagesFront}
 use Rattle.im_base_guard.specs.Belonging.{LacksCounted}
-use Rattle.im_theory_left.specs.Left.{IsPast}
-use Rattle.im_base_guard.specs.declared.left_log.LeftLog.{LeftLog}
-use Rattle.im_base_guard.specs.LeftLog.{IsOlder}
-use Rattle.im_engine_guards.specs.Guards.{IsPagesFront, Names, lsn_in}
+use Rattle.im_engine_guards.specs.Guards.{IsPagesFront}
 use Rattle.im_engine_guards.proofs.FreePages.{few_lacking}
-use Rattle.im_engine_guards.proofs.PageFronts.{front_count, no_count, page_lsn}
+use Rattle.im_engine_guards.proofs.PageFronts.{front_count, no_count}
 
 -- from page 2 on, a page is free before anything is put
 free_at_first : (p : ℕ) → 2 ≤ p → (initial p).body ≡ empty_body Free 0 0 0 0
@@ -28,7 +25,7 @@ free_at_first p high =
     ∙ cond-false (p == 1) (empty_body Leaf 0 0 0 0) (empty_body Free 0 0 0 0) (ne_eqb p 1 (λ is. omega (arith, high, is)))
 
 module _ (b : Base) (file : List ℕ) (covers : Covers b [] (file_page file)) (lawful : IsLawful b page_tree []) where
-  pub as_based : (p : ℕ) → file_page file p ≡ Some (b.pages p)
+  as_based : (p : ℕ) → file_page file p ≡ Some (b.pages p)
   as_based p = let read = covers.read p refl in read.here ∙ ap (λ (g : Page). Some g) read.reaches.is
 
   at_first : (p : ℕ) → max 2 (page_count file) ≤ p → (b.pages p).body ≡ empty_body Free 0 0 0 0
@@ -51,27 +48,3 @@ module _ (b : Base) (file : List ℕ) (covers : Covers b [] (file_page file)) (l
         let most = few in
         omega (arith, said, more, over, long, most))
   ]
-
-  -- a page with a change is there
-  pub changed_there : (p : ℕ) → 1 ≤ (b.pages p).lsn → p < page_count file
-  changed_there p some = elim (cases_lt p (page_count file)) [
-    | inl there ↦ there
-    | inr past ↦ (
-        let same : Some (b.pages p) ≡ Some (initial p) = sym (as_based p) ∙ page_past file p (omega (arith, past)) in
-        let is : b.pages p ≡ initial p = cc in
-        let zero : (b.pages p).lsn ≡ 0 = ap (λ (g : Page). g.lsn) is in
-        absurd (omega (arith, some, zero)))
-  ]
-
-  pub never_older : (before : History) → IsPast b before → (l : LeftLog) → Names l before → IsOlder l (page_count file) (lsn_in file l.page) → ⊥
-  never_older before past l names (some, inl few) =
-      let low = past names.greatest names.among names.changed in
-      let there = changed_there names.greatest.page (let one = names.some in omega (arith, low, one)) in
-      let last = names.last in
-      omega (arith, there, last, few)
-  never_older before past l names (some, inr older) =
-      let low = past names.newest names.of names.changes in
-      let is = names.lsn in
-      let there = changed_there names.newest.page (omega (arith, low, is, some)) in
-      let lsn : lsn_in file l.page ≡ (b.pages names.newest.page).lsn = ap (lsn_in file) (sym names.page) ∙ page_lsn file names.newest.page (b.pages names.newest.page) there (as_based names.newest.page) in
-      omega (arith, low, is, lsn, older)

@@ -2,4 +2,5 @@ mod FreePages
 mod LogFronts
 mod PageFronts
 mod Counts
+mod Older
 mod Sound

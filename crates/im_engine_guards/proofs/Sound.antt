@@ -1,5 +1,5 @@
 -- Files that stand for effects are never refused.
-use Rattle.std.proofs.Common.{◌≡◌, ◌≢◌, ◌⊎◌, inl, inr, ⊎_elim, ℕ, ◌+◌, ◌/◌, ◌<◌, ◌≤◌, ◌||◌, ◌==◌, not, if◌then◌else◌, Bool, true, false, List, [], length, get_or, slice_index, Option, Some, None, Result, Ok, Err, refl, sym, ◌∙◌, ap, subst, arith}
+use Rattle.std.proofs.Common.{◌≡◌, ◌≢◌, ◌⊎◌, inl, inr, ⊎_elim, ℕ, ◌+◌, ◌/◌, ◌<◌, ◌≤◌, ◌||◌, if◌then◌else◌, Bool, true, false, List, [], length, get_or, slice_index, Option, Some, None, Result, Ok, Err, refl, sym, ◌∙◌, ap, subst, arith}
 use Rattle.std.specs.Prelude.{IfErr, IfOk}
 use Rattle.std.proofs.lemmas.Bool.{cases_Bool, cond-true, cond-false, le-ltb, lt-ltb}
 use Rattle.im_base_types.specs.Changes.{Effect}
@@ -13,8 +13,7 @@ use Rattle.im_base_guard.specs.declared.belonging.Apart.{Apart}
 use Rattle.im_base_guard.specs.declared.belonging.Apart.TheVariants.{NoFile, NoPages, ShortPages, NotALog}
 use Rattle.im_base_guard.specs.declared.belonging.Logs.{Logs}
 use Rattle.im_base_guard.specs.Fronts as guard
-use Rattle.im_theory_left.specs.Left.{IsPast}
-use Rattle.im_base_guard.specs.Belonging.{current, left, is_store, other_is_current, word_of, Decides, IsApart, IsVerdict, LacksCounted}
+use Rattle.im_base_guard.specs.Belonging.{current, is_store, other_is_current, word_of, Decides, IsApart, IsVerdict, LacksCounted}
 use Rattle.im_log_header.specs.Header as headers
 use Rattle.im_log_header.specs.Header.{generation_of, IsUnmade}
 use Rattle.im_log_choice.specs.Current.{IsCurrent, HasCurrent}
@@ -28,11 +27,13 @@ use Rattle.im_page_file.specs.OtherLog.{IsNewest}
 use Rattle.im_theory_log.specs.Histories.{Base, History}
 use Rattle.im_theory_log.specs.Lawful.{IsLawful}
 use Rattle.im_theory_log.specs.RedoPoints.{Covers}
+use Rattle.im_theory_log.proofs.Fronts.{rises}
 use Rattle.im_theory_page.specs.PageFile.{file_page}
 use Rattle.im_theory_tree.specs.Theory.{page_tree}
 use Rattle.im_engine.specs.Stands.{StandsFor}
 use Rattle.im_engine_guards.specs.Guards.{IsFolder, IsFront, IsLeft, IsPagesFront, NeverOlder, NeverRefused}
-use Rattle.im_engine_guards.proofs.Counts.{never_counted, never_older}
+use Rattle.im_engine_guards.proofs.Counts.{never_counted}
+use Rattle.im_engine_guards.proofs.Older.{never_older}
 use Rattle.im_engine_guards.proofs.LogFronts.{byte, gate_by, generation_same, second_made, second_same, unmade_by}
 
 -- a log of the second format behind whose header no gate is open has no record
@@ -148,30 +149,13 @@ module _ (effects : List Effect) (files : Files) (f : Folder) (stands : StandsFo
   current_named (Err why) apart = tt
   current_named (Ok logs) so = subst (λ (s : Bool). IsCurrent s files) (sym (so.current ∙ other_is files f is known stands.swapped stands.current)) stands.current
 
--- where the walk is not over at once, the current log is of the second format, and behind its header no gate is open
-begins_closed : (base first : ℕ) (made : Bool) → ((base == 0) || (first == 1) || made) ≡ false → (base ≢ 0) × (first ≢ 1)
-begins_closed base first made is =
-    let both = neither ((base == 0) || (first == 1)) made is in
-    let more = neither (base == 0) (first == 1) both.0 in (
-      λ (zero : base ≡ 0). (let clash : true ≡ false = sym (ap (λ (n : ℕ). n == 0) zero) ∙ more.0 in let never : ⊥ = cc in never),
-      λ (one : first ≡ 1). (let clash : true ≡ false = sym (ap (λ (n : ℕ). n == 1) one) ∙ more.1 in let never : ⊥ = cc in never),
-    )
-
 pub never_older_pages : NeverOlder
-never_older_pages effects files f stands is going before past l names older =
-    let has = known effects files f stands is in
-    let begins = begins_closed (guard.base_of (current f)) (slice_index (current f).bytes 47) (not (guard.says_made (left f))) going in
-    let second : guard.says_second (current f) ≡ true = elim (cases_Bool (guard.says_second (current f))) [
-      | inl holds ↦ holds
-      | inr fails ↦ absurd (begins.0 (cond-false (guard.says_second (current f)) (guard.number_at 24 (current f)) 0 fails))
-    ] in
-    let s = stands.swapped in
-    let none : stands.log ≡ [] = no_record stands.base stands.log (named s files Log) (current f) (front_of files f is has s (other_is files f is has s stands.current)) second begins.1 stands.has.log in
-    by s stands.b stands.log none stands.has.covers stands.lawful past
+never_older_pages effects files stands before past l names older =
+    by stands.swapped stands.has.covers
   where
-    by : (s : Bool) (b : Base) (all : History) → all ≡ [] → Covers b all (file_page (named s files Pages)) → IsLawful b page_tree all → IsPast b before → ⊥
-    by true b all none covers lawful past = never_older b (files Pages) (subst (λ (h : History). Covers b h (file_page (files Pages))) none covers) (subst (λ (h : History). IsLawful b page_tree h) none lawful) before past l names older
-    by false b all none covers lawful past = never_older b (files Pages) (subst (λ (h : History). Covers b h (file_page (files Pages))) none covers) (subst (λ (h : History). IsLawful b page_tree h) none lawful) before past l names older
+    by : (s : Bool) → Covers stands.b stands.log (file_page (named s files Pages)) → ⊥
+    by true covers = never_older stands.b before stands.log (files Pages) past (rises stands.b page_tree stands.log stands.lawful) covers l names older
+    by false covers = never_older stands.b before stands.log (files Pages) past (rises stands.b page_tree stands.log stands.lawful) covers l names older
 
 pub sound : NeverRefused
 sound = record {

@@ -1,5 +1,5 @@
 -- What the guard of a folder says of a store.
-use Rattle.std.specs.Prelude.{◌≡◌, ◌≤◌, ◌<◌, ◌+◌, ◌*◌, nat_lt, if◌then◌else◌, ℕ, true, false, List, [], ◌++◌, length, take, drop, replicate, Result, IfErr, IfOk}
+use Rattle.std.specs.Prelude.{◌≡◌, ◌≤◌, ◌<◌, ◌+◌, ◌*◌, nat_lt, if◌then◌else◌, ℕ, true, List, ◌++◌, length, take, drop, replicate, None, Result, IfErr, IfOk}
 use Rattle.std.specs.Int.{w64, from_be_bytes}
 use Rattle.im_base_types.specs.Changes.{Effect}
 use Rattle.im_base_types.specs.Records.{Logged}
@@ -10,7 +10,7 @@ use Rattle.im_base_guard.specs.declared.folder.Front.{Front}
 use Rattle.im_base_guard.specs.declared.folder.PagesFront.{PagesFront}
 use Rattle.im_base_guard.specs.declared.folder.Folder.{Folder}
 use Rattle.im_base_guard.specs.declared.left_log.LeftLog.{LeftLog}
-use Rattle.im_base_guard.specs.LeftLog.{left_log_of, IsOlder}
+use Rattle.im_base_guard.specs.LeftLog.{IsOlder}
 use Rattle.im_base_guard.specs.Fronts.{BeginsWithChange}
 use Rattle.im_base_guard.specs.Belonging.{left, IsVerdict, Decides}
 use Rattle.im_base_guard.specs.declared.belonging.Apart.{Apart}
@@ -19,6 +19,7 @@ use Rattle.im_log_choice.specs.Current.{IsCurrent}
 use Rattle.im_engine.specs.Stands.{StandsFor}
 use Rattle.im_log_header.specs.Header.{IsUnmade}
 use Rattle.im_theory_left.specs.Left.{IsPast}
+use Rattle.im_theory_log.specs.Copies.{copy_in}
 use Rattle.im_theory_log.specs.Histories.{History, IsRecordOf, changes_page}
 use Rattle.im_theory_page.specs.PageFile.{page_count}
 use Rattle.im_theory_tree.specs.Levels.{Pages}
@@ -69,26 +70,38 @@ pub record NeverRefused : Type 0 where
 
 -- ---- older pages
 
--- The newest change that a walk over the log that was left has found is one of its records, and so is a change of the greatest page.
-pub record Names (l : LeftLog) (before : History) : Type 0 where
+-- A change of the log that was left, of whose page no record of the current log has a full copy.
+pub record IsUncopied (s : Logged) (before log : History) : Type 0 where
+  pub of : IsRecordOf s before
+  pub changes : changes_page s.what ≡ true
+  pub none : (r : Logged) → IsRecordOf r log → r.page ≡ s.page → copy_in r.lsn r.what ≡ None
+
+-- Such a one is the newest change that the walks have left, with its LSN and its page,
+pub record NamesNewest (l : LeftLog) (before log : History) : Type 0 where
   pub newest : Logged
-  pub of : IsRecordOf newest before
-  pub changes : changes_page newest.what ≡ true
+  pub uncopied : IsUncopied newest before log
   pub lsn : newest.lsn ≡ l.lsn
   pub page : newest.page ≡ l.page
+
+-- and one of the greatest page.
+pub record NamesGreatest (l : LeftLog) (before log : History) : Type 0 where
   pub greatest : Logged
-  pub among : IsRecordOf greatest before
-  pub changed : changes_page greatest.what ≡ true
+  pub uncopied : IsUncopied greatest before log
   pub some : 1 ≤ greatest.lsn
   pub last : greatest.page + 1 ≡ l.pages
+
+-- What the walks over the log that was left and over the current one name is so.
+pub record Names (l : LeftLog) (before log : History) : Type 0 where
+  pub newest : 0 < l.lsn → NamesNewest l before log
+  pub greatest : 0 < l.pages → NamesGreatest l before log
 
 -- the LSN of a page in a file of pages, 0 where it is not there
 abbrev pub lsn_in : List ℕ → ℕ → ℕ
 lsn_in file p = if nat_lt p (page_count file) then from_be_bytes w64 (take 8 (drop (p * 4096) file)) else 0
 
--- The walk finds no older pages beside files that stand for effects, whose current log has no record: over pages in which each change of the log that was left is, as a Switch makes them (`PastAfter`).
+-- The walks find no older pages beside files that stand for effects: over pages in which each change of the log that was left is, as a Switch makes them (`PastAfter`).
 abbrev pub NeverOlder : Type 0
-NeverOlder = (effects : List Effect) (files : Files) (f : Folder) (stands : StandsFor effects files) → IsFolder files f → (left_log_of f).is_over ≡ false → (before : History) → IsPast stands.b before → (l : LeftLog) → Names l before
+NeverOlder = (effects : List Effect) (files : Files) (stands : StandsFor effects files) (before : History) → IsPast stands.b before → (l : LeftLog) → Names l before stands.log
     → IsOlder l (page_count (files PagesFile)) (lsn_in (files PagesFile) l.page) → ⊥
 
 -- ---- why page 0 counts no more

@@ -376,7 +376,7 @@ fn leads_to<R: Threads + Sync>(
     comes_to(rt, folder, comes)
 }
 
-static TURNS: [(Act, Comes); 15] = [
+static TURNS: [(Act, Comes); 20] = [
     // A log whose first byte is damaged is passed over as one that a stop left in the midst of its making: the check tells it.
     (Act::Make(1), Comes::Open),
     (Act::Overwrite("log2", 0, &[0]), Comes::Open),
@@ -402,7 +402,7 @@ static TURNS: [(Act, Comes); 15] = [
         Act::Cut("pages", 0),
         Comes::Refused("`pages` in it lacks pages that the store had when its log began"),
     ),
-    // Behind a switch page 1 has the newest change of the log that was left.
+    // After a switch page 1 has the newest change of the log that was left.
     (Act::Make(1), Comes::Open),
     (Act::Fill("switch\n"), Comes::OpenWith(2 * PAGE_SIZE)),
     (
@@ -411,6 +411,17 @@ static TURNS: [(Act, Comes); 15] = [
             "`pages` in it is older than its logs: it lacks the newest change from before the last switch",
         ),
     ),
+    // So it has while the current log has no full copy of it: a stop may leave any bytes of a page that has one.
+    (Act::Make(1), Comes::Open),
+    (
+        Act::Overwrite("pages", PAGE_SIZE, &[0; 8]),
+        Comes::Refused(
+            "`pages` in it is older than its logs: it lacks the newest change from before the last switch",
+        ),
+    ),
+    (Act::Make(1), Comes::Open),
+    (Act::Fill("flush 1\n"), Comes::OpenWith(2 * PAGE_SIZE)),
+    (Act::Overwrite("pages", PAGE_SIZE, &[0; 8]), Comes::Open),
     // A store without keys has no pages, however often its log goes on; and the first that it writes may be there alone.
     (Act::Empty(100), Comes::OpenWith(0)),
     (

@@ -1,4 +1,4 @@
-//! The log that a store has left, emptied.
+//! The log that a store has left, cut to its first batch.
 
 use crate::copies::{copies_in, is_whole};
 use crate::looked::{fill, numbers_of};
@@ -40,7 +40,7 @@ fn trimmed_meanwhile<R: Threads + Sync>(rt: &HostRuntime, threads: &R) -> Result
     trimmed(rt, threads, FOLDER)
 }
 
-// What a trim empties: of a store whose log never went on nothing, and then the log that was left.
+// What a trim cuts: of a store whose log never went on nothing, and then the log that was left.
 #[derive(Clone, Copy)]
 enum Left {
     Nothing,
@@ -48,23 +48,26 @@ enum Left {
     Second,
 }
 
+// Where the first batch of a log ends that began with one insert of a key of one byte, and its commit.
+const FIRST_BATCH: usize = 128;
+
 // The lengths that a trim leaves of these.
 fn left_of(left: Left, lengths: (usize, usize)) -> (usize, usize) {
     match left {
         Left::Nothing => lengths,
-        Left::First => (0, lengths.1),
-        Left::Second => (lengths.0, 0),
+        Left::First => (FIRST_BATCH, lengths.1),
+        Left::Second => (lengths.0, FIRST_BATCH),
     }
 }
 
-// Lines in turn for one folder, how many keys the store then has, and what a trim empties.
+// Lines in turn for one folder, how many keys the store then has, and what a trim cuts.
 static TURNS: [(&str, u64, Left); 3] = [
     ("begin\ninsert 1 a 1\ncommit 1\n", 1, Left::Nothing),
     ("switch\nbegin\ninsert 2 b 2\ncommit 2\n", 2, Left::First),
     ("switch\nbegin\ninsert 3 c 3\ncommit 3\n", 3, Left::Second),
 ];
 
-// Whether a trim is refused, and does nothing, while the store is open, and whether two then empty that, and no key goes.
+// Whether a trim is refused, and does nothing, while the store is open, and whether two then cut that, and no key goes.
 fn is_trimmed<R: Threads + Sync>(
     rt: &HostRuntime,
     threads: &R,
@@ -84,7 +87,7 @@ fn is_trimmed<R: Threads + Sync>(
 }
 
 #[test]
-fn the_log_that_a_store_left_is_emptied(rt: HostRuntime) -> Result<(), Fail> {
+fn the_log_that_a_store_left_is_cut_to_its_first_batch(rt: HostRuntime) -> Result<(), Fail> {
     let _ = fs::remove_dir_all(&rt, FOLDER);
     assert!(rt; trimmed(&rt, &rt, FOLDER)? == 1 && !fs::exists(&rt, FOLDER)?);
     for (lines, count, left) in &TURNS {

@@ -246,7 +246,7 @@ fn with_tasks<'a>(alloc: Global, command: Command<'a>) -> Result<Command<'a>, Er
         alloc,
         command,
         "trim",
-        "Empty the log file that the store has left, and cut the other one to its end where it has no record",
+        "Cut the log file that the store has left to its first batch, and the other one to its end where it has no record",
     )
 }
 

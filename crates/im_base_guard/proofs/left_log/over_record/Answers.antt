@@ -2,7 +2,7 @@ use Rattle.std.proofs.Common.{◌≡◌, ℕ, Bool, false, if◌then◌else◌, 
 use Rattle.std.proofs.lemmas.Bool.{cond-false}
 use Rattle.std.proofs.lemmas.List.{take_rest}
 use Rattle.im_base_guard.specs.declared.left_log.LeftLog.{LeftLog}
-use Rattle.im_base_guard.specs.LeftLog.{keeps_page, leaves_batch, noted_step, number, over, sum}
+use Rattle.im_base_guard.specs.LeftLog.{found_step, leaves_batch, number, over, says_nothing, sum}
 use Rattle.im_base_guard.proofs.left_log.over_record.Goals as goal
 
 pub returns : goal.returns
@@ -11,12 +11,12 @@ returns c =
     let bytes : List ℕ = c.args.bytes.now in
     let size : c.from-size.result ≡ number bytes = omega (arith, c.from-size.ensures, c.number.ensures) in
     let within : leaves_batch l (number bytes) ≡ false = ap (leaves_batch l) (sym size) ∙ sym c.leaves.ensures ∙ c.if-leaves.false in
-    let changes : keeps_page (slice_index bytes 4) ≡ false = sym c.keeps.ensures ∙ c.if-keeps.false in
+    let says : says_nothing l.is_current (slice_index bytes 4) ≡ false = sym c.is_passed.ensures ∙ c.if-is_passed.false in
     let place : c.saturating_add-place.result ≡ sum l.place (number bytes) = omega (arith, c.saturating_add-place.ensures, size) in
     let page : c.number-2.result ≡ number (drop 29 bytes) = c.number-2.ensures ∙ ap (λ (t : List ℕ). number t) (take_rest bytes 29) in
-    let noted = noted_step l (sum l.place (number bytes)) (number (drop 29 bytes)) in
-    c.noted.ensures
-    ∙ ap (λ (p : ℕ). noted_step l p c.number-2.result) place
-    ∙ ap (λ (q : ℕ). noted_step l (sum l.place (number bytes)) q) page
-    ∙ sym (cond-false (keeps_page (slice_index bytes 4)) (record l { place = sum l.place (number bytes) }) noted changes)
-    ∙ sym (cond-false (leaves_batch l (number bytes)) (over l) (if keeps_page (slice_index bytes 4) then record l { place = sum l.place (number bytes) } else noted) within)
+    let found = found_step l (sum l.place (number bytes)) (number (drop 29 bytes)) in
+    c.found.ensures
+    ∙ ap (λ (p : ℕ). found_step l p c.number-2.result) place
+    ∙ ap (λ (q : ℕ). found_step l (sum l.place (number bytes)) q) page
+    ∙ sym (cond-false (says_nothing l.is_current (slice_index bytes 4)) (record l { place = sum l.place (number bytes) }) found says)
+    ∙ sym (cond-false (leaves_batch l (number bytes)) (over l) (if says_nothing l.is_current (slice_index bytes 4) then record l { place = sum l.place (number bytes) } else found) within)
