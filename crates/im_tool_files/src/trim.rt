@@ -15,8 +15,8 @@ use std::io;
 use std::io::{BufWriter, Write};
 
 /// Cuts the log of the lower generation of the store in a folder, which no other program has open, to its first batch, which tells a file of pages from before
-/// that log; and the current one to its end where it has no record. The store goes on in the current one, and makes the other anew when it leaves that. It
-/// answers the exit status: 0, or 1 where nothing was done because of a refusal.
+/// that log, and is none without the gate after it; and the current one to its end where it has no record. The store goes on in the current one, and makes the
+/// other anew when it leaves that. It answers the exit status: 0, or 1 where nothing was done because of a refusal.
 pub fn trim_program(rt: &HostRuntime, dir: &str) -> io::Result<u8>
     ensures { IfOk result (λ status. status ≤ 1) }
 {
