@@ -1,5 +1,5 @@
 -- What the guard of a folder says of a store.
-use Rattle.std.specs.Prelude.{◌≡◌, ◌≤◌, ◌<◌, ◌+◌, ◌*◌, nat_lt, if◌then◌else◌, ℕ, true, List, ◌++◌, length, take, drop, replicate, None, Result, IfErr, IfOk}
+use Rattle.std.specs.Prelude.{◌≡◌, ◌≤◌, ◌<◌, ◌+◌, ◌*◌, nat_lt, if◌then◌else◌, ℕ, true, List, [], ◌++◌, length, take, drop, replicate, None, Result, IfErr, IfOk}
 use Rattle.std.specs.Int.{w64, from_be_bytes}
 use Rattle.im_base_types.specs.Changes.{Effect}
 use Rattle.im_base_types.specs.Records.{Logged}

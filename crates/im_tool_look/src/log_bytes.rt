@@ -100,7 +100,7 @@ impl LogPiece {
         if size == 0 || size > LONGEST_BATCH {
             return Ok(None);
         }
-        let whole = AHEAD + size + more;
+        let whole = (AHEAD + size).saturating_add(more);
         self.hold(files, gate, whole)?;
         if self.piece.held(gate, whole).len() < whole {
             return Ok(None);
