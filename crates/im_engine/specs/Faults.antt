@@ -17,3 +17,8 @@ abbrev pub ends_engine : Fault → Bool
 ends_engine faults.PagesFull = false
 ends_engine faults.Memory = false
 ends_engine e = true
+
+-- how it answers one of a call that only looks, which a structure change under way may have refused
+abbrev pub told_look : Fault → Fault
+told_look faults.Unfinished = faults.Unfinished
+told_look e = told_as e

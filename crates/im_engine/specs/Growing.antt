@@ -1,7 +1,8 @@
 -- Which records join the log in a step.
-use Rattle.std.specs.Prelude.{◌≡◌, ◌≤◌, ℕ, ◌∷◌, length}
+use Rattle.std.specs.Prelude.{◌≡◌, ◌≢◌, ◌≤◌, ℕ, ◌∷◌, length, Option, None, Some}
 use Rattle.im_base_types.specs.Answers.{Step, Reply, Do, Insert, Delete, Commit, Rollback, Continue, Force, Checkpoint, Switch, Started, Inserted, Deleted, Committed, RolledBack, More, Done}
 use Rattle.im_base_types.specs.Keys.{Key}
+use Rattle.im_base_types.specs.Pages.{Body}
 use Rattle.im_base_types.specs.Records.{InsertKey, DeleteKey, Logged}
 use Rattle.im_theory_log.specs.Histories.{Base, History}
 use Rattle.im_theory_log.specs.Copies.{GrowsByImages}
@@ -10,7 +11,11 @@ use Rattle.im_theory_log.specs.Structure.{settled}
 use Rattle.im_theory_log.specs.Transactions.{last_of}
 use Rattle.im_log_record.specs.Entry as entries
 use Rattle.im_log.specs.Spelled.{logged_at}
+use Rattle.im_theory_machine.specs.View.{Under, Aim, Puts, TakesBack, TookBack, owner_of}
+use Rattle.im_theory_tree.specs.Good.{AllOf}
 use Rattle.im_smo_log.specs.Changes.{GrowsByChange, HasRecordOf}
+use Rattle.im_smo_log.specs.Logged.{smo_at, dummy_at}
+use Rattle.im_smo_log.specs.Under.{is_structural}
 use Rattle.im_smo_split.specs.Tops.{LacksRoomFor}
 use Rattle.im_smo_actions.specs.DropPlan.{IsSpare}
 use Rattle.im_restart_undo.specs.Records.{GrowsByUndo, compensations}
@@ -63,18 +68,105 @@ pub record AddsCheckpoint (older longer : History) : Type 0 where
   pub checkpoint : IsCheckpoint newest
   pub is : longer ≡ newest ∷ older
 
--- By the reply and the step. A step that is not named here adds Images alone, which writes of pages want, and a Begin, a Rollback and a Force add nothing.
-abbrev pub GrowsAs : Base → Reply → Step → History → History → Type 0
-GrowsAs b Inserted (Do t (Insert key rid)) older longer = PutsKey b t key rid older longer
-GrowsAs b Deleted (Do t (Delete key)) older longer = DropsKey b t key older longer
-GrowsAs b Committed (Commit t) older longer = AddsCommit t older longer
-GrowsAs b More (Commit t) older longer = AddsCommit t older longer
-GrowsAs b More (Rollback t) older longer = longer ≡ older
-GrowsAs b More (Continue t) older longer = TakesOneBack t older longer
-GrowsAs b RolledBack (Rollback t) older longer = longer ≡ older
-GrowsAs b RolledBack (Continue t) older longer = TakesLastBack t older longer
-GrowsAs b (Started n) step older longer = longer ≡ older
-GrowsAs b Done Force older longer = longer ≡ older
-GrowsAs b Done Checkpoint older longer = AddsCheckpoint older longer
-GrowsAs b Done Switch older longer = ⊥  -- the log goes on in the other file
-GrowsAs b reply step older longer = GrowsByImages b older longer
+-- ---- structure changes that are made page by page
+
+-- One page of a structure change of the transaction: its record is the newest, behind Images.
+pub record LogsPage (b : Base) (t : ℕ) (older longer : History) : Type 0 where
+  pub between : History
+  pub images : GrowsByImages b older between
+  pub last : ℕ
+  pub lsn : ℕ
+  pub page : ℕ
+  pub was : Body
+  pub now : Body
+  pub is : longer ≡ smo_at lsn t last page was now ∷ between
+
+-- The record that closes a structure change of the transaction, and no other.
+pub record Closes (t : ℕ) (older longer : History) : Type 0 where
+  pub last : ℕ
+  pub lsn : ℕ
+  pub undo_next : ℕ
+  pub is : longer ≡ dummy_at lsn t last undo_next ∷ older
+
+-- The record of a key, behind Images alone: no structure change is made.
+pub record PutsAlone (b : Base) (t : ℕ) (key : Key) (rid : ℕ) (older longer : History) : Type 0 where
+  pub between : History
+  pub images : GrowsByImages b older between
+  pub last : ℕ
+  pub lsn : ℕ
+  pub page : ℕ
+  pub is : longer ≡ key_record t last lsn page (InsertKey key rid) ∷ between
+
+pub record DropsAlone (b : Base) (t : ℕ) (key : Key) (older longer : History) : Type 0 where
+  pub between : History
+  pub images : GrowsByImages b older between
+  pub rid : ℕ
+  pub last : ℕ
+  pub lsn : ℕ
+  pub page : ℕ
+  pub is : longer ≡ key_record t last lsn page (DeleteKey key rid) ∷ between
+
+-- The compensation of one change, behind Images alone.
+pub record TakesAlone (t : ℕ) (older longer : History) : Type 0 where
+  pub one : TakesOneBack t older longer
+  pub plain : AllOf (λ (r : Logged). is_structural r.what ≡ false) one.grows.more
+
+-- The End, behind which nothing is left.
+pub record EndsAlone (t : ℕ) (older longer : History) : Type 0 where
+  pub last : ℕ
+  pub lsn : ℕ
+  pub is : longer ≡ logged_at lsn (entries.End t last) ∷ older
+
+-- the key that was to come comes
+abbrev pub PutsFor : Base → ℕ → Aim → History → History → Type 0
+PutsFor b t (Puts key rid) older longer = PutsAlone b t key rid older longer
+PutsFor b t _ older longer = ⊥
+
+abbrev pub PutsPending : Base → Option Under → History → History → Type 0
+PutsPending b None older longer = ⊥
+PutsPending b (Some u) older longer = PutsFor b u.owner u.aim older longer
+
+-- first the record that closes the change, and then this
+pub record ClosesThen (t : ℕ) (Then : History → Type 0) (older : History) : Type 0 where
+  pub closed : History
+  pub closes : Closes t older closed
+  pub then : Then closed
+
+-- What a Continue adds that is answered More, by whose structure change was under way, and is.
+pub data GoesOnBy (b : Base) (was now : Option Under) (t : ℕ) (older longer : History) : Type 0 where
+  -- a change is taken back, beside the structure change of another or none
+  turns : owner_of was ≢ Some t → owner_of now ≢ Some t → TakesOneBack t older longer → GoesOnBy b was now t older longer
+  -- a structure change begins with its first page, behind which a change is taken back; or a change is taken back, and behind it one begins
+  splits : was ≡ None → now ≡ Some (record { owner = t; aim = TakesBack }) → LogsPage b t older longer → GoesOnBy b was now t older longer
+  empties : was ≡ None → now ≡ Some (record { owner = t; aim = TookBack }) → TakesAlone t older longer → GoesOnBy b was now t older longer
+  -- the next page of its own
+  pages : owner_of was ≡ Some t → now ≡ was → LogsPage b t older longer → GoesOnBy b was now t older longer
+  -- the end of its own
+  takes_behind : was ≡ Some (record { owner = t; aim = TakesBack }) → now ≡ None → ClosesThen t (λ between. TakesOneBack t between longer) older → GoesOnBy b was now t older longer
+  drops : was ≡ Some (record { owner = t; aim = TookBack }) → now ≡ None → Closes t older longer → GoesOnBy b was now t older longer
+
+-- What one adds with which a rollback ends.
+pub data EndsBy (was : Option Under) (t : ℕ) (older longer : History) : Type 0 where
+  turns : owner_of was ≢ Some t → TakesLastBack t older longer → EndsBy was t older longer
+  takes_behind : was ≡ Some (record { owner = t; aim = TakesBack }) → ClosesThen t (λ between. TakesLastBack t between longer) older → EndsBy was t older longer
+  drops : was ≡ Some (record { owner = t; aim = TookBack }) → ClosesThen t (λ between. EndsAlone t between longer) older → EndsBy was t older longer
+
+-- By the reply and the step, and by the structure change that was under way before it and is behind it. A step that is not named here adds Images alone, which writes of pages want, and a Begin, a Rollback and a Force add nothing.
+abbrev pub GrowsAs : Base → (was now : Option Under) → Reply → Step → History → History → Type 0
+GrowsAs b was now Inserted (Do t (Insert key rid)) older longer = PutsKey b t key rid older longer
+GrowsAs b was now Inserted (Continue t) older longer = ClosesThen t (λ between. PutsPending b was between longer) older
+GrowsAs b was now Deleted (Do t (Delete key)) older longer = DropsKey b t key older longer
+GrowsAs b was now Deleted (Continue t) older longer = Closes t older longer
+GrowsAs b was now Committed (Commit t) older longer = AddsCommit t older longer
+GrowsAs b was now More (Do t (Insert key rid)) older longer = LogsPage b t older longer
+GrowsAs b was now More (Do t (Delete key)) older longer = DropsAlone b t key older longer
+GrowsAs b was now More (Commit t) older longer = AddsCommit t older longer
+GrowsAs b was now More (Rollback t) older longer = longer ≡ older
+GrowsAs b was now More (Continue t) older longer = GoesOnBy b was now t older longer
+GrowsAs b was now RolledBack (Rollback t) older longer = longer ≡ older
+GrowsAs b was now RolledBack (Continue t) older longer = EndsBy was t older longer
+GrowsAs b was now (Started n) step older longer = longer ≡ older
+GrowsAs b was now Done Force older longer = longer ≡ older
+GrowsAs b was now Done Checkpoint older longer = AddsCheckpoint older longer
+GrowsAs b was now Done Switch older longer = ⊥  -- the log goes on in the other file
+GrowsAs b was now reply step older longer = GrowsByImages b older longer

@@ -27,6 +27,7 @@ use Rattle.im_theory_machine.specs.Machine.{Moves, start}
 use Rattle.im_base_types.specs.Faults.{number_of}
 use Rattle.im_restart.specs.Restart.{IsReport, RunsOut}
 use Rattle.im_engine.specs.declared.engine.Engine.{Engine}
+use Rattle.im_engine.specs.Aims.{under_of}
 use Rattle.im_engine.specs.Stands.{StandsFor, Allowed}
 use Rattle.im_engine.specs.Running.{IsRunning, IsLife}
 use Rattle.im_engine.specs.Growing.{GrowsAs}
@@ -106,7 +107,7 @@ module _ {D : Type 0} (d : Ghosts D) where
     pub b : Base
     pub was : IsRunning d b before s v old
     pub now : IsRunning d b before (shows s step (Some reply)) next new
-    pub grows : GrowsAs b reply step was.now.log now.now.log
+    pub grows : GrowsAs b (under_of old.under) (under_of new.under) reply step was.now.log now.now.log
 
   -- The log went on in the other file. With Images more it ended below the LSN of that file's first byte, and the pages and the map that it made are what the new one, with no record, is over.
   pub record HasTurned (before : List Effect) (s : Shown) (v : View) (step : Step) (reply : Reply) (next : View) (old new : Engine D d) : Type 0 where

@@ -3,10 +3,12 @@ pub mod Faults
 pub mod Stands
 pub mod FirstFormat
 pub mod Promise
+pub mod Aims
 pub mod Running
 pub mod Growing
 pub mod Kept
 pub mod Costs
+pub mod Paces
 pub mod Told
 pub mod Looking
 pub mod Counted

@@ -1,8 +1,8 @@
 -- How calls end that only look.
-use Rattle.std.specs.Prelude.{◌≡◌, ◌↔◌, Bool, true, false, Option, Some, None, IfSome, length}
+use Rattle.std.specs.Prelude.{◌≡◌, ◌≢◌, ◌↔◌, Bool, true, false, Option, Some, None, is_some, IfSome, length}
 use Rattle.im_base_types.specs.Pages.{Page}
 use Rattle.im_base_types.specs.declared.fault.Fault.{Fault}
-use Rattle.im_base_types.specs.declared.fault.Fault.TheVariants.{Device, Failed}
+use Rattle.im_base_types.specs.declared.fault.Fault.TheVariants.{Device, Failed, Unfinished}
 use Rattle.im_base_disk.specs.declared.disk.Disk.{Ghosts}
 use Rattle.im_page.specs.declared.header.Header.{Header}
 use Rattle.im_engine.specs.declared.engine.Engine.{Engine}
@@ -29,9 +29,13 @@ module _ {D : Type 0} (d : Ghosts D) where
     pub locks : new.locks ≡ old.locks
     pub max_pages : new.max_pages ≡ old.max_pages
     pub report : new.report ≡ old.report
+    pub stepped : new.stepped ≡ old.stepped
+    pub under : new.under ≡ old.under
 
-  -- How a call ends that only looks: an engine that has failed answers that alone and stays as it was, and any other ends as a search.
+  -- How a call ends that only looks: an engine that has failed answers that alone and stays as it was, and so does one that is asked for its whole tree while a structure change is under way; any other ends as a search.
   pub record Looks (why : Option Fault) (old new : Engine D d) : Type 0 where
     pub failed : (why ≡ Some Failed) ↔ (old.failed ≡ true)
     pub same : old.failed ≡ true → new ≡ old
-    pub searched : old.failed ≡ false → Searched why old new
+    -- a structure change under way: all is as it was
+    pub unfinished : why ≡ Some Unfinished → (is_some old.under ≡ true) × (new ≡ old)
+    pub searched : old.failed ≡ false → why ≢ Some Unfinished → Searched why old new

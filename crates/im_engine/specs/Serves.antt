@@ -1,18 +1,28 @@
 -- An engine as a store that a front shares among threads.
-use Rattle.std.specs.Prelude.{◌≡◌, ◌≤◌, ℕ, false, List, ◌++◌, [], length, Some}
-use Rattle.std.proofs.Common.{refl, sym, ◌∙◌, arith}
+use Rattle.std.specs.Prelude.{◌≡◌, ◌≤◌, ℕ, false, List, ◌++◌, [], ◌∷◌, length, find, Option, None, Some}
+use Rattle.std.proofs.Common.{refl, sym, ap, subst, ◌∙◌, arith}
 use Rattle.std.specs.FinMap.{empty}
+use Rattle.im_base_types.specs.Answers.{Idle}
 use Rattle.im_base_types.specs.Changes.{Effect, apply_all}
+use Rattle.im_theory_log.specs.Histories.{Base}
 use Rattle.im_base_types.specs.Lives.{Shown, Survives, effects, nothing_shown}
 use Rattle.im_base_types.specs.declared.fault.Fault as below
 use Rattle.im_base_disk.specs.declared.disk.Disk.{Ghosts}
 use Rattle.im_base_disk.specs.Disk.{Files}
-use Rattle.im_theory_machine.specs.View.{View}
+use Rattle.im_base_txn.specs.declared.transaction.Transaction.{Transaction}
+use Rattle.im_base_txn.specs.Rows.{is_of}
+use Rattle.im_theory_machine.specs.View as views
+use Rattle.im_theory_machine.specs.View.{View, Txn, owner_in}
 use Rattle.im_theory_machine.specs.Machine.{start}
+use Rattle.im_theory_steps.specs.Serving.{IsAt}
+use Rattle.im_theory_steps.specs.Steps.{mark_for_aim}
 use Rattle.im_theory_steps.proofs.Durable.{quiet_lives_settle}
+use Rattle.im_theory_steps.proofs.Owner.{owners_marked}
 use Rattle.im_base_types.specs.declared.fault.Fault.{Fault}
 use Rattle.im_engine.specs.declared.engine.Engine.{Engine}
-use Rattle.im_engine.specs.Faults.{told_as}
+use Rattle.im_engine.specs.declared.stepped.Under.{Under}
+use Rattle.im_engine.specs.Aims.{aim_of, owned, under_of}
+use Rattle.im_engine.specs.Faults.{told_look}
 use Rattle.im_engine.specs.Stands.{StandsFor, Allowed}
 use Rattle.im_engine.specs.Running.{IsRunning, IsLife}
 use Rattle.im_engine.specs.Looking.{Looks}
@@ -30,12 +40,37 @@ module _ {D : Type 0} (d : Ghosts D) where
   -- why the entries are refused
   pub record IsRefused (old new : Engine D d) (fault : Fault) : Type 0 where
     pub why : below.Fault
-    pub told : fault ≡ told_as why
+    pub told : fault ≡ told_look why
     pub looks : Looks d (Some why) old new
+
+no_rows : (rows : List Transaction) → length rows ≡ 0 → rows ≡ []
+no_rows [] none = refl
+no_rows (row ∷ rows) none = absurd (cc none)
+
+-- who has a structure change under way is active
+never_idle : (aim : views.Aim) → Idle ≡ mark_for_aim aim → ⊥
+never_idle (views.Puts k i) is = cc is
+never_idle (views.Drops k) is = cc is
+never_idle views.TakesBack is = cc is
+never_idle views.TookBack is = cc is
 
 -- nobody waits for a force: who waits is active
 pub none_waits : (active : ℕ) → 0 ≤ active
 none_waits active = omega arith
+
+-- where nobody is active no structure change is under way
+module _ {D : Type 0} (d : Ghosts D) {b : Base} (before : List Effect) (s : Shown) (v : View) (e : Engine D d) (r : IsRunning d b before s v e) (none : v.active ≡ 0) where
+  all_idle : (t : ℕ) → (v.txns t).mark ≡ Idle
+  all_idle t =
+      let empty : e.txns.rows ≡ [] = no_rows e.txns.rows (sym r.serving.table.active ∙ none) in
+      ap (λ (x : Txn). x.mark) (subst (λ (rows : List Transaction). IsAt t (find (is_of t) rows) e.txns.next r.now.log (owner_in v) (v.txns t)) empty (r.serving.table.each t)).2
+
+  pub nobody_owns : e.under ≡ None
+  nobody_owns = by e.under refl
+    where
+      by : (under : Option Under) → e.under ≡ under → e.under ≡ None
+      by None is = is
+      by (Some u) is = absurd (never_idle (aim_of u.aim) (sym (all_idle u.begun.change.transaction) ∙ owners_marked.marked (apply_all empty before) v r.serving.reached (owned u) (r.same ∙ ap under_of is)))
 
 module _ {D : Type 0} {d : Ghosts D} where
   -- what was acknowledged survives a stop
@@ -67,11 +102,11 @@ module _ {D : Type 0} {d : Ghosts D} where
                 redo_end = r.redo_end;
                 over = r.over;
                 lawful = r.lawful;
-                closed = r.closed;
+                changing = r.changing;
                 serving = on.serving;
                 commits = on.commits;
                 numbered = r.numbered;
-                unowned = refl;
+                same = sym (ap under_of (nobody_owns d before s v e r none));
               },
             );
           };

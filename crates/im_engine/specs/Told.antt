@@ -1,8 +1,8 @@
 -- What a reply alone says of an engine, and why a step is refused.
-use Rattle.std.specs.Prelude.{◌≡◌, ◌≢◌, ◌⊎◌, ◌↔◌, ◌||◌, ◌+◌, ◌-◌, ◌++◌, ◌∷◌, [], ◌≤◌, ◌<◌, ◌^◌, ℕ, Bool, true, false, List, Option, None, Some, find, length, if◌then◌else◌}
+use Rattle.std.specs.Prelude.{◌≡◌, ◌≢◌, ◌⊎◌, ◌↔◌, ◌||◌, ◌+◌, ◌-◌, ◌++◌, ◌∷◌, [], ◌≤◌, ◌<◌, ◌^◌, ℕ, Bool, true, false, List, Option, None, Some, is_some, find, length, if◌then◌else◌}
 use Rattle.std.specs.FinMap.{empty, get}
 use Rattle.im_base_types.specs.Answers as answers
-use Rattle.im_base_types.specs.Changes.{Drop, Effect, apply_all}
+use Rattle.im_base_types.specs.Changes.{Put, Drop, Effect, apply_all}
 use Rattle.im_theory_log.specs.Histories.{Base}
 use Rattle.im_base_types.specs.Keys.{Key}
 use Rattle.im_base_types.specs.Lives.{Shown, breaks, effects}
@@ -29,25 +29,31 @@ use Rattle.im_smo_split.specs.Plan.{IsWithin, IsOver}
 use Rattle.im_smo_split.specs.Tops.{LacksRoomFor}
 use Rattle.im_smo_actions.specs.Structure.{IsUsedUp}
 use Rattle.im_engine_index.specs.Edits.{HasOne}
+use Rattle.im_restart_undo.specs.Planning.{HoldsOneKey}
 use Rattle.im_restart_undo.specs.Undoing.{HasBegun}
+use Rattle.im_tree_search.specs.declared.change_beside.Beside.{Beside}
 use Rattle.im_base_txn.specs.declared.transaction.Transaction.{Transaction}
 use Rattle.im_base_txn.specs.Rows.{is_of}
 use Rattle.im_theory_machine.specs.Locks.{Lock, IsFree}
 use Rattle.im_theory_machine.specs.Rows.{asked}
 use Rattle.im_theory_machine.specs.Table.{SameTable, locks_of}
-use Rattle.im_theory_machine.specs.View.{View}
+use Rattle.im_theory_machine.specs.View as views
+use Rattle.im_theory_machine.specs.View.{View, owner_of, owns_in}
 use Rattle.im_theory_machine.specs.Machine.{first_check, mark_for}
 use Rattle.im_theory_steps.specs.Checks.{marks_in}
 use Rattle.im_base_types.specs.declared.redo_report.RedoReport.{RedoReport}
 use Rattle.im_base_types.specs.declared.fault.Fault.{Fault}
-use Rattle.im_base_types.specs.declared.fault.Fault.TheVariants.{NoTransaction, MustRollBack, KeyLength, RollingBack, PagesFull, Capacity, LogFull, Device, Memory, Failed, NotAStore, TooMany, Busy}
+use Rattle.im_base_types.specs.declared.fault.Fault.TheVariants.{NoTransaction, MustRollBack, KeyLength, RollingBack, PagesFull, Capacity, LogFull, Device, Memory, Failed, NotAStore, TooMany, Busy, Unfinished}
 use Rattle.im_base_steps.specs.declared.step.Step.{Step}
 use Rattle.im_base_steps.specs.declared.reply.Reply.{Reply}
-use Rattle.im_base_steps.specs.declared.reply.Reply.TheVariants.{Started, Inserted, Committed, RolledBack, More, Done, Refused}
+use Rattle.im_base_steps.specs.declared.reply.Reply.TheVariants.{Started, Inserted, Deleted, Committed, RolledBack, More, Done, Refused}
 use Rattle.im_base_steps.specs.Calls.{asked_by, told_by, is_force}
 use Rattle.im_base_types.specs.Faults.{number_of}
-use Rattle.im_base_steps.specs.Replies.{is_commit, SuitsAtOnce}
+use Rattle.im_base_steps.specs.Replies.{is_commit, Suits, SuitsAtOnce}
 use Rattle.im_engine.specs.declared.engine.Engine.{Engine}
+use Rattle.im_engine.specs.declared.stepped.Under.{Under}
+use Rattle.im_engine.specs.Aims.{under_of, IsSameUnder, IsToldTo}
+use Rattle.im_engine.specs.Paces.{Bars, GoesOnWith, IsRefusal, TreeCause, is_of_owner}
 use Rattle.im_engine.specs.Numbered.{Numbered}
 use Rattle.im_engine.specs.Costs.{CommitCosts, ForceCosts}
 use Rattle.im_engine.specs.Running.{IsRunning, IsLife}
@@ -61,6 +67,8 @@ pub record Fixed : Type 0 where
   pub max_pages : ℕ
   -- what redo did
   pub redo : RedoReport
+  -- whether a structure change is made page by page
+  pub stepped : Bool
 
 -- what a user knows of an engine between steps
 pub record Known : Type 0 where
@@ -100,11 +108,12 @@ is_early (Refused KeyLength) = true
 is_early (Refused RollingBack) = true
 is_early (Refused TooMany) = true
 is_early (Refused Busy) = true
+is_early (Refused Unfinished) = true
 is_early _ = false
 
 module _ {D : Type 0} (d : Ghosts D) where
   abbrev pub fixed_of : Engine D d → Fixed
-  fixed_of e = record { max_pages = e.max_pages; redo = e.report }
+  fixed_of e = record { max_pages = e.max_pages; redo = e.report; stepped = e.stepped }
 
   abbrev pub known_of : Engine D d → Known
   known_of e = record { failed = e.failed; active = length e.txns.rows; waiting = e.txns.waiting; group = e.txns.group; next = e.txns.next; fixed = fixed_of e }
@@ -218,7 +227,7 @@ module _ {D : Type 0} (d : Ghosts D) where
 
   -- the first check that a step fails, by what the engine knows without any page or lock
   abbrev pub check_of : answers.Step → Engine D d → Option ℕ
-  check_of step e = first_check e.failed (length e.txns.rows) (mark_for (marks_in e.txns.rows) step) false step
+  check_of step e = first_check e.failed (length e.txns.rows) (mark_for (marks_in e.txns.rows) step) (owns_in (under_of e.under) step) step
 
   module _ (reply : Reply) (old : Engine D d) (log : LogFile) (disk : D) (fault : Fault) where
     -- refused for a cause of this kind
@@ -269,19 +278,30 @@ module _ (pages : Pages) (map : IndexMap) where
     pub absent : get map key ≡ None
     pub lacks : LacksRoomFor pages key
 
-  -- A change that is taken back is refused `Memory` only where a key comes back that finds its leaf without room, so that its split is planned, `Capacity` only where that can't be had, and `Failed` only behind a record of the transaction (`Begun`).
-  pub record TurnWants (net : Effect) (Begun : Type 0) (reply : Reply) : Type 0 where
-    pub short : reply ≡ Refused Memory → LacksRoom net
+  -- The newest of these changes needs a structure change to be taken back: a key that goes leaves its leaf empty, or one that comes back finds its leaf without room.
+  abbrev pub NeedsBack : Effect → Type 0
+  NeedsBack [] = ⊥
+  NeedsBack (Put k r ∷ older) = HoldsOneKey pages k
+  NeedsBack (Drop k r ∷ older) = LacksRoomFor pages k
+
+  -- A change that is taken back is refused `Memory` only where a key comes back that finds its leaf without room, so that its split is planned, or, by a store that makes its structure changes page by page, where it needs one, `Capacity` only where a split can't be had, and `Failed` only behind a record of the
+  -- transaction (`Begun`). By such a store, with none under way, one that needs a structure change begins it and is not made at once. `t` is its transaction.
+  pub record TurnWants (stepped : Bool) (was now : Option views.Under) (t : ℕ) (net : Effect) (Begun : Type 0) (reply : Reply) : Type 0 where
+    pub short : reply ≡ Refused Memory → owner_of was ≢ Some t → LacksRoom net ⊎ ((stepped ≡ true) × NeedsBack net)
     pub used_up : reply ≡ Refused Capacity → (wants : LacksRoom net) × IsUsedUp pages wants.key
     pub broken : reply ≡ Refused Failed → Begun
+    pub begun : stepped ≡ true → was ≡ None → NeedsBack net → ((reply ≡ More) × (is_some now ≡ true)) ⊎ IsRefusal reply
 
 -- `Idle` says that nothing but Images joined the log.
 module _ (pages : Pages) (map : IndexMap) (Idle : Type 0) where
   -- An insert meets the limit of pages first, then its locks, then the end of page numbers and levels. Where the key is absent and its leaf lacks room it is made only within the limit, waits or dies only within it or where the end is reached, and is refused `PagesFull` only over it, and `Capacity` only
   -- at the end; its locks were granted where that is answered, or `Failed`, which comes only where the leaf lacks room or nothing but Images joined the log. A key that is there is a Duplicate, and none of these.
-  pub record InsertWants (locks : ℕ → List Lock) (max_pages t : ℕ) (key : Key) (rid : ℕ) (reply : Reply) : Type 0 where
+  -- By a store that makes its structure changes page by page it then begins, answered More, and is never made at once; and one that finds the tree blocked has met no limit.
+  pub record InsertWants (stepped : Bool) (locks : ℕ → List Lock) (max_pages t : ℕ) (key : Key) (rid : ℕ) (reply : Reply) : Type 0 where
     pub made : reply ≡ Inserted → LacksRoomFor pages key → IsWithin pages key max_pages
-    pub limited : ((fault : Fault) → reply ≢ Refused fault) → get map key ≡ None → LacksRoomFor pages key → IsWithin pages key max_pages ⊎ IsUsedUp pages key
+    pub at_once : reply ≡ Inserted → LacksRoomFor pages key → stepped ≡ false
+    pub begun : reply ≡ More → LacksRoomFor pages key × IsWithin pages key max_pages
+    pub limited : ((fault : Fault) → reply ≢ Refused fault) → told_by reply ≢ answers.BlockedTree → get map key ≡ None → LacksRoomFor pages key → IsWithin pages key max_pages ⊎ IsUsedUp pages key
     pub full : reply ≡ Refused PagesFull → LacksRoomFor pages key × IsOver pages key max_pages
     pub used_up : reply ≡ Refused Capacity → LacksRoomFor pages key × IsUsedUp pages key
     pub granted : (reply ≡ Refused Capacity) ⊎ (reply ≡ Refused Failed) → IsFree locks t (asked (answers.Insert key rid) map)
@@ -294,12 +314,18 @@ module _ (pages : Pages) (map : IndexMap) (Idle : Type 0) where
     pub granted : IsFree locks t (asked (answers.Delete key) map)
     pub broken : HasOne pages key ⊎ Idle
 
+  -- It is made at once where its leaf keeps another key, or by a store that makes each structure change within a step; else it begins, answered More, only where it leaves its leaf empty.
+  pub record DeleteWants (stepped : Bool) (locks : ℕ → List Lock) (t : ℕ) (key : Key) (reply : Reply) : Type 0 where
+    pub fails : reply ≡ Refused Failed → DeleteFails locks t key
+    pub at_once : reply ≡ Deleted → HasOne pages key → stepped ≡ false
+    pub begun : reply ≡ More → HasOne pages key
+
   -- Of the steps that is asked of inserts and of deletes, where a key that is not there is Absent. Of a change that is taken back it is asked what it wants room for, by the net of its transaction.
-  abbrev pub WantsOf : (ℕ → Type 0) → (ℕ → Effect) → (ℕ → List Lock) → ℕ → answers.Step → Reply → Type 0
-  WantsOf Begun nets locks max_pages (answers.Do t (answers.Insert key rid)) reply = InsertWants locks max_pages t key rid reply
-  WantsOf Begun nets locks max_pages (answers.Do t (answers.Delete key)) reply = reply ≡ Refused Failed → DeleteFails locks t key
-  WantsOf Begun nets locks max_pages (answers.Continue t) reply = TurnWants pages map (nets t) (Begun t) reply
-  WantsOf Begun nets locks max_pages _ reply = Unit {0}
+  abbrev pub WantsOf : (stepped : Bool) (was now : Option views.Under) → (ℕ → Type 0) → (ℕ → Effect) → (ℕ → List Lock) → ℕ → answers.Step → Reply → Type 0
+  WantsOf stepped was now Begun nets locks max_pages (answers.Do t (answers.Insert key rid)) reply = InsertWants stepped locks max_pages t key rid reply
+  WantsOf stepped was now Begun nets locks max_pages (answers.Do t (answers.Delete key)) reply = DeleteWants stepped locks t key reply
+  WantsOf stepped was now Begun nets locks max_pages (answers.Continue t) reply = TurnWants pages map stepped was now t (nets t) (Begun t) reply
+  WantsOf stepped was now Begun nets locks max_pages _ reply = Unit {0}
 
 -- An access that is answered has the answer of one user alone on the map of all that was committed, with what its transaction did on top.
 abbrev pub AnswersAlone : List Effect → Shown → answers.Step → answers.Reply → Type 0
@@ -312,14 +338,34 @@ module _ {D : Type 0} (d : Ghosts D) where
   -- what a step asks of the pages of an engine that works
   abbrev pub WantsHere : {old : Engine D d} (b : Base) (before : List Effect) (s : Shown) (v : View) → IsRunning d b before s v old → answers.Step → Reply → Engine D d → Type 0
   WantsHere {old} b before s v r step reply new =
-      WantsOf (settled b r.now.log) v.walk (Evicted d b r.base r.now old.disk new.writer new.disk) (λ t. HasBegun d b r.base r.now t new.writer new.disk) (λ t. (v.txns t).net) (locks_of old.locks) old.max_pages step reply
+      WantsOf (settled b r.now.log) v.walk (Evicted d b r.base r.now old.disk new.writer new.disk) old.stepped (under_of old.under) (under_of new.under) (λ t. HasBegun d b r.base r.now t new.writer new.disk) (λ t. (v.txns t).net) (locks_of old.locks) old.max_pages step reply
+
+  -- what was told of the structure change under way, which is another's than the step's
+  pub record IsBlockedBy (b : Base) (before : List Effect) (s : Shown) (v : View) (step : answers.Step) (old : Engine D d) (r : IsRunning d b before s v old) : Type 0 where
+    pub u : Under
+    pub under : old.under ≡ Some u
+    pub beside : Beside
+    pub told : IsToldTo u beside
+    pub other : is_of_owner (u.begun.change.transaction) step ≡ false
+    pub cause : TreeCause (settled b r.now.log) beside v.walk r.now.log step
+
+  -- How a step goes on with the structure change under way, or beside it. It is told that the tree is blocked only for a cause; and behind the checks nothing else is told it first, where the change bars it, but that the device failed or the log is full. By its owner's Continue a page of it is made, or it ends; any
+  -- other step leaves it as it was, or begins it where there was none, by a store that makes its structure changes page by page.
+  pub record IsPaced (step : answers.Step) (reply : Reply) (old new : Engine D d) : Type 0 where
+    pub tree : told_by reply ≡ answers.BlockedTree → (b : Base) (before : List Effect) (s : Shown) (v : View) (r : IsRunning d b before s v old) → IsBlockedBy b before s v step old r
+    pub first : check_of d step old ≡ None → (b : Base) (before : List Effect) (s : Shown) (v : View) (r : IsRunning d b before s v old) (u : Under) → old.under ≡ Some u → is_of_owner (u.begun.change.transaction) step ≡ false
+        → (beside : Beside) → IsToldTo u beside → Bars (settled b r.now.log) beside v.walk r.now.log step → (told_by reply ≡ answers.BlockedTree) ⊎ (reply ≡ Refused Device) ⊎ (reply ≡ Refused LogFull)
+    pub own : check_of d step old ≡ None → (u : Under) → old.under ≡ Some u → step ≡ answers.Continue u.begun.change.transaction → GoesOnWith u reply new.under
+    pub others : ((u : Under) → old.under ≡ Some u → step ≢ answers.Continue u.begun.change.transaction) → IsSameUnder old.under new.under ⊎ ((old.under ≡ None) × (old.stepped ≡ true) × (reply ≡ More) × (is_some new.under ≡ true))
 
   -- a step of what was asked so, behind the checks
   pub record IsMade (step : answers.Step) (reply : Reply) (old new : Engine D d) : Type 0 where
     pub kept : (before : List Effect) (s : Shown) (v : View) → IsLife d before s v old → StepKept d before s v step (told_by reply) old new
     pub told : IsTold d step reply old new
     pub answered : IsAnswered d step reply old new
-    pub suits : SuitsAtOnce step (told_by reply)
+    pub suits : Suits step (told_by reply)
+    pub at_once : old.stepped ≡ false → SuitsAtOnce step (told_by reply)
+    pub paced : IsPaced step reply old new
     pub grouped : SuitsGroup step reply old.txns
     pub frames : new.writer.pool.frames ≡ old.writer.pool.frames
     pub wants : (b : Base) (before : List Effect) (s : Shown) (v : View) (r : IsRunning d b before s v old) → WantsHere b before s v r step reply new
@@ -335,7 +381,10 @@ module _ {D : Type 0} (d : Ghosts D) where
     pub checked : (fault : Fault) → Some (number_of fault) ≡ check_of d (asked_by step) old → (reply ≡ Refused fault) × (new ≡ old)
     pub answered : IsAnswered d (asked_by step) reply old new
     -- over any disk, a reply is of those that its step may have
-    pub suits : SuitsAtOnce (asked_by step) (told_by reply)
+    pub suits : Suits (asked_by step) (told_by reply)
+    pub at_once : old.stepped ≡ false → SuitsAtOnce (asked_by step) (told_by reply)
+    -- how it goes on with a structure change that is made page by page, or beside it
+    pub paced : IsPaced (asked_by step) reply old new
     -- a Commit that is not refused is answered More just where Commits wait for a force and its transaction has records
     pub grouped : SuitsGroup (asked_by step) reply old.txns
     pub wants : old.failed ≡ false → (b : Base) (before : List Effect) (s : Shown) (v : View) (r : IsRunning d b before s v old) → WantsHere b before s v r (asked_by step) reply new
@@ -345,5 +394,6 @@ module _ {D : Type 0} (d : Ghosts D) where
     -- the bytes of a sound store are never found to be none
     pub never : (before : List Effect) (s : Shown) (v : View) → IsLife d before s v old → reply ≢ Refused NotAStore
     pub max_pages : new.max_pages ≡ old.max_pages
+    pub stepped : new.stepped ≡ old.stepped
     pub frames : new.writer.pool.frames ≡ old.writer.pool.frames
     pub report : new.report ≡ old.report

@@ -1,7 +1,7 @@
 //! Steps by a key.
 
 ghost use Rattle.std.specs.Prelude.{◌≡◌, None, false};
-ghost use Rattle.im_engine.specs.Faults.{told_as, ends_engine};
+ghost use Rattle.im_engine.specs.Faults.{told_as, told_look, ends_engine};
 
 use crate::engine::Engine;
 use im_base_disk::Disk;
@@ -25,6 +25,16 @@ pub(crate) fn told(fault: Fault) -> Fault
     }
 }
 
+// The same of a call that only looks.
+pub(crate) fn told_look(fault: Fault) -> Fault
+    ensures { result ≡ told_look fault }
+{
+    match fault {
+        Fault::Unfinished => Fault::Unfinished,
+        fault => told(fault),
+    }
+}
+
 // Whether the engine has failed after it.
 pub(crate) fn breaks(fault: Fault) -> bool
     ensures { result ≡ ends_engine fault }
@@ -42,6 +52,7 @@ impl<D: Disk> Engine<D> {
     // refusal `lacks_are_served` or, where it broke the engine, `lives_go_on`.
     pub(crate) fn fetch(&mut self, t: TxnId, key: &[u8]) -> Reply
         requires works { self.old.failed ≡ false }
+        requires plain { self.old.stepped ≡ false }
         requires checked { checked_by self.old.txns.rows false (answers.Do t (answers.Fetch key.now)) ≡ None }
         ensures { IsMade D.Disk (answers.Do t (answers.Fetch key.now)) result self.old self.new }
     {
@@ -73,6 +84,7 @@ impl<D: Disk> Engine<D> {
     // The first entry at or above a key (`inclusive`), or above it.
     pub(crate) fn seek(&mut self, t: TxnId, key: &[u8], inclusive: bool) -> Reply
         requires works { self.old.failed ≡ false }
+        requires plain { self.old.stepped ≡ false }
         requires checked { checked_by self.old.txns.rows false (answers.Do t (seek_at inclusive key.now)) ≡ None }
         ensures { IsMade D.Disk (answers.Do t (seek_at inclusive key.now)) result self.old self.new }
     {
@@ -111,6 +123,7 @@ impl<D: Disk> Engine<D> {
     // The last entry below a key.
     pub(crate) fn prev(&mut self, t: TxnId, key: &[u8]) -> Reply
         requires works { self.old.failed ≡ false }
+        requires plain { self.old.stepped ≡ false }
         requires checked { checked_by self.old.txns.rows false (answers.Do t (answers.Prev key.now)) ≡ None }
         ensures { IsMade D.Disk (answers.Do t (answers.Prev key.now)) result self.old self.new }
     {
@@ -142,6 +155,7 @@ impl<D: Disk> Engine<D> {
     // The first entries of a range, up to a limit.
     pub(crate) fn scan(&mut self, t: TxnId, lo: &[u8], hi: &[u8], limit: u64) -> Reply
         requires works { self.old.failed ≡ false }
+        requires plain { self.old.stepped ≡ false }
         requires checked { checked_by self.old.txns.rows false (answers.Do t (answers.Scan lo.now hi.now limit)) ≡ None }
         ensures { IsMade D.Disk (answers.Do t (answers.Scan lo.now hi.now limit)) result self.old self.new }
     {

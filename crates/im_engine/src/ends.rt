@@ -16,7 +16,9 @@ use im_log_record::Record;
 
 impl<D: Disk> Engine<D> {
     ghost use Rattle.im_base_types.specs.Answers as answers;
+    ghost use Rattle.im_theory_machine.specs.View.{owns_in};
     ghost use Rattle.im_theory_steps.specs.Checks.{checked_by};
+    ghost use Rattle.im_engine.specs.Aims.{under_of};
     ghost use Rattle.im_engine.specs.Told.{IsMade};
 
     // Begins a transaction (`begins_are_served`; numbers that are used up break the engine).
@@ -38,7 +40,7 @@ impl<D: Disk> Engine<D> {
     // for the next force with its locks.
     pub(crate) fn commit(&mut self, t: TxnId) -> Reply
         requires works { self.old.failed ≡ false }
-        requires checked { checked_by self.old.txns.rows false (answers.Commit t) ≡ None }
+        requires checked { checked_by self.old.txns.rows (owns_in (under_of self.old.under) (answers.Commit t)) (answers.Commit t) ≡ None }
         ensures { IsMade D.Disk (answers.Commit t) result self.old self.new }
     {
         let Some(row) = self.txns.find(t) else {
@@ -75,7 +77,7 @@ impl<D: Disk> Engine<D> {
     // Begins to take a transaction back (`turns_are_served`), or ends one that has no record (`drops_are_served`).
     pub(crate) fn roll_back(&mut self, t: TxnId) -> Reply
         requires works { self.old.failed ≡ false }
-        requires checked { checked_by self.old.txns.rows false (answers.Rollback t) ≡ None }
+        requires checked { checked_by self.old.txns.rows (owns_in (under_of self.old.under) (answers.Rollback t)) (answers.Rollback t) ≡ None }
         ensures { IsMade D.Disk (answers.Rollback t) result self.old self.new }
     {
         let Some(row) = self.txns.find(t) else {

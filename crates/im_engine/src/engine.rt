@@ -1,6 +1,6 @@
 //! The engine: a store that is open, and its steps.
 
-ghost use Rattle.std.specs.Prelude.{◌≡◌, ◌≤◌, length, false, None, Some, Option, List, IfOk, IfErr};
+ghost use Rattle.std.specs.Prelude.{◌≡◌, ◌≤◌, length, false, is_some, None, Some, Option, List, IfOk, IfErr};
 ghost use Rattle.std.specs.FinMap.{entries as entries_of};
 ghost use Rattle.im_base_types.specs.Changes.{Effect};
 ghost use Rattle.im_base_types.specs.Lives.{Shown};
@@ -8,7 +8,8 @@ ghost use Rattle.std.proofs.Props.{props};
 ghost use Rattle.im_log.proofs.Waiting.{sealed_prop};
 ghost use Rattle.im_page_writer.specs.PageWriter.{IsReadyWriter};
 
-use crate::engine::checks::{has_length, to_access, to_commit, to_continue, to_rollback};
+use crate::engine::checks::{has_length, owns, to_access, to_commit, to_continue, to_rollback};
+use crate::stepped::Under;
 use crate::transactions::Transactions;
 use im_base_disk::Disk;
 use im_base_steps::{Reply, Step};
@@ -34,21 +35,27 @@ pub struct Engine<D: Disk> {
     // where records are read again for a rollback
     pub(crate) room: Vec<u8>,
     pub(crate) failed: bool,
+    // whether a structure change is made page by page, and the one under way
+    pub(crate) stepped: bool,
+    pub(crate) under: Option<Under>,
     ghost ready: { IsReadyWriter D.Disk writer disk } by { Prim.hlevel (props, sealed_prop) },
     ghost working: { failed ≡ false → writer.failed ≡ false },
     ghost first: { 1 ≤ txns.next },
     ghost sized: { length room.items ≡ 16384 },
+    ghost whole: { stepped ≡ false → is_some under ≡ false },
 }
 
 impl<D: Disk> Engine<D> {
     ghost use Rattle.im_theory_machine.specs.Machine.{first_check, mark_for};
     ghost use Rattle.im_base_steps.specs.Calls.{asked_by};
+    ghost use Rattle.im_theory_machine.specs.View.{owns_in};
     ghost use Rattle.im_theory_steps.specs.Checks.{marks_in};
+    ghost use Rattle.im_engine.specs.Aims.{under_of};
     ghost use Rattle.im_engine.specs.Kept.{numbered};
 
     // The first refusal that a check gives to a step.
     fn refusal(&self, step: &Step) -> Option<Fault>
-        ensures { numbered result ≡ first_check self.now.failed (length self.now.txns.rows) (mark_for (marks_in self.now.txns.rows) (asked_by step.now)) false (asked_by step.now) }
+        ensures { numbered result ≡ first_check self.now.failed (length self.now.txns.rows) (mark_for (marks_in self.now.txns.rows) (asked_by step.now)) (owns_in (under_of self.now.under) (asked_by step.now)) (asked_by step.now) }
     {
         if self.failed {
             return Some(Fault::Failed);
@@ -61,19 +68,44 @@ impl<D: Disk> Engine<D> {
                     Some(Fault::TooMany)
                 }
             }
-            Step::Fetch(t, key) => to_access(self.txns.find(*t), has_length(key)),
-            Step::Seek(t, key) => to_access(self.txns.find(*t), has_length(key)),
-            Step::Next(t, key) => to_access(self.txns.find(*t), has_length(key)),
-            Step::Prev(t, key) => to_access(self.txns.find(*t), has_length(key)),
+            Step::Fetch(t, key) => to_access(
+                self.txns.find(*t),
+                owns(&self.under, *t),
+                has_length(key),
+            ),
+            Step::Seek(t, key) => to_access(
+                self.txns.find(*t),
+                owns(&self.under, *t),
+                has_length(key),
+            ),
+            Step::Next(t, key) => to_access(
+                self.txns.find(*t),
+                owns(&self.under, *t),
+                has_length(key),
+            ),
+            Step::Prev(t, key) => to_access(
+                self.txns.find(*t),
+                owns(&self.under, *t),
+                has_length(key),
+            ),
             Step::Scan(t, lo, hi, _) => to_access(
                 self.txns.find(*t),
+                owns(&self.under, *t),
                 has_length(lo) && has_length(hi),
             ),
-            Step::Insert(t, key, _) => to_access(self.txns.find(*t), has_length(key)),
-            Step::Delete(t, key) => to_access(self.txns.find(*t), has_length(key)),
-            Step::Commit(t) => to_commit(self.txns.find(*t)),
-            Step::Rollback(t) => to_rollback(self.txns.find(*t)),
-            Step::Continue(t) => to_continue(self.txns.find(*t)),
+            Step::Insert(t, key, _) => to_access(
+                self.txns.find(*t),
+                owns(&self.under, *t),
+                has_length(key),
+            ),
+            Step::Delete(t, key) => to_access(
+                self.txns.find(*t),
+                owns(&self.under, *t),
+                has_length(key),
+            ),
+            Step::Commit(t) => to_commit(self.txns.find(*t), owns(&self.under, *t)),
+            Step::Rollback(t) => to_rollback(self.txns.find(*t), owns(&self.under, *t)),
+            Step::Continue(t) => to_continue(self.txns.find(*t), owns(&self.under, *t)),
             Step::FlushPage(_) => None,
             Step::Force => None,
             Step::Checkpoint => None,
@@ -123,7 +155,7 @@ impl<D: TwoLogs> Engine<D> {
     ///
     /// Refused by the first of these that holds: `Failed` where an earlier step broke the engine; `TooMany` at Begin where 64 transactions
     /// are active; `Busy` at Switch where one is, or waits for a force; `NoTransaction` where none of that number is active or it waits for a force, or at Continue where it has nothing to go
-    /// on with; `MustRollBack` where it was answered `Die`; `RollingBack` where it is taking back; `KeyLength`; `PagesFull` where an insert
+    /// on with; `MustRollBack` where it was answered `Die`; `RollingBack` where it is taking back; `Unfinished` where an Insert or a Delete of it goes on, but at Continue; `KeyLength`; `PagesFull` where an insert
     /// needs pages past the limit; `Capacity` where page numbers, levels, transaction numbers or generations of the log are used up. In between come `LogFull`
     /// where the log has no room below LSN 2^62, `Device`, `NotAStore` where a page's bytes are none, `Memory`, and `Failed` where memory
     /// was wanted too late. `LogFull`, `Capacity`, `Device`, `NotAStore` and `Failed` break the engine; after every other refusal the

@@ -19,6 +19,7 @@ impl<D: Disk> Engine<D> {
     // before its locks are granted, all is as it was; for want of page numbers or levels, or of memory after the grant, the engine fails.
     pub(crate) fn insert(&mut self, t: TxnId, key: &[u8], rid: Rid) -> Reply
         requires works { self.old.failed ≡ false }
+        requires plain { self.old.stepped ≡ false }
         requires checked { checked_by self.old.txns.rows false (answers.Do t (answers.Insert key.now rid)) ≡ None }
         ensures { IsMade D.Disk (answers.Do t (answers.Insert key.now rid)) result self.old self.new }
     {

@@ -26,6 +26,7 @@ mod open_store;
 mod promise;
 mod restart_bounds;
 mod restarting;
+mod stepped;
 mod store;
 mod switches;
 mod syncing;

@@ -11,14 +11,14 @@ use im_page_pool::Frame;
 use std::alloc::Global;
 
 impl<D: Disk> Engine<D> {
-    ghost use Rattle.std.specs.Prelude.{false};
+    ghost use Rattle.std.specs.Prelude.{false, true, is_some};
     ghost use Rattle.std.specs.Prelude.{Ok};
     ghost use Rattle.std.specs.FinMap.{empty, entries};
     ghost use Rattle.im_base_types.specs.Changes.{Effect, apply_all};
     ghost use Rattle.im_theory_log.specs.Histories.{Base};
     ghost use Rattle.im_theory_log.specs.Histories as histories;
     ghost use Rattle.im_base_types.specs.Lives.{Shown};
-    ghost use Rattle.im_base_types.specs.declared.fault.Fault.TheVariants.{Memory, NotAStore};
+    ghost use Rattle.im_base_types.specs.declared.fault.Fault.TheVariants.{Memory, NotAStore, Unfinished};
     ghost use Rattle.im_page_pool.specs.Pool.{page_at, IsAt};
     ghost use Rattle.im_page_writer.specs.Outcome.{fault_of};
     ghost use Rattle.im_theory_machine.specs.View.{View};
@@ -30,10 +30,12 @@ impl<D: Disk> Engine<D> {
     ghost use Rattle.im_engine.specs.Stands.{StandsFor};
 
     /// The entries of the store, those of active transactions included, in rising key order: of one that was just opened those that the
-    /// effects make of an empty index for which its files stood (`shown`), whatever steps it makes after that. Refused `Failed`, `Memory`, and as a step is
-    /// that reads a leaf; every refusal but `Memory` then breaks the engine.
+    /// effects make of an empty index for which its files stood (`shown`), whatever steps it makes after that. Refused `Failed`; `Unfinished`
+    /// where a structure change is under way that is made page by page; `Memory`, and as a step is that reads a leaf. Every refusal but `Unfinished` and `Memory` breaks
+    /// the engine.
     pub fn entries(&mut self, alloc: Global) -> Result<Vec<(Key, Rid)>, Fault>
         ensures outcome { Looks D.Disk (fault_of result) self.old self.new }
+        ensures unfinished { self.old.failed ≡ false → is_some self.old.under ≡ true → result ≡ Err Unfinished }
         ensures kept { (before : List Effect) (s : Shown) (v : View) → IsLife D.Disk before s v self.old → LookKept D.Disk before s v self.old self.new }
         ensures entries { IfOk result (λ list. (before : List Effect) (s : Shown) (v : View) → IsLife D.Disk before s v self.old → EntriesKept before s v list.items) }
         ensures shown { IfOk result (λ list. (config : Config) (from : D) → IsOpening D.Disk config from (Ok self.old) → D.tells → (before : List Effect) → StandsFor before (D.seen from) → list.items ≡ entries (apply_all empty before)) }
@@ -41,6 +43,9 @@ impl<D: Disk> Engine<D> {
     {
         if self.failed {
             return Err(Fault::Failed);
+        }
+        if self.under.is_some() {
+            return Err(Fault::Unfinished);
         }
         self.failed = true;
         match im_tree_search::entries(alloc, &mut self.writer, &mut self.disk) {

@@ -1,6 +1,6 @@
 //! How a store is opened, and how its engine ends.
 
-ghost use Rattle.std.specs.Prelude.{◌≡◌, ◌<◌, ◌≤◌, ◌⊎◌, ◌↔◌, [], false, true, length, List, IfOk, IfErr};
+ghost use Rattle.std.specs.Prelude.{◌≡◌, ◌<◌, ◌≤◌, ◌⊎◌, ◌↔◌, [], false, true, length, List, None, IfOk, IfErr};
 ghost use Rattle.std.specs.Result.{IsErrAnd};
 ghost use Rattle.im_base_types.specs.declared.fault.Fault.TheVariants.{Memory};
 
@@ -57,6 +57,7 @@ impl<D: TwoLogs> Engine<D> {
         ensures workers { IsErrAnd result (λ x. x.0 ≡ Workers) ↔ ((8 ≤ config.frames) × (config.frames ≤ 1024)) × ((config.workers < 1) ⊎ (16 < config.workers)) }
         ensures untouched { IfErr result (λ x. (x.0 ≡ PoolSize) ⊎ (x.0 ≡ Workers) → x.1 ≡ disk) }
         ensures opened { IfOk result (λ e. (e.failed ≡ false) × (e.txns.rows ≡ []) × (e.locks ≡ []) × (D.failed e.disk ≡ false)) }
+        ensures plain { IfOk result (λ e. (e.stepped ≡ false) × (e.under ≡ None)) }
         ensures limit { IfOk result (λ e. e.max_pages ≡ config.max_pages) }
         ensures group { IfOk result (λ e. e.txns.group ≡ config.group) }
         ensures pool { IfOk result (λ e. e.writer.pool.frames ≡ config.frames) }
@@ -94,6 +95,7 @@ impl<D: TwoLogs> Engine<D> {
         ensures workers { IsErrAnd result (λ x. x.0 ≡ Workers) ↔ ((8 ≤ config.frames) × (config.frames ≤ 1024)) × ((config.workers < 1) ⊎ (16 < config.workers)) }
         ensures untouched { IfErr result (λ x. (x.0 ≡ PoolSize) ⊎ (x.0 ≡ Workers) → x.1 ≡ disk) }
         ensures opened { IfOk result (λ e. (e.failed ≡ false) × (e.txns.rows ≡ []) × (e.locks ≡ []) × (D.failed e.disk ≡ false)) }
+        ensures plain { IfOk result (λ e. (e.stepped ≡ false) × (e.under ≡ None)) }
         ensures limit { IfOk result (λ e. e.max_pages ≡ config.max_pages) }
         ensures group { IfOk result (λ e. e.txns.group ≡ config.group) }
         ensures pool { IfOk result (λ e. e.writer.pool.frames ≡ config.frames) }
@@ -133,6 +135,8 @@ impl<D: TwoLogs> Engine<D> {
                 locks: LockTable::new(alloc),
                 room,
                 failed: false,
+                stepped: false,
+                under: None,
             }),
         }
     }
@@ -184,6 +188,8 @@ impl<D: Disk> Engine<D> {
             locks: _locks,
             room: _room,
             failed: _failed,
+            stepped: _stepped,
+            under: _under,
         } = self;
         disk
     }

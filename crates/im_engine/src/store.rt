@@ -1,7 +1,7 @@
 //! An engine is a store that a front can share among threads, over any disk: what follows from its lives is claimed over a disk that
 //! tells what it holds, and of any that its replies suit their steps and its table counts its transactions.
 
-use crate::accesses::told;
+use crate::accesses::told_look;
 use crate::engine::Engine;
 use im_base_steps::{Reply, Step};
 use im_base_two_logs::TwoLogs;
@@ -40,7 +40,7 @@ impl<D: TwoLogs + Drop> Store for Engine<D> {
     fn entries(&mut self, alloc: Global) -> Result<Vec<(Key, Rid)>, Fault> {
         match Engine::entries(self, alloc) {
             Ok(list) => Ok(list),
-            Err(fault) => Err(told(fault)),
+            Err(fault) => Err(told_look(fault)),
         }
     }
 

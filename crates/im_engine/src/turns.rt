@@ -18,6 +18,7 @@ impl<D: Disk> Engine<D> {
     // (`last_undone_changes_are_served`). Its locks stay up to the End. For want of memory in front of the first record all is as it was.
     pub(crate) fn go_on(&mut self, t: TxnId) -> Reply
         requires works { self.old.failed ≡ false }
+        requires plain { self.old.stepped ≡ false }
         requires checked { checked_by self.old.txns.rows false (answers.Continue t) ≡ None }
         ensures { IsMade D.Disk (answers.Continue t) result self.old self.new }
     {

@@ -19,6 +19,7 @@ impl<D: Disk> Engine<D> {
     // granted all is as it was; after the grant the engine fails.
     pub(crate) fn delete(&mut self, t: TxnId, key: &[u8]) -> Reply
         requires works { self.old.failed ≡ false }
+        requires plain { self.old.stepped ≡ false }
         requires checked { checked_by self.old.txns.rows false (answers.Do t (answers.Delete key.now)) ≡ None }
         ensures { IsMade D.Disk (answers.Do t (answers.Delete key.now)) result self.old self.new }
     {

@@ -1,0 +1,1 @@
+//! The end of a structure change whose key is put in, or was dropped.

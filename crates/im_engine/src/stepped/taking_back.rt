@@ -1,0 +1,1 @@
+//! Changes that are taken back beside a structure change.
