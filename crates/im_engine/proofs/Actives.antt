@@ -120,10 +120,7 @@ module _ {D : Type 0} (d : Ghosts D) (before : List Effect) (s : Shown) (v : Vie
   -- behind a look
   module _ (old new : Engine D d) {why : Option Fault} (looks : Looks d why old new) (was : IsStoreLife d before s v old) where
     rows_are : length new.txns.rows ≡ v.active
-    rows_are = elim (cases_Bool old.failed) [
-      | inl failed ↦ ap (λ (e : Engine D d). length e.txns.rows) (looks.same failed) ∙ was.active
-      | inr works ↦ ap (λ (x : Numbered). length x.rows) (looks.searched works).txns ∙ was.active
-    ]
+    rows_are = ap (λ (x : Numbered). length x.rows) (looks_txns d why old new looks) ∙ was.active
 
     -- that was answered
     pub look_counted : why ≡ None → LookKept d before s v old new → IsStoreLife d before s v new
@@ -132,7 +129,7 @@ module _ {D : Type 0} (d : Ghosts D) (before : List Effect) (s : Shown) (v : Vie
         works : new.failed ≡ false
         works = elim (cases_Bool old.failed) [
           | inl failed ↦ (let never : Some Failed ≡ None = sym (looks.failed.1 failed) ∙ none in absurd (cc never))
-          | inr was_on ↦ (looks.searched was_on).failed ∙ ap broken_by none
+          | inr was_on ↦ (looks.searched was_on (λ is. let clash : None ≡ Some Unfinished = sym none ∙ is in cc clash)).failed ∙ ap broken_by none
         ]
 
         by : ((new.failed ≡ false) × IsLife d before s v new) ⊎ ((locks : ℕ → List Lock) × IsLife d before (record s { failed = true }) (broken v locks) new) → IsStoreLife d before s v new

@@ -173,8 +173,8 @@ module _ {D : Type 0} (d : Ghosts D) (before : List Effect) where
 
   -- ---- the engine that it makes
 
-  pub engine_opened : (e : Engine D d) (next : ℕ) (w : PageWriter) → IsAtRest d before next w e.disk → e.writer ≡ w → e.txns.rows ≡ [] → e.txns.next ≡ next → e.locks ≡ [] → e.failed ≡ false → IsLife d before nothing_shown (start (apply_all empty before) e.txns.next) e
-  engine_opened e next w x writer rows number locks works =
+  pub engine_opened : (e : Engine D d) (next : ℕ) (w : PageWriter) → IsAtRest d before next w e.disk → e.writer ≡ w → e.txns.rows ≡ [] → e.txns.next ≡ next → e.locks ≡ [] → e.failed ≡ false → e.under ≡ None → IsLife d before nothing_shown (start (apply_all empty before) e.txns.next) e
+  engine_opened e next w x writer rows number locks works none =
       let v : View = start (apply_all empty before) e.txns.next in
       let counts : IsServing x.b x.earlier before nothing_shown v x.now.log [] e.txns.next [] =
       subst (λ (n : ℕ). IsServing x.b x.earlier before nothing_shown (start (apply_all empty before) n) x.now.log [] n []) (sym number) (serves next w e.disk x) in
@@ -188,11 +188,11 @@ module _ {D : Type 0} (d : Ghosts D) (before : List Effect) where
         redo_end = x.redo_end;
         over = x.over;
         lawful = x.lawful;
-        closed = all_closed x.b x.now.log x.lawful x.ended;
+        changing = subst (λ (u : Option Under). IsChanging x.b u x.now.log) (sym none) (all_closed x.b x.now.log x.lawful x.ended);
         serving =
             subst (λ (held : Table). IsServing x.b x.earlier before nothing_shown v x.now.log e.txns.rows e.txns.next held) (sym locks)
             (subst (λ (list : List Transaction). IsServing x.b x.earlier before nothing_shown v x.now.log list e.txns.next []) (sym rows) counts);
         commits = commits_stand.begins x.earlier before x.now.durable x.now.log (sym x.is) (ap committed x.durable);
         numbered = λ le. subst (λ (n : ℕ). AreBelow n x.now.log) (sym number) (x.numbered (subst (λ (n : ℕ). 1 ≤ n) number e.first) (subst (λ (n : ℕ). n ≤ 2 ^ 62) number le));
-        unowned = refl;
+        same = ap under_of (sym none);
       })

@@ -26,6 +26,7 @@ use Rattle.im_engine.specs.declared.engine.Engine.{Engine}
 use Rattle.im_engine.specs.Stands.{Allowed}
 use Rattle.im_engine.specs.Running.{IsRunning, IsLife}
 use Rattle.im_engine.specs.Kept.{StepKept}
+use Rattle.im_engine.specs.Aims.{under_of}
 use Rattle.im_engine.proofs.Running.{allowed_as, idle_stops, runs_on, checks_tell}
 use Rattle.im_engine.proofs.Grown.{no_images}
 use Rattle.im_base_two_logs.proofs.Runs.{unnamed}
@@ -106,19 +107,19 @@ module _ {D : Type 0} (d : Ghosts D) (before : List Effect) (s : Shown) (v : Vie
       ]) in
       let shown = shows s step (Some (Refused n)) in
       let running = runs_on d before s v e r shown v e r.now (goes_on_start d b r.base r.now e.writer e.disk only_now r.stands) served.1
-      (subst (λ (l : List Asked). AreCommitted r.earlier before l r.now.durable r.now.log) (sym asks_none) r.commits) r.numbered r.unowned in
+      (subst (λ (l : List Asked). AreCommitted r.earlier before l r.now.durable r.now.log) (sym asks_none) r.commits) r.numbered refl refl in
       step_made d before s v step (Refused n) e e v served.0 running works (cut_any d before s step e.disk e.disk stops_here) (none_done d before shown v step n e) r (no_images b r.now.log)
 
   -- the first check that a step fails
-  pub barred_kept : (n : ℕ) → Some n ≡ first_check e.failed (length e.txns.rows) (mark_for (marks_in e.txns.rows) step) false step → StepKept d before s v step (Refused n) e e
+  pub barred_kept : (n : ℕ) → Some n ≡ first_check e.failed (length e.txns.rows) (mark_for (marks_in e.txns.rows) step) (owns_in (under_of e.under) step) step → StepKept d before s v step (Refused n) e e
   barred_kept n is = by e.failed refl
     where
       by : (b : Bool) → e.failed ≡ b → StepKept d before s v step (Refused n) e e
       by true fails =
-          let some : Some n ≡ Some has_failed = is ∙ ap (λ (x : Bool). first_check x (length e.txns.rows) (mark_for (marks_in e.txns.rows) step) false step) fails ∙ first_failed (length e.txns.rows) (mark_for (marks_in e.txns.rows) step) false step in
+          let some : Some n ≡ Some has_failed = is ∙ ap (λ (x : Bool). first_check x (length e.txns.rows) (mark_for (marks_in e.txns.rows) step) (owns_in (under_of e.under) step) step) fails ∙ first_failed (length e.txns.rows) (mark_for (marks_in e.txns.rows) step) (owns_in (under_of e.under) step) step in
           let same : n ≡ has_failed = cc some in
           subst (λ (m : ℕ). StepKept d before s v step (Refused m) e e) (sym same) (has_no_step fails)
       by false works =
           let r = (life.running works).1 in
           is_barred works n (checks_tell d before s v e r step
-          ∙ sym (is ∙ ap (λ (x : Bool). first_check x (length e.txns.rows) (mark_for (marks_in e.txns.rows) step) false step) works))
+          ∙ sym (is ∙ ap (λ (x : Bool). first_check x (length e.txns.rows) (mark_for (marks_in e.txns.rows) step) (owns_in (under_of e.under) step) step) works))

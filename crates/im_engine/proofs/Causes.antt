@@ -27,6 +27,8 @@ use Rattle.im_base_steps.specs.declared.reply.Reply.TheVariants.{Refused}
 use Rattle.im_engine.specs.declared.engine.Engine.{Engine}
 use Rattle.im_engine.specs.Faults.{told_as, ends_engine}
 use Rattle.im_engine.specs.Told.{Where, Checked, HasLogged, IsFor, OfForce, Refuses, ReadCause, FlushCause, DeleteCause, InsertCause, SwitchCause, CallsDevice, EndsNearTop, IsLastLog, check_of, checkpoint_of}
+use Rattle.im_theory_machine.specs.View.{owns_in}
+use Rattle.im_engine.specs.Aims.{under_of}
 use Rattle.im_engine.proofs.Telling.{not_true}
 
 -- ---- one check after another
@@ -107,9 +109,9 @@ Answers d old log disk step reply = (fault : Fault) → (reply ≡ Refused fault
 
 module _ {D : Type 0} (d : Ghosts D) (old : Engine D d) (log : LogFile) (disk : D) (works : old.failed ≡ false) where
   -- behind the checks
-  pub behind : (step : answers.Step) (reply : Reply) → checked_by old.txns.rows false step ≡ None → ((fault : Fault) → (reply ≡ Refused fault) ↔ Refuses d reply old log disk fault step) → Answers d old log disk step reply
+  pub behind : (step : answers.Step) (reply : Reply) → checked_by old.txns.rows (owns_in (under_of old.under) step) step ≡ None → ((fault : Fault) → (reply ≡ Refused fault) ↔ Refuses d reply old log disk fault step) → Answers d old log disk step reply
   behind step reply checked h fault =
-      let is : check_of d step old ≡ None = ap (λ (b : Bool). first_check b (length old.txns.rows) (mark_for (marks_in old.txns.rows) step) false step) works ∙ checked in
+      let is : check_of d step old ≡ None = ap (λ (b : Bool). first_check b (length old.txns.rows) (mark_for (marks_in old.txns.rows) step) (owns_in (under_of old.under) step) step) works ∙ checked in
       subst (λ (o : Option ℕ). (reply ≡ Refused fault) ↔ Checked o fault (Refuses d reply old log disk fault step)) (sym is) (h fault)
 
   -- it is refused for a cause of this kind, or not refused
@@ -139,7 +141,7 @@ module _ {D : Type 0} (d : Ghosts D) (old : Engine D d) (log : LogFile) (disk : 
   reading_is (answers.Insert key rid) is reply fault h = absurd (cc is)
   reading_is (answers.Delete key) is reply fault h = absurd (cc is)
 
-  module _ (a : answers.Access) (is : reads a ≡ true) (checked : checked_by old.txns.rows false (answers.Do t a) ≡ None) where
+  module _ (a : answers.Access) (is : reads a ≡ true) (checked : checked_by old.txns.rows (owns_in (under_of old.under) (answers.Do t a)) (answers.Do t a) ≡ None) where
     -- it was answered
     pub read_answered : (reply : Reply) → ((x : Fault) → reply ≢ Refused x) → Answers d old log disk (answers.Do t a) reply
     read_answered reply not = behind d old log disk works (answers.Do t a) reply checked (λ fault. reading_is a is reply fault (not_refused_for d old log disk works (ReadCause d log disk) reply not fault))
@@ -161,13 +163,13 @@ module _ {D : Type 0} (d : Ghosts D) (old : Engine D d) (log : LogFile) (disk : 
 
 -- ---- a Rollback
 
-module _ {D : Type 0} (d : Ghosts D) (old : Engine D d) (log : LogFile) (disk : D) (works : old.failed ≡ false) (t : ℕ) (checked : checked_by old.txns.rows false (answers.Rollback t) ≡ None) where
+module _ {D : Type 0} (d : Ghosts D) (old : Engine D d) (log : LogFile) (disk : D) (works : old.failed ≡ false) (t : ℕ) (checked : checked_by old.txns.rows (owns_in (under_of old.under) (answers.Rollback t)) (answers.Rollback t) ≡ None) where
   pub rollback_made : (reply : Reply) → ((x : Fault) → reply ≢ Refused x) → Answers d old log disk (answers.Rollback t) reply
   rollback_made reply not = behind d old log disk works (answers.Rollback t) reply checked (λ fault. none (not fault))
 
 -- ---- a Commit
 
-module _ {D : Type 0} (d : Ghosts D) (old : Engine D d) (log : LogFile) (disk : D) (works : old.failed ≡ false) (t : ℕ) (row : Transaction) (found : find (is_of t) old.txns.rows ≡ Some row) (checked : checked_by old.txns.rows false (answers.Commit t) ≡ None) where
+module _ {D : Type 0} (d : Ghosts D) (old : Engine D d) (log : LogFile) (disk : D) (works : old.failed ≡ false) (t : ℕ) (row : Transaction) (found : find (is_of t) old.txns.rows ≡ Some row) (checked : checked_by old.txns.rows (owns_in (under_of old.under) (answers.Commit t)) (answers.Commit t) ≡ None) where
   pub logged : 1 ≤ row.last → HasLogged (find (is_of t) old.txns.rows)
   logged some = subst (λ (o : Option Transaction). HasLogged o) (sym found) some
 

@@ -44,19 +44,24 @@ use Rattle.im_engine.specs.Kept.{StepKept}
 use Rattle.im_engine.specs.Told.{DeleteFails}
 use Rattle.im_engine.proofs.Causes.{refused_inj}
 use Rattle.im_engine.proofs.Checked.{access_fits, access_going}
-use Rattle.im_engine.proofs.Running.{bodies_are}
+use Rattle.im_engine.specs.Aims.{under_of}
+use Rattle.im_engine.proofs.Running.{bodies_are, nobody_owner}
 use Rattle.im_engine.proofs.Refused.{KeepsLocks}
 use Rattle.im_engine.proofs.Edited.{blocked, deleted, died, edit_refused, edit_stops, failed_as, may_edit, unchanged}
 
+-- a delete that is not refused, by a store that makes each structure change within a step
+pub no_wants : (stepped : Bool) → stepped ≡ false → (pages : Pages) (m : IndexMap) (Idle : Type 0) (locks : ℕ → List Lock) (t : ℕ) (key : Key) (reply : said.Reply) → reply ≢ replies.Refused faults.Failed → reply ≢ replies.More → DeleteWants pages m Idle stepped locks t key reply
+no_wants stepped plain pages m Idle locks t key reply not no_more = record { fails = λ is. absurd (not is); at_once = λ _ _. plain; begun = λ is. absurd (no_more is) }
+
 -- the row that was found is the row of the step
-pub access_mark : (rows : List Transaction) (t : ℕ) (a : answers.Access) (row : Transaction) → find (is_of t) rows ≡ Some row → checked_by rows false (Do t a) ≡ None → row.mark ≡ Going
+pub access_mark : (rows : List Transaction) {owns : Bool} (t : ℕ) (a : answers.Access) (row : Transaction) → find (is_of t) rows ≡ Some row → checked_by rows owns (Do t a) ≡ None → row.mark ≡ Going
 access_mark rows t a row found checked =
     let going = access_going rows t a checked in
     let both : Some going.row ≡ Some row = sym going.found ∙ found in
     let same : going.row ≡ row = cc both in
     subst (λ (x : Transaction). x.mark ≡ Going) same going.mark
 
-module _ {D : Type 0} (d : Ghosts D) (old : Engine D d) (t : ℕ) (key : Key) (row : Transaction) (found : find (is_of t) old.txns.rows ≡ Some row) (checked : checked_by old.txns.rows false (Do t (Delete key)) ≡ None) where
+module _ {D : Type 0} (d : Ghosts D) (old : Engine D d) (t : ℕ) (key : Key) (row : Transaction) (found : find (is_of t) old.txns.rows ≡ Some row) (checked : checked_by old.txns.rows (owns_in (under_of old.under) (Do t (Delete key))) (Do t (Delete key)) ≡ None) (plain : old.under ≡ None) where
   mark : row.mark ≡ Going
   mark = access_mark old.txns.rows t (Delete key) row found checked
 
@@ -78,21 +83,25 @@ module _ {D : Type 0} (d : Ghosts D) (old : Engine D d) (t : ℕ) (key : Key) (r
       pub kept_here : (result : Result (LockAnswer (Option Taken)) Fault) → Below result → Here result
       kept_here result below =
           subst (λ (n : ℕ). DeleteKept d b r.base r.now r.redo_end n row.last key old.locks locks old.disk w disk result) number
-          (below b r.base r.now r.redo_end (subst (λ (n : ℕ). MayEdit d b r.base r.now r.redo_end n row.last row.undo_next (Delete key) old.locks old.writer old.disk) (sym number) (may_edit d before s v old r t row found mark (Delete key))))
+          (below b r.base r.now r.redo_end (subst (λ (n : ℕ). MayEdit d b r.base r.now r.redo_end n row.last row.undo_next (Delete key) old.locks old.writer old.disk) (sym number) (may_edit d before s v old r t row found mark (nobody_owner d before s v old r plain t) plain (Delete key))))
 
       -- it fails late only where the key is there, with its locks granted
-      pub delete_wants : (f : Fault) → Below (Err f) → LogEnds d true mild old.writer old.disk w disk (Some f) → (told : Fault) → told ≡ told_as f → replies.Refused told ≡ replies.Refused faults.Failed
+      delete_fails : (f : Fault) → Below (Err f) → LogEnds d true mild old.writer old.disk w disk (Some f) → (told : Fault) → told ≡ told_as f → replies.Refused told ≡ replies.Refused faults.Failed
           → DeleteFails (settled b r.now.log) v.walk (Evicted d b r.base r.now old.disk w disk) (locks_of old.locks) t key
-      delete_wants f below ends told is failed =
+      delete_fails f below ends told is failed =
           let late : f ≡ Failed = failed_as d old.writer old.disk w disk f ends (sym is ∙ refused_inj told faults.Failed failed) in
           let begun = (kept_here (Err f) below).begun late in
           record {
             there = subst (λ (m : IndexMap). get m key ≢ None) (sym r.serving.seen_by.walk) begun.0;
             granted = subst (λ (m : IndexMap). IsFree (locks_of old.locks) t (asked (Delete key) m)) (sym r.serving.seen_by.walk) begun.1.0;
-            broken = ⊎_elim (λ one. inl (subst (λ (pages : Pages). HasOne pages key) (bodies_are d before s v old r) one)) (λ idle. inr idle) begun.2;
+            broken = ⊎_elim (λ one. inl (subst (λ (pages : Pages). HasOne pages key) (bodies_are d before s v old r plain) one)) (λ idle. inr idle) begun.2;
           }
 
-  module _ (new : Engine D d) where
+      pub delete_wants : old.stepped ≡ false → (f : Fault) → Below (Err f) → LogEnds d true mild old.writer old.disk w disk (Some f) → (told : Fault) → told ≡ told_as f
+          → DeleteWants (settled b r.now.log) v.walk (Evicted d b r.base r.now old.disk w disk) old.stepped (locks_of old.locks) t key (replies.Refused told)
+      delete_wants at_once f below ends told is = record { fails = delete_fails f below ends told is; at_once = λ clash. absurd (cc clash); begun = λ clash. absurd (cc clash) }
+
+  module _ (new : Engine D d) (stays : new.under ≡ old.under) where
     abbrev Of : Result (LockAnswer (Option Taken)) Fault → Type 0
     Of result = Below new.locks new.writer new.disk result
 
@@ -108,24 +117,24 @@ module _ {D : Type 0} (d : Ghosts D) (old : Engine D d) (t : ℕ) (key : Key) (r
           → StepKept d before s v (Do t (Delete key)) answers.Deleted old new
       delete_made o below x granted taken some table works_on =
           let kept = subst (λ (y : LockAnswer (Option Taken)). At (Ok y)) (granted ∙ ap Granted some) (at (Ok o) below) in
-          deleted d before s v old r t row found mark key new fits taken kept.sound.1 kept.sound.0 table kept.stops works_on
+          deleted d before s v old r t row found mark (nobody_owner d before s v old r plain t) key new fits taken kept.sound.1 kept.sound.0 plain stays table kept.stops works_on
 
       -- the key is not there
       pub delete_absent : (o : LockAnswer (Option Taken)) → Of (Ok o) → (x : Option Taken) → o ≡ Granted x → x ≡ None → new.txns ≡ old.txns → new.failed ≡ false → StepKept d before s v (Do t (Delete key)) answers.Absent old new
       delete_absent o below x granted none table works_on =
           let kept = subst (λ (y : LockAnswer (Option Taken)). At (Ok y)) (granted ∙ ap Granted none) (at (Ok o) below) in
-          unchanged d before s v old r t row found mark (Delete key) new kept.stops fits (ap (dropped key) kept.sound.1.0) kept.sound.0 kept.sound.1.1 answers.Absent (ap (λ (y : Option ℕ). cond (is_some y) answers.Deleted answers.Absent) kept.sound.1.0) table works_on
+          unchanged d before s v old r t row found mark (nobody_owner d before s v old r plain t) (Delete key) new kept.stops fits stays (ap (dropped key) kept.sound.1.0) kept.sound.0 kept.sound.1.1 answers.Absent (ap (λ (y : Option ℕ). cond (is_some y) answers.Deleted answers.Absent) kept.sound.1.0) table works_on
 
       -- it has to wait, or its transaction must die
       pub delete_waits : (o : LockAnswer (Option Taken)) → Of (Ok o) → (holder : ℕ) → o ≡ Wait holder → new.txns ≡ old.txns → new.failed ≡ false → StepKept d before s v (Do t (Delete key)) (answers.Blocked holder) old new
       delete_waits o below holder is table works_on =
           let kept = subst (λ (y : LockAnswer (Option Taken)). At (Ok y)) is (at (Ok o) below) in
-          blocked d before s v old r t row found mark (Delete key) new kept.stops fits holder kept.sound.0 kept.sound.1 table works_on
+          blocked d before s v old r t row found mark (nobody_owner d before s v old r plain t) (Delete key) new kept.stops fits stays holder kept.sound.0 kept.sound.1 table works_on
 
       pub delete_dies : (o : LockAnswer (Option Taken)) → Of (Ok o) → o ≡ Die → new.txns ≡ record old.txns { rows = map (changed t (with_mark MustRollBack)) old.txns.rows } → new.failed ≡ false → StepKept d before s v (Do t (Delete key)) answers.Die old new
       delete_dies o below is table works_on =
           let kept = subst (λ (y : LockAnswer (Option Taken)). At (Ok y)) is (at (Ok o) below) in
-          died d before s v old r t row found mark (Delete key) new kept.stops fits kept.sound.0 kept.sound.1 table works_on
+          died d before s v old r t row found mark (nobody_owner d before s v old r plain t) (Delete key) new kept.stops fits stays kept.sound.0 kept.sound.1 table works_on
 
     -- a call below refused it
     pub delete_refused : (before : List Effect) (s : Shown) (v : View) (life : IsLife d before s v old) (works : old.failed ≡ false) → ((u : ℕ) (c : Files) → u ≤ d.moment new.disk → d.may_leave new.disk c → d.left_since new.disk u c) → (f : Fault) → Of (Err f)
@@ -134,4 +143,4 @@ module _ {D : Type 0} (d : Ghosts D) (old : Engine D d) (t : ℕ) (key : Key) (r
     delete_refused before s v life works counts_now f below ends fails table same told is =
         let r = (life.running works).1 in
         let kept = at before s v r (Err f) below in
-        edit_refused d before s v t (Delete key) old new life works checked counts_now f refl ends (edit_stops d before s v old r t row found mark new.disk kept.stops) kept.sound fails table same told is
+        edit_refused d before s v t (Delete key) old new life works checked counts_now f refl ends (edit_stops d before s v old r t row found mark (nobody_owner d before s v old r plain t) new.disk kept.stops) kept.sound fails table same told is stays

@@ -71,7 +71,9 @@ use Rattle.im_engine.specs.Running.{IsRunning, IsLife}
 use Rattle.im_engine.specs.Kept.{StepKept}
 use Rattle.im_engine.specs.Growing.{DropsKey, GrowsAs}
 use Rattle.im_engine.specs.Faults.{told_as, ends_engine}
-use Rattle.im_engine.proofs.Running.{outside, not_in, not_owner, checks_tell, left_on, read_on}
+use Rattle.im_engine.specs.declared.stepped.Under.{Under}
+use Rattle.im_engine.specs.Aims.{IsChanging, under_of}
+use Rattle.im_engine.proofs.Running.{outside, not_in, closed_now, checks_tell, left_on, read_on}
 use Rattle.im_engine.proofs.Grown.{read_grows}
 use Rattle.im_engine.proofs.Made.{grown_made, leaves_as, step_made}
 use Rattle.im_engine.proofs.Refused.{KeepsLocks, breaks_with, lacks_with}
@@ -131,7 +133,7 @@ free_in v table t row h free s p = free s (record {
   exclusive = p.exclusive;
 })
 
-module _ {D : Type 0} (d : Ghosts D) {b : Base} (before : List Effect) (s : Shown) (v : View) (old : Engine D d) (r : IsRunning d b before s v old) (t : ℕ) (row : Transaction) (found : find (is_of t) old.txns.rows ≡ Some row) (mark : row.mark ≡ Going) where
+module _ {D : Type 0} (d : Ghosts D) {b : Base} (before : List Effect) (s : Shown) (v : View) (old : Engine D d) (r : IsRunning d b before s v old) (t : ℕ) (row : Transaction) (found : find (is_of t) old.txns.rows ≡ Some row) (mark : row.mark ≡ Going) (free : owner_in v ≢ Some t) where
   way : IsOnTheWay b t row.last r.now.log r.now.log
   way = ways_lead_on.begins b r.earlier before s v r.now.log old.txns.rows old.txns.next old.locks t row r.serving found mark
 
@@ -142,13 +144,13 @@ module _ {D : Type 0} (d : Ghosts D) {b : Base} (before : List Effect) (s : Show
   walk_of = r.serving.seen_by.walk
 
   -- what an insert or a delete below asks
-  pub may_edit : (a : Access) → MayEdit d b r.base r.now r.redo_end t row.last row.undo_next a old.locks old.writer old.disk
-  may_edit a = record {
+  pub may_edit : old.under ≡ None → (a : Access) → MayEdit d b r.base r.now r.redo_end t row.last row.undo_next a old.locks old.writer old.disk
+  may_edit plain a = record {
     unfinished = record {
       stands = r.stands;
       over = r.over;
       lawful = r.lawful;
-      closed = r.closed;
+      closed = closed_now d before s v old r plain;
       newest = way.newest;
       undo = sym (is_at.1.undo ∙ ap (λ (n : ℕ). undo_next_of n r.now.log) is_at.0);
       unfinished = way.unfinished;
@@ -190,7 +192,7 @@ module _ {D : Type 0} (d : Ghosts D) {b : Base} (before : List Effect) (s : Show
   -- ---- the engine behind a change
 
   module _ (a : Access) (new : Engine D d) (now : Writer) (e last undo_next : ℕ) (is : IsUnfinished d b r.base now e t last undo_next new.writer new.disk) (durable : IsFront r.now.durable now.durable) (grows : GrowsWithin t r.now.log now.log)
-      (rows : List Transaction) (table : new.txns ≡ record old.txns { rows = rows }) (w : View) (served : IsServed b r.earlier before s v (Do t a) (answer a v.walk) w now.log rows old.txns.next new.locks) (unowned : w.under ≡ None) where
+      (rows : List Transaction) (table : new.txns ≡ record old.txns { rows = rows }) (w : View) (served : IsServed b r.earlier before s v (Do t a) (answer a v.walk) w now.log rows old.txns.next new.locks) (goes_on : w.under ≡ v.under) (plain : old.under ≡ None) (stays : new.under ≡ old.under) where
     unfoldable pub edited_runs : IsRunning d b before (shows s (Do t a) (Some (answer a v.walk))) w new
     edited_runs =
         let same = (within_leaves_others t r.now.log now.log grows).1 in
@@ -207,20 +209,21 @@ module _ {D : Type 0} (d : Ghosts D) {b : Base} (before : List Effect) (s : Show
           redo_end = e;
           over = is.over;
           lawful = is.lawful;
-          closed = is.closed;
+          changing = subst (λ (u : Option Under). IsChanging b u now.log) (sym (stays ∙ plain)) is.closed;
           serving = subst (λ (x : Numbered). IsServing b r.earlier before (shows s (Do t a) (Some (answer a v.walk))) w now.log x.rows x.next new.locks) (sym table) served.1;
           commits = subst (λ (l : List Asked). AreCommitted r.earlier before l now.durable now.log) (sym (asks_nothing s t a v)) commits;
           numbered = subst (λ (n : ℕ). n ≤ 2 ^ 62 → AreBelow n now.log) (sym (ap (λ (x : Numbered). x.next) table))
               (λ le. numbers_stay_new.within old.txns.next t r.now.log now.log number_below (r.numbered le) grows);
-          unowned = unowned;
+          same = goes_on ∙ r.same ∙ ap under_of (sym stays);
         }
 
-    pub edited : LeavesEdit d b r.base r.now t old.disk new.disk → new.failed ≡ false → GrowsAs b (answer a v.walk) (Do t a) r.now.log now.log → StepKept d before s v (Do t a) (answer a v.walk) old new
+    pub edited : LeavesEdit d b r.base r.now t old.disk new.disk → new.failed ≡ false → GrowsAs b (under_of old.under) (under_of new.under) (answer a v.walk) (Do t a) r.now.log now.log → StepKept d before s v (Do t a) (answer a v.walk) old new
     unfolding edited_runs
     edited stops works adds = step_made d before s v (Do t a) (answer a v.walk) old new w served.0 edited_runs works (leaves_as d before s (shows s (Do t a) None) old.disk new.disk refl (edit_stops new.disk stops)) tt r adds
 
   -- a key that went
-  module _ (key : Key) (new : Engine D d) (fits : keys_fit (Delete key) ≡ true) (taken : Taken) (is : Deleted d b r.base r.now r.redo_end t row.last key taken new.writer new.disk) (decides : Decides old.locks t (asked (Delete key) (contents b r.now.log)) Granted new.locks) where
+  module _ (key : Key) (new : Engine D d) (fits : keys_fit (Delete key) ≡ true) (taken : Taken) (is : Deleted d b r.base r.now r.redo_end t row.last key taken new.writer new.disk) (decides : Decides old.locks t (asked (Delete key) (contents b r.now.log)) Granted new.locks)
+      (plain : old.under ≡ None) (stays : new.under ≡ old.under) where
     abbrev newest : Logged
     newest = key_record t row.last taken.undo_next is.page (DeleteKey key is.rid)
 
@@ -231,7 +234,7 @@ module _ {D : Type 0} (d : Ghosts D) {b : Base} (before : List Effect) (s : Show
     law = lawful_front b page_tree is.change.more mid (subst (λ (l : History). IsLawful b page_tree l) is.change.is is.stands.lawful)
 
     closed_before : open_smo is.before ≡ []
-    closed_before = (copies_are_images page_tree b r.now.log is.before is.images).opened ∙ r.closed
+    closed_before = (copies_are_images page_tree b r.now.log is.before is.images).opened ∙ closed_now d before s v old r plain
 
     may : lawful.MayDelete b page_tree newest is.before key is.rid
     may = law.1.may
@@ -240,7 +243,7 @@ module _ {D : Type 0} (d : Ghosts D) {b : Base} (before : List Effect) (s : Show
     record_rows = map (changed t (with_record taken.undo_next taken.undo_next)) old.txns.rows
 
     after_record : IsServed b r.earlier before s v (Do t (Delete key)) answers.Deleted (did v t (Delete key) (lasting_of new.locks t)) mid record_rows old.txns.next new.locks
-    after_record = (deletes_served page_tree page_tree_laws b r.earlier before s v r.now.log is.before old.txns.rows old.txns.next old.locks new.locks t row.last taken.undo_next is.page row key is.rid r.serving found mark (not_owner d before s v old r t) fits
+    after_record = (deletes_served page_tree page_tree_laws b r.earlier before s v r.now.log is.before old.txns.rows old.txns.next old.locks new.locks t row.last taken.undo_next is.page row key is.rid r.serving found mark free fits
         (way_by_images is.before is.images) law.0 (outside t (open_smo is.before) closed_before) (not_in is.page (open_smo is.before) closed_before) is.there (decided_here (Delete key) Granted new.locks decides) may.can_drop law.1.rises).served
 
     says : answer (Delete key) v.walk ≡ answers.Deleted
@@ -276,41 +279,41 @@ module _ {D : Type 0} (d : Ghosts D) {b : Base} (before : List Effect) (s : Show
         let rows = map (changed t (with_record taken.last taken.undo_next)) old.txns.rows in
         subst (λ (reply : Reply). StepKept d before s v (Do t (Delete key)) reply old new) says
         (edited (Delete key) new is.now r.redo_end taken.last taken.undo_next is.stands is.durable grown rows table w
-        (subst (λ (reply : Reply). IsServed b r.earlier before s v (Do t (Delete key)) reply w is.now.log rows old.txns.next new.locks) (sym says) (after_record.0, in_full)) r.unowned stops works (subst (λ (reply : Reply). GrowsAs b reply (Do t (Delete key)) r.now.log is.now.log) (sym says) drops))
+        (subst (λ (reply : Reply). IsServed b r.earlier before s v (Do t (Delete key)) reply w is.now.log rows old.txns.next new.locks) (sym says) (after_record.0, in_full)) refl plain stays stops works (subst (λ (reply : Reply). GrowsAs b (under_of old.under) (under_of new.under) reply (Do t (Delete key)) r.now.log is.now.log) (sym says) drops))
 
   -- ---- a change that was not made
 
-  module _ (a : Access) (new : Engine D d) (stops : LeavesEdit d b r.base r.now t old.disk new.disk) (fits : keys_fit a ≡ true) where
+  module _ (a : Access) (new : Engine D d) (stops : LeavesEdit d b r.base r.now t old.disk new.disk) (fits : keys_fit a ≡ true) (stays : new.under ≡ old.under) where
     -- granted, of a key that needs none
     pub unchanged : changes a (contents b r.now.log) ≡ [] → Decides old.locks t (asked a (contents b r.now.log)) Granted new.locks → Evicted d b r.base r.now old.disk new.writer new.disk → (reply : Reply) → answer a (contents b r.now.log) ≡ reply
         → new.txns ≡ old.txns → new.failed ≡ false → StepKept d before s v (Do t a) reply old new
     unchanged none decides ev reply says table works =
         subst (λ (y : Reply). StepKept d before s v (Do t a) y old new) (ap (answer a) walk_of ∙ says)
-        (grown_made d before s v (did v t a (lasting_of new.locks t)) (Do t a) (answer a v.walk) old new r old.txns r.unowned ev
-        (λ longer stays all. reads_served b r.earlier before s v r.now.log longer old.txns.rows old.txns.next old.locks new.locks t row a r.serving found mark (not_owner d before s v old r t) fits (ap (changes a) walk_of ∙ none) (decided_here a Granted new.locks decides) stays all)
-        (asks_nothing s t a v) refl table refl (edit_stops new.disk stops) works tt (λ longer images. read_grows b t r.now.log longer images a v.walk (ap (changes a) walk_of ∙ none)))
+        (grown_made d before s v (did v t a (lasting_of new.locks t)) (Do t a) (answer a v.walk) old new r old.txns refl ev
+        (λ longer stays all. reads_served b r.earlier before s v r.now.log longer old.txns.rows old.txns.next old.locks new.locks t row a r.serving found mark free fits (ap (changes a) walk_of ∙ none) (decided_here a Granted new.locks decides) stays all)
+        (asks_nothing s t a v) refl table refl (edit_stops new.disk stops) works tt (λ longer images. read_grows b t r.now.log longer images a v.walk (ap (changes a) walk_of ∙ none)) stays)
 
     -- it has to wait
     pub blocked : (holder : ℕ) → Decides old.locks t (asked a (contents b r.now.log)) (Wait holder) new.locks → Evicted d b r.base r.now old.disk new.writer new.disk → new.txns ≡ old.txns → new.failed ≡ false → StepKept d before s v (Do t a) (Blocked holder) old new
     blocked holder decides ev table works =
-        grown_made d before s v v (Do t a) (Blocked holder) old new r old.txns r.unowned ev
-        (λ longer stays all. waits_served b r.earlier before s v r.now.log longer old.txns.rows old.txns.next old.locks new.locks t holder row a r.serving found mark (not_owner d before s v old r t) fits (decided_here a (Wait holder) new.locks decides) stays all)
-        (waits_ask_nothing s t holder a) refl table refl (edit_stops new.disk stops) works tt (λ longer images. images)
+        grown_made d before s v v (Do t a) (Blocked holder) old new r old.txns refl ev
+        (λ longer stays all. waits_served b r.earlier before s v r.now.log longer old.txns.rows old.txns.next old.locks new.locks t holder row a r.serving found mark free fits (decided_here a (Wait holder) new.locks decides) stays all)
+        (waits_ask_nothing s t holder a) refl table refl (edit_stops new.disk stops) works tt (λ longer images. images) stays
 
     -- its transaction must die
     pub died : Decides old.locks t (asked a (contents b r.now.log)) MustDie new.locks → Evicted d b r.base r.now old.disk new.writer new.disk → new.txns ≡ record old.txns { rows = map (changed t (with_mark MustRollBack)) old.txns.rows } → new.failed ≡ false
         → StepKept d before s v (Do t a) Die old new
     died decides ev table works =
-        grown_made d before s v (marked v t answers.MustRollBack) (Do t a) Die old new r (record old.txns { rows = map (changed t (with_mark MustRollBack)) old.txns.rows }) r.unowned ev
-        (λ longer stays all. dies_served b r.earlier before s v r.now.log longer old.txns.rows old.txns.next old.locks new.locks t row a r.serving found mark (not_owner d before s v old r t) fits (decided_here a MustDie new.locks decides) stays all)
-        (dies_ask_nothing s t a) refl table refl (edit_stops new.disk stops) works tt (λ longer images. images)
+        grown_made d before s v (marked v t answers.MustRollBack) (Do t a) Die old new r (record old.txns { rows = map (changed t (with_mark MustRollBack)) old.txns.rows }) refl ev
+        (λ longer stays all. dies_served b r.earlier before s v r.now.log longer old.txns.rows old.txns.next old.locks new.locks t row a r.serving found mark free fits (decided_here a MustDie new.locks decides) stays all)
+        (dies_ask_nothing s t a) refl table refl (edit_stops new.disk stops) works tt (λ longer images. images) stays
 
 -- ---- refusals
 
 no_commit : (t : ℕ) (a : Access) (u : ℕ) → Do t a ≡ Commit u → ⊥
 no_commit t a u is = cc is
 
-module _ {D : Type 0} (d : Ghosts D) (before : List Effect) (s : Shown) (v : View) (t : ℕ) (a : Access) (old new : Engine D d) (life : IsLife d before s v old) (works : old.failed ≡ false) (checked : checked_by old.txns.rows false (Do t a) ≡ None)
+module _ {D : Type 0} (d : Ghosts D) (before : List Effect) (s : Shown) (v : View) (t : ℕ) (a : Access) (old new : Engine D d) (life : IsLife d before s v old) (works : old.failed ≡ false) (checked : checked_by old.txns.rows (owns_in (under_of old.under) (Do t a)) (Do t a) ≡ None)
     (counts_now : (u : ℕ) (c : Files) → u ≤ d.moment new.disk → d.may_leave new.disk c → d.left_since new.disk u c) where
   abbrev run : (b : Base) × IsRunning d b before s v old
   run = life.running works
@@ -320,11 +323,11 @@ module _ {D : Type 0} (d : Ghosts D) (before : List Effect) (s : Shown) (v : Vie
 
   -- a change that a call refused which may be refused late
   pub edit_refused : (f : Fault) → Wants (Do t a) memory → LogEnds d true mild old.writer old.disk new.writer new.disk (Some f) → LeavesOnly d old.disk new.disk (Allowed before s) → f ≢ NotAStore → new.failed ≡ ends_engine f → new.txns ≡ old.txns
-      → (f ≡ Memory → KeepsLocks old.locks new.locks) → (told : Fault) → told ≡ told_as f → StepKept d before s v (Do t a) (Refused (number_of told)) old new
-  edit_refused f wants ends leaves sound fails table same told is = subst (λ (y : Fault). StepKept d before s v (Do t a) (Refused (number_of y)) old new) (sym is) (by f ends sound fails same)
+      → (f ≡ Memory → KeepsLocks old.locks new.locks) → (told : Fault) → told ≡ told_as f → new.under ≡ old.under → StepKept d before s v (Do t a) (Refused (number_of told)) old new
+  edit_refused f wants ends leaves sound fails table same told is stays = subst (λ (y : Fault). StepKept d before s v (Do t a) (Refused (number_of y)) old new) (sym is) (by f ends sound fails same)
     where
       by : (g : Fault) → LogEnds d true mild old.writer old.disk new.writer new.disk (Some g) → g ≢ NotAStore → new.failed ≡ ends_engine g → (g ≡ Memory → KeepsLocks old.locks new.locks) → StepKept d before s v (Do t a) (Refused (number_of (told_as g))) old new
-      by Memory x other on same_locks = lacks_with d before s v (Do t a) (no_commit t a) bars old new life works counts_now wants (read_on d before s v old run.1 new.writer new.disk x.1) leaves table (same_locks refl) on
+      by Memory x other on same_locks = lacks_with d before s v (Do t a) (no_commit t a) bars old new life works counts_now wants (read_on d before s v old run.1 new.writer new.disk x.1) leaves table (same_locks refl) on stays
       by LogFull x other on same_locks = breaks_with d before s v (Do t a) (no_commit t a) bars old new life works counts_now 7 (inr (inl refl)) on leaves
       by Device x other on same_locks = breaks_with d before s v (Do t a) (no_commit t a) bars old new life works counts_now 8 (inr (inr (inl refl))) on leaves
       by Failed x other on same_locks = breaks_with d before s v (Do t a) (no_commit t a) bars old new life works counts_now 10 (inr (inr (inr refl))) on leaves

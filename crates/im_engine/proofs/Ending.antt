@@ -62,15 +62,18 @@ use Rattle.im_engine.specs.Stands.{StandsFor, Allowed}
 use Rattle.im_engine.specs.Running.{IsRunning, IsLife}
 use Rattle.im_engine.specs.Kept.{StepKept, IsDurable}
 use Rattle.im_engine.proofs.Stands.{covered_allowed}
-use Rattle.im_engine.proofs.Running.{outside, not_owner, nothing_pending, checks_tell, allowed_as, tells, none_waits, page_is, read_stops, covered_stops, idle_stops, runs_on}
+use Rattle.im_engine.specs.declared.stepped.Under.{Under}
+use Rattle.im_engine.specs.Aims.{IsChanging, under_of}
+use Rattle.im_engine.proofs.GoingOn.{record_goes}
+use Rattle.im_engine.proofs.Running.{never_rolls, outside_of, not_owner, nothing_pending, checks_tell, allowed_as, tells, none_waits, page_is, read_stops, covered_stops, idle_stops, runs_on}
 use Rattle.im_engine.specs.Growing.{with_records, without_records}
 use Rattle.im_engine.proofs.Made.{step_made, step_broke, leaves_as}
 use Rattle.im_engine.proofs.Waits.{out_of, not_waiting, nobody, left_rows, left_count, left_locks}
 
 -- the record of a Commit leaves a lawful log
 commit_lawful : (b : Base) (earlier before : List Effect) (s : Shown) (v : View) (older : History) (rows : List Transaction) (next : ℕ) (held : Table) (t lsn : ℕ) (row : Transaction) → IsServing b earlier before s v older rows next held
-    → find (is_of t) rows ≡ Some row → row.mark ≡ Going → IsLawful b page_tree older → open_smo older ≡ [] → end_of b older < lsn → IsLawful b page_tree (commit_record t row.last lsn ∷ older)
-commit_lawful b earlier before s v older rows next held t lsn row h found mark law closed rises =
+    → find (is_of t) rows ≡ Some row → row.mark ≡ Going → IsLawful b page_tree older → IsOutside t (open_smo older) → end_of b older < lsn → IsLawful b page_tree (commit_record t row.last lsn ∷ older)
+commit_lawful b earlier before s v older rows next held t lsn row h found mark law out rises =
     let is = at b earlier before s v older rows next held h t row found (mark_free row.mark Going mark (λ x. cc x)) in
     let newest = commit_record t row.last lsn in
     let follows : Follows b page_tree newest older = record {
@@ -82,7 +85,7 @@ commit_lawful b earlier before s v older rows next held t lsn row h found mark l
       };
       may = record {
         no_undo_next = refl;
-        outside = outside t (open_smo older) closed;
+        outside = out;
         not_rolling_back = ap (λ (n : ℕ). is_rolling_back n older) (sym is.0) ∙ is.1.forward (λ e. let never : Going ≡ RollingBack = sym mark ∙ e in cc);
       };
     } in
@@ -134,7 +137,7 @@ module _ {D : Type 0} (d : Ghosts D) (before : List Effect) (s : Shown) (v : Vie
   run = life.running works
 
   -- what a step is that made no call of the writer
-  module _ (writer : new.writer ≡ old.writer) (disk : new.disk ≡ old.disk) (only_now : (c : Files) → d.left_since old.disk (d.moment old.disk) c → d.may_leave old.disk c) where
+  module _ (writer : new.writer ≡ old.writer) (disk : new.disk ≡ old.disk) (stays : new.under ≡ old.under) (only_now : (c : Files) → d.left_since old.disk (d.moment old.disk) c → d.may_leave old.disk c) where
     on_here : GoesOn d run.0 run.1.base run.1.now old.disk run.1.now new.writer new.disk
     on_here = subst (λ (w : PageWriter). GoesOn d run.0 run.1.base run.1.now old.disk run.1.now w new.disk) (sym writer)
         (subst (λ (x : D). GoesOn d run.0 run.1.base run.1.now old.disk run.1.now old.writer x) (sym disk) (goes_on_start d run.0 run.1.base run.1.now old.writer old.disk only_now run.1.stands))
@@ -160,10 +163,13 @@ module _ {D : Type 0} (d : Ghosts D) (before : List Effect) (s : Shown) (v : Vie
         subst (λ (x : Numbered). IsServing run.0 r.earlier before t w r.now.log x.rows x.next new.locks) (sym table_is)
         (subst (λ (l : _). IsServing run.0 r.earlier before t w r.now.log after.rows after.next l) (sym locks) served.1) in
         let running = runs_on d before s v old r t w new r.now on_here serving r.commits
-        (subst (λ (n : ℕ). n ≤ 2 ^ 62 → AreBelow n r.now.log) (sym (ap (λ (x : Numbered). x.next) table_is)) (λ le_new. numbers_stay_new.more old.txns.next (suc old.txns.next) r.now.log (omega arith) below)) r.unowned in
+        (subst (λ (n : ℕ). n ≤ 2 ^ 62 → AreBelow n r.now.log) (sym (ap (λ (x : Numbered). x.next) table_is)) (λ le_new. numbers_stay_new.more old.txns.next (suc old.txns.next) r.now.log (omega arith) below)) refl stays in
         subst (λ (n : ℕ). StepKept d before s v Begin (Started n) old new) (sym is) (step_made d before s v Begin (Started old.txns.next) old new w served.0 running works_on (stops_here (shows s Begin None) refl) tt r refl)
 
-    module _ (t : ℕ) (row : Transaction) (found : find (is_of t) old.txns.rows ≡ Some row) (mark : (row.mark ≡ Going) ⊎ (row.mark ≡ MustRollBack)) where
+    module _ (t : ℕ) (row : Transaction) (found : find (is_of t) old.txns.rows ≡ Some row) (mark : (row.mark ≡ Going) ⊎ (row.mark ≡ MustRollBack)) (unowned : pending_of (under_of old.under) t ≡ None) where
+      free : owner_in v ≢ Some t
+      free = not_owner d before s v old run.1 t row found (never_rolls row.mark mark) unowned
+
       rises : Rises run.0 run.1.now.log
       rises = rises_of run.0 page_tree run.1.now.log run.1.lawful
 
@@ -172,13 +178,13 @@ module _ {D : Type 0} (d : Ghosts D) (before : List Effect) (s : Shown) (v : Vie
       unfolding runs_on
       dropped none released once table works_on =
           let r = run.1 in
-          let served = drops_served run.0 r.earlier before s v r.now.log old.txns.rows old.txns.next old.locks new.locks t row r.serving rises found mark (not_owner d before s v old r t) none released once in
+          let served = drops_served run.0 r.earlier before s v r.now.log old.txns.rows old.txns.next old.locks new.locks t row r.serving rises found mark free none released once in
           let after : Numbered = record old.txns { rows = without t old.txns.rows } in
           let shown = shows s (Rollback t) (Some RolledBack) in
           let w = dropped_by v t in
           let running = runs_on d before s v old r shown w new r.now on_here
           (subst (λ (x : Numbered). IsServing run.0 r.earlier before shown w r.now.log x.rows x.next new.locks) (sym table) served.1) r.commits
-          (subst (λ (n : ℕ). n ≤ 2 ^ 62 → AreBelow n r.now.log) (sym (ap (λ (x : Numbered). x.next) table)) r.numbered) r.unowned in
+          (subst (λ (n : ℕ). n ≤ 2 ^ 62 → AreBelow n r.now.log) (sym (ap (λ (x : Numbered). x.next) table)) r.numbered) refl stays in
           step_made d before s v (Rollback t) RolledBack old new w served.0 running works_on (stops_here (shows s (Rollback t) None) refl) tt r refl
 
       -- it has one, and is marked
@@ -186,21 +192,21 @@ module _ {D : Type 0} (d : Ghosts D) (before : List Effect) (s : Shown) (v : Vie
       unfolding runs_on
       turned some locks table works_on =
           let r = run.1 in
-          let served = turns_served run.0 r.earlier before s v r.now.log old.txns.rows old.txns.next old.locks t row r.serving found mark some (not_owner d before s v old r t) in
+          let served = turns_served run.0 r.earlier before s v r.now.log old.txns.rows old.txns.next old.locks t row r.serving found mark some free in
           let after : Numbered = record old.txns { rows = map (changed t (with_mark RollingBack)) old.txns.rows } in
           let shown = shows s (Rollback t) (Some More) in
           let w = marked v t answers.RollingBack in
           let running = runs_on d before s v old r shown w new r.now on_here
           (subst (λ (x : Numbered). IsServing run.0 r.earlier before shown w r.now.log x.rows x.next new.locks) (sym table)
           (subst (λ (l : _). IsServing run.0 r.earlier before shown w r.now.log after.rows after.next l) (sym locks) served.1)) r.commits
-          (subst (λ (n : ℕ). n ≤ 2 ^ 62 → AreBelow n r.now.log) (sym (ap (λ (x : Numbered). x.next) table)) r.numbered) r.unowned in
+          (subst (λ (n : ℕ). n ≤ 2 ^ 62 → AreBelow n r.now.log) (sym (ap (λ (x : Numbered). x.next) table)) r.numbered) refl stays in
           step_made d before s v (Rollback t) More old new w served.0 running works_on (stops_here (shows s (Rollback t) None) refl) tt r refl
 
   -- the log was forced, and all that waited have ended
   pub log_forced : GoesOn d run.0 run.1.base run.1.now old.disk (forced run.1.now) new.writer new.disk → LeavesCovered d run.0 run.1.base run.1.now.durable run.1.now.log old.disk new.disk → AreRising old.txns.rows → AreReleased old.locks (λ t. is_among t (waiting_numbers old.txns.rows)) new.locks
-      → new.txns ≡ record old.txns { rows = without_waiting old.txns.rows; waiting = 0 } → new.failed ≡ false → StepKept d before s v Force Done old new
+      → new.txns ≡ record old.txns { rows = without_waiting old.txns.rows; waiting = 0 } → new.failed ≡ false → new.under ≡ old.under → StepKept d before s v Force Done old new
   unfolding runs_on
-  log_forced on run_stops rising released table works_on =
+  log_forced on run_stops rising released table works_on stays =
       let r = run.1 in
       let same = stays_here run.0 r.now.log in
       let gone = left_locks run.0 r.earlier before s v r.now.log old.txns.rows old.txns.next old.locks r.serving rising new.locks released in
@@ -211,12 +217,15 @@ module _ {D : Type 0} (d : Ghosts D) (before : List Effect) (s : Shown) (v : Vie
       (subst (λ (x : Numbered). IsServing run.0 r.earlier before shown w r.now.log x.rows x.next new.locks) (sym table)
       (subst (λ (rows : List Transaction). IsServing run.0 r.earlier before shown w r.now.log rows old.txns.next new.locks) (sym (left_rows run.0 r.earlier before s v r.now.log old.txns.rows old.txns.next old.locks r.serving rising)) served.1))
       (commits_stand.all r.earlier before shown.asked r.now.log served.1.says)
-      (subst (λ (n : ℕ). n ≤ 2 ^ 62 → AreBelow n r.now.log) (sym (ap (λ (x : Numbered). x.next) table)) r.numbered) r.unowned in
+      (subst (λ (n : ℕ). n ≤ 2 ^ 62 → AreBelow n r.now.log) (sym (ap (λ (x : Numbered). x.next) table)) r.numbered) refl stays in
       step_made d before s v Force Done old new w served.0 running works_on (covered_stops d before s v old r new.disk run_stops) (record { b = run.0; running = running; all = refl; finished = refl }) r refl
 
   -- what a Commit asks, of a transaction that logged nothing
   module _ (t : ℕ) (row : Transaction) (found : find (is_of t) old.txns.rows ≡ Some row) (mark : row.mark ≡ Going) (released : IsReleased old.locks t new.locks) (once : length old.txns.rows ≡ length (without t old.txns.rows) + 1)
-      (table : new.txns ≡ record old.txns { rows = without t old.txns.rows }) (works_on : new.failed ≡ false) where
+      (table : new.txns ≡ record old.txns { rows = without t old.txns.rows }) (works_on : new.failed ≡ false) (unowned : pending_of (under_of old.under) t ≡ None) (stays : new.under ≡ old.under) where
+    free : owner_in v ≢ Some t
+    free = not_owner d before s v old run.1 t row found (never_rolls row.mark (inl mark)) unowned
+
     abbrev after : Numbered
     after = record old.txns { rows = without t old.txns.rows }
 
@@ -226,23 +235,31 @@ module _ {D : Type 0} (d : Ghosts D) (before : List Effect) (s : Shown) (v : Vie
     ended none writer disk only_now =
         let r = run.1 in
         let rises = rises_of run.0 page_tree r.now.log r.lawful in
-        let served = unlogged_commits_served run.0 r.earlier before s v r.now.log old.txns.rows old.txns.next old.locks new.locks t row r.serving rises found mark (not_owner d before s v old r t) none released once in
+        let served = unlogged_commits_served run.0 r.earlier before s v r.now.log old.txns.rows old.txns.next old.locks new.locks t row r.serving rises found mark free none released once in
         let shown = shows s (Commit t) (Some Committed) in
         let w = committed_by v t in
         let is = at run.0 r.earlier before s v r.now.log old.txns.rows old.txns.next old.locks r.serving t row found (mark_free row.mark Going mark (λ x. cc x)) in
         let last_is : last_of t r.now.log ≡ 0 = sym (is.1.last ∙ ap (λ (n : ℕ). last_of n r.now.log) is.0) ∙ none in
         let empty : net t r.now.log ≡ [] = ap changes_of (unlogged run.0 t r.now.log rises last_is) in
-        let effect_is : (s.running t).effect ≡ [] = effect_shown s v r.serving.shows.shown t (nothing_pending d before s v old r t) (inl (is.2 ∙ ap mark_of mark)) ∙ ap seen_effect (r.serving.seen_by.nets t (out_of run.0 r.earlier before s v r.now.log old.txns.rows old.txns.next old.locks r.serving t (not_waiting old.txns.rows t row found (ap is_committing mark))) ∙ empty) in
+        let effect_is : (s.running t).effect ≡ [] = effect_shown s v r.serving.shows.shown t (nothing_pending d before s v old r t unowned) (inl (is.2 ∙ ap mark_of mark)) ∙ ap seen_effect (r.serving.seen_by.nets t (out_of run.0 r.earlier before s v r.now.log old.txns.rows old.txns.next old.locks r.serving t (not_waiting old.txns.rows t row found (ap is_committing mark))) ∙ empty) in
         let asks : shown.asked ≡ s.asked = ap (λ (l : List Asked). s.asked ++ l) (empty_asked t true (s.running t).mark (s.running t).effect effect_is) ∙ append-nil s.asked in
-        let running = runs_on d before s v old r shown w new r.now (on_here writer disk only_now)
+        let running = runs_on d before s v old r shown w new r.now (on_here writer disk stays only_now)
         (subst (λ (x : Numbered). IsServing run.0 r.earlier before shown w r.now.log x.rows x.next new.locks) (sym table) served.1)
         (subst (λ (l : List Asked). AreCommitted r.earlier before l r.now.durable r.now.log) (sym asks) r.commits)
-        (subst (λ (n : ℕ). n ≤ 2 ^ 62 → AreBelow n r.now.log) (sym (ap (λ (x : Numbered). x.next) table)) r.numbered) r.unowned in
-        step_made d before s v (Commit t) Committed old new w served.0 running works_on (cut_leaves d before s t old.disk new.disk (stops_here writer disk only_now s refl)) tt r
+        (subst (λ (n : ℕ). n ≤ 2 ^ 62 → AreBelow n r.now.log) (sym (ap (λ (x : Numbered). x.next) table)) r.numbered) refl stays in
+        step_made d before s v (Commit t) Committed old new w served.0 running works_on (cut_leaves d before s t old.disk new.disk (stops_here writer disk stays only_now s refl)) tt r
         (without_records last_is refl)
 
   -- a Commit that was logged
-  module _ (t : ℕ) (row : Transaction) (found : find (is_of t) old.txns.rows ≡ Some row) (mark : row.mark ≡ Going) (some : 1 ≤ row.last) (lsn : ℕ) (x : PageWriter) (mid : D) (logged : LoggedOnly d run.0 run.1.base run.1.now (entries.Commit t row.last) lsn x mid) where
+  module _ (t : ℕ) (row : Transaction) (found : find (is_of t) old.txns.rows ≡ Some row) (mark : row.mark ≡ Going) (some : 1 ≤ row.last) (lsn : ℕ) (x : PageWriter) (mid : D) (logged : LoggedOnly d run.0 run.1.base run.1.now (entries.Commit t row.last) lsn x mid)
+      (unowned : pending_of (under_of old.under) t ≡ None) where
+    free : owner_in v ≢ Some t
+    free = not_owner d before s v old run.1 t row found (never_rolls row.mark (inl mark)) unowned
+
+    -- the open structure change is another's
+    out : IsOutside t (open_smo run.1.now.log)
+    out = outside_of d before s v old run.1 t free
+
     abbrev longer : History
     longer = commit_record t row.last lsn ∷ run.1.now.log
 
@@ -252,13 +269,17 @@ module _ {D : Type 0} (d : Ghosts D) (before : List Effect) (s : Shown) (v : Vie
     lawful_on : IsLawful run.0 page_tree longer
     lawful_on =
         let r = run.1 in
-        commit_lawful run.0 r.earlier before s v r.now.log old.txns.rows old.txns.next old.locks t lsn row r.serving found mark r.lawful r.closed logged.high
+        commit_lawful run.0 r.earlier before s v r.now.log old.txns.rows old.txns.next old.locks t lsn row r.serving found mark r.lawful out logged.high
+
+    -- the structure change under way goes on beside it
+    goes_behind : IsLawful run.0 page_tree longer → IsChanging run.0 old.under longer
+    goes_behind law = record_goes run.0 old.under (commit_record t row.last lsn) run.1.now.log law refl (λ u is same. free (ap owner_of (run.1.same ∙ ap under_of is) ∙ ap (λ (n : ℕ). Some n) (sym same))) refl refl run.1.changing
 
     -- as long as it is not acknowledged, it may be left or not
     asked_on : AreCommitted run.1.earlier before (shows s (Commit t) None).asked logged.durable longer
     asked_on =
         let r = run.1 in
-        let cut = cut_commits_stand run.0 r.earlier before s v r.now.log longer r.now.durable old.txns.rows old.txns.next old.locks t row r.serving found mark some (not_owner d before s v old r t)
+        let cut = cut_commits_stand run.0 r.earlier before s v r.now.log longer r.now.durable old.txns.rows old.txns.next old.locks t row r.serving found mark some free
         (commit_commits run.0 r.now.log (commit_record t row.last lsn) t refl refl) r.commits in
         commits_stand.more r.earlier before (shows s (Commit t) None).asked r.now.durable longer logged.durable cut (record { from = logged.grows; upto = logged.stands.writing.stands.kept.front })
 
@@ -271,10 +292,10 @@ module _ {D : Type 0} (d : Ghosts D) (before : List Effect) (s : Shown) (v : Vie
 
     -- behind them, where nobody waits
     pub committed_on : AreRising old.txns.rows → waiting_in old.txns.rows ≡ 0 → GoesOn d run.0 run.1.base with_commit mid (forced with_commit) new.writer new.disk → LeavesOnly d old.disk new.disk (Allowed before (shows s (Commit t) None))
-        → IsReleased old.locks t new.locks → length old.txns.rows ≡ length (without t old.txns.rows) + 1 → new.txns ≡ record old.txns { rows = without t old.txns.rows } → new.failed ≡ false → StepKept d before s v (Commit t) Committed old new
-    committed_on rising alone on stops released once table works_on =
+        → IsReleased old.locks t new.locks → length old.txns.rows ≡ length (without t old.txns.rows) + 1 → new.txns ≡ record old.txns { rows = without t old.txns.rows } → new.failed ≡ false → new.under ≡ old.under → StepKept d before s v (Commit t) Committed old new
+    committed_on rising alone on stops released once table works_on stays =
         let r = run.1 in
-        let law = logged_commits_served page_tree page_tree_laws run.0 r.earlier before s v r.now.log old.txns.rows old.txns.next old.locks new.locks t lsn row r.serving found mark some (not_owner d before s v old r t) r.lawful (outside t (open_smo r.now.log) r.closed) logged.high (nobody run.0 r.earlier before s v r.now.log old.txns.rows old.txns.next old.locks r.serving rising alone) released once in
+        let law = logged_commits_served page_tree page_tree_laws run.0 r.earlier before s v r.now.log old.txns.rows old.txns.next old.locks new.locks t lsn row r.serving found mark some free r.lawful out logged.high (nobody run.0 r.earlier before s v r.now.log old.txns.rows old.txns.next old.locks r.serving rising alone) released once in
         let shown = shows s (Commit t) (Some Committed) in
         let w = committed_by v t in
         let is = at run.0 r.earlier before s v r.now.log old.txns.rows old.txns.next old.locks r.serving t row found (mark_free row.mark Going mark (λ x. cc x)) in
@@ -288,22 +309,22 @@ module _ {D : Type 0} (d : Ghosts D) (before : List Effect) (s : Shown) (v : Vie
           redo_end = r.redo_end;
           over = r.over;
           lawful = law.lawful;
-          closed = r.closed;
+          changing = subst (λ (u : Option Under). IsChanging run.0 u longer) (sym stays) (goes_behind law.lawful);
           serving = subst (λ (x : Numbered). IsServing run.0 r.earlier before shown w longer x.rows x.next new.locks) (sym table) law.served.1;
           commits = commits_stand.all r.earlier before shown.asked longer law.served.1.says;
           numbered = subst (λ (n : ℕ). n ≤ 2 ^ 62 → AreBelow n longer) (sym (ap (λ (x : Numbered). x.next) table)) (λ le. (subst (λ (n : ℕ). n < old.txns.next) is.0 is.1.below, r.numbered le));
-          unowned = r.unowned;
+          same = r.same ∙ ap under_of (sym stays);
         } in
         let last_is : row.last ≡ last_of t r.now.log = is.1.last ∙ ap (λ (n : ℕ). last_of n r.now.log) is.0 in
         step_made d before s v (Commit t) Committed old new w law.served.0 running works_on stops tt r
         (with_records lsn (subst (λ (n : ℕ). 1 ≤ n) last_is some) (ap (λ (n : ℕ). commit_record t n lsn ∷ r.now.log) last_is))
 
     -- behind the record alone: it waits
-    pub queued_on : new.writer ≡ x → new.disk ≡ mid → LeavesCovered d run.0 run.1.base run.1.now.durable run.1.now.log old.disk new.disk → new.locks ≡ old.locks → new.txns ≡ record old.txns { rows = map (changed t (with_mark Committing)) old.txns.rows; waiting = old.txns.waiting + 1 } → new.failed ≡ false
+    pub queued_on : new.writer ≡ x → new.disk ≡ mid → LeavesCovered d run.0 run.1.base run.1.now.durable run.1.now.log old.disk new.disk → new.locks ≡ old.locks → new.txns ≡ record old.txns { rows = map (changed t (with_mark Committing)) old.txns.rows; waiting = old.txns.waiting + 1 } → new.failed ≡ false → new.under ≡ old.under
         → StepKept d before s v (Commit t) More old new
-    queued_on writer disk run_stops locks table works_on =
+    queued_on writer disk run_stops locks table works_on stays =
         let r = run.1 in
-        let law = logged_commits_wait page_tree page_tree_laws run.0 r.earlier before s v r.now.log old.txns.rows old.txns.next old.locks t lsn row r.serving found mark some (not_owner d before s v old r t) r.lawful (outside t (open_smo r.now.log) r.closed) logged.high in
+        let law = logged_commits_wait page_tree page_tree_laws run.0 r.earlier before s v r.now.log old.txns.rows old.txns.next old.locks t lsn row r.serving found mark some free r.lawful out logged.high in
         let shown = shows s (Commit t) (Some More) in
         let w = queued v t in
         let is = at run.0 r.earlier before s v r.now.log old.txns.rows old.txns.next old.locks r.serving t row found (mark_free row.mark Going mark (λ x. cc x)) in
@@ -319,12 +340,12 @@ module _ {D : Type 0} (d : Ghosts D) (before : List Effect) (s : Shown) (v : Vie
           redo_end = r.redo_end;
           over = r.over;
           lawful = law.lawful;
-          closed = r.closed;
+          changing = subst (λ (u : Option Under). IsChanging run.0 u longer) (sym stays) (goes_behind law.lawful);
           serving = subst (λ (x : Numbered). IsServing run.0 r.earlier before shown w longer x.rows x.next new.locks) (sym table)
               (subst (λ (l : Table). IsServing run.0 r.earlier before shown w longer (map (changed t (with_mark Committing)) old.txns.rows) old.txns.next l) (sym locks) law.served.1);
           commits = subst (λ (l : List Asked). AreCommitted r.earlier before l logged.durable longer) asked_same asked_on;
           numbered = subst (λ (n : ℕ). n ≤ 2 ^ 62 → AreBelow n longer) (sym (ap (λ (x : Numbered). x.next) table)) (λ le. (subst (λ (n : ℕ). n < old.txns.next) is.0 is.1.below, r.numbered le));
-          unowned = r.unowned;
+          same = r.same ∙ ap under_of (sym stays);
         } in
         let last_is : row.last ≡ last_of t r.now.log = is.1.last ∙ ap (λ (n : ℕ). last_of n r.now.log) is.0 in
         step_made d before s v (Commit t) More old new w law.served.0 running works_on (cut_leaves d before s t old.disk new.disk (covered_stops d before s v old r new.disk run_stops)) tt r
@@ -340,7 +361,7 @@ module _ {D : Type 0} (d : Ghosts D) (before : List Effect) (s : Shown) (v : Vie
       tt
 
   -- a Commit that an append or the force refused
-  pub commit_refused : (t : ℕ) → checked_by old.txns.rows false (Commit t) ≡ None → (f : Fault) → IsOfLog f → (told : Fault) → told ≡ told_as f → new.failed ≡ true → LeavesOnly d old.disk new.disk (Allowed before (shows s (Commit t) None))
+  pub commit_refused : (t : ℕ) → checked_by old.txns.rows (owns_in (under_of old.under) (Commit t)) (Commit t) ≡ None → (f : Fault) → IsOfLog f → (told : Fault) → told ≡ told_as f → new.failed ≡ true → LeavesOnly d old.disk new.disk (Allowed before (shows s (Commit t) None))
       → ((u : ℕ) (c : Files) → u ≤ d.moment new.disk → d.may_leave new.disk c → d.left_since new.disk u c) → StepKept d before s v (Commit t) (Refused (number_of told)) old new
   commit_refused t checked f of told is fails leaves counts_now =
       subst (λ (y : Fault). StepKept d before s v (Commit t) (Refused (number_of y)) old new) (sym is)
@@ -362,10 +383,10 @@ module _ {D : Type 0} (d : Ghosts D) (before : List Effect) (s : Shown) (v : Vie
       (subst (λ (x : D). LeavesOnly d old.disk x (Allowed before s)) (sym disk) (idle_stops d before s v old run.1 only_now))
 
   -- a page was written, behind Images
-  pub flushed : (p : ℕ) → Flushes d old.writer old.disk new.writer new.disk None → FlushedOne d run.0 run.1.base run.1.now p old.disk new.writer new.disk → new.txns ≡ old.txns → new.locks ≡ old.locks → new.failed ≡ false
+  pub flushed : (p : ℕ) → Flushes d old.writer old.disk new.writer new.disk None → FlushedOne d run.0 run.1.base run.1.now p old.disk new.writer new.disk → new.txns ≡ old.txns → new.locks ≡ old.locks → new.failed ≡ false → new.under ≡ old.under
       → StepKept d before s v (FlushPage p) Done old new
   unfolding runs_on
-  flushed p one f table locks works_on =
+  flushed p one f table locks works_on stays =
       let b = run.0 in
       let r = run.1 in
       let same = copies_are_images page_tree b r.now.log f.now.log f.on.goes.keeps.log in
@@ -376,7 +397,7 @@ module _ {D : Type 0} (d : Ghosts D) (before : List Effect) (s : Shown) (v : Vie
       let running = runs_on d before s v old r s v new f.now f.on
       (subst (λ (x : Numbered). IsServing b r.earlier before s v f.now.log x.rows x.next new.locks) (sym table)
       (subst (λ (l : _). IsServing b r.earlier before s v f.now.log old.txns.rows old.txns.next l) (sym locks) served.1)) commits
-      (subst (λ (n : ℕ). n ≤ 2 ^ 62 → AreBelow n f.now.log) (sym (ap (λ (x : Numbered). x.next) table)) (λ le. same.below old.txns.next old.first (r.numbered le))) r.unowned in
+      (subst (λ (n : ℕ). n ≤ 2 ^ 62 → AreBelow n f.now.log) (sym (ap (λ (x : Numbered). x.next) table)) (λ le. same.below old.txns.next old.first (r.numbered le))) refl stays in
       let reads = f.on.goes.writing.stands.file.reads p ∙ f.in_file ((f.on.goes.keeps.pages p).waits ∙ none_waits d before s v old r p) ∙ ap (λ (g : Page). Some g) (page_is d before s v new running p) in
       step_made d before s v (FlushPage p) Done old new v served.0 running works_on (read_stops d before s v old r new.writer new.disk (flush_asks d one)) (record { b = b; running = running; reads = reads }) r
       f.on.goes.keeps.log

@@ -33,6 +33,9 @@ use Rattle.im_engine.specs.Numbered.{Numbered}
 use Rattle.im_engine.specs.Stands.{Allowed}
 use Rattle.im_engine.specs.Running.{IsRunning, IsLife}
 use Rattle.im_engine.specs.Kept.{StepKept}
+use Rattle.im_engine.specs.declared.stepped.Under.{Under}
+use Rattle.im_engine.specs.Aims.{IsChanging, under_of}
+use Rattle.im_engine.proofs.GoingOn.{record_goes}
 use Rattle.im_engine.proofs.Running.{checks_tell, left_on}
 use Rattle.im_engine.proofs.Made.{step_made}
 use Rattle.im_engine.proofs.Refused.{breaks_with}
@@ -83,9 +86,9 @@ module _ {D : Type 0} (d : Ghosts D) (before : List Effect) (s : Shown) (v : Vie
       weakened d old.disk new.disk (IsCovered run.0 r.base r.now.durable leaves.high) (Allowed before s) leaves.stops (λ told c is. left_on d before s v old r leaves.high law.0 law.1 c is)
 
   -- it was taken
-  pub checkpointed : (lsn : ℕ) → Checkpointed d run.0 run.1.base run.1.now old.txns.next (listed old.txns.rows) dirty lsn new.writer new.disk → Leaves → new.txns ≡ old.txns → new.locks ≡ old.locks → new.failed ≡ false
+  pub checkpointed : (lsn : ℕ) → Checkpointed d run.0 run.1.base run.1.now old.txns.next (listed old.txns.rows) dirty lsn new.writer new.disk → Leaves → new.txns ≡ old.txns → new.locks ≡ old.locks → new.failed ≡ false → new.under ≡ old.under
       → StepKept d before s v Checkpoint Done old new
-  checkpointed lsn taken leaves table locks works_on =
+  checkpointed lsn taken leaves table locks works_on stays =
       let r = run.1 in
       let newest = taken_at lsn in
       let longer : History = newest ∷ r.now.log in
@@ -102,12 +105,12 @@ module _ {D : Type 0} (d : Ghosts D) (before : List Effect) (s : Shown) (v : Vie
         redo_end = r.redo_end;
         over = r.over;
         lawful = law.lawful;
-        closed = on.opened ∙ r.closed;
+        changing = subst (λ (u : Option Under). IsChanging run.0 u longer) (sym stays) (record_goes run.0 old.under newest r.now.log law.lawful on.opened (λ u is same. absurd (let owned = u.begun.change.owned in omega (arith, same, owned))) refl refl r.changing);
         serving = subst (λ (x : Numbered). IsServing run.0 r.earlier before s v longer x.rows x.next new.locks) (sym table)
             (subst (λ (l : _). IsServing run.0 r.earlier before s v longer old.txns.rows old.txns.next l) (sym locks) law.served.1);
         commits = commits_stand.all r.earlier before s.asked longer law.served.1.says;
         numbered = subst (λ (n : ℕ). n ≤ 2 ^ 62 → AreBelow n longer) (sym (ap (λ (x : Numbered). x.next) table)) (λ le. on.below old.txns.next old.first (r.numbered le));
-        unowned = r.unowned;
+        same = r.same ∙ ap under_of (sym stays);
       } in
       step_made d before s v Checkpoint Done old new v law.served.0 running works_on (taken_stops leaves) (record {
         b = run.0;

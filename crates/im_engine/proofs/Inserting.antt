@@ -72,13 +72,14 @@ use Rattle.im_engine.proofs.Deleting.{access_mark}
 use Rattle.im_engine.proofs.Edited.{blocked, by_structure, died, edit_stops, edited, may_edit, unchanged}
 use Rattle.im_engine.proofs.Made.{grown_made}
 use Rattle.im_engine.proofs.Refused.{KeepsLocks, breaks_with, lacks_with, serving_with}
-use Rattle.im_engine.proofs.Running.{outside, not_in, not_owner, checks_tell, bodies_are, read_on}
+use Rattle.im_engine.specs.Aims.{under_of}
+use Rattle.im_engine.proofs.Running.{outside, not_in, nobody_owner, checks_tell, bodies_are, read_on}
 
 -- ---- a key that came
 
-module _ {D : Type 0} (d : Ghosts D) {b : Base} (before : List Effect) (s : Shown) (v : View) (old : Engine D d) (r : IsRunning d b before s v old) (t : ℕ) (row : Transaction) (found : find (is_of t) old.txns.rows ≡ Some row) (mark : row.mark ≡ Going) where
+module _ {D : Type 0} (d : Ghosts D) {b : Base} (before : List Effect) (s : Shown) (v : View) (old : Engine D d) (r : IsRunning d b before s v old) (t : ℕ) (row : Transaction) (found : find (is_of t) old.txns.rows ≡ Some row) (mark : row.mark ≡ Going) (plain : old.under ≡ None) where
   module _ (key : Key) (rid max : ℕ) (new : Engine D d) (fits : keys_fit (Insert key rid) ≡ true) (noted : Noted) (is : Inserted d b r.base r.now r.redo_end t key rid max noted new.writer new.disk)
-      (decides : Decides old.locks t (asked (Insert key rid) (contents b r.now.log)) GrantedAll new.locks) where
+      (decides : Decides old.locks t (asked (Insert key rid) (contents b r.now.log)) GrantedAll new.locks) (stays : new.under ≡ old.under) where
     abbrev newest : Logged
     newest = key_record t is.newest noted.last is.page (InsertKey key rid)
 
@@ -109,7 +110,7 @@ module _ {D : Type 0} (d : Ghosts D) {b : Base} (before : List Effect) (s : Show
     after_record =
         subst (λ (n : ℕ). IsServed b r.earlier before s v (Do t (Insert key rid)) answers.Inserted (did v t (Insert key rid) (lasting_of new.locks t)) is.now.log (map (changed t (with_record noted.last n)) old.txns.rows) old.txns.next new.locks) (sym is.same)
         (subst (λ (l : History). IsServed b r.earlier before s v (Do t (Insert key rid)) answers.Inserted (did v t (Insert key rid) (lasting_of new.locks t)) l (map (changed t (with_record noted.last noted.last)) old.txns.rows) old.txns.next new.locks) (sym is.is)
-        (inserts_served page_tree page_tree_laws b r.earlier before s v r.now.log is.between old.txns.rows old.txns.next old.locks new.locks t is.newest noted.last is.page row key rid r.serving found mark (not_owner d before s v old r t) fits
+        (inserts_served page_tree page_tree_laws b r.earlier before s v r.now.log is.between old.txns.rows old.txns.next old.locks new.locks t is.newest noted.last is.page row key rid r.serving found mark (nobody_owner d before s v old r plain t) fits
         way law.0 (outside t (open_smo is.between) closed) (not_in is.page (open_smo is.between) closed) is.absent decided may.can_put law.1.rises).served)
 
     says : answer (Insert key rid) v.walk ≡ answers.Inserted
@@ -121,7 +122,7 @@ module _ {D : Type 0} (d : Ghosts D) {b : Base} (before : List Effect) (s : Show
         record { more = newest ∷ way_there.more; is = ap (λ (l : History). newest ∷ l) way_there.is ∙ sym is.is; within = (inr (refl, refl), way_there.within) }
 
     pages_as : bodies_of (pages_of r.now) ≡ settled b r.now.log
-    pages_as = bodies_are d before s v old r
+    pages_as = bodies_are d before s v old r plain
 
     puts : PutsKey b t key rid r.now.log is.now.log
     puts = record {
@@ -139,16 +140,16 @@ module _ {D : Type 0} (d : Ghosts D) {b : Base} (before : List Effect) (s : Show
     inserted table stops works =
         let w = did v t (Insert key rid) (lasting_of new.locks t) in
         subst (λ (reply : Reply). StepKept d before s v (Do t (Insert key rid)) reply old new) says
-        (edited d before s v old r t row found mark (Insert key rid) new is.now r.redo_end noted.last noted.undo_next is.stands is.durable grown rows table w
-        (subst (λ (reply : Reply). IsServed b r.earlier before s v (Do t (Insert key rid)) reply w is.now.log rows old.txns.next new.locks) (sym says) after_record) r.unowned stops works (subst (λ (reply : Reply). GrowsAs b reply (Do t (Insert key rid)) r.now.log is.now.log) (sym says) puts))
+        (edited d before s v old r t row found mark (nobody_owner d before s v old r plain t) (Insert key rid) new is.now r.redo_end noted.last noted.undo_next is.stands is.durable grown rows table w
+        (subst (λ (reply : Reply). IsServed b r.earlier before s v (Do t (Insert key rid)) reply w is.now.log rows old.txns.next new.locks) (sym says) after_record) refl plain stays stops works (subst (λ (reply : Reply). GrowsAs b (under_of old.under) (under_of new.under) reply (Do t (Insert key rid)) r.now.log is.now.log) (sym says) puts))
 
 -- ---- refusals
 
 no_commit : (t : ℕ) (a : answers.Access) (u : ℕ) → Do t a ≡ answers.Commit u → ⊥
 no_commit t a u is = cc is
 
-module _ {D : Type 0} (d : Ghosts D) (before : List Effect) (s : Shown) (v : View) (t : ℕ) (key : Key) (rid : ℕ) (old new : Engine D d) (life : IsLife d before s v old) (works : old.failed ≡ false) (checked : checked_by old.txns.rows false (Do t (Insert key rid)) ≡ None)
-    (counts_now : (u : ℕ) (c : Files) → u ≤ d.moment new.disk → d.may_leave new.disk c → d.left_since new.disk u c) where
+module _ {D : Type 0} (d : Ghosts D) (before : List Effect) (s : Shown) (v : View) (t : ℕ) (key : Key) (rid : ℕ) (old new : Engine D d) (life : IsLife d before s v old) (works : old.failed ≡ false) (checked : checked_by old.txns.rows (owns_in (under_of old.under) (Do t (Insert key rid))) (Do t (Insert key rid)) ≡ None)
+    (counts_now : (u : ℕ) (c : Files) → u ≤ d.moment new.disk → d.may_leave new.disk c → d.left_since new.disk u c) (stays : new.under ≡ old.under) where
   abbrev run : (b : Base) × IsRunning d b before s v old
   run = life.running works
 
@@ -158,10 +159,10 @@ module _ {D : Type 0} (d : Ghosts D) (before : List Effect) (s : Shown) (v : Vie
   -- pages are wanting
   lacks_pages : Evicted d run.0 run.1.base run.1.now old.disk new.writer new.disk → LeavesOnly d old.disk new.disk (Allowed before s) → new.txns ≡ old.txns → KeepsLocks old.locks new.locks → new.failed ≡ false → StepKept d before s v (Do t (Insert key rid)) (Refused pages_full) old new
   lacks_pages is leaves table same works_on =
-      grown_made d before s v v (Do t (Insert key rid)) (Refused pages_full) old new run.1 old.txns run.1.unowned is
+      grown_made d before s v v (Do t (Insert key rid)) (Refused pages_full) old new run.1 old.txns refl is
       (λ longer stays all. lacks_served run.0 run.1.earlier before s v run.1.now.log longer old.txns.rows old.txns.next new.locks (Do t (Insert key rid)) pages_full
       (serving_with run.0 run.1.earlier before s v run.1.now.log old.txns.rows old.txns.next old.locks new.locks same run.1.serving) bars (inl refl) stays all)
-      refl refl table refl leaves works_on tt (λ longer images. images)
+      refl refl table refl leaves works_on tt (λ longer images. images) stays
 
   pub insert_stopped : (f : Fault) → LogEnds d true (mild_to_split (Some old.max_pages)) old.writer old.disk new.writer new.disk (Some f) → LeavesOnly d old.disk new.disk (Allowed before s) → f ≢ NotAStore → new.failed ≡ ends_engine f → new.txns ≡ old.txns
       → ((f ≡ Memory) ⊎ (f ≡ PagesFull) → KeepsLocks old.locks new.locks) → (told : Fault) → told ≡ told_as f → StepKept d before s v (Do t (Insert key rid)) (Refused (number_of told)) old new
@@ -172,7 +173,7 @@ module _ {D : Type 0} (d : Ghosts D) (before : List Effect) (s : Shown) (v : Vie
 
       by : (g : Fault) → LogEnds d true (mild_to_split (Some old.max_pages)) old.writer old.disk new.writer new.disk (Some g) → g ≢ NotAStore → new.failed ≡ ends_engine g → ((g ≡ Memory) ⊎ (g ≡ PagesFull) → KeepsLocks old.locks new.locks)
           → StepKept d before s v (Do t (Insert key rid)) (Refused (number_of (told_as g))) old new
-      by Memory x other on same_locks = lacks_with d before s v (Do t (Insert key rid)) (no_commit t (Insert key rid)) bars old new life works counts_now (inr refl) (read_on d before s v old run.1 new.writer new.disk x.1) leaves table (same_locks (inl refl)) on
+      by Memory x other on same_locks = lacks_with d before s v (Do t (Insert key rid)) (no_commit t (Insert key rid)) bars old new life works counts_now (inr refl) (read_on d before s v old run.1 new.writer new.disk x.1) leaves table (same_locks (inl refl)) on stays
       by PagesFull x other on same_locks = lacks_pages (read_on d before s v old run.1 new.writer new.disk x.1) leaves table (same_locks (inr refl)) on
       by Capacity x other on same_locks = breaks_so 6 (inl refl) on
       by LogFull x other on same_locks = breaks_so 7 (inr (inl refl)) on
@@ -214,11 +215,13 @@ used_up_is g is = absurd (cc is)
 -- ---- what an insert wants
 
 -- one that was not refused
-wants_answered : (pages : Pages) (m : IndexMap) (Idle : Type 0) (locks : ℕ → List Lock) (max t : ℕ) (key : Key) (rid : ℕ) (reply : said.Reply) → ((x : Fault) → reply ≢ replies.Refused x) → (get m key ≡ None → IsLimited pages key max) → (reply ≡ replies.Inserted → LacksRoomFor pages key → IsWithin pages key max)
-    → InsertWants pages m Idle locks max t key rid reply
-wants_answered pages m Idle locks max t key rid reply not limited within = record {
+wants_answered : (stepped : Bool) → stepped ≡ false → (pages : Pages) (m : IndexMap) (Idle : Type 0) (locks : ℕ → List Lock) (max t : ℕ) (key : Key) (rid : ℕ) (reply : said.Reply) → (reply ≡ replies.More → ⊥) → ((x : Fault) → reply ≢ replies.Refused x) → (get m key ≡ None → IsLimited pages key max) → (reply ≡ replies.Inserted → LacksRoomFor pages key → IsWithin pages key max)
+    → InsertWants pages m Idle stepped locks max t key rid reply
+wants_answered stepped plain pages m Idle locks max t key rid reply no_more not limited within = record {
   made = within;
-  limited = λ none. limited;
+  at_once = λ _ _. plain;
+  begun = λ is. absurd (no_more is);
+  limited = λ _ _. limited;
   full = λ is. absurd (not faults.PagesFull is);
   used_up = λ is. absurd (not faults.Capacity is);
   granted = λ is. ⊎_elim (λ numbers. absurd (not faults.Capacity numbers)) (λ memory. absurd (not faults.Failed memory)) is;
@@ -233,7 +236,8 @@ wants_answered pages m Idle locks max t key rid reply not limited within = recor
 
 -- ---- by the call below
 
-module _ {D : Type 0} (d : Ghosts D) (old : Engine D d) (locks : Table) (writer : PageWriter) (disk : D) (t : ℕ) (key : Key) (rid : ℕ) (row : Transaction) (found : find (is_of t) old.txns.rows ≡ Some row) (checked : checked_by old.txns.rows false (Do t (Insert key rid)) ≡ None) where
+module _ {D : Type 0} (d : Ghosts D) (old : Engine D d) (locks : Table) (writer : PageWriter) (disk : D) (t : ℕ) (key : Key) (rid : ℕ) (row : Transaction) (found : find (is_of t) old.txns.rows ≡ Some row) (checked : checked_by old.txns.rows (owns_in (under_of old.under) (Do t (Insert key rid))) (Do t (Insert key rid)) ≡ None)
+    (plain : old.under ≡ None) (at_once : old.stepped ≡ false) where
   -- what the call below kept, whatever it stood on
   abbrev pub Below : Result (LockAnswer (Option Noted)) Fault → Type 0
   Below result = (b : Base) (base : ℕ) (s : Writer) (e : ℕ) → MayEdit d b base s e row.number row.last row.undo_next (Insert key rid) old.locks old.writer old.disk
@@ -252,10 +256,10 @@ module _ {D : Type 0} (d : Ghosts D) (old : Engine D d) (locks : Table) (writer 
     pub kept_here : (result : Result (LockAnswer (Option Noted)) Fault) → Below result → Here result
     kept_here result below =
         subst (λ (n : ℕ). InsertKept d b r.base r.now r.redo_end n key rid old.max_pages old.locks locks old.disk writer disk result) number
-        (below b r.base r.now r.redo_end (subst (λ (n : ℕ). MayEdit d b r.base r.now r.redo_end n row.last row.undo_next (Insert key rid) old.locks old.writer old.disk) (sym number) (may_edit d before s v old r t row found mark (Insert key rid))))
+        (below b r.base r.now r.redo_end (subst (λ (n : ℕ). MayEdit d b r.base r.now r.redo_end n row.last row.undo_next (Insert key rid) old.locks old.writer old.disk) (sym number) (may_edit d before s v old r t row found mark (nobody_owner d before s v old r plain t) plain (Insert key rid))))
 
     pages_are : bodies_of (pages_of r.now) ≡ settled b r.now.log
-    pages_are = bodies_are d before s v old r
+    pages_are = bodies_are d before s v old r plain
 
     -- nothing but Images joined the log
     abbrev pub Idle : Type 0
@@ -265,20 +269,22 @@ module _ {D : Type 0} (d : Ghosts D) (old : Engine D d) (locks : Table) (writer 
     limits o below none = subst (λ (pages : Pages). IsLimited pages key old.max_pages) pages_are ((kept_here (Ok o) below).limited (sym (ap (λ (m : IndexMap). get m key) r.serving.seen_by.walk) ∙ none))
 
     -- what is said of its pages
-    pub made_wants : (o : LockAnswer (Option Noted)) → Below (Ok o) → (x : Option Noted) → o ≡ Granted x → (noted : Noted) → x ≡ Some noted → InsertWants (settled b r.now.log) v.walk Idle (locks_of old.locks) old.max_pages t key rid replies.Inserted
+    pub made_wants : (o : LockAnswer (Option Noted)) → Below (Ok o) → (x : Option Noted) → o ≡ Granted x → (noted : Noted) → x ≡ Some noted → InsertWants (settled b r.now.log) v.walk Idle old.stepped (locks_of old.locks) old.max_pages t key rid replies.Inserted
     made_wants o below x granted noted some =
         let kept = subst (λ (y : LockAnswer (Option Noted)). Here (Ok y)) (granted ∙ ap Granted some) (kept_here (Ok o) below) in
-        wants_answered (settled b r.now.log) v.walk Idle (locks_of old.locks) old.max_pages t key rid replies.Inserted (λ x e. cc e) (limits o below)
+        wants_answered old.stepped at_once (settled b r.now.log) v.walk Idle (locks_of old.locks) old.max_pages t key rid replies.Inserted (λ e. cc e) (λ x e. cc e) (limits o below)
         (λ is. subst (λ (pages : Pages). LacksRoomFor pages key → IsWithin pages key old.max_pages) pages_are kept.sound.1.within)
 
     -- answered otherwise
-    pub other_wants : (o : LockAnswer (Option Noted)) → Below (Ok o) → (reply : said.Reply) → reply ≢ replies.Inserted → ((x : Fault) → reply ≢ replies.Refused x) → InsertWants (settled b r.now.log) v.walk Idle (locks_of old.locks) old.max_pages t key rid reply
-    other_wants o below reply no_insert not = wants_answered (settled b r.now.log) v.walk Idle (locks_of old.locks) old.max_pages t key rid reply not (limits o below) (λ is. absurd (no_insert is))
+    pub other_wants : (o : LockAnswer (Option Noted)) → Below (Ok o) → (reply : said.Reply) → reply ≢ replies.Inserted → reply ≢ replies.More → ((x : Fault) → reply ≢ replies.Refused x) → InsertWants (settled b r.now.log) v.walk Idle old.stepped (locks_of old.locks) old.max_pages t key rid reply
+    other_wants o below reply no_insert no_more not = wants_answered old.stepped at_once (settled b r.now.log) v.walk Idle (locks_of old.locks) old.max_pages t key rid reply no_more not (limits o below) (λ is. absurd (no_insert is))
 
     -- refused, and why
-    pub refused_wants : (f : Fault) → Below (Err f) → LogEnds d true (mild_to_split (Some old.max_pages)) old.writer old.disk writer disk (Some f) → (told : Fault) → told ≡ told_as f → InsertWants (settled b r.now.log) v.walk Idle (locks_of old.locks) old.max_pages t key rid (replies.Refused told)
+    pub refused_wants : (f : Fault) → Below (Err f) → LogEnds d true (mild_to_split (Some old.max_pages)) old.writer old.disk writer disk (Some f) → (told : Fault) → told ≡ told_as f → InsertWants (settled b r.now.log) v.walk Idle old.stepped (locks_of old.locks) old.max_pages t key rid (replies.Refused told)
     refused_wants f below ends told is = record {
       made = λ clash lacks. absurd (cc clash);
+      at_once = λ clash lacks. absurd (cc clash);
+      begun = λ clash. absurd (cc clash);
       limited = λ not. absurd (not told refl);
       full = λ full.
           let why = kept.full (full_is f (sym is ∙ refused_inj told faults.PagesFull full)) in
@@ -295,7 +301,7 @@ module _ {D : Type 0} (d : Ghosts D) (old : Engine D d) (locks : Table) (writer 
         kept = kept_here (Err f) below
 
         same : bodies_of (pages_of r.now) ≡ settled b r.now.log
-        same = bodies_are d before s v old r
+        same = bodies_are d before s v old r plain
 
         lacks : get (contents b r.now.log) key ≡ None → get v.walk key ≡ None
         lacks none = ap (λ (m : IndexMap). get m key) r.serving.seen_by.walk ∙ none
@@ -312,13 +318,14 @@ module _ {D : Type 0} (d : Ghosts D) (old : Engine D d) (locks : Table) (writer 
         asks (wants_numbers why) = lacks (kept.used_up (used_up_is f (sym is ∙ refused_inj told faults.Capacity why))).0
         asks (wants_memory why) = lacks (kept.begun (failed_is d old.max_pages old.writer old.disk writer disk f ends (sym is ∙ refused_inj told faults.Failed why))).0
 
-module _ {D : Type 0} (d : Ghosts D) (old new : Engine D d) (t : ℕ) (key : Key) (rid : ℕ) (row : Transaction) (found : find (is_of t) old.txns.rows ≡ Some row) (checked : checked_by old.txns.rows false (Do t (Insert key rid)) ≡ None) where
+module _ {D : Type 0} (d : Ghosts D) (old new : Engine D d) (t : ℕ) (key : Key) (rid : ℕ) (row : Transaction) (found : find (is_of t) old.txns.rows ≡ Some row) (checked : checked_by old.txns.rows (owns_in (under_of old.under) (Do t (Insert key rid))) (Do t (Insert key rid)) ≡ None)
+    (plain : old.under ≡ None) (at_once : old.stepped ≡ false) (stays : new.under ≡ old.under) where
   abbrev pub Under : Result (LockAnswer (Option Noted)) Fault → Type 0
-  Under result = Below d old new.locks new.writer new.disk t key rid row found checked result
+  Under result = Below d old new.locks new.writer new.disk t key rid row found checked plain at_once result
 
   module _ {b : Base} (before : List Effect) (s : Shown) (v : View) (r : IsRunning d b before s v old) where
     abbrev pub Now : Result (LockAnswer (Option Noted)) Fault → Type 0
-    Now result = Here d old new.locks new.writer new.disk t key rid row found checked before s v r result
+    Now result = Here d old new.locks new.writer new.disk t key rid row found checked plain at_once before s v r result
 
     its_mark : row.mark ≡ Going
     its_mark = access_mark old.txns.rows t (Insert key rid) row found checked
@@ -327,33 +334,33 @@ module _ {D : Type 0} (d : Ghosts D) (old new : Engine D d) (t : ℕ) (key : Key
     fits = access_fits old.txns.rows t (Insert key rid) checked
 
     kept_now : (result : Result (LockAnswer (Option Noted)) Fault) → Under result → Now result
-    kept_now result below = kept_here d old new.locks new.writer new.disk t key rid row found checked before s v r result below
+    kept_now result below = kept_here d old new.locks new.writer new.disk t key rid row found checked plain at_once before s v r result below
 
     -- it was made
     pub insert_made : (o : LockAnswer (Option Noted)) → Under (Ok o) → (x : Option Noted) → o ≡ Granted x → (noted : Noted) → x ≡ Some noted → new.txns ≡ record old.txns { rows = map (changed t (with_record noted.last noted.undo_next)) old.txns.rows } → new.failed ≡ false
         → StepKept d before s v (Do t (Insert key rid)) answers.Inserted old new
     insert_made o below x granted noted some table works_on =
         let kept = subst (λ (y : LockAnswer (Option Noted)). Now (Ok y)) (granted ∙ ap Granted some) (kept_now (Ok o) below) in
-        inserted d before s v old r t row found its_mark key rid old.max_pages new fits noted kept.sound.1 kept.sound.0 table kept.stops works_on
+        inserted d before s v old r t row found its_mark plain key rid old.max_pages new fits noted kept.sound.1 kept.sound.0 stays table kept.stops works_on
 
     -- the key is there
     pub insert_there : (o : LockAnswer (Option Noted)) → Under (Ok o) → (x : Option Noted) → o ≡ Granted x → x ≡ None → new.txns ≡ old.txns → new.failed ≡ false → StepKept d before s v (Do t (Insert key rid)) answers.Duplicate old new
     insert_there o below x granted none table works_on =
         let kept = subst (λ (y : LockAnswer (Option Noted)). Now (Ok y)) (granted ∙ ap Granted none) (kept_now (Ok o) below) in
         let there = kept.sound.1.1 in
-        unchanged d before s v old r t row found its_mark (Insert key rid) new kept.stops fits (ap (λ (y : Option ℕ). cond (is_some y) [] (Put key rid ∷ [])) there) kept.sound.0 kept.sound.1.2
+        unchanged d before s v old r t row found its_mark (nobody_owner d before s v old r plain t) (Insert key rid) new kept.stops fits stays (ap (λ (y : Option ℕ). cond (is_some y) [] (Put key rid ∷ [])) there) kept.sound.0 kept.sound.1.2
         answers.Duplicate (ap (λ (y : Option ℕ). cond (is_some y) answers.Duplicate answers.Inserted) there) table works_on
 
     -- it has to wait, or its transaction must die
     pub insert_waits : (o : LockAnswer (Option Noted)) → Under (Ok o) → (holder : ℕ) → o ≡ Wait holder → new.txns ≡ old.txns → new.failed ≡ false → StepKept d before s v (Do t (Insert key rid)) (answers.Blocked holder) old new
     insert_waits o below holder is table works_on =
         let kept = subst (λ (y : LockAnswer (Option Noted)). Now (Ok y)) is (kept_now (Ok o) below) in
-        blocked d before s v old r t row found its_mark (Insert key rid) new kept.stops fits holder kept.sound.0 kept.sound.1 table works_on
+        blocked d before s v old r t row found its_mark (nobody_owner d before s v old r plain t) (Insert key rid) new kept.stops fits stays holder kept.sound.0 kept.sound.1 table works_on
 
     pub insert_dies : (o : LockAnswer (Option Noted)) → Under (Ok o) → o ≡ Die → new.txns ≡ record old.txns { rows = map (changed t (with_mark MustRollBack)) old.txns.rows } → new.failed ≡ false → StepKept d before s v (Do t (Insert key rid)) answers.Die old new
     insert_dies o below is table works_on =
         let kept = subst (λ (y : LockAnswer (Option Noted)). Now (Ok y)) is (kept_now (Ok o) below) in
-        died d before s v old r t row found its_mark (Insert key rid) new kept.stops fits kept.sound.0 kept.sound.1 table works_on
+        died d before s v old r t row found its_mark (nobody_owner d before s v old r plain t) (Insert key rid) new kept.stops fits stays kept.sound.0 kept.sound.1 table works_on
 
   -- a call below refused it
   pub insert_refused : (before : List Effect) (s : Shown) (v : View) (life : IsLife d before s v old) (works : old.failed ≡ false) → ((u : ℕ) (c : Files) → u ≤ d.moment new.disk → d.may_leave new.disk c → d.left_since new.disk u c) → (f : Fault) → Under (Err f)
@@ -362,11 +369,11 @@ module _ {D : Type 0} (d : Ghosts D) (old new : Engine D d) (t : ℕ) (key : Key
   insert_refused before s v life works counts_now f below ends fails table same told is =
       let r = (life.running works).1 in
       let kept = kept_now before s v r (Err f) below in
-      insert_stopped d before s v t key rid old new life works checked counts_now f ends (edit_stops d before s v old r t row found (access_mark old.txns.rows t (Insert key rid) row found checked) new.disk kept.stops) kept.sound fails table same told is
+      insert_stopped d before s v t key rid old new life works checked counts_now stays f ends (edit_stops d before s v old r t row found (access_mark old.txns.rows t (Insert key rid) row found checked) (nobody_owner d before s v old r plain t) new.disk kept.stops) kept.sound fails table same told is
 
 -- ---- as `IsAnswered` has it
 
-module _ {D : Type 0} (d : Ghosts D) (old : Engine D d) (log : LogFile) (disk : D) (works : old.failed ≡ false) (t : ℕ) (key : Key) (rid : ℕ) (checked : checked_by old.txns.rows false (Do t (Insert key rid)) ≡ None) where
+module _ {D : Type 0} (d : Ghosts D) (old : Engine D d) (log : LogFile) (disk : D) (works : old.failed ≡ false) (t : ℕ) (key : Key) (rid : ℕ) (checked : checked_by old.txns.rows (owns_in (under_of old.under) (Do t (Insert key rid))) (Do t (Insert key rid)) ≡ None) where
   pub insert_answered : (reply : said.Reply) → ((x : Fault) → reply ≢ replies.Refused x) → Answers d old log disk (Do t (Insert key rid)) reply
   insert_answered reply not = behind d old log disk works (Do t (Insert key rid)) reply checked (λ fault. not_refused_for d old log disk works (InsertCause d log disk) reply not fault)
 

@@ -3,7 +3,9 @@ pub mod NamedRuns
 pub mod Stands
 pub mod Numbers
 pub mod Checked
+pub mod GoingOn
 pub mod Running
+pub mod Paced
 pub mod Grown
 pub mod Made
 pub mod Refused

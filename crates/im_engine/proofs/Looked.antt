@@ -10,7 +10,7 @@ use Rattle.im_theory_log.specs.Histories.{Base}
 use Rattle.im_base_types.specs.Lives.{Shown, breaks, effects}
 use Rattle.im_base_types.specs.Faults.{number_of}
 use Rattle.im_base_types.specs.declared.fault.Fault.{Fault}
-use Rattle.im_base_types.specs.declared.fault.Fault.TheVariants.{Failed, LogFull, Device, Memory, NotAStore}
+use Rattle.im_base_types.specs.declared.fault.Fault.TheVariants.{Failed, LogFull, Device, Memory, NotAStore, Unfinished}
 use Rattle.im_base_disk.specs.declared.disk.Disk.{Ghosts}
 use Rattle.im_base_disk.specs.Disk.{Files}
 use Rattle.im_base_disk.specs.Runs.{LeavesOnly}
@@ -62,12 +62,19 @@ module _ {D : Type 0} (d : Ghosts D) (old new : Engine D d) where
     pub locks : new.locks ≡ old.locks
     pub max_pages : new.max_pages ≡ old.max_pages
     pub report : new.report ≡ old.report
+    pub stepped : new.stepped ≡ old.stepped
+    pub under : new.under ≡ old.under
 
   module _ (works : old.writer.failed ≡ false) where
     never_failed : (why : Option Fault) → Ends d AreLoaded mild old.writer old.disk new.writer new.disk why → why ≡ Some Failed → ⊥
     never_failed None x is = cc is
     never_failed (Some Failed) x is = not_true old.writer.failed works x.0
     never_failed (Some e) x is = cc is
+
+    never_unfinished : (why : Option Fault) → Ends d AreLoaded mild old.writer old.disk new.writer new.disk why → why ≡ Some Unfinished → ⊥
+    never_unfinished None x is = cc is
+    never_unfinished (Some Unfinished) x is = let never = x.0 in cc never
+    never_unfinished (Some e) x is = cc is
 
     cause_of : (why : Option Fault) → Ends d AreLoaded mild old.writer old.disk new.writer new.disk why → IfSome why (ReadCause d new.writer.log new.disk)
     cause_of None x = tt
@@ -90,7 +97,8 @@ module _ {D : Type 0} (d : Ghosts D) (old new : Engine D d) where
   looks_of works why one = record {
     failed = (λ is. absurd (never_failed (old.working works) why one.writer.ends is), λ was. absurd (not_true old.failed works was));
     same = λ was. absurd (not_true old.failed works was);
-    searched = λ _. record {
+    unfinished = λ is. absurd (never_unfinished why one.writer.ends is);
+    searched = λ _ _. record {
       cause = cause_of (old.working works) why one.writer.ends;
       device = device_of (old.working works) why one.writer.ends;
       failed = one.failed;
@@ -99,6 +107,8 @@ module _ {D : Type 0} (d : Ghosts D) (old new : Engine D d) where
       locks = one.locks;
       max_pages = one.max_pages;
       report = one.report;
+      stepped = one.stepped;
+      under = one.under;
     };
   }
 
@@ -108,7 +118,7 @@ module _ {D : Type 0} (d : Ghosts D) (old new : Engine D d) where
   pub look_works : {A : Type 0} (r : Result A Fault) → Looks d (fault_of r) old new → OnOk r (new.failed ≡ false)
   look_works {A} (Ok a) one = elim (cases_Bool old.failed) [
     | inl was ↦ (let never = one.failed.1 was in absurd (cc never))
-    | inr was ↦ (one.searched was).failed
+    | inr was ↦ (one.searched was (λ is. cc is)).failed
   ]
   look_works {A} (Err e) one = tt
 
@@ -124,12 +134,16 @@ module _ {D : Type 0} (d : Ghosts D) (old new : Engine D d) where
   look_fails {A} (Ok a) one = tt
   look_fails {A} (Err e) one = elim (cases_Bool old.failed) [
     | inl was ↦ ap (λ (x : Engine D d). x.failed) (one.same was) ∙ was ∙ sym (ap (λ (why : Option Fault). told_by why) (one.failed.1 was))
-    | inr was ↦ (one.searched was).failed ∙ ends_as e (one.searched was).cause
+    | inr was ↦ by e one was
   ]
     where
       told_by : Option Fault → Bool
       told_by None = false
       told_by (Some f) = breaks (number_of f)
+
+      by : (f : Fault) → Looks d (Some f) old new → old.failed ≡ false → new.failed ≡ breaks (number_of f)
+      by Unfinished on was = ap (λ (x : Engine D d). x.failed) (on.unfinished refl).1 ∙ was
+      by f on was = (on.searched was (λ is. cc is)).failed ∙ ends_as f (on.searched was (λ is. cc is)).cause
 
   cause_told : (f : Fault) → ReadCause d new.writer.log new.disk f → ReadCause d new.writer.log new.disk (told_as f)
   cause_told Memory x = x
@@ -139,16 +153,32 @@ module _ {D : Type 0} (d : Ghosts D) (old new : Engine D d) where
   cause_told g x = absurd x
 
   -- why it was refused
-  pub look_cause : {A : Type 0} (r : Result A Fault) → Looks d (fault_of r) old new → IfErr r (λ e. old.failed ≡ false → ReadCause d new.writer.log new.disk (told_as e))
+  pub look_cause : {A : Type 0} (r : Result A Fault) → Looks d (fault_of r) old new → IfErr r (λ e. old.failed ≡ false → Some e ≢ Some Unfinished → ReadCause d new.writer.log new.disk (told_as e))
   look_cause {A} (Ok a) one = tt
-  look_cause {A} (Err e) one = λ works. cause_told e (one.searched works).cause
+  look_cause {A} (Err e) one = λ works other. cause_told e (one.searched works other).cause
+
+-- a look leaves the table of transactions as it was
+pub looks_txns : {D : Type 0} (d : Ghosts D) (why : Option Fault) (old new : Engine D d) → Looks d why old new → new.txns ≡ old.txns
+looks_txns {D = D} d (Some Unfinished) old new looks = ap (λ (e : Engine D d). e.txns) (looks.unfinished refl).1
+looks_txns {D = D} d (Some f) old new looks = elim (cases_Bool old.failed) [ inl failed ↦ ap (λ (e : Engine D d). e.txns) (looks.same failed) | inr works ↦ (looks.searched works (λ is. cc is)).txns ]
+looks_txns {D = D} d None old new looks = elim (cases_Bool old.failed) [ inl failed ↦ ap (λ (e : Engine D d). e.txns) (looks.same failed) | inr works ↦ (looks.searched works (λ is. cc is)).txns ]
 
 -- an engine that has failed
 pub looks_failed : {D : Type 0} (d : Ghosts D) (e : Engine D d) → e.failed ≡ true → Looks d (Some Failed) e e
 looks_failed d e was = record {
   failed = (λ _. was, λ _. refl);
   same = λ _. refl;
+  unfinished = λ is. absurd (cc is);
   searched = λ works. absurd (not_true e.failed works was);
+}
+
+-- one that works, and has a structure change under way
+pub looks_unfinished : {D : Type 0} (d : Ghosts D) (e : Engine D d) → e.failed ≡ false → is_some e.under ≡ true → Looks d (Some Unfinished) e e
+looks_unfinished d e works some = record {
+  failed = (λ is. absurd (cc is), λ was. absurd (not_true e.failed works was));
+  same = λ _. refl;
+  unfinished = λ _. (some, refl);
+  searched = λ _ other. absurd (other refl);
 }
 
 module _ {D : Type 0} (d : Ghosts D) (before : List Effect) (s : Shown) (v : View) where
@@ -171,8 +201,8 @@ module _ {D : Type 0} (d : Ghosts D) (before : List Effect) (s : Shown) (v : Vie
     run = life.running works
 
     -- behind calls that added no more than Images
-    pub still_runs : Evicted d run.0 run.1.base run.1.now old.disk new.writer new.disk → new.txns ≡ old.txns → new.locks ≡ old.locks → IsRunning d run.0 before s v new
-    still_runs is table locks =
+    pub still_runs : Evicted d run.0 run.1.base run.1.now old.disk new.writer new.disk → new.txns ≡ old.txns → new.locks ≡ old.locks → new.under ≡ old.under → IsRunning d run.0 before s v new
+    still_runs is table locks stays =
         let b = run.0 in
         let r = run.1 in
         let same = copies_are_images page_tree b r.now.log is.now.log is.on.goes.keeps.log in
@@ -184,12 +214,12 @@ module _ {D : Type 0} (d : Ghosts D) (before : List Effect) (s : Shown) (v : Vie
         runs_on d before s v old r s v new is.now is.on
         (subst (λ (held : Table). IsServing b r.earlier before s v is.now.log new.txns.rows new.txns.next held) (sym locks) (subst (λ (x : Numbered). IsServing b r.earlier before s v is.now.log x.rows x.next old.locks) (sym table) serves))
         commits
-        (subst (λ (n : ℕ). n ≤ 2 ^ 62 → AreBelow n is.now.log) (sym (ap (λ (x : Numbered). x.next) table)) (λ le. same.below old.txns.next old.first (r.numbered le))) r.unowned
+        (subst (λ (n : ℕ). n ≤ 2 ^ 62 → AreBelow n is.now.log) (sym (ap (λ (x : Numbered). x.next) table)) (λ le. same.below old.txns.next old.first (r.numbered le))) refl stays
 
     -- a look that was answered
     pub look_kept : SearchedBy d old new None → LookKept d before s v old new
     look_kept one = record {
-      after = inl (one.failed, lives_on d before s v new one.failed (still_runs (read_on d before s v old run.1 new.writer new.disk one.writer.ends) one.txns one.locks));
+      after = inl (one.failed, lives_on d before s v new one.failed (still_runs (read_on d before s v old run.1 new.writer new.disk one.writer.ends) one.txns one.locks one.under));
       stops = by_no_names old.disk new.disk (read_stops d before s v old run.1 new.writer new.disk one.writer);
     }
 
@@ -215,7 +245,7 @@ module _ {D : Type 0} (d : Ghosts D) (before : List Effect) (s : Shown) (v : Vie
         }
 
         by : (g : Fault) → Ends d AreLoaded mild old.writer old.disk new.writer new.disk (Some g) → new.failed ≡ ends_engine g → LookKept d before s v old new
-        by Memory x on = record { after = inl (on, lives_on d before s v new on (still_runs (read_on d before s v old run.1 new.writer new.disk x.1) one.txns one.locks)); stops = by_no_names old.disk new.disk leaves }
+        by Memory x on = record { after = inl (on, lives_on d before s v new on (still_runs (read_on d before s v old run.1 new.writer new.disk x.1) one.txns one.locks one.under)); stops = by_no_names old.disk new.disk leaves }
         by LogFull x on = broke on
         by Device x on = broke on
         by NotAStore x on = broke on

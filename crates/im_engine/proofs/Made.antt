@@ -36,6 +36,7 @@ use Rattle.im_theory_steps.proofs.Asking.{asks_nothing}
 use Rattle.im_theory_steps.proofs.Durable.{commits_stand, others_ask_nothing}
 use Rattle.im_theory_steps.proofs.Lived.{lives_go_on}
 use Rattle.im_engine.specs.declared.engine.Engine.{Engine}
+use Rattle.im_engine.specs.Aims.{under_of}
 use Rattle.im_engine.specs.Stands.{Allowed}
 use Rattle.im_engine.specs.Numbered.{Numbered}
 use Rattle.im_engine.specs.Running.{IsRunning, IsLife}
@@ -52,7 +53,7 @@ module _ {D : Type 0} (d : Ghosts D) (before : List Effect) where
   module _ (s : Shown) (v : View) (step : Step) (reply : Reply) (old new : Engine D d) where
     -- a step behind which the engine works
     pub step_made : {b : Base} (w : View) → Moves v step reply w → (running : IsRunning d b before (shows s step (Some reply)) w new) → new.failed ≡ false → LeavesOnly d old.disk new.disk (Allowed before (shows s step None))
-        → IsDone d before (shows s step (Some reply)) w step reply new → (was : IsRunning d b before s v old) → GrowsAs b reply step was.now.log running.now.log → StepKept d before s v step reply old new
+        → IsDone d before (shows s step (Some reply)) w step reply new → (was : IsRunning d b before s v old) → GrowsAs b (under_of old.under) (under_of new.under) reply step was.now.log running.now.log → StepKept d before s v step reply old new
     step_made {b = b} w moves running works stops done was grows = record {
       next = w;
       moves = moves;
@@ -68,13 +69,13 @@ module _ {D : Type 0} (d : Ghosts D) (before : List Effect) where
     }
 
   -- a step behind calls that added no more than Images, which asks no effect
-  module _ {b : Base} (s : Shown) (v w : View) (step : Step) (reply : Reply) (old new : Engine D d) (r : IsRunning d b before s v old) (txns : Numbered) (unowned : w.under ≡ None) where
+  module _ {b : Base} (s : Shown) (v w : View) (step : Step) (reply : Reply) (old new : Engine D d) (r : IsRunning d b before s v old) (txns : Numbered) (goes_on : w.under ≡ v.under) where
     pub grown_made : Evicted d b r.base r.now old.disk new.writer new.disk
         → ((longer : History) → Stays b r.now.log longer → IsOfAll r.now.log longer → IsServed b r.earlier before s v step reply w longer txns.rows txns.next new.locks)
         → (shows s step (Some reply)).asked ≡ s.asked → (shows s step None).asked ≡ s.asked → new.txns ≡ txns → txns.next ≡ old.txns.next → LeavesOnly d old.disk new.disk (Allowed before s)
-        → new.failed ≡ false → IsDone d before (shows s step (Some reply)) w step reply new → ((longer : History) → copies.GrowsByImages b r.now.log longer → GrowsAs b reply step r.now.log longer) → StepKept d before s v step reply old new
+        → new.failed ≡ false → IsDone d before (shows s step (Some reply)) w step reply new → ((longer : History) → copies.GrowsByImages b r.now.log longer → GrowsAs b (under_of old.under) (under_of new.under) reply step r.now.log longer) → new.under ≡ old.under → StepKept d before s v step reply old new
     unfolding runs_on
-    grown_made is serves asks cut table next stops works done bare =
+    grown_made is serves asks cut table next stops works done bare stays =
         let same = copies_are_images page_tree b r.now.log is.now.log is.on.goes.keeps.log in
         let on = images_change_nothing b r.now.log is.now.log same.images in
         let served = serves is.now.log on.0 on.1 in
@@ -84,7 +85,7 @@ module _ {D : Type 0} (d : Ghosts D) (before : List Effect) where
         let running = runs_on d before s v old r (shows s step (Some reply)) w new is.now is.on
         (subst (λ (x : Numbered). IsServing b r.earlier before (shows s step (Some reply)) w is.now.log x.rows x.next new.locks) (sym table) served.1)
         (subst (λ (l : List Asked). AreCommitted r.earlier before l is.now.durable is.now.log) (sym asks) commits)
-        (subst (λ (n : ℕ). n ≤ 2 ^ 62 → AreBelow n is.now.log) (sym (ap (λ (x : Numbered). x.next) table ∙ next)) (λ le. same.below old.txns.next old.first (r.numbered le))) unowned in
+        (subst (λ (n : ℕ). n ≤ 2 ^ 62 → AreBelow n is.now.log) (sym (ap (λ (x : Numbered). x.next) table ∙ next)) (λ le. same.below old.txns.next old.first (r.numbered le))) goes_on stays in
         step_made s v step reply old new w served.0 running works (leaves_as s (shows s step None) old.disk new.disk cut stops) done r
         (bare is.now.log is.on.goes.keeps.log)
 

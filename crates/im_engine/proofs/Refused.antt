@@ -82,24 +82,24 @@ module _ {D : Type 0} (d : Ghosts D) (before : List Effect) (s : Shown) (v : Vie
       (none_done d before (shows s step (Some (Refused fault))) _ step fault new)
 
   -- one for which memory was wanting
-  pub lacks_with : Wants step memory → Evicted d run.0 run.1.base run.1.now old.disk new.writer new.disk → LeavesOnly d old.disk new.disk (Allowed before s) → new.txns ≡ old.txns → KeepsLocks old.locks new.locks → new.failed ≡ false
+  pub lacks_with : Wants step memory → Evicted d run.0 run.1.base run.1.now old.disk new.writer new.disk → LeavesOnly d old.disk new.disk (Allowed before s) → new.txns ≡ old.txns → KeepsLocks old.locks new.locks → new.failed ≡ false → new.under ≡ old.under
       → StepKept d before s v step (Refused memory) old new
-  lacks_with wants is leaves table same works_on =
-      grown_made d before s v v step (Refused memory) old new run.1 old.txns run.1.unowned is
+  lacks_with wants is leaves table same works_on stays =
+      grown_made d before s v v step (Refused memory) old new run.1 old.txns refl is
       (λ longer stays all. lacks_served run.0 run.1.earlier before s v run.1.now.log longer old.txns.rows old.txns.next new.locks step memory
       (serving_with run.0 run.1.earlier before s v run.1.now.log old.txns.rows old.txns.next old.locks new.locks same run.1.serving) checked wants stays all)
-      (refusals_ask_nothing memory step s (λ t is. inl refl)) (others_ask_nothing.cut s step other) table refl leaves works_on (none_done d before (shows s step (Some (Refused memory))) v step memory new) (λ longer images. images)
+      (refusals_ask_nothing memory step s (λ t is. inl refl)) (others_ask_nothing.cut s step other) table refl leaves works_on (none_done d before (shows s step (Some (Refused memory))) v step memory new) (λ longer images. images) stays
 
   -- one that a search refuses
-  pub search_refused : (f : Fault) → Wants step memory → AsksLocks d old.writer old.disk new.writer new.disk (Some f) → f ≢ NotAStore → new.failed ≡ ends_engine f → new.txns ≡ old.txns → KeepsLocks old.locks new.locks
+  pub search_refused : (f : Fault) → Wants step memory → AsksLocks d old.writer old.disk new.writer new.disk (Some f) → f ≢ NotAStore → new.failed ≡ ends_engine f → new.txns ≡ old.txns → KeepsLocks old.locks new.locks → new.under ≡ old.under
       → StepKept d before s v step (Refused (number_of (told_as f))) old new
-  search_refused f wants one sound fails table same = by f one.ends sound fails
+  search_refused f wants one sound fails table same stays = by f one.ends sound fails
     where
       leaves : LeavesOnly d old.disk new.disk (Allowed before s)
       leaves = read_stops d before s v old run.1 new.writer new.disk one
 
       by : (g : Fault) → Ends d AreLoaded mild old.writer old.disk new.writer new.disk (Some g) → g ≢ NotAStore → new.failed ≡ ends_engine g → StepKept d before s v step (Refused (number_of (told_as g))) old new
-      by Memory x other_than on = lacks_with wants (read_on d before s v old run.1 new.writer new.disk x.1) leaves table same on
+      by Memory x other_than on = lacks_with wants (read_on d before s v old run.1 new.writer new.disk x.1) leaves table same on stays
       by LogFull x other_than on = breaks_with 7 (inr (inl refl)) on leaves
       by Device x other_than on = breaks_with 8 (inr (inr (inl refl))) on leaves
       by Failed x other_than on = absurd (not_true old.writer.failed (old.working works) x.0)

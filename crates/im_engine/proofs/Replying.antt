@@ -17,13 +17,18 @@ use Rattle.im_base_steps.specs.declared.reply.Reply.{Reply}
 use Rattle.im_base_steps.specs.declared.reply.Reply.TheVariants as replies
 use Rattle.im_base_steps.specs.Calls.{asked_by, told_by, is_force}
 use Rattle.im_base_types.specs.Faults.{number_of}
-use Rattle.im_base_steps.proofs.AtOnce.{at_once}
-use Rattle.im_base_steps.specs.Replies.{is_commit, takes_back, is_full, SuitsAtOnce, IsReply, IsCounted}
+use Rattle.im_base_steps.specs.Replies.{is_commit, is_continue, takes_back, is_full, Suits, IsReply, IsCounted}
+use Rattle.im_base_types.specs.Answers.{Idle}
+use Rattle.im_theory_machine.specs.View.{owns_in}
+use Rattle.im_engine.specs.declared.stepped.Under.{Under}
+use Rattle.im_engine.specs.Aims.{under_of}
+use Rattle.im_engine.proofs.Paced.{owner_stays}
 use Rattle.im_engine.specs.declared.engine.Engine.{Engine}
 use Rattle.im_engine.specs.Looking.{Looks}
 use Rattle.im_engine.specs.Numbered.{Numbered}
 use Rattle.im_engine.specs.Told.{Known, Where, Checked, IsFor, Refuses, SwitchCause, after, check_of, known_of, IsStep}
 use Rattle.im_engine.proofs.Causes.{refused_inj}
+use Rattle.im_engine.proofs.Looked.{looks_txns}
 use Rattle.im_engine.proofs.Stepping.{by_check}
 
 -- ---- no refusal is for a full trace
@@ -57,13 +62,13 @@ never_checked (Some n) Cause none some same = some n refl same
 
 module _ {D : Type 0} (d : Ghosts D) (step : Step) (reply : Reply) (old new : Engine D d) (one : IsStep d step reply old new) where
   -- the first check, of an engine that works
-  checked_now : old.failed ≡ false → check_of d (asked_by step) old ≡ first_check false (length old.txns.rows) (mark_for (marks_in old.txns.rows) (asked_by step)) false (asked_by step)
-  checked_now works = ap (λ (b : Bool). first_check b (length old.txns.rows) (mark_for (marks_in old.txns.rows) (asked_by step)) false (asked_by step)) works
+  checked_now : old.failed ≡ false → check_of d (asked_by step) old ≡ first_check false (length old.txns.rows) (mark_for (marks_in old.txns.rows) (asked_by step)) (owns_in (under_of old.under) (asked_by step)) (asked_by step)
+  checked_now works = ap (λ (b : Bool). first_check b (length old.txns.rows) (mark_for (marks_in old.txns.rows) (asked_by step)) (owns_in (under_of old.under) (asked_by step)) (asked_by step)) works
 
   -- no check refuses so
   unchecked : old.failed ≡ false → (n : ℕ) → check_of d (asked_by step) old ≡ Some n → number_of faults.TraceFull ≡ n → ⊥
   unchecked works n some same =
-      by_check (λ (k : ℕ). 14 ≡ k → ⊥) n (λ e. cc e) (λ e. cc e) (λ e. cc e) (λ e. cc e) (λ e. cc e) (λ e. cc e) false (λ q. absurd (let never : false ≡ true = q in cc never)) (length old.txns.rows) (mark_for (marks_in old.txns.rows) (asked_by step)) (asked_by step) (sym (checked_now works) ∙ some) same
+      by_check (λ (k : ℕ). 14 ≡ k → ⊥) n (λ e. cc e) (λ e. cc e) (λ e. cc e) (λ e. cc e) (λ e. cc e) (λ e. cc e) (owns_in (under_of old.under) (asked_by step)) (λ q e. cc e) (length old.txns.rows) (mark_for (marks_in old.txns.rows) (asked_by step)) (asked_by step) (sym (checked_now works) ∙ some) same
 
   not_full : old.failed ≡ false → reply ≡ replies.Refused faults.TraceFull → ⊥
   not_full works is =
@@ -114,39 +119,80 @@ module _ {D : Type 0} (d : Ghosts D) (step : Step) (reply : Reply) (old new : En
 
   -- a reply that the step may have, and no refusal of the front's own
   pub step_replies : IsReply (asked_by step) (told_by reply)
-  step_replies = record { suits = at_once (asked_by step) (told_by reply) one.suits; room = has_room reply refl }
+  step_replies = record { suits = one.suits; room = has_room reply refl }
 
 -- ---- who ends had begun
 
+-- no Commit is a Continue
+no_both : (step : answers.Step) → is_commit step ≡ true → is_continue step ≡ true → ⊥
+no_both answers.Begin c e = cc c
+no_both (answers.Do t a) c e = cc c
+no_both (answers.Commit t) c e = cc e
+no_both (answers.Rollback t) c e = cc c
+no_both (answers.Continue t) c e = cc c
+no_both (answers.FlushPage p) c e = cc c
+no_both answers.Force c e = cc c
+no_both answers.Checkpoint c e = cc c
+no_both answers.Switch c e = cc c
+
 -- a step that ends a transaction is refused where there is none
-no_row : (step : answers.Step) → ((is_commit step ≡ true) ⊎ (takes_back step ≡ true)) → first_check false 0 (mark_for (marks_in []) step) false step ≡ Some (number_of faults.NoTransaction)
-no_row (answers.Commit t) e = refl
-no_row (answers.Rollback t) e = refl
-no_row (answers.Continue t) e = refl
-no_row answers.Begin (inl e) = absurd (true≢false (sym e))
-no_row answers.Begin (inr e) = absurd (true≢false (sym e))
-no_row (answers.Do t a) (inl e) = absurd (true≢false (sym e))
-no_row (answers.Do t a) (inr e) = absurd (true≢false (sym e))
-no_row (answers.FlushPage p) (inl e) = absurd (true≢false (sym e))
-no_row (answers.FlushPage p) (inr e) = absurd (true≢false (sym e))
-no_row answers.Force (inl e) = absurd (true≢false (sym e))
-no_row answers.Force (inr e) = absurd (true≢false (sym e))
-no_row answers.Checkpoint (inl e) = absurd (true≢false (sym e))
-no_row answers.Switch (inl e) = absurd (true≢false (sym e))
-no_row answers.Checkpoint (inr e) = absurd (true≢false (sym e))
-no_row answers.Switch (inr e) = absurd (true≢false (sym e))
+no_row : (owns : Bool) (step : answers.Step) → ((is_commit step ≡ true) ⊎ (takes_back step ≡ true)) → (is_continue step ≡ true → owns ≡ false) → first_check false 0 (mark_for (marks_in []) step) owns step ≡ Some (number_of faults.NoTransaction)
+no_row owns (answers.Commit t) e free = refl
+no_row owns (answers.Rollback t) e free = refl
+no_row owns (answers.Continue t) e free = ap (λ (o : Bool). first_check false 0 Idle o (answers.Continue t)) (free refl)
+no_row owns answers.Begin (inl e) free = absurd (true≢false (sym e))
+no_row owns answers.Begin (inr e) free = absurd (true≢false (sym e))
+no_row owns (answers.Do t a) (inl e) free = absurd (true≢false (sym e))
+no_row owns (answers.Do t a) (inr e) free = absurd (true≢false (sym e))
+no_row owns (answers.FlushPage p) (inl e) free = absurd (true≢false (sym e))
+no_row owns (answers.FlushPage p) (inr e) free = absurd (true≢false (sym e))
+no_row owns answers.Force (inl e) free = absurd (true≢false (sym e))
+no_row owns answers.Force (inr e) free = absurd (true≢false (sym e))
+no_row owns answers.Checkpoint (inl e) free = absurd (true≢false (sym e))
+no_row owns answers.Checkpoint (inr e) free = absurd (true≢false (sym e))
+no_row owns answers.Switch (inl e) free = absurd (true≢false (sym e))
+no_row owns answers.Switch (inr e) free = absurd (true≢false (sym e))
 
 module _ {D : Type 0} (d : Ghosts D) (step : Step) (reply : Reply) (old new : Engine D d) (one : IsStep d step reply old new) (few : old.txns.waiting ≤ length old.txns.rows) where
+  -- whose Insert or Delete goes on is not told that it is rolled back
+  by_continue : old.failed ≡ false → reply ≡ replies.RolledBack → (s : answers.Step) → asked_by step ≡ s → is_continue s ≡ true → owns_in (under_of old.under) s ≡ true → ⊥
+  by_continue works rolled answers.Begin same is owns = cc is
+  by_continue works rolled (answers.Do t a) same is owns = cc is
+  by_continue works rolled (answers.Commit t) same is owns = cc is
+  by_continue works rolled (answers.Rollback t) same is owns = cc is
+  by_continue works rolled (answers.FlushPage p) same is owns = cc is
+  by_continue works rolled answers.Force same is owns = cc is
+  by_continue works rolled answers.Checkpoint same is owns = cc is
+  by_continue works rolled answers.Switch same is owns = cc is
+  by_continue works rolled (answers.Continue t) same is owns = by old.under refl owns
+    where
+      passed : check_of d (asked_by step) old ≡ None
+      passed =
+          ap (λ (s : answers.Step). check_of d s old) same
+          ∙ ap (λ (b : Bool). first_check b (length old.txns.rows) (marks_in old.txns.rows t) (owns_in (under_of old.under) (answers.Continue t)) (answers.Continue t)) works
+          ∙ ap (λ (o : Bool). first_check false (length old.txns.rows) (marks_in old.txns.rows t) o (answers.Continue t)) owns
+
+      by : (o : Option Under) → old.under ≡ o → owns_in (under_of o) (answers.Continue t) ≡ true → ⊥
+      by None here owns_it = cc owns_it
+      by (Some u) here owns_it = owner_stays u reply new.under t owns_it (λ own. one.paced.own passed u here (same ∙ ap (λ (n : ℕ). answers.Continue n) (sym own))) rolled
+
+  unowned : old.failed ≡ false → reply ≡ replies.RolledBack → is_continue (asked_by step) ≡ true → owns_in (under_of old.under) (asked_by step) ≡ false
+  unowned works rolled is = elim (cases_Bool (owns_in (under_of old.under) (asked_by step))) [
+    | inl owns ↦ absurd (by_continue works rolled (asked_by step) refl is owns)
+    | inr free ↦ free
+  ]
+
   -- where a reply that is no refusal ended a transaction, there was one
-  some_row : ((fault : Fault) → reply ≡ replies.Refused fault → ⊥) → ((is_commit (asked_by step) ≡ true) ⊎ (takes_back (asked_by step) ≡ true)) → 1 ≤ length old.txns.rows
-  some_row answered ends = by old.txns.rows refl
+  some_row : ((fault : Fault) → reply ≡ replies.Refused fault → ⊥) → ((is_commit (asked_by step) ≡ true) ⊎ (takes_back (asked_by step) ≡ true))
+      → (old.failed ≡ false → is_continue (asked_by step) ≡ true → owns_in (under_of old.under) (asked_by step) ≡ false) → 1 ≤ length old.txns.rows
+  some_row answered ends free = by old.txns.rows refl
     where
       none : old.txns.rows ≡ [] → ⊥
       none empty = elim (cases_Bool old.failed) [
         | inl failed ↦ answered faults.Failed (one.told.failed failed)
         | inr works ↦
-            (let check : check_of d (asked_by step) old ≡ Some (number_of faults.NoTransaction) = ap (λ (b : Bool). first_check b (length old.txns.rows) (mark_for (marks_in old.txns.rows) (asked_by step)) false (asked_by step)) works
-            ∙ ap (λ (rows : List Transaction). first_check false (length rows) (mark_for (marks_in rows) (asked_by step)) false (asked_by step)) empty ∙ no_row (asked_by step) ends in
+            (let check : check_of d (asked_by step) old ≡ Some (number_of faults.NoTransaction) = ap (λ (b : Bool). first_check b (length old.txns.rows) (mark_for (marks_in old.txns.rows) (asked_by step)) (owns_in (under_of old.under) (asked_by step)) (asked_by step)) works
+            ∙ ap (λ (rows : List Transaction). first_check false (length rows) (mark_for (marks_in rows) (asked_by step)) (owns_in (under_of old.under) (asked_by step)) (asked_by step)) empty ∙ no_row (owns_in (under_of old.under) (asked_by step)) (asked_by step) ends (free works) in
             answered faults.NoTransaction (one.checked faults.NoTransaction (sym check)).0)
       ]
 
@@ -170,13 +216,13 @@ module _ {D : Type 0} (d : Ghosts D) (step : Step) (reply : Reply) (old new : En
   counts (replies.Started n) is = let e : length new.txns.rows ≡ length old.txns.rows + 1 = now (replies.Started n) is in (omega arith, waits_now (replies.Started n) is)
   counts replies.Committed is =
       let e : length new.txns.rows ≡ length old.txns.rows - 1 = now replies.Committed is in
-      let suits : is_commit (asked_by step) ≡ true = subst (λ (r : Reply). SuitsAtOnce (asked_by step) (told_by r)) is one.suits in
-      let some = some_row (λ fault so. (let never = sym is ∙ so in cc never)) (inl suits) in
+      let suits : is_commit (asked_by step) ≡ true = subst (λ (r : Reply). Suits (asked_by step) (told_by r)) is one.suits in
+      let some = some_row (λ fault so. (let never = sym is ∙ so in cc never)) (inl suits) (λ works go_on. absurd (no_both (asked_by step) suits go_on)) in
       (omega (arith, e, some), waits_now replies.Committed is)
   counts replies.RolledBack is =
       let e : length new.txns.rows ≡ length old.txns.rows - 1 = now replies.RolledBack is in
-      let suits : takes_back (asked_by step) ≡ true = subst (λ (r : Reply). SuitsAtOnce (asked_by step) (told_by r)) is one.suits in
-      let some = some_row (λ fault so. (let never = sym is ∙ so in cc never)) (inr suits) in
+      let suits : takes_back (asked_by step) ≡ true = subst (λ (r : Reply). Suits (asked_by step) (told_by r)) is one.suits in
+      let some = some_row (λ fault so. (let never = sym is ∙ so in cc never)) (inr suits) (λ works. unowned works is) in
       (omega (arith, e, some), waits_now replies.RolledBack is)
   counts replies.More is = by (is_commit (asked_by step)) (now replies.More is) (waits_now replies.More is)
     where
@@ -211,13 +257,7 @@ module _ {D : Type 0} (d : Ghosts D) (step : Step) (reply : Reply) (old new : En
 
 -- leaves as many active
 pub looks_rows : {D : Type 0} (d : Ghosts D) (why : Option below.Fault) (old new : Engine D d) → Looks d why old new → new.txns.rows ≡ old.txns.rows
-looks_rows {D = D} d why old new looks = elim (cases_Bool old.failed) [
-  | inl failed ↦ ap (λ (e : Engine D d). e.txns.rows) (looks.same failed)
-  | inr works ↦ ap (λ (x : Numbered). x.rows) (looks.searched works).txns
-]
+looks_rows {D = D} d why old new looks = ap (λ (x : Numbered). x.rows) (looks_txns d why old new looks)
 
 pub looks_active : {D : Type 0} (d : Ghosts D) (why : Option below.Fault) (old new : Engine D d) → Looks d why old new → length new.txns.rows ≡ length old.txns.rows
-looks_active {D = D} d why old new looks = elim (cases_Bool old.failed) [
-  | inl failed ↦ ap (λ (e : Engine D d). length e.txns.rows) (looks.same failed)
-  | inr works ↦ ap (λ (x : Numbered). length x.rows) (looks.searched works).txns
-]
+looks_active {D = D} d why old new looks = ap (λ (x : Numbered). length x.rows) (looks_txns d why old new looks)

@@ -1,22 +1,23 @@
 -- What is known of an engine that works, of its tree, of stops within calls that log nothing of their own, and of the engine behind them.
-use Rattle.std.proofs.Common.{◌≡◌, ◌≢◌, ℕ, ◌≤◌, ◌^◌, List, [], Bool, false, Option, None, Some, refl, sym, ap, subst, ◌∙◌}
+use Rattle.std.proofs.Common.{◌≡◌, ◌≢◌, ◌⊎◌, inl, inr, ℕ, ◌≤◌, ◌^◌, List, [], false, is_some, Option, None, Some, refl, sym, ap, subst, ◌∙◌}
 use Rattle.std.proofs.Math.Path.{fun_ext}
-use Rattle.std.specs.FinMap.{entries}
+use Rattle.std.specs.Prelude.{find}
+use Rattle.std.specs.FinMap.{empty, entries}
 use Rattle.im_base_types.specs.declared.fault.Fault.{Fault}
 use Rattle.im_base_types.specs.Maps.{IndexMap}
 use Rattle.im_base_types.specs.Pages.{Page}
-use Rattle.im_theory_log.specs.Structure.{settled, taken_back}
+use Rattle.im_theory_log.specs.Structure.{open_smo, settled, taken_back}
 use Rattle.im_theory_log.proofs.Redo.{reached_end}
 use Rattle.im_theory_log.proofs.Fronts.{has_tree}
 use Rattle.im_engine_index.specs.LockCalls.{AsksLocks}
-use Rattle.im_page_writer.specs.Outcome.{AreLoaded, Stays, pages_of}
+use Rattle.im_page_writer.specs.Outcome.{AreLoaded, HasPages, Stays, pages_of}
 use Rattle.im_page_writer.proofs.Outcomes.{leaves_of_end, pages_here}
 use Rattle.im_theory_tree.specs.Levels.{Pages, walk}
 use Rattle.im_theory_tree.specs.Good.{IsGoodTree}
 use Rattle.im_tree_search.specs.Found.{HasTree}
 use Rattle.im_tree_search.specs.Levels.{bodies_of}
-use Rattle.im_base_types.specs.Changes.{Effect}
-use Rattle.im_theory_log.specs.Histories.{Base, History, page_at}
+use Rattle.im_base_types.specs.Changes.{Effect, apply_all}
+use Rattle.im_theory_log.specs.Histories.{Base, History, end_of, page_at}
 use Rattle.im_theory_log.specs.Lawful.{IsLawful, IsOutside, IsNotIn}
 use Rattle.im_theory_log.specs.Transactions.{committed}
 use Rattle.im_theory_log.specs.Writer.{Writer, WriterKept}
@@ -31,23 +32,31 @@ use Rattle.im_page_writer.specs.declared.page_writer.PageWriter.{PageWriter}
 use Rattle.im_page_writer.specs.PageWriter.{StandsAs, GoesOn, Evicted}
 use Rattle.im_page_file.proofs.Standing.{stop_now}
 use Rattle.im_theory_tree.specs.Theory.{page_tree}
+use Rattle.im_base_txn.specs.declared.transaction.Mark as declared
+use Rattle.im_base_txn.specs.declared.transaction.Mark.TheVariants as marks
 use Rattle.im_base_txn.specs.declared.transaction.Transaction.{Transaction}
+use Rattle.im_base_txn.specs.Rows.{is_of}
 use Rattle.im_theory_machine.specs.Table.{Table}
-use Rattle.im_theory_machine.specs.View.{View, Under, owner_of, owner_in, pending_of}
+use Rattle.im_theory_machine.specs.View as views
+use Rattle.im_theory_machine.specs.View.{View, owner_of, owner_in, owns_in, pending_of}
 use Rattle.im_theory_machine.specs.Machine.{barred}
-use Rattle.im_theory_machine.proofs.Under.{none_owned}
 use Rattle.im_theory_steps.specs.Checks.{checked_by}
 use Rattle.im_theory_steps.proofs.Lived.{rows_tell}
 use Rattle.im_theory_steps.specs.Growth.{AreBelow}
-use Rattle.im_theory_steps.specs.Serving.{IsServing}
+use Rattle.im_theory_steps.specs.Serving.{IsAt, IsServing, mark_of}
+use Rattle.im_theory_steps.proofs.Owner.{owners_marked}
 use Rattle.im_theory_steps.specs.Durable.{AreCommitted}
 use Rattle.im_theory_steps.proofs.Growth.{copies_are_images, images_change_nothing}
 use Rattle.im_theory_steps.proofs.Durable.{commits_stand}
 use Rattle.im_engine.specs.declared.engine.Engine.{Engine}
 use Rattle.im_engine.specs.Stands.{StandsFor, Allowed}
+use Rattle.im_engine.specs.declared.stepped.Under.{Under}
+use Rattle.im_engine.specs.Aims.{IsChanging, under_of}
 use Rattle.im_engine.specs.Running.{IsRunning}
+use Rattle.im_engine.proofs.GoingOn.{images_go, other_than}
 use Rattle.im_engine.proofs.Stands.{covered_allowed}
-use Rattle.im_base_types.specs.Answers.{Step, Access}
+use Rattle.im_base_types.specs.Answers as answers
+use Rattle.im_base_types.specs.Answers.{Step}
 
 -- what may be left where the same is asked
 pub allowed_as : (before : List Effect) (s t : Shown) (c : Files) → t.asked ≡ s.asked → Allowed before s c → Allowed before t c
@@ -60,18 +69,55 @@ outside t l closed = subst (λ (x : History). IsOutside t x) (sym closed) tt
 pub not_in : (page : ℕ) (l : History) → l ≡ [] → IsNotIn page l
 not_in page l closed = subst (λ (x : History). IsNotIn page x) (sym closed) tt
 
+pub none_if : {A : Type 0} (o : Option A) → is_some o ≡ false → o ≡ None
+none_if None is = refl
+none_if (Some a) is = absurd (cc is)
+
+-- an engine that makes each structure change within a step has none under way
+pub plain_under : {D : Type 0} (d : Ghosts D) (e : Engine D d) → e.stepped ≡ false → e.under ≡ None
+plain_under d e plain = none_if e.under (e.whole plain)
+
+-- who is going, or must roll back, takes nothing back
+pub never_rolls : (m : declared.Mark) → (m ≡ marks.Going) ⊎ (m ≡ marks.MustRollBack) → m ≢ marks.RollingBack
+never_rolls m (inl is) rolls = let never : marks.Going ≡ marks.RollingBack = sym is ∙ rolls in cc never
+never_rolls m (inr is) rolls = let never : marks.MustRollBack ≡ marks.RollingBack = sym is ∙ rolls in cc never
+
+rolls_back : (m : declared.Mark) → mark_of m ≡ answers.RollingBack → m ≡ marks.RollingBack
+rolls_back marks.Going is = absurd (cc is)
+rolls_back marks.MustRollBack is = absurd (cc is)
+rolls_back marks.RollingBack is = refl
+rolls_back marks.Committing is = absurd (cc is)
+
 module _ {D : Type 0} (d : Ghosts D) {b : Base} (before : List Effect) (s : Shown) (v : View) (e : Engine D d) (r : IsRunning d b before s v e) where
-  -- what the table tells of the checks
-  pub checks_tell : (step : Step) → barred v step ≡ checked_by e.txns.rows false step
-  checks_tell step = rows_tell b r.earlier before s v r.now.log e.txns.rows e.txns.next e.locks step r.serving ∙ ap (λ (o : Bool). checked_by e.txns.rows o step) (none_owned v.under r.unowned step)
+  -- what the table, and the structure change under way, tell of the checks
+  pub checks_tell : (step : Step) → barred v step ≡ checked_by e.txns.rows (owns_in (under_of e.under) step) step
+  checks_tell step = rows_tell b r.earlier before s v r.now.log e.txns.rows e.txns.next e.locks step r.serving ∙ ap (λ (u : Option views.Under). checked_by e.txns.rows (owns_in u step) step) r.same
 
-  -- nobody has an access that goes on
-  pub nothing_pending : (t : ℕ) → pending_of v.under t ≡ None
-  nothing_pending t = ap (λ (u : Option Under). pending_of u t) r.unowned
+  -- whose Insert or Delete does not go on
+  pub nothing_pending : (t : ℕ) → pending_of (under_of e.under) t ≡ None → pending_of v.under t ≡ None
+  nothing_pending t none = ap (λ (u : Option views.Under). pending_of u t) r.same ∙ none
 
-  -- nobody has a structure change under way
-  pub not_owner : (t : ℕ) → owner_in v ≢ Some t
-  not_owner t is = let never : None ≡ Some t = sym (ap owner_of r.unowned) ∙ is in cc never
+  -- and who takes nothing back has no structure change under way
+  pub not_owner : (t : ℕ) (row : Transaction) → find (is_of t) e.txns.rows ≡ Some row → row.mark ≢ marks.RollingBack → pending_of (under_of e.under) t ≡ None → owner_in v ≢ Some t
+  not_owner t row found free none =
+      let is = subst (λ (o : Option Transaction). IsAt t o e.txns.next r.now.log (owner_in v) (v.txns t)) found (r.serving.table.each t) in
+      owners_marked.free (apply_all empty before) v r.serving.reached t (nothing_pending t none) (λ rolls. free (rolls_back row.mark (sym is.2 ∙ rolls)))
+
+  -- so the open one is another's
+  pub outside_of : (t : ℕ) → owner_in v ≢ Some t → IsOutside t (open_smo r.now.log)
+  outside_of t free = by e.under refl r.changing
+    where
+      by : (under : Option Under) → e.under ≡ under → IsChanging b under r.now.log → IsOutside t (open_smo r.now.log)
+      by None is closed = outside t (open_smo r.now.log) closed
+      by (Some u) is going = other_than u.begun.change.transaction t (λ same. free (ap owner_of (r.same ∙ ap under_of is) ∙ ap (λ (n : ℕ). Some n) same)) u.begun.change.images (end_of b r.now.log) u.begun.change.done (open_smo r.now.log) going.goes.logged
+
+  -- of an engine that has none under way nobody has one
+  pub nobody_owner : e.under ≡ None → (t : ℕ) → owner_in v ≢ Some t
+  nobody_owner none t is = let never : None ≡ Some t = sym (ap owner_of (r.same ∙ ap under_of none)) ∙ is in cc never
+
+  -- and none is open
+  pub closed_now : e.under ≡ None → open_smo r.now.log ≡ []
+  closed_now none = subst (λ (u : Option Under). IsChanging b u r.now.log) none r.changing
 
   pub writer_kept : WriterKept b r.now
   writer_kept = r.stands.writing.stands.kept
@@ -87,20 +133,30 @@ module _ {D : Type 0} (d : Ghosts D) {b : Base} (before : List Effect) (s : Show
       let run = kept.run r.redo_end r.over in
       reached_end b r.now.log (r.now.pages p).upto p (r.now.pages p).page run.1 (kept.now run.0)
 
-  pub bodies_are : bodies_of (pages_of r.now) ≡ settled b r.now.log
-  bodies_are = fun_ext (λ (p : ℕ). ap (λ (g : Page). g.body) (page_is p) ∙ sym (ap (λ (l : History). taken_back l p (page_at b r.now.log p).body) r.closed))
+  -- the writer has its pages, all with their copies
+  pub has_pages : HasPages d AreLoaded (pages_of r.now) e.writer e.disk
+  has_pages = pages_here d b r.base r.now e.writer e.disk r.stands none_waits
 
-  -- the writer's pages are a good tree
-  pub has_good_tree : HasTree d (pages_of r.now) e.writer e.disk
-  has_good_tree = record {
-    has = pages_here d b r.base r.now e.writer e.disk r.stands none_waits;
-    spare = [];
-    good = subst (λ (pages : Pages). IsGoodTree pages []) (sym bodies_are) (has_tree b page_tree r.now.log r.lawful).good;
-  }
+  -- the walk of the settled pages is the machine's
+  pub settled_walk : walk (settled b r.now.log) ≡ entries v.walk
+  settled_walk = (has_tree b page_tree r.now.log r.lawful).walk ∙ ap (λ (m : IndexMap). entries m) (sym r.serving.seen_by.walk)
 
-  -- its walk is the machine's
-  pub walk_is : walk (bodies_of (pages_of r.now)) ≡ entries v.walk
-  walk_is = ap walk bodies_are ∙ (has_tree b page_tree r.now.log r.lawful).walk ∙ ap (λ (m : IndexMap). entries m) (sym r.serving.seen_by.walk)
+  module _ (none : e.under ≡ None) where
+    -- with no structure change under way the pages are the settled ones
+    pub bodies_are : bodies_of (pages_of r.now) ≡ settled b r.now.log
+    bodies_are = fun_ext (λ (p : ℕ). ap (λ (g : Page). g.body) (page_is p) ∙ sym (ap (λ (l : History). taken_back l p (page_at b r.now.log p).body) (closed_now none)))
+
+    -- the writer's pages are a good tree
+    pub has_good_tree : HasTree d (pages_of r.now) e.writer e.disk
+    has_good_tree = record {
+      has = has_pages;
+      spare = [];
+      good = subst (λ (pages : Pages). IsGoodTree pages []) (sym bodies_are) (has_tree b page_tree r.now.log r.lawful).good;
+    }
+
+    -- its walk is the machine's
+    pub walk_is : walk (bodies_of (pages_of r.now)) ≡ entries v.walk
+    walk_is = ap walk bodies_are ∙ settled_walk
 
   -- the files of pages read as they are
   pub tells : d.tells
@@ -138,10 +194,10 @@ module _ {D : Type 0} (d : Ghosts D) {b : Base} (before : List Effect) (s : Show
   pub covered_stops : (new : D) → LeavesCovered d b r.base r.now.durable r.now.log e.disk new → LeavesOnly d e.disk new (Allowed before s)
   covered_stops new run = weakened d e.disk new (IsCovered b r.base r.now.durable r.now.log) (Allowed before s) run (λ told c is. left_on r.now.log r.lawful refl c is)
 
-  -- the same engine, where its log has grown by Images, and table, locks and next number have gone on to what a step made of them
+  -- the same engine, where its log has grown by Images, its structure change is as it was, and table, locks and next number have gone on to what a step made of them
   unfoldable pub runs_on : (t : Shown) (w : View) (new : Engine D d) (now : Writer) (on : GoesOn d b r.base r.now e.disk now new.writer new.disk) → IsServing b r.earlier before t w now.log new.txns.rows new.txns.next new.locks
-      → AreCommitted r.earlier before t.asked now.durable now.log → (new.txns.next ≤ 2 ^ 62 → AreBelow new.txns.next now.log) → w.under ≡ None → IsRunning d b before t w new
-  runs_on t w new now on serving commits numbered unowned =
+      → AreCommitted r.earlier before t.asked now.durable now.log → (new.txns.next ≤ 2 ^ 62 → AreBelow new.txns.next now.log) → w.under ≡ v.under → new.under ≡ e.under → IsRunning d b before t w new
+  runs_on t w new now on serving commits numbered goes_on stays =
       let same = copies_are_images page_tree b r.now.log now.log on.goes.keeps.log in
       record {
         base = r.base;
@@ -153,9 +209,9 @@ module _ {D : Type 0} (d : Ghosts D) {b : Base} (before : List Effect) (s : Show
         redo_end = r.redo_end;
         over = on.goes.keeps.redo_end ∙ r.over;
         lawful = same.lawful r.lawful;
-        closed = same.opened ∙ r.closed;
+        changing = subst (λ (u : Option Under). IsChanging b u now.log) (sym stays) (images_go b e.under r.now.log now.log on.goes.keeps.log (same.lawful r.lawful) same.opened r.changing);
         serving = serving;
         commits = commits;
         numbered = numbered;
-        unowned = unowned;
+        same = goes_on ∙ r.same ∙ ap under_of (sym stays);
       }

@@ -15,6 +15,7 @@ use Rattle.im_base_disk.proofs.Costs.{most_none}
 use Rattle.im_theory_tree.specs.Levels.{Pages}
 use Rattle.im_theory_machine.specs.Locks.{Lock}
 use Rattle.im_theory_machine.specs.Table.{locks_of}
+use Rattle.im_theory_machine.specs.View as views
 use Rattle.im_theory_machine.specs.View.{View, owns_in}
 use Rattle.im_theory_machine.specs.Machine.{Moves, Answers, Goes, begins, does, waits, dies, commits, queues, drops, turns, undoes, ends, puts_later, puts, drops_first, drops_leaf, takes_later, takes_first, takes_leaf, takes_last, logs_page, tree_blocks, tree_halts, flushes, forces, checkpoints, switches, lacks, breaks as breaks_it, Breaks, Wants, barred, barred_to, barred_to_rollback, barred_to_continue, first_check, mark_for, or_else, fault_if, keys_fit}
 use Rattle.im_theory_machine.proofs.Runs.{reply_answers}
@@ -28,7 +29,9 @@ use Rattle.im_base_steps.specs.Calls.{asked_by, told_by, is_force}
 use Rattle.im_base_steps.specs.Replies.{is_commit}
 use Rattle.im_base_types.specs.Faults.{number_of}
 use Rattle.im_engine.specs.declared.engine.Engine.{Engine}
+use Rattle.im_engine.specs.Aims.{under_of}
 use Rattle.im_engine.specs.Running.{IsLife}
+use Rattle.im_engine.proofs.Paced.{paced_barred}
 use Rattle.im_engine.specs.Kept.{StepKept}
 use Rattle.im_engine.specs.Told.{Fixed, Known, AnswersAlone, AsksChange, wants_pages, wants_numbers, wants_memory, Checked, IsAnswered, IsMade, IsStep, IsTold, Refuses, StepCosts, SuitsGroup, WantsOf, after, check_of, fixed_of, is_early, known_of}
 use Rattle.im_engine.proofs.Alone.{answers_alone}
@@ -267,6 +270,8 @@ step_made_of d step reply old new none m = record {
   checked = λ fault is. absurd (let never = is ∙ sym none in cc never);
   answered = m.answered;
   suits = m.suits;
+  at_once = m.at_once;
+  paced = m.paced;
   grouped = m.grouped;
   wants = λ works. m.wants;
   quiet = m.quiet;
@@ -274,6 +279,7 @@ step_made_of d step reply old new none m = record {
   works = told_works d (asked_by step) reply old new m.told;
   never = never_found d (asked_by step) reply old new m.kept m.told;
   max_pages = ap (λ (f : Fixed). f.max_pages) (told_fixed d (asked_by step) reply old new m.told);
+  stepped = ap (λ (f : Fixed). f.stepped) (told_fixed d (asked_by step) reply old new m.told);
   frames = m.frames;
   report = ap (λ (f : Fixed). f.redo) (told_fixed d (asked_by step) reply old new m.told);
 }
@@ -288,34 +294,37 @@ module _ {D : Type 0} (d : Ghosts D) (step : Asked) (e : Engine D d) (only_now :
   -- of an engine that has failed there is one
   fails_so : e.failed ≡ true → fault ≡ faults.Failed
   fails_so was =
-      let same : Some (number_of fault) ≡ Some has_failed = is ∙ ap (λ (b : Bool). first_check b (length e.txns.rows) (mark_for (marks_in e.txns.rows) (asked_by step)) false (asked_by step)) was ∙ first_failed (length e.txns.rows) (mark_for (marks_in e.txns.rows) (asked_by step)) false (asked_by step) in
+      let same : Some (number_of fault) ≡ Some has_failed = is ∙ ap (λ (b : Bool). first_check b (length e.txns.rows) (mark_for (marks_in e.txns.rows) (asked_by step)) (owns_in (under_of e.under) (asked_by step)) (asked_by step)) was ∙ first_failed (length e.txns.rows) (mark_for (marks_in e.txns.rows) (asked_by step)) (owns_in (under_of e.under) (asked_by step)) (asked_by step) in
       let number : number_of fault ≡ number_of faults.Failed = cc same in
       same_fault fault faults.Failed number
 
-  -- and of one that works one of six
-  works_so : (P : ℕ → Type 0) → P 1 → P 2 → P 3 → P 4 → P 12 → P 15 → e.failed ≡ false → P (number_of fault)
-  works_so P one two three four twelve fifteen works =
-      by_check P (number_of fault) one two four three twelve fifteen false (λ q. absurd (let never : false ≡ true = q in cc never)) (length e.txns.rows) (mark_for (marks_in e.txns.rows) (asked_by step)) (asked_by step)
-      (sym (is ∙ ap (λ (b : Bool). first_check b (length e.txns.rows) (mark_for (marks_in e.txns.rows) (asked_by step)) false (asked_by step)) works))
+  -- and of one that works one of seven
+  works_so : (P : ℕ → Type 0) → P 1 → P 2 → P 3 → P 4 → P 12 → P 15 → P 17 → e.failed ≡ false → P (number_of fault)
+  works_so P one two three four twelve fifteen seventeen works =
+      by_check P (number_of fault) one two four three twelve fifteen (owns_in (under_of e.under) (asked_by step)) (λ q. seventeen) (length e.txns.rows) (mark_for (marks_in e.txns.rows) (asked_by step)) (asked_by step)
+      (sym (is ∙ ap (λ (b : Bool). first_check b (length e.txns.rows) (mark_for (marks_in e.txns.rows) (asked_by step)) (owns_in (under_of e.under) (asked_by step)) (asked_by step)) works))
 
   stays_so : e.failed ≡ (e.failed || breaks (number_of fault))
   stays_so = by e.failed refl
     where
       by : (b : Bool) → e.failed ≡ b → e.failed ≡ (e.failed || breaks (number_of fault))
       by true was = was ∙ sym (ap (λ (b : Bool). b || breaks (number_of fault)) was)
-      by false works = works ∙ sym (ap (λ (b : Bool). b || breaks (number_of fault)) works ∙ works_so (λ (n : ℕ). breaks n ≡ false) refl refl refl refl refl refl works)
+      by false works = works ∙ sym (ap (λ (b : Bool). b || breaks (number_of fault)) works ∙ works_so (λ (n : ℕ). breaks n ≡ false) refl refl refl refl refl refl refl works)
 
   asks_none : e.failed ≡ false → AsksChange (Refused fault) → ⊥
-  asks_none works (wants_pages so) = works_so (λ (n : ℕ). n ≡ 5 → ⊥) (λ e. cc e) (λ e. cc e) (λ e. cc e) (λ e. cc e) (λ e. cc e) (λ e. cc e) works (ap number_of (refused_inj fault faults.PagesFull so))
-  asks_none works (wants_numbers so) = works_so (λ (n : ℕ). n ≡ 6 → ⊥) (λ e. cc e) (λ e. cc e) (λ e. cc e) (λ e. cc e) (λ e. cc e) (λ e. cc e) works (ap number_of (refused_inj fault faults.Capacity so))
-  asks_none works (wants_memory so) = works_so (λ (n : ℕ). n ≡ 10 → ⊥) (λ e. cc e) (λ e. cc e) (λ e. cc e) (λ e. cc e) (λ e. cc e) (λ e. cc e) works (ap number_of (refused_inj fault faults.Failed so))
+  asks_none works (wants_pages so) = works_so (λ (n : ℕ). n ≡ 5 → ⊥) (λ e. cc e) (λ e. cc e) (λ e. cc e) (λ e. cc e) (λ e. cc e) (λ e. cc e) (λ e. cc e) works (ap number_of (refused_inj fault faults.PagesFull so))
+  asks_none works (wants_numbers so) = works_so (λ (n : ℕ). n ≡ 6 → ⊥) (λ e. cc e) (λ e. cc e) (λ e. cc e) (λ e. cc e) (λ e. cc e) (λ e. cc e) (λ e. cc e) works (ap number_of (refused_inj fault faults.Capacity so))
+  asks_none works (wants_memory so) = works_so (λ (n : ℕ). n ≡ 10 → ⊥) (λ e. cc e) (λ e. cc e) (λ e. cc e) (λ e. cc e) (λ e. cc e) (λ e. cc e) (λ e. cc e) works (ap number_of (refused_inj fault faults.Failed so))
 
   memory_none : e.failed ≡ false → Refused fault ≡ Refused faults.Memory → ⊥
-  memory_none works so = works_so (λ (n : ℕ). n ≡ 9 → ⊥) (λ e. cc e) (λ e. cc e) (λ e. cc e) (λ e. cc e) (λ e. cc e) (λ e. cc e) works (ap number_of (refused_inj fault faults.Memory so))
+  memory_none works so = works_so (λ (n : ℕ). n ≡ 9 → ⊥) (λ e. cc e) (λ e. cc e) (λ e. cc e) (λ e. cc e) (λ e. cc e) (λ e. cc e) (λ e. cc e) works (ap number_of (refused_inj fault faults.Memory so))
 
-  wants_none : e.failed ≡ false → (pages : Pages) (map : IndexMap) (Still : Type 0) (Begun : ℕ → Type 0) (nets : ℕ → Effect) (locks : ℕ → List Lock) (max : ℕ) (s : Step) → WantsOf pages map Still Begun nets locks max s (Refused fault)
-  wants_none works pages map Still Begun nets locks max (Do t (answers.Insert key rid)) = record {
+  wants_none : e.failed ≡ false → (pages : Pages) (map : IndexMap) (Still : Type 0) (stepped : Bool) (was now : Option views.Under) (Begun : ℕ → Type 0) (nets : ℕ → Effect) (locks : ℕ → List Lock) (max : ℕ) (s : Step)
+      → WantsOf pages map Still stepped was now Begun nets locks max s (Refused fault)
+  wants_none works pages map Still stepped was now Begun nets locks max (Do t (answers.Insert key rid)) = record {
     made = λ so. absurd (cc so);
+    at_once = λ so. absurd (cc so);
+    begun = λ so. absurd (cc so);
     limited = λ not. absurd (not fault refl);
     full = λ so. absurd (asks_none works (wants_pages so));
     used_up = λ so. absurd (asks_none works (wants_numbers so));
@@ -323,20 +332,20 @@ module _ {D : Type 0} (d : Ghosts D) (step : Asked) (e : Engine D d) (only_now :
     absent = λ asks. absurd (asks_none works asks);
     broken = λ so. absurd (asks_none works (wants_memory so));
   }
-  wants_none works pages map Still Begun nets locks max (Do t (answers.Delete key)) = λ so. absurd (asks_none works (wants_memory so))
-  wants_none works pages map Still Begun nets locks max (Do t (answers.Fetch k)) = tt
-  wants_none works pages map Still Begun nets locks max (Do t (answers.Seek k)) = tt
-  wants_none works pages map Still Begun nets locks max (Do t (answers.Next k)) = tt
-  wants_none works pages map Still Begun nets locks max (Do t (answers.Prev k)) = tt
-  wants_none works pages map Still Begun nets locks max (Do t (answers.Scan lo hi l)) = tt
-  wants_none works pages map Still Begun nets locks max Begin = tt
-  wants_none works pages map Still Begun nets locks max (Commit t) = tt
-  wants_none works pages map Still Begun nets locks max (Rollback t) = tt
-  wants_none works pages map Still Begun nets locks max (Continue t) = record { short = λ so. absurd (memory_none works so); used_up = λ so. absurd (asks_none works (wants_numbers so)); broken = λ so. absurd (asks_none works (wants_memory so)) }
-  wants_none works pages map Still Begun nets locks max (FlushPage p) = tt
-  wants_none works pages map Still Begun nets locks max Force = tt
-  wants_none works pages map Still Begun nets locks max Checkpoint = tt
-  wants_none works pages map Still Begun nets locks max Switch = tt
+  wants_none works pages map Still stepped was now Begun nets locks max (Do t (answers.Delete key)) = record { fails = λ so. absurd (asks_none works (wants_memory so)); at_once = λ so. absurd (cc so); begun = λ so. absurd (cc so) }
+  wants_none works pages map Still stepped was now Begun nets locks max (Do t (answers.Fetch k)) = tt
+  wants_none works pages map Still stepped was now Begun nets locks max (Do t (answers.Seek k)) = tt
+  wants_none works pages map Still stepped was now Begun nets locks max (Do t (answers.Next k)) = tt
+  wants_none works pages map Still stepped was now Begun nets locks max (Do t (answers.Prev k)) = tt
+  wants_none works pages map Still stepped was now Begun nets locks max (Do t (answers.Scan lo hi l)) = tt
+  wants_none works pages map Still stepped was now Begun nets locks max Begin = tt
+  wants_none works pages map Still stepped was now Begun nets locks max (Commit t) = tt
+  wants_none works pages map Still stepped was now Begun nets locks max (Rollback t) = tt
+  wants_none works pages map Still stepped was now Begun nets locks max (Continue t) = record { short = λ so. absurd (memory_none works so); used_up = λ so. absurd (asks_none works (wants_numbers so)); broken = λ so. absurd (asks_none works (wants_memory so)); begun = λ _ _ _. inr (fault, refl) }
+  wants_none works pages map Still stepped was now Begun nets locks max (FlushPage p) = tt
+  wants_none works pages map Still stepped was now Begun nets locks max Force = tt
+  wants_none works pages map Still stepped was now Begun nets locks max Checkpoint = tt
+  wants_none works pages map Still stepped was now Begun nets locks max Switch = tt
 
   -- a refusal by a check costs nothing
   costs_none : (step : Step) → StepCosts d step (Refused fault) e e
@@ -381,13 +390,16 @@ module _ {D : Type 0} (d : Ghosts D) (step : Asked) (e : Engine D d) (only_now :
     answered = λ other. subst (λ (o : Option ℕ). (Refused fault ≡ Refused other) ↔ Checked o other (Refuses d (Refused fault) e e.writer.log e.disk other (asked_by step))) is
         (λ so. ap number_of (sym (refused_inj fault other so)), λ so. ap (λ (f : Fault). Refused f) (same_fault fault other (sym so)));
     suits = tt;
+    at_once = λ _. tt;
+    paced = paced_barred d (asked_by step) (Refused fault) e e refl (λ so. cc so) (λ none. let never : Some (number_of fault) ≡ None = is ∙ none in cc never);
     grouped = waits_none (asked_by step);
-    wants = λ works b before s v r. wants_none works _ _ _ _ (λ t. (v.txns t).net) (locks_of e.locks) _ (asked_by step);
+    wants = λ works b before s v r. wants_none works _ _ _ _ _ _ _ (λ t. (v.txns t).net) (locks_of e.locks) _ (asked_by step);
     quiet = λ _. refl;
     costs = costs_none (asked_by step);
     works = told_works d (asked_by step) (Refused fault) e e told_so;
     never = never_found d (asked_by step) (Refused fault) e e (λ before s v life. barred_kept d before s v (asked_by step) e life only_now (number_of fault) is) told_so;
     max_pages = refl;
+    stepped = refl;
     frames = refl;
     report = refl;
   }

@@ -97,10 +97,11 @@ module _ {D : Type 0} (d : Ghosts D) (before : List Effect) (s : Shown) (v : Vie
       (λ told c left. by_names before s left.swapped c (left_either left.high left.grows left.place left.end (named left.swapped c) left.covered))
 
   -- the log went on
-  pub gone_on : Switched d run.0 run.1.base run.1.now old.txns.next new.writer new.disk → LeavesNamed d old.disk new.disk (LeftSwitching run.0 run.1.base run.1.now) → new.txns ≡ old.txns → new.locks ≡ old.locks → new.failed ≡ false
+  pub gone_on : Switched d run.0 run.1.base run.1.now old.txns.next new.writer new.disk → LeavesNamed d old.disk new.disk (LeftSwitching run.0 run.1.base run.1.now) → new.txns ≡ old.txns → new.locks ≡ old.locks → new.failed ≡ false → new.under ≡ old.under
       → StepKept d before s v Switch Done old new
-  gone_on done leaves table locks works_on =
+  gone_on done leaves table locks works_on stays =
       let r = run.1 in
+      let none : old.under ≡ None = nobody_owns d before s v old r quiet in
       let longer = done.now.log in
       let grows = done.keeps.log in
       let on = gone longer grows done.place in
@@ -115,12 +116,12 @@ module _ {D : Type 0} (d : Ghosts D) (before : List Effect) (s : Shown) (v : Vie
         redo_end = done.place;
         over = refl;
         lawful = empty_lawful longer grows done.place done.end;
-        closed = refl;
+        changing = subst (λ (u : Option Under). IsChanging next_base u []) (sym (stays ∙ none)) refl;
         serving = subst (λ (x : Numbered). IsServing next_base (r.earlier ++ seen (committed longer)) before s v [] x.rows x.next new.locks) (sym table)
             (subst (λ (l : _). IsServing next_base (r.earlier ++ seen (committed longer)) before s v [] old.txns.rows old.txns.next l) (sym locks) on.served.1);
         commits = on.commits;
         numbered = λ le. tt;
-        unowned = r.unowned;
+        same = r.same ∙ ap under_of (sym stays);
       } in
       record {
         next = v;

@@ -72,7 +72,10 @@ use Rattle.im_engine.specs.Running.{IsRunning, IsLife}
 use Rattle.im_engine.specs.Kept.{StepKept}
 use Rattle.im_engine.specs.Told.{LacksRoom, TurnCause}
 use Rattle.im_engine.proofs.Waits.{out_of, not_waiting}
-use Rattle.im_engine.proofs.Running.{not_owner, checks_tell, bodies_are, left_on}
+use Rattle.im_engine.specs.declared.stepped.Under.{Under}
+use Rattle.im_engine.specs.Aims.{IsChanging, under_of}
+use Rattle.im_engine.specs.Growing.{turns as by_turn, ends_by_turn}
+use Rattle.im_engine.proofs.Running.{nobody_owner, closed_now, checks_tell, bodies_are, left_on}
 use Rattle.im_engine.proofs.Made.{step_made}
 use Rattle.im_engine.proofs.Refused.{breaks_with, lacks_with}
 use Rattle.im_engine.proofs.Telling.{not_true}
@@ -156,10 +159,17 @@ module _ {D : Type 0} (d : Ghosts D) (b : Base) (base : ℕ) (s : Writer) (e t l
 
 -- ---- a step
 
+-- where no structure change is under way, nobody has one, and the check is that of the table
+none_owns : {under : Option Under} (t : ℕ) → under ≡ None → owner_of (under_of under) ≢ Some t
+none_owns t none is = let never : None ≡ Some t = sym (ap (λ (u : Option Under). owner_of (under_of u)) none) ∙ is in cc never
+
+pub alone_checked : {D : Type 0} (d : Ghosts D) (old : Engine D d) (t : ℕ) → old.under ≡ None → checked_by old.txns.rows (owns_in (under_of old.under) (Continue t)) (Continue t) ≡ None → checked_by old.txns.rows false (Continue t) ≡ None
+alone_checked d old t plain checked = subst (λ (u : Option Under). checked_by old.txns.rows (owns_in (under_of u) (Continue t)) (Continue t) ≡ None) plain checked
+
 module _ {D : Type 0} (d : Ghosts D) {b : Base} (before : List Effect) (s : Shown) (v : View) (t : ℕ) (row : Transaction) (old : Engine D d) (r : IsRunning d b before s v old)
-    (found : find (is_of t) old.txns.rows ≡ Some row) (checked : checked_by old.txns.rows false (Continue t) ≡ None) where
+    (found : find (is_of t) old.txns.rows ≡ Some row) (checked : checked_by old.txns.rows (owns_in (under_of old.under) (Continue t)) (Continue t) ≡ None) (plain : old.under ≡ None) where
   mark : row.mark ≡ marks.RollingBack
-  mark = continue_mark old.txns.rows t row found checked
+  mark = continue_mark old.txns.rows t row found (alone_checked d old t plain checked)
 
   its : (row.number ≡ t) × IsRow row old.txns.next r.now.log (owner_in v) × ((v.txns t).mark ≡ mark_of row.mark)
   its = at b r.earlier before s v r.now.log old.txns.rows old.txns.next old.locks r.serving t row found (mark_free row.mark marks.RollingBack mark (λ x. cc x))
@@ -169,7 +179,7 @@ module _ {D : Type 0} (d : Ghosts D) {b : Base} (before : List Effect) (s : Show
   stands_going = record {
     stands = r.stands;
     over = r.over;
-    can = record { lawful = r.lawful; closed = r.closed };
+    can = record { lawful = r.lawful; closed = closed_now d before s v old r plain };
     owner = subst (λ (n : ℕ). 1 ≤ n) its.0 its.1.number;
     unfinished = ap (λ (n : ℕ). is_finished n r.now.log) (sym its.0) ∙ its.1.unfinished;
     row = ap (λ (n : ℕ). row_of n r.now.log) (sym its.0)
@@ -178,7 +188,7 @@ module _ {D : Type 0} (d : Ghosts D) {b : Base} (before : List Effect) (s : Show
   }
 
   pub has_more_to_undo : to_undo t r.now.log ≢ []
-  has_more_to_undo = rolling_has_more b r.earlier before s v r.now.log old.txns.rows old.txns.next old.locks t row r.serving found mark (not_owner d before s v old r t)
+  has_more_to_undo = rolling_has_more b r.earlier before s v r.now.log old.txns.rows old.txns.next old.locks t row r.serving found mark (nobody_owner d before s v old r plain t)
 
   -- numbers from the next one on stay new
   below_next : t < old.txns.next
@@ -191,7 +201,7 @@ module _ {D : Type 0} (d : Ghosts D) {b : Base} (before : List Effect) (s : Show
   -- the key of the record that is to undo next comes back, and finds its leaf without room
   abbrev comes_back : (entry : Entry) (next : IsToUndo d b r.base r.now t entry) (k : Key) (i : ℕ) → what_of entry ≡ DeleteKey k i → LacksRoomFor (bodies r.now) k → LacksRoom (settled b r.now.log) v.walk ((v.txns t).net)
   comes_back entry next k i is lacks =
-      let can : IsUndoable b page_tree r.now.log = record { lawful = r.lawful; closed = r.closed } in
+      let can : IsUndoable b page_tree r.now.log = record { lawful = r.lawful; closed = closed_now d before s v old r plain } in
       let shows = subst (λ (w : What). ShowsChange (logs.bodies b r.now.log) w) is (shows_change b r.now.log can t (logged_at next.lsn entry) next.next) in
       record {
         key = k;
@@ -199,7 +209,7 @@ module _ {D : Type 0} (d : Ghosts D) {b : Base} (before : List Effect) (s : Show
         older = changes_of next.next.rest;
         newest = net_now ∙ ap changes_of next.next.stack ∙ ap (λ (w : What). change_of w ++ changes_of next.next.rest) is;
         absent = ap (λ (m : IndexMap). get m k) r.serving.seen_by.walk ∙ get_is b r.now.log can k ∙ shows;
-        lacks = subst (λ (pages : Pages). LacksRoomFor pages k) (bodies_are d before s v old r) lacks;
+        lacks = subst (λ (pages : Pages). LacksRoomFor pages k) (bodies_are d before s v old r plain) lacks;
       }
 
   -- a key that comes back finds its leaf without room
@@ -226,7 +236,7 @@ module _ {D : Type 0} (d : Ghosts D) {b : Base} (before : List Effect) (s : Show
     where
       by : (w : What) → what_of is.entry ≡ w → UsesUp (bodies r.now) w → (wants : LacksRoom (settled b r.now.log) v.walk ((v.txns t).net)) × IsUsedUp (settled b r.now.log) wants.key
       by (DeleteKey k i) same full =
-          let used_up : IsUsedUp (settled b r.now.log) k = subst (λ (pages : Pages). IsUsedUp pages k) (bodies_are d before s v old r) full.used_up in
+          let used_up : IsUsedUp (settled b r.now.log) k = subst (λ (pages : Pages). IsUsedUp pages k) (bodies_are d before s v old r plain) full.used_up in
           (comes_back is.entry is.next k i same full.lacks, used_up)
       by (InsertKey k i) same full = absurd full
       by (UndoInsert k i) same full = absurd full
@@ -241,7 +251,7 @@ module _ {D : Type 0} (d : Ghosts D) {b : Base} (before : List Effect) (s : Show
       by Unreadable same full = absurd full
 
 module _ {D : Type 0} (d : Ghosts D) (before : List Effect) (s : Shown) (v : View) (t : ℕ) (row : Transaction) (old new : Engine D d) (life : IsLife d before s v old) (works : old.failed ≡ false)
-    (found : find (is_of t) old.txns.rows ≡ Some row) (checked : checked_by old.txns.rows false (Continue t) ≡ None) where
+    (found : find (is_of t) old.txns.rows ≡ Some row) (checked : checked_by old.txns.rows (owns_in (under_of old.under) (Continue t)) (Continue t) ≡ None) (plain : old.under ≡ None) (stays : new.under ≡ old.under) where
   abbrev run : (b : Base) × IsRunning d b before s v old
   run = life.running works
 
@@ -259,7 +269,7 @@ module _ {D : Type 0} (d : Ghosts D) (before : List Effect) (s : Shown) (v : Vie
     has_more u last undo_next same turned locks table =
         let b = run.0 in
         let r = run.1 in
-        let below = below_next d before s v t row old r found checked in
+        let below = below_next d before s v t row old r found checked plain in
         let is : HasMore d b r.base r.now r.redo_end t last undo_next old.disk new.writer new.disk = subst (λ (x : Undone). Turned d b r.base r.now r.redo_end t old.disk new.writer new.disk x) same turned in
         let took = is.took in
         let now = took.taken.now in
@@ -268,7 +278,7 @@ module _ {D : Type 0} (d : Ghosts D) (before : List Effect) (s : Shown) (v : Vie
         let c = undone_change d b r.base r.now r.redo_end t last undo_next old.disk new.writer new.disk took in
         let left_same = within_leaves_others t r.now.log now.log undoes.grows in
         let w = undid_more v t c (net t now.log) in
-        let served = undone_served b r.earlier before s v r.now.log now.log old.txns.rows old.txns.next old.locks t row c r.serving found (mark d before s v t row old r found checked) undoes is.left going.unfinished in
+        let served = undone_served b r.earlier before s v r.now.log now.log old.txns.rows old.txns.next old.locks t row c r.serving found (mark d before s v t row old r found checked plain) undoes is.left going.unfinished in
         let rows_of : ℕ → ℕ → List Transaction = λ l n. map (changed t (with_record l n)) old.txns.rows in
         let table_is : new.txns ≡ record old.txns { rows = rows_of (last_of t now.log) (undo_next_of t now.log) } =
         table ∙ ap (λ (l : ℕ). record old.txns { rows = rows_of l undo_next }) (sym (took_last d b r.base r.now r.redo_end t last undo_next old.disk new.writer new.disk took))
@@ -283,16 +293,16 @@ module _ {D : Type 0} (d : Ghosts D) (before : List Effect) (s : Shown) (v : Vie
           redo_end = r.redo_end;
           over = going.over;
           lawful = going.can.lawful;
-          closed = going.can.closed;
+          changing = subst (λ (u : Option Under). IsChanging b u now.log) (sym (stays ∙ plain)) going.can.closed;
           serving = subst (λ (x : Numbered). IsServing b r.earlier before s w now.log x.rows x.next new.locks) (sym table_is)
               (subst (λ (l : Table). IsServing b r.earlier before s w now.log (rows_of (last_of t now.log) (undo_next_of t now.log)) old.txns.next l) (sym locks) served.1);
           commits = commits_stand.more r.earlier before s.asked r.now.durable now.log now.durable (commits_stand.stay r.earlier before s.asked r.now.durable r.now.log now.log r.commits left_same.1)
               (record { from = took.taken.goes.durable; upto = going.stands.writing.stands.kept.front });
           numbered = subst (λ (n : ℕ). n ≤ 2 ^ 62 → AreBelow n now.log) (sym (ap (λ (x : Numbered). x.next) table))
               (λ le. numbers_stay_new.within old.txns.next t r.now.log now.log below (r.numbered le) undoes.grows);
-          unowned = ap (of_others t) r.unowned;
+          same = ap (of_others t) (r.same ∙ ap under_of plain) ∙ sym (ap under_of (stays ∙ plain));
         } in
-        step_made d before s v (Continue t) More old new w served.0 running works_on (undo_stops stops) tt r (record { grows = took.taken.goes.grows; once = took.taken.once })
+        step_made d before s v (Continue t) More old new w served.0 running works_on (undo_stops stops) tt r (by_turn (none_owns t plain) (none_owns t (stays ∙ plain)) (record { grows = took.taken.goes.grows; once = took.taken.once }))
 
     -- the last one was taken back
     pub has_ended : (u : Undone) → u ≡ turns.Ended → Turned d run.0 run.1.base run.1.now run.1.redo_end t old.disk new.writer new.disk u → IsReleased old.locks t new.locks → length old.txns.rows ≡ length (without t old.txns.rows) + 1
@@ -300,7 +310,7 @@ module _ {D : Type 0} (d : Ghosts D) (before : List Effect) (s : Shown) (v : Vie
     has_ended u same turned released once table =
         let b = run.0 in
         let r = run.1 in
-        let below = below_next d before s v t row old r found checked in
+        let below = below_next d before s v t row old r found checked plain in
         let is : HasEndedNow d b r.base r.now r.redo_end t old.disk new.writer new.disk = subst (λ (x : Undone). Turned d b r.base r.now r.redo_end t old.disk new.writer new.disk x) same turned in
         let took = is.took in
         let between = took.taken.now.log in
@@ -311,7 +321,7 @@ module _ {D : Type 0} (d : Ghosts D) (before : List Effect) (s : Shown) (v : Vie
         let ended = ends_leave_nothing b t c r.now.log between newest undoes is.none refl refl in
         let w = undid_last v t c in
         let shown = shows s (Continue t) (Some RolledBack) in
-        let served = last_undone_served b r.earlier before s v r.now.log between old.txns.rows old.txns.next old.locks new.locks t row c newest r.serving found (mark d before s v t row old r found checked) undoes is.none refl refl released once in
+        let served = last_undone_served b r.earlier before s v r.now.log between old.txns.rows old.txns.next old.locks new.locks t row c newest r.serving found (mark d before s v t row old r found checked plain) undoes is.none refl refl released once in
         let now = is.end.now in
         let running : IsRunning d b before shown w new = record {
           base = r.base;
@@ -323,7 +333,7 @@ module _ {D : Type 0} (d : Ghosts D) (before : List Effect) (s : Shown) (v : Vie
           redo_end = r.redo_end;
           over = is.end.over;
           lawful = is.end.can.lawful;
-          closed = is.end.can.closed;
+          changing = subst (λ (u : Option Under). IsChanging b u now.log) (sym (stays ∙ plain)) is.end.can.closed;
           serving = subst (λ (x : Numbered). IsServing b r.earlier before shown w now.log x.rows x.next new.locks) (sym table)
               (subst (λ (l : History). IsServing b r.earlier before shown w l (without t old.txns.rows) old.txns.next new.locks) (sym is.end.log) served.1);
           commits = commits_stand.more r.earlier before s.asked r.now.durable now.log now.durable
@@ -331,10 +341,10 @@ module _ {D : Type 0} (d : Ghosts D) (before : List Effect) (s : Shown) (v : Vie
               (record { from = front_then r.now.durable took.taken.now.durable now.durable took.taken.goes.durable is.end.durable; upto = is.end.stands.writing.stands.kept.front });
           numbered = subst (λ (n : ℕ). n ≤ 2 ^ 62 → AreBelow n now.log) (sym (ap (λ (x : Numbered). x.next) table))
               (λ le. subst (λ (l : History). AreBelow old.txns.next l) (sym is.end.log) (below, numbers_stay_new.within old.txns.next t r.now.log between below (r.numbered le) undoes.grows));
-          unowned = ap (of_others t) r.unowned;
+          same = ap (of_others t) (r.same ∙ ap under_of plain) ∙ sym (ap under_of (stays ∙ plain));
         } in
         step_made d before s v (Continue t) RolledBack old new w served.0 running works_on (undo_stops stops) tt r
-        (record { between = between; one = record { grows = took.taken.goes.grows; once = took.taken.once }; last = is.last; lsn = is.end.lsn; is = is.end.log })
+        (ends_by_turn (none_owns t plain) (record { between = between; one = record { grows = took.taken.goes.grows; once = took.taken.once }; last = is.last; lsn = is.end.lsn; is = is.end.log }))
 
   -- it is refused: for want of memory all is as it was, and any other refusal breaks the engine
   pub turn_refused : (f : Fault) → TurnEnds d may_turn old.writer new.writer new.disk (Some f) → f ≢ NotAStore → (f ≡ Memory → Evicted d run.0 run.1.base run.1.now old.disk new.writer new.disk)
@@ -349,7 +359,7 @@ module _ {D : Type 0} (d : Ghosts D) (before : List Effect) (s : Shown) (v : Vie
       by : (g : Fault) → TurnEnds d may_turn old.writer new.writer new.disk (Some g) → g ≢ NotAStore → (g ≡ Memory → Evicted d run.0 run.1.base run.1.now old.disk new.writer new.disk) → new.failed ≡ ends_engine g
           → StepKept d before s v (Continue t) (Refused (number_of (told_as g))) old new
       by Memory x other back on =
-          lacks_with d before s v (Continue t) (λ u e. cc e) let_pass old new life works counts_now refl (back refl) (undo_stops stops) table ((λ u. ap (λ (l : Table). locks_of l u) locks), (λ u. ap (λ (l : Table). lasting_of l u) locks)) on
+          lacks_with d before s v (Continue t) (λ u e. cc e) let_pass old new life works counts_now refl (back refl) (undo_stops stops) table ((λ u. ap (λ (l : Table). locks_of l u) locks), (λ u. ap (λ (l : Table). lasting_of l u) locks)) on stays
       by Capacity x other back on = breaks_with d before s v (Continue t) (λ u e. cc e) let_pass old new life works counts_now 6 (inl refl) on (undo_stops stops)
       by LogFull x other back on = breaks_with d before s v (Continue t) (λ u e. cc e) let_pass old new life works counts_now 7 (inr (inl refl)) on (undo_stops stops)
       by Device x other back on = breaks_with d before s v (Continue t) (λ u e. cc e) let_pass old new life works counts_now 8 (inr (inr (inl refl))) on (undo_stops stops)
@@ -376,7 +386,7 @@ module _ {D : Type 0} (d : Ghosts D) (v w : PageWriter) (new : D) where
 
 -- ---- what a Continue says of its cause
 
-module _ {D : Type 0} (d : Ghosts D) (old : Engine D d) (works : old.failed ≡ false) (t : ℕ) (checked : checked_by old.txns.rows false (Continue t) ≡ None) where
+module _ {D : Type 0} (d : Ghosts D) (old : Engine D d) (works : old.failed ≡ false) (t : ℕ) (checked : checked_by old.txns.rows (owns_in (under_of old.under) (Continue t)) (Continue t) ≡ None) where
   pub continue_made : (log : LogFile) (disk : D) (reply : Reply) → ((x : Fault) → reply ≢ replies.Refused x) → Answers d old log disk (Continue t) reply
   continue_made log disk reply not = behind d old log disk works (Continue t) reply checked (λ fault. not_refused_for d old log disk works (TurnCause d log disk) reply not fault)
 

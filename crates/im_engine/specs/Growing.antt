@@ -147,9 +147,9 @@ pub data GoesOnBy (b : Base) (was now : Option Under) (t : ℕ) (older longer : 
 
 -- What one adds with which a rollback ends.
 pub data EndsBy (was : Option Under) (t : ℕ) (older longer : History) : Type 0 where
-  turns : owner_of was ≢ Some t → TakesLastBack t older longer → EndsBy was t older longer
-  takes_behind : was ≡ Some (record { owner = t; aim = TakesBack }) → ClosesThen t (λ between. TakesLastBack t between longer) older → EndsBy was t older longer
-  drops : was ≡ Some (record { owner = t; aim = TookBack }) → ClosesThen t (λ between. EndsAlone t between longer) older → EndsBy was t older longer
+  ends_by_turn : owner_of was ≢ Some t → TakesLastBack t older longer → EndsBy was t older longer
+  ends_behind : was ≡ Some (record { owner = t; aim = TakesBack }) → ClosesThen t (λ between. TakesLastBack t between longer) older → EndsBy was t older longer
+  ends_drop : was ≡ Some (record { owner = t; aim = TookBack }) → ClosesThen t (λ between. EndsAlone t between longer) older → EndsBy was t older longer
 
 -- By the reply and the step, and by the structure change that was under way before it and is behind it. A step that is not named here adds Images alone, which writes of pages want, and a Begin, a Rollback and a Force add nothing.
 abbrev pub GrowsAs : Base → (was now : Option Under) → Reply → Step → History → History → Type 0

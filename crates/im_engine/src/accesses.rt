@@ -45,7 +45,9 @@ pub(crate) fn breaks(fault: Fault) -> bool
 impl<D: Disk> Engine<D> {
     ghost use Rattle.im_base_types.specs.Answers as answers;
     ghost use Rattle.im_engine_index.specs.LockAnswers.{seek_at};
+    ghost use Rattle.im_theory_machine.specs.View.{owns_in};
     ghost use Rattle.im_theory_steps.specs.Checks.{checked_by};
+    ghost use Rattle.im_engine.specs.Aims.{under_of};
     ghost use Rattle.im_engine.specs.Told.{IsMade};
 
     // The row id of a key. The law of its answer is `reads_are_served`, of the other two `waits_are_served` and `dies_are_served`, and of a
@@ -53,7 +55,7 @@ impl<D: Disk> Engine<D> {
     pub(crate) fn fetch(&mut self, t: TxnId, key: &[u8]) -> Reply
         requires works { self.old.failed ≡ false }
         requires plain { self.old.stepped ≡ false }
-        requires checked { checked_by self.old.txns.rows false (answers.Do t (answers.Fetch key.now)) ≡ None }
+        requires checked { checked_by self.old.txns.rows (owns_in (under_of self.old.under) (answers.Do t (answers.Fetch key.now))) (answers.Do t (answers.Fetch key.now)) ≡ None }
         ensures { IsMade D.Disk (answers.Do t (answers.Fetch key.now)) result self.old self.new }
     {
         self.failed = true;
@@ -85,7 +87,7 @@ impl<D: Disk> Engine<D> {
     pub(crate) fn seek(&mut self, t: TxnId, key: &[u8], inclusive: bool) -> Reply
         requires works { self.old.failed ≡ false }
         requires plain { self.old.stepped ≡ false }
-        requires checked { checked_by self.old.txns.rows false (answers.Do t (seek_at inclusive key.now)) ≡ None }
+        requires checked { checked_by self.old.txns.rows (owns_in (under_of self.old.under) (answers.Do t (seek_at inclusive key.now))) (answers.Do t (seek_at inclusive key.now)) ≡ None }
         ensures { IsMade D.Disk (answers.Do t (seek_at inclusive key.now)) result self.old self.new }
     {
         self.failed = true;
@@ -124,7 +126,7 @@ impl<D: Disk> Engine<D> {
     pub(crate) fn prev(&mut self, t: TxnId, key: &[u8]) -> Reply
         requires works { self.old.failed ≡ false }
         requires plain { self.old.stepped ≡ false }
-        requires checked { checked_by self.old.txns.rows false (answers.Do t (answers.Prev key.now)) ≡ None }
+        requires checked { checked_by self.old.txns.rows (owns_in (under_of self.old.under) (answers.Do t (answers.Prev key.now))) (answers.Do t (answers.Prev key.now)) ≡ None }
         ensures { IsMade D.Disk (answers.Do t (answers.Prev key.now)) result self.old self.new }
     {
         self.failed = true;
@@ -156,7 +158,7 @@ impl<D: Disk> Engine<D> {
     pub(crate) fn scan(&mut self, t: TxnId, lo: &[u8], hi: &[u8], limit: u64) -> Reply
         requires works { self.old.failed ≡ false }
         requires plain { self.old.stepped ≡ false }
-        requires checked { checked_by self.old.txns.rows false (answers.Do t (answers.Scan lo.now hi.now limit)) ≡ None }
+        requires checked { checked_by self.old.txns.rows (owns_in (under_of self.old.under) (answers.Do t (answers.Scan lo.now hi.now limit))) (answers.Do t (answers.Scan lo.now hi.now limit)) ≡ None }
         ensures { IsMade D.Disk (answers.Do t (answers.Scan lo.now hi.now limit)) result self.old self.new }
     {
         self.failed = true;

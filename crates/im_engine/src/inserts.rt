@@ -12,7 +12,9 @@ use im_engine_index::LockAnswer;
 
 impl<D: Disk> Engine<D> {
     ghost use Rattle.im_base_types.specs.Answers as answers;
+    ghost use Rattle.im_theory_machine.specs.View.{owns_in};
     ghost use Rattle.im_theory_steps.specs.Checks.{checked_by};
+    ghost use Rattle.im_engine.specs.Aims.{under_of};
     ghost use Rattle.im_engine.specs.Told.{IsMade};
 
     // Puts a key with its row id (`inserts_are_served`), after the split of its leaf where that lacks room. For want of pages, or of memory
@@ -20,7 +22,7 @@ impl<D: Disk> Engine<D> {
     pub(crate) fn insert(&mut self, t: TxnId, key: &[u8], rid: Rid) -> Reply
         requires works { self.old.failed ≡ false }
         requires plain { self.old.stepped ≡ false }
-        requires checked { checked_by self.old.txns.rows false (answers.Do t (answers.Insert key.now rid)) ≡ None }
+        requires checked { checked_by self.old.txns.rows (owns_in (under_of self.old.under) (answers.Do t (answers.Insert key.now rid))) (answers.Do t (answers.Insert key.now rid)) ≡ None }
         ensures { IsMade D.Disk (answers.Do t (answers.Insert key.now rid)) result self.old self.new }
     {
         let Some(row) = self.txns.find(t) else {

@@ -11,7 +11,9 @@ use im_engine_rollback::{Undone, undo_next};
 
 impl<D: Disk> Engine<D> {
     ghost use Rattle.im_base_types.specs.Answers as answers;
+    ghost use Rattle.im_theory_machine.specs.View.{owns_in};
     ghost use Rattle.im_theory_steps.specs.Checks.{checked_by};
+    ghost use Rattle.im_engine.specs.Aims.{under_of};
     ghost use Rattle.im_engine.specs.Told.{IsMade};
 
     // Takes back the newest change that a transaction has left (`undone_changes_are_served`), and ends it where that was the last
@@ -19,7 +21,7 @@ impl<D: Disk> Engine<D> {
     pub(crate) fn go_on(&mut self, t: TxnId) -> Reply
         requires works { self.old.failed ≡ false }
         requires plain { self.old.stepped ≡ false }
-        requires checked { checked_by self.old.txns.rows false (answers.Continue t) ≡ None }
+        requires checked { checked_by self.old.txns.rows (owns_in (under_of self.old.under) (answers.Continue t)) (answers.Continue t) ≡ None }
         ensures { IsMade D.Disk (answers.Continue t) result self.old self.new }
     {
         let Some(row) = self.txns.find(t) else {

@@ -14,6 +14,7 @@ use Rattle.im_engine.proofs.Ending.{of_log}
 use Rattle.im_engine.proofs.Forcing.{checkpointed, checkpoint_refused}
 use Rattle.im_engine.proofs.Telling.{not_true, told_answered, told_refused, log_ends, log_lost}
 use Rattle.im_engine.proofs.Causes.{append_cause, behind, checkpoint_made, checkpoint_lost}
+use Rattle.im_engine.proofs.Paced.{paced_beside}
 use Rattle.im_engine.proofs.engine.Engine.checkpoint.Goals as goal
 
 pub returns-in-Ok : goal.returns-in-Ok
@@ -27,7 +28,7 @@ returns-in-Ok g c =
           let kept = subst (λ (n : ℕ). CheckpointKept g.D.Disk b r.base r.now n (listed old.txns.rows) dirty old.disk c.take.new.writer c.take.new.disk (Ok c.in-Ok._lsn)) c.next.ensures
           (subst (λ (rows : List Transaction). CheckpointKept g.D.Disk b r.base r.now c.next.result (listed rows) dirty old.disk c.take.new.writer c.take.new.disk (Ok c.in-Ok._lsn)) c.table.ensures.rows
           (c.in-Ok.ensures.kept b r.base r.now r.redo_end r.stands r.over)) in
-          checkpointed g.D.Disk before s v old _ life c.requires.works dirty c.in-Ok._lsn kept.ok kept.stops refl refl refl;
+          checkpointed g.D.Disk before s v old _ life c.requires.works dirty c.in-Ok._lsn kept.ok kept.stops refl refl refl refl;
       told = told_answered g.D.Disk old _ c.requires.works refl refl replies.Done (λ k. refl) refl refl tt refl refl c.in-Ok.ensures.outcome.ends.alive;
       answered =
           let fits = subst (λ (n : ℕ). end_with old.writer.log (size_of (Checkpoint n (listed old.txns.rows) dirty)) ≤ 2 ^ 62) c.next.ensures
@@ -35,6 +36,8 @@ returns-in-Ok g c =
           behind g.D.Disk old c.take.new.writer.log c.take.new.disk c.requires.works answers.Checkpoint replies.Done refl
           (λ fault. checkpoint_made g.D.Disk old c.take.new.writer.log c.take.new.disk replies.Done (λ lost. not_true (g.D.Disk.failed c.take.new.disk) c.in-Ok.ensures.outcome.ends.alive lost) fits (λ x e. cc e) fault);
       suits = search rules;
+      at_once = λ _. search rules;
+      paced = paced_beside g.D.Disk _ _ old _ refl (λ is. cc is) refl;
       grouped = tt;
       frames = search rules;
       wants = λ b before s v r. tt;
@@ -66,6 +69,8 @@ returns-in-Err g c =
           (λ full. subst (λ (n : ℕ). 2 ^ 62 < end_with old.writer.log (size_of (Checkpoint n (listed old.txns.rows) dirty))) c.next.ensures
           (subst (λ (rows : List Transaction). 2 ^ 62 < end_with old.writer.log (size_of (Checkpoint c.next.result (listed rows) dirty))) c.table.ensures.rows (c.in-Err.ensures.full (λ j. Err (full j))))) fault);
       suits = search rules;
+      at_once = λ _. search rules;
+      paced = paced_beside g.D.Disk _ _ old _ refl (λ is. cc is) refl;
       grouped = tt;
       frames = search rules;
       wants = λ b before s v r. tt;

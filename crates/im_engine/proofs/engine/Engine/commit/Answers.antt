@@ -16,6 +16,11 @@ use Rattle.im_engine.proofs.Telling.{alive_now, not_true, told_committed, told_q
 use Rattle.im_engine.proofs.Causes.{append_cause, force_cause, commit_empty, commit_made, commit_append, commit_lost, logged, unlogged}
 use Rattle.im_base_disk.proofs.Costs.{forces_by, forces_none, most_as, most_none, most_then}
 use Rattle.im_engine.proofs.Costs.{commit_costs}
+use Rattle.im_theory_machine.specs.View.{pending_of}
+use Rattle.im_engine.specs.Aims.{under_of}
+use Rattle.im_engine.proofs.Checked.{commit_unowned}
+use Rattle.im_engine.proofs.Running.{none_if}
+use Rattle.im_engine.proofs.Paced.{paced_beside}
 use Rattle.im_engine.proofs.engine.Engine.commit.Goals as goal
 
 fits_so : (used : ℕ) → (16384 < used + 33 → ⊥) → used + 33 ≤ 16384
@@ -38,13 +43,15 @@ returns-then-row-eq0 g c =
     record {
       kept = λ before s v life.
           ended g.D.Disk before s v old _ life c.requires.works c.args.t c.in-Some.row found (commit_mark old.txns.rows c.args.t c.in-Some.row found c.requires.checked)
-          c.release_all.ensures (c.end.ensures.one c.in-Some.row found ∙ ap (λ (x : Numbered). length x.rows + 1) c.end.ensures.left) c.end.ensures.left c.requires.works
+          c.release_all.ensures (c.end.ensures.one c.in-Some.row found ∙ ap (λ (x : Numbered). length x.rows + 1) c.end.ensures.left) c.end.ensures.left c.requires.works (none_if (pending_of (under_of old.under) c.args.t) (commit_unowned old.txns.rows c.args.t c.requires.checked)) refl
           (omega (arith, c.if-row-eq0.true)) refl refl (g.met.D.Disk.only_now old.disk);
       told =
           told_committed g.D.Disk old _ c.requires.works (ap besides_rows c.end.ensures.left) refl (c.end.ensures.one c.in-Some.row found) c.requires.works
           (λ lost. absurd (not_true (g.D.Disk.failed old.disk) (alive_now g.D.Disk old c.requires.works) lost));
       answered = commit_empty g.D.Disk old old.writer.log old.disk c.requires.works c.args.t c.in-Some.row found c.requires.checked replies.Committed (omega (arith, c.if-row-eq0.true)) (λ x e. cc e);
       suits = search rules;
+      at_once = λ _. search rules;
+      paced = paced_beside g.D.Disk _ _ old _ refl (λ is. cc is) refl;
       grouped = inr (λ has. unlogged g.D.Disk old old.writer.log old.disk c.requires.works c.args.t c.in-Some.row found c.requires.checked (omega (arith, c.if-row-eq0.true)) has);
       frames = search rules;
       wants = λ b before s v r. tt;
@@ -81,6 +88,8 @@ returns-in-Err g c =
           (append_cause g.D.Disk old.writer old.disk c.log_only.new.self c.log_only.new.disk c.in-Err.fault c.in-Err.ensures.outcome.ends (old.working c.requires.works))
           (λ is. (c.in-Err.ensures.full.0 (λ j. Err (is j))).1) (λ over. let is = c.in-Err.ensures.full.1 (old.working c.requires.works, over) in cc is);
       suits = search rules;
+      at_once = λ _. search rules;
+      paced = paced_beside g.D.Disk _ _ old _ refl (λ is. cc is) refl;
       grouped = tt;
       frames = search rules;
       wants = λ b before s v r. tt;
@@ -113,13 +122,15 @@ returns-then-group g c =
       kept = λ before s v life.
           let r = (life.running c.requires.works).1 in
           let logged = written.kept (life.running c.requires.works).0 r.base r.now r.redo_end r.stands r.over (record { page = λ l p. refl; copy = λ l. refl; point = refl }) in
-          queued_on g.D.Disk before s v old _ life c.requires.works c.args.t row found mark (omega (arith, c.if-row-eq0.false)) lsn c.log_only.new.self c.log_only.new.disk logged.ok refl refl logged.stops refl c.wait.ensures refl;
+          queued_on g.D.Disk before s v old _ life c.requires.works c.args.t row found mark (omega (arith, c.if-row-eq0.false)) lsn c.log_only.new.self c.log_only.new.disk logged.ok (none_if (pending_of (under_of old.under) c.args.t) (commit_unowned old.txns.rows c.args.t c.requires.checked)) refl refl logged.stops refl c.wait.ensures refl refl;
       told =
           told_queued g.D.Disk old _ c.requires.works c.args.t (ap besides_rows c.wait.ensures) (ap (λ (x : Numbered). length x.rows) c.wait.ensures ∙ length-map old.txns.rows (changed c.args.t (with_mark Committing))) refl refl written.outcome.ends.alive;
       answered =
           commit_made g.D.Disk old c.log_only.new.self.log c.log_only.new.disk c.requires.works c.args.t c.in-Some.row found c.requires.checked (omega (arith, c.if-row-eq0.false)) replies.More
           (λ over. let is = written.full.1 (old.working c.requires.works, over) in cc is) (λ lost. not_true (g.D.Disk.failed c.log_only.new.disk) written.outcome.ends.alive lost) (λ x e. cc e);
       suits = search rules;
+      at_once = λ _. search rules;
+      paced = paced_beside g.D.Disk _ _ old _ refl (λ is. cc is) refl;
       grouped = (sym c.group.ensures ∙ c.if-group.true, logged g.D.Disk old old.writer.log old.disk c.requires.works c.args.t c.in-Some.row found c.requires.checked (omega (arith, c.if-row-eq0.false)));
       frames = search rules;
       wants = λ b before s v r. tt;
@@ -151,7 +162,7 @@ returns-in-Err-force g c =
           let logged = c.in_default-log_only.ensures.kept b r.base r.now r.redo_end r.stands r.over (record { page = λ l p. refl; copy = λ l. refl; point = refl }) in
           let forced = c.in-Err-force.ensures.kept b r.base (record (appended (logged_at lsn (Commit c.args.t row.last)) r.now) { durable = logged.ok.durable }) logged.ok.stands in
           commit_refused g.D.Disk before s v old _ life c.requires.works c.args.t c.requires.checked c.in-Err-force.fault of c.told-in-Err-force.result c.told-in-Err-force.ensures refl
-          (commit_stops g.D.Disk before s v old old life c.requires.works c.args.t row found (commit_mark old.txns.rows c.args.t row found c.requires.checked) (omega (arith, c.if-row-eq0.false)) lsn c.log_only.new.self c.log_only.new.disk logged.ok
+          (commit_stops g.D.Disk before s v old old life c.requires.works c.args.t row found (commit_mark old.txns.rows c.args.t row found c.requires.checked) (omega (arith, c.if-row-eq0.false)) lsn c.log_only.new.self c.log_only.new.disk logged.ok (none_if (pending_of (under_of old.under) c.args.t) (commit_unowned old.txns.rows c.args.t c.requires.checked))
           c.force.new.disk logged.stops forced.stops)
           (λ t f le left. g.met.D.Disk.counts_now c.force.new.disk t f le left);
       told =
@@ -161,6 +172,8 @@ returns-in-Err-force g c =
           commit_lost g.D.Disk old c.force.new.self.log c.force.new.disk c.requires.works c.args.t c.in-Some.row found c.requires.checked (omega (arith, c.if-row-eq0.false)) c.told-in-Err-force.result (c.told-in-Err-force.ensures ∙ cause.0)
           (λ over. let is = c.in_default-log_only.ensures.full.1 (old.working c.requires.works, over) in cc is) cause.1;
       suits = search rules;
+      at_once = λ _. search rules;
+      paced = paced_beside g.D.Disk _ _ old _ refl (λ is. cc is) refl;
       grouped = tt;
       frames = search rules;
       wants = λ b before s v r. tt;
@@ -190,9 +203,9 @@ returns g c =
           let r = (life.running c.requires.works).1 in
           let logged = c.in_default-log_only.ensures.kept b r.base r.now r.redo_end r.stands r.over (record { page = λ l p. refl; copy = λ l. refl; point = refl }) in
           let forced = c.in_default-force.ensures.kept b r.base (record (appended (logged_at lsn (Commit c.args.t row.last)) r.now) { durable = logged.ok.durable }) logged.ok.stands in
-          committed_on g.D.Disk before s v old _ life c.requires.works c.args.t row found mark (omega (arith, c.if-row-eq0.false)) lsn c.log_only.new.self c.log_only.new.disk logged.ok
-          c.are_counted.ensures.rising (sym c.are_counted.ensures.waiting ∙ c.are_counted.ensures.alone (sym c.group.ensures ∙ c.if-group.false)) forced.ok (commit_stops g.D.Disk before s v old old life c.requires.works c.args.t row found mark (omega (arith, c.if-row-eq0.false)) lsn c.log_only.new.self c.log_only.new.disk logged.ok c.force.new.disk logged.stops forced.stops)
-          c.release_all-2.ensures (c.end-2.ensures.one row found ∙ ap (λ (x : Numbered). length x.rows + 1) c.end-2.ensures.left) c.end-2.ensures.left refl;
+          committed_on g.D.Disk before s v old _ life c.requires.works c.args.t row found mark (omega (arith, c.if-row-eq0.false)) lsn c.log_only.new.self c.log_only.new.disk logged.ok (none_if (pending_of (under_of old.under) c.args.t) (commit_unowned old.txns.rows c.args.t c.requires.checked))
+          c.are_counted.ensures.rising (sym c.are_counted.ensures.waiting ∙ c.are_counted.ensures.alone (sym c.group.ensures ∙ c.if-group.false)) forced.ok (commit_stops g.D.Disk before s v old old life c.requires.works c.args.t row found mark (omega (arith, c.if-row-eq0.false)) lsn c.log_only.new.self c.log_only.new.disk logged.ok (none_if (pending_of (under_of old.under) c.args.t) (commit_unowned old.txns.rows c.args.t c.requires.checked)) c.force.new.disk logged.stops forced.stops)
+          c.release_all-2.ensures (c.end-2.ensures.one row found ∙ ap (λ (x : Numbered). length x.rows + 1) c.end-2.ensures.left) c.end-2.ensures.left refl refl;
       told =
           told_committed g.D.Disk old _ c.requires.works (ap besides_rows c.end-2.ensures.left) refl (c.end-2.ensures.one c.in-Some.row found) refl
           (λ lost. absurd (not_true (g.D.Disk.failed c.force.new.disk) c.in_default-force.ensures.outcome.ends.alive lost));
@@ -200,6 +213,8 @@ returns g c =
           commit_made g.D.Disk old c.force.new.self.log c.force.new.disk c.requires.works c.args.t c.in-Some.row found c.requires.checked (omega (arith, c.if-row-eq0.false)) replies.Committed
           (λ over. let is = c.in_default-log_only.ensures.full.1 (old.working c.requires.works, over) in cc is) (λ lost. not_true (g.D.Disk.failed c.force.new.disk) c.in_default-force.ensures.outcome.ends.alive lost) (λ x e. cc e);
       suits = search rules;
+      at_once = λ _. search rules;
+      paced = paced_beside g.D.Disk _ _ old _ refl (λ is. cc is) refl;
       grouped = inl (sym c.group.ensures ∙ c.if-group.false);
       frames = search rules;
       wants = λ b before s v r. tt;

@@ -12,14 +12,14 @@ pub returns-then-self-clause-kept : goal.returns-then-self-clause-kept
 returns-then-self-clause-kept g c before s v life = look_barred g.D.Disk before s v c.args.self.now life c.if-self.true (g.met.D.Disk.only_now c.args.self.now.disk)
 
 pub returns-in-Ok-clause-outcome : goal.returns-in-Ok-clause-outcome
-returns-in-Ok-clause-outcome g c = looks_of g.D.Disk c.args.self.now _ c.if-self.false _ (record { writer = c.in-Ok.ensures.outcome; failed = refl; txns = refl; locks = refl; max_pages = refl; report = refl })
+returns-in-Ok-clause-outcome g c = looks_of g.D.Disk c.args.self.now _ c.if-self.false _ (record { writer = c.in-Ok.ensures.outcome; failed = refl; txns = refl; locks = refl; max_pages = refl; report = refl; stepped = refl; under = refl })
 
 pub returns-in-Err-clause-outcome : goal.returns-in-Err-clause-outcome
-returns-in-Err-clause-outcome g c = looks_of g.D.Disk c.args.self.now _ c.if-self.false _ (record { writer = c.in-Err.ensures.outcome; failed = c.breaks-self.ensures; txns = refl; locks = refl; max_pages = refl; report = refl })
+returns-in-Err-clause-outcome g c = looks_of g.D.Disk c.args.self.now _ c.if-self.false _ (record { writer = c.in-Err.ensures.outcome; failed = c.breaks-self.ensures; txns = refl; locks = refl; max_pages = refl; report = refl; stepped = refl; under = refl })
 
 pub returns-in-Ok-clause-kept : goal.returns-in-Ok-clause-kept
 returns-in-Ok-clause-kept g c before s v life =
-    look_kept g.D.Disk before s v c.args.self.now _ life c.if-self.false (record { writer = c.in-Ok.ensures.outcome; failed = refl; txns = refl; locks = refl; max_pages = refl; report = refl })
+    look_kept g.D.Disk before s v c.args.self.now _ life c.if-self.false (record { writer = c.in-Ok.ensures.outcome; failed = refl; txns = refl; locks = refl; max_pages = refl; report = refl; stepped = refl; under = refl })
 
 pub returns-in-Ok-clause-entries : goal.returns-in-Ok-clause-entries
 returns-in-Ok-clause-entries g c before s v life =
@@ -37,7 +37,7 @@ returns-in-Ok-clause-shown g c config from opening told before stands =
 pub returns-in-Err-clause-kept : goal.returns-in-Err-clause-kept
 returns-in-Err-clause-kept g c before s v life =
     look_refused g.D.Disk before s v c.args.self.now _ life c.if-self.false (λ t f le left. g.met.D.Disk.counts_now c.entries.new.disk t f le left) c.in-Err.fault
-    (record { writer = c.in-Err.ensures.outcome; failed = c.breaks-self.ensures; txns = refl; locks = refl; max_pages = refl; report = refl })
+    (record { writer = c.in-Err.ensures.outcome; failed = c.breaks-self.ensures; txns = refl; locks = refl; max_pages = refl; report = refl; stepped = refl; under = refl })
 
 pub returns-in-Err-clause-never : goal.returns-in-Err-clause-never
 returns-in-Err-clause-never g c before s v life =

@@ -6,6 +6,7 @@ use Rattle.im_base_steps.specs.declared.reply.Reply.TheVariants as replies
 use Rattle.im_engine.proofs.Telling.{told_answered, told_refused, flush_lost, flush_ends, still_false}
 use Rattle.im_engine.specs.Told.{FlushCause}
 use Rattle.im_engine.proofs.Causes.{behind, refused_for, not_refused_for, flush_cause}
+use Rattle.im_engine.proofs.Paced.{paced_beside}
 use Rattle.im_engine.proofs.engine.Engine.flush_page.Goals as goal
 
 pub returns-in-Ok : goal.returns-in-Ok
@@ -15,10 +16,12 @@ returns-in-Ok g c =
       kept = λ before s v life.
           let b = (life.running c.requires.works).0 in
           let r = (life.running c.requires.works).1 in
-          flushed g.D.Disk before s v old _ life c.requires.works c.args.page c.in-Ok.ensures.outcome (c.in-Ok.ensures.kept b r.base r.now r.stands) refl refl refl;
+          flushed g.D.Disk before s v old _ life c.requires.works c.args.page c.in-Ok.ensures.outcome (c.in-Ok.ensures.kept b r.base r.now r.stands) refl refl refl refl;
       told = told_answered g.D.Disk old _ c.requires.works refl refl replies.Done (λ k. refl) refl refl tt refl refl c.in-Ok.ensures.outcome.ends.alive;
       answered = behind g.D.Disk old c.flush_one.new.self.log c.flush_one.new.disk c.requires.works (answers.FlushPage c.args.page) replies.Done refl (λ fault. not_refused_for g.D.Disk old c.flush_one.new.self.log c.flush_one.new.disk c.requires.works (FlushCause g.D.Disk c.flush_one.new.self.log c.flush_one.new.disk) replies.Done (λ x e. cc e) fault);
       suits = search rules;
+      at_once = λ _. search rules;
+      paced = paced_beside g.D.Disk _ _ old _ refl (λ is. cc is) refl;
       grouped = tt;
       frames = search rules;
       wants = λ b before s v r. tt;
@@ -39,6 +42,8 @@ returns-in-Err g c =
           behind g.D.Disk old c.flush_one.new.self.log c.flush_one.new.disk c.requires.works (answers.FlushPage c.args.page) (replies.Refused c.told.result) refl (λ fault. refused_for g.D.Disk old c.flush_one.new.self.log c.flush_one.new.disk c.requires.works (FlushCause g.D.Disk c.flush_one.new.self.log c.flush_one.new.disk) c.in-Err.fault c.told.result c.told.ensures
           (flush_cause g.D.Disk old.writer old.disk c.flush_one.new.self c.flush_one.new.disk c.in-Err.fault c.in-Err.ensures.outcome.ends (old.working c.requires.works)) fault);
       suits = search rules;
+      at_once = λ _. search rules;
+      paced = paced_beside g.D.Disk _ _ old _ refl (λ is. cc is) refl;
       grouped = tt;
       frames = search rules;
       wants = λ b before s v r. tt;

@@ -10,6 +10,7 @@ use Rattle.im_base_types.specs.Answers as answers
 use Rattle.im_base_steps.specs.declared.reply.Reply.TheVariants as replies
 use Rattle.im_engine.proofs.Telling.{not_true, told_forced, told_refused, ends_as}
 use Rattle.im_engine.proofs.Causes.{behind, force_made, force_lost, force_cause}
+use Rattle.im_engine.proofs.Paced.{paced_beside}
 use Rattle.im_engine.proofs.engine.Engine.force.Goals as goal
 
 pub returns-in-Ok : goal.returns-in-Ok
@@ -21,12 +22,14 @@ returns-in-Ok g c =
           let r = (life.running c.requires.works).1 in
           let forced = c.in-Ok.ensures.kept b r.base r.now r.stands in
           log_forced g.D.Disk before s v old _ life c.requires.works forced.ok forced.stops c.are_counted.ensures.rising
-          (subst (λ (l : List Transaction). AreReleased old.locks (λ t. is_among t (waiting_numbers l)) c.release_waiting.new.locks) c.rows.ensures c.release_waiting.ensures) c.end_waiting.ensures refl;
+          (subst (λ (l : List Transaction). AreReleased old.locks (λ t. is_among t (waiting_numbers l)) c.release_waiting.new.locks) c.rows.ensures c.release_waiting.ensures) c.end_waiting.ensures refl refl;
       told =
           told_forced g.D.Disk old _ c.requires.works (ap besides_rows c.end_waiting.ensures)
           (let all = waiting_counts old.txns.rows in let counted = c.are_counted.ensures.waiting in let left = ap (λ (x : Numbered). length x.rows) c.end_waiting.ensures in omega (arith, all, counted, left)) refl refl c.in-Ok.ensures.outcome.ends.alive;
       answered = behind g.D.Disk old c.force.new.self.log c.force.new.disk c.requires.works answers.Force replies.Done refl (λ fault. force_made g.D.Disk old c.force.new.self.log c.force.new.disk replies.Done (λ lost. not_true (g.D.Disk.failed c.force.new.disk) c.in-Ok.ensures.outcome.ends.alive lost) (λ x e. cc e) fault);
       suits = search rules;
+      at_once = λ _. search rules;
+      paced = paced_beside g.D.Disk _ _ old _ refl (λ is. cc is) refl;
       grouped = tt;
       frames = search rules;
       wants = λ b before s v r. tt;
@@ -47,6 +50,8 @@ returns-in-Err g c =
       told = told_refused g.D.Disk old _ c.requires.works refl refl c.in-Err.fault c.told.result c.told.ensures (ends_as c.in-Err.fault cause.0) refl (λ _ u. refl) (λ lost. cause.0);
       answered = behind g.D.Disk old c.force.new.self.log c.force.new.disk c.requires.works answers.Force (replies.Refused c.told.result) refl (λ fault. force_lost g.D.Disk old c.force.new.self.log c.force.new.disk c.told.result (c.told.ensures ∙ cause.0) cause.1 fault);
       suits = search rules;
+      at_once = λ _. search rules;
+      paced = paced_beside g.D.Disk _ _ old _ refl (λ is. cc is) refl;
       grouped = tt;
       frames = search rules;
       wants = λ b before s v r. tt;

@@ -12,6 +12,8 @@ use Rattle.im_engine.proofs.Inserting.{insert_answered, insert_dies, insert_made
 use Rattle.im_engine.proofs.Telling.{late_lost, told_answered, told_refused}
 use Rattle.im_base_types.specs.Answers as answers
 use Rattle.im_engine.proofs.Checked.{access_free}
+use Rattle.im_engine.proofs.Running.{plain_under}
+use Rattle.im_engine.proofs.Paced.{paced_alone}
 use Rattle.im_engine.proofs.engine.Engine.insert.Goals as goal
 
 pub insert-requires-clause-owner : goal.insert-requires-clause-owner
@@ -27,17 +29,19 @@ returns-in-Some-found g c =
     record {
       kept = λ before s v life.
           let r = (life.running c.requires.works).1 in
-          insert_made g.D.Disk old _ c.args.t c.args.key.now c.args.rid c.in-Some.row found c.requires.checked before s v r c.in-Ok-Granted.field-0 c.in-Ok-Granted.ensures.kept c.in-Ok-Granted.found c.in-Ok-Granted.field-0-is
+          insert_made g.D.Disk old _ c.args.t c.args.key.now c.args.rid c.in-Some.row found c.requires.checked (plain_under g.D.Disk old c.requires.plain) c.requires.plain refl before s v r c.in-Ok-Granted.field-0 c.in-Ok-Granted.ensures.kept c.in-Ok-Granted.found c.in-Ok-Granted.field-0-is
           c.in-Some-found.noted c.in-Some-found.is c.note_record.ensures refl;
       told =
           told_answered g.D.Disk old _ c.requires.works (ap besides_rows c.note_record.ensures) refl replies.Inserted (λ k. refl) refl refl tt refl
           (ap (λ (x : Numbered). length x.rows) c.note_record.ensures ∙ length-map old.txns.rows (changed c.args.t (with_record c.in-Some-found.noted.last c.in-Some-found.noted.undo_next))) c.in-Ok-Granted.ensures.outcome.ends.alive;
       answered = insert_answered g.D.Disk old c.insert.new.writer.log c.insert.new.disk c.requires.works c.args.t c.args.key.now c.args.rid c.requires.checked replies.Inserted (λ x e. cc e);
       suits = search rules;
+      at_once = λ _. search rules;
+      paced = paced_alone g.D.Disk _ _ old _ refl (λ is. cc is) c.requires.plain;
       grouped = tt;
       frames = search rules;
       wants = λ b before s v r.
-          made_wants g.D.Disk old c.insert.new.locks c.insert.new.writer c.insert.new.disk c.args.t c.args.key.now c.args.rid c.in-Some.row found c.requires.checked before s v r c.in-Ok-Granted.field-0 c.in-Ok-Granted.ensures.kept c.in-Ok-Granted.found c.in-Ok-Granted.field-0-is
+          made_wants g.D.Disk old c.insert.new.locks c.insert.new.writer c.insert.new.disk c.args.t c.args.key.now c.args.rid c.in-Some.row found c.requires.checked (plain_under g.D.Disk old c.requires.plain) c.requires.plain before s v r c.in-Ok-Granted.field-0 c.in-Ok-Granted.ensures.kept c.in-Ok-Granted.found c.in-Ok-Granted.field-0-is
           c.in-Some-found.noted c.in-Some-found.is;
       quiet = λ none. absurd (none tt);
       costs = tt;
@@ -49,14 +53,16 @@ returns-in-None g c =
     record {
       kept = λ before s v life.
           let r = (life.running c.requires.works).1 in
-          insert_there g.D.Disk old _ c.args.t c.args.key.now c.args.rid c.in-Some.row (sym c.in-Some.ensures.found) c.requires.checked before s v r c.in-Ok-Granted.field-0 c.in-Ok-Granted.ensures.kept c.in-Ok-Granted.found c.in-Ok-Granted.field-0-is
+          insert_there g.D.Disk old _ c.args.t c.args.key.now c.args.rid c.in-Some.row (sym c.in-Some.ensures.found) c.requires.checked (plain_under g.D.Disk old c.requires.plain) c.requires.plain refl before s v r c.in-Ok-Granted.field-0 c.in-Ok-Granted.ensures.kept c.in-Ok-Granted.found c.in-Ok-Granted.field-0-is
           c.in-None.is refl refl;
       told = told_answered g.D.Disk old _ c.requires.works refl refl replies.Duplicate (λ k. refl) refl refl tt refl refl c.in-Ok-Granted.ensures.outcome.ends.alive;
       answered = insert_answered g.D.Disk old c.insert.new.writer.log c.insert.new.disk c.requires.works c.args.t c.args.key.now c.args.rid c.requires.checked replies.Duplicate (λ x e. cc e);
       suits = search rules;
+      at_once = λ _. search rules;
+      paced = paced_alone g.D.Disk _ _ old _ refl (λ is. cc is) c.requires.plain;
       grouped = tt;
       frames = search rules;
-      wants = λ b before s v r. other_wants g.D.Disk old c.insert.new.locks c.insert.new.writer c.insert.new.disk c.args.t c.args.key.now c.args.rid c.in-Some.row (sym c.in-Some.ensures.found) c.requires.checked before s v r c.in-Ok-Granted.field-0 c.in-Ok-Granted.ensures.kept replies.Duplicate (λ e. cc e) (λ x e. cc e);
+      wants = λ b before s v r. other_wants g.D.Disk old c.insert.new.locks c.insert.new.writer c.insert.new.disk c.args.t c.args.key.now c.args.rid c.in-Some.row (sym c.in-Some.ensures.found) c.requires.checked (plain_under g.D.Disk old c.requires.plain) c.requires.plain before s v r c.in-Ok-Granted.field-0 c.in-Ok-Granted.ensures.kept replies.Duplicate (λ e. cc e) (λ e. cc e) (λ x e. cc e);
       quiet = λ none. absurd (none tt);
       costs = tt;
     }
@@ -67,13 +73,15 @@ returns-in-Ok-Wait g c =
     record {
       kept = λ before s v life.
           let r = (life.running c.requires.works).1 in
-          insert_waits g.D.Disk old _ c.args.t c.args.key.now c.args.rid c.in-Some.row (sym c.in-Some.ensures.found) c.requires.checked before s v r c.in-Ok-Wait.field-0 c.in-Ok-Wait.ensures.kept c.in-Ok-Wait.holder c.in-Ok-Wait.field-0-is refl refl;
+          insert_waits g.D.Disk old _ c.args.t c.args.key.now c.args.rid c.in-Some.row (sym c.in-Some.ensures.found) c.requires.checked (plain_under g.D.Disk old c.requires.plain) c.requires.plain refl before s v r c.in-Ok-Wait.field-0 c.in-Ok-Wait.ensures.kept c.in-Ok-Wait.holder c.in-Ok-Wait.field-0-is refl refl;
       told = told_answered g.D.Disk old _ c.requires.works refl refl (replies.Blocked (Lock c.in-Ok-Wait.holder)) (λ k. refl) refl refl tt refl refl c.in-Ok-Wait.ensures.outcome.ends.alive;
       answered = insert_answered g.D.Disk old c.insert.new.writer.log c.insert.new.disk c.requires.works c.args.t c.args.key.now c.args.rid c.requires.checked (replies.Blocked (Lock c.in-Ok-Wait.holder)) (λ x e. cc e);
       suits = search rules;
+      at_once = λ _. search rules;
+      paced = paced_alone g.D.Disk _ _ old _ refl (λ is. cc is) c.requires.plain;
       grouped = tt;
       frames = search rules;
-      wants = λ b before s v r. other_wants g.D.Disk old c.insert.new.locks c.insert.new.writer c.insert.new.disk c.args.t c.args.key.now c.args.rid c.in-Some.row (sym c.in-Some.ensures.found) c.requires.checked before s v r c.in-Ok-Wait.field-0 c.in-Ok-Wait.ensures.kept (replies.Blocked (Lock c.in-Ok-Wait.holder)) (λ e. cc e) (λ x e. cc e);
+      wants = λ b before s v r. other_wants g.D.Disk old c.insert.new.locks c.insert.new.writer c.insert.new.disk c.args.t c.args.key.now c.args.rid c.in-Some.row (sym c.in-Some.ensures.found) c.requires.checked (plain_under g.D.Disk old c.requires.plain) c.requires.plain before s v r c.in-Ok-Wait.field-0 c.in-Ok-Wait.ensures.kept (replies.Blocked (Lock c.in-Ok-Wait.holder)) (λ e. cc e) (λ e. cc e) (λ x e. cc e);
       quiet = λ none. absurd (none tt);
       costs = tt;
     }
@@ -84,13 +92,15 @@ returns-in-Ok-Die g c =
     record {
       kept = λ before s v life.
           let r = (life.running c.requires.works).1 in
-          insert_dies g.D.Disk old _ c.args.t c.args.key.now c.args.rid c.in-Some.row (sym c.in-Some.ensures.found) c.requires.checked before s v r c.in-Ok-Die.field-0 c.in-Ok-Die.ensures.kept c.in-Ok-Die.field-0-is c.set_mark.ensures refl;
+          insert_dies g.D.Disk old _ c.args.t c.args.key.now c.args.rid c.in-Some.row (sym c.in-Some.ensures.found) c.requires.checked (plain_under g.D.Disk old c.requires.plain) c.requires.plain refl before s v r c.in-Ok-Die.field-0 c.in-Ok-Die.ensures.kept c.in-Ok-Die.field-0-is c.set_mark.ensures refl;
       told = told_answered g.D.Disk old _ c.requires.works (ap besides_rows c.set_mark.ensures) refl replies.Die (λ k. refl) refl refl tt refl (ap (λ (x : Numbered). length x.rows) c.set_mark.ensures ∙ length-map old.txns.rows (changed c.args.t (with_mark MustRollBack))) c.in-Ok-Die.ensures.outcome.ends.alive;
       answered = insert_answered g.D.Disk old c.insert.new.writer.log c.insert.new.disk c.requires.works c.args.t c.args.key.now c.args.rid c.requires.checked replies.Die (λ x e. cc e);
       suits = search rules;
+      at_once = λ _. search rules;
+      paced = paced_alone g.D.Disk _ _ old _ refl (λ is. cc is) c.requires.plain;
       grouped = tt;
       frames = search rules;
-      wants = λ b before s v r. other_wants g.D.Disk old c.insert.new.locks c.insert.new.writer c.insert.new.disk c.args.t c.args.key.now c.args.rid c.in-Some.row (sym c.in-Some.ensures.found) c.requires.checked before s v r c.in-Ok-Die.field-0 c.in-Ok-Die.ensures.kept replies.Die (λ e. cc e) (λ x e. cc e);
+      wants = λ b before s v r. other_wants g.D.Disk old c.insert.new.locks c.insert.new.writer c.insert.new.disk c.args.t c.args.key.now c.args.rid c.in-Some.row (sym c.in-Some.ensures.found) c.requires.checked (plain_under g.D.Disk old c.requires.plain) c.requires.plain before s v r c.in-Ok-Die.field-0 c.in-Ok-Die.ensures.kept replies.Die (λ e. cc e) (λ e. cc e) (λ x e. cc e);
       quiet = λ none. absurd (none tt);
       costs = tt;
     }
@@ -101,16 +111,18 @@ returns-in-Err g c =
     let found = sym c.in-Some.ensures.found in
     record {
       kept = λ before s v life.
-          insert_refused g.D.Disk old _ c.args.t c.args.key.now c.args.rid c.in-Some.row found c.requires.checked before s v life c.requires.works (λ t f le left. g.met.D.Disk.counts_now c.insert.new.disk t f le left) c.in-Err.fault c.in-Err.ensures.kept
+          insert_refused g.D.Disk old _ c.args.t c.args.key.now c.args.rid c.in-Some.row found c.requires.checked (plain_under g.D.Disk old c.requires.plain) c.requires.plain refl before s v life c.requires.works (λ t f le left. g.met.D.Disk.counts_now c.insert.new.disk t f le left) c.in-Err.fault c.in-Err.ensures.kept
           c.in-Err.ensures.outcome.ends c.breaks-self.ensures refl (λ which. (c.in-Err.ensures.table which, c.in-Err.ensures.lasting which)) c.told.result c.told.ensures;
       told = told_refused g.D.Disk old _ c.requires.works refl refl c.in-Err.fault c.told.result c.told.ensures c.breaks-self.ensures refl c.in-Err.ensures.table (λ lost. late_lost g.D.Disk old.writer old.disk c.insert.new.writer c.insert.new.disk lost (mild_to_split (Some old.max_pages)) c.in-Err.fault c.in-Err.ensures.outcome.ends);
       answered =
           insert_not_answered g.D.Disk old c.insert.new.writer.log c.insert.new.disk c.requires.works c.args.t c.args.key.now c.args.rid c.requires.checked c.in-Err.fault c.told.result c.told.ensures
           (insert_cause g.D.Disk old.writer old.disk c.insert.new.writer c.insert.new.disk (mild_to_split (Some old.max_pages)) c.in-Err.fault c.in-Err.ensures.outcome.ends);
       suits = search rules;
+      at_once = λ _. search rules;
+      paced = paced_alone g.D.Disk _ _ old _ refl (λ is. cc is) c.requires.plain;
       grouped = tt;
       frames = search rules;
-      wants = λ b before s v r. refused_wants g.D.Disk old c.insert.new.locks c.insert.new.writer c.insert.new.disk c.args.t c.args.key.now c.args.rid c.in-Some.row found c.requires.checked before s v r c.in-Err.fault c.in-Err.ensures.kept c.in-Err.ensures.outcome.ends c.told.result c.told.ensures;
+      wants = λ b before s v r. refused_wants g.D.Disk old c.insert.new.locks c.insert.new.writer c.insert.new.disk c.args.t c.args.key.now c.args.rid c.in-Some.row found c.requires.checked (plain_under g.D.Disk old c.requires.plain) c.requires.plain before s v r c.in-Err.fault c.in-Err.ensures.kept c.in-Err.ensures.outcome.ends c.told.result c.told.ensures;
       quiet = λ none. absurd (none tt);
       costs = tt;
     }

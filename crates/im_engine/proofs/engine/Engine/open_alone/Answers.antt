@@ -5,6 +5,7 @@ returns-clause-opening g c =
     let is = c.open_by.ensures in
     record {
       kept = λ before told stands. is.kept before told c.requires.synced stands;
+      plain = is.plain;
       opened = is.opened;
       limit = is.limit;
       pool = is.pool;

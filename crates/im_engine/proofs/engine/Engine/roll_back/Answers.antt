@@ -10,6 +10,11 @@ use Rattle.im_base_txn.specs.declared.transaction.Mark.{Mark}
 use Rattle.im_base_txn.specs.declared.transaction.Mark.TheVariants.{Going, MustRollBack, RollingBack}
 use Rattle.im_engine.proofs.Telling.{alive_now, not_true, told_answered, told_rolled_back}
 use Rattle.im_engine.proofs.Causes.{rollback_made}
+use Rattle.im_theory_machine.specs.View.{pending_of}
+use Rattle.im_engine.specs.Aims.{under_of}
+use Rattle.im_engine.proofs.Checked.{back_unowned}
+use Rattle.im_engine.proofs.Running.{none_if}
+use Rattle.im_engine.proofs.Paced.{paced_beside}
 use Rattle.im_engine.proofs.engine.Engine.roll_back.Goals as goal
 
 free_mark : (m : Mark) → (m ≡ Going) ⊎ (m ≡ MustRollBack) → is_committing m ≡ false
@@ -32,13 +37,16 @@ returns-then-row-ne0 g c =
     let found = sym c.in-Some.ensures.found in
     record {
       kept = λ before s v life.
-          turned g.D.Disk before s v old _ life c.requires.works refl refl (g.met.D.Disk.only_now old.disk) c.args.t c.in-Some.row found (back_mark old.txns.rows c.args.t c.in-Some.row found c.requires.checked)
+          turned g.D.Disk before s v old _ life c.requires.works refl refl refl (g.met.D.Disk.only_now old.disk) c.args.t c.in-Some.row found (back_mark old.txns.rows c.args.t c.in-Some.row found c.requires.checked)
+          (none_if (pending_of (under_of old.under) c.args.t) (back_unowned old.txns.rows c.args.t c.requires.checked))
           (omega (arith, c.if-row-ne0.true)) refl c.set_mark.ensures c.requires.works;
       told =
           told_answered g.D.Disk old _ c.requires.works (ap besides_rows c.set_mark.ensures) refl replies.More (λ k. refl) refl refl tt c.requires.works
           (ap (λ (x : Numbered). length x.rows) c.set_mark.ensures ∙ length-map old.txns.rows (changed c.args.t (with_mark RollingBack))) (alive_now g.D.Disk old c.requires.works);
       answered = rollback_made g.D.Disk old old.writer.log old.disk c.requires.works c.args.t c.requires.checked replies.More (λ x e. cc e);
       suits = search rules;
+      at_once = λ _. search rules;
+      paced = paced_beside g.D.Disk _ _ old _ refl (λ is. cc is) refl;
       grouped = tt;
       frames = refl;
       wants = λ b before s v r. tt;
@@ -52,13 +60,16 @@ returns g c =
     let found = sym c.in-Some.ensures.found in
     record {
       kept = λ before s v life.
-          dropped g.D.Disk before s v old _ life c.requires.works refl refl (g.met.D.Disk.only_now old.disk) c.args.t c.in-Some.row found (back_mark old.txns.rows c.args.t c.in-Some.row found c.requires.checked)
+          dropped g.D.Disk before s v old _ life c.requires.works refl refl refl (g.met.D.Disk.only_now old.disk) c.args.t c.in-Some.row found (back_mark old.txns.rows c.args.t c.in-Some.row found c.requires.checked)
+          (none_if (pending_of (under_of old.under) c.args.t) (back_unowned old.txns.rows c.args.t c.requires.checked))
           (omega (arith, c.if-row-ne0.false)) c.release_all.ensures (c.end.ensures.one c.in-Some.row found ∙ ap (λ (x : Numbered). length x.rows + 1) c.end.ensures.left) c.end.ensures.left c.requires.works;
       told =
           told_rolled_back g.D.Disk old _ c.requires.works (ap besides_rows c.end.ensures.left) refl (c.end.ensures.one c.in-Some.row found) c.requires.works
           (λ lost. absurd (not_true (g.D.Disk.failed old.disk) (alive_now g.D.Disk old c.requires.works) lost));
       answered = rollback_made g.D.Disk old old.writer.log old.disk c.requires.works c.args.t c.requires.checked replies.RolledBack (λ x e. cc e);
       suits = search rules;
+      at_once = λ _. search rules;
+      paced = paced_beside g.D.Disk _ _ old _ refl (λ is. cc is) refl;
       grouped = tt;
       frames = refl;
       wants = λ b before s v r. tt;

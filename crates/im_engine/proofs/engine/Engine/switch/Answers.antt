@@ -10,6 +10,7 @@ use Rattle.im_engine.specs.Faults.{told_as}
 use Rattle.im_engine.proofs.Causes.{behind, goes_on, switch_breaks, switch_ends, switch_lost, switch_made, switch_quiet}
 use Rattle.im_engine.proofs.Switching.{gone_on, switch_refused}
 use Rattle.im_engine.proofs.Telling.{told_answered, told_refused}
+use Rattle.im_engine.proofs.Paced.{paced_beside}
 use Rattle.im_engine.proofs.engine.Engine.switch.Goals as goal
 
 -- the disk works on where the call was not refused `Device`
@@ -38,10 +39,12 @@ returns-in-Ok g c =
           let b : Base = (life.running c.requires.works).0 in
           let r = (life.running c.requires.works).1 in
           let kept = subst (λ (n : ℕ). SwitchKept g.D.Disk b r.base r.now n old.disk new_writer disk (Ok tt)) c.next.ensures (c.in-Ok.ensures.kept b r.base r.now r.redo_end r.stands r.over) in
-          gone_on g.D.Disk before s v old _ life c.requires.works c.requires.checked kept.ok kept.stops refl refl refl;
+          gone_on g.D.Disk before s v old _ life c.requires.works c.requires.checked kept.ok kept.stops refl refl refl refl;
       told = told_answered g.D.Disk old _ c.requires.works refl refl replies.Done (λ k. refl) refl refl tt refl refl (works_on (g.D.Disk.failed disk) (Ok tt) refl (c.in-Ok.ensures.device below));
       answered = behind g.D.Disk old new_writer.log disk c.requires.works answers.Switch replies.Done c.requires.checked (λ fault. switch_made g.D.Disk old new_writer.log disk replies.Done may (λ x e. cc e) fault);
       suits = search rules;
+      at_once = λ _. search rules;
+      paced = paced_beside g.D.Disk _ _ old _ refl (λ is. cc is) refl;
       grouped = tt;
       frames = c.switch.ensures.frames;
       wants = λ b before s v r. tt;
@@ -68,6 +71,8 @@ returns-in-Err g c =
           behind g.D.Disk old new_writer.log disk c.requires.works answers.Switch (replies.Refused c.told.result) c.requires.checked
           (switch_lost g.D.Disk old new_writer.log disk f c.told.result c.told.ensures (λ e no. ap (fault_in f) (c.in-Err.ensures.early e below no).0) (λ is. c.in-Err.ensures.last (λ j. Err (is j))) causes);
       suits = search rules;
+      at_once = λ _. search rules;
+      paced = paced_beside g.D.Disk _ _ old _ refl (λ is. cc is) refl;
       grouped = tt;
       frames = c.switch.ensures.frames;
       wants = λ b before s v r. tt;
