@@ -58,7 +58,7 @@ module _ (b : Base) where
   pub plain_beside : (t : ℕ) (images : List Numbered) (r : Logged) → r.txn ≢ t → is_structural r.what ≡ false → changes_page r.what ≡ false → IsBeside t images r
   plain_beside t images r other plain none = record { other = other; plain = plain; apart = λ is. absurd (let never : false ≡ true = sym none ∙ is in cc never) }
 
-  images_beside : (t : ℕ) → 1 ≤ t → (images : List Numbered) (more older : History) → AreImages b more older → AreBeside t images more
+  pub images_beside : (t : ℕ) → 1 ≤ t → (images : List Numbered) (more older : History) → AreImages b more older → AreBeside t images more
   images_beside t owned images [] older all = tt
   images_beside t owned images (r ∷ more) older all = (
     plain_beside t images r (λ same. let zero : r.txn ≡ 0 = all.0.no_owner in omega (arith, zero, same, owned)) (ap is_structural all.0.what) (ap changes_page all.0.what),

@@ -1,6 +1,6 @@
 -- How a step goes on with the structure change under way, where it leaves it as it is; and what its owner is never told.
-use Rattle.std.proofs.Common.{◌≡◌, ◌≢◌, ◌⊎◌, ◌<◌, ◌≤◌, inl, inr, ℕ, Bool, true, false, cond, is_some, length, Option, None, Some, refl, sym, ap, subst, ◌∙◌, ◌==◌, arith}
-use Rattle.std.proofs.lemmas.Bool.{cases_Bool, cases_lt, eqb-eq}
+use Rattle.std.proofs.Common.{◌≡◌, ◌≢◌, ◌⊎◌, inl, inr, ℕ, Bool, true, false, cond, is_some, Option, None, Some, refl, sym, ap, subst, ◌∙◌, ◌==◌}
+use Rattle.std.proofs.lemmas.Bool.{eqb-eq}
 use Rattle.im_base_types.specs.Answers as answers
 use Rattle.im_base_types.specs.Answers.{Step, Begin, Do, Commit, Rollback, Continue, FlushPage, Force, Checkpoint, Switch}
 use Rattle.im_base_types.specs.Maps.{IndexMap}
@@ -19,7 +19,7 @@ use Rattle.im_engine.specs.declared.stepped.Aim.{Aim}
 use Rattle.im_engine.specs.declared.stepped.Aim.TheVariants.{Puts, Drops, TakesBack, TookBack}
 use Rattle.im_engine.specs.declared.stepped.Under.{Under}
 use Rattle.im_engine.specs.Aims.{IsSameUnder, aim_of, owned, under_of}
-use Rattle.im_engine.specs.Paces.{Bars, EndsAs, GoesOnWith, IsRefusal}
+use Rattle.im_engine.specs.Paces.{Bars, EndsAs, IsRefusal}
 use Rattle.im_engine.specs.Told.{IsPaced, check_of}
 use Rattle.im_engine.proofs.Running.{plain_under}
 
@@ -53,8 +53,9 @@ module _ {D : Type 0} (d : Ghosts D) (step : Step) (reply : Reply) (old new : En
   paced_alone plain = record {
     tree = λ is. absurd (not is);
     first = λ passed b before s v r u is. absurd (never u is);
-    own = λ passed u is. absurd (never u is);
-    others = λ other. inl (kept_under old.under new.under stays);
+    told = λ passed u is. absurd (never u is);
+    own = λ passed b before s v r u is. absurd (never u is);
+    others = λ b before s v r other. inl (kept_under old.under new.under stays);
   }
     where
       never : (u : Under) → old.under ≡ Some u → ⊥
@@ -65,8 +66,9 @@ module _ {D : Type 0} (d : Ghosts D) (step : Step) (reply : Reply) (old new : En
   paced_beside aside = record {
     tree = λ is. absurd (not is);
     first = λ passed b before s v r u is other beside told bars. absurd (bars_none _ beside v.walk r.now.log step aside bars);
-    own = λ passed u is own. absurd (let clash : true ≡ false = sym aside ∙ ap is_aside own in cc clash);
-    others = λ other. inl (kept_under old.under new.under stays);
+    told = λ passed u is own. absurd (let clash : true ≡ false = sym aside ∙ ap is_aside own in cc clash);
+    own = λ passed b before s v r u is own. absurd (let clash : true ≡ false = sym aside ∙ ap is_aside own in cc clash);
+    others = λ b before s v r other. inl (kept_under old.under new.under stays);
   }
 
   -- one that a check bars
@@ -74,8 +76,9 @@ module _ {D : Type 0} (d : Ghosts D) (step : Step) (reply : Reply) (old new : En
   paced_barred barred = record {
     tree = λ is. absurd (not is);
     first = λ passed. absurd (barred passed);
+    told = λ passed. absurd (barred passed);
     own = λ passed. absurd (barred passed);
-    others = λ other. inl (kept_under old.under new.under stays);
+    others = λ b before s v r other. inl (kept_under old.under new.under stays);
   }
 
 -- ---- who has an Insert or a Delete that goes on
@@ -94,17 +97,11 @@ owns_by true a is = (refl, is)
 owns_by false a is = absurd (cc is)
 
 -- is never told that it is rolled back
-pub owner_stays : (u : Under) (reply : Reply) (new : Option Under) (t : ℕ) → is_some (pending_of (under_of (Some u)) t) ≡ true → (u.begun.change.transaction ≡ t → GoesOnWith u reply new) → reply ≡ replies.RolledBack → ⊥
-owner_stays u reply new t owns goes rolled =
+pub owner_stays : (u : Under) (reply : Reply) (t : ℕ) → is_some (pending_of (under_of (Some u)) t) ≡ true → (u.begun.change.transaction ≡ t → IsRefusal reply ⊎ ((reply ≡ replies.More) ⊎ EndsAs u.aim reply)) → reply ≡ replies.RolledBack → ⊥
+owner_stays u reply t owns told rolled =
     let by = owns_by (u.begun.change.transaction == t) (pending_for (aim_of u.aim)) owns in
-    let with = goes (eqb-eq u.begun.change.transaction t by.0) in
-    elim (cases_lt u.begun.change.done (length u.begun.change.images)) [
-      | inl left ↦ elim (with.page left) [
-        | inl more ↦ (let clash : replies.More ≡ replies.RolledBack = sym more.0 ∙ rolled in cc clash)
-        | inr refused ↦ no_refusal reply refused.0 rolled
-      ]
-      | inr none ↦ elim (with.end (let within = u.begun.change.within in omega (arith, none, within))) [
-        | inl ends ↦ ends_other u.aim reply by.1 ends.0 rolled
-        | inr refused ↦ no_refusal reply refused rolled
-      ]
+    elim (told (eqb-eq u.begun.change.transaction t by.0)) [
+      | inl refused ↦ no_refusal reply refused rolled
+      | inr (inl more) ↦ (let clash : replies.More ≡ replies.RolledBack = sym more ∙ rolled in cc clash)
+      | inr (inr ends) ↦ ends_other u.aim reply by.1 ends rolled
     ]

@@ -174,7 +174,7 @@ module _ {D : Type 0} (d : Ghosts D) (step : Step) (reply : Reply) (old new : En
 
       by : (o : Option Under) → old.under ≡ o → owns_in (under_of o) (answers.Continue t) ≡ true → ⊥
       by None here owns_it = cc owns_it
-      by (Some u) here owns_it = owner_stays u reply new.under t owns_it (λ own. one.paced.own passed u here (same ∙ ap (λ (n : ℕ). answers.Continue n) (sym own))) rolled
+      by (Some u) here owns_it = owner_stays u reply t owns_it (λ own. one.paced.told passed u here (same ∙ ap (λ (n : ℕ). answers.Continue n) (sym own))) rolled
 
   unowned : old.failed ≡ false → reply ≡ replies.RolledBack → is_continue (asked_by step) ≡ true → owns_in (under_of old.under) (asked_by step) ≡ false
   unowned works rolled is = elim (cases_Bool (owns_in (under_of old.under) (asked_by step))) [

@@ -119,7 +119,7 @@ pub undo_grows : (t : ℕ) (older longer : History) → GrowsByUndo t older long
 undo_grows t older longer by = record { more = by.more; is = sym by.is; within = undo_records t by.more by.all }
 
 -- the change of a key record, and what its inverse does
-made_by : (w : What) → is_key w ≡ true → (c : Change) × (change_of w ≡ c ∷ []) × ((m : IndexMap) → contents_after (inverse_of w) m ≡ undone m c)
+pub made_by : (w : What) → is_key w ≡ true → (c : Change) × (change_of w ≡ c ∷ []) × ((m : IndexMap) → contents_after (inverse_of w) m ≡ undone m c)
 made_by (InsertKey k i) is = (Put k i, refl, λ m. refl)
 made_by (DeleteKey k i) is = (Drop k i, refl, λ m. refl)
 made_by (UndoInsert k i) is = absurd cc

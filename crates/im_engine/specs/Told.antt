@@ -53,7 +53,7 @@ use Rattle.im_base_steps.specs.Replies.{is_commit, Suits, SuitsAtOnce}
 use Rattle.im_engine.specs.declared.engine.Engine.{Engine}
 use Rattle.im_engine.specs.declared.stepped.Under.{Under}
 use Rattle.im_engine.specs.Aims.{under_of, IsSameUnder, IsToldTo}
-use Rattle.im_engine.specs.Paces.{Bars, GoesOnWith, IsRefusal, TreeCause, is_of_owner}
+use Rattle.im_engine.specs.Paces.{Bars, EndsAs, GoesOnWith, IsRefusal, TreeCause, is_of_owner}
 use Rattle.im_engine.specs.Numbered.{Numbered}
 use Rattle.im_engine.specs.Costs.{CommitCosts, ForceCosts}
 use Rattle.im_engine.specs.Running.{IsRunning, IsLife}
@@ -355,8 +355,10 @@ module _ {D : Type 0} (d : Ghosts D) where
     pub tree : told_by reply ≡ answers.BlockedTree → (b : Base) (before : List Effect) (s : Shown) (v : View) (r : IsRunning d b before s v old) → IsBlockedBy b before s v step old r
     pub first : check_of d step old ≡ None → (b : Base) (before : List Effect) (s : Shown) (v : View) (r : IsRunning d b before s v old) (u : Under) → old.under ≡ Some u → is_of_owner (u.begun.change.transaction) step ≡ false
         → (beside : Beside) → IsToldTo u beside → Bars (settled b r.now.log) beside v.walk r.now.log step → (told_by reply ≡ answers.BlockedTree) ⊎ (reply ≡ Refused Device) ⊎ (reply ≡ Refused LogFull)
-    pub own : check_of d step old ≡ None → (u : Under) → old.under ≡ Some u → step ≡ answers.Continue u.begun.change.transaction → GoesOnWith u reply new.under
-    pub others : ((u : Under) → old.under ≡ Some u → step ≢ answers.Continue u.begun.change.transaction) → IsSameUnder old.under new.under ⊎ ((old.under ≡ None) × (old.stepped ≡ true) × (reply ≡ More) × (is_some new.under ≡ true))
+    -- over any disk its owner is told of no other end
+    pub told : check_of d step old ≡ None → (u : Under) → old.under ≡ Some u → step ≡ answers.Continue u.begun.change.transaction → IsRefusal reply ⊎ ((reply ≡ More) ⊎ EndsAs u.aim reply)
+    pub own : check_of d step old ≡ None → (b : Base) (before : List Effect) (s : Shown) (v : View) (r : IsRunning d b before s v old) (u : Under) → old.under ≡ Some u → step ≡ answers.Continue u.begun.change.transaction → GoesOnWith u reply new.under
+    pub others : (b : Base) (before : List Effect) (s : Shown) (v : View) (r : IsRunning d b before s v old) → ((u : Under) → old.under ≡ Some u → step ≢ answers.Continue u.begun.change.transaction) → IsSameUnder old.under new.under ⊎ ((old.under ≡ None) × (old.stepped ≡ true) × (reply ≡ More) × (is_some new.under ≡ true))
 
   -- a step of what was asked so, behind the checks
   pub record IsMade (step : answers.Step) (reply : Reply) (old new : Engine D d) : Type 0 where
