@@ -196,6 +196,13 @@ module _ {D : Type 0} (d : Ghosts D) (before : List Effect) (s : Shown) (v : Vie
         stops = by_no_names e.disk e.disk (started d e.disk (Allowed before s) (λ on c left. life.stops c (only_now c left)));
       }
 
+  -- one that works stays as it was too, where nothing is done
+  pub look_still : (e : Engine D d) → IsLife d before s v e → e.failed ≡ false → ((c : Files) → d.left_since e.disk (d.moment e.disk) c → d.may_leave e.disk c) → LookKept d before s v e e
+  look_still e life works only_now = record {
+    after = inl (works, life);
+    stops = by_no_names e.disk e.disk (started d e.disk (Allowed before s) (λ on c left. life.stops c (only_now c left)));
+  }
+
   module _ (old new : Engine D d) (life : IsLife d before s v old) (works : old.failed ≡ false) where
     abbrev run : (b : Base) × IsRunning d b before s v old
     run = life.running works

@@ -142,7 +142,7 @@ pub data GoesOnBy (b : Base) (was now : Option Under) (t : ℕ) (older longer : 
   -- the next page of its own
   pages : owner_of was ≡ Some t → now ≡ was → LogsPage b t older longer → GoesOnBy b was now t older longer
   -- the end of its own
-  takes_behind : was ≡ Some (record { owner = t; aim = TakesBack }) → now ≡ None → ClosesThen t (λ between. TakesOneBack t between longer) older → GoesOnBy b was now t older longer
+  takes_behind : was ≡ Some (record { owner = t; aim = TakesBack }) → now ≡ None → ClosesThen t (λ between. TakesAlone t between longer) older → GoesOnBy b was now t older longer
   drops : was ≡ Some (record { owner = t; aim = TookBack }) → now ≡ None → Closes t older longer → GoesOnBy b was now t older longer
 
 -- What one adds with which a rollback ends.
