@@ -127,10 +127,10 @@ PutsPending b None older longer = ⊥
 PutsPending b (Some u) older longer = PutsFor b u.owner u.aim older longer
 
 -- first the record that closes the change, and then this
-pub record ClosesThen (t : ℕ) (Then : History → Type 0) (older : History) : Type 0 where
+pub record ClosesThen (t : ℕ) (Behind : History → Type 0) (older : History) : Type 0 where
   pub closed : History
   pub closes : Closes t older closed
-  pub then : Then closed
+  pub behind : Behind closed
 
 -- What a Continue adds that is answered More, by whose structure change was under way, and is.
 pub data GoesOnBy (b : Base) (was now : Option Under) (t : ℕ) (older longer : History) : Type 0 where
