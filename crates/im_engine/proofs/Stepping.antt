@@ -203,7 +203,7 @@ refused_alone before s (Do t a) n = λ is. absurd (cc is)
 refused_alone before s Begin n = tt
 refused_alone before s (Commit t) n = tt
 refused_alone before s (Rollback t) n = tt
-refused_alone before s (Continue t) n = tt
+refused_alone before s (Continue t) n = λ access goes_on is. absurd (cc is)
 refused_alone before s (FlushPage p) n = tt
 refused_alone before s Force n = tt
 refused_alone before s Checkpoint n = tt
@@ -283,6 +283,9 @@ step_made_of d step reply old new none m = record {
   frames = m.frames;
   report = ap (λ (f : Fixed). f.redo) (told_fixed d (asked_by step) reply old new m.told);
 }
+
+pub made_as : {D : Type 0} (d : Ghosts D) (step given : Asked) → step ≡ given → (reply : Reply) (old new : Engine D d) → IsMade d (asked_by given) reply old new → IsMade d (asked_by step) reply old new
+made_as d step given is reply old new m = subst (λ (x : Asked). IsMade d (asked_by x) reply old new) (sym is) m
 
 -- of a step that is this one
 pub step_as : {D : Type 0} (d : Ghosts D) (step given : Asked) → step ≡ given → (reply : Reply) (old new : Engine D d) → None ≡ check_of d (asked_by step) old → IsMade d (asked_by given) reply old new → IsStep d step reply old new

@@ -327,9 +327,11 @@ module _ (pages : Pages) (map : IndexMap) (Idle : Type 0) where
   WantsOf stepped was now Begun nets locks max_pages (answers.Continue t) reply = TurnWants pages map stepped was now t (nets t) (Begun t) reply
   WantsOf stepped was now Begun nets locks max_pages _ reply = Unit {0}
 
--- An access that is answered has the answer of one user alone on the map of all that was committed, with what its transaction did on top.
+-- An access that is answered has the answer of one user alone on the map of all that was committed, with what its transaction did on top, also where a later step answers it.
 abbrev pub AnswersAlone : List Effect → Shown → answers.Step → answers.Reply → Type 0
 AnswersAlone before s (answers.Do t access) reply = answers.is_answer reply ≡ true → reply ≡ answers.answer access (apply_all empty ((before ++ effects s.asked) ++ (s.running t).effect ∷ []))
+AnswersAlone before s (answers.Continue t) reply = (access : answers.Access) → (s.running t).pending ≡ Some access → answers.is_answer reply ≡ true
+    → reply ≡ answers.answer access (apply_all empty ((before ++ effects s.asked) ++ (s.running t).effect ∷ []))
 AnswersAlone before s _ reply = Unit {0}
 
 -- ---- a step that was made
