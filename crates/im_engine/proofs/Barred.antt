@@ -13,7 +13,7 @@ use Rattle.im_base_disk.specs.Disk.{Files}
 use Rattle.im_base_disk.specs.Runs.{LeavesOnly}
 use Rattle.im_base_disk.proofs.Runs.{started}
 use Rattle.im_page_writer.proofs.Writers.{goes_on_start}
-use Rattle.im_theory_machine.specs.View.{View, pending_of}
+use Rattle.im_theory_machine.specs.View.{View, pending_of, owns_in}
 use Rattle.im_theory_machine.specs.Machine.{barred, first_check, mark_for}
 use Rattle.im_theory_steps.specs.Checks.{marks_in}
 use Rattle.im_theory_steps.specs.Durable.{AreCommitted}

@@ -39,11 +39,11 @@ second_of None b is = is
 second_of (Some n) b is = absurd (cc is)
 
 -- of an access
-pub access_going : (rows : List Transaction) {owns : Bool} (t : ℕ) (a : Access) → checked_by rows owns (Do t a) ≡ None → IsGoing rows t
-access_going rows {owns = owns} t a is = going_of rows t (find (is_of t) rows) refl (first_of (barred_to (mark_at (find (is_of t) rows))) (or_else (fault_if owns unfinished) (fault_if (not (keys_fit a)) key_length)) is)
+pub access_going : (rows : List Transaction) (owns : Bool) (t : ℕ) (a : Access) → checked_by rows owns (Do t a) ≡ None → IsGoing rows t
+access_going rows owns t a is = going_of rows t (find (is_of t) rows) refl (first_of (barred_to (mark_at (find (is_of t) rows))) (or_else (fault_if owns unfinished) (fault_if (not (keys_fit a)) key_length)) is)
 
-pub access_fits : (rows : List Transaction) {owns : Bool} (t : ℕ) (a : Access) → checked_by rows owns (Do t a) ≡ None → keys_fit a ≡ true
-access_fits rows {owns = owns} t a is =
+pub access_fits : (rows : List Transaction) (owns : Bool) (t : ℕ) (a : Access) → checked_by rows owns (Do t a) ≡ None → keys_fit a ≡ true
+access_fits rows owns t a is =
     fits_by (keys_fit a) (second_of (fault_if owns unfinished) (fault_if (not (keys_fit a)) key_length) (second_of (barred_to (mark_at (find (is_of t) rows))) (or_else (fault_if owns unfinished) (fault_if (not (keys_fit a)) key_length)) is))
 
 unowned_by : (b : Bool) → fault_if b unfinished ≡ None → b ≡ false
@@ -62,15 +62,15 @@ pub back_unowned : (rows : List Transaction) {owns : Bool} (t : ℕ) → checked
 back_unowned rows {owns = owns} t is = unowned_by owns (second_of (barred_to_rollback (mark_at (find (is_of t) rows))) (fault_if owns unfinished) is)
 
 -- of a Commit
-pub commit_going : (rows : List Transaction) {owns : Bool} (t : ℕ) → checked_by rows owns (Commit t) ≡ None → IsGoing rows t
-commit_going rows {owns = owns} t is = going_of rows t (find (is_of t) rows) refl (first_of (barred_to (mark_at (find (is_of t) rows))) (fault_if owns unfinished) is)
+pub commit_going : (rows : List Transaction) (owns : Bool) (t : ℕ) → checked_by rows owns (Commit t) ≡ None → IsGoing rows t
+commit_going rows owns t is = going_of rows t (find (is_of t) rows) refl (first_of (barred_to (mark_at (find (is_of t) rows))) (fault_if owns unfinished) is)
 
 -- the row that was found is that row
-pub commit_mark : (rows : List Transaction) {owns : Bool} (t : ℕ) (row : Transaction) → find (is_of t) rows ≡ Some row → checked_by rows owns (Commit t) ≡ None → row.mark ≡ Going
-commit_mark rows {owns = owns} t row found is = going_by row.mark row refl (sym (ap (λ (o : Option Transaction). barred_to (mark_at o)) found) ∙ first_of (barred_to (mark_at (find (is_of t) rows))) (fault_if owns unfinished) is)
+pub commit_mark : (rows : List Transaction) (owns : Bool) (t : ℕ) (row : Transaction) → find (is_of t) rows ≡ Some row → checked_by rows owns (Commit t) ≡ None → row.mark ≡ Going
+commit_mark rows owns t row found is = going_by row.mark row refl (sym (ap (λ (o : Option Transaction). barred_to (mark_at o)) found) ∙ first_of (barred_to (mark_at (find (is_of t) rows))) (fault_if owns unfinished) is)
 
-pub commit_found : (rows : List Transaction) {owns : Bool} (t : ℕ) → find (is_of t) rows ≡ None → checked_by rows owns (Commit t) ≡ None → ⊥
-commit_found rows {owns = owns} t none is = let never = sym (ap (λ (o : Option Transaction). barred_to (mark_at o)) none) ∙ first_of (barred_to (mark_at (find (is_of t) rows))) (fault_if owns unfinished) is in cc never
+pub commit_found : (rows : List Transaction) (owns : Bool) (t : ℕ) → find (is_of t) rows ≡ None → checked_by rows owns (Commit t) ≡ None → ⊥
+commit_found rows owns t none is = let never = sym (ap (λ (o : Option Transaction). barred_to (mark_at o)) none) ∙ first_of (barred_to (mark_at (find (is_of t) rows))) (fault_if owns unfinished) is in cc never
 
 -- and of a Rollback
 back_by : (m : Mark) (row : Transaction) → row.mark ≡ m → barred_to_rollback (mark_at (Some row)) ≡ None → (row.mark ≡ Going) ⊎ (row.mark ≡ MustRollBack)
@@ -79,12 +79,12 @@ back_by MustRollBack row is none = inr is
 back_by RollingBack row is none = absurd (let never = sym (ap (λ (x : Mark). barred_to_rollback (mark_at (Some (record row { mark = x })))) is) ∙ none in cc never)
 back_by Committing row is none = absurd (let never = sym (ap (λ (x : Mark). barred_to_rollback (mark_at (Some (record row { mark = x })))) is) ∙ none in cc never)
 
-pub back_mark : (rows : List Transaction) {owns : Bool} (t : ℕ) (row : Transaction) → find (is_of t) rows ≡ Some row → checked_by rows owns (Rollback t) ≡ None → (row.mark ≡ Going) ⊎ (row.mark ≡ MustRollBack)
-back_mark rows {owns = owns} t row found is = back_by row.mark row refl (sym (ap (λ (o : Option Transaction). barred_to_rollback (mark_at o)) found) ∙ first_of (barred_to_rollback (mark_at (find (is_of t) rows))) (fault_if owns unfinished) is)
+pub back_mark : (rows : List Transaction) (owns : Bool) (t : ℕ) (row : Transaction) → find (is_of t) rows ≡ Some row → checked_by rows owns (Rollback t) ≡ None → (row.mark ≡ Going) ⊎ (row.mark ≡ MustRollBack)
+back_mark rows owns t row found is = back_by row.mark row refl (sym (ap (λ (o : Option Transaction). barred_to_rollback (mark_at o)) found) ∙ first_of (barred_to_rollback (mark_at (find (is_of t) rows))) (fault_if owns unfinished) is)
 
-pub back_found : (rows : List Transaction) {owns : Bool} (t : ℕ) → find (is_of t) rows ≡ None → checked_by rows owns (Rollback t) ≡ None → ⊥
-back_found rows {owns = owns} t none is = let never = sym (ap (λ (o : Option Transaction). barred_to_rollback (mark_at o)) none) ∙ first_of (barred_to_rollback (mark_at (find (is_of t) rows))) (fault_if owns unfinished) is in cc never
+pub back_found : (rows : List Transaction) (owns : Bool) (t : ℕ) → find (is_of t) rows ≡ None → checked_by rows owns (Rollback t) ≡ None → ⊥
+back_found rows owns t none is = let never = sym (ap (λ (o : Option Transaction). barred_to_rollback (mark_at o)) none) ∙ first_of (barred_to_rollback (mark_at (find (is_of t) rows))) (fault_if owns unfinished) is in cc never
 
 -- so it does not wait for a force
-pub access_free : (rows : List Transaction) {owns : Bool} (t : ℕ) (a : Access) → checked_by rows owns (Do t a) ≡ None → waits_at (find (is_of t) rows) ≡ false
-access_free rows t a is = let g = access_going rows t a is in ap waits_at g.found ∙ ap is_committing g.mark
+pub access_free : (rows : List Transaction) (owns : Bool) (t : ℕ) (a : Access) → checked_by rows owns (Do t a) ≡ None → waits_at (find (is_of t) rows) ≡ false
+access_free rows owns t a is = let g = access_going rows _ t a is in ap waits_at g.found ∙ ap is_committing g.mark

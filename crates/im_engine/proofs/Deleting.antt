@@ -1,5 +1,5 @@
 -- A delete of a key, from how the call below ended.
-use Rattle.std.proofs.Common.{◌≡◌, ◌≢◌, inl, inr, ⊎_elim, ℕ, ◌≤◌, List, true, false, cond, is_some, Option, Some, None, Result, Ok, Err, map, refl, sym, ap, subst, ◌∙◌}
+use Rattle.std.proofs.Common.{◌≡◌, ◌≢◌, inl, inr, ⊎_elim, ℕ, ◌≤◌, List, true, false, cond, is_some, Option, Some, None, Result, Ok, Err, map, refl, sym, ap, subst, ◌∙◌, Bool}
 use Rattle.std.specs.Prelude.{find}
 use Rattle.std.specs.FinMap.{get}
 use Rattle.im_base_types.specs.Answers as answers
@@ -24,10 +24,10 @@ use Rattle.im_base_txn.specs.declared.transaction.Mark.TheVariants.{Going, MustR
 use Rattle.im_base_txn.specs.declared.transaction.Transaction.{Transaction}
 use Rattle.im_base_txn.specs.Rows.{is_of, changed, with_mark, with_record}
 use Rattle.im_base_txn.proofs.LookUps.{look_ups_follow}
-use Rattle.im_theory_machine.specs.Locks.{IsFree}
+use Rattle.im_theory_machine.specs.Locks.{IsFree, Lock}
 use Rattle.im_theory_machine.specs.Rows.{asked}
 use Rattle.im_theory_machine.specs.Table.{Table, locks_of}
-use Rattle.im_theory_machine.specs.View.{View}
+use Rattle.im_theory_machine.specs.View.{View, owns_in}
 use Rattle.im_theory_machine.specs.Machine.{keys_fit}
 use Rattle.im_base_types.specs.declared.fault.Fault.TheVariants as faults
 use Rattle.im_base_steps.specs.declared.reply.Reply.TheVariants as replies
@@ -41,9 +41,10 @@ use Rattle.im_engine.specs.declared.engine.Engine.{Engine}
 use Rattle.im_engine.specs.Faults.{told_as, ends_engine}
 use Rattle.im_engine.specs.Running.{IsRunning, IsLife}
 use Rattle.im_engine.specs.Kept.{StepKept}
-use Rattle.im_engine.specs.Told.{DeleteFails}
+use Rattle.im_engine.specs.Told.{DeleteFails, DeleteWants}
 use Rattle.im_engine.proofs.Causes.{refused_inj}
 use Rattle.im_engine.proofs.Checked.{access_fits, access_going}
+use Rattle.im_base_steps.specs.declared.reply.Reply as said
 use Rattle.im_engine.specs.Aims.{under_of}
 use Rattle.im_engine.proofs.Running.{bodies_are, nobody_owner}
 use Rattle.im_engine.proofs.Refused.{KeepsLocks}
@@ -54,22 +55,22 @@ pub no_wants : (stepped : Bool) → stepped ≡ false → (pages : Pages) (m : I
 no_wants stepped plain pages m Idle locks t key reply not no_more = record { fails = λ is. absurd (not is); at_once = λ _ _. plain; begun = λ is. absurd (no_more is) }
 
 -- the row that was found is the row of the step
-pub access_mark : (rows : List Transaction) {owns : Bool} (t : ℕ) (a : answers.Access) (row : Transaction) → find (is_of t) rows ≡ Some row → checked_by rows owns (Do t a) ≡ None → row.mark ≡ Going
-access_mark rows t a row found checked =
-    let going = access_going rows t a checked in
+pub access_mark : (rows : List Transaction) (owns : Bool) (t : ℕ) (a : answers.Access) (row : Transaction) → find (is_of t) rows ≡ Some row → checked_by rows owns (Do t a) ≡ None → row.mark ≡ Going
+access_mark rows owns t a row found checked =
+    let going = access_going rows _ t a checked in
     let both : Some going.row ≡ Some row = sym going.found ∙ found in
     let same : going.row ≡ row = cc both in
     subst (λ (x : Transaction). x.mark ≡ Going) same going.mark
 
 module _ {D : Type 0} (d : Ghosts D) (old : Engine D d) (t : ℕ) (key : Key) (row : Transaction) (found : find (is_of t) old.txns.rows ≡ Some row) (checked : checked_by old.txns.rows (owns_in (under_of old.under) (Do t (Delete key))) (Do t (Delete key)) ≡ None) (plain : old.under ≡ None) where
   mark : row.mark ≡ Going
-  mark = access_mark old.txns.rows t (Delete key) row found checked
+  mark = access_mark old.txns.rows _ t (Delete key) row found checked
 
   number : row.number ≡ t
   number = look_ups_follow.found t old.txns.rows row found
 
   fits : keys_fit (Delete key) ≡ true
-  fits = access_fits old.txns.rows t (Delete key) checked
+  fits = access_fits old.txns.rows _ t (Delete key) checked
 
   module _ (locks : Table) (w : PageWriter) (disk : D) where
     -- what the call below kept, whatever it stood on

@@ -43,7 +43,7 @@ use Rattle.im_theory_machine.specs.Changing.{MatchesWithKept}
 use Rattle.im_theory_machine.specs.Table.{Table, Decides, locks_of, lasting_of}
 use Rattle.im_theory_machine.specs.declared.verdict.Verdict.{Verdict}
 use Rattle.im_theory_machine.specs.declared.verdict.Verdict.TheVariants.{Granted, Wait, Die as MustDie}
-use Rattle.im_theory_machine.specs.View.{View, did, locks_in, marked, owner_in}
+use Rattle.im_theory_machine.specs.View.{View, did, locks_in, marked, owner_in, owns_in}
 use Rattle.im_theory_machine.specs.Machine.{Wants, barred, keys_fit}
 use Rattle.im_base_types.specs.declared.fault.Fault.TheVariants as faults
 use Rattle.im_base_types.specs.Faults.{number_of}
@@ -291,7 +291,7 @@ module _ {D : Type 0} (d : Ghosts D) {b : Base} (before : List Effect) (s : Show
         subst (λ (y : Reply). StepKept d before s v (Do t a) y old new) (ap (answer a) walk_of ∙ says)
         (grown_made d before s v (did v t a (lasting_of new.locks t)) (Do t a) (answer a v.walk) old new r old.txns refl ev
         (λ longer stays all. reads_served b r.earlier before s v r.now.log longer old.txns.rows old.txns.next old.locks new.locks t row a r.serving found mark free fits (ap (changes a) walk_of ∙ none) (decided_here a Granted new.locks decides) stays all)
-        (asks_nothing s t a v) refl table refl (edit_stops new.disk stops) works tt (λ longer images. read_grows b t r.now.log longer images a v.walk (ap (changes a) walk_of ∙ none)) stays)
+        (asks_nothing s t a v) refl table refl (edit_stops new.disk stops) works tt (λ longer images. read_grows (under_of old.under) (under_of new.under) b t r.now.log longer images a v.walk (ap (changes a) walk_of ∙ none)) stays)
 
     -- it has to wait
     pub blocked : (holder : ℕ) → Decides old.locks t (asked a (contents b r.now.log)) (Wait holder) new.locks → Evicted d b r.base r.now old.disk new.writer new.disk → new.txns ≡ old.txns → new.failed ≡ false → StepKept d before s v (Do t a) (Blocked holder) old new

@@ -1,5 +1,5 @@
 -- Transactions that begin and end, and the force of the log.
-use Rattle.std.proofs.Common.{◌≡◌, ◌⊎◌, inl, inr, ℕ, suc, ◌+◌, ◌≤◌, ◌<◌, ◌^◌, List, [], ◌∷◌, ◌++◌, append-nil, Bool, true, false, Option, Some, None, Result, Ok, length, refl, sym, ap, subst, ◌∙◌, arith}
+use Rattle.std.proofs.Common.{◌≢◌, ◌≡◌, ◌⊎◌, inl, inr, ℕ, suc, ◌+◌, ◌≤◌, ◌<◌, ◌^◌, List, [], ◌∷◌, ◌++◌, append-nil, Bool, true, false, Option, Some, None, Result, Ok, length, refl, sym, ap, subst, ◌∙◌, arith}
 use Rattle.std.specs.Prelude.{find, map, nat_lt, not, if◌then◌else◌}
 use Rattle.std.proofs.lemmas.Bool.{ltb-true}
 use Rattle.im_base_types.specs.Faults.{number_of}
@@ -14,7 +14,7 @@ use Rattle.im_base_types.specs.Answers as answers
 use Rattle.im_base_types.specs.Answers.{Begin, Started, Commit, Committed, Rollback, RolledBack, More, Force, FlushPage, Done, Refused}
 use Rattle.im_base_types.specs.Changes.{Effect, apply_all, seen, seen_effect}
 use Rattle.im_theory_log.specs.Histories.{Base, History, Rises, end_of}
-use Rattle.im_theory_log.specs.Lawful.{IsLawful, Follows}
+use Rattle.im_theory_log.specs.Lawful.{IsLawful, Follows, IsOutside}
 use Rattle.im_theory_log.specs.Structure.{open_smo}
 use Rattle.im_theory_log.proofs.LogLaws.{logs_stay_lawful}
 use Rattle.im_theory_log.specs.Transactions.{committed, last_of, to_undo, net, changes_of, is_finished, is_rolling_back}
@@ -42,7 +42,7 @@ use Rattle.im_base_txn.specs.LookUps.{without}
 use Rattle.im_base_txn.specs.declared.transaction.Mark.TheVariants.{Going, MustRollBack, RollingBack, Committing}
 use Rattle.im_base_txn.specs.declared.transaction.Transaction.{Transaction}
 use Rattle.im_theory_machine.specs.Table.{Table, AreReleased, IsReleased, locks_of}
-use Rattle.im_theory_machine.specs.View.{View, begun, marked, committed_by, dropped_by, queued, forced_by, is_among}
+use Rattle.im_theory_machine.specs.View.{View, begun, marked, committed_by, dropped_by, queued, forced_by, is_among, owns_in, pending_of, owner_in, owner_of}
 use Rattle.im_theory_machine.specs.Machine.{Breaks, barred, fault_if}
 use Rattle.im_theory_steps.specs.Checks.{checked_by}
 use Rattle.im_theory_steps.specs.Durable.{AreCommitted}
@@ -223,8 +223,8 @@ module _ {D : Type 0} (d : Ghosts D) (before : List Effect) (s : Shown) (v : Vie
   -- what a Commit asks, of a transaction that logged nothing
   module _ (t : ℕ) (row : Transaction) (found : find (is_of t) old.txns.rows ≡ Some row) (mark : row.mark ≡ Going) (released : IsReleased old.locks t new.locks) (once : length old.txns.rows ≡ length (without t old.txns.rows) + 1)
       (table : new.txns ≡ record old.txns { rows = without t old.txns.rows }) (works_on : new.failed ≡ false) (unowned : pending_of (under_of old.under) t ≡ None) (stays : new.under ≡ old.under) where
-    free : owner_in v ≢ Some t
-    free = not_owner d before s v old run.1 t row found (never_rolls row.mark (inl mark)) unowned
+    its_free : owner_in v ≢ Some t
+    its_free = not_owner d before s v old run.1 t row found (never_rolls row.mark (inl mark)) unowned
 
     abbrev after : Numbered
     after = record old.txns { rows = without t old.txns.rows }
@@ -235,7 +235,7 @@ module _ {D : Type 0} (d : Ghosts D) (before : List Effect) (s : Shown) (v : Vie
     ended none writer disk only_now =
         let r = run.1 in
         let rises = rises_of run.0 page_tree r.now.log r.lawful in
-        let served = unlogged_commits_served run.0 r.earlier before s v r.now.log old.txns.rows old.txns.next old.locks new.locks t row r.serving rises found mark free none released once in
+        let served = unlogged_commits_served run.0 r.earlier before s v r.now.log old.txns.rows old.txns.next old.locks new.locks t row r.serving rises found mark its_free none released once in
         let shown = shows s (Commit t) (Some Committed) in
         let w = committed_by v t in
         let is = at run.0 r.earlier before s v r.now.log old.txns.rows old.txns.next old.locks r.serving t row found (mark_free row.mark Going mark (λ x. cc x)) in
@@ -253,12 +253,12 @@ module _ {D : Type 0} (d : Ghosts D) (before : List Effect) (s : Shown) (v : Vie
   -- a Commit that was logged
   module _ (t : ℕ) (row : Transaction) (found : find (is_of t) old.txns.rows ≡ Some row) (mark : row.mark ≡ Going) (some : 1 ≤ row.last) (lsn : ℕ) (x : PageWriter) (mid : D) (logged : LoggedOnly d run.0 run.1.base run.1.now (entries.Commit t row.last) lsn x mid)
       (unowned : pending_of (under_of old.under) t ≡ None) where
-    free : owner_in v ≢ Some t
-    free = not_owner d before s v old run.1 t row found (never_rolls row.mark (inl mark)) unowned
+    left_free : owner_in v ≢ Some t
+    left_free = not_owner d before s v old run.1 t row found (never_rolls row.mark (inl mark)) unowned
 
     -- the open structure change is another's
     out : IsOutside t (open_smo run.1.now.log)
-    out = outside_of d before s v old run.1 t free
+    out = outside_of d before s v old run.1 t left_free
 
     abbrev longer : History
     longer = commit_record t row.last lsn ∷ run.1.now.log
@@ -273,13 +273,13 @@ module _ {D : Type 0} (d : Ghosts D) (before : List Effect) (s : Shown) (v : Vie
 
     -- the structure change under way goes on beside it
     goes_behind : IsLawful run.0 page_tree longer → IsChanging run.0 old.under longer
-    goes_behind law = record_goes run.0 old.under (commit_record t row.last lsn) run.1.now.log law refl (λ u is same. free (ap owner_of (run.1.same ∙ ap under_of is) ∙ ap (λ (n : ℕ). Some n) (sym same))) refl refl run.1.changing
+    goes_behind law = record_goes run.0 old.under (commit_record t row.last lsn) run.1.now.log law refl (λ u is same. left_free (ap owner_of (run.1.same ∙ ap under_of is) ∙ ap (λ (n : ℕ). Some n) (sym same))) refl refl run.1.changing
 
     -- as long as it is not acknowledged, it may be left or not
     asked_on : AreCommitted run.1.earlier before (shows s (Commit t) None).asked logged.durable longer
     asked_on =
         let r = run.1 in
-        let cut = cut_commits_stand run.0 r.earlier before s v r.now.log longer r.now.durable old.txns.rows old.txns.next old.locks t row r.serving found mark some free
+        let cut = cut_commits_stand run.0 r.earlier before s v r.now.log longer r.now.durable old.txns.rows old.txns.next old.locks t row r.serving found mark some left_free
         (commit_commits run.0 r.now.log (commit_record t row.last lsn) t refl refl) r.commits in
         commits_stand.more r.earlier before (shows s (Commit t) None).asked r.now.durable longer logged.durable cut (record { from = logged.grows; upto = logged.stands.writing.stands.kept.front })
 
@@ -295,7 +295,7 @@ module _ {D : Type 0} (d : Ghosts D) (before : List Effect) (s : Shown) (v : Vie
         → IsReleased old.locks t new.locks → length old.txns.rows ≡ length (without t old.txns.rows) + 1 → new.txns ≡ record old.txns { rows = without t old.txns.rows } → new.failed ≡ false → new.under ≡ old.under → StepKept d before s v (Commit t) Committed old new
     committed_on rising alone on stops released once table works_on stays =
         let r = run.1 in
-        let law = logged_commits_served page_tree page_tree_laws run.0 r.earlier before s v r.now.log old.txns.rows old.txns.next old.locks new.locks t lsn row r.serving found mark some free r.lawful out logged.high (nobody run.0 r.earlier before s v r.now.log old.txns.rows old.txns.next old.locks r.serving rising alone) released once in
+        let law = logged_commits_served page_tree page_tree_laws run.0 r.earlier before s v r.now.log old.txns.rows old.txns.next old.locks new.locks t lsn row r.serving found mark some left_free r.lawful out logged.high (nobody run.0 r.earlier before s v r.now.log old.txns.rows old.txns.next old.locks r.serving rising alone) released once in
         let shown = shows s (Commit t) (Some Committed) in
         let w = committed_by v t in
         let is = at run.0 r.earlier before s v r.now.log old.txns.rows old.txns.next old.locks r.serving t row found (mark_free row.mark Going mark (λ x. cc x)) in
@@ -324,7 +324,7 @@ module _ {D : Type 0} (d : Ghosts D) (before : List Effect) (s : Shown) (v : Vie
         → StepKept d before s v (Commit t) More old new
     queued_on writer disk run_stops locks table works_on stays =
         let r = run.1 in
-        let law = logged_commits_wait page_tree page_tree_laws run.0 r.earlier before s v r.now.log old.txns.rows old.txns.next old.locks t lsn row r.serving found mark some free r.lawful out logged.high in
+        let law = logged_commits_wait page_tree page_tree_laws run.0 r.earlier before s v r.now.log old.txns.rows old.txns.next old.locks t lsn row r.serving found mark some left_free r.lawful out logged.high in
         let shown = shows s (Commit t) (Some More) in
         let w = queued v t in
         let is = at run.0 r.earlier before s v r.now.log old.txns.rows old.txns.next old.locks r.serving t row found (mark_free row.mark Going mark (λ x. cc x)) in

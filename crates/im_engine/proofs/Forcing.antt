@@ -1,5 +1,5 @@
 -- A Checkpoint: its record joins the log behind a sync of the file of pages, and every record is durable.
-use Rattle.std.proofs.Common.{◌≡◌, inl, inr, ℕ, ◌≤◌, ◌<◌, ◌^◌, List, ◌∷◌, true, false, Option, Some, None, refl, sym, ap, subst, ◌∙◌}
+use Rattle.std.proofs.Common.{◌≡◌, inl, inr, ℕ, ◌≤◌, ◌<◌, ◌^◌, List, ◌∷◌, true, false, Option, Some, None, refl, sym, ap, subst, ◌∙◌, arith}
 use Rattle.std.specs.Prelude.{◌⊎◌}
 use Rattle.im_base_types.specs.Answers.{Checkpoint, Done, Refused}
 use Rattle.im_base_types.specs.Changes.{Effect}

@@ -15,7 +15,7 @@ use Rattle.im_engine.specs.Growing.{GrowsAs}
 pub no_images : (b : Base) (log : History) → GrowsByImages b log log
 no_images b log = record { images = []; is = refl; all = tt }
 
-module _ {was now : Option Under} (b : Base) (t : ℕ) (older longer : History) (images : GrowsByImages b older longer) where
+module _ (was now : Option Under) (b : Base) (t : ℕ) (older longer : History) (images : GrowsByImages b older longer) where
   found_grows : (a : Access) (o : Option ℕ) → GrowsAs b was now (answers.found o) (Do t a) older longer
   found_grows a None = images
   found_grows a (Some r) = images

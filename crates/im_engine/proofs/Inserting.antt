@@ -1,5 +1,5 @@
 -- An insert of a key, from how the call below ended.
-use Rattle.std.proofs.Common.{◌≡◌, ◌≢◌, ◌⊎◌, inl, inr, ⊎_elim, ℕ, ◌≤◌, List, [], ◌∷◌, ◌++◌, true, false, cond, is_some, Option, Some, None, Result, Ok, Err, map, refl, sym, ap, subst, ◌∙◌}
+use Rattle.std.proofs.Common.{◌≡◌, ◌≢◌, ◌⊎◌, inl, inr, ⊎_elim, ℕ, ◌≤◌, List, [], ◌∷◌, ◌++◌, true, false, cond, is_some, Option, Some, None, Result, Ok, Err, map, refl, sym, ap, subst, ◌∙◌, Bool}
 use Rattle.std.specs.Prelude.{find}
 use Rattle.std.specs.FinMap.{get}
 use Rattle.im_base_types.specs.Answers as answers
@@ -41,7 +41,7 @@ use Rattle.im_theory_machine.specs.Locks.{Lock, IsFree}
 use Rattle.im_theory_machine.specs.Rows.{asked}
 use Rattle.im_theory_machine.specs.Table.{Table, Decides, locks_of, lasting_of}
 use Rattle.im_theory_machine.specs.declared.verdict.Verdict.TheVariants.{Granted as GrantedAll}
-use Rattle.im_theory_machine.specs.View.{View, did}
+use Rattle.im_theory_machine.specs.View.{View, did, owns_in}
 use Rattle.im_theory_machine.specs.Machine.{Breaks, barred, keys_fit}
 use Rattle.im_base_types.specs.declared.fault.Fault.TheVariants as faults
 use Rattle.im_base_steps.specs.declared.reply.Reply as said
@@ -248,7 +248,7 @@ module _ {D : Type 0} (d : Ghosts D) (old : Engine D d) (locks : Table) (writer 
     Here result = InsertKept d b r.base r.now r.redo_end t key rid old.max_pages old.locks locks old.disk writer disk result
 
     mark : row.mark ≡ Going
-    mark = access_mark old.txns.rows t (Insert key rid) row found checked
+    mark = access_mark old.txns.rows _ t (Insert key rid) row found checked
 
     number : row.number ≡ t
     number = look_ups_follow.found t old.txns.rows row found
@@ -328,10 +328,10 @@ module _ {D : Type 0} (d : Ghosts D) (old new : Engine D d) (t : ℕ) (key : Key
     Now result = Here d old new.locks new.writer new.disk t key rid row found checked plain at_once before s v r result
 
     its_mark : row.mark ≡ Going
-    its_mark = access_mark old.txns.rows t (Insert key rid) row found checked
+    its_mark = access_mark old.txns.rows _ t (Insert key rid) row found checked
 
     fits : keys_fit (Insert key rid) ≡ true
-    fits = access_fits old.txns.rows t (Insert key rid) checked
+    fits = access_fits old.txns.rows _ t (Insert key rid) checked
 
     kept_now : (result : Result (LockAnswer (Option Noted)) Fault) → Under result → Now result
     kept_now result below = kept_here d old new.locks new.writer new.disk t key rid row found checked plain at_once before s v r result below
@@ -369,7 +369,7 @@ module _ {D : Type 0} (d : Ghosts D) (old new : Engine D d) (t : ℕ) (key : Key
   insert_refused before s v life works counts_now f below ends fails table same told is =
       let r = (life.running works).1 in
       let kept = kept_now before s v r (Err f) below in
-      insert_stopped d before s v t key rid old new life works checked counts_now stays f ends (edit_stops d before s v old r t row found (access_mark old.txns.rows t (Insert key rid) row found checked) (nobody_owner d before s v old r plain t) new.disk kept.stops) kept.sound fails table same told is
+      insert_stopped d before s v t key rid old new life works checked counts_now stays f ends (edit_stops d before s v old r t row found (access_mark old.txns.rows _ t (Insert key rid) row found checked) (nobody_owner d before s v old r plain t) new.disk kept.stops) kept.sound fails table same told is
 
 -- ---- as `IsAnswered` has it
 

@@ -1,6 +1,6 @@
 -- How a step goes on with the structure change under way, where it leaves it as it is; and what its owner is never told.
 use Rattle.std.proofs.Common.{◌≡◌, ◌≢◌, ◌⊎◌, inl, inr, ℕ, Bool, true, false, cond, is_some, Option, None, Some, refl, sym, ap, subst, ◌∙◌, ◌==◌}
-use Rattle.std.proofs.lemmas.Bool.{eqb-eq}
+use Rattle.std.proofs.lemmas.Bool.{eqb-true}
 use Rattle.im_base_types.specs.Answers as answers
 use Rattle.im_base_types.specs.Answers.{Step, Begin, Do, Commit, Rollback, Continue, FlushPage, Force, Checkpoint, Switch}
 use Rattle.im_base_types.specs.Maps.{IndexMap}
@@ -100,7 +100,7 @@ owns_by false a is = absurd (cc is)
 pub owner_stays : (u : Under) (reply : Reply) (t : ℕ) → is_some (pending_of (under_of (Some u)) t) ≡ true → (u.begun.change.transaction ≡ t → IsRefusal reply ⊎ ((reply ≡ replies.More) ⊎ EndsAs u.aim reply)) → reply ≡ replies.RolledBack → ⊥
 owner_stays u reply t owns told rolled =
     let by = owns_by (u.begun.change.transaction == t) (pending_for (aim_of u.aim)) owns in
-    elim (told (eqb-eq u.begun.change.transaction t by.0)) [
+    elim (told (eqb-true u.begun.change.transaction t by.0)) [
       | inl refused ↦ no_refusal reply refused rolled
       | inr (inl more) ↦ (let clash : replies.More ≡ replies.RolledBack = sym more ∙ rolled in cc clash)
       | inr (inr ends) ↦ ends_other u.aim reply by.1 ends rolled

@@ -55,7 +55,7 @@ module _ {D : Type 0} (d : Ghosts D) (before : List Effect) (s : Shown) (v : Vie
   run = life.running works
 
   going : IsGoing old.txns.rows t
-  going = access_going old.txns.rows t a checked
+  going = access_going old.txns.rows _ t a checked
 
   -- who has no structure change under way
   free : owner_in v ≢ Some t
@@ -73,8 +73,8 @@ module _ {D : Type 0} (d : Ghosts D) (before : List Effect) (s : Shown) (v : Vie
       let now = subst (λ (y : LockAnswer X). IsRead says t a v.walk old.locks new.locks y) is read in
       subst (λ (y : Reply). StepKept d before s v (Do t a) y old new) (sym now.says ∙ told)
       (grown_made d before s v (did v t a (lasting_of new.locks t)) (Do t a) (answer a v.walk) old new run.1 old.txns refl (read_on d before s v old run.1 new.writer new.disk one.ends)
-      (λ longer stays all. reads_served run.0 run.1.earlier before s v run.1.now.log longer old.txns.rows old.txns.next old.locks new.locks t going.row a run.1.serving going.found going.mark free (access_fits old.txns.rows t a checked) none now.decides stays all)
-      (asks_nothing s t a v) refl table refl (read_stops d before s v old run.1 new.writer new.disk one) works_on tt (λ longer images. read_grows run.0 t run.1.now.log longer images a v.walk none) stays)
+      (λ longer stays all. reads_served run.0 run.1.earlier before s v run.1.now.log longer old.txns.rows old.txns.next old.locks new.locks t going.row a run.1.serving going.found going.mark free (access_fits old.txns.rows _ t a checked) none now.decides stays all)
+      (asks_nothing s t a v) refl table refl (read_stops d before s v old run.1 new.writer new.disk one) works_on tt (λ longer images. read_grows (under_of old.under) (under_of new.under) run.0 t run.1.now.log longer images a v.walk none) stays)
 
   -- it has to wait
   pub waits : {X : Type 0} (says : X → Reply) (o : LockAnswer X) → IsRead says t a v.walk old.locks new.locks o → (holder : ℕ) → o ≡ AnswerWait holder → AsksLocks d old.writer old.disk new.writer new.disk None → new.txns ≡ old.txns → new.failed ≡ false → new.under ≡ old.under
@@ -82,7 +82,7 @@ module _ {D : Type 0} (d : Ghosts D) (before : List Effect) (s : Shown) (v : Vie
   waits {X} says o read holder is one table works_on stays =
       let decides : Decides old.locks t (asked a v.walk) (Wait holder) new.locks = (subst (λ (y : LockAnswer X). IsRead says t a v.walk old.locks new.locks y) is read).decides in
       grown_made d before s v v (Do t a) (Blocked holder) old new run.1 old.txns refl (read_on d before s v old run.1 new.writer new.disk one.ends)
-      (λ longer stays all. waits_served run.0 run.1.earlier before s v run.1.now.log longer old.txns.rows old.txns.next old.locks new.locks t holder going.row a run.1.serving going.found going.mark free (access_fits old.txns.rows t a checked) decides stays all)
+      (λ longer stays all. waits_served run.0 run.1.earlier before s v run.1.now.log longer old.txns.rows old.txns.next old.locks new.locks t holder going.row a run.1.serving going.found going.mark free (access_fits old.txns.rows _ t a checked) decides stays all)
       (waits_ask_nothing s t holder a) refl table refl (read_stops d before s v old run.1 new.writer new.disk one) works_on tt (λ longer images. images) stays
 
   -- its transaction must die
@@ -91,7 +91,7 @@ module _ {D : Type 0} (d : Ghosts D) (before : List Effect) (s : Shown) (v : Vie
   dies {X} says o read is one table works_on stays =
       let decides : Decides old.locks t (asked a v.walk) MustDie new.locks = (subst (λ (y : LockAnswer X). IsRead says t a v.walk old.locks new.locks y) is read).decides in
       grown_made d before s v (marked v t answers.MustRollBack) (Do t a) Die old new run.1 (record old.txns { rows = map (changed t (with_mark MustRollBack)) old.txns.rows }) refl (read_on d before s v old run.1 new.writer new.disk one.ends)
-      (λ longer stays all. dies_served run.0 run.1.earlier before s v run.1.now.log longer old.txns.rows old.txns.next old.locks new.locks t going.row a run.1.serving going.found going.mark free (access_fits old.txns.rows t a checked) decides stays all)
+      (λ longer stays all. dies_served run.0 run.1.earlier before s v run.1.now.log longer old.txns.rows old.txns.next old.locks new.locks t going.row a run.1.serving going.found going.mark free (access_fits old.txns.rows _ t a checked) decides stays all)
       (dies_ask_nothing s t a) refl table refl (read_stops d before s v old run.1 new.writer new.disk one) works_on tt (λ longer images. images) stays
 
   -- a call below refused it

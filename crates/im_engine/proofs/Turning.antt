@@ -53,7 +53,7 @@ use Rattle.im_base_steps.specs.declared.reply.Reply.{Reply}
 use Rattle.im_base_steps.specs.declared.reply.Reply.TheVariants as replies
 use Rattle.im_base_types.specs.Faults.{number_of}
 use Rattle.im_theory_machine.specs.Table.{Table, IsReleased, locks_of, lasting_of}
-use Rattle.im_theory_machine.specs.View.{View, owner_in, of_others, undid_more, undid_last}
+use Rattle.im_theory_machine.specs.View.{View, owner_in, of_others, undid_more, undid_last, owner_of, owns_in}
 use Rattle.im_theory_machine.specs.Machine.{barred, barred_to_continue}
 use Rattle.im_theory_steps.specs.Checks.{checked_by, mark_at}
 use Rattle.im_theory_steps.specs.Growth.{AreBelow, AreWithin, GrowsWithin, IsWithin}

@@ -1,5 +1,5 @@
 -- Which records join the log in a step.
-use Rattle.std.specs.Prelude.{◌≡◌, ◌≢◌, ◌≤◌, ℕ, ◌∷◌, length, Option, None, Some}
+use Rattle.std.specs.Prelude.{◌≡◌, ◌≢◌, ◌≤◌, ℕ, false, ◌∷◌, length, Option, None, Some}
 use Rattle.im_base_types.specs.Answers.{Step, Reply, Do, Insert, Delete, Commit, Rollback, Continue, Force, Checkpoint, Switch, Started, Inserted, Deleted, Committed, RolledBack, More, Done}
 use Rattle.im_base_types.specs.Keys.{Key}
 use Rattle.im_base_types.specs.Pages.{Body}

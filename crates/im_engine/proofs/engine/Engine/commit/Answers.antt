@@ -29,12 +29,12 @@ fits_so used not_full = omega (arith, not_full)
 pub end-requires : goal.end-requires
 end-requires g c =
     let found = sym c.in-Some.ensures.found in
-    not_waiting c.args.self.now.txns.rows c.args.t c.in-Some.row found (ap is_committing (commit_mark c.args.self.now.txns.rows c.args.t c.in-Some.row found c.requires.checked))
+    not_waiting c.args.self.now.txns.rows c.args.t c.in-Some.row found (ap is_committing (commit_mark c.args.self.now.txns.rows _ c.args.t c.in-Some.row found c.requires.checked))
 
 pub end-requires-2 : goal.end-requires-2
 end-requires-2 g c =
     let found = sym c.in-Some.ensures.found in
-    not_waiting c.args.self.now.txns.rows c.args.t c.in-Some.row found (ap is_committing (commit_mark c.args.self.now.txns.rows c.args.t c.in-Some.row found c.requires.checked))
+    not_waiting c.args.self.now.txns.rows c.args.t c.in-Some.row found (ap is_committing (commit_mark c.args.self.now.txns.rows _ c.args.t c.in-Some.row found c.requires.checked))
 
 pub returns-then-row-eq0 : goal.returns-then-row-eq0
 returns-then-row-eq0 g c =
@@ -42,7 +42,7 @@ returns-then-row-eq0 g c =
     let found = sym c.in-Some.ensures.found in
     record {
       kept = λ before s v life.
-          ended g.D.Disk before s v old _ life c.requires.works c.args.t c.in-Some.row found (commit_mark old.txns.rows c.args.t c.in-Some.row found c.requires.checked)
+          ended g.D.Disk before s v old _ life c.requires.works c.args.t c.in-Some.row found (commit_mark old.txns.rows _ c.args.t c.in-Some.row found c.requires.checked)
           c.release_all.ensures (c.end.ensures.one c.in-Some.row found ∙ ap (λ (x : Numbered). length x.rows + 1) c.end.ensures.left) c.end.ensures.left c.requires.works (none_if (pending_of (under_of old.under) c.args.t) (commit_unowned old.txns.rows c.args.t c.requires.checked)) refl
           (omega (arith, c.if-row-eq0.true)) refl refl (g.met.D.Disk.only_now old.disk);
       told =
@@ -108,14 +108,14 @@ pub wait-requires-clause-there : goal.wait-requires-clause-there
 wait-requires-clause-there g c =
     let old = c.args.self.now in
     let found = sym c.in-Some.ensures.found in
-    (c.in-Some.row, found, ap is_committing (commit_mark old.txns.rows c.args.t c.in-Some.row found c.requires.checked))
+    (c.in-Some.row, found, ap is_committing (commit_mark old.txns.rows _ c.args.t c.in-Some.row found c.requires.checked))
 
 pub returns-then-group : goal.returns-then-group
 returns-then-group g c =
     let old = c.args.self.now in
     let found = sym c.in-Some.ensures.found in
     let row = c.in-Some.row in
-    let mark = commit_mark old.txns.rows c.args.t row found c.requires.checked in
+    let mark = commit_mark old.txns.rows _ c.args.t row found c.requires.checked in
     let lsn = c.in_default-log_only.field-0 in
     let written = c.in_default-log_only.ensures in
     record {
@@ -162,7 +162,7 @@ returns-in-Err-force g c =
           let logged = c.in_default-log_only.ensures.kept b r.base r.now r.redo_end r.stands r.over (record { page = λ l p. refl; copy = λ l. refl; point = refl }) in
           let forced = c.in-Err-force.ensures.kept b r.base (record (appended (logged_at lsn (Commit c.args.t row.last)) r.now) { durable = logged.ok.durable }) logged.ok.stands in
           commit_refused g.D.Disk before s v old _ life c.requires.works c.args.t c.requires.checked c.in-Err-force.fault of c.told-in-Err-force.result c.told-in-Err-force.ensures refl
-          (commit_stops g.D.Disk before s v old old life c.requires.works c.args.t row found (commit_mark old.txns.rows c.args.t row found c.requires.checked) (omega (arith, c.if-row-eq0.false)) lsn c.log_only.new.self c.log_only.new.disk logged.ok (none_if (pending_of (under_of old.under) c.args.t) (commit_unowned old.txns.rows c.args.t c.requires.checked))
+          (commit_stops g.D.Disk before s v old old life c.requires.works c.args.t row found (commit_mark old.txns.rows _ c.args.t row found c.requires.checked) (omega (arith, c.if-row-eq0.false)) lsn c.log_only.new.self c.log_only.new.disk logged.ok (none_if (pending_of (under_of old.under) c.args.t) (commit_unowned old.txns.rows c.args.t c.requires.checked))
           c.force.new.disk logged.stops forced.stops)
           (λ t f le left. g.met.D.Disk.counts_now c.force.new.disk t f le left);
       told =
@@ -193,7 +193,7 @@ returns g c =
     let old = c.args.self.now in
     let found = sym c.in-Some.ensures.found in
     let row = c.in-Some.row in
-    let mark = commit_mark old.txns.rows c.args.t row found c.requires.checked in
+    let mark = commit_mark old.txns.rows _ c.args.t row found c.requires.checked in
     let lsn = c.in_default-log_only.field-0 in
     let written = c.in_default-log_only.ensures in
     let synced = c.in_default-force.ensures in

@@ -16,7 +16,7 @@ use Rattle.im_engine.proofs.Paced.{paced_alone}
 use Rattle.im_engine.proofs.engine.Engine.fetch.Goals as goal
 
 pub set_mark-requires-clause-before : goal.set_mark-requires-clause-before
-set_mark-requires-clause-before g c = access_free c.args.self.now.txns.rows c.args.t (answers.Fetch c.args.key.now) c.requires.checked
+set_mark-requires-clause-before g c = access_free c.args.self.now.txns.rows _ c.args.t (answers.Fetch c.args.key.now) c.requires.checked
 
 pub returns-in-Some : goal.returns-in-Some
 returns-in-Some g c =

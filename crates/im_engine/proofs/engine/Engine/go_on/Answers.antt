@@ -8,7 +8,7 @@ use Rattle.im_base_types.specs.declared.fault.Fault.TheVariants as faults
 use Rattle.im_engine.proofs.Causes.{refused_inj}
 use Rattle.im_engine.proofs.Telling.{not_true, told_answered, told_refused, told_rolled_back}
 use Rattle.im_engine.proofs.Running.{plain_under}
-use Rattle.im_engine.proofs.Turning.{alone_checked, continue_made, continue_mark, continue_refused, has_ended, has_more, has_more_to_undo, lacks_way, stands_going, told_capacity, told_failed, turn_lost, turn_refused, lacks_room, told_memory}
+use Rattle.im_engine.proofs.Turning.{alone_checked, continue_found, continue_made, continue_mark, continue_refused, has_ended, has_more, has_more_to_undo, lacks_way, stands_going, told_capacity, told_failed, turn_lost, turn_refused, lacks_room, told_memory}
 use Rattle.im_engine.proofs.Paced.{paced_alone}
 use Rattle.im_engine.proofs.engine.Engine.go_on.Goals as goal
 
@@ -16,6 +16,11 @@ pub end-requires : goal.end-requires
 end-requires g c =
     let found = sym c.in-Some.ensures.found in
     not_waiting c.args.self.now.txns.rows c.args.t c.in-Some.row found (ap is_committing (continue_mark c.args.self.now.txns.rows c.args.t c.in-Some.row found (alone_checked g.D.Disk c.args.self.now c.args.t (plain_under g.D.Disk c.args.self.now c.requires.plain) c.requires.checked)))
+
+pub returns-in_default : goal.returns-in_default
+returns-in_default g c =
+    let old = c.args.self.now in
+    absurd (continue_found old.txns.rows c.args.t (sym c.find.ensures.found ∙ c.in_default.is) (alone_checked g.D.Disk old c.args.t (plain_under g.D.Disk old c.requires.plain) c.requires.checked))
 
 pub returns-in-Ok-More : goal.returns-in-Ok-More
 returns-in-Ok-More g c =

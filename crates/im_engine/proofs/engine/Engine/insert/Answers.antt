@@ -20,7 +20,7 @@ pub insert-requires-clause-owner : goal.insert-requires-clause-owner
 insert-requires-clause-owner g c = subst (λ (n : ℕ). 1 ≤ n) (sym (look_ups_follow.found c.args.t c.args.self.now.txns.rows c.in-Some.row (sym c.in-Some.ensures.found))) c.in-Some.ensures.owned
 
 pub set_mark-requires-clause-before : goal.set_mark-requires-clause-before
-set_mark-requires-clause-before g c = access_free c.args.self.now.txns.rows c.args.t (answers.Insert c.args.key.now c.args.rid) c.requires.checked
+set_mark-requires-clause-before g c = access_free c.args.self.now.txns.rows _ c.args.t (answers.Insert c.args.key.now c.args.rid) c.requires.checked
 
 pub returns-in-Some-found : goal.returns-in-Some-found
 returns-in-Some-found g c =

@@ -24,12 +24,12 @@ free_mark m (inr e) = ap is_committing e
 pub set_mark-requires-clause-before : goal.set_mark-requires-clause-before
 set_mark-requires-clause-before g c =
     let found = sym c.in-Some.ensures.found in
-    not_waiting c.args.self.now.txns.rows c.args.t c.in-Some.row found (free_mark c.in-Some.row.mark (back_mark c.args.self.now.txns.rows c.args.t c.in-Some.row found c.requires.checked))
+    not_waiting c.args.self.now.txns.rows c.args.t c.in-Some.row found (free_mark c.in-Some.row.mark (back_mark c.args.self.now.txns.rows _ c.args.t c.in-Some.row found c.requires.checked))
 
 pub end-requires : goal.end-requires
 end-requires g c =
     let found = sym c.in-Some.ensures.found in
-    not_waiting c.args.self.now.txns.rows c.args.t c.in-Some.row found (free_mark c.in-Some.row.mark (back_mark c.args.self.now.txns.rows c.args.t c.in-Some.row found c.requires.checked))
+    not_waiting c.args.self.now.txns.rows c.args.t c.in-Some.row found (free_mark c.in-Some.row.mark (back_mark c.args.self.now.txns.rows _ c.args.t c.in-Some.row found c.requires.checked))
 
 pub returns-then-row-ne0 : goal.returns-then-row-ne0
 returns-then-row-ne0 g c =
@@ -37,7 +37,7 @@ returns-then-row-ne0 g c =
     let found = sym c.in-Some.ensures.found in
     record {
       kept = λ before s v life.
-          turned g.D.Disk before s v old _ life c.requires.works refl refl refl (g.met.D.Disk.only_now old.disk) c.args.t c.in-Some.row found (back_mark old.txns.rows c.args.t c.in-Some.row found c.requires.checked)
+          turned g.D.Disk before s v old _ life c.requires.works refl refl refl (g.met.D.Disk.only_now old.disk) c.args.t c.in-Some.row found (back_mark old.txns.rows _ c.args.t c.in-Some.row found c.requires.checked)
           (none_if (pending_of (under_of old.under) c.args.t) (back_unowned old.txns.rows c.args.t c.requires.checked))
           (omega (arith, c.if-row-ne0.true)) refl c.set_mark.ensures c.requires.works;
       told =
@@ -60,7 +60,7 @@ returns g c =
     let found = sym c.in-Some.ensures.found in
     record {
       kept = λ before s v life.
-          dropped g.D.Disk before s v old _ life c.requires.works refl refl refl (g.met.D.Disk.only_now old.disk) c.args.t c.in-Some.row found (back_mark old.txns.rows c.args.t c.in-Some.row found c.requires.checked)
+          dropped g.D.Disk before s v old _ life c.requires.works refl refl refl (g.met.D.Disk.only_now old.disk) c.args.t c.in-Some.row found (back_mark old.txns.rows _ c.args.t c.in-Some.row found c.requires.checked)
           (none_if (pending_of (under_of old.under) c.args.t) (back_unowned old.txns.rows c.args.t c.requires.checked))
           (omega (arith, c.if-row-ne0.false)) c.release_all.ensures (c.end.ensures.one c.in-Some.row found ∙ ap (λ (x : Numbered). length x.rows + 1) c.end.ensures.left) c.end.ensures.left c.requires.works;
       told =

@@ -19,7 +19,7 @@ use Rattle.im_engine.proofs.Paced.{paced_alone}
 use Rattle.im_engine.proofs.engine.Engine.scan.Goals as goal
 
 pub set_mark-requires-clause-before : goal.set_mark-requires-clause-before
-set_mark-requires-clause-before g c = access_free c.args.self.now.txns.rows c.args.t (answers.Scan c.args.lo.now c.args.hi.now c.args.limit) c.requires.checked
+set_mark-requires-clause-before g c = access_free c.args.self.now.txns.rows _ c.args.t (answers.Scan c.args.lo.now c.args.hi.now c.args.limit) c.requires.checked
 
 pub returns-in-Ok-Granted : goal.returns-in-Ok-Granted
 returns-in-Ok-Granted g c =

@@ -38,7 +38,7 @@ a_search t true key = refl
 a_search t false key = refl
 
 pub set_mark-requires-clause-before : goal.set_mark-requires-clause-before
-set_mark-requires-clause-before g c = access_free c.args.self.now.txns.rows c.args.t (seek_at c.args.inclusive c.args.key.now) c.requires.checked
+set_mark-requires-clause-before g c = access_free c.args.self.now.txns.rows _ c.args.t (seek_at c.args.inclusive c.args.key.now) c.requires.checked
 
 pub returns-in-Some : goal.returns-in-Some
 returns-in-Some g c =
