@@ -6,7 +6,7 @@ use Rattle.im_base_types.specs.Answers as answers
 use Rattle.im_base_types.specs.Answers.{Step, Refused}
 use Rattle.im_base_types.specs.Lives.{Shown}
 use Rattle.im_base_disk.specs.declared.disk.Disk.{Ghosts}
-use Rattle.im_base_types.specs.declared.fault.Fault.TheVariants.{Failed}
+use Rattle.im_base_types.specs.declared.fault.Fault.TheVariants.{Failed, Unfinished}
 use Rattle.im_theory_machine.specs.Locks.{Lock}
 use Rattle.im_theory_machine.specs.View.{View, broken}
 use Rattle.im_theory_store.specs.Store as front
@@ -27,7 +27,7 @@ use Rattle.im_engine.specs.Numbered.{Numbered}
 use Rattle.im_engine.specs.Looking.{Looks, broken_by}
 use Rattle.im_engine.specs.Told.{Known, after, known_of, IsStep}
 use Rattle.im_engine.specs.Serves.{IsStoreLife}
-use Rattle.im_engine.proofs.Looked.{not_true}
+use Rattle.im_engine.proofs.Looked.{not_true, looks_txns}
 
 -- a step that was refused leaves as many active
 refused_goes : (v w : View) (step : Step) (n : ℕ) → Goes v step (Refused n) w → w.active ≡ v.active

@@ -134,7 +134,7 @@ all_of l c =
 -- ---- an access that a later step ends
 
 -- what goes on behind a trace
-pend_all : (ℕ → Option Access) → List (Step × Reply) → ℕ → Option Access
+abbrev pend_all : (ℕ → Option Access) → List (Step × Reply) → ℕ → Option Access
 pend_all pend [] = pend
 pend_all pend (e ∷ es) = pend_all (λ s. pending_after s (pend s) e.0 e.1) es
 
@@ -227,7 +227,7 @@ module _ (v w : View) (t : ℕ) (a : Access) (reply : Reply) (is : is_answer rep
     ended_by (turns u c cs same may some told next) = absurd (cc same)
     ended_by (undoes u c d cs same rolling some told next) = no_answer reply More told refl is
     ended_by (ends u c same rolling one told next) = no_answer reply RolledBack told refl is
-    ended_by (puts_later u k r ls b at none lacks unheld same d e) = absurd (cc b)
+    ended_by (puts_later u k r ls b at none gone unheld same d e) = absurd (cc b)
     ended_by (puts u k r b at under d e) =
         let own : u ≡ t = cc b in
         let mine : v.under ≡ Some (record { owner = t; aim = Puts k r }) = under ∙ ap (λ (n : ℕ). Some (record { owner = n; aim = Puts k r })) own in

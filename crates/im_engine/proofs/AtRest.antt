@@ -39,6 +39,8 @@ use Rattle.im_restart_analysis.specs.Numbers.{IsNextNumber}
 use Rattle.im_restart_analysis.specs.Orderly.{IsCounted}
 use Rattle.im_restart.specs.Restart.{IsRestarted}
 use Rattle.im_restart.specs.declared.restarted.Restarted.{Restarted}
+use Rattle.im_engine.specs.declared.stepped.Under.{Under}
+use Rattle.im_engine.specs.Aims.{IsChanging, under_of}
 use Rattle.im_engine.specs.declared.engine.Engine.{Engine}
 use Rattle.im_engine.specs.Restarting.{IsAtRest}
 use Rattle.im_engine.specs.Running.{IsRunning, IsLife}

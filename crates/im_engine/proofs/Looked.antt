@@ -97,7 +97,7 @@ module _ {D : Type 0} (d : Ghosts D) (old new : Engine D d) where
   looks_of works why one = record {
     failed = (λ is. absurd (never_failed (old.working works) why one.writer.ends is), λ was. absurd (not_true old.failed works was));
     same = λ was. absurd (not_true old.failed works was);
-    unfinished = λ is. absurd (never_unfinished why one.writer.ends is);
+    unfinished = λ is. absurd (never_unfinished (old.working works) why one.writer.ends is);
     searched = λ _ _. record {
       cause = cause_of (old.working works) why one.writer.ends;
       device = device_of (old.working works) why one.writer.ends;

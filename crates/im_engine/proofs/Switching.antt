@@ -24,7 +24,7 @@ use Rattle.im_page_writer.specs.Switching.{LeftSwitching, Switched}
 use Rattle.im_page_writer.proofs.Switching.{in_file}
 use Rattle.im_restart_analysis.specs.Orderly.{IsCounted}
 use Rattle.im_theory_tree.specs.Theory.{page_tree}
-use Rattle.im_theory_machine.specs.View.{View, Under}
+use Rattle.im_theory_machine.specs.View.{View}
 use Rattle.im_theory_machine.specs.Machine.{Breaks, fault_if}
 use Rattle.im_theory_machine.specs.Table.{locks_of}
 use Rattle.im_theory_steps.specs.Checks.{checked_by}
@@ -39,6 +39,8 @@ use Rattle.im_engine.specs.Numbered.{Numbered}
 use Rattle.im_engine.specs.Stands.{Allowed}
 use Rattle.im_engine.specs.Running.{IsRunning, IsLife}
 use Rattle.im_engine.specs.Serves.{nobody_owns}
+use Rattle.im_engine.specs.declared.stepped.Under.{Under}
+use Rattle.im_engine.specs.Aims.{IsChanging, under_of}
 use Rattle.im_engine.specs.Kept.{StepKept}
 use Rattle.im_engine.proofs.Made.{step_broke_named}
 use Rattle.im_engine.proofs.Named.{allowed_nameless}

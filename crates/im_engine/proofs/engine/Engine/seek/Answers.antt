@@ -1,9 +1,11 @@
-use Rattle.std.proofs.Common.{◌≡◌, ℕ, Bool, true, false, List, refl, ap, ◌∙◌, length, rules}
+use Rattle.std.proofs.Common.{◌≡◌, ℕ, Bool, true, false, List, Option, refl, ap, ◌∙◌, length, rules}
 use Rattle.im_base_types.specs.Answers as answers
 use Rattle.im_base_types.specs.Maps.{IndexMap}
 use Rattle.im_theory_log.specs.Structure.{settled}
 use Rattle.im_theory_tree.specs.Levels.{Pages}
 use Rattle.im_base_steps.specs.declared.reply.Reply.{Reply}
+use Rattle.im_theory_machine.specs.View.{Under}
+use Rattle.im_engine.specs.Aims.{under_of}
 use Rattle.im_engine.specs.Told.{WantsOf}
 use Rattle.im_page_writer.specs.Outcome.{pages_of}
 use Rattle.im_page_writer.specs.PageWriter.{Evicted}
@@ -28,9 +30,9 @@ use Rattle.im_engine.proofs.Paced.{paced_alone}
 use Rattle.im_engine.proofs.engine.Engine.seek.Goals as goal
 
 -- neither wants anything
-seeks_want : (Idle : Type 0) (Begun : ℕ → Type 0) (pages : Pages) (map : IndexMap) (nets : ℕ → Effect) (locks : ℕ → List HeldLock) (max_pages t : ℕ) (inclusive : Bool) (key : List ℕ) (reply : Reply) → WantsOf pages map Idle Begun nets locks max_pages (answers.Do t (seek_at inclusive key)) reply
-seeks_want Idle Begun pages map nets locks max_pages t true key reply = tt
-seeks_want Idle Begun pages map nets locks max_pages t false key reply = tt
+seeks_want : (Idle : Type 0) (stepped : Bool) (was now : Option Under) (Begun : ℕ → Type 0) (pages : Pages) (map : IndexMap) (nets : ℕ → Effect) (locks : ℕ → List HeldLock) (max_pages t : ℕ) (inclusive : Bool) (key : List ℕ) (reply : Reply) → WantsOf pages map Idle stepped was now Begun nets locks max_pages (answers.Do t (seek_at inclusive key)) reply
+seeks_want Idle stepped was now Begun pages map nets locks max_pages t true key reply = tt
+seeks_want Idle stepped was now Begun pages map nets locks max_pages t false key reply = tt
 
 -- both searches are
 a_search : (t : ℕ) (inclusive : Bool) (key : List ℕ) → is_search (answers.Do t (seek_at inclusive key)) ≡ true
@@ -55,7 +57,7 @@ returns-in-Some g c =
       paced = paced_alone g.D.Disk _ _ old _ refl (λ is. cc is) c.requires.plain;
       grouped = tt;
       frames = search rules;
-      wants = λ b before s v r. seeks_want (Evicted g.D.Disk b r.base r.now old.disk c.seek.new.writer c.seek.new.disk) (λ u. HasBegun g.D.Disk b r.base r.now u c.seek.new.writer c.seek.new.disk) (settled b r.now.log) v.walk (λ t. (v.txns t).net) (locks_of old.locks) old.max_pages c.args.t c.args.inclusive c.args.key.now (replies.Entry c.in-Some.key c.in-Some.rid);
+      wants = λ b before s v r. seeks_want (Evicted g.D.Disk b r.base r.now old.disk c.seek.new.writer c.seek.new.disk) old.stepped (under_of old.under) (under_of old.under) (λ u. HasBegun g.D.Disk b r.base r.now u c.seek.new.writer c.seek.new.disk) (settled b r.now.log) v.walk (λ t. (v.txns t).net) (locks_of old.locks) old.max_pages c.args.t c.args.inclusive c.args.key.now (replies.Entry c.in-Some.key c.in-Some.rid);
       quiet = λ none. absurd (none tt);
       costs = tt;
     }
@@ -75,7 +77,7 @@ returns-in-None g c =
       paced = paced_alone g.D.Disk _ _ old _ refl (λ is. cc is) c.requires.plain;
       grouped = tt;
       frames = search rules;
-      wants = λ b before s v r. seeks_want (Evicted g.D.Disk b r.base r.now old.disk c.seek.new.writer c.seek.new.disk) (λ u. HasBegun g.D.Disk b r.base r.now u c.seek.new.writer c.seek.new.disk) (settled b r.now.log) v.walk (λ t. (v.txns t).net) (locks_of old.locks) old.max_pages c.args.t c.args.inclusive c.args.key.now replies.End;
+      wants = λ b before s v r. seeks_want (Evicted g.D.Disk b r.base r.now old.disk c.seek.new.writer c.seek.new.disk) old.stepped (under_of old.under) (under_of old.under) (λ u. HasBegun g.D.Disk b r.base r.now u c.seek.new.writer c.seek.new.disk) (settled b r.now.log) v.walk (λ t. (v.txns t).net) (locks_of old.locks) old.max_pages c.args.t c.args.inclusive c.args.key.now replies.End;
       quiet = λ none. absurd (none tt);
       costs = tt;
     }
@@ -95,7 +97,7 @@ returns-in-Ok-Wait g c =
       paced = paced_alone g.D.Disk _ _ old _ refl (λ is. cc is) c.requires.plain;
       grouped = tt;
       frames = search rules;
-      wants = λ b before s v r. seeks_want (Evicted g.D.Disk b r.base r.now old.disk c.seek.new.writer c.seek.new.disk) (λ u. HasBegun g.D.Disk b r.base r.now u c.seek.new.writer c.seek.new.disk) (settled b r.now.log) v.walk (λ t. (v.txns t).net) (locks_of old.locks) old.max_pages c.args.t c.args.inclusive c.args.key.now (replies.Blocked (Lock c.in-Ok-Wait.holder));
+      wants = λ b before s v r. seeks_want (Evicted g.D.Disk b r.base r.now old.disk c.seek.new.writer c.seek.new.disk) old.stepped (under_of old.under) (under_of old.under) (λ u. HasBegun g.D.Disk b r.base r.now u c.seek.new.writer c.seek.new.disk) (settled b r.now.log) v.walk (λ t. (v.txns t).net) (locks_of old.locks) old.max_pages c.args.t c.args.inclusive c.args.key.now (replies.Blocked (Lock c.in-Ok-Wait.holder));
       quiet = λ none. absurd (none tt);
       costs = tt;
     }
@@ -115,7 +117,7 @@ returns-in-Ok-Die g c =
       paced = paced_alone g.D.Disk _ _ old _ refl (λ is. cc is) c.requires.plain;
       grouped = tt;
       frames = search rules;
-      wants = λ b before s v r. seeks_want (Evicted g.D.Disk b r.base r.now old.disk c.seek.new.writer c.seek.new.disk) (λ u. HasBegun g.D.Disk b r.base r.now u c.seek.new.writer c.seek.new.disk) (settled b r.now.log) v.walk (λ t. (v.txns t).net) (locks_of old.locks) old.max_pages c.args.t c.args.inclusive c.args.key.now replies.Die;
+      wants = λ b before s v r. seeks_want (Evicted g.D.Disk b r.base r.now old.disk c.seek.new.writer c.seek.new.disk) old.stepped (under_of old.under) (under_of old.under) (λ u. HasBegun g.D.Disk b r.base r.now u c.seek.new.writer c.seek.new.disk) (settled b r.now.log) v.walk (λ t. (v.txns t).net) (locks_of old.locks) old.max_pages c.args.t c.args.inclusive c.args.key.now replies.Die;
       quiet = λ none. absurd (none tt);
       costs = tt;
     }
@@ -138,7 +140,7 @@ returns-in-Err g c =
       paced = paced_alone g.D.Disk _ _ old _ refl (λ is. cc is) c.requires.plain;
       grouped = tt;
       frames = search rules;
-      wants = λ b before s v r. seeks_want (Evicted g.D.Disk b r.base r.now old.disk c.seek.new.writer c.seek.new.disk) (λ u. HasBegun g.D.Disk b r.base r.now u c.seek.new.writer c.seek.new.disk) (settled b r.now.log) v.walk (λ t. (v.txns t).net) (locks_of old.locks) old.max_pages c.args.t c.args.inclusive c.args.key.now (replies.Refused c.told.result);
+      wants = λ b before s v r. seeks_want (Evicted g.D.Disk b r.base r.now old.disk c.seek.new.writer c.seek.new.disk) old.stepped (under_of old.under) (under_of old.under) (λ u. HasBegun g.D.Disk b r.base r.now u c.seek.new.writer c.seek.new.disk) (settled b r.now.log) v.walk (λ t. (v.txns t).net) (locks_of old.locks) old.max_pages c.args.t c.args.inclusive c.args.key.now (replies.Refused c.told.result);
       quiet = λ none. absurd (none tt);
       costs = tt;
     }
