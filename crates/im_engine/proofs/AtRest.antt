@@ -1,5 +1,5 @@
 -- A store behind a restart: how its log goes on in the other file, and the engine that it makes.
-use Rattle.std.proofs.Common.{◌≡◌, ◌⊎◌, inl, inr, ℕ, ◌<◌, ◌≤◌, ◌^◌, List, [], ◌++◌, append-nil, Option, Some, false, nat_le, refl, sym, ◌∙◌, ap, subst, arith, None}
+use Rattle.std.proofs.Common.{◌≡◌, ◌⊎◌, inl, inr, ℕ, ◌<◌, ◌≤◌, ◌^◌, List, [], ◌++◌, append-nil, Option, false, nat_le, refl, sym, ◌∙◌, ap, subst, arith, None}
 use Rattle.std.specs.FinMap.{empty}
 use Rattle.std.proofs.lemmas.Bool.{and_right}
 use Rattle.im_base_types.specs.Changes.{Effect, apply_all, seen}

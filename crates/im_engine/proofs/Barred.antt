@@ -1,11 +1,10 @@
 -- Steps that a check bars, and steps of an engine that has failed.
-use Rattle.std.proofs.Common.{◌≡◌, ◌⊎◌, inl, inr, ℕ, List, Bool, true, false, Option, Some, None, length, refl, sym, ap, subst, ◌∙◌, is_some}
+use Rattle.std.proofs.Common.{◌≡◌, inl, inr, ℕ, List, Bool, true, false, Some, None, length, refl, sym, ap, subst, ◌∙◌, is_some}
 use Rattle.std.specs.Prelude.{◌||◌, ◌==◌, if◌then◌else◌}
 use Rattle.std.specs.FinMap.{empty}
 use Rattle.im_base_types.specs.Answers as answers
 use Rattle.im_base_types.specs.Answers.{Step, Begin, Do, Commit, Rollback, Continue, FlushPage, Force, Checkpoint, Switch, Reply, Refused, Mark}
 use Rattle.im_base_types.specs.Changes.{Effect, apply_all}
-use Rattle.im_theory_log.specs.Histories.{Base}
 use Rattle.im_base_types.specs.Refusals.{memory, unfinished, failed as has_failed}
 use Rattle.im_base_types.specs.Lives.{Asked, Shown, asks, breaks, shows}
 use Rattle.im_base_disk.specs.declared.disk.Disk.{Ghosts}
@@ -24,10 +23,10 @@ use Rattle.im_theory_steps.proofs.Lived.{lives_go_on}
 use Rattle.im_theory_steps.proofs.Steps.{barred_served}
 use Rattle.im_engine.specs.declared.engine.Engine.{Engine}
 use Rattle.im_engine.specs.Stands.{Allowed}
-use Rattle.im_engine.specs.Running.{IsRunning, IsLife}
+use Rattle.im_engine.specs.Running.{IsLife}
 use Rattle.im_engine.specs.Kept.{StepKept}
 use Rattle.im_engine.specs.Aims.{under_of}
-use Rattle.im_engine.proofs.Running.{allowed_as, idle_stops, runs_on, checks_tell}
+use Rattle.im_engine.proofs.Running.{allowed_as, runs_on, checks_tell}
 use Rattle.im_engine.proofs.Grown.{no_images}
 use Rattle.im_base_two_logs.proofs.Runs.{unnamed}
 use Rattle.im_engine.proofs.Named.{allowed_nameless}

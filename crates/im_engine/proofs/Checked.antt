@@ -1,8 +1,8 @@
 -- What the checks of a step by the table leave of it.
-use Rattle.std.proofs.Common.{◌≡◌, ◌⊎◌, inl, inr, ℕ, Bool, true, false, not, List, length, Option, None, Some, refl, sym, ap, subst, ◌∙◌}
+use Rattle.std.proofs.Common.{◌≡◌, ◌⊎◌, inl, inr, ℕ, Bool, true, false, not, List, Option, None, Some, refl, sym, ap, ◌∙◌}
 use Rattle.std.specs.Prelude.{find}
 use Rattle.im_base_types.specs.Refusals.{key_length, unfinished}
-use Rattle.im_base_types.specs.Answers.{Access, Step, Do, Commit, Rollback, Reply, Refused, FlushPage, Force, Begin, Continue, Checkpoint}
+use Rattle.im_base_types.specs.Answers.{Access, Do, Commit, Rollback}
 use Rattle.im_base_txn.specs.declared.transaction.Mark.{Mark}
 use Rattle.im_base_txn.specs.declared.transaction.Mark.TheVariants.{Going, MustRollBack, RollingBack, Committing}
 use Rattle.im_base_txn.specs.declared.transaction.Transaction.{Transaction}

@@ -10,7 +10,6 @@ use Rattle.im_base_types.specs.Keys.{Key}
 use Rattle.im_base_types.specs.Lives.{Shown}
 use Rattle.im_base_types.specs.Maps.{IndexMap}
 use Rattle.im_theory_log.specs.Structure.{settled}
-use Rattle.im_theory_log.specs.Transactions.{contents}
 use Rattle.im_theory_log.specs.Writer.{Writer}
 use Rattle.im_base_types.specs.declared.fault.Fault.{Fault}
 use Rattle.im_base_types.specs.declared.fault.Fault.TheVariants.{Failed, Memory}

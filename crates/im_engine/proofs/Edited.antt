@@ -1,13 +1,12 @@
 -- Steps that change a key: what their calls below ask, what a stop within them leaves, and the engine behind them.
-use Rattle.std.proofs.Common.{◌≡◌, ◌≢◌, inl, inr, ℕ, ◌≤◌, ◌<◌, ◌^◌, List, [], ◌∷◌, ◌++◌, Bool, true, false, cond, is_some, Option, Some, None, map, refl, sym, ap, subst, ◌∙◌, append_assoc, arith}
+use Rattle.std.proofs.Common.{◌≡◌, ◌≢◌, inl, inr, ℕ, ◌≤◌, ◌<◌, ◌^◌, List, [], ◌∷◌, Bool, true, false, cond, is_some, Option, Some, None, map, refl, sym, ap, subst, ◌∙◌, arith}
 use Rattle.std.specs.Prelude.{find, if◌then◌else◌, ◌==◌}
-use Rattle.std.specs.FinMap.{get}
 use Rattle.im_base_types.specs.Answers as answers
 use Rattle.im_base_types.specs.Answers.{Access, Blocked, Commit, Delete, Die, Do, Refused, Reply, answer, changes}
 use Rattle.im_base_types.specs.Refusals.{memory}
 use Rattle.im_base_types.specs.declared.fault.Fault.{Fault}
 use Rattle.im_base_types.specs.declared.fault.Fault.TheVariants.{Device, Failed, LogFull, Memory, NotAStore}
-use Rattle.im_base_types.specs.Changes.{Change, Effect, key_of}
+use Rattle.im_base_types.specs.Changes.{Effect}
 use Rattle.im_theory_log.specs.Histories.{Base, History, IsFront, end_of}
 use Rattle.im_base_types.specs.Keys.{Key}
 use Rattle.im_theory_log.specs.Lawful.{IsLawful}
@@ -15,7 +14,7 @@ use Rattle.im_theory_log.specs.Lawful as lawful
 use Rattle.im_base_types.specs.Maps.{IndexMap}
 use Rattle.im_base_types.specs.Records.{What, InsertKey, DeleteKey, UndoInsert, UndoDelete, Smo, UndoSmo, DummyClr, Commit as CommitRecord, End, Image, Checkpoint, Unreadable, Logged}
 use Rattle.im_theory_log.specs.Structure.{open_smo}
-use Rattle.im_theory_log.specs.Transactions.{committed, contents, is_finished, is_rolling_back, last_of, undo_next_of}
+use Rattle.im_theory_log.specs.Transactions.{contents, last_of, undo_next_of}
 use Rattle.im_theory_log.specs.Writer.{Writer}
 use Rattle.im_base_types.specs.Lives.{Asked, Shown, shows}
 use Rattle.im_theory_log.specs.Copies as copies
@@ -48,7 +47,7 @@ use Rattle.im_theory_machine.specs.Machine.{Wants, barred, keys_fit}
 use Rattle.im_base_types.specs.declared.fault.Fault.TheVariants as faults
 use Rattle.im_base_types.specs.Faults.{number_of}
 use Rattle.im_theory_steps.specs.Checks.{checked_by}
-use Rattle.im_theory_steps.specs.Growth.{AreBelow, AreStructural, AreWithin, GrowsByStructure, GrowsWithin, IsStructural, IsOfAll, Stays, is_structural}
+use Rattle.im_theory_steps.specs.Growth.{AreBelow, AreStructural, GrowsByStructure, GrowsWithin, IsStructural, is_structural}
 use Rattle.im_theory_steps.specs.Serving.{IsRow, IsServing, IsServed, mark_of}
 use Rattle.im_theory_steps.specs.Steps.{IsOnTheWay, key_record}
 use Rattle.im_theory_steps.specs.Durable.{AreCommitted}

@@ -1,5 +1,5 @@
 -- Transactions that begin and end, and the force of the log.
-use Rattle.std.proofs.Common.{◌≢◌, ◌≡◌, ◌⊎◌, inl, inr, ℕ, suc, ◌+◌, ◌≤◌, ◌<◌, ◌^◌, List, [], ◌∷◌, ◌++◌, append-nil, Bool, true, false, Option, Some, None, Result, Ok, length, refl, sym, ap, subst, ◌∙◌, arith}
+use Rattle.std.proofs.Common.{◌≢◌, ◌≡◌, ◌⊎◌, inl, inr, ℕ, suc, ◌+◌, ◌≤◌, ◌<◌, ◌^◌, List, [], ◌∷◌, ◌++◌, append-nil, Bool, true, false, Option, Some, None, length, refl, sym, ap, subst, ◌∙◌, arith}
 use Rattle.std.specs.Prelude.{find, map, nat_lt, not, if◌then◌else◌}
 use Rattle.std.proofs.lemmas.Bool.{ltb-true}
 use Rattle.im_base_types.specs.Faults.{number_of}
@@ -9,20 +9,19 @@ use Rattle.im_page_writer.proofs.Outcomes.{flush_asks}
 use Rattle.im_base_types.specs.Pages.{Page}
 use Rattle.im_engine.specs.Faults.{told_as}
 use Rattle.im_engine.proofs.Refused.{breaks_with}
-use Rattle.std.specs.FinMap.{empty}
 use Rattle.im_base_types.specs.Answers as answers
 use Rattle.im_base_types.specs.Answers.{Begin, Started, Commit, Committed, Rollback, RolledBack, More, Force, FlushPage, Done, Refused}
-use Rattle.im_base_types.specs.Changes.{Effect, apply_all, seen, seen_effect}
+use Rattle.im_base_types.specs.Changes.{Effect, seen_effect}
 use Rattle.im_theory_log.specs.Histories.{Base, History, Rises, end_of}
 use Rattle.im_theory_log.specs.Lawful.{IsLawful, Follows, IsOutside}
 use Rattle.im_theory_log.specs.Structure.{open_smo}
 use Rattle.im_theory_log.proofs.LogLaws.{logs_stay_lawful}
-use Rattle.im_theory_log.specs.Transactions.{committed, last_of, to_undo, net, changes_of, is_finished, is_rolling_back}
+use Rattle.im_theory_log.specs.Transactions.{last_of, net, changes_of, is_finished, is_rolling_back}
 use Rattle.im_base_types.specs.Refusals.{memory, unfinished, too_many}
 use Rattle.im_base_types.specs.declared.fault.Fault.TheVariants.{Failed, LogFull, Device, NotAStore}
 use Rattle.im_theory_log.specs.Writer.{Writer}
 use Rattle.im_theory_log.specs.WriterSteps.{appended, forced}
-use Rattle.im_base_types.specs.Lives.{Asked, Shown, Survives, StandsForMore, all_acked, effects, effect_asked, asks, shows}
+use Rattle.im_base_types.specs.Lives.{Asked, Shown, Survives, asks, shows}
 use Rattle.im_theory_log.proofs.Fronts.{rises as rises_of}
 use Rattle.im_base_disk.specs.declared.disk.Disk.{Ghosts}
 use Rattle.im_base_disk.specs.Disk.{Files}
@@ -47,20 +46,20 @@ use Rattle.im_theory_machine.specs.Machine.{Breaks, barred, fault_if}
 use Rattle.im_theory_steps.specs.Checks.{checked_by}
 use Rattle.im_theory_steps.specs.Durable.{AreCommitted}
 use Rattle.im_theory_steps.specs.Growth.{AreBelow, Stays, IsOfAll}
-use Rattle.im_theory_steps.specs.Serving.{IsServing, IsServed, mark_of}
-use Rattle.im_theory_steps.proofs.Asking.{empty_asked, effects_acked}
-use Rattle.im_theory_steps.proofs.Growth.{copies_are_images, images_change_nothing, numbers_stay_new, same_here, unlogged}
+use Rattle.im_theory_steps.specs.Serving.{IsServing, mark_of}
+use Rattle.im_theory_steps.proofs.Asking.{empty_asked}
+use Rattle.im_theory_steps.proofs.Growth.{copies_are_images, images_change_nothing, numbers_stay_new, unlogged}
 use Rattle.im_theory_steps.proofs.Durable.{commits_stand, others_ask_nothing, cut_commits_stand}
 use Rattle.im_theory_steps.specs.Steps.{commit_record}
 use Rattle.im_theory_steps.proofs.Records.{commit_commits}
 use Rattle.im_theory_steps.proofs.Logging.{logged_commits_served, logged_commits_wait}
 use Rattle.im_theory_steps.proofs.Showing.{effect_shown}
-use Rattle.im_theory_steps.proofs.Steps.{at, mark_free, unlogged_commits_served, begins_served, drops_served, turns_served, flushes_served, forces_served, barred_served}
+use Rattle.im_theory_steps.proofs.Steps.{at, mark_free, unlogged_commits_served, begins_served, drops_served, turns_served, flushes_served, forces_served}
 use Rattle.im_engine.specs.declared.engine.Engine.{Engine}
 use Rattle.im_engine.specs.Numbered.{Numbered}
-use Rattle.im_engine.specs.Stands.{StandsFor, Allowed}
+use Rattle.im_engine.specs.Stands.{Allowed}
 use Rattle.im_engine.specs.Running.{IsRunning, IsLife}
-use Rattle.im_engine.specs.Kept.{StepKept, IsDurable}
+use Rattle.im_engine.specs.Kept.{StepKept}
 use Rattle.im_engine.proofs.Stands.{covered_allowed}
 use Rattle.im_engine.specs.declared.stepped.Under.{Under}
 use Rattle.im_engine.specs.Aims.{IsChanging, under_of}

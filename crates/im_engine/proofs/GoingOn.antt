@@ -1,17 +1,15 @@
 -- The structure change under way stands behind what others log.
-use Rattle.std.proofs.Common.{◌≡◌, ◌≢◌, ◌≤◌, ℕ, zero, suc, true, false, List, [], ◌∷◌, ◌++◌, Option, None, Some, refl, sym, ap, subst, ◌∙◌, arith, ◌==◌}
+use Rattle.std.proofs.Common.{◌≡◌, ◌≢◌, ◌≤◌, ℕ, zero, suc, true, false, List, [], ◌∷◌, ◌++◌, Option, None, Some, refl, sym, ap, subst, ◌∙◌, arith}
 use Rattle.std.specs.Prelude.{if◌then◌else◌}
 use Rattle.std.proofs.lemmas.Bool.{eq-eqb}
 use Rattle.im_base_types.specs.Pages.{Page, Body}
-use Rattle.im_base_types.specs.Records.{What, Logged}
-use Rattle.im_theory_log.specs.Copies.{AreImages, GrowsByImages, IsImage}
+use Rattle.im_base_types.specs.Records.{Logged}
+use Rattle.im_theory_log.specs.Copies.{AreImages, GrowsByImages}
 use Rattle.im_theory_log.specs.Histories.{Base, History, changes_page}
 use Rattle.im_theory_log.specs.Lawful.{IsLawful, IsOutside}
 use Rattle.im_theory_log.specs.Structure.{open_smo}
 use Rattle.im_theory_tree.specs.Theory.{page_tree}
-use Rattle.im_theory_steps.specs.Growth.{IsCheckpoint}
 use Rattle.im_smo_pages.specs.Images.{Numbered, image_of}
-use Rattle.im_smo_pages.specs.OnWay.{IsApart}
 use Rattle.im_smo_log.specs.BetweenSteps.{AreBeside, GoesOnBeside, IsBeside}
 use Rattle.im_smo_log.specs.Changes.{AreCounted}
 use Rattle.im_smo_log.specs.Under.{AreLogged, IsUnderWay, is_structural}
@@ -20,7 +18,7 @@ use Rattle.im_engine_rollback.proofs.SplitsBack.{others_leave_splits_back}
 use Rattle.im_engine.specs.declared.stepped.Aim.{Aim}
 use Rattle.im_engine.specs.declared.stepped.Aim.TheVariants.{Puts, Drops, TakesBack, TookBack}
 use Rattle.im_engine.specs.declared.stepped.Under.{Under}
-use Rattle.im_engine.specs.Aims.{Aims, IsChanging, IsGoing, under_of}
+use Rattle.im_engine.specs.Aims.{Aims, IsChanging, IsGoing}
 
 -- page 0 is among the images
 pub zeroth : (images : List Numbered) → AreCounted images → (g : Page) × (image_of images 0 ≡ Some g)

@@ -1,5 +1,5 @@
 -- Calls that only look.
-use Rattle.std.proofs.Common.{◌≡◌, ◌≢◌, inl, inr, ℕ, ◌≤◌, ◌^◌, List, [], ◌++◌, Bool, true, false, Option, None, Some, Result, Ok, Err, IfErr, OnOk, refl, sym, ap, subst, ◌∙◌, is_some}
+use Rattle.std.proofs.Common.{◌≡◌, ◌≢◌, inl, inr, ℕ, ◌≤◌, ◌^◌, List, Bool, true, false, Option, None, Some, Result, Ok, Err, IfErr, OnOk, refl, sym, ap, subst, ◌∙◌, is_some}
 use Rattle.std.proofs.lemmas.Bool.{cases_Bool}
 use Rattle.std.specs.Prelude.{◌↔◌, IfSome}
 use Rattle.std.specs.FinMap.{empty, entries}
@@ -7,7 +7,7 @@ use Rattle.im_base_types.specs.Maps.{IndexMap}
 use Rattle.im_base_types.specs.Pages.{Entry}
 use Rattle.im_base_types.specs.Changes.{Effect, apply_all}
 use Rattle.im_theory_log.specs.Histories.{Base}
-use Rattle.im_base_types.specs.Lives.{Shown, breaks, effects}
+use Rattle.im_base_types.specs.Lives.{Shown, breaks}
 use Rattle.im_base_types.specs.Faults.{number_of}
 use Rattle.im_base_types.specs.declared.fault.Fault.{Fault}
 use Rattle.im_base_types.specs.declared.fault.Fault.TheVariants.{Failed, LogFull, Device, Memory, NotAStore, Unfinished}
@@ -24,9 +24,8 @@ use Rattle.im_page_writer.specs.declared.page_writer.PageWriter.{PageWriter}
 use Rattle.im_page_writer.specs.PageWriter.{Evicted}
 use Rattle.im_page_writer.specs.Outcome.{fault_of, AreLoaded, Ends, Lists, mild, no_page, Outcome}
 use Rattle.im_theory_tree.specs.Theory.{page_tree}
-use Rattle.im_theory_machine.specs.Locks.{Lock}
-use Rattle.im_theory_machine.specs.Table.{Table, locks_of}
-use Rattle.im_theory_machine.specs.View.{View, own_locks, broken}
+use Rattle.im_theory_machine.specs.Table.{Table}
+use Rattle.im_theory_machine.specs.View.{View, own_locks}
 use Rattle.im_theory_steps.specs.Growth.{AreBelow}
 use Rattle.im_theory_steps.specs.Serving.{IsServing}
 use Rattle.im_theory_steps.proofs.Growth.{copies_are_images, images_change_nothing}

@@ -1,39 +1,27 @@
 -- A step that was made, and one that broke the engine.
-use Rattle.std.proofs.Common.{◌≡◌, ◌≢◌, inl, ℕ, ◌≤◌, ◌^◌, List, [], true, false, None, Some, refl, sym, ap, subst, ◌∙◌}
-use Rattle.std.specs.Prelude.{find}
+use Rattle.std.proofs.Common.{◌≡◌, inl, ℕ, ◌≤◌, ◌^◌, List, true, false, None, Some, sym, ap, subst, ◌∙◌}
 use Rattle.std.specs.FinMap.{empty}
-use Rattle.im_base_types.specs.Answers as answers
-use Rattle.im_base_types.specs.Answers.{Access, Step, Do, Commit, Reply, Refused, answer, changes}
+use Rattle.im_base_types.specs.Answers.{Step, Reply, Refused}
 use Rattle.im_base_types.specs.Changes.{Effect, apply_all}
 use Rattle.im_theory_log.specs.Histories.{Base, History}
-use Rattle.im_theory_log.specs.Writer.{Writer}
 use Rattle.im_theory_log.specs.Copies as copies
 use Rattle.im_base_types.specs.Lives.{Asked, Shown, shows}
-use Rattle.im_theory_log.proofs.Histories.{front_of_front}
 use Rattle.im_base_disk.specs.declared.disk.Disk.{Ghosts}
 use Rattle.im_base_disk.specs.Disk.{Files}
 use Rattle.im_base_disk.specs.Runs.{LeavesOnly}
 use Rattle.im_base_disk.proofs.Runs.{weakened}
 use Rattle.im_base_two_logs.specs.Runs.{LeavesNamed}
 use Rattle.im_base_two_logs.proofs.Runs.{unnamed}
-use Rattle.im_page_writer.specs.PageWriter.{StandsAs, GoesOn, Evicted}
+use Rattle.im_page_writer.specs.PageWriter.{Evicted}
 use Rattle.im_theory_tree.specs.Theory.{page_tree}
-use Rattle.im_base_txn.specs.declared.transaction.Mark.TheVariants.{Going}
-use Rattle.im_base_txn.specs.declared.transaction.Transaction.{Transaction}
-use Rattle.im_base_txn.specs.Rows.{is_of}
 use Rattle.im_theory_machine.specs.Locks.{Lock}
-use Rattle.im_theory_machine.specs.Rows.{asked}
-use Rattle.im_theory_machine.specs.Table.{Table, Decides, locks_of}
-use Rattle.im_theory_machine.specs.declared.verdict.Verdict.TheVariants.{Granted}
-use Rattle.im_theory_machine.specs.View.{View, did, broken}
-use Rattle.im_theory_machine.specs.Machine.{Moves, Breaks, barred, keys_fit}
+use Rattle.im_theory_machine.specs.View.{View, broken}
+use Rattle.im_theory_machine.specs.Machine.{Moves, Breaks, barred}
 use Rattle.im_theory_steps.specs.Growth.{AreBelow, Stays, IsOfAll}
 use Rattle.im_theory_steps.specs.Serving.{IsServing, IsServed}
 use Rattle.im_theory_steps.specs.Durable.{AreCommitted}
 use Rattle.im_theory_steps.proofs.Growth.{copies_are_images, images_change_nothing}
-use Rattle.im_theory_steps.proofs.Steps.{reads_served}
-use Rattle.im_theory_steps.proofs.Asking.{asks_nothing}
-use Rattle.im_theory_steps.proofs.Durable.{commits_stand, others_ask_nothing}
+use Rattle.im_theory_steps.proofs.Durable.{commits_stand}
 use Rattle.im_theory_steps.proofs.Lived.{lives_go_on}
 use Rattle.im_engine.specs.declared.engine.Engine.{Engine}
 use Rattle.im_engine.specs.Aims.{under_of}
@@ -43,7 +31,7 @@ use Rattle.im_engine.specs.Running.{IsRunning, IsLife}
 use Rattle.im_engine.specs.Growing.{GrowsAs}
 use Rattle.im_engine.specs.Kept.{StepKept, IsDone}
 use Rattle.im_engine.proofs.Named.{allowed_nameless}
-use Rattle.im_engine.proofs.Running.{allowed_as, grown_stops, runs_on, stops_now}
+use Rattle.im_engine.proofs.Running.{allowed_as, runs_on, stops_now}
 
 module _ {D : Type 0} (d : Ghosts D) (before : List Effect) where
   -- a stop within a step that is no Commit leaves what was asked before it

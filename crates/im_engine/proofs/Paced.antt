@@ -4,21 +4,19 @@ use Rattle.std.proofs.lemmas.Bool.{eqb-true}
 use Rattle.im_base_types.specs.Answers as answers
 use Rattle.im_base_types.specs.Answers.{Step, Begin, Do, Commit, Rollback, Continue, FlushPage, Force, Checkpoint, Switch}
 use Rattle.im_base_types.specs.Maps.{IndexMap}
-use Rattle.im_base_types.specs.declared.fault.Fault.{Fault}
 use Rattle.im_theory_log.specs.Histories.{History}
 use Rattle.im_base_disk.specs.declared.disk.Disk.{Ghosts}
 use Rattle.im_base_steps.specs.declared.reply.Reply.{Reply}
 use Rattle.im_base_steps.specs.declared.reply.Reply.TheVariants as replies
 use Rattle.im_base_steps.specs.Calls.{told_by}
 use Rattle.im_theory_tree.specs.Levels.{Pages}
-use Rattle.im_theory_machine.specs.View as views
 use Rattle.im_theory_machine.specs.View.{pending_for, pending_of}
 use Rattle.im_tree_search.specs.declared.change_beside.Beside.{Beside}
 use Rattle.im_engine.specs.declared.engine.Engine.{Engine}
 use Rattle.im_engine.specs.declared.stepped.Aim.{Aim}
 use Rattle.im_engine.specs.declared.stepped.Aim.TheVariants.{Puts, Drops, TakesBack, TookBack}
 use Rattle.im_engine.specs.declared.stepped.Under.{Under}
-use Rattle.im_engine.specs.Aims.{IsSameUnder, aim_of, owned, under_of}
+use Rattle.im_engine.specs.Aims.{IsSameUnder, aim_of, under_of}
 use Rattle.im_engine.specs.Paces.{Bars, EndsAs, IsRefusal}
 use Rattle.im_engine.specs.Told.{IsPaced, check_of}
 use Rattle.im_engine.proofs.Running.{plain_under}

@@ -1,5 +1,5 @@
 -- Accesses that change nothing.
-use Rattle.std.proofs.Common.{◌≡◌, ◌≢◌, inl, inr, ℕ, ◌≤◌, List, [], Bool, true, false, Option, Some, None, refl, sym, ap, subst, ◌∙◌}
+use Rattle.std.proofs.Common.{◌≡◌, ◌≢◌, ℕ, ◌≤◌, List, [], Bool, true, false, Some, None, refl, sym, subst, ◌∙◌}
 use Rattle.std.specs.Prelude.{map}
 use Rattle.im_base_types.specs.Answers as answers
 use Rattle.im_base_types.specs.Answers.{Access, Do, Commit, Reply, Refused, Blocked, Die, answer, changes}
@@ -8,7 +8,7 @@ use Rattle.im_theory_log.specs.Histories.{Base}
 use Rattle.im_base_types.specs.Refusals.{memory}
 use Rattle.im_base_types.specs.declared.fault.Fault.{Fault}
 use Rattle.im_base_types.specs.declared.fault.Fault.TheVariants.{NotAStore}
-use Rattle.im_base_types.specs.Lives.{Shown, shows}
+use Rattle.im_base_types.specs.Lives.{Shown}
 use Rattle.im_base_disk.specs.declared.disk.Disk.{Ghosts}
 use Rattle.im_base_disk.specs.Disk.{Files}
 use Rattle.im_base_types.specs.Faults.{number_of}
@@ -22,16 +22,15 @@ use Rattle.im_base_types.specs.Maps.{IndexMap}
 use Rattle.im_base_txn.specs.Rows.{changed, with_mark}
 use Rattle.im_base_txn.specs.declared.transaction.Mark.TheVariants.{Going, MustRollBack, RollingBack}
 use Rattle.im_theory_machine.specs.Rows.{asked}
-use Rattle.im_theory_machine.specs.Table.{Decides, locks_of, lasting_of}
-use Rattle.im_theory_machine.specs.declared.verdict.Verdict.TheVariants.{Granted, Wait, Die as MustDie}
+use Rattle.im_theory_machine.specs.Table.{Decides, lasting_of}
+use Rattle.im_theory_machine.specs.declared.verdict.Verdict.TheVariants.{Wait, Die as MustDie}
 use Rattle.im_theory_machine.specs.View.{View, did, marked, owner_in, owns_in, pending_of}
-use Rattle.im_theory_machine.specs.Machine.{Wants, barred}
+use Rattle.im_theory_machine.specs.Machine.{Wants}
 use Rattle.im_theory_steps.specs.Checks.{checked_by}
 use Rattle.im_theory_steps.proofs.Asking.{asks_nothing, waits_ask_nothing, dies_ask_nothing}
 use Rattle.im_theory_steps.proofs.Steps.{reads_served, waits_served, dies_served}
 use Rattle.im_engine.specs.declared.engine.Engine.{Engine}
 use Rattle.im_engine.specs.Faults.{told_as, ends_engine}
-use Rattle.im_engine.specs.Numbered.{Numbered}
 use Rattle.im_engine.specs.Running.{IsRunning, IsLife}
 use Rattle.im_engine.specs.Kept.{StepKept}
 use Rattle.im_engine.specs.Aims.{under_of}

@@ -1,6 +1,6 @@
 -- Steps that calls of the writer refuse.
-use Rattle.std.proofs.Common.{◌≡◌, ◌≢◌, ◌⊎◌, inl, inr, ℕ, ◌≤◌, List, Bool, true, false, not, Option, Some, None, refl, sym, ap, subst, ◌∙◌}
-use Rattle.im_base_types.specs.Answers.{Step, Begin, Do, Commit, Rollback, Continue, FlushPage, Force, Checkpoint, Switch, Reply, Refused}
+use Rattle.std.proofs.Common.{◌≡◌, ◌≢◌, inl, inr, ℕ, ◌≤◌, List, Bool, true, false, Some, None, refl, sym, subst, ◌∙◌}
+use Rattle.im_base_types.specs.Answers.{Step, Begin, Do, Commit, Rollback, Continue, FlushPage, Force, Checkpoint, Switch, Refused}
 use Rattle.im_base_types.specs.Changes.{Effect}
 use Rattle.im_theory_log.specs.Histories.{Base, History}
 use Rattle.im_base_types.specs.Refusals.{memory}
@@ -12,9 +12,8 @@ use Rattle.im_base_disk.specs.Disk.{Files}
 use Rattle.im_base_disk.specs.Runs.{LeavesOnly}
 use Rattle.im_log.proofs.Above.{left_now}
 use Rattle.im_engine_index.specs.LockCalls.{AsksLocks}
-use Rattle.im_page_writer.specs.declared.page_writer.PageWriter.{PageWriter}
 use Rattle.im_page_writer.specs.PageWriter.{Evicted}
-use Rattle.im_page_writer.specs.Outcome.{AreLoaded, mild, Ends, none_mild, LogEnds}
+use Rattle.im_page_writer.specs.Outcome.{AreLoaded, mild, Ends}
 use Rattle.im_base_types.specs.Faults.{number_of}
 use Rattle.im_theory_machine.specs.Table.{Table, SameTable, SameLasting, locks_of}
 use Rattle.im_theory_machine.specs.Locks.{Lock, SameLocks}

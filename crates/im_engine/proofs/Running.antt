@@ -21,7 +21,7 @@ use Rattle.im_theory_log.specs.Histories.{Base, History, end_of, page_at}
 use Rattle.im_theory_log.specs.Lawful.{IsLawful, IsOutside, IsNotIn}
 use Rattle.im_theory_log.specs.Transactions.{committed}
 use Rattle.im_theory_log.specs.Writer.{Writer, WriterKept}
-use Rattle.im_base_types.specs.Lives.{Asked, Shown, StandsForMore, shows}
+use Rattle.im_base_types.specs.Lives.{Asked, Shown, StandsForMore}
 use Rattle.im_base_disk.specs.declared.disk.Disk.{Ghosts}
 use Rattle.im_base_disk.specs.Disk.{Files}
 use Rattle.im_base_disk.specs.Runs.{LeavesOnly}
@@ -29,14 +29,13 @@ use Rattle.im_base_disk.proofs.Runs.{started, weakened}
 use Rattle.im_page_file.specs.Stands.{IsCovered, LeavesCovered}
 use Rattle.im_page_writer.specs.Writing.{LeavesGrown}
 use Rattle.im_page_writer.specs.declared.page_writer.PageWriter.{PageWriter}
-use Rattle.im_page_writer.specs.PageWriter.{StandsAs, GoesOn, Evicted}
+use Rattle.im_page_writer.specs.PageWriter.{GoesOn, Evicted}
 use Rattle.im_page_file.proofs.Standing.{stop_now}
 use Rattle.im_theory_tree.specs.Theory.{page_tree}
 use Rattle.im_base_txn.specs.declared.transaction.Mark as declared
 use Rattle.im_base_txn.specs.declared.transaction.Mark.TheVariants as marks
 use Rattle.im_base_txn.specs.declared.transaction.Transaction.{Transaction}
 use Rattle.im_base_txn.specs.Rows.{is_of}
-use Rattle.im_theory_machine.specs.Table.{Table}
 use Rattle.im_theory_machine.specs.View as views
 use Rattle.im_theory_machine.specs.View.{View, owner_of, owner_in, owns_in, pending_of}
 use Rattle.im_theory_machine.specs.Machine.{barred}

@@ -1,11 +1,9 @@
 -- A step behind its checks, and one that a check refuses.
-use Rattle.std.proofs.Common.{◌≡◌, ◌≢◌, ◌⊎◌, inl, inr, ⊎_elim, ℕ, Bool, true, false, List, length, Option, None, Some, refl, sym, ap, subst, ◌∙◌, cond}
+use Rattle.std.proofs.Common.{◌≡◌, ◌≢◌, inl, inr, ⊎_elim, ℕ, Bool, true, false, List, length, Option, None, Some, refl, sym, ap, subst, ◌∙◌, cond}
 use Rattle.std.specs.Prelude.{◌||◌, ◌==◌, ◌+◌, ◌-◌, if◌then◌else◌, ◌↔◌, nat_lt, not}
 use Rattle.im_base_types.specs.Answers as answers
 use Rattle.im_base_types.specs.Answers.{Step, Begin, Do, Commit, Rollback, Continue, FlushPage, Force, Checkpoint, Switch, Access, Mark, Idle, Going, MustRollBack, RollingBack, Committing}
 use Rattle.im_base_types.specs.Changes.{Effect}
-use Rattle.im_theory_log.specs.Histories.{Base}
-use Rattle.im_base_types.specs.Keys.{Key}
 use Rattle.im_base_types.specs.Lives.{Shown, breaks}
 use Rattle.im_base_types.specs.Maps.{IndexMap}
 use Rattle.im_base_types.specs.Refusals.{failed as has_failed, not_a_store, unfinished, key_length}
@@ -33,7 +31,7 @@ use Rattle.im_engine.specs.Aims.{under_of}
 use Rattle.im_engine.specs.Running.{IsLife}
 use Rattle.im_engine.proofs.Paced.{paced_barred}
 use Rattle.im_engine.specs.Kept.{StepKept}
-use Rattle.im_engine.specs.Told.{Fixed, Known, AnswersAlone, AsksChange, wants_pages, wants_numbers, wants_memory, Checked, IsAnswered, IsMade, IsStep, IsTold, Refuses, StepCosts, SuitsGroup, WantsOf, after, check_of, fixed_of, is_early, known_of}
+use Rattle.im_engine.specs.Told.{Fixed, Known, AnswersAlone, AsksChange, wants_pages, wants_numbers, wants_memory, Checked, IsMade, IsStep, IsTold, Refuses, StepCosts, SuitsGroup, WantsOf, after, check_of, fixed_of, is_early, known_of}
 use Rattle.im_engine.proofs.Alone.{answers_alone}
 use Rattle.im_engine.proofs.Barred.{barred_kept, first_failed}
 use Rattle.im_engine.proofs.Causes.{refused_inj}

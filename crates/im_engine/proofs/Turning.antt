@@ -1,5 +1,5 @@
 -- Changes that are taken back, one at a time.
-use Rattle.std.proofs.Common.{◌≡◌, ◌≢◌, inl, inr, ℕ, ◌+◌, ◌≤◌, ◌<◌, ◌^◌, List, [], ◌∷◌, ◌++◌, Bool, true, false, Option, Some, None, Result, Ok, Err, length, map, refl, sym, ap, subst, ◌∙◌, arith}
+use Rattle.std.proofs.Common.{◌≡◌, ◌≢◌, inl, inr, ℕ, ◌+◌, ◌≤◌, ◌<◌, ◌^◌, List, [], ◌∷◌, ◌++◌, true, false, Option, Some, None, length, map, refl, sym, ap, subst, ◌∙◌}
 use Rattle.std.specs.Prelude.{find}
 use Rattle.im_base_types.specs.Keys.{Key}
 use Rattle.im_base_types.specs.Maps.{IndexMap}
@@ -8,7 +8,7 @@ use Rattle.im_base_types.specs.Records.{What, InsertKey, DeleteKey, UndoInsert, 
 use Rattle.im_base_types.specs.Answers.{Continue, More, RolledBack, Refused}
 use Rattle.im_base_types.specs.declared.fault.Fault.{Fault}
 use Rattle.im_base_types.specs.declared.fault.Fault.TheVariants.{Capacity, Failed, LogFull, Device, Memory, NotAStore, PagesFull}
-use Rattle.im_theory_log.specs.Histories.{Base, History, IsFront}
+use Rattle.im_theory_log.specs.Histories.{Base, History}
 use Rattle.im_theory_log.specs.LogLaws as logs
 use Rattle.im_theory_log.specs.Structure.{settled}
 use Rattle.std.specs.FinMap.{get}
@@ -26,7 +26,7 @@ use Rattle.im_log.specs.Spelled.{logged_at}
 use Rattle.im_log.specs.declared.log_file.LogFile.{LogFile}
 use Rattle.im_log.proofs.Above.{front_then}
 use Rattle.im_page_writer.specs.declared.page_writer.PageWriter.{PageWriter}
-use Rattle.im_page_writer.specs.PageWriter.{StandsAs, Evicted}
+use Rattle.im_page_writer.specs.PageWriter.{Evicted}
 use Rattle.im_theory_tree.specs.Good.{AllOf}
 use Rattle.im_theory_tree.specs.Theory.{page_tree}
 use Rattle.im_theory_tree.specs.Levels.{Pages}
@@ -59,11 +59,10 @@ use Rattle.im_theory_steps.specs.Checks.{checked_by, mark_at}
 use Rattle.im_theory_steps.specs.Growth.{AreBelow, AreWithin, GrowsWithin, IsWithin}
 use Rattle.im_theory_steps.specs.Undone.{UndoesNewest}
 use Rattle.im_theory_steps.specs.Serving.{IsRow, IsServing, mark_of}
-use Rattle.im_theory_steps.specs.Durable.{AreCommitted}
 use Rattle.im_theory_steps.proofs.Growth.{numbers_stay_new, within_leaves_others}
 use Rattle.im_theory_steps.proofs.Durable.{commits_stand}
 use Rattle.im_theory_steps.proofs.Steps.{at, mark_free}
-use Rattle.im_theory_steps.proofs.Undone.{ends_leave_nothing, last_undone_served, rolling_has_more, undo_takes_back, undone_served}
+use Rattle.im_theory_steps.proofs.Undone.{ends_leave_nothing, last_undone_served, rolling_has_more, undone_served}
 use Rattle.im_engine.specs.declared.engine.Engine.{Engine}
 use Rattle.im_engine.specs.Faults.{told_as, ends_engine}
 use Rattle.im_engine.specs.Numbered.{Numbered}

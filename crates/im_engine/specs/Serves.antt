@@ -23,7 +23,7 @@ use Rattle.im_engine.specs.declared.engine.Engine.{Engine}
 use Rattle.im_engine.specs.declared.stepped.Under.{Under}
 use Rattle.im_engine.specs.Aims.{aim_of, owned, under_of}
 use Rattle.im_engine.specs.Faults.{told_look}
-use Rattle.im_engine.specs.Stands.{StandsFor, Allowed}
+use Rattle.im_engine.specs.Stands.{StandsFor}
 use Rattle.im_engine.specs.Running.{IsRunning, IsLife}
 use Rattle.im_engine.specs.Looking.{Looks}
 

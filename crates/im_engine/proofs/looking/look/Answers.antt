@@ -1,4 +1,4 @@
-use Rattle.std.proofs.Common.{Ok, Err, refl, sym, subst}
+use Rattle.std.proofs.Common.{Ok, Err, refl, subst}
 use Rattle.im_engine.specs.Listing.{IsListing}
 use Rattle.im_engine.specs.Opening.{IsOpening}
 use Rattle.im_engine.proofs.OneLook.{looked, unlooked, never_so, never_told, shows_so, shows_told}

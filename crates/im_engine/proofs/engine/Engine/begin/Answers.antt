@@ -1,9 +1,9 @@
-use Rattle.std.proofs.Common.{ℕ, ◌≤◌, ◌^◌, length, refl, ap, subst, rules}
+use Rattle.std.proofs.Common.{ℕ, ◌≤◌, ◌^◌, refl, ap, subst, rules}
 use Rattle.im_engine.proofs.Ending.{begin_few, began, numbers_end}
 use Rattle.im_base_types.specs.declared.fault.Fault.TheVariants.{Capacity}
 use Rattle.im_base_types.specs.declared.fault.Fault.TheVariants as faults
 use Rattle.im_base_steps.specs.declared.reply.Reply.TheVariants as replies
-use Rattle.im_engine.specs.Numbered.{Numbered, besides_rows}
+use Rattle.im_engine.specs.Numbered.{besides_rows}
 use Rattle.im_engine.proofs.Telling.{alive_now, not_true, told_started, told_refused}
 use Rattle.im_engine.proofs.Causes.{begin_made, begin_full}
 use Rattle.im_engine.proofs.Paced.{paced_beside}

@@ -1,4 +1,4 @@
-use Rattle.std.proofs.Common.{refl, sym, None, Some, ◌∙◌}
+use Rattle.std.proofs.Common.{refl, sym, ◌∙◌}
 use Rattle.std.specs.FinMap.{empty}
 use Rattle.im_base_types.specs.Changes.{apply_all}
 use Rattle.im_base_types.specs.Lives.{nothing_shown}

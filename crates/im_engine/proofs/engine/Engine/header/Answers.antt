@@ -1,4 +1,4 @@
-use Rattle.std.proofs.Common.{refl, sym, ap, None, Some, ℕ, ◌∙◌, ◌≡◌}
+use Rattle.std.proofs.Common.{refl, ap, ℕ, ◌∙◌, ◌≡◌}
 use Rattle.im_page_pool.specs.Pool.{page_at}
 use Rattle.im_page_writer.specs.Outcome.{pages_of, mild}
 use Rattle.im_page_writer.proofs.Outcomes.{search_of, pages_to, read_more}
