@@ -42,11 +42,11 @@ fn first_word(line: &[u8]) -> &[u8] {
 // How a line with this first word goes on, and where it stands.
 fn usage_of(word: &[u8]) -> &'static str {
     match word {
-        b"set" => "`set log HEX` and `set pages HEX` stand in front of all lives",
+        b"set" => "`set log HEX`, `set pages HEX` and `set log2 HEX` stand before all lives",
         b"raw" => "`raw` stands alone, and not in a script with `life`",
         b"put" => "`put HEX` stands in a life that `raw` begins",
         b"life" =>
-            "`life`, and behind it `frames N`, `max N`, `fail N`, `failread N` and `group` in this order, not in a script with `raw`",
+            "`life`, and after it `frames N`, `max N`, `fail N`, `failread N`, `group` and `workers N` in this order, not in a script with `raw`",
         b"stop" =>
             "`stop N long|short HEX|written`, where N is `end` or a number, stands last in a life",
         b"calls" => "`calls` stands alone, in a life",
@@ -56,6 +56,7 @@ fn usage_of(word: &[u8]) -> &'static str {
         b"fetch" => "`fetch TRANSACTION KEY`, in a life",
         b"seek" => "`seek TRANSACTION KEY`, in a life",
         b"next" => "`next TRANSACTION KEY`, in a life",
+        b"prev" => "`prev TRANSACTION KEY`, in a life",
         b"scan" => "`scan TRANSACTION KEY KEY LIMIT`, in a life",
         b"commit" => "`commit TRANSACTION`, in a life",
         b"rollback" => "`rollback TRANSACTION`, in a life",
