@@ -3,7 +3,8 @@
 `problem` names the first line that is not as it may be, or is None. It keeps a plain map, and knows nothing of pages, logs or locks:
 
 - up to the first refusal a line answers as it does undisturbed;
-- a line that is refused 9 has changed nothing: each line behind it answers by what the lines before it did, and a rollback goes on where it stood;
+- a line that is refused 9 is one that takes memory (docs/FAULTS.md), and has changed nothing: each line behind it answers by what the lines before it
+  did, and a rollback goes on where it stood;
 - behind `refused 8` or `refused 10` the engine answers `refused 10` alone; an opening that does not succeed is refused 9 or 8;
 - in the end there is what was acknowledged, and of the commits that were asked and not acknowledged a front.
 """
@@ -13,6 +14,8 @@ import re
 
 MOST_ACTIVE = 64
 BY_KEY = {"fetch", "seek", "next", "prev", "scan", "insert", "delete"}
+# what may be refused 9: these ask for locks, and a continue for the pages of a split
+TAKES_MEMORY = BY_KEY | {"continue"}
 # lines that tell counts: these may differ once something was refused
 COUNTS = {"calls", "redo", "log"}
 
@@ -278,8 +281,8 @@ class Judge:
                     raise Wrong(f"line {at}: {reply}, though the engine has failed")
                 continue
             if reply == "refused 9":
-                if words[0] == "force":
-                    raise Wrong(f"line {at}: a force takes no memory")
+                if words[0] not in TAKES_MEMORY:
+                    raise Wrong(f"line {at}: a {words[0]} takes no memory")
                 disturbed = True
                 continue
             if reply in ("refused 8", "refused 10"):
