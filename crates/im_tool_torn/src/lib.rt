@@ -6,4 +6,4 @@
 
 mod merged;
 
-pub use merged::{torn, torn_file};
+pub use merged::{bytes_of, torn, torn_file};

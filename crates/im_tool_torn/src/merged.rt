@@ -45,7 +45,8 @@ pub fn torn_file<D: Disk>(
     Ok(bytes)
 }
 
-fn bytes_of<D: Disk>(alloc: Global, disk: &mut D, file: FileId) -> Result<Vec<u8>, AllocError>
+/// The bytes of a file.
+pub fn bytes_of<D: Disk>(alloc: Global, disk: &mut D, file: FileId) -> Result<Vec<u8>, AllocError>
     requires working { D.failed disk.old ≡ false }
     ensures works { IfOk result (λ bytes. D.failed disk.new ≡ false) }
     ensures stays { D.seen disk.new ≡ D.seen disk.old }
