@@ -50,6 +50,10 @@ pub map_ok : (r : Result Unit Fault) (P Q : Type 0) → (P → Q) → IfOk r (λ
 map_ok (Ok x) P Q f h = f h
 map_ok (Err e) P Q f h = tt
 
+pub both_ok : (r : Result Unit Fault) (P Q R : Type 0) → IfOk r (λ x. P) → IfOk r (λ x. Q) → (P → Q → R) → IfOk r (λ x. R)
+both_ok (Ok x) P Q R one two f = f one two
+both_ok (Err e) P Q R one two f = tt
+
 -- ---- refusals
 
 full_is : (fault : Fault) → is_full (told_by (replies.Refused fault)) ≡ true → fault ≡ TraceFull

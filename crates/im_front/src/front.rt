@@ -12,6 +12,7 @@ ghost use Rattle.im_front.specs.Traces.{trace_of, counts_of};
 ghost use Rattle.im_base_steps.specs.Replies.{is_full, lacks_memory, IsReply};
 ghost use Rattle.im_theory_store.specs.Store.{LookKept};
 ghost use Rattle.im_front.specs.Held.{IsResting, IsRun, StopKeeps};
+ghost use Rattle.im_front.specs.Cuts.{WasCut};
 ghost use Rattle.im_front.specs.Acknowledged.{IsAcknowledged, IsForced, IsNotAcknowledged, IsNotForced, IsSettled, IsStepOf};
 
 use crate::callers::{Behind, Callers};
@@ -169,9 +170,14 @@ impl<E: Store, L: Ledger> Front<E, L> {
     /// Makes what is committed the base of the trace, and empties it. Refused `Failed`, then `Busy` while a transaction is active,
     /// then `TraceFull` where the steps cut would pass 2^62, then as `entries` is.
     pub fn cut_trace<R: Wait>(&self, rt: &R) -> Result<(), Fault>
+        ensures cut { IfOk result (λ _. WasCut E.Store) }
         ensures causes { IfErr result (λ fault. (fault ≡ Failed) ⊎ ((fault ≡ Busy) ⊎ ((fault ≡ TraceFull) ⊎ ((old new : E) × E.refuses old new fault)))) }
     {
-        self.held.lock(rt).cut_trace()
+        let mut held = self.held.lock(rt);
+        held.holds_always();
+        let done = held.cut_trace();
+        held.holds_always();
+        done
     }
 
     /// Started, committed and rolled back: as they were at one moment, and never less than this share read before. It takes no lock
