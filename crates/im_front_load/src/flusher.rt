@@ -1,6 +1,7 @@
 //! The flusher.
 
-ghost use Rattle.std.specs.Prelude.{◌≡◌, ◌+◌, ◌*◌, OnOk};
+ghost use Rattle.std.specs.Prelude.{◌≡◌, ◌+◌, ◌*◌, IfErr, OnOk};
+ghost use Rattle.im_front_load.specs.Refusals.{IsStopped};
 
 use crate::stepping::made;
 use im_base_steps::Step;
@@ -20,7 +21,8 @@ pub(crate) fn flush_rounds<E: Store, L: Ledger, R: Wait>(
     mine: &mut Share<L>,
     rounds: u64,
 ) -> Result<(), Fault>
-    ensures { OnOk result (mine.new.made.amount ≡ mine.old.made.amount + 9 * rounds) }
+    ensures steps { OnOk result (mine.new.made.amount ≡ mine.old.made.amount + 9 * rounds) }
+    ensures causes { IfErr result (IsStopped E.Store) }
 {
     for _round in 0..rounds {
         flush_round(rt, front, mine)?;
@@ -34,7 +36,8 @@ fn flush_round<E: Store, L: Ledger, R: Wait>(
     front: &Front<E, L>,
     mine: &mut Share<L>,
 ) -> Result<(), Fault>
-    ensures { OnOk result (mine.new.made.amount ≡ mine.old.made.amount + 9) }
+    ensures steps { OnOk result (mine.new.made.amount ≡ mine.old.made.amount + 9) }
+    ensures causes { IfErr result (IsStopped E.Store) }
 {
     for page in 0..PAGES {
         made(rt, front, mine, Step::FlushPage(page))?;

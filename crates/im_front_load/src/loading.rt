@@ -1,10 +1,12 @@
 //! A load.
 
-ghost use Rattle.std.specs.Prelude.{◌≡◌, ◌≤◌, ◌+◌, ◌*◌, ℕ, All, List, IfOk, IfSome, length};
+ghost use Rattle.std.specs.Prelude.{◌≡◌, ◌≤◌, ◌+◌, ◌*◌, ◌⊎◌, ℕ, All, List, IfErr, IfOk, IfSome, length};
 ghost use Rattle.std.specs.List.{sum_by};
+ghost use Rattle.im_base_types.specs.declared.fault.Fault.TheVariants.{Memory, TooMany};
 ghost use Rattle.im_front.specs.Traces.{trace_of};
 ghost use Rattle.im_front.specs.Held.{IsResting, IsRun, StopKeeps};
 ghost use Rattle.im_front_load.specs.Counting.{least_of, IsDone};
+ghost use Rattle.im_front_load.specs.Refusals.{IsStopped, IsUnloaded, StopsFor};
 
 use crate::flusher::flush_rounds;
 use crate::job::{Ended, Job, Task};
@@ -32,7 +34,7 @@ pub struct Loaded<E: Store> {
 /// Where the store tells what it holds, the trace is a run that ends in it, and a stop then keeps what it acknowledged. Over any store,
 /// where the sum is there it is the number of all steps: three at least for each transaction, and nine for each round of the flusher.
 ///
-/// Refused as the first step that was refused, and `Memory`.
+/// Refused as the first step that was refused, or as the entries are before it, and `Memory`.
 pub fn load<
     E: Store + Send,
     L: Ledger + Send + Sync,
@@ -53,6 +55,7 @@ pub fn load<
     ensures sum { IfOk result (λ l. IfSome l.closed.sum (λ n. n ≡ l.closed.cut + length l.closed.trace.items)) }
     ensures steps { IfOk result (λ l. IfSome l.closed.sum (λ n. args.threads * (3 * args.txns) + 9 * args.flush ≤ n)) }
     ensures sound { IfOk result (λ l. l.stats.committed + l.stats.rolled_back ≤ l.stats.started) }
+    ensures causes { IfErr result (IsUnloaded E.Store) }
 {
     let front = match Front::<E, L>::new(alloc, engine, blank) {
         Ok(front) => front,
@@ -61,7 +64,7 @@ pub fn load<
     let mut last = front.share(rt)?;
     let ended = in_threads(rt, alloc, &front, &args, at_start)?;
     let stats = front.stats(&mut last);
-    let shares = shares_of(alloc, last, ended)?;
+    let shares = shares_of::<E, L>(alloc, last, ended)?;
     Ok(Loaded {
         stats,
         closed: front.close(shares),
@@ -83,6 +86,8 @@ fn in_threads<
 ) -> Result<Vec<Ended<L>>, Fault>
     ensures done { IfOk result (λ v. All (IsDone args.now.txns args.now.flush) v.items) }
     ensures least { IfOk result (λ v. sum_by (λ e. least_of args.now.txns args.now.flush e.task) v.items ≡ args.now.threads * (3 * args.now.txns) + 9 * args.now.flush) }
+    ensures stops { IfOk result (λ v. All (StopsFor E.Store) v.items) }
+    ensures causes { IfErr result (λ fault. (fault ≡ TooMany) ⊎ (fault ≡ Memory)) }
 {
     let jobs = jobs_of(rt, alloc, front, args)?;
     match map_vec(rt, jobs, &|job| run(rt, alloc, front, job, args, at_start)) {
@@ -98,7 +103,8 @@ fn jobs_of<E: Store, L: Ledger, R: Wait>(
     front: &Front<E, L>,
     args: &LoadArgs,
 ) -> Result<Vec<Job<L>>, Fault>
-    ensures { IfOk result (λ v. sum_by (λ j. least_of args.now.txns args.now.flush j.task) v.items ≡ args.now.threads * (3 * args.now.txns) + 9 * args.now.flush) }
+    ensures least { IfOk result (λ v. sum_by (λ j. least_of args.now.txns args.now.flush j.task) v.items ≡ args.now.threads * (3 * args.now.txns) + 9 * args.now.flush) }
+    ensures causes { IfErr result (λ fault. (fault ≡ TooMany) ⊎ (fault ≡ Memory)) }
 {
     let mut jobs = Vec::new(alloc);
     for worker in 0..args.threads() as u32 {
@@ -115,7 +121,8 @@ fn add_flusher<E: Store, L: Ledger, R: Wait>(
     jobs: &mut Vec<Job<L>>,
     args: &LoadArgs,
 ) -> Result<(), Fault>
-    ensures { IfOk result (λ _. (f : ℕ) → sum_by (λ j. least_of f args.now.flush j.task) jobs.new.items ≡ sum_by (λ j. least_of f args.now.flush j.task) jobs.old.items + 9 * args.now.flush) }
+    ensures causes { IfErr result (λ fault. (fault ≡ TooMany) ⊎ (fault ≡ Memory)) }
+    ensures more { IfOk result (λ _. (f : ℕ) → sum_by (λ j. least_of f args.now.flush j.task) jobs.new.items ≡ sum_by (λ j. least_of f args.now.flush j.task) jobs.old.items + 9 * args.now.flush) }
 {
     if args.flush() == 0 {
         return Ok(());
@@ -131,7 +138,8 @@ fn add<E: Store, L: Ledger, R: Wait>(
     jobs: &mut Vec<Job<L>>,
     task: Task,
 ) -> Result<(), Fault>
-    ensures { IfOk result (λ _. (f : ℕ) (g : ℕ) → sum_by (λ j. least_of f g j.task) jobs.new.items ≡ sum_by (λ j. least_of f g j.task) jobs.old.items + least_of f g task) }
+    ensures causes { IfErr result (λ fault. (fault ≡ TooMany) ⊎ (fault ≡ Memory)) }
+    ensures more { IfOk result (λ _. (f : ℕ) (g : ℕ) → sum_by (λ j. least_of f g j.task) jobs.new.items ≡ sum_by (λ j. least_of f g j.task) jobs.old.items + least_of f g task) }
 {
     let share = front.share(rt)?;
     match jobs.push(Job { task, share }) {
@@ -151,6 +159,7 @@ fn run<E: Store, L: Ledger, T: WorkerStart, R: Wait>(
 ) -> Ended<L>
     ensures task { result.task ≡ job.task }
     ensures done { IsDone args.now.txns args.now.flush result }
+    ensures stops { StopsFor E.Store result }
 {
     let Job { task, mut share } = job;
     let end = match task {
@@ -167,13 +176,14 @@ fn run<E: Store, L: Ledger, T: WorkerStart, R: Wait>(
     }
 }
 
-// All shares; or the first fault.
-fn shares_of<L: Ledger>(
+// All shares; or the first fault of a task, or `Memory`.
+fn shares_of<E: Store, L: Ledger>(
     alloc: Global,
     last: Share<L>,
     ended: Vec<Ended<L>>,
 ) -> Result<Vec<Share<L>>, Fault>
-    ensures { IfOk result (λ v. (f : ℕ) (g : ℕ) → All (IsDone f g) ended.items → sum_by (λ e. least_of f g e.task) ended.items ≤ sum_by (λ s. s.made.amount) v.items) }
+    ensures steps { IfOk result (λ v. (f : ℕ) (g : ℕ) → All (IsDone f g) ended.items → sum_by (λ e. least_of f g e.task) ended.items ≤ sum_by (λ s. s.made.amount) v.items) }
+    ensures causes { All (StopsFor E.Store) ended.items → IfErr result (IsStopped E.Store) }
 {
     let mut shares = Vec::new(alloc);
     let Ok(()) = shares.push(last) else {

@@ -1,7 +1,8 @@
 //! What a load prints.
 
-ghost use Rattle.std.specs.Prelude.{◌≤◌, IfOk};
+ghost use Rattle.std.specs.Prelude.{◌≡◌, ◌≤◌, IfOk};
 ghost use Rattle.im_front.specs.Held.{IsResting};
+ghost use Rattle.im_front_load.specs.Loads.{WasLoaded};
 
 use crate::loading::{Loaded, load};
 use im_base_types::{Fault, WorkerStart};
@@ -16,7 +17,7 @@ use std::sync::ledger::Blank;
 use std::thread::Threads;
 
 /// Runs a load on a store at rest, and prints what came of it: the transactions, how many entries the store has, and how many
-/// steps the trace. It answers the exit status: 0, and 1 where a step was refused, whose number it prints.
+/// steps the trace. It answers the exit status: 0 where the load came to its end, and 1 where a step was refused, whose number it prints.
 pub fn load_text<E: Store + Send, T: WorkerStart + Sync, R: Threads + Wait + Sync, W: Write>(
     rt: &R,
     alloc: Global,
@@ -26,7 +27,8 @@ pub fn load_text<E: Store + Send, T: WorkerStart + Sync, R: Threads + Wait + Syn
     writer: &mut W,
 ) -> io::Result<u8>
     requires resting { IsResting E.Store engine }
-    ensures { IfOk result (λ status. status ≤ 1) }
+    ensures status { IfOk result (λ status. status ≤ 1) }
+    ensures loaded { IfOk result (λ status. status ≡ 0 → WasLoaded E.Store args) }
 {
     match load::<E, Brand, T, R>(rt, alloc, engine, Blank::new(1024), args, at_start) {
         Ok(loaded) => print_loaded(alloc, loaded, writer),
@@ -60,7 +62,7 @@ fn print_loaded<E: Store, W: Write>(
 
 /// Prints a refusal, by its number, and answers the exit status 1.
 pub fn print_refused<W: Write>(fault: Fault, writer: &mut W) -> io::Result<u8>
-    ensures { IfOk result (λ status. status ≤ 1) }
+    ensures { IfOk result (λ status. status ≡ 1) }
 {
     writeln!(writer, "refused {}", fault.number())?;
     Ok(1)

@@ -1,8 +1,10 @@
 //! One step of a load.
 
-ghost use Rattle.std.specs.Prelude.{◌≡◌, ◌+◌, false, OnOk, OnErr, IfOk};
+ghost use Rattle.std.specs.Prelude.{◌≡◌, ◌+◌, false, OnOk, IfErr};
+ghost use Rattle.im_base_steps.specs.declared.reply.Reply.TheVariants.{Refused};
 ghost use Rattle.im_base_steps.specs.Calls.{told_by};
 ghost use Rattle.im_base_steps.specs.Replies.{is_full, lacks_memory};
+ghost use Rattle.im_front_load.specs.Refusals.{IsStopped};
 
 use im_base_steps::{Reply, Step};
 use im_base_types::Fault;
@@ -18,7 +20,8 @@ pub(crate) fn made<E: Store, L: Ledger, R: Wait>(
     mine: &mut Share<L>,
     step: Step,
 ) -> Result<Reply, Fault>
-    ensures { OnOk result (mine.new.made.amount ≡ mine.old.made.amount + 1) }
+    ensures counted { OnOk result (mine.new.made.amount ≡ mine.old.made.amount + 1) }
+    ensures causes { IfErr result (IsStopped E.Store) }
 {
     unrefused(front.call(rt, mine, step))
 }
@@ -27,6 +30,7 @@ pub(crate) fn made<E: Store, L: Ledger, R: Wait>(
 fn unrefused(reply: Reply) -> Result<Reply, Fault>
     ensures full { OnOk result (is_full (told_by reply) ≡ false) }
     ensures memory { OnOk result (lacks_memory (told_by reply) ≡ false) }
+    ensures refused { IfErr result (λ fault. reply ≡ Refused fault) }
 {
     match reply {
         Reply::Refused(fault) => Err(fault),

@@ -1,7 +1,8 @@
 //! A worker.
 
-ghost use Rattle.std.specs.Prelude.{◌≡◌, ◌≤◌, ◌+◌, ◌*◌, ◌++◌, IfOk, OnOk};
+ghost use Rattle.std.specs.Prelude.{◌≡◌, ◌≤◌, ◌+◌, ◌*◌, ◌++◌, IfErr, IfOk, OnOk};
 ghost use Rattle.std.specs.Int.{w32, to_be_bytes};
+ghost use Rattle.im_front_load.specs.Refusals.{IsStopped};
 
 use crate::stepping::made;
 use im_base_steps::{Reply, Step};
@@ -22,7 +23,8 @@ pub(crate) fn work<E: Store, L: Ledger, R: Wait>(
     worker: u32,
     txns: u32,
 ) -> Result<(), Fault>
-    ensures { OnOk result (mine.old.made.amount + 3 * txns ≤ mine.new.made.amount) }
+    ensures steps { OnOk result (mine.old.made.amount + 3 * txns ≤ mine.new.made.amount) }
+    ensures causes { IfErr result (IsStopped E.Store) }
 {
     for i in 0..txns {
         let Ok(key) = key_of(alloc, worker, i) else {
@@ -41,7 +43,8 @@ fn one_insert<E: Store, L: Ledger, R: Wait>(
     key: Vec<u8>,
     rid: Rid,
 ) -> Result<(), Fault>
-    ensures { OnOk result (mine.old.made.amount + 3 ≤ mine.new.made.amount) }
+    ensures steps { OnOk result (mine.old.made.amount + 3 ≤ mine.new.made.amount) }
+    ensures causes { IfErr result (IsStopped E.Store) }
 {
     let Reply::Started(t) = made(rt, front, mine, Step::Begin)? else {
         return Err(Fault::Failed);
@@ -59,7 +62,8 @@ fn commit<E: Store, L: Ledger, R: Wait>(
     mine: &mut Share<L>,
     t: TxnId,
 ) -> Result<(), Fault>
-    ensures { OnOk result (mine.old.made.amount + 1 ≤ mine.new.made.amount) }
+    ensures steps { OnOk result (mine.old.made.amount + 1 ≤ mine.new.made.amount) }
+    ensures causes { IfErr result (IsStopped E.Store) }
 {
     let reply = made(rt, front, mine, Step::Commit(t))?;
     if matches!(reply, Reply::More) {
@@ -75,7 +79,8 @@ fn roll_back<E: Store, L: Ledger, R: Wait>(
     mine: &mut Share<L>,
     t: TxnId,
 ) -> Result<(), Fault>
-    ensures { OnOk result (mine.old.made.amount + 1 ≤ mine.new.made.amount) }
+    ensures steps { OnOk result (mine.old.made.amount + 1 ≤ mine.new.made.amount) }
+    ensures causes { IfErr result (IsStopped E.Store) }
 {
     let mut reply = made(rt, front, mine, Step::Rollback(t))?;
     for _round in rt.forever() {

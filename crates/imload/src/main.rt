@@ -2,15 +2,17 @@
 //! are in memory; with `--group` each Commit waits for a force. On a terminal it says on standard error which threads have begun.
 #![tactic(auto)]
 
+mod args;
 mod progress;
 mod store;
 
+use crate::args::load_args;
 use crate::progress::Progress;
 use crate::store::new_store;
 use clap::error::ErrorKind;
 use im_base_types::WorkerStart;
 use im_front::LoadArgs;
-use im_front_load::{load_args, load_text, print_refused};
+use im_front_load::{load_text, print_refused};
 use std::alloc::{AllocError, Global};
 use std::io::Write;
 use std::process::ExitCode;

@@ -14,4 +14,8 @@ returns-in-Ok-clause-least g c =
     let len : length c.in_ok-jobs.jobs.items ≡ length c.in-Ok.ended.items = omega (arith, c.in-Ok.ensures.len, c.in-Ok.ended.ok.0, c.in_ok-jobs.jobs.ok.0) in
     same_sums (λ j. least_of txns flush j.task) (λ e. least_of txns flush e.task) c.in_ok-jobs.jobs.items c.in-Ok.ended.items len (λ i d e lt.
     let given = (c.in-Ok.ensures.each i e lt).1 in
-    ap (λ j. least_of txns flush j.task) (given.job_is d) ∙ ap (least_of txns flush) (search rules)) ∙ c.in_ok-jobs.ensures
+    ap (λ j. least_of txns flush j.task) (given.job_is d) ∙ ap (least_of txns flush) (search rules)) ∙ c.in_ok-jobs.ensures.least
+
+pub returns-in-Ok-clause-stops : goal.returns-in-Ok-clause-stops
+returns-in-Ok-clause-stops g c =
+    λ k d lt. let given = (c.in-Ok.ensures.each k d (omega (arith, lt, c.in-Ok.ensures.len))).1 in search rules

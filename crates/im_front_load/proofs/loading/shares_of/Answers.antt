@@ -5,6 +5,7 @@ use Rattle.std.specs.List.{sum_by}
 use Rattle.std.proofs.lemmas.List.Sums.{sum_by_push}
 use Rattle.std.proofs.lemmas.List.Elements.{All-head, All-tail}
 use Rattle.im_front_load.specs.Counting.{least_of, IsDone}
+use Rattle.im_front_load.specs.Refusals.{StopsFor}
 use Rattle.im_front_load.proofs.Counting.{none_is, nothing_left}
 use Rattle.im_front_load.proofs.loading.shares_of.Goals as goal
 
@@ -24,10 +25,11 @@ loop-one-preserved g c =
             omega (arith, k.0, made, pushed, sum_by_push (λ e. least_of txns rounds e.task) c.loop-one.yielded c.in-Some.one, sum_by_push (λ s. s.made.amount) c.loop-one.shares.items c.in-Some.one.share),
             All-tail (IsDone txns rounds) c.in-Some.one (into_iter_items c.next.new.self) both,
           ),
+      λ stops. All-tail (StopsFor g.E.Store) c.in-Some.one (into_iter_items c.next.new.self) (subst (All (StopsFor g.E.Store)) steps (i.3 stops)),
     )
 
-pub returns : goal.returns
-returns g c =
+pub returns-clause-steps : goal.returns-clause-steps
+returns-clause-steps g c =
     let i = c.loop-one.invariant in
     let none = c.in-None.ensures.steps in
     let empty : into_iter_items c.loop-one.one-iterator ≡ [] = nothing_left _ (sym i.1 ∙ none.0) in

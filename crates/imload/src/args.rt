@@ -1,7 +1,5 @@
 //! The command line of a load.
 
-ghost use Rattle.std.specs.Prelude.{◌≡◌};
-
 use clap::builder::ValueParser;
 use clap::error::ErrorKind;
 use clap::{Arg, ArgAction, Command, Error};
@@ -10,17 +8,17 @@ use std::alloc::Global;
 
 /// What a command line asks for.
 #[derive(Clone, Copy, Debug)]
-pub struct LoadCommand {
+pub(crate) struct LoadCommand {
     /// How many threads, transactions and rounds of the flusher, and whether Commits wait for a force.
-    pub args: LoadArgs,
+    pub(crate) args: LoadArgs,
     /// Whether the throughput is printed too.
-    pub timed: bool,
+    pub(crate) timed: bool,
 }
 
 /// Reads the words of a command line, of which the first is the program's name. Where a number is not named it is 1, and 0 for the
 /// flusher's rounds; a value of `LoadArgs` is within the ranges, whatever the words are. Refused with the text for the user: a
 /// mistake, or a request for help or the version.
-pub fn load_args(alloc: Global, words: &[String]) -> Result<LoadCommand, Error> {
+pub(crate) fn load_args(alloc: Global, words: &[String]) -> Result<LoadCommand, Error> {
     let mut command = command(alloc)?;
     let matches = command.try_get_matches_from_mut(words)?;
     let args = LoadArgs::new(
