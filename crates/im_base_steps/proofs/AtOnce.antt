@@ -2,7 +2,8 @@
 use Rattle.std.proofs.Common.{◌≡◌, Bool, true, false, true≢false, refl, ap, sym}
 use Rattle.std.specs.Prelude.{◌||◌}
 use Rattle.im_base_types.specs.Answers.{Step, Reply, Started, Found, Absent, Entry, End, Entries, Inserted, Duplicate, Deleted, Committed, RolledBack, More, Blocked, BlockedTree, Die, Done, Refused}
-use Rattle.im_base_steps.specs.Replies.{is_continue, is_insert, is_delete, is_commit, takes_back, SuitsAtOnce, Suits}
+use Rattle.im_base_steps.specs.Calls.{is_continue}
+use Rattle.im_base_steps.specs.Replies.{is_insert, is_delete, is_commit, takes_back, SuitsAtOnce, Suits}
 
 pub at_once : (s : Step) (r : Reply) → SuitsAtOnce s r → Suits s r
 at_once s Inserted e = ap (λ (b : Bool). b || is_continue s) e

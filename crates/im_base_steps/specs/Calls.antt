@@ -104,10 +104,17 @@ is_blocked (answers.Blocked holder) = true
 is_blocked answers.BlockedTree = true
 is_blocked _ = false
 
--- a transaction has ended, or may have where a force was made, or the engine has failed
+-- a Continue
+abbrev pub is_continue : answers.Step → Bool
+is_continue (answers.Continue t) = true
+is_continue _ = false
+
+-- a transaction has ended, or may have where a force was made, or a structure change, in a Continue that was made; or the engine has failed
 abbrev pub may_unblock : answers.Step → answers.Reply → Bool
 may_unblock step answers.Committed = true
 may_unblock step answers.RolledBack = true
 may_unblock step answers.Done = is_force step
 may_unblock step (answers.Refused fault) = breaks fault
-may_unblock step _ = false
+may_unblock step (answers.Blocked holder) = false
+may_unblock step answers.BlockedTree = false
+may_unblock step _ = is_continue step

@@ -2,7 +2,7 @@
 use Rattle.std.specs.Prelude.{◌||◌, ◌≡◌, ℕ, ◌+◌, ◌≤◌, ◌==◌, Bool, true, false, length, if◌then◌else◌}
 use Rattle.im_base_types.specs.Answers.{Fetch, Seek, Next, Prev, Scan, Insert, Delete, Step, Begin, Do, Commit, Rollback, Continue, FlushPage, Force, Checkpoint, Switch, Reply, Started, Found, Absent, Entry, End, Entries, Inserted, Duplicate, Deleted, Committed, RolledBack, More, Blocked, BlockedTree, Die, Done, Refused}
 use Rattle.im_base_types.specs.Refusals.{memory}
-use Rattle.im_base_steps.specs.Calls.{is_force, most_entries}
+use Rattle.im_base_steps.specs.Calls.{is_continue, is_force, most_entries}
 
 -- ---- steps, by what they ask
 
@@ -45,10 +45,6 @@ may_miss _ = false
 abbrev pub is_commit : Step → Bool
 is_commit (Commit t) = true
 is_commit _ = false
-
-abbrev pub is_continue : Step → Bool
-is_continue (Continue t) = true
-is_continue _ = false
 
 -- a Rollback or a Continue
 abbrev pub takes_back : Step → Bool

@@ -86,7 +86,7 @@ impl Step {
     }
 
     /// Whether a step that is `Blocked` is worth making again after this one with this reply: a transaction has ended, or may have where a
-    /// force was made, or the engine has failed.
+    /// force was made, or a structure change, in a Continue that was made; or the engine has failed.
     pub fn may_unblock(&self, reply: &Reply) -> bool
         ensures { result ≡ may_unblock (asked_by self.now) (told_by reply.now) }
     {
@@ -94,7 +94,8 @@ impl Step {
             Reply::Committed | Reply::RolledBack => true,
             Reply::Done => matches!(self, Step::Force),
             Reply::Refused(fault) => breaks(*fault),
-            _ => false,
+            Reply::Blocked(_) => false,
+            _ => matches!(self, Step::Continue(_)),
         }
     }
 

@@ -1,4 +1,4 @@
-//! Who is in a front: the callers that are awake, and those that sleep until a transaction has ended or a force was made. No contract speaks
+//! Who is in a front: the callers that are awake, and those that sleep until a transaction or a structure change has ended or a force was made. No contract speaks
 //! of who sleeps; it decides alone when a force is made, and by whom.
 
 use im_base_steps::{Reply, Step};
@@ -113,7 +113,7 @@ impl Room {
 pub(crate) struct Callers {
     // How many are in a call and do not sleep.
     awake: AtomicU64,
-    // Who is blocked sleeps here until a transaction has ended.
+    // Who is blocked sleeps here until a transaction has ended, or a structure change may have.
     ended: Room,
     // Whose Commit waits sleeps here until a force was made.
     forced: Room,
@@ -143,19 +143,19 @@ impl Callers {
         self.awake.fetch_sub(1, Ordering::SeqCst);
     }
 
-    /// Wakes whom a step with its reply concerns: who was blocked, where a transaction has ended; and who waits for a force, where one was made
-    /// or the store has failed.
+    /// Wakes whom a step with its reply concerns: who was blocked, where a transaction has ended, or a structure change may have; and who waits
+    /// for a force, where one was made or the store has failed.
     pub(crate) fn tell(&self, step: &Step, reply: &Reply) {
         if step.may_unblock(reply) {
             self.ended.wake_all(&self.awake);
             self.line.wake_all(&self.awake);
-            if !matches!(reply, Reply::Committed | Reply::RolledBack) {
+            if matches!(reply, Reply::Done | Reply::Refused(_)) {
                 self.forced.wake_all(&self.awake);
             }
         }
     }
 
-    /// Sleeps until a transaction may have ended.
+    /// Sleeps until a transaction may have ended, or a structure change.
     pub(crate) fn sleep_blocked<'a, T: Behind, R: Wait>(
         &self,
         rt: &R,
