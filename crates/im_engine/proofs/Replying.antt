@@ -15,9 +15,9 @@ use Rattle.im_base_types.specs.declared.fault.Fault.TheVariants as faults
 use Rattle.im_base_steps.specs.declared.reply.Blocker.TheVariants as blockers
 use Rattle.im_base_steps.specs.declared.reply.Reply.{Reply}
 use Rattle.im_base_steps.specs.declared.reply.Reply.TheVariants as replies
-use Rattle.im_base_steps.specs.Calls.{asked_by, told_by, is_force}
+use Rattle.im_base_steps.specs.Calls.{asked_by, told_by, is_continue, is_force}
 use Rattle.im_base_types.specs.Faults.{number_of}
-use Rattle.im_base_steps.specs.Replies.{is_commit, is_continue, takes_back, is_full, Suits, IsReply, IsCounted}
+use Rattle.im_base_steps.specs.Replies.{is_commit, takes_back, is_full, Suits, IsReply, IsCounted}
 use Rattle.im_base_types.specs.Answers.{Idle}
 use Rattle.im_theory_machine.specs.View.{owns_in}
 use Rattle.im_engine.specs.declared.stepped.Under.{Under}
