@@ -1,11 +1,10 @@
 -- A run of the machine is as good as its transactions alone, by its steps and replies.
-use Rattle.std.proofs.Common.{◌≡◌, ◌⊎◌, inl, inr, ⊎_elim, ℕ, true, List, [], ◌∷◌, ◌++◌, map, refl, sym, subst, ◌∙◌, ap}
+use Rattle.std.proofs.Common.{◌≡◌, inl, inr, ⊎_elim, ℕ, true, List, [], ◌∷◌, ◌++◌, refl, sym, subst, ◌∙◌}
 use Rattle.im_base_types.specs.Maps.{IndexMap}
-use Rattle.im_base_types.specs.Answers.{Step, Reply, Rollback, More, RolledBack, Mark, Committing, Going, MustRollBack}
-use Rattle.im_base_types.specs.Lives.{nothing_shown, shown_by}
+use Rattle.im_base_types.specs.Answers.{Step, Reply, Rollback, Mark, Committing, Going, MustRollBack}
 use Rattle.im_theory_machine.specs.View.{View, MayRollBack, is_among}
 use Rattle.im_theory_machine.specs.Machine.{Moves, Run, start}
-use Rattle.im_theory_machine.specs.Isolation.{IsReplay, finished, waits_in, Isolates}
+use Rattle.im_theory_machine.specs.Isolation.{IsReplay, finished}
 use Rattle.im_theory_machine.proofs.Isolates.{queue_marks, isolates}
 use Rattle.im_theory_steps.specs.Seen.{IsMarkShown}
 use Rattle.im_theory_steps.proofs.Acknowledged.{runs_commit}

@@ -1,5 +1,5 @@
 -- A store of the first format is a store whose other log is not made.
-use Rattle.std.proofs.Common.{◌≡◌, ◌⊎◌, ◌≤◌, inl, inr, ℕ, List, [], length, false, refl, sym, arith}
+use Rattle.std.proofs.Common.{◌⊎◌, inl, inr, ℕ, List, [], false, sym, arith}
 use Rattle.im_base_types.specs.Changes.{Effect}
 use Rattle.im_base_disk.specs.Disk.{both}
 use Rattle.im_log_gate.specs.Header.{IsUnmade, Says}

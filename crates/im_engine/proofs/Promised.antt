@@ -1,5 +1,5 @@
 -- One list of effects for all lives.
-use Rattle.std.proofs.Common.{◌≡◌, List, [], ◌∷◌, Option, None, Some, refl}
+use Rattle.std.proofs.Common.{◌≡◌, List, [], ◌∷◌, Option, None, Some}
 use Rattle.std.specs.Prelude.{IfSome}
 use Rattle.std.specs.FinMap.{empty, entries}
 use Rattle.im_base_types.specs.Pages.{Entry}

@@ -1,5 +1,5 @@
 -- What the files that a stop leaves stand for.
-use Rattle.std.proofs.Common.{◌≡◌, inl, inr, false, ℕ, ◌≤◌, List, ◌++◌, arith}
+use Rattle.std.proofs.Common.{◌≡◌, inl, inr, false, ℕ, ◌≤◌, List, arith}
 use Rattle.std.specs.FinMap.{empty}
 use Rattle.im_base_types.specs.declared.file_id.FileId.TheVariants.{Log}
 use Rattle.im_base_types.specs.Changes.{Effect, apply_all}

@@ -1,5 +1,5 @@
 -- One step more, and stops within steps.
-use Rattle.std.proofs.Common.{◌≡◌, ◌⊎◌, inl, inr, ◌+◌, ◌<◌, ℕ, Bool, true, false, Option, None, Some, List, [], ◌∷◌, ◌++◌, length, take, get_or, refl, sym, ap, subst, ◌∙◌, append-nil, arith}
+use Rattle.std.proofs.Common.{◌≡◌, inl, inr, ◌+◌, ◌<◌, ℕ, Bool, true, false, None, Some, List, [], ◌∷◌, ◌++◌, length, take, get_or, refl, sym, ap, subst, ◌∙◌, append-nil, arith}
 use Rattle.std.specs.Prelude.{if◌then◌else◌}
 use Rattle.std.proofs.lemmas.List.{take_more, length-take-le}
 use Rattle.im_base_types.specs.Answers as answers
@@ -7,7 +7,6 @@ use Rattle.im_base_types.specs.Answers.{Mark, Idle, Going, MustRollBack, Rolling
 use Rattle.im_base_types.specs.Changes.{Effect}
 use Rattle.im_base_types.specs.Lives.{Asked, Shown, StandsForMore, asks, effect_asked, shows, shown_by}
 use Rattle.im_theory_machine.specs.View.{View}
-use Rattle.im_theory_machine.specs.Machine.{Run, Moves}
 use Rattle.im_theory_machine.proofs.Callers.{Run-push}
 use Rattle.im_theory_steps.proofs.Durable.{commits_stand}
 use Rattle.im_base_steps.specs.Calls.{asked_by, told_by}

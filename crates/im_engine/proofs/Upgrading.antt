@@ -1,6 +1,6 @@
 -- How an upgrade ends, by which a log of the first format goes on as one of the second.
-use Rattle.std.proofs.Common.{◌≡◌, ◌≢◌, ◌⊎◌, inl, inr, ℕ, ◌<◌, ◌≤◌, ◌+◌, ◌^◌, Bool, true, false, List, Option, Some, None, Result, Ok, Err, take, refl, sym, ◌∙◌, ap, subst, arith}
-use Rattle.std.specs.Prelude.{◌↔◌, if◌then◌else◌, IfErr, OnOk}
+use Rattle.std.proofs.Common.{◌≡◌, ◌≢◌, ◌⊎◌, inl, inr, ℕ, ◌≤◌, ◌+◌, ◌^◌, Bool, true, false, List, Some, None, Result, Ok, Err, take, refl, sym, ◌∙◌, ap, arith}
+use Rattle.std.specs.Prelude.{◌↔◌, if◌then◌else◌, IfErr}
 use Rattle.std.proofs.lemmas.Bool.{cases_Bool, cond-true}
 use Rattle.im_base_types.specs.declared.fault.Fault.{Fault}
 use Rattle.im_base_types.specs.declared.fault.Fault.TheVariants.{Capacity, Device, Failed, LogFull, NotAStore}
@@ -8,7 +8,6 @@ use Rattle.im_base_types.specs.declared.file_id.FileId.TheVariants.{Log}
 use Rattle.im_base_types.specs.Changes.{Effect}
 use Rattle.im_base_disk.specs.declared.disk.Disk.{Ghosts}
 use Rattle.im_base_disk.specs.Disk.{Files}
-use Rattle.im_base_two_logs.specs.Runs.{LeavesNamed}
 use Rattle.im_log_header.specs.Header.{says_made, says_second}
 use Rattle.im_log_header.proofs.Saying.{says_other}
 use Rattle.im_log_gate.specs.Gate.{first_of, generation_at}
@@ -18,11 +17,11 @@ use Rattle.im_page_file.proofs.LogEnds.{still_working}
 use Rattle.im_page_writer.specs.declared.page_writer.PageWriter.{PageWriter}
 use Rattle.im_page_writer.specs.Outcome.{fault_of}
 use Rattle.im_page_writer.specs.PageWriter.{IsReadyWriter}
-use Rattle.im_page_writer.specs.Switching.{RefusesSwitch, Switched, SwitchKept}
+use Rattle.im_page_writer.specs.Switching.{RefusesSwitch, SwitchKept}
 use Rattle.im_restart.specs.Opening.{OpeningEnds, Opens}
 use Rattle.im_restart.proofs.Ends.{alive_log}
 use Rattle.im_restart.proofs.FullLog.{full_log}
-use Rattle.im_engine.specs.Restarting.{IsAtRest, IsOfSecond, UpgradeKept}
+use Rattle.im_engine.specs.Restarting.{IsAtRest, UpgradeKept}
 use Rattle.im_engine.proofs.AtRest.{rest_stops, rest_switched, switch_left}
 
 -- ---- the two formats

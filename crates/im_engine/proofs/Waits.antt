@@ -1,5 +1,5 @@
 -- Who waits for a force: by the machine's queue, and by the rows of the table.
-use Rattle.std.proofs.Common.{◌≡◌, ◌+◌, inl, inr, ℕ, Bool, true, false, List, [], ◌∷◌, length, Option, None, Some, refl, sym, ap, subst, ◌∙◌, arith}
+use Rattle.std.proofs.Common.{◌≡◌, ◌+◌, ℕ, Bool, true, false, List, [], ◌∷◌, length, Option, None, Some, refl, sym, ap, ◌∙◌, arith}
 use Rattle.std.specs.Prelude.{find}
 use Rattle.std.specs.FinMap.{empty}
 use Rattle.im_base_types.specs.Answers as answers
@@ -9,10 +9,9 @@ use Rattle.im_theory_log.specs.Histories.{Base, History}
 use Rattle.im_base_txn.specs.declared.transaction.Mark.{Mark}
 use Rattle.im_base_txn.specs.declared.transaction.Mark.TheVariants.{Going, MustRollBack, RollingBack, Committing}
 use Rattle.im_base_txn.specs.declared.transaction.Transaction.{Transaction}
-use Rattle.im_base_txn.specs.Rows.{AreRising, is_of, is_committing, is_waiting, waits_at, waiting_in, waiting_numbers, without_waiting}
+use Rattle.im_base_txn.specs.Rows.{AreRising, is_of, is_committing, waits_at, waiting_in, waiting_numbers, without_waiting}
 use Rattle.im_theory_machine.specs.Table.{Table, AreReleased}
 use Rattle.im_theory_machine.specs.View.{View, Txn, owner_in, is_among}
-use Rattle.im_theory_machine.proofs.Bools.{cases_test}
 use Rattle.im_theory_machine.proofs.Isolates.{queue_marks}
 use Rattle.im_theory_machine.proofs.Runs.{IsQueue}
 use Rattle.im_theory_steps.specs.Steps.{without_all}

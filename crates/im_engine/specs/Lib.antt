@@ -18,3 +18,6 @@ pub mod Restarting
 pub mod Listing
 pub mod Lived
 pub mod Serves
+pub mod OwnSteps
+pub mod TurningBack
+pub mod NextParts

@@ -18,7 +18,7 @@ module _ {D : Type 0} (d : Ghosts D) where
   -- and else only for want of memory or of page numbers, or because the files are no store. Where the current log's bytes are no log's it only reads.
   pub record IsOpening (config : Config) (old : D) (result : Result (Engine D d) (Fault × D)) : Type 0 where
     pub kept : (before : List Effect) → d.tells → (stands : StandsFor before (d.seen old)) → OpenKept d before old stands result
-    pub plain : IfOk result (λ e. (e.stepped ≡ false) × (e.under ≡ None))
+    pub plain : IfOk result (λ e. (e.stepped ≡ config.stepped) × (e.under ≡ None))
     pub opened : IfOk result (λ e. (e.failed ≡ false) × (e.txns.rows ≡ []) × (e.locks ≡ []) × (d.failed e.disk ≡ false))
     pub limit : IfOk result (λ e. e.max_pages ≡ config.max_pages)
     pub pool : IfOk result (λ e. e.writer.pool.frames ≡ config.frames)

@@ -16,6 +16,9 @@ pub struct Config {
     pub max_pages: u32,
     /// How many batches the log's buffer holds: they share one force, which comes where the next record finds no room, or is asked for.
     pub buffer: BufferSize,
+    /// Whether a structure change is made page by page, so that other transactions go on between two of its pages: an Insert or a Delete that needs one is
+    /// then answered `More`, and each Continue of its transaction goes on with it.
+    pub stepped: bool,
     /// Whether a Commit waits for a force: it is answered `More`, and the next `Force` commits all that wait.
     pub group: bool,
     /// How many workers share the redo of an opening, 1 to 16.
@@ -27,6 +30,7 @@ impl Default for Config {
         ensures frames { result.frames ≡ 64 }
         ensures pages { result.max_pages ≡ 1000000 }
         ensures buffer { result.buffer.batches ≡ 1 }
+        ensures stepped { result.stepped ≡ false }
         ensures group { result.group ≡ false }
         ensures workers { result.workers ≡ 1 }
     {
@@ -34,6 +38,7 @@ impl Default for Config {
             frames: 64,
             max_pages: 1_000_000,
             buffer: BufferSize::ONE,
+            stepped: false,
             group: false,
             workers: 1,
         }

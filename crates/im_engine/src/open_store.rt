@@ -57,7 +57,7 @@ impl<D: TwoLogs> Engine<D> {
         ensures workers { IsErrAnd result (λ x. x.0 ≡ Workers) ↔ ((8 ≤ config.frames) × (config.frames ≤ 1024)) × ((config.workers < 1) ⊎ (16 < config.workers)) }
         ensures untouched { IfErr result (λ x. (x.0 ≡ PoolSize) ⊎ (x.0 ≡ Workers) → x.1 ≡ disk) }
         ensures opened { IfOk result (λ e. (e.failed ≡ false) × (e.txns.rows ≡ []) × (e.locks ≡ []) × (D.failed e.disk ≡ false)) }
-        ensures plain { IfOk result (λ e. (e.stepped ≡ false) × (e.under ≡ None)) }
+        ensures plain { IfOk result (λ e. (e.stepped ≡ config.stepped) × (e.under ≡ None)) }
         ensures limit { IfOk result (λ e. e.max_pages ≡ config.max_pages) }
         ensures group { IfOk result (λ e. e.txns.group ≡ config.group) }
         ensures pool { IfOk result (λ e. e.writer.pool.frames ≡ config.frames) }
@@ -95,7 +95,7 @@ impl<D: TwoLogs> Engine<D> {
         ensures workers { IsErrAnd result (λ x. x.0 ≡ Workers) ↔ ((8 ≤ config.frames) × (config.frames ≤ 1024)) × ((config.workers < 1) ⊎ (16 < config.workers)) }
         ensures untouched { IfErr result (λ x. (x.0 ≡ PoolSize) ⊎ (x.0 ≡ Workers) → x.1 ≡ disk) }
         ensures opened { IfOk result (λ e. (e.failed ≡ false) × (e.txns.rows ≡ []) × (e.locks ≡ []) × (D.failed e.disk ≡ false)) }
-        ensures plain { IfOk result (λ e. (e.stepped ≡ false) × (e.under ≡ None)) }
+        ensures plain { IfOk result (λ e. (e.stepped ≡ config.stepped) × (e.under ≡ None)) }
         ensures limit { IfOk result (λ e. e.max_pages ≡ config.max_pages) }
         ensures group { IfOk result (λ e. e.txns.group ≡ config.group) }
         ensures pool { IfOk result (λ e. e.writer.pool.frames ≡ config.frames) }
@@ -135,7 +135,7 @@ impl<D: TwoLogs> Engine<D> {
                 locks: LockTable::new(alloc),
                 room,
                 failed: false,
-                stepped: false,
+                stepped: config.stepped,
                 under: None,
             }),
         }

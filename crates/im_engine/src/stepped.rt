@@ -11,6 +11,7 @@ mod deleting;
 mod inserting;
 mod page;
 mod reads;
+mod steps;
 mod taking_back;
 mod turning_back;
 
@@ -32,6 +33,16 @@ pub(crate) enum Aim {
 pub(crate) struct Under {
     pub(crate) begun: BegunChange,
     pub(crate) aim: Aim,
+}
+
+/// What a Continue makes next of its transaction's structure change: nothing, where it has none; a page; or its end, by what it is for.
+pub(crate) enum Part {
+    Other,
+    Page,
+    Insert,
+    Delete,
+    Split,
+    Drop,
 }
 
 // What others are told of it.

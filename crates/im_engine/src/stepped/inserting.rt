@@ -1,1 +1,85 @@
-//! Keys that come, beside a structure change or with one of their own.
+//! Keys that come, beside a structure change that goes on, or with one that begins.
+
+ghost use Rattle.std.specs.Prelude.{◌≡◌, None, false, true};
+
+use crate::accesses::{breaks, told};
+use crate::engine::Engine;
+use crate::stepped::{Aim, Under, beside_of};
+use im_base_disk::Disk;
+use im_base_steps::{Blocker, Reply};
+use im_base_txn::Mark;
+use im_base_types::{Fault, Key, Rid, TxnId};
+use im_engine_index::{Inserting, LockAnswer, insert_beside};
+use im_tree_search::Sight;
+
+impl<D: Disk> Engine<D> {
+    ghost use Rattle.im_base_types.specs.Answers as answers;
+    ghost use Rattle.im_theory_machine.specs.View.{owns_in};
+    ghost use Rattle.im_theory_steps.specs.Checks.{checked_by};
+    ghost use Rattle.im_engine.specs.Aims.{under_of};
+    ghost use Rattle.im_engine.specs.Told.{IsMade};
+
+    // Puts a key with its row id (`inserts_are_served`). Where its leaf lacks room, and no structure change is under way, the first page of its
+    // split is logged (`inserts_begin`), and Continue goes on with it. For want of pages, or of memory before its locks are granted, all is as it
+    // was; for want of page numbers or levels, or of memory after the grant, the engine fails.
+    pub(crate) fn insert_stepped(&mut self, t: TxnId, key: &[u8], rid: Rid) -> Reply
+        requires works { self.old.failed ≡ false }
+        requires stepped { self.old.stepped ≡ true }
+        requires checked { checked_by self.old.txns.rows (owns_in (under_of self.old.under) (answers.Do t (answers.Insert key.now rid))) (answers.Do t (answers.Insert key.now rid)) ≡ None }
+        ensures { IsMade D.Disk (answers.Do t (answers.Insert key.now rid)) result self.old self.new }
+    {
+        let Some(row) = self.txns.find(t) else {
+            return Reply::Refused(Fault::NoTransaction);
+        };
+        self.failed = true;
+        match insert_beside(
+            self.alloc,
+            &mut self.writer,
+            &mut self.disk,
+            &mut self.locks,
+            &row,
+            key,
+            rid,
+            self.max_pages,
+            beside_of(&self.under),
+        ) {
+            Ok(Sight::Seen(LockAnswer::Granted(Inserting::There))) => {
+                self.failed = false;
+                Reply::Duplicate
+            }
+            Ok(Sight::Seen(LockAnswer::Granted(Inserting::Put(lsn)))) => {
+                self.failed = false;
+                self.txns.note_record(t, lsn, lsn);
+                Reply::Inserted
+            }
+            Ok(Sight::Seen(LockAnswer::Granted(Inserting::Split(begun, leaf)))) => {
+                let Ok(key) = Key::new(key) else {
+                    return Reply::Refused(Fault::Failed);
+                };
+                self.failed = false;
+                let last = begun.change().last();
+                self.txns.note_record(t, last, last);
+                let aim = Aim::Puts(key, rid, leaf);
+                self.under = Some(Under { begun, aim });
+                Reply::More
+            }
+            Ok(Sight::Seen(LockAnswer::Wait(holder))) => {
+                self.failed = false;
+                Reply::Blocked(Blocker::Lock(holder))
+            }
+            Ok(Sight::Seen(LockAnswer::Die)) => {
+                self.failed = false;
+                self.txns.set_mark(t, Mark::MustRollBack);
+                Reply::Die
+            }
+            Ok(Sight::Hidden) => {
+                self.failed = false;
+                Reply::Blocked(Blocker::Tree)
+            }
+            Err(fault) => {
+                self.failed = breaks(fault);
+                Reply::Refused(told(fault))
+            }
+        }
+    }
+}

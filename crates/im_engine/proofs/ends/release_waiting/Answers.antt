@@ -1,6 +1,6 @@
-use Rattle.std.proofs.Common.{◌≡◌, ◌+◌, ◌<◌, ◌≤◌, ℕ, true, false, length, take, get_or, refl, sym, ap, subst, ◌∙◌, arith}
+use Rattle.std.proofs.Common.{◌+◌, ◌<◌, length, take, refl, sym, subst, ◌∙◌, arith}
 use Rattle.std.proofs.lemmas.List.{take_all}
-use Rattle.im_base_txn.specs.Rows.{begun, is_waiting, waiting_numbers}
+use Rattle.im_base_txn.specs.Rows.{begun, waiting_numbers}
 use Rattle.im_theory_machine.specs.Table.{Table, AreReleased}
 use Rattle.im_theory_machine.specs.View.{is_among}
 use Rattle.im_theory_steps.proofs.Waiting.{released_more, released_as}

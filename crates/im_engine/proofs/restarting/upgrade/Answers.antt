@@ -1,4 +1,4 @@
-use Rattle.std.proofs.Common.{◌≡◌, refl}
+use Rattle.std.proofs.Common.{refl}
 use Rattle.im_engine.proofs.Upgrading.{stays_kept, stays_opens, switch_kept, switch_opens}
 use Rattle.im_engine.proofs.restarting.upgrade.Goals as goal
 

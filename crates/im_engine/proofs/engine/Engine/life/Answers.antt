@@ -1,4 +1,4 @@
-use Rattle.std.proofs.Common.{rules, ◌≡◌, List, take, arith, subst, sym, refl, ◌∙◌}
+use Rattle.std.proofs.Common.{rules, ◌≡◌, List, take, arith, subst, refl, ◌∙◌}
 use Rattle.std.proofs.lemmas.List.{take_all}
 use Rattle.im_base_two_logs.specs.Runs.{LeavesNamed}
 use Rattle.im_base_two_logs.proofs.Runs.{unnamed}

@@ -1,5 +1,4 @@
-use Rattle.std.proofs.Common.{◌≤◌, ℕ, length, ap, sym, subst, ◌∙◌}
-use Rattle.im_base_txn.specs.Rows.{waiting_in}
+use Rattle.std.proofs.Common.{◌≤◌, ℕ, length, sym, subst}
 use Rattle.im_base_txn.proofs.LookUps.{few_waiting}
 use Rattle.im_base_steps.specs.Calls.{asked_by, told_by}
 use Rattle.im_base_steps.specs.Replies.{IsCounted}

@@ -1,0 +1,120 @@
+use Rattle.std.proofs.Common.{Ok, Err, inl, inr, refl, sym, ap, ◌∙◌, ◌+◌, length, rules}
+use Rattle.std.proofs.lemmas.List.{length-map}
+use Rattle.im_base_txn.specs.Rows.{changed, is_committing, with_record}
+use Rattle.im_base_steps.specs.declared.reply.Reply.TheVariants as replies
+use Rattle.im_base_types.specs.declared.fault.Fault.TheVariants as faults
+use Rattle.im_engine_rollback.specs.declared.undone.Undone.TheVariants as turns
+use Rattle.im_engine.specs.declared.stepped.Aim.TheVariants.{TookBack}
+use Rattle.im_engine.specs.Numbered.{Numbered, besides_rows}
+use Rattle.im_engine.proofs.Causes.{refused_inj}
+use Rattle.im_engine.proofs.SteppedBacks.{continue_row, ends_checked, ends_free}
+use Rattle.im_engine.proofs.SteppedBackPaces.{ends_pace, ends_some, ends_want}
+use Rattle.im_engine_rollback.proofs.Ends.{full_may, turn_more}
+use Rattle.im_engine.proofs.SteppedCloses.{drop_ended, drop_kept, drop_more, drop_never}
+use Rattle.im_engine.proofs.SteppedTurns.{back_refused}
+use Rattle.im_engine.proofs.Telling.{not_true, told_answered, told_refused, told_rolled_back}
+use Rattle.im_engine.proofs.Turning.{continue_made, continue_mark, continue_refused, told_capacity, told_failed, turn_lost}
+use Rattle.im_engine.proofs.Waits.{not_waiting}
+use Rattle.im_engine.proofs.engine.Engine.end_drop.Goals as goal
+
+pub end-requires : goal.end-requires
+end-requires g c =
+    let rows = c.args.self.now.txns.rows in
+    let t = c.args.t in
+    let checked = ends_checked rows TookBack t c.args.self.now.under c.requires.end refl c.requires.checked in
+    let its = continue_row rows t checked in
+    not_waiting rows t its.0 its.1 (ap is_committing (continue_mark rows t its.0 its.1 checked))
+
+pub returns-in-Ok-More : goal.returns-in-Ok-More
+returns-in-Ok-More g c =
+    let old = c.args.self.now in
+    let t = c.args.t in
+    let ends = c.requires.end in
+    let same = c.change.ensures ∙ ap (λ u. u.begun.change) (ends_some TookBack t old.under ends c.in-Some.under c.in-Some.is) in
+    let checked = ends_checked old.txns.rows TookBack t old.under ends refl c.requires.checked in
+    let its = continue_row old.txns.rows t checked in
+    record {
+      kept = λ before s v life.
+          let b = (life.running c.requires.works).0 in
+          let r = (life.running c.requires.works).1 in
+          let kept = drop_kept g.D.Disk before s v t its.0 old r its.1 checked TookBack ends c.change.result.now same c.close_drop.new.writer c.close_drop.new.disk (Ok c.in-Ok-More.field-0) (Ok (turns.More c.in-Ok-More.last c.in-Ok-More.undo_next)) (ap Ok c.in-Ok-More.field-0-is) (c.in-Ok-More.ensures.kept b r.base r.now r.redo_end r.stands r.over) in
+          drop_more g.D.Disk before s v t its.0 old r its.1 checked TookBack ends _ refl kept.stops refl ends.aim_is c.in-Ok-More.last c.in-Ok-More.undo_next kept.sound refl c.note_record.ensures;
+      told =
+          told_answered g.D.Disk old _ c.requires.works (ap besides_rows c.note_record.ensures) refl replies.More (λ k. refl) refl refl tt refl
+          (ap (λ (x : Numbered). length x.rows) c.note_record.ensures ∙ length-map old.txns.rows (changed t (with_record c.in-Ok-More.last c.in-Ok-More.undo_next))) c.in-Ok-More.ensures.outcome.ends.alive;
+      answered = continue_made g.D.Disk old c.requires.works t c.requires.checked c.close_drop.new.writer.log c.close_drop.new.disk replies.More (λ x e. cc e);
+      suits = search rules;
+      at_once = λ _. search rules;
+      paced = ends_pace g.D.Disk t TookBack old ends _ replies.More (λ is. cc is) (inl (inl refl, refl));
+      grouped = tt;
+      frames = search rules;
+      wants = λ b before s v r. ends_want g.D.Disk t TookBack old ends _ _ v.walk _ _ replies.More (λ is. cc is) (λ is. cc is);
+      quiet = λ none. absurd (none tt);
+      costs = tt;
+    }
+
+pub returns-in-Ok-Ended : goal.returns-in-Ok-Ended
+returns-in-Ok-Ended g c =
+    let old = c.args.self.now in
+    let t = c.args.t in
+    let ends = c.requires.end in
+    let same = c.change.ensures ∙ ap (λ u. u.begun.change) (ends_some TookBack t old.under ends c.in-Some.under c.in-Some.is) in
+    let checked = ends_checked old.txns.rows TookBack t old.under ends refl c.requires.checked in
+    let its = continue_row old.txns.rows t checked in
+    record {
+      kept = λ before s v life.
+          let b = (life.running c.requires.works).0 in
+          let r = (life.running c.requires.works).1 in
+          let kept = drop_kept g.D.Disk before s v t its.0 old r its.1 checked TookBack ends c.change.result.now same c.close_drop.new.writer c.close_drop.new.disk (Ok c.in-Ok-Ended.field-0) (Ok turns.Ended) (ap Ok c.in-Ok-Ended.field-0-is) (c.in-Ok-Ended.ensures.kept b r.base r.now r.redo_end r.stands r.over) in
+          drop_ended g.D.Disk before s v t its.0 old r its.1 checked TookBack ends _ refl kept.stops refl ends.aim_is kept.sound c.release_all.ensures
+          (c.end.ensures.one its.0 its.1 ∙ ap (λ (x : Numbered). length x.rows + 1) c.end.ensures.left) c.end.ensures.left;
+      told =
+          told_rolled_back g.D.Disk old _ c.requires.works (ap besides_rows c.end.ensures.left) refl (c.end.ensures.one its.0 its.1) refl
+          (λ lost. absurd (not_true (g.D.Disk.failed c.close_drop.new.disk) c.in-Ok-Ended.ensures.outcome.ends.alive lost));
+      answered = continue_made g.D.Disk old c.requires.works t c.requires.checked c.close_drop.new.writer.log c.close_drop.new.disk replies.RolledBack (λ x e. cc e);
+      suits = search rules;
+      at_once = λ _. search rules;
+      paced = ends_pace g.D.Disk t TookBack old ends _ replies.RolledBack (λ is. cc is) (inl (inr refl, refl));
+      grouped = tt;
+      frames = search rules;
+      wants = λ b before s v r. ends_want g.D.Disk t TookBack old ends _ _ v.walk _ _ replies.RolledBack (λ is. cc is) (λ is. cc is);
+      quiet = λ none. absurd (none tt);
+      costs = tt;
+    }
+
+pub returns-in-Err : goal.returns-in-Err
+returns-in-Err g c =
+    let old = c.args.self.now in
+    let t = c.args.t in
+    let f = c.in-Err.fault in
+    let ended = (turn_more g.D.Disk full_may c.in-Err.ensures.outcome).ends in
+    let never = drop_never g.D.Disk old.writer c.close_drop.new.writer c.close_drop.new.disk f c.in-Err.ensures.outcome.ends in
+    let ends = c.requires.end in
+    let same = c.change.ensures ∙ ap (λ u. u.begun.change) (ends_some TookBack t old.under ends c.in-Some.under c.in-Some.is) in
+    let free = ends_free TookBack t old.under ends refl in
+    let checked = ends_checked old.txns.rows TookBack t old.under ends refl c.requires.checked in
+    let its = continue_row old.txns.rows t checked in
+    record {
+      kept = λ before s v life.
+          let b = (life.running c.requires.works).0 in
+          let r = (life.running c.requires.works).1 in
+          let kept = drop_kept g.D.Disk before s v t its.0 old r its.1 checked TookBack ends c.change.result.now same c.close_drop.new.writer c.close_drop.new.disk (Err f) (Err f) refl (c.in-Err.ensures.kept b r.base r.now r.redo_end r.stands r.over) in
+          back_refused g.D.Disk before s v t its.0 old _ life c.requires.works its.1 checked free f ended kept.sound (λ memory. absurd (never (inl memory))) kept.stops c.breaks-self.ensures refl refl refl
+          c.told.result c.told.ensures (λ t f le left. g.met.D.Disk.counts_now c.close_drop.new.disk t f le left);
+      told =
+          told_refused g.D.Disk old _ c.requires.works refl refl f c.told.result c.told.ensures c.breaks-self.ensures refl (λ _ u. refl)
+          (λ lost. turn_lost g.D.Disk old.writer c.close_drop.new.writer c.close_drop.new.disk lost f ended);
+      answered = continue_refused g.D.Disk old c.requires.works t c.requires.checked c.close_drop.new.writer c.close_drop.new.disk f c.told.result c.told.ensures ended;
+      suits = search rules;
+      at_once = λ _. search rules;
+      paced = ends_pace g.D.Disk t TookBack old ends _ (replies.Refused c.told.result) (λ is. cc is) (inr (c.told.result, refl));
+      grouped = tt;
+      frames = search rules;
+      wants = λ b before s v r.
+          let kept = drop_kept g.D.Disk before s v t its.0 old r its.1 checked TookBack ends c.change.result.now same c.close_drop.new.writer c.close_drop.new.disk (Err f) (Err f) refl (c.in-Err.ensures.kept b r.base r.now r.redo_end r.stands r.over) in
+          ends_want g.D.Disk t TookBack old ends _ _ v.walk _ _ (replies.Refused c.told.result)
+          (λ full. never (inr (inl (told_capacity f (sym c.told.ensures ∙ refused_inj c.told.result faults.Capacity full)))))
+          (λ late. never (inr (inr (told_failed g.D.Disk old.writer c.close_drop.new.writer c.close_drop.new.disk f ended (sym c.told.ensures ∙ refused_inj c.told.result faults.Failed late)))));
+      quiet = λ none. absurd (none tt);
+      costs = tt;
+    }
