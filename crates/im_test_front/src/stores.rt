@@ -72,6 +72,7 @@ pub fn new_store<R: Threads + Sync>(
         frames: 64,
         max_pages: 1_000,
         buffer: BufferSize::ONE,
+        stepped: false,
         group,
         workers: 1,
     };
