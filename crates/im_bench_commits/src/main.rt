@@ -125,6 +125,7 @@ fn config_of(mode: Mode) -> Config {
         frames: 1_024,
         max_pages: 1_000_000,
         buffer: BufferSize::OVER_FILES,
+        stepped: false,
         group: mode.groups(),
         workers: 1,
     }

@@ -24,6 +24,7 @@ pub fn opened<D: Disk + Drop, R: Threads + Sync>(
         frames,
         max_pages: 1_000_000,
         buffer: BufferSize::ONE,
+        stepped: false,
         group: false,
         workers: 1,
     };

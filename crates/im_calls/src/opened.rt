@@ -156,6 +156,7 @@ fn engine_of<D: TwoLogs + Drop>(
         frames: call.limit as usize,
         max_pages,
         buffer: BufferSize::OVER_FILES,
+        stepped: false,
         group: waits(call),
         workers: 1,
     };

@@ -49,10 +49,12 @@ fn one_insert<E: Store, L: Ledger, R: Wait>(
     let Reply::Started(t) = made(rt, front, mine, Step::Begin)? else {
         return Err(Fault::Failed);
     };
-    match made(rt, front, mine, Step::Insert(t, key, rid))? {
-        Reply::Die => roll_back(rt, front, mine, t),
-        _ => commit(rt, front, mine, t),
+    let reply = made(rt, front, mine, Step::Insert(t, key, rid))?;
+    if matches!(reply, Reply::Die) {
+        return roll_back(rt, front, mine, t);
     }
+    go_on(rt, front, mine, t, reply)?;
+    commit(rt, front, mine, t)
 }
 
 // Commits a transaction, with a force of its own where its Commit is to wait for one.
@@ -82,7 +84,22 @@ fn roll_back<E: Store, L: Ledger, R: Wait>(
     ensures steps { OnOk result (mine.old.made.amount + 1 ≤ mine.new.made.amount) }
     ensures causes { IfErr result (IsStopped E.Store) }
 {
-    let mut reply = made(rt, front, mine, Step::Rollback(t))?;
+    let reply = made(rt, front, mine, Step::Rollback(t))?;
+    go_on(rt, front, mine, t, reply)
+}
+
+// Goes on with a transaction after this reply, as long as there is more to do: of a rollback, or of an insert's structure change.
+fn go_on<E: Store, L: Ledger, R: Wait>(
+    rt: &R,
+    front: &Front<E, L>,
+    mine: &mut Share<L>,
+    t: TxnId,
+    first: Reply,
+) -> Result<(), Fault>
+    ensures steps { OnOk result (mine.old.made.amount ≤ mine.new.made.amount) }
+    ensures causes { IfErr result (IsStopped E.Store) }
+{
+    let mut reply = first;
     for _round in rt.forever() {
         if !matches!(reply, Reply::More) {
             return Ok(());

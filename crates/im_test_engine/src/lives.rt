@@ -159,6 +159,7 @@ fn a_thousand_keys_come_and_go(rt: HostRuntime) -> Result<(), Fail> {
         frames: 8,
         max_pages: 100,
         buffer: BufferSize::ONE,
+        stepped: false,
         group: false,
         workers: 1,
     };

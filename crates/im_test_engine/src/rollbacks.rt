@@ -71,6 +71,7 @@ fn few_frames() -> Config {
         frames: 8,
         max_pages: 1_000,
         buffer: BufferSize::ONE,
+        stepped: false,
         group: false,
         workers: 1,
     }

@@ -22,6 +22,7 @@ fn grouped<R: Threads + Sync>(rt: &R, alloc: Global) -> Result<Engine<Renamed<Mo
         frames: 64,
         max_pages: 1_000,
         buffer: BufferSize::ONE,
+        stepped: false,
         group: true,
         workers: 1,
     };

@@ -1,6 +1,6 @@
 //! Tests of commits through a front whose store has group commit: what is durable when `commit` returns, who makes the force and who sleeps until it is
 //! made, and what each caller is told where the force fails, lacks memory, or meets a full trace; and of work that is done again where its transaction has to
-//! give way.
+//! give way; and of a structure change that goes on while others wait for it.
 //!
 //! The store is the engine over a disk in memory, which fails or stops where a test wants it (`stores`); and a store of no keys, whose force lacks memory
 //! (`lacking`).
@@ -20,6 +20,8 @@ mod load;
 mod sharing;
 #[cfg(test)]
 mod sleeping;
+#[cfg(test)]
+mod stepped;
 #[cfg(test)]
 mod stops;
 #[cfg(test)]

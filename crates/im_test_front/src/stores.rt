@@ -7,7 +7,7 @@ use im_base_model_disk::{Fill, Length, ModelDisk, Stop};
 use im_base_steps::{Reply, Step};
 use im_base_two_logs::Renamed;
 use im_base_types::{Fault, Key, Rid, TxnId};
-use im_engine::{BufferSize, Config, Engine, every_list_of_lives};
+use im_engine::{Config, Engine, every_list_of_lives};
 use im_front::{Left, Open, Rested};
 use im_theory_store::Store;
 use std::alloc::Global;
@@ -64,21 +64,45 @@ pub fn new_store<R: Threads + Sync>(
 ) -> Result<Engine<Renamed<ModelDisk>>, Fault>
     ensures rests { IfOk result (λ e. IsResting ⟦<Engine<Renamed<ModelDisk>> as Store>⟧ e) }
 {
+    let config = Config {
+        max_pages: 1_000,
+        group,
+        ..Config::default()
+    };
+    made_store(rt, alloc, config, stop, failing)
+}
+
+// The same, as it is configured.
+fn made_store<R: Threads + Sync>(
+    rt: &R,
+    alloc: Global,
+    config: Config,
+    stop: Stop,
+    failing: u64,
+) -> Result<Engine<Renamed<ModelDisk>>, Fault>
+    ensures rests { IfOk result (λ e. IsResting ⟦<Engine<Renamed<ModelDisk>> as Store>⟧ e) }
+{
     every_list_of_lives();
     let mut disk = ModelDisk::new(Vec::new(alloc), Vec::new(alloc));
     disk.arm(stop);
     disk.fail_call(failing);
-    let config = Config {
-        frames: 64,
-        max_pages: 1_000,
-        buffer: BufferSize::ONE,
-        group,
-        workers: 1,
-    };
     match Engine::open_or_create(rt, alloc, Renamed::new(disk, false), config) {
         Ok(engine) => Ok(engine),
         Err((fault, _disk)) => Err(fault),
     }
+}
+
+/// A front over a store that makes structure changes page by page, on a disk that neither stops nor fails.
+pub fn stepped<R: Threads + Sync>(
+    rt: &R,
+    alloc: Global,
+) -> Result<Open<Engine<Renamed<ModelDisk>>>, Fault> {
+    let config = Config {
+        stepped: true,
+        ..Config::default()
+    };
+    let engine = made_store(rt, alloc, config, stop_at(NEVER), NEVER)?;
+    opened(alloc, Rested::new(engine))
 }
 
 /// A front over such a store.

@@ -13,6 +13,7 @@ const TO_LOOK: Config = Config {
     frames: MOST_FRAMES,
     max_pages: u32::MAX,
     buffer: BufferSize::ONE,
+    stepped: false,
     group: false,
     workers: 1,
 };

@@ -82,7 +82,8 @@ pub fn open_store<T: Threads + Sync>(
     Engine::open_or_create(rt, alloc, disk, config_of(options, buffer))
 }
 
-/// How an engine is opened by these options: 64 frames, 1,000,000 pages and one worker where they are left out. Commits wait where `group` stands there.
+/// How an engine is opened by these options: 64 frames, 1,000,000 pages and one worker where they are left out. Structure changes
+/// are made page by page where `stepped` stands there, and Commits wait where `group` does.
 /// The size of the log's buffer is no option of a life.
 pub fn config_of(options: LifeOptions, buffer: BufferSize) -> Config
     ensures config { IsConfigOf options result }
@@ -106,6 +107,7 @@ pub fn config_of(options: LifeOptions, buffer: BufferSize) -> Config
         frames,
         max_pages,
         buffer,
+        stepped: options.stepped,
         group: options.group,
         workers,
     }
@@ -220,6 +222,7 @@ pub(crate) fn last_entries<T: Threads + Sync>(
         max_pages: None,
         failing_call: None,
         failing_read: None,
+        stepped: false,
         group: false,
         workers: None,
     };

@@ -212,12 +212,19 @@ pub first_word : (n name : List ℕ) (option : Bool) (more : List (List ℕ × O
 first_word n name option more text only left is others s once =
     subst (λ (t : List ℕ). SpellsOptions more t) (subst (λ (x : List ℕ). IsOnlyWord x text only left) is once option s.0 s.1 (behind_others name more s.0 others s.2)).1 s.2
 
+abbrev first_code : List ℕ → ℕ
+first_code [] = 0
+first_code (c ∷ cs) = c
+
 -- the names of a life's options
 fail_lacks : Lacks 32 (codes "fail")
 fail_lacks = (λ x. omega arith, (λ x. omega arith, (λ x. omega arith, (λ x. omega arith, tt))))
 
 failread_lacks : Lacks 32 (codes "failread")
 failread_lacks = (λ x. omega arith, (λ x. omega arith, (λ x. omega arith, (λ x. omega arith, (λ x. omega arith, (λ x. omega arith, (λ x. omega arith, (λ x. omega arith, tt))))))))
+
+stepped_lacks : Lacks 32 (codes "stepped")
+stepped_lacks = (λ x. omega arith, (λ x. omega arith, (λ x. omega arith, (λ x. omega arith, (λ x. omega arith, (λ x. omega arith, (λ x. omega arith, tt)))))))
 
 group_lacks : Lacks 32 (codes "group")
 group_lacks = (λ x. omega arith, (λ x. omega arith, (λ x. omega arith, (λ x. omega arith, (λ x. omega arith, tt)))))
@@ -226,43 +233,49 @@ workers_lacks : Lacks 32 (codes "workers")
 workers_lacks = (λ x. omega arith, (λ x. omega arith, (λ x. omega arith, (λ x. omega arith, (λ x. omega arith, (λ x. omega arith, (λ x. omega arith, tt)))))))
 
 module _ (o : LifeOptions) where
-  -- the options behind the first, the second, the third, the fourth and the fifth
+  -- the options after each but the last
   abbrev pub behind_frames : List (List ℕ × OptionSaid)
-  behind_frames = (codes "max", Number o.max_pages) ∷ (codes "fail", Number o.failing_call) ∷ (codes "failread", Number o.failing_read) ∷ (codes "group", Word o.group) ∷ (codes "workers", Number o.workers) ∷ []
+  behind_frames = (codes "max", Number o.max_pages) ∷ (codes "fail", Number o.failing_call) ∷ (codes "failread", Number o.failing_read) ∷ (codes "stepped", Word o.stepped) ∷ (codes "group", Word o.group) ∷ (codes "workers", Number o.workers) ∷ []
 
   abbrev pub behind_max : List (List ℕ × OptionSaid)
-  behind_max = (codes "fail", Number o.failing_call) ∷ (codes "failread", Number o.failing_read) ∷ (codes "group", Word o.group) ∷ (codes "workers", Number o.workers) ∷ []
+  behind_max = (codes "fail", Number o.failing_call) ∷ (codes "failread", Number o.failing_read) ∷ (codes "stepped", Word o.stepped) ∷ (codes "group", Word o.group) ∷ (codes "workers", Number o.workers) ∷ []
 
   abbrev pub behind_fail : List (List ℕ × OptionSaid)
-  behind_fail = (codes "failread", Number o.failing_read) ∷ (codes "group", Word o.group) ∷ (codes "workers", Number o.workers) ∷ []
+  behind_fail = (codes "failread", Number o.failing_read) ∷ (codes "stepped", Word o.stepped) ∷ (codes "group", Word o.group) ∷ (codes "workers", Number o.workers) ∷ []
 
   abbrev pub behind_failread : List (List ℕ × OptionSaid)
-  behind_failread = (codes "group", Word o.group) ∷ (codes "workers", Number o.workers) ∷ []
+  behind_failread = (codes "stepped", Word o.stepped) ∷ (codes "group", Word o.group) ∷ (codes "workers", Number o.workers) ∷ []
+
+  abbrev pub behind_stepped : List (List ℕ × OptionSaid)
+  behind_stepped = (codes "group", Word o.group) ∷ (codes "workers", Number o.workers) ∷ []
 
   abbrev pub behind_group : List (List ℕ × OptionSaid)
   behind_group = (codes "workers", Number o.workers) ∷ []
 
   pub not_frames : AreOthers (codes "frames") behind_frames
-  not_frames = (max_lacks, (λ e. absurd (cc)), (fail_lacks, (λ e. absurd (cc)), (failread_lacks, (λ e. absurd (cc)), (group_lacks, (λ e. absurd (cc)), (workers_lacks, (λ e. absurd (cc)), tt)))))
+  not_frames = (max_lacks, (λ e. absurd (cc)), (fail_lacks, (λ e. absurd (cc)), (failread_lacks, (λ e. absurd (cc)), (stepped_lacks, (λ e. absurd (cc)), (group_lacks, (λ e. absurd (cc)), (workers_lacks, (λ e. absurd (cc)), tt))))))
 
   pub not_max : AreOthers (codes "max") behind_max
-  not_max = (fail_lacks, (λ e. absurd (cc)), (failread_lacks, (λ e. absurd (cc)), (group_lacks, (λ e. absurd (cc)), (workers_lacks, (λ e. absurd (cc)), tt))))
+  not_max = (fail_lacks, (λ e. absurd (cc)), (failread_lacks, (λ e. absurd (cc)), (stepped_lacks, (λ e. absurd (cc)), (group_lacks, (λ e. absurd (cc)), (workers_lacks, (λ e. absurd (cc)), tt)))))
 
   pub not_fail : AreOthers (codes "fail") behind_fail
-  not_fail = (failread_lacks, (λ e. absurd (cc)), (group_lacks, (λ e. absurd (cc)), (workers_lacks, (λ e. absurd (cc)), tt)))
+  not_fail = (failread_lacks, (λ e. absurd (cc)), (stepped_lacks, (λ e. absurd (cc)), (group_lacks, (λ e. absurd (cc)), (workers_lacks, (λ e. absurd (cc)), tt))))
 
   pub not_failread : AreOthers (codes "failread") behind_failread
-  not_failread = (group_lacks, (λ e. absurd (cc)), (workers_lacks, (λ e. absurd (cc)), tt))
+  not_failread = (stepped_lacks, (λ e. absurd (cc)), (group_lacks, (λ e. absurd (cc)), (workers_lacks, (λ e. absurd (cc)), tt)))
+
+  pub not_stepped : AreOthers (codes "stepped") behind_stepped
+  not_stepped = (group_lacks, (λ e. absurd (cc)), (workers_lacks, (λ e. let codes_are : 119 ≡ 115 = ap first_code e in omega (arith, codes_are)), tt))
 
   pub not_group : AreOthers (codes "group") behind_group
   not_group = (workers_lacks, (λ e. absurd (cc)), tt)
 
 -- a life, option by option
-pub life_spelled : (text second third fourth fifth sixth last : List ℕ) (options : LifeOptions) → IsOption (codes "frames") text (Number options.frames) second → IsOption (codes "max") second (Number options.max_pages) third
-    → IsOption (codes "fail") third (Number options.failing_call) fourth → IsOption (codes "failread") fourth (Number options.failing_read) fifth → IsOption (codes "group") fifth (Word options.group) sixth
-    → IsOption (codes "workers") sixth (Number options.workers) last → last ≡ [] → SpellsLife (codes "life" ++ text) options
-life_spelled text second third fourth fifth sixth last options frames most call read group workers end =
-    (text, refl, (second, frames, (third, most, (fourth, call, (fifth, read, (sixth, group, (last, workers, end)))))))
+pub life_spelled : (text second third fourth fifth sixth seventh last : List ℕ) (options : LifeOptions) → IsOption (codes "frames") text (Number options.frames) second → IsOption (codes "max") second (Number options.max_pages) third
+    → IsOption (codes "fail") third (Number options.failing_call) fourth → IsOption (codes "failread") fourth (Number options.failing_read) fifth → IsOption (codes "stepped") fifth (Word options.stepped) sixth
+    → IsOption (codes "group") sixth (Word options.group) seventh → IsOption (codes "workers") seventh (Number options.workers) last → last ≡ [] → SpellsLife (codes "life" ++ text) options
+life_spelled text second third fourth fifth sixth seventh last options frames most call read stepped group workers end =
+    (text, refl, (second, frames, (third, most, (fourth, call, (fifth, read, (sixth, stepped, (seventh, group, (last, workers, end))))))))
 
 pub none_left : (words : Option (Bor (List ℕ))) → is_some words ≡ true → [] ≡ behind_word words → ⊥
 none_left None some is = absurd (cc)

@@ -63,6 +63,7 @@ fn life_line(words: Option<&[u8]>) -> Result<StoreScriptLine, Fault>
     let (max_pages, words) = option_of(b"max".as_slice(), words)?;
     let (failing_call, words) = option_of(b"fail".as_slice(), words)?;
     let (failing_read, words) = option_of(b"failread".as_slice(), words)?;
+    let (stepped, words) = word_of(b"stepped".as_slice(), words);
     let (group, words) = word_of(b"group".as_slice(), words);
     let (workers, words) = option_of(b"workers".as_slice(), words)?;
     if words.is_some() {
@@ -73,6 +74,7 @@ fn life_line(words: Option<&[u8]>) -> Result<StoreScriptLine, Fault>
         max_pages,
         failing_call,
         failing_read,
+        stepped,
         group,
         workers,
     }))

@@ -30,6 +30,8 @@ pub struct LifeOptions {
     pub failing_call: Option<u64>,
     /// The number of the read or length call that fails, counted from 1; none where none does.
     pub failing_read: Option<u64>,
+    /// Whether a structure change is made page by page, each page by a step of its own.
+    pub stepped: bool,
     /// Whether a Commit waits for a force.
     pub group: bool,
     /// How many workers share redo; none for as many as the default has.

@@ -49,6 +49,7 @@ fn config(group: bool) -> Config {
         frames: 64,
         max_pages: 1_000_000,
         buffer: BufferSize::OVER_FILES,
+        stepped: false,
         group,
         workers: 1,
     }

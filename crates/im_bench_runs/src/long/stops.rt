@@ -49,6 +49,7 @@ const CONFIG: Config = Config {
     frames: 8,
     max_pages: 1_000_000,
     buffer: BufferSize::ONE,
+    stepped: false,
     group: false,
     workers: 1,
 };
