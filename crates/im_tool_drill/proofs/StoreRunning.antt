@@ -1,7 +1,8 @@
 -- Lives of a store, run: one line more, one life more.
-use Rattle.std.proofs.Common.{◌≡◌, ℕ, zero, suc, ◌<◌, List, [], ◌∷◌, ◌++◌, length, get_or, Option, Result, Ok, Err, IfOk, IfErr, MatchResult, ◌⊎◌, inl, inr, Bool, false, refl, ap, subst, arith}
+use Rattle.std.proofs.Common.{◌≡◌, ℕ, zero, suc, ◌<◌, List, [], ◌∷◌, ◌++◌, length, get_or, Option, None, Some, Result, Ok, Err, IfOk, IfErr, MatchResult, ◌⊎◌, inl, inr, Bool, false, refl, ap, subst, arith}
 use Rattle.std.proofs.lemmas.Bool.{cases_Bool}
 use Rattle.im_base_types.specs.declared.fault.Fault.{Fault}
+use Rattle.im_base_types.specs.declared.fault.Fault.TheVariants.{Unfinished}
 use Rattle.im_base_disk.specs.declared.disk.Disk.{Ghosts}
 use Rattle.im_base_model_disk.specs.declared.model_disk.ModelDisk.{ModelDisk}
 use Rattle.im_base_model_disk.specs.declared.stop.Stop.{Stop}
@@ -51,10 +52,9 @@ module _ (d : Ghosts (Renamed ModelDisk)) where
 
   -- no call changes what redo did
   look_reports : (why : Option Fault) (old new : Engine (Renamed ModelDisk) d) → Looks d why old new → new.report ≡ old.report
-  look_reports why old new looks = elim (cases_Bool old.failed) [
-    | inl failed ↦ ap (λ (e : Engine (Renamed ModelDisk) d). e.report) (looks.same failed)
-    | inr works ↦ (looks.searched works).report
-  ]
+  look_reports (Some Unfinished) old new looks = ap (λ (e : Engine (Renamed ModelDisk) d). e.report) (looks.unfinished refl).1
+  look_reports (Some f) old new looks = elim (cases_Bool old.failed) [ inl failed ↦ ap (λ (e : Engine (Renamed ModelDisk) d). e.report) (looks.same failed) | inr works ↦ (looks.searched works (λ is. cc is)).report ]
+  look_reports None old new looks = elim (cases_Bool old.failed) [ inl failed ↦ ap (λ (e : Engine (Renamed ModelDisk) d). e.report) (looks.same failed) | inr works ↦ (looks.searched works (λ is. cc is)).report ]
 
   line_keeps : (stop : Option Stop) (line : StoreLine) (told : StoreReply) (old new : Engine (Renamed ModelDisk) d) → IsLineRun d stop line told old new → new.report ≡ old.report
   line_keeps stop (lines.Step step) told old new run = run.made.report
