@@ -199,4 +199,4 @@ module _ {D : Type 0} (d : Ghosts D) (t : ℕ) (key : Key) (rid : ℕ) (old new 
           logged_made d before s v next (Do t (Insert key rid)) answers.More old new r t (below_next d t (Insert key rid) old row found checked before s v r)
           is.now is.stands is.over is.goes.lawful (subst (λ (u : Option Under). IsChanging b u is.now.log) (sym under) going) is.durable (grows_within t r.now.log is.now.log change) rows table begun_served
           (ap (λ (n : ℕ). Some (record { owner = n; aim = views.Puts key rid })) (sym is.owner) ∙ ap under_of (sym under)) refl refl (stopped stops) works_on tt
-          (record { between = is.before; images = is.images; last = row.last; lsn = lsn; page = is.page; was = is.was; now = is.made; is = is.is })
+          (record { between = is.before; images = is.images; last = row.last; lsn = lsn; page = is.page; was = is.was; now = is.made; marked = is.marked; is = is.is })

@@ -156,6 +156,7 @@ module _ {D : Type 0} (d : Ghosts D) (t : ℕ) (old new : Engine D d) (works : o
         page = page d b r.base r.now c then new.writer new.disk is goes.goes;
         was = was_body d b r.base r.now c then new.writer new.disk is goes.goes;
         now = made d b r.base r.now c then new.writer new.disk is goes.goes;
+        marked = refl;
         is = ap (λ (n : ℕ). smo_at then.last n c.last (page d b r.base r.now c then new.writer new.disk is goes.goes) (was_body d b r.base r.now c then new.writer new.disk is goes.goes) (made d b r.base r.now c then new.writer new.disk is goes.goes) ∷ is.logged.before.log) owner;
       })
 

@@ -312,7 +312,7 @@ module _ {D : Type 0} (d : Ghosts D) (before : List Effect) (s : Shown) (v : Vie
             same = owned_is;
           } in
           step_made d before s v (Continue t) More old new w served.0 running works_on (back_stops stops) tt r
-          (grows.splits was_none (sym owned_is) (record { between = first.before; images = first.images; last = row.last; lsn = begun.change.last; page = first.page; was = first.was; now = first.new; is = first.log }))
+          (grows.splits was_none (sym owned_is) (record { between = first.before; images = first.images; last = row.last; lsn = begun.change.last; page = first.page; was = first.was; now = first.new; marked = first.marked; is = first.log }))
 
       -- a change was taken back, and a deletion begins
       pub dropping : (begun : BegunChange) → IsDropping d run.0 run.1.base run.1.now run.1.redo_end t beside begun old.disk new.writer new.disk → new.under ≡ Some (record { begun = begun; aim = TookBack }) → new.locks ≡ old.locks

@@ -1,5 +1,5 @@
 -- Which records join the log in a step.
-use Rattle.std.specs.Prelude.{◌≡◌, ◌≢◌, ◌≤◌, ℕ, false, ◌∷◌, length, Option, None, Some}
+use Rattle.std.specs.Prelude.{◌≡◌, ◌≢◌, ◌≤◌, ℕ, true, false, ◌∷◌, length, Option, None, Some}
 use Rattle.im_base_types.specs.Answers.{Step, Reply, Do, Insert, Delete, Commit, Rollback, Continue, Force, Checkpoint, Switch, Started, Inserted, Deleted, Committed, RolledBack, More, Done}
 use Rattle.im_base_types.specs.Keys.{Key}
 use Rattle.im_base_types.specs.Pages.{Body}
@@ -70,7 +70,7 @@ pub record AddsCheckpoint (older longer : History) : Type 0 where
 
 -- ---- structure changes that are made page by page
 
--- One page of a structure change of the transaction: its record is the newest, behind Images.
+-- One page of a structure change of the transaction, with the mark of one under way, as others have to see it: its record is the newest, behind Images.
 pub record LogsPage (b : Base) (t : ℕ) (older longer : History) : Type 0 where
   pub between : History
   pub images : GrowsByImages b older between
@@ -79,6 +79,7 @@ pub record LogsPage (b : Base) (t : ℕ) (older longer : History) : Type 0 where
   pub page : ℕ
   pub was : Body
   pub now : Body
+  pub marked : now.marked ≡ true
   pub is : longer ≡ smo_at lsn t last page was now ∷ between
 
 -- The record that closes a structure change of the transaction, and no other.

@@ -156,6 +156,7 @@ module _ {D : Type 0} (d : Ghosts D) (b : Base) (base : ℕ) (s : Writer) (e t l
         page = page;
         was = was;
         made = made;
+        marked = refl;
         is = ap (λ (u : ℕ). smo_at more.change.last u begun.change.last page was made ∷ step.logged.before.log) whose ∙ ap (λ (u : ℕ). smo_at more.change.last t u page was made ∷ step.logged.before.log) newest;
         owner = step.owner ∙ whose;
         leads = step.leads ∙ leads;

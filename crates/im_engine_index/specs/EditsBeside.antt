@@ -110,6 +110,8 @@ module _ {D : Type 0} (d : Ghosts D) (b : Base) (base : ℕ) where
     pub page : ℕ
     pub was : Body
     pub made : Body
+    -- others see the mark of a structure change under way
+    pub marked : made.marked ≡ true
     pub is : now.log ≡ smo_at begun.change.last t last page was made ∷ before
     pub owner : begun.change.transaction ≡ t
     pub leads : begun.change.undo_next ≡ undo_next

@@ -145,6 +145,7 @@ module _ {D : Type 0} (d : Ghosts D) (b : Base) (base : ℕ) where
       was = was;
       new = after;
       log = refl;
+      marked = refl;
       goes = goes_new;
       by = record { owner = step.owner; leads = step.leads; done = step.done ∙ ap suc none };
       back = back_new;
@@ -181,6 +182,7 @@ module _ {D : Type 0} (d : Ghosts D) (b : Base) (base : ℕ) where
     was = is.was;
     new = is.new;
     log = is.log;
+    marked = is.marked;
     goes = is.goes;
     by = is.by;
     back = is.back;

@@ -1,5 +1,5 @@
 -- One step of a rollback in a store whose structure changes are made page by page.
-use Rattle.std.specs.Prelude.{◌≡◌, ◌⊎◌, ℕ, zero, suc, [], ◌∷◌, Some, Result, IfErr}
+use Rattle.std.specs.Prelude.{◌≡◌, ◌⊎◌, ℕ, zero, suc, true, [], ◌∷◌, Some, Result, IfErr}
 use Rattle.im_base_types.specs.declared.fault.Fault.{Fault}
 use Rattle.im_base_types.specs.declared.fault.Fault.TheVariants.{Capacity, Failed, Memory}
 use Rattle.im_base_types.specs.Pages.{Body}
@@ -48,6 +48,8 @@ module _ {D : Type 0} (d : Ghosts D) (b : Base) (base : ℕ) where
     pub was : Body
     pub new : Body
     pub log : now.log ≡ smo_at begun.change.last t last page was new ∷ before
+    -- others see the mark of a structure change under way
+    pub marked : new.marked ≡ true
     pub goes : Goes b begun.change now.log
     pub by : IsBegunBy t undo_next (suc zero) begun
     pub back : IsSplitBack b undo_next begun.change.images now.log
