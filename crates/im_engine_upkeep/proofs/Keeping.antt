@@ -1,13 +1,14 @@
 -- What was made is upkeep.
-use Rattle.std.proofs.Common.{◌∙◌, inl, inr, refl, subst, sym, arith}
+use Rattle.std.proofs.Common.{◌∙◌, ap, inl, inr, refl, subst, sym, arith}
 use Rattle.std.proofs.lemmas.Bool.{cases_lt}
-use Rattle.std.specs.Prelude.{◌≡◌, ◌+◌, ◌-◌, ◌^◌, ℕ, min, max, None, Some, true, false, Result, OnOk, IfErr, Ok, Err, ◌≤◌, IsTrue}
+use Rattle.std.specs.Prelude.{◌≡◌, ◌+◌, ◌-◌, ◌^◌, ℕ, min, max, Bool, None, Some, true, false, Result, OnOk, IfErr, Ok, Err, ◌≤◌, IsTrue}
 use Rattle.im_base_types.specs.declared.tables.DirtyPage.{DirtyPage}
 use Rattle.im_page_table.specs.DirtyTable.{oldest}
 use Rattle.im_base_disk.specs.declared.disk.Disk.{Ghosts}
 use Rattle.im_base_types.specs.declared.fault.Fault.{Fault}
 use Rattle.im_base_steps.specs.declared.step.Step.{Step}
 use Rattle.im_base_steps.specs.declared.step.Step.TheVariants.{FlushPage, Force, Checkpoint, Switch}
+use Rattle.im_base_steps.specs.declared.reply.Reply.{Reply}
 use Rattle.im_base_steps.specs.declared.reply.Reply.TheVariants.{Refused}
 use Rattle.im_base_steps.specs.Calls.{asked_by}
 use Rattle.im_base_steps.specs.Replies.{is_service}
@@ -15,6 +16,8 @@ use Rattle.im_engine.specs.declared.engine.Engine.{Engine}
 use Rattle.im_engine.specs.Told.{IsStep}
 use Rattle.im_engine_upkeep.specs.declared.upkeep.Upkeep.{Upkeep}
 use Rattle.im_engine_upkeep.specs.declared.due.Due.TheVariants as due
+use Rattle.im_engine_upkeep.specs.Noted.{IsNoted, IsNotedBy, after_last, as_before, is_done, is_left, noted, redo_from}
+use Rattle.im_engine_upkeep.specs.Numbers.{durable_end_of}
 use Rattle.im_engine_upkeep.specs.Upkeep.{IsKeptUp, none, more}
 use Rattle.im_engine_upkeep.specs.Rule.{IsByRule, IsDue, IsEnded, IsLongAtEnd, IsWritten, IsTaken, KnowsPages, MadeLast, WasForced, WasRefused}
 use Rattle.im_engine_upkeep.specs.Rule as rule
@@ -44,7 +47,7 @@ module _ {D : Type 0} (d : Ghosts D) where
   -- writes of pages are upkeep
   pub written_kept : (old new : Engine D d) → IsWritten d old new → IsKeptUp d old new
   written_kept old _ rule.none = none
-  written_kept old _ (rule.more mid new page reply before made) = more mid new (FlushPage page) reply (written_kept old mid before) refl made
+  written_kept old _ (rule.more mid new page before taken) = more mid new (FlushPage page) taken.reply (written_kept old mid before) refl taken.made
 
   -- a step after upkeep is
   pub taken_kept : (old mid new : Engine D d) (step : Step) → is_service (asked_by step) ≡ true → IsKeptUp d old mid → IsTaken d step mid new → IsKeptUp d old new
@@ -66,7 +69,7 @@ module _ {D : Type 0} (d : Ghosts D) where
 
   -- a page more was written
   pub page_written : (old mid new : Engine D d) (page : ℕ) → IsWritten d old mid → IsTaken d (FlushPage page) mid new → IsWritten d old new
-  page_written old mid new page before taken = rule.more mid new page taken.reply before taken.made
+  page_written old mid new page before taken = rule.more mid new page before taken
 
   -- a step that was refused is upkeep too
   pub refused_kept : (old new : Engine D d) (fault : Fault) → WasRefused d old new fault → IsKeptUp d old new
@@ -127,6 +130,42 @@ module _ {D : Type 0} (d : Ghosts D) where
     taken = λ _ other. absurd (is.1 other.1);
     nothing = λ _ _. made;
   }
+
+  -- ---- what is noted
+
+  -- a step that was made
+  pub noted_by : (step : Step) (reply : Reply) (u v : Upkeep) (old new : Engine D d) → IsStep d step reply old new → v ≡ noted d step reply (durable_end_of d old) new u → IsNotedBy d step u old new v
+  noted_by step reply u v old new made is = record { reply = reply; made = made; from = ap (λ (w : Upkeep). w.from) is; left = ap (λ (w : Upkeep). w.is_upgraded) is }
+
+  -- the write of a page changes nothing of it
+  page_from : (done : Bool) (page end : ℕ) (new : Engine D d) (from : ℕ) → redo_from d done (FlushPage page) end new from ≡ from
+  page_from true page end new from = refl
+  page_from false page end new from = refl
+
+  page_left : (done : Bool) (page : ℕ) (is : Bool) → is_left done (FlushPage page) is ≡ is
+  page_left true page is = refl
+  page_left false page is = refl
+
+  pub noted_page : (u v : Upkeep) (old new : Engine D d) (page : ℕ) → IsNotedBy d (FlushPage page) u old new v → (v.from ≡ u.from) × (v.is_upgraded ≡ u.is_upgraded)
+  noted_page u v old new page is = (is.from ∙ page_from (is_done is.reply) page (durable_end_of d old) new u.from, is.left ∙ page_left (is_done is.reply) page u.is_upgraded)
+
+  pub page_still : (first u v : Upkeep) (old new : Engine D d) (page : ℕ) → (u.from ≡ first.from) × (u.is_upgraded ≡ first.is_upgraded) → IsNotedBy d (FlushPage page) u old new v → (v.from ≡ first.from) × (v.is_upgraded ≡ first.is_upgraded)
+  page_still first u v old new page still is = (let flushed = noted_page u v old new page is in (flushed.0 ∙ still.0, flushed.1 ∙ still.1))
+
+  pub noted_still : (u v : Upkeep) (old new : Engine D d) → (v.from ≡ u.from) × (v.is_upgraded ≡ u.is_upgraded) → IsNoted d u old new v
+  noted_still u v old new is = as_before is.0 is.1
+
+  pub noted_first : (u v : Upkeep) (old new : Engine D d) (step : Step) → IsNotedBy d step u old new v → IsNoted d u old new v
+  noted_first u v old new step is = after_last old step none is
+
+  -- a step after writes of pages
+  pub noted_last : (u w v : Upkeep) (old mid new : Engine D d) (step : Step) → IsWritten d old mid → (w.from ≡ u.from) × (w.is_upgraded ≡ u.is_upgraded) → IsNotedBy d step w mid new v → IsNoted d u old new v
+  noted_last u w v old mid new step written still is = after_last mid step (written_kept old mid written) (record {
+    reply = is.reply;
+    made = is.made;
+    from = is.from ∙ ap (λ (from : ℕ). redo_from d (is_done is.reply) step (durable_end_of d mid) new from) still.0;
+    left = is.left ∙ ap (λ (left : Bool). is_left (is_done is.reply) step left) still.1;
+  })
 
   -- ---- at the end
 

@@ -1,2 +1,3 @@
+mod FirstFormats
 mod Keeping
 mod Synced

@@ -57,16 +57,16 @@ module _ {D : Type 0} (d : Ghosts D) where
   IsDue u e due.Checkpoint = (IsSwitchDue u e → ⊥) × IsRedoLong 7 u e
   IsDue u e due.Nothing = (IsSwitchDue u e → ⊥) × (IsRedoLong 7 u e → ⊥)
 
-  -- The engine wrote pages, one after another.
-  pub data IsWritten (old : Engine D d) : Engine D d → Type 0 where
-    none : IsWritten old old
-    more : (mid new : Engine D d) (page : ℕ) (reply : Reply) → IsWritten old mid → IsStep d (FlushPage page) reply mid new → IsWritten old new
-
   -- This step was made, and was not refused.
   pub record IsTaken (step : Step) (old new : Engine D d) : Type 0 where
     pub reply : Reply
     pub made : IsStep d step reply old new
     pub taken : (fault : Fault) → reply ≡ Refused fault → ⊥
+
+  -- The engine wrote pages, one after another, and none was refused.
+  pub data IsWritten (old : Engine D d) : Engine D d → Type 0 where
+    none : IsWritten old old
+    more : (mid new : Engine D d) (page : ℕ) → IsWritten old mid → IsTaken (FlushPage page) mid new → IsWritten old new
 
   -- So it was as the last one, after writes of pages.
   pub record MadeLast (step : Step) (old new : Engine D d) : Type 0 where

@@ -1,8 +1,9 @@
 //! Logs of the first format, before a store is opened.
 
-ghost use Rattle.std.specs.Prelude.{◌≡◌, ◌↔◌, IfErr, false, true};
+ghost use Rattle.std.specs.Prelude.{◌≡◌, ◌↔◌, IfOk, IfErr, IsTrue, false, true};
 ghost use Rattle.im_base_types.specs.declared.fault.Fault.TheVariants.{Device};
 ghost use Rattle.im_base_disk.specs.Runs.{IsSynced, Reads};
+ghost use Rattle.im_engine_upkeep.specs.FirstFormat.{HasFirst, IsOfFirst};
 
 use im_base_disk::Disk;
 use im_base_types::{Fault, FileId};
@@ -21,6 +22,7 @@ pub fn has_first_format<D: Disk>(disk: &mut D) -> Result<bool, Fault>
     requires working { D.failed disk.old ≡ false }
     ensures reads { Reads D.Disk disk.old disk.new }
     ensures synced { IsSynced D.Disk disk.old → IsSynced D.Disk disk.new }
+    ensures says { IfOk result (λ is. D.tells → IsTrue is ↔ HasFirst (D.seen disk.old)) }
     ensures causes { IfErr result (λ e. e ≡ Device) }
     ensures device { result ≡ Err Device ↔ (D.failed disk.new ≡ true) }
 {
@@ -35,6 +37,7 @@ fn is_of_first_format<D: Disk>(disk: &mut D, file: FileId) -> Result<bool, Fault
     requires working { D.failed disk.old ≡ false }
     ensures reads { Reads D.Disk disk.old disk.new }
     ensures synced { IsSynced D.Disk disk.old → IsSynced D.Disk disk.new }
+    ensures says { IfOk result (λ is. D.tells → IsTrue is ↔ IsOfFirst (D.seen disk.old file)) }
     ensures causes { IfErr result (λ e. e ≡ Device) }
     ensures device { result ≡ Err Device ↔ (D.failed disk.new ≡ true) }
 {

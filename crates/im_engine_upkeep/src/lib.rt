@@ -25,9 +25,9 @@
 //!
 //! # How a program has it
 //!
-//! In one thread: `Upkeep::of(&engine, Bounds::default())` after the opening, `keep`; then each step by its `step`, with `keep` after it; `close` at the
-//! end. Threads that share an engine through a front have a thread, or a moment of one, that asks for `Step::Switch` and `Step::Checkpoint` by `call`: a Switch that
-//! comes while somebody is active is refused `Busy`, and asked for again later. `store_example` shows both.
+//! In one thread a store that is open makes it (`im_store`): after each step by which something may be due, and at its end. Threads that share an engine
+//! through a front have a thread, or a moment of one, that asks for `Step::Switch` and `Step::Checkpoint` by `call`: a Switch that comes while somebody is
+//! active is refused `Busy`, and asked for again later. `store_example` shows both.
 #![tactic(auto)]
 
 mod bounds;

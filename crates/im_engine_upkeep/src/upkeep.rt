@@ -6,6 +6,8 @@ ghost use Rattle.im_base_steps.specs.Replies.{is_service};
 ghost use Rattle.im_base_steps.specs.declared.step.Step.TheVariants as steps;
 ghost use Rattle.im_base_steps.specs.declared.reply.Reply.TheVariants.{Refused};
 ghost use Rattle.im_engine.specs.Told.{IsStep};
+ghost use Rattle.im_engine_upkeep.specs.Noted.{IsNoted, IsNotedBy, fresh, noted};
+ghost use Rattle.im_engine_upkeep.specs.Numbers.{durable_end_of};
 ghost use Rattle.im_engine_upkeep.specs.Upkeep.{IsKeptUp};
 ghost use Rattle.im_engine_upkeep.specs.Rule.{IsByRule, IsDue, IsEnded, IsHeldUp, IsLongAtEnd, IsRedoLong, IsSwitchDue, IsTaken, IsWritten, KnowsPages, MadeLast, WasRefused};
 
@@ -49,6 +51,7 @@ impl Upkeep {
     pub fn of<D: Disk>(engine: &Engine<D>, bounds: Bounds) -> Upkeep
         ensures bounds { result.bounds ≡ bounds }
         ensures first { result.is_upgraded ≡ false }
+        ensures fresh { result ≡ fresh D.Disk bounds engine.now }
     {
         let begun = engine.durable_end().saturating_sub(engine.log_length());
         Upkeep {
@@ -68,31 +71,37 @@ impl Upkeep {
         self.is_upgraded = true;
     }
 
-    /// Makes a step, and answers it.
+    /// Makes a step, and answers it. After a Checkpoint or a Switch that was done less is redone, and is known to be.
     pub fn step<D: TwoLogs>(&mut self, engine: &mut Engine<D>, step: &Step) -> Reply
         ensures made { IsStep D.Disk step.now result engine.old engine.new }
+        ensures noted { self.new ≡ noted D.Disk step.now result (durable_end_of D.Disk engine.old) engine.new self.old }
         ensures pages { self.new.pages ≡ self.old.pages }
         ensures bounds { self.new.bounds ≡ self.old.bounds }
     {
         let end = engine.durable_end();
         let reply = engine.step(step);
-        if matches!(&reply, Reply::Done) {
-            match step {
-                Step::Checkpoint => {
-                    self.from = match engine.oldest_change() {
-                        Some(change) => change.rec_lsn.min(end),
-                        None => end,
-                    };
-                }
-                Step::Switch => {
-                    self.from = engine.durable_end();
-                    self.ahead = None;
-                    self.is_upgraded = false;
-                }
-                _ => {}
-            }
-        }
+        self.note(engine, step, &reply, end);
         reply
+    }
+
+    // Notes what a step leaves to be redone, before which the durable log ended there.
+    fn note<D: Disk>(&mut self, engine: &Engine<D>, step: &Step, reply: &Reply, end: Lsn)
+        ensures { self.new ≡ noted D.Disk step.now reply.now end engine.now self.old }
+    {
+        match (step, reply) {
+            (Step::Checkpoint, Reply::Done) => {
+                self.from = match engine.oldest_change() {
+                    Some(change) => change.rec_lsn.min(end),
+                    None => end,
+                };
+            }
+            (Step::Switch, Reply::Done) => {
+                self.from = engine.durable_end();
+                self.ahead = None;
+                self.is_upgraded = false;
+            }
+            _ => {}
+        }
     }
 
     /// What is due, after an opening or a reply.
@@ -125,6 +134,7 @@ impl Upkeep {
         ensures refused { IfErr result (WasRefused D.Disk engine.old engine.new) }
         ensures bounds { self.new.bounds ≡ self.old.bounds }
         ensures pages { KnowsPages D.Disk engine.old self.old.pages self.new.pages }
+        ensures noted { IsNoted D.Disk self.old engine.old engine.new self.new }
     {
         if engine.failed() {
             return Ok(());
@@ -230,6 +240,7 @@ impl Upkeep {
         ensures refused { IfErr result (WasRefused D.Disk engine.old engine.new) }
         ensures bounds { self.new.bounds ≡ self.old.bounds }
         ensures pages { KnowsPages D.Disk engine.old self.old.pages self.new.pages }
+        ensures noted { IsNoted D.Disk self.old engine.old engine.new self.new }
     {
         if let Err(fault) = self.write_oldest(engine, is_last) {
             return Err(fault);
@@ -248,6 +259,7 @@ impl Upkeep {
         ensures refused { IfErr result (WasRefused D.Disk engine.old engine.new) }
         ensures bounds { self.new.bounds ≡ self.old.bounds }
         ensures pages { KnowsPages D.Disk engine.old self.old.pages self.new.pages }
+        ensures still { (self.new.from ≡ self.old.from) × (self.new.is_upgraded ≡ self.old.is_upgraded) }
     {
         let mut pages = engine.dirty_count();
         for _written in 0..MOST_DIRTY {
@@ -279,6 +291,7 @@ impl Upkeep {
         ensures refused { IfErr result (WasRefused D.Disk engine.old engine.new) }
         ensures bounds { self.new.bounds ≡ self.old.bounds }
         ensures pages { KnowsPages D.Disk engine.old self.old.pages self.new.pages }
+        ensures still { (self.new.from ≡ self.old.from) × (self.new.is_upgraded ≡ self.old.is_upgraded) }
     {
         if !self.is_near(engine) {
             return Ok(());
@@ -306,6 +319,7 @@ impl Upkeep {
         ensures refused { IfErr result (λ fault. IsStep D.Disk step.now (Refused fault) engine.old engine.new) }
         ensures bounds { self.new.bounds ≡ self.old.bounds }
         ensures pages { self.new.pages ≡ self.old.pages }
+        ensures noted { IsNotedBy D.Disk step.now self.old engine.old engine.new self.new }
     {
         match self.step(engine, step) {
             Reply::Refused(fault) => Err(fault),

@@ -1,7 +1,7 @@
 use Rattle.std.proofs.Common.{refl, rules}
 use Rattle.im_base_steps.specs.declared.step.Step.TheVariants as steps
 use Rattle.im_engine_upkeep.specs.Upkeep.{none}
-use Rattle.im_engine_upkeep.proofs.Keeping.{either_way, err_on, first_kept, first_refused, last_kept, ok_on, refused_kept, switched_by_rule, written_kept}
+use Rattle.im_engine_upkeep.proofs.Keeping.{either_way, err_on, first_kept, first_refused, last_kept, noted_first, noted_still, ok_on, refused_kept, switched_by_rule, written_kept}
 use Rattle.im_engine_upkeep.proofs.upkeep.Upkeep.keep.Goals as goal
 
 pub returns-in-Switch-clause-kept : goal.returns-in-Switch-clause-kept
@@ -29,3 +29,12 @@ returns-then-failed-clause-kept g c = none
 pub returns-in-Switch-clause-rule : goal.returns-in-Switch-clause-rule
 returns-in-Switch-clause-rule g c =
     ok_on c.make.result c.make.ensures.taken (switched_by_rule g.D.Disk c.args.self.now c.args.engine.now c.make.new.engine (search rules) c.in-Switch.ensures)
+
+pub returns-then-failed-clause-noted : goal.returns-then-failed-clause-noted
+returns-then-failed-clause-noted g c = noted_still g.D.Disk c.args.self.now c.args.self.now c.args.engine.now c.args.engine.now (refl, refl)
+
+pub returns-in-Switch-clause-noted : goal.returns-in-Switch-clause-noted
+returns-in-Switch-clause-noted g c = noted_first g.D.Disk c.args.self.now c.make.new.self c.args.engine.now c.make.new.engine steps.Switch c.make.ensures.noted
+
+pub returns-in-Nothing-clause-noted : goal.returns-in-Nothing-clause-noted
+returns-in-Nothing-clause-noted g c = noted_still g.D.Disk c.args.self.now c.write_ahead.new.self c.args.engine.now c.write_ahead.new.engine c.write_ahead.ensures.still

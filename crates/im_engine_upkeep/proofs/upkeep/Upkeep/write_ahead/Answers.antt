@@ -1,6 +1,6 @@
 use Rattle.std.proofs.Common.{inl, refl, rules}
 use Rattle.im_engine_upkeep.specs.Rule as rule
-use Rattle.im_engine_upkeep.proofs.Keeping.{err_on, kept_none, knows_more, ok_on, page_refused, page_written}
+use Rattle.im_engine_upkeep.proofs.Keeping.{err_on, kept_none, knows_more, noted_page, ok_on, page_refused, page_written}
 use Rattle.im_engine_upkeep.proofs.upkeep.Upkeep.write_ahead.Goals as goal
 
 pub returns-then-not-is_near-clause-written : goal.returns-then-not-is_near-clause-written
@@ -25,3 +25,6 @@ returns-then-change-begun-clause-pages g c = knows_more g.D.Disk c.args.engine.n
 
 pub returns-else-change-begun-clause-pages : goal.returns-else-change-begun-clause-pages
 returns-else-change-begun-clause-pages g c = knows_more g.D.Disk c.args.engine.now c.args.engine.now c.args.self.now.pages c.args.self.now.pages _ c.in-Some-oldest_change.change (inl refl) (kept_none g.D.Disk c.args.engine.now) (search rules) (search rules)
+
+pub returns-then-change-begun-clause-still : goal.returns-then-change-begun-clause-still
+returns-then-change-begun-clause-still g c = noted_page g.D.Disk _ c.make.new.self c.args.engine.now c.make.new.engine c.in-Some-oldest_change.change.page c.make.ensures.noted
