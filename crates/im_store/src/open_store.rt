@@ -1,0 +1,257 @@
+//! A store that is open.
+
+ghost use Rattle.std.specs.Prelude.{◌≡◌, ◌↔◌, false, true, None, IfOk, IfErr, IsTrue};
+ghost use Rattle.im_base_types.specs.declared.fault.Fault.TheVariants.{Device};
+ghost use Rattle.im_base_disk.specs.Runs.{IsSynced, Reads};
+ghost use Rattle.im_base_steps.specs.declared.reply.Reply.TheVariants as replies;
+ghost use Rattle.im_engine_upkeep.specs.FirstFormat.{HasFirst};
+ghost use Rattle.im_store.specs.Stores.{AreRight, follows};
+
+use crate::unkept::Unkept;
+use im_base_disk::Disk;
+use im_base_steps::{Reply, Step};
+use im_base_two_logs::TwoLogs;
+use im_base_types::{Fault, Key, LEAST_FRAMES, MOST_FRAMES, Rid};
+use im_engine::{Config, Engine, MOST_WORKERS};
+use im_engine_upkeep::{Bounds, Upkeep, has_first_format};
+use std::alloc::Global;
+use std::thread::Threads;
+
+/// A store that is open: its engine, and the upkeep that its next opening wants.
+#[derive(Drop)]
+pub struct OpenStore<D: Disk> {
+    engine: Engine<D>,
+    upkeep: Upkeep,
+    // What of that was refused after the last step.
+    unkept: Option<Unkept>,
+}
+
+impl<D: TwoLogs + Drop> OpenStore<D> {
+    ghost use Rattle.std.specs.Prelude.{◌≡◌, ◌↔◌, List, [], false, true, None, IfOk, IfErr, OnOk, IsTrue};
+    ghost use Rattle.im_base_types.specs.Changes.{Effect};
+    ghost use Rattle.im_base_types.specs.Lives.{Shown};
+    ghost use Rattle.im_base_disk.specs.Runs.{IsSynced};
+    ghost use Rattle.im_page_writer.specs.Outcome.{fault_of};
+    ghost use Rattle.im_theory_machine.specs.View.{View};
+    ghost use Rattle.im_engine.specs.Kept.{EntriesKept, LookKept};
+    ghost use Rattle.im_engine.specs.Looking.{Looks};
+    ghost use Rattle.im_engine.specs.Running.{IsLife};
+    ghost use Rattle.im_engine_upkeep.specs.Rule.{IsHeldUp};
+    ghost use Rattle.im_engine_upkeep.specs.Noted.{fresh};
+    ghost use Rattle.im_engine_upkeep.specs.Rule.{WasRefused};
+    ghost use Rattle.im_engine_upkeep.specs.Upkeep.{IsKeptUp};
+    ghost use Rattle.im_store.specs.Stores.{IsEnd, IsOpenedStore, IsStepKept, SameLimits, WasEnded, WasKept};
+
+    /// Opens the store of a disk, or makes a new one, with bounds of what its next opening redoes and reads. Redo is made in threads that the runtime starts.
+    ///
+    /// Refused as `Engine::open_or_create` is; the disk comes back then.
+    pub fn open<R: Threads + Sync>(
+        rt: &R,
+        alloc: Global,
+        disk: D,
+        config: Config,
+        bounds: Bounds,
+    ) -> Result<OpenStore<D>, (Fault, D)>
+        requires working { D.failed disk ≡ false }
+        requires synced { IsSynced D.Disk disk }
+        ensures { IsOpenedStore D.Disk config bounds disk result }
+    {
+        let mut disk = disk;
+        let is_first = match leaves_first(&mut disk, config) {
+            Ok(is_first) => is_first,
+            Err(fault) => return Err((fault, disk)),
+        };
+        match Engine::open_or_create(rt, alloc, disk, config) {
+            Ok(engine) => Ok(OpenStore::kept_by(engine, bounds, is_first)),
+            Err(refused) => Err(refused),
+        }
+    }
+
+    /// The same for a caller who can start no threads: the opening call makes all of redo.
+    pub fn open_alone(
+        alloc: Global,
+        disk: D,
+        config: Config,
+        bounds: Bounds,
+    ) -> Result<OpenStore<D>, (Fault, D)>
+        requires working { D.failed disk ≡ false }
+        requires synced { IsSynced D.Disk disk }
+        ensures { IsOpenedStore D.Disk config bounds disk result }
+    {
+        let mut disk = disk;
+        let is_first = match leaves_first(&mut disk, config) {
+            Ok(is_first) => is_first,
+            Err(fault) => return Err((fault, disk)),
+        };
+        match Engine::open_alone(alloc, disk, config) {
+            Ok(engine) => Ok(OpenStore::kept_by(engine, bounds, is_first)),
+            Err(refused) => Err(refused),
+        }
+    }
+
+    /// A store over an engine that was opened otherwise, or that a front gives back.
+    pub fn over(engine: Engine<D>, bounds: Bounds) -> OpenStore<D>
+        ensures engine { result.engine ≡ engine }
+        ensures upkeep { result.upkeep ≡ fresh D.Disk bounds engine }
+        ensures unkept { result.unkept ≡ None }
+    {
+        let upkeep = Upkeep::of(&engine, bounds);
+        OpenStore {
+            engine,
+            upkeep,
+            unkept: None,
+        }
+    }
+
+    // The same, where a log of the first format is to be left or not.
+    fn kept_by(engine: Engine<D>, bounds: Bounds, is_first: bool) -> OpenStore<D>
+        ensures engine { result.engine ≡ engine }
+        ensures upkeep { result.upkeep ≡ record (fresh D.Disk bounds engine) { is_upgraded = is_first } }
+        ensures unkept { result.unkept ≡ None }
+    {
+        let mut store = OpenStore::over(engine, bounds);
+        if is_first {
+            store.upkeep.leave_first_format();
+        }
+        store
+    }
+
+    /// Makes a step, and answers it; then what is due after it.
+    pub fn step(&mut self, step: &Step) -> Reply
+        ensures { IsStepKept D.Disk step.now result self.old self.new }
+    {
+        let reply = self.upkeep.step(&mut self.engine, step);
+        if is_followed(&reply) {
+            self.keep();
+            return reply;
+        }
+        self.unkept = None;
+        reply
+    }
+
+    /// Makes what is due: right after an opening, or at a moment without a transaction. Each step does so by itself.
+    pub fn keep(&mut self)
+        ensures kept { WasKept D.Disk self.old.upkeep self.old.engine self.new }
+        ensures limits { SameLimits D.Disk self.old.engine self.new.engine }
+        ensures works { self.old.engine.failed ≡ false → self.new.unkept ≡ None → self.new.engine.failed ≡ false }
+        ensures rests { self.old.engine.txns.rows ≡ [] → self.new.engine.txns.rows ≡ [] }
+    {
+        let due = self.upkeep.due(&self.engine);
+        match self.upkeep.keep(&mut self.engine) {
+            Ok(()) => self.unkept = None,
+            Err(fault) => self.unkept = Some(Unkept { due, fault }),
+        }
+    }
+
+    /// What was refused of the upkeep after the last step, if anything was.
+    pub fn unkept(&self) -> Option<Unkept>
+        ensures { result ≡ self.now.unkept }
+    {
+        self.unkept
+    }
+
+    /// Whether the log is as long as its bound, and nothing can be switched since a transaction is active: an opening may have to read more than the bound says.
+    pub fn is_held_up(&self) -> bool
+        ensures { IsTrue result ↔ IsHeldUp D.Disk self.now.upkeep self.now.engine }
+    {
+        self.upkeep.is_held_up(&self.engine)
+    }
+
+    /// The entries of the map, those of active transactions included, in rising key order. Refused as `Engine::entries` is.
+    pub fn entries(&mut self, alloc: Global) -> Result<Vec<(Key, Rid)>, Fault>
+        ensures outcome { Looks D.Disk (fault_of result) self.old.engine self.new.engine }
+        ensures kept { (before : List Effect) (s : Shown) (v : View) → IsLife D.Disk before s v self.old.engine → LookKept D.Disk before s v self.old.engine self.new.engine }
+        ensures entries { IfOk result (λ list. (before : List Effect) (s : Shown) (v : View) → IsLife D.Disk before s v self.old.engine → EntriesKept before s v list.items) }
+        ensures upkeep { (self.new.upkeep ≡ self.old.upkeep) × (self.new.unkept ≡ self.old.unkept) }
+    {
+        self.engine.entries(alloc)
+    }
+
+    /// The engine, to be looked at.
+    pub fn engine(&self) -> &Engine<D>
+        ensures { result.now ≡ self.now.engine }
+    {
+        &self.engine
+    }
+
+    /// Ends the store, and hands the disk back: what is due is made, a long log is left for an empty one where nothing is active, else all pages are written
+    /// and a Checkpoint is taken, and the files are synced. What was committed is kept, refused or not; what is active is taken back by the next opening.
+    ///
+    /// Refused `Failed`, with no device call, where an earlier step broke the engine; else as the step of upkeep is that was refused, or `Device`.
+    pub fn close(self) -> (Result<(), Fault>, D)
+        ensures { IsEnd D.Disk self result.0 result.1 }
+    {
+        let mut store = self;
+        if store.engine.failed() {
+            return (Err(Fault::Failed), store.into_disk());
+        }
+        let ended = store.end();
+        let OpenStore { engine, .. } = store;
+        let (synced, disk) = engine.close();
+        match ended {
+            Ok(()) => (synced, disk),
+            Err(fault) => (Err(fault), disk),
+        }
+    }
+
+    // Makes what is due, and then what the end wants.
+    fn end(&mut self) -> Result<(), Fault>
+        ensures kept { IsKeptUp D.Disk self.old.engine self.new.engine }
+        ensures made { OnOk result (WasEnded D.Disk self.old self.new.engine) }
+        ensures refused { IfErr result (WasRefused D.Disk self.old.engine self.new.engine) }
+    {
+        if let Err(fault) = self.upkeep.keep(&mut self.engine) {
+            return Err(fault);
+        }
+        self.upkeep.close(&mut self.engine)
+    }
+
+    /// Hands the engine out, as a front takes it.
+    pub fn into_engine(self) -> Engine<D>
+        ensures { result ≡ self.engine }
+    {
+        self.engine
+    }
+
+    /// Ends the store with no device call, and hands the disk back. What was committed is kept; the next opening may have much to do.
+    pub fn into_disk(self) -> D
+        ensures { result ≡ self.engine.disk }
+    {
+        self.engine.into_disk()
+    }
+}
+
+// Whether one of the logs is one of the first format. Where the frames or the workers will be refused nothing is read.
+fn leaves_first<D: Disk>(disk: &mut D, config: Config) -> Result<bool, Fault>
+    requires working { D.failed disk.old ≡ false }
+    ensures reads { Reads D.Disk disk.old disk.new }
+    ensures synced { IsSynced D.Disk disk.old → IsSynced D.Disk disk.new }
+    ensures says { AreRight config → IfOk result (λ is. D.tells → IsTrue is ↔ HasFirst (D.seen disk.old)) }
+    ensures still { (AreRight config → ⊥) → disk.new ≡ disk.old }
+    ensures causes { IfErr result (λ e. (e ≡ Device) × AreRight config) }
+    ensures device { result ≡ Err Device ↔ (D.failed disk.new ≡ true) }
+{
+    if config.frames < LEAST_FRAMES
+        || config.frames > MOST_FRAMES
+        || config.workers < 1
+        || config.workers > MOST_WORKERS
+    {
+        return Ok(false);
+    }
+    has_first_format(disk)
+}
+
+// Whether something may be due after a reply: the log may have grown, or a transaction has ended.
+fn is_followed(reply: &Reply) -> bool
+    ensures { result ≡ follows reply.now }
+{
+    matches!(
+        reply,
+        Reply::Inserted
+            | Reply::Deleted
+            | Reply::Committed
+            | Reply::RolledBack
+            | Reply::More
+            | Reply::Done
+    )
+}
