@@ -1,12 +1,14 @@
 -- What lies at the pointers that C hands in.
+use Rattle.std.specs.Prelude.{◌≡◌, None}
 use Prim.Native.Nat.{ℕ}
-use base.Fml.{Fml, fex}
+use base.Fml.{Fml, fex, fsep}
 use base.Fraction.{full_share}
 use prog.Memory.{size, capped}
 use denote.Memory.{lone}
 use denote.RawPtr.{Ptr, lies_at, room_at}
 use Rattle.im_calls_form.specs.contracts.call.Call.{the_row as Call}
 use Rattle.im_calls.specs.contracts.session.Session.{the_row as Pot}
+use Rattle.im_calls.specs.Made.{Makes}
 
 -- how many bytes a store takes, as `size_of` has it
 abbrev pub bytes_of_store : ℕ
@@ -16,10 +18,22 @@ bytes_of_store = capped (size (lone Pot.mir))
 abbrev pub room_for_store : Ptr → Fml
 room_for_store p = room_at Pot p
 
--- a store
-abbrev pub store_at : Ptr → Fml
-store_at p = fex Pot.Denot (λ store. lies_at Pot full_share p store)
+-- a store and a question to it
+abbrev pub Question : Type 0
+Question = Pot.Denot × Call.Denot
 
--- a question, or its answer
-abbrev pub call_at : Ptr → Fml
-call_at p = fex Call.Denot (λ call. lies_at Call full_share p call)
+-- the store
+abbrev pub store_at : Ptr → Question → Fml
+store_at p q = lies_at Pot full_share p q.0
+
+-- the question
+abbrev pub call_at : Ptr → Question → Fml
+call_at p q = lies_at Call full_share p q.1
+
+-- a store that is not open
+abbrev pub blank_at : Ptr → Fml
+blank_at p = fex Pot.Denot (λ store. fex (store.store ≡ None) (λ _. lies_at Pot full_share p store))
+
+-- what `made` leaves of them: the store, and what the question is told
+abbrev pub made_at : Ptr → Ptr → Question → Fml
+made_at p r q = fex Pot.Denot (λ left. fex Call.Denot (λ told. fex (Makes q.1 told q.0 left) (λ _. fsep (lies_at Pot full_share p left) (lies_at Call full_share r told))))

@@ -6,7 +6,7 @@
 
 ghost use Rattle.std.specs.Prelude.{◌≡◌, ◌≤◌, ◌+◌, ◌↔◌, true, length};
 ghost use Rattle.std.specs.Borrow.{sem};
-ghost use Rattle.im_capi.specs.Pointers.{bytes_of_store, room_for_store, store_at, call_at};
+ghost use Rattle.im_capi.specs.Pointers.{bytes_of_store, room_for_store, blank_at, store_at, call_at, made_at, Question};
 ghost use Rattle.im_base_guard.specs.Belonging.{Decides};
 ghost use Rattle.im_base_guard.specs.LeftLog.{current_log_of, left_log_of, walk, IsOlder};
 ghost use Rattle.im_base_turns.specs.Turns.{IsAwaitedBy, IsLeastOf, IsPatient, MayBegin, Owns};
@@ -75,16 +75,17 @@ pub extern "C" fn im_is_older(left: &im_base_guard::LeftLog, pages: u64, lsn: u6
 #[unsafe(no_mangle)]
 pub unsafe extern "C" fn im_init(alloc: Global, at: *mut Handle)
     requires* { sem 𝓛 (room_for_store at) }
-    ensures* { sem 𝓛 (store_at at) }
+    ensures* { sem 𝓛 (blank_at at) }
 {
     std::ptr::write(at as *mut Session, blank(alloc));
 }
 
-/// Does what is asked of the store.
+/// Does what is asked of the store: what lies at both pointers then is what `made` of im_calls leaves of what lay there (`Makes`).
 #[unsafe(no_mangle)]
 pub unsafe extern "C" fn im_step(at: *mut Handle, call: *mut Call)
-    requires* { sem 𝓛 (store_at at) ∗ sem 𝓛 (call_at call) }
-    ensures* { sem 𝓛 (store_at at) ∗ sem 𝓛 (call_at call) }
+    ghost was: { Question }
+    requires* { sem 𝓛 (store_at at was) ∗ sem 𝓛 (call_at call was) }
+    ensures* { sem 𝓛 (made_at at call was) }
 {
     made(&mut *(at as *mut Session), &mut *call);
 }

@@ -1,5 +1,7 @@
 -- `im_init` meets its contract: what `blank` makes is written into the room at the pointer.
-use Rattle.im_capi.proofs.Steps.{[], ◌∷◌, ◌++◌, refl, proved, full_share, id⊢, ftrue, vunit, tables, ‵, raw, ◌⊛◌, some, later, prop, ◌$◌, ◌∵◌, !, qed, done, move, keep, drop, use1, use2, split, join, fpack, feq_i, pick, await, regoal, suffices, group, enter, of_opd, unit_lit, init, stop, no_more, and_then, assigns, returns, alloc_all, pass_all, free_all, look_at, get, through, sets, lands_as, shows, yes, Ptr, RawPtr, block_ptr, lies_at, in_a_block, rawptr_vals, rawptr_Tells, plain, nothing, peeks, calls_at, lasts, triple_of, Stays, walk_of, stay_dropped, Goes-dropped, ends_at, framed}
+use Rattle.im_capi.proofs.Steps.{◌≡◌, [], ◌∷◌, ◌++◌, refl, proved, full_share, id⊢, ftrue, vunit, tables, ‵, raw, ◌⊛◌, some, later, prop, fact, ◌$◌, ◌∵◌, !, qed, done, move, keep, drop, use1, use2, split, join, fpack, feq_i, pick, await, regoal, suffices, group, enter, of_opd, unit_lit, init, stop, no_more, and_then, assigns, returns, alloc_all, pass_all, free_all, look_at, get, through, sets, lands_as, shows, yes, Ptr, RawPtr, block_ptr, lies_at, in_a_block, rawptr_vals, rawptr_Tells, plain, nothing, heard, peeks, calls_at, lasts, triple_of, Stays, walk_of, stay_dropped, Goes-dropped, ends_at, framed}
+use base.Fml.{fex}
+use Rattle.std.specs.Prelude.{None}
 use prog.Wp.{WpFn}
 use denote.Laws.{Is}
 use denote.Struct.Laws as laws
@@ -40,14 +42,15 @@ im_init_spec 𝓤 𝓛 𝓜 𝓡 wired =
     let z : G.Ghost = ((tt, tt, tt, (a.0, tt), (vals a.0, tt)), tt) in
     nothing ! $ move ! (1 ∷ 0 ∷ []) $ join ! $ nothing ! $ join ! $ nothing ! $ move ! (1 ∷ 0 ∷ []) $ use2 𝓛 (raw (G.pre z)) (id⊢ 𝓤 _) $
     calls_at ! (framed 𝓤 𝓛.H 𝓜 𝓣) G (met 𝓤 𝓛 𝓜 𝓡 (code.calls-im_calls::session::blank 𝓡.env wired)) z (and_then ! (get ! refl) (no_more !)) (λ v.
-    use1 𝓛 (later (some (λ (r : P.Denot). (‵ ftrue ⊛ ‵ (P.own_val r (v ∷ []))) ⊛ raw ((g.spec 𝓛 𝓜.mem 𝓡.returns z.0.0 z.0.3).ensures z.1 r)))) (id⊢ 𝓤 _) $
-    await ! tt $ pick ! (λ r. split ! $ split ! $ drop ! $
-    -- [what the store owns; what `blank` says; the room]
+    use1 𝓛 (later (some (λ (r : P.Denot). (‵ ftrue ⊛ ‵ (P.own_val r (v ∷ []))) ⊛ some (λ (ws : Unit {0} × Unit {0}). ‵ (lasts g.ended z.0.0 z.0.3 ws) ⊛ raw (fact 𝓤 (r.store ≡ None)))))) (id⊢ 𝓤 _) $
+    await ! tt $ pick ! (λ r. split ! $ split ! $ drop ! $ move ! (1 ∷ []) $ pick ! (λ ws. split ! $ drop ! $ heard ! (r.store ≡ None) (λ is_blank.
+    -- [what the store owns; the room]
     peeks ! P (Is P) (shows 𝓛 P) r (v ∷ []) (λ is. let good = ((loose_lawful P'.the_type pot.the_loose 𝓛).typed r _ is).0 in
     lands_as ! refl refl good $
-    assigns ! (of_opd ! (get ! refl)) (through ! refl (stop !)) (init ! 2 refl good) $
-    sets ! (of_opd ! (unit_lit !)) refl (tt, tt) $ returns ! (look_at ! 0 refl) $ free_all ! refl $ move ! (2 ∷ 0 ∷ []) $
+    assigns ! (of_opd ! (get ! refl)) (through ! refl (stop !)) (init ! 1 refl good) $
+    sets ! (of_opd ! (unit_lit !)) refl (tt, tt) $ returns ! (look_at ! 0 refl) $ free_all ! refl $ move ! (1 ∷ 0 ∷ []) $
     use2 𝓛 (‵ (lies_at P full_share (block_ptr b o) r)) (part_in 𝓛 P refl full_share r b o v) $ keep ! (0 ∷ []) $
-    fpack ! P.Denot (λ x. lies_at P full_share (block_ptr b o) x) r $
+    fpack ! (r.store ≡ None) (λ _. lies_at P full_share (block_ptr b o) r) is_blank $
+    fpack ! P.Denot (λ x. fex (x.store ≡ None) (λ _. lies_at P full_share (block_ptr b o) x)) r $
     suffices ! _ (ends_at 𝓛 f.ended stayed c (y (block_ptr b o)) vunit tt (tt, (tt, tt)) (tt, (tt, tt))) $
-    feq_i ! _ (vunit ∷ []) _ refl $ nothing ! $ nothing ! $ join ! $ nothing ! $ join ! $ nothing ! $ group ! 3 $ done !))))))
+    feq_i ! _ (vunit ∷ []) _ refl $ nothing ! $ nothing ! $ join ! $ nothing ! $ join ! $ nothing ! $ group ! 3 $ done !))))))))
