@@ -1,11 +1,14 @@
 """Judges what a program answered to the lines of lives of a store, in which some request for memory or some call was refused.
 
-`problem` names the first line that is not as it may be, or is None. It keeps a plain map, and knows nothing of pages, logs or locks:
+`problem` names the first line that is not as it may be, or is None. It keeps a plain map, and knows nothing of pages, logs or locks, so that it knows
+of a structure change made page by page only that it goes on:
 
 - up to the first refusal a line answers as it does undisturbed;
 - a line that is refused 9 is one that takes memory (docs/FAULTS.md), and has changed nothing: each line behind it answers by what the lines before it
   did, and a rollback goes on where it stood;
 - behind `refused 8` or `refused 10` the engine answers `refused 10` alone; an opening that does not succeed is refused 9 or 8;
+- an insert or delete answered `more` with `stepped` goes on by continues of its transaction, which answer `more` until they end it; another step of
+  that transaction is refused 17, and only a step of another by a key, or its continue, is told `blocked tree`;
 - in the end there is what was acknowledged, and of the commits that were asked and not acknowledged a front.
 """
 
@@ -16,6 +19,8 @@ MOST_ACTIVE = 64
 BY_KEY = {"fetch", "seek", "next", "prev", "scan", "insert", "delete"}
 # what may be refused 9: these ask for locks, and a continue for the pages of a split
 TAKES_MEMORY = BY_KEY | {"continue"}
+# how a change ends that is answered `more` with `stepped`
+ENDS = {"insert": "inserted", "delete": "deleted"}
 # lines that tell counts: these may differ once something was refused
 COUNTS = {"calls", "redo", "log"}
 
@@ -28,6 +33,14 @@ def key_of(word):
         piece, _, count = times.partition("*")
         text += piece * int(count)
     return text.encode().hex()
+
+
+def put_back(now, key, was):
+    """A map in which a key has the row id that it had, or none."""
+    now.pop(key, None)
+    if was is not None:
+        now[key] = was
+    return now
 
 
 class Script:
@@ -55,6 +68,8 @@ class Txn:
         self.state = "on"
         # what each change took away, the oldest first: key, and the row id that was there, or None
         self.undo = []
+        # how many of these may be taken back already, as each continue makes a page or takes one back with `stepped`
+        self.maybe = 0
 
 
 class Life:
@@ -67,14 +82,26 @@ class Life:
         self.txns = {}
         self.asked = []
         self.failed = False
-        self.group = "group" in words
+        self.group, self.stepped = "group" in words, "stepped" in words
+        # the transaction whose insert or delete goes on, how that ends, and its line
+        self.under = None, None, None
         self.has_most = "max" in words
         # a number that a life before used may come again, where it left nothing; None: any number
         self.least, self.next = 1, next_number
         self.is_first = True
 
-    def wanted(self, words):
-        """What a line answers where nobody is in its way and nothing is refused."""
+    def maps(self):
+        """The maps of which a step may speak: one, but beside rollbacks of which it is not known how far they are."""
+        found = [self.now]
+        for txn in self.txns.values():
+            for front in list(found):
+                for key, was in reversed(txn.undo[len(txn.undo) - txn.maybe :]):
+                    front = put_back(dict(front), key, was)
+                    found.append(front)
+        return found
+
+    def wanted(self, words, now):
+        """What a line answers on this map, where nobody is in its way, nothing is refused and no change goes on behind it."""
         kind = words[0]
         if kind == "begin":
             return "refused 12" if len(self.txns) >= MOST_ACTIVE else f"started {self.next}"
@@ -85,45 +112,54 @@ class Life:
         txn = self.txns.get(int(words[1]))
         if txn is None or txn.state == "waits":
             return "refused 1"
+        is_owner = int(words[1]) == self.under[0]
         if kind == "continue":
+            if is_owner:
+                return self.under[1]
             if txn.state != "back":
                 return "refused 1"
-            return "more" if len(txn.undo) > 1 else "rolledback"
+            return "more" if len(txn.undo) > txn.maybe + 1 else "rolledback"
         if txn.state == "back":
             return "refused 4"
+        if is_owner:
+            return "refused 17"
         if kind == "rollback":
             return "more" if txn.undo else "rolledback"
         if txn.state == "dead":
             return "refused 2"
         if kind == "commit":
             return "more" if self.group and txn.undo else "committed"
-        return self.read(words)
+        return self.read(words, now)
 
-    def read(self, words):
+    def read(self, words, now):
         """What a step by a key answers, by the map alone."""
         kind, key = words[0], key_of(words[2])
         keys = [key, key_of(words[3])] if kind == "scan" else [key]
         if any(not 2 <= len(it) <= 510 for it in keys):
             return "refused 3"
         if kind == "fetch":
-            return f"found {self.now[key]}" if key in self.now else "absent"
+            return f"found {now[key]}" if key in now else "absent"
         if kind == "insert":
-            return "duplicate" if key in self.now else "inserted"
+            return "duplicate" if key in now else "inserted"
         if kind == "delete":
-            return "deleted" if key in self.now else "absent"
+            return "deleted" if key in now else "absent"
         if kind == "scan":
-            found = sorted(it for it in self.now if keys[0] <= it <= keys[1])[: min(max(int(words[4]), 1), 256)]
-            return "".join(["entries"] + [f" {it} {self.now[it]}" for it in found])
+            found = sorted(it for it in now if keys[0] <= it <= keys[1])[: min(max(int(words[4]), 1), 256)]
+            return "".join(["entries"] + [f" {it} {now[it]}" for it in found])
         if kind == "prev":
-            found = max((it for it in self.now if it < key), default=None)
+            found = max((it for it in now if it < key), default=None)
         else:
-            found = min((it for it in self.now if it > key or (it == key and kind == "seek")), default=None)
-        return "end" if found is None else f"entry {found} {self.now[found]}"
+            found = min((it for it in now if it > key or (it == key and kind == "seek")), default=None)
+        return "end" if found is None else f"entry {found} {now[found]}"
 
     def may_answer(self, reply, words):
-        """Whether a line may answer so: as wanted, or that another transaction is in the way."""
-        wanted = self.wanted(words)
-        if reply == wanted:
+        """Whether a line may answer so, on a map that may be there."""
+        return any(self.may_answer_on(now, reply, words) for now in self.maps())
+
+    def may_answer_on(self, now, reply, words):
+        """Whether a line may answer so: as wanted, that a change goes on, or that another transaction is in the way."""
+        wanted = self.wanted(words, now)
+        if reply == wanted or self.stepped and not wanted.startswith("refused") and self.may_go_on(reply, words, wanted):
             return True
         if words[0] == "begin" and self.is_first and wanted != "refused 12":
             started = re.fullmatch(r"started (\d+)", reply)
@@ -136,6 +172,15 @@ class Life:
             return len(self.txns) > 1
         blocked = re.fullmatch(r"blocked lock (\d+)", reply)
         return bool(blocked) and int(blocked[1]) in self.txns and blocked[1] != words[1]
+
+    def may_go_on(self, reply, words, wanted):
+        """Whether a line may answer so, as changes are made page by page: one at a time, and nobody is in its owner's way."""
+        owner = self.under[0]
+        if reply == "more":
+            return words[0] == "continue" or wanted == ENDS.get(words[0]) and owner is None
+        if reply != "blocked tree" or words[0] not in TAKES_MEMORY or int(words[1]) == owner:
+            return False
+        return owner is not None or any(txn.maybe for number, txn in self.txns.items() if number != int(words[1]))
 
     def take(self, reply, words):
         """What a line has done that answered so."""
@@ -158,24 +203,42 @@ class Life:
         txn = self.txns.get(number)
         if txn is None:
             return
-        if kind in ("insert", "delete") and reply in ("inserted", "deleted"):
-            key = key_of(words[2])
-            txn.undo.append((key, self.now.pop(key, None)))
-            if kind == "insert":
-                self.now[key] = words[3]
+        if kind in ENDS and reply in (ENDS[kind], "more"):
+            if reply == "more":
+                self.under = number, ENDS[kind], words
+            # a delete's record comes before its pages, that of an insert behind them
+            if kind == "delete" or reply != "more":
+                self.change(txn, words)
+        elif kind == "continue" and number == self.under[0]:
+            if reply == "inserted":
+                self.change(txn, self.under[2])
+            if reply == self.under[1]:
+                self.under = None, None, None
         elif reply == "die":
             txn.state = "dead"
         elif kind == "rollback" and reply == "more":
             txn.state = "back"
         elif kind == "continue" and reply in ("more", "rolledback"):
-            key, was = txn.undo.pop()
-            self.now.pop(key, None)
-            if was is not None:
-                self.now[key] = was
+            self.take_back(reply, txn)
         elif kind == "commit" and txn.state == "on":
             self.commit(reply, txn)
         if reply in ("rolledback", "committed"):
             del self.txns[number]
+
+    def change(self, txn, words):
+        """An insert or a delete has logged its record."""
+        key = key_of(words[2])
+        txn.undo.append((key, self.now.pop(key, None)))
+        if words[0] == "insert":
+            self.now[key] = words[3]
+
+    def take_back(self, reply, txn):
+        """A continue of a rollback was made: it has taken one record back, or with `stepped` one at most, until all are."""
+        if self.stepped and reply == "more":
+            txn.maybe = min(txn.maybe + 1, len(txn.undo))
+            return
+        for _ in range(len(txn.undo) if self.stepped else 1):
+            put_back(self.now, *txn.undo.pop())
 
     def commit(self, reply, txn):
         """A Commit was asked, unless it was refused with nothing changed. One of no changes asks for nothing."""
@@ -293,7 +356,7 @@ class Judge:
             elif not disturbed and differs:
                 raise Wrong(f"line {at}: {reply}, not {self.plain[at - 1]}")
             elif not (reply.startswith("page ") if words[0] == "page" else life.may_answer(reply, words)):
-                raise Wrong(f"line {at}: {reply}, not {life.wanted(words) if words[0] != 'page' else 'page ..'}")
+                raise Wrong(f"line {at}: {reply}, not {life.wanted(words, life.now) if words[0] != 'page' else 'page ..'}")
             life.take(reply, words)
         return at, disturbed
 
