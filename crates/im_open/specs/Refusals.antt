@@ -1,12 +1,13 @@
 -- Why a store was not opened.
 use Rattle.std.specs.Prelude.{◌≡◌, ◌<◌, ◌≤◌, ◌⊎◌, ◌↔◌}
+use Rattle.im_base_file_disk.specs.RealFiles.{fault_of}
 use Rattle.im_base_types.specs.declared.fault.Fault.{Fault}
 use Rattle.im_base_types.specs.declared.fault.Fault.TheVariants.{Capacity, Device, LogFull, Memory, NotAStore, PoolSize, Workers}
 use Rattle.im_engine.specs.declared.config.Config.{Config}
 use Rattle.im_open.specs.declared.not_opened.NotOpened.{NotOpened}
-use Rattle.im_open.specs.declared.not_opened.NotOpened.TheVariants.{Files, Store}
+use Rattle.im_open.specs.declared.not_opened.NotOpened.TheVariants.{Files, Store, Upkeep}
 
--- One of the causes of an opening: the number of frames just where they are too few or too many, and behind that the number of workers just where they are.
+-- One of the causes of an opening: the number of frames just where they are too few or too many, and after that the number of workers just where they are.
 pub record IsCause (config : Config) (fault : Fault) : Type 0 where
   pub frames : (fault ≡ PoolSize) ↔ ((config.frames < 8) ⊎ (1024 < config.frames))
   pub workers : (fault ≡ Workers) ↔ ((8 ≤ config.frames) × (config.frames ≤ 1024)) × ((config.workers < 1) ⊎ (16 < config.workers))
@@ -16,3 +17,15 @@ pub record IsCause (config : Config) (fault : Fault) : Type 0 where
 abbrev pub IsRefusal : Config → NotOpened → Type 0
 IsRefusal config (Files error) = Unit {0}
 IsRefusal config (Store fault) = IsCause config fault
+IsRefusal config (Upkeep fault) = ⊥
+
+-- The same, or what was due then was refused.
+abbrev pub IsRefusalKept : Config → NotOpened → Type 0
+IsRefusalKept config (Upkeep fault) = Unit {0}
+IsRefusalKept config error = IsRefusal config error
+
+-- the refusal that programs print
+abbrev pub fault_in : NotOpened → Fault
+fault_in (Files error) = fault_of error
+fault_in (Store fault) = fault
+fault_in (Upkeep fault) = fault

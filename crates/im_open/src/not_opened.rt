@@ -1,5 +1,8 @@
 //! Why a store was not opened.
 
+ghost use Rattle.std.specs.Prelude.{◌≡◌};
+ghost use Rattle.im_open.specs.Refusals.{fault_in};
+
 use im_base_file_disk::OpenError;
 use im_base_types::Fault;
 use thiserror::Error;
@@ -13,14 +16,20 @@ pub enum NotOpened {
     /// Their store was not.
     #[error("{0}")]
     Store(Fault),
+    /// It was opened, and what was due then was refused: the other log is one of the first format still, or the next opening has as much to do as this one.
+    #[error("it was opened, and what was due then was refused: {0}")]
+    Upkeep(Fault),
 }
 
 impl NotOpened {
     /// The refusal, as programs print it.
-    pub fn fault(&self) -> Fault {
+    pub fn fault(&self) -> Fault
+        ensures { result ≡ fault_in self.now }
+    {
         match self {
             NotOpened::Files(error) => error.fault(),
             NotOpened::Store(fault) => *fault,
+            NotOpened::Upkeep(fault) => *fault,
         }
     }
 }

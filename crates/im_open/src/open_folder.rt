@@ -2,18 +2,53 @@
 
 ghost use Rattle.std.specs.Prelude.{◌≡◌, [], false, IfOk, IfErr};
 ghost use Rattle.im_front.specs.Held.{IsResting};
-ghost use Rattle.im_open.specs.Refusals.{IsRefusal};
+ghost use Rattle.im_open.specs.Opened.{AreUsual, IsKeptHere, IsOpenedHere};
+ghost use Rattle.im_open.specs.Refusals.{IsRefusal, IsRefusalKept};
 
 use crate::not_opened::NotOpened;
+use im_base_disk::Disk;
 use im_base_file_disk::FileDisk;
 use im_base_two_logs::Renamed;
 use im_engine::{Config, Engine};
+use im_engine_upkeep::{Bounds, LogBound, RedoBound};
 use im_front::Rested;
+use im_store::OpenStore;
 use im_theory_store::Store;
 use std::thread::Threads;
 
-/// Opens the store in a folder, or makes one where there is none. No transaction is active in it and nothing is locked, and it keeps the folder until it
-/// ends. Threads are started by `threads` alone. Refused as `FileDisk::open` and `Engine::open_or_create` are.
+/// Opens the store in a folder, or makes one where there is none, with its upkeep: for one thread. No transaction is active in it and nothing is locked, and
+/// it keeps the folder until it ends. Threads are started by `threads` alone. Refused as `FileDisk::open` and `OpenStore::open` are.
+pub fn open_store<R: Threads + Sync>(
+    rt: &HostRuntime,
+    threads: &R,
+    folder: &str,
+    config: Config,
+    bounds: Bounds,
+) -> Result<OpenStore<Renamed<FileDisk>>, NotOpened>
+    ensures opened { IfOk result (λ s. IsOpenedHere ⟦<Renamed<FileDisk> as Disk>⟧ config bounds s) }
+    ensures works { IfOk result (λ s. (s.engine.failed ≡ false) × (s.engine.txns.rows ≡ [])) }
+    ensures limits { IfOk result (λ s. (s.engine.max_pages ≡ config.max_pages) × (s.engine.writer.pool.frames ≡ config.frames) × (s.engine.txns.group ≡ config.group)) }
+    ensures bounds { IfOk result (λ s. s.upkeep.bounds ≡ bounds) }
+    ensures causes { IfErr result (λ e. IsRefusal config e) }
+{
+    let disk = match FileDisk::open(rt, folder) {
+        Ok(disk) => disk,
+        Err(error) => return Err(NotOpened::Files(error)),
+    };
+    match OpenStore::open(
+        threads,
+        rt.alloc(),
+        Renamed::new(disk, false),
+        config,
+        bounds,
+    ) {
+        Ok(store) => Ok(store),
+        Err((fault, _disk)) => Err(NotOpened::Store(fault)),
+    }
+}
+
+/// The same for threads that share the engine by a front: it is at rest, and what was due is made with the usual bounds, so that a log of the first format is
+/// replaced. Refused so too, and where that is refused.
 pub fn open<R: Threads + Sync>(
     rt: &HostRuntime,
     threads: &R,
@@ -24,7 +59,8 @@ pub fn open<R: Threads + Sync>(
     ensures frames { IfOk result (λ e. e.writer.pool.frames ≡ config.frames) }
     ensures limit { IfOk result (λ e. e.max_pages ≡ config.max_pages) }
     ensures works { IfOk result (λ e. (e.failed ≡ false) × (e.txns.rows ≡ [])) }
-    ensures causes { IfErr result (λ e. IsRefusal config e) }
+    ensures kept { IfOk result (λ e. IsKeptHere ⟦<Renamed<FileDisk> as Disk>⟧ config e) }
+    ensures causes { IfErr result (λ e. IsRefusalKept config e) }
 {
     match opened(rt, threads, folder, config) {
         Ok(engine) => Ok(Rested::new(engine)),
@@ -44,14 +80,26 @@ fn opened<R: Threads + Sync>(
     ensures frames { IfOk result (λ e. e.writer.pool.frames ≡ config.frames) }
     ensures limit { IfOk result (λ e. e.max_pages ≡ config.max_pages) }
     ensures works { IfOk result (λ e. (e.failed ≡ false) × (e.txns.rows ≡ [])) }
-    ensures causes { IfErr result (λ e. IsRefusal config e) }
+    ensures kept { IfOk result (λ e. IsKeptHere ⟦<Renamed<FileDisk> as Disk>⟧ config e) }
+    ensures causes { IfErr result (λ e. IsRefusalKept config e) }
 {
-    let disk = match FileDisk::open(rt, folder) {
-        Ok(disk) => disk,
-        Err(error) => return Err(NotOpened::Files(error)),
+    let mut store = match open_store(rt, threads, folder, config, usual()) {
+        Ok(store) => store,
+        Err(error) => return Err(error),
     };
-    match Engine::open_or_create(threads, rt.alloc(), Renamed::new(disk, false), config) {
-        Ok(engine) => Ok(engine),
-        Err((fault, _disk)) => Err(NotOpened::Store(fault)),
+    store.keep();
+    match store.unkept() {
+        Some(unkept) => Err(NotOpened::Upkeep(unkept.fault)),
+        None => Ok(store.into_engine()),
+    }
+}
+
+// The bounds that nobody names.
+fn usual() -> Bounds
+    ensures { AreUsual result }
+{
+    Bounds {
+        redo: RedoBound::default(),
+        log: LogBound::default(),
     }
 }

@@ -1,10 +1,17 @@
-use Rattle.std.proofs.Common.{length, ap}
+use Rattle.std.proofs.Common.{◌∙◌, ap, length, sym}
+use Rattle.im_open.proofs.Engines.{rows_same, rule_same}
 use Rattle.im_open.proofs.open_folder.opened.Goals as goal
 
 -- no transaction is active; and real files tell nothing
-pub returns-in-Ok-open_or_create-clause-rests : goal.returns-in-Ok-open_or_create-clause-rests
-returns-in-Ok-open_or_create-clause-rests g c = record { idle = ap length c.in-Ok-open_or_create.ensures.opened.1; rests = λ tells. absurd tells }
+pub returns-in-None-clause-rests : goal.returns-in-None-clause-rests
+returns-in-None-clause-rests g c = record { idle = ap length (rows_same _ c.keep.new.self.engine c.into_engine.result c.into_engine.ensures (c.keep.ensures.rests c.in-Ok.ensures.works.1)); rests = λ tells. absurd tells }
 
--- the engine's opening says why
-pub returns-in-Err-open_or_create-clause-causes : goal.returns-in-Err-open_or_create-clause-causes
-returns-in-Err-open_or_create-clause-causes g c = record { frames = c.in-Err-open_or_create.ensures.frames; workers = c.in-Err-open_or_create.ensures.workers; any = c.in-Err-open_or_create.ensures.causes }
+-- nothing was refused
+pub returns-in-None-clause-kept : goal.returns-in-None-clause-kept
+returns-in-None-clause-kept g c = record {
+  bounds = c.usual.result;
+  usual = c.usual.ensures;
+  s = c.in-Ok.store;
+  opened = c.in-Ok.ensures.opened;
+  kept = rule_same _ c.in-Ok.store.upkeep c.in-Ok.store.engine c.keep.new.self.engine c.into_engine.result c.into_engine.ensures (c.keep.ensures.kept.rule (sym c.unkept.ensures ∙ c.in-None.is));
+}

@@ -1,0 +1,14 @@
+-- An engine that a store hands out.
+use Rattle.std.proofs.Common.{◌∙◌, ap, subst, sym}
+use Rattle.std.specs.Prelude.{◌≡◌, []}
+use Rattle.im_base_disk.specs.declared.disk.Disk.{Ghosts}
+use Rattle.im_engine.specs.declared.engine.Engine.{Engine}
+use Rattle.im_engine_upkeep.specs.Rule.{IsByRule}
+use Rattle.im_engine_upkeep.specs.declared.upkeep.Upkeep.{Upkeep}
+
+module _ {D : Type 0} (d : Ghosts D) where
+  pub rule_same : (u : Upkeep) (old e f : Engine D d) → f ≡ e → IsByRule d u old e → IsByRule d u old f
+  rule_same u old e f same by = subst (λ (x : Engine D d). IsByRule d u old x) (sym same) by
+
+  pub rows_same : (e f : Engine D d) → f ≡ e → e.txns.rows ≡ [] → f.txns.rows ≡ []
+  rows_same e f same none = ap (λ (x : Engine D d). x.txns.rows) same ∙ none
