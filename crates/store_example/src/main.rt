@@ -7,11 +7,11 @@ mod threads;
 use im_base_file_disk::FileDisk;
 use im_base_steps::{Reply, Step};
 use im_base_two_logs::Renamed;
-use im_base_types::Fault;
-use im_engine::{BufferSize, Config, Engine};
-use im_engine_upkeep::{Bounds, Upkeep};
+use im_engine::{BufferSize, Config};
+use im_engine_upkeep::Bounds;
 use im_front::Open;
-use im_open::open;
+use im_open::{open, open_store};
+use im_store::OpenStore;
 use std::fs;
 use std::sync::Wait;
 use std::thread::Threads;
@@ -29,16 +29,12 @@ fn main(rt: HostRuntime) -> anyhow::Result<()> {
     Ok(())
 }
 
-// One transaction, and the entries after it. Each step is made by the upkeep, which after the opening and after each step does what is due, and at the end leaves
-// little for the next opening.
+// One transaction, and the entries after it. What keeps the next opening short is done by the steps, and by the end.
 fn alone<R: Threads + Sync>(rt: &HostRuntime, threads: &R) -> anyhow::Result<()> {
-    let mut engine = open(rt, threads, ALONE, config(false))?.into_engine();
-    let mut upkeep = Upkeep::of(&engine, Bounds::default());
-    upkeep.keep(&mut engine)?;
-    insert(rt, &mut engine, &mut upkeep)?;
-    list(rt, &mut engine)?;
-    upkeep.close(&mut engine)?;
-    let (closed, _disk) = engine.close();
+    let mut store = open_store(rt, threads, ALONE, config(false), Bounds::default())?;
+    insert(rt, &mut store)?;
+    list(rt, &mut store)?;
+    let (closed, _disk) = store.close();
     closed?;
     Ok(())
 }
@@ -66,33 +62,18 @@ fn together<R: Threads + Wait + Sync>(rt: &HostRuntime, threads: &R) -> anyhow::
 }
 
 // Inserts a key and commits.
-fn insert(
-    rt: &HostRuntime,
-    engine: &mut Engine<Renamed<FileDisk>>,
-    upkeep: &mut Upkeep,
-) -> anyhow::Result<()> {
-    if let Reply::Started(number) = made(engine, upkeep, &Step::Begin)? {
+fn insert(rt: &HostRuntime, store: &mut OpenStore<Renamed<FileDisk>>) -> anyhow::Result<()> {
+    if let Reply::Started(number) = store.step(&Step::Begin) {
         let key = Vec::from_slice(rt.alloc(), b"apple")?;
-        let inserted = made(engine, upkeep, &Step::Insert(number, key, 7))?;
-        let committed = made(engine, upkeep, &Step::Commit(number))?;
+        let inserted = store.step(&Step::Insert(number, key, 7));
+        let committed = store.step(&Step::Commit(number));
         println!(rt; "{} {}", word_of(&inserted), word_of(&committed))?;
     }
     Ok(())
 }
 
-// Makes a step, and what is due after it.
-fn made(
-    engine: &mut Engine<Renamed<FileDisk>>,
-    upkeep: &mut Upkeep,
-    step: &Step,
-) -> Result<Reply, Fault> {
-    let reply = upkeep.step(engine, step);
-    upkeep.keep(engine)?;
-    Ok(reply)
-}
-
-fn list(rt: &HostRuntime, engine: &mut Engine<Renamed<FileDisk>>) -> anyhow::Result<()> {
-    for (key, rid) in &engine.entries(rt.alloc())? {
+fn list(rt: &HostRuntime, store: &mut OpenStore<Renamed<FileDisk>>) -> anyhow::Result<()> {
+    for (key, rid) in &store.entries(rt.alloc())? {
         let name = std::str::from_utf8(key.bytes())?;
         println!(rt; "{name} {rid}")?;
     }

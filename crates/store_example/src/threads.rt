@@ -9,9 +9,10 @@ use im_base_steps::{Reply, Step};
 use im_base_two_logs::Renamed;
 use im_base_types::{Fault, TxnId};
 use im_engine::{Config, Engine};
-use im_engine_upkeep::{Bounds, Upkeep};
+use im_engine_upkeep::Bounds;
 use im_front::{Left, Open, Stats};
 use im_open::open;
+use im_store::OpenStore;
 use im_theory_store::Store;
 use std::alloc::Global;
 use std::sync::{RwLock, Wait};
@@ -68,12 +69,9 @@ pub fn show<R: Threads + Sync>(
 
 // Closes the store, of which one thread has the engine again.
 fn close(left: Left<Engine<Renamed<FileDisk>>>) -> Result<(), Fault> {
-    let Left { mut engine, .. } = left;
-    let mut upkeep = Upkeep::of(&engine, Bounds::default());
-    let kept = upkeep.close(&mut engine);
-    let (synced, _disk) = engine.close();
-    kept?;
-    synced
+    let Left { engine, .. } = left;
+    let (closed, _disk) = OpenStore::over(engine, Bounds::default()).close();
+    closed
 }
 
 // How many entries the store in a folder has.
