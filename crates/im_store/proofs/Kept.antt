@@ -9,7 +9,7 @@ use Rattle.im_base_steps.specs.declared.step.Step.TheVariants.{Checkpoint, Flush
 use Rattle.im_base_steps.specs.declared.reply.Reply.{Reply}
 use Rattle.im_base_steps.specs.declared.reply.Reply.TheVariants as replies
 use Rattle.im_base_steps.specs.Calls.{asked_by, is_force, told_by}
-use Rattle.im_base_steps.specs.Replies.{SuitsAtOnce, is_begin, is_commit, is_service}
+use Rattle.im_base_steps.specs.Replies.{Suits, is_begin, is_commit, is_service}
 use Rattle.im_engine.specs.declared.engine.Engine.{Engine}
 use Rattle.im_engine.specs.Told.{IsStep, Known, after, known_of}
 use Rattle.im_engine_upkeep.specs.declared.due.Due.{Due}
@@ -87,7 +87,7 @@ less : (a b : ℕ) → a ≡ 0 → a - b ≡ 0
 less a b zero = omega (arith, zero)
 
 -- and where nothing is active nothing is then
-after_active : (step : answers.Step) (reply : Reply) (k : Known) → is_service step ≡ true → SuitsAtOnce step (told_by reply) → k.active ≡ 0 → (after step reply k).active ≡ 0
+after_active : (step : answers.Step) (reply : Reply) (k : Known) → is_service step ≡ true → Suits step (told_by reply) → k.active ≡ 0 → (after step reply k).active ≡ 0
 after_active step (replies.Started n) k service suits zero = absurd (no_begin step service suits)
 after_active step (replies.Found n) k service suits zero = zero
 after_active step replies.Absent k service suits zero = zero

@@ -15,6 +15,7 @@ returns-in-Ok-open_or_create g c =
     store_opened g.D.Disk c.args.config c.args.bounds c.args.disk c.leaves_first.new.disk c.kept_by.result c.in-Ok-open_or_create.engine c.in-Ok.is_first c.kept_by.ensures.engine look.reads look.still
     (record {
       kept = λ before told stands. is.kept before told (look.synced c.requires.synced) stands;
+      plain = is.plain;
       opened = is.opened;
       limit = is.limit;
       pool = is.pool;
@@ -37,6 +38,7 @@ returns-in-Err-open_or_create g c =
     store_refused g.D.Disk c.args.config c.args.bounds c.args.disk c.leaves_first.new.disk c.in-Err-open_or_create.refused look.reads look.still
     (record {
       kept = λ before told stands. is.kept before told (look.synced c.requires.synced) stands;
+      plain = is.plain;
       opened = is.opened;
       limit = is.limit;
       pool = is.pool;
