@@ -114,20 +114,23 @@ impl<D: TwoLogs + Drop> Opened<D> {
         tell_numbers(call, &numbers);
     }
 
+    // Makes what is due, and then what the end of a store wants.
+    fn end(&mut self) -> Result<(), Fault>
+        ensures kept { IsKeptUp D.Disk self.old.engine self.new.engine }
+    {
+        self.upkeep.keep(&mut self.engine)?;
+        self.upkeep.close(&mut self.engine)
+    }
+
     /// Leaves a log of the first format, then a long log for an empty one, or writes all pages and takes a Checkpoint, and ends the store.
     pub fn close(self, call: &mut Call)
         ensures told { Says call.new 14 0 ⊎ IsRefused call.new }
         ensures question { IsAnswered call.old call.new }
         ensures ended { Says call.new 14 0 → WasEnded D.Disk self.engine }
     {
-        let Opened {
-            mut engine,
-            mut upkeep,
-        } = self;
-        let kept = match upkeep.keep(&mut engine) {
-            Ok(()) => upkeep.close(&mut engine),
-            Err(fault) => Err(fault),
-        };
+        let mut store = self;
+        let kept = store.end();
+        let Opened { engine, .. } = store;
         let (synced, _disk) = engine.close();
         match (kept, synced) {
             (Ok(()), Ok(())) => tell(call, 14, 0),

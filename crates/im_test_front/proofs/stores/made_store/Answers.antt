@@ -2,7 +2,7 @@ use Rattle.std.proofs.Common.{[], length, sym, ap, ◌∙◌, subst}
 use Rattle.im_base_disk.specs.Disk.{Files, both}
 use Rattle.im_engine.specs.Stands.{StandsFor}
 use Rattle.im_test_front.proofs.NamedDisk.{own_seen, own_synced}
-use Rattle.im_test_front.proofs.stores.new_store.Goals as goal
+use Rattle.im_test_front.proofs.stores.made_store.Goals as goal
 
 -- two empty files stand for no effect, so the store is at rest
 pub returns-in-Ok : goal.returns-in-Ok
