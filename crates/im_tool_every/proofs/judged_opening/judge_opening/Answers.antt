@@ -37,3 +37,6 @@ returns-in-Err g c =
             c.into_disk-disk-in-Err.ensures,
           );
     }
+
+pub invariant_of-engine-clause-whole : goal.invariant_of-engine-clause-whole
+invariant_of-engine-clause-whole g c = c.judge_entries.new.engine.whole
