@@ -150,16 +150,23 @@ impl<D: TwoLogs> Engine<D> {
     /// answered `More`, and its transaction keeps its locks up to the next `Force` that is answered `Done`, which commits all that wait.
     /// `Force` forces the log where records are buffered, and `FlushPage` writes a page that was changed. `Checkpoint` syncs the file of
     /// pages, logs one record with the active transactions and the pages that lack changes in their file, and forces the log: redo of a
-    /// restart begins at the least of that record's LSN and the LSNs that it lists of pages. `Switch` writes every page that was changed, forces the log, syncs the file
-    /// of pages, and makes the other log file one of the next generation, with no record: a restart reads nothing of the log from before.
+    /// restart begins at the least of that record's LSN and the LSNs that it lists of pages. `Switch` writes every page that was changed,
+    /// forces the log, syncs the file of pages, and makes the other log file one of the next generation, with no record: a restart reads
+    /// nothing of the log from before.
+    ///
+    /// With `Config.stepped` a structure change is made page by page: the Insert or Delete that needs it is answered `More`, and each
+    /// Continue of its transaction makes a page, up to the one that is answered `Inserted` or `Deleted`; a rollback does so within its own
+    /// Continues. Meanwhile a step of another is answered `Blocked` by the tree where it would read a page that is made, change one that is
+    /// to be made, or needs a change of its own.
     ///
     /// Refused by the first of these that holds: `Failed` where an earlier step broke the engine; `TooMany` at Begin where 64 transactions
-    /// are active; `Busy` at Switch where one is, or waits for a force; `NoTransaction` where none of that number is active or it waits for a force, or at Continue where it has nothing to go
-    /// on with; `MustRollBack` where it was answered `Die`; `RollingBack` where it is taking back; `Unfinished` where an Insert or a Delete of it goes on, but at Continue; `KeyLength`; `PagesFull` where an insert
-    /// needs pages past the limit; `Capacity` where page numbers, levels, transaction numbers or generations of the log are used up. In between come `LogFull`
-    /// where the log has no room below LSN 2^62, `Device`, `NotAStore` where a page's bytes are none, `Memory`, and `Failed` where memory
-    /// was wanted too late. `LogFull`, `Capacity`, `Device`, `NotAStore` and `Failed` break the engine; after every other refusal the
-    /// entries, the locks and the transactions are as they were.
+    /// are active; `Busy` at Switch where one is, or waits for a force; `NoTransaction` where none of that number is active or it waits for
+    /// a force, or at Continue where it has nothing to go on with; `MustRollBack` where it was answered `Die`; `RollingBack` where it is
+    /// taking back; `Unfinished` where an Insert or a Delete of it goes on, but at Continue; `KeyLength`; `PagesFull` where an insert needs
+    /// pages past the limit; `Capacity` where page numbers, levels, transaction numbers or generations of the log are used up. In between
+    /// come `LogFull` where the log has no room below LSN 2^62, `Device`, `NotAStore` where a page's bytes are none, `Memory`, and `Failed`
+    /// where memory was wanted too late. `LogFull`, `Capacity`, `Device`, `NotAStore` and `Failed` break the engine; after every other
+    /// refusal the entries, the locks and the transactions are as they were.
     pub fn step(&mut self, step: &Step) -> Reply
         ensures { IsStep D.Disk step.now result self.old self.new }
     {
