@@ -1,5 +1,6 @@
 //! Questions and answers.
-ghost use Rattle.std.specs.Prelude.{◌≡◌, [], false};
+ghost use Rattle.std.specs.Prelude.{◌≡◌, [], false, true};
+ghost use Rattle.im_base_caller_disk.specs.Questions.{file_number};
 
 use im_base_disk::{Count, Disk};
 use im_base_types::{Fault, FileId};
@@ -17,23 +18,43 @@ const SYNC: u32 = 4;
 pub struct CallerDisk {
     ask: i32,
     answer: i32,
+    is_copy: bool,
     has_failed: bool,
     writes: Count,
     syncs: Count,
 }
 
 impl CallerDisk {
-    /// A disk whose files are held by who answers there.
-    pub fn new(ask: i32, answer: i32) -> CallerDisk
-        ensures { ⟦<CallerDisk as Disk>⟧.failed result ≡ false }
+    /// A disk whose files are held by who answers there: those of a store, or of a copy of it.
+    pub fn new(ask: i32, answer: i32, is_copy: bool) -> CallerDisk
+        ensures working { ⟦<CallerDisk as Disk>⟧.failed result ≡ false }
+        ensures files { result.is_copy ≡ is_copy }
+        ensures descriptors { (result.ask ≡ ask) × (result.answer ≡ answer) }
     {
         CallerDisk {
             ask,
             answer,
+            is_copy,
             has_failed: false,
             writes: Count::new(),
             syncs: Count::new(),
         }
+    }
+
+    /// The disk of a copy of the store that this one is of, whose files the same caller holds.
+    pub fn of_copy(&self) -> CallerDisk
+        ensures working { ⟦<CallerDisk as Disk>⟧.failed result ≡ false }
+        ensures files { result.is_copy ≡ true }
+        ensures descriptors { (result.ask ≡ self.now.ask) × (result.answer ≡ self.now.answer) }
+    {
+        CallerDisk::new(self.ask, self.answer, true)
+    }
+
+    /// Whether the last call failed, after which there is no other.
+    pub fn has_failed(&self) -> bool
+        ensures { result ≡ ⟦<CallerDisk as Disk>⟧.failed self.now }
+    {
+        self.has_failed
     }
 
     // Asks, with bytes after the question; the number of the answer.
@@ -47,7 +68,7 @@ impl CallerDisk {
     ) -> Result<u64, Fault> {
         let mut question = [0u8; 24];
         question[..4].copy_from_slice(&kind.to_le_bytes());
-        question[4..8].copy_from_slice(&number_of(file).to_le_bytes());
+        question[4..8].copy_from_slice(&number_of(file, self.is_copy).to_le_bytes());
         question[8..16].copy_from_slice(&place.to_le_bytes());
         question[16..].copy_from_slice(&len.to_le_bytes());
         if !io::write_all(self.ask, &question) || !io::write_all(self.ask, bytes) {
@@ -73,11 +94,17 @@ impl CallerDisk {
     }
 }
 
-fn number_of(file: FileId) -> u32 {
-    match file {
-        FileId::Log => 0,
-        FileId::Pages => 1,
-        FileId::Log2 => 2,
+// The number of a file: 0 to 2 of a store, and 3 to 5 of a copy.
+fn number_of(file: FileId, is_copy: bool) -> u32
+    ensures { result ≡ file_number is_copy file }
+{
+    match (file, is_copy) {
+        (FileId::Log, false) => 0,
+        (FileId::Pages, false) => 1,
+        (FileId::Log2, false) => 2,
+        (FileId::Log, true) => 3,
+        (FileId::Pages, true) => 4,
+        (FileId::Log2, true) => 5,
     }
 }
 

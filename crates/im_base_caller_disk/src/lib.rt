@@ -3,10 +3,15 @@
 //! A disk whose files the caller of the library has open: each device call is a question to the caller, over a pair of descriptors, and
 //! waits for its answer. So the caller alone opens, locks and closes the files, on a thread of its own.
 //!
-//! A question is 24 bytes, `kind`, `file`, `place` and `length` in 4, 4, 8 and 8 bytes, the lowest first, and the bytes of a write come after it.
+//! `CallerDisk` has the files of a store, or those of a copy of it; `CallerFiles` those of a store, and where it is only read, what is written stays in memory.
+//!
+//! A question is 24 bytes, `kind`, `file`, `place` and `length` in 4, 4, 8 and 8 bytes, the lowest first, and the bytes of a write come after it. Files are 0 `log`,
+//! 1 `pages` and 2 `log2`, and 3 to 5 the same of a copy.
 //! An answer is 8 bytes: a length, or 0 for what was done, or all ones for what failed; the bytes of a read come after a 0.
 #![tactic(auto)]
 
 mod caller_disk;
+mod caller_files;
 
 pub use caller_disk::CallerDisk;
+pub use caller_files::CallerFiles;

@@ -10,7 +10,7 @@ use Rattle.im_base_guard.specs.declared.belonging.Apart.TheVariants as apart
 use Rattle.im_base_file_disk.specs.declared.file_disk.FileDisk.{FileDisk}
 use Rattle.im_base_file_disk.specs.declared.file_disk.Found.{Found}
 use Rattle.im_base_file_disk.specs.declared.open_error.OpenError.{OpenError}
-use Rattle.im_base_file_disk.specs.declared.open_error.OpenError.TheVariants.{NotAFile, NoFile, NoOtherLog, NoPages, ShortPages, OlderPages, NotALog, Locked, NoFolder, NotAFolder, Denied, NoDescriptor, System, Memory as NoMemory}
+use Rattle.im_base_file_disk.specs.declared.open_error.OpenError.TheVariants.{NotAFile, NoFile, NoOtherLog, NoPages, ShortPages, OlderPages, NotALog, Unfinished, NotEmpty, Locked, NoFolder, NotAFolder, Denied, NoDescriptor, System, Memory as NoMemory}
 
 -- The file's descriptor is none of standard input, output and error.
 abbrev pub IsApart : File → Type 0
@@ -35,6 +35,8 @@ fault_of NoPages = NotAStore
 fault_of ShortPages = NotAStore
 fault_of OlderPages = NotAStore
 fault_of (NotALog name) = NotAStore
+fault_of Unfinished = NotAStore
+fault_of NotEmpty = Device
 fault_of Locked = LockedFault
 fault_of NoMemory = Memory
 fault_of (NoFolder error) = Device
@@ -48,6 +50,7 @@ abbrev pub Says : OpenError → Apart → Type 0
 Says error (apart.NoFile Log) = (name : _) × (error ≡ NoFile name)
 Says error (apart.NoFile Log2) = error ≡ NoOtherLog
 Says error (apart.NoFile Pages) = (name : _) × (error ≡ NoFile name)
+Says error apart.Unfinished = error ≡ Unfinished
 Says error apart.NoPages = error ≡ NoPages
 Says error apart.ShortPages = error ≡ ShortPages
 Says error (apart.NotALog file) = (name : _) × (error ≡ NotALog name)

@@ -37,14 +37,40 @@ pub struct FileDisk {
     syncs: Count,
 }
 
+// With whom an opening shares the files.
+#[derive(Clone, Copy)]
+pub(crate) enum Sharing {
+    Nobody,
+    Readers,
+}
+
 impl FileDisk {
+    // These files, of which no call has failed.
+    pub(crate) fn of(log: File, pages: File, log2: Option<File>) -> FileDisk
+        requires log { IsApart log }
+        requires pages { IsApart pages }
+        requires log2 { IfSome log2 IsApart }
+        ensures working { ⟦<FileDisk as Disk>⟧.failed result ≡ false }
+        ensures descriptors { HasOwnDescriptors result }
+    {
+        FileDisk {
+            log,
+            pages,
+            log2,
+            has_failed: false,
+            last_error: None,
+            writes: Count::new(),
+            syncs: Count::new(),
+        }
+    }
+
     /// Opens `log`, `pages` and `log2` in the folder, makes what is missing of the four, locks the log, and syncs all four,
     /// so that what an ended program left unsynced is kept before it is read. Where no store was made yet, each folder
     /// above them is synced too. Neither file gets the descriptor of standard input, output or error, also where the
     /// program was started without one of them: what it prints there would be written over the store.
     ///
     /// Refused `NotAFile` where a name in the folder is taken by something else, `Locked` where another opening holds
-    /// the log, and for each reason for which files do not belong together (`im_base_guard`): `NoFile`, `NoOtherLog`, `NoPages`, `ShortPages`, `NotALog`, `OlderPages`. In these eight no byte of
+    /// the log, and for each reason for which files do not belong together (`im_base_guard`): `Unfinished`, `NoFile`, `NoOtherLog`, `NoPages`, `ShortPages`, `NotALog`, `OlderPages`. In these nine no byte of
     /// a file was changed and none was made but an empty `log`. The other errors are the system's.
     pub fn open(rt: &HostRuntime, dir: &str) -> Result<FileDisk, OpenError>
         ensures working { IfOk result (λ disk. ⟦<FileDisk as Disk>⟧.failed disk ≡ false) }
@@ -63,7 +89,7 @@ impl FileDisk {
             look(rt, dir, &options, None)?;
         }
         let log = open_file(rt, log_path.as_str(), &options)?;
-        lock(&log)?;
+        lock(&log, Sharing::Nobody)?;
         let Found {
             pages,
             log2,
@@ -75,19 +101,12 @@ impl FileDisk {
         if !is_made {
             sync_folders(rt, dir)?;
         }
-        Ok(FileDisk {
-            log,
-            pages,
-            log2: Some(log2),
-            has_failed: false,
-            last_error: None,
-            writes: Count::new(),
-            syncs: Count::new(),
-        })
+        Ok(FileDisk::of(log, pages, Some(log2)))
     }
 
-    /// Opens the `log` and `pages` that the folder has, and its `log2` if it has one, to be read only, and locks the log. It makes nothing and syncs
-    /// nothing, and a write to what it opens is refused `Device`. The descriptors are as `open` has them.
+    /// Opens the `log` and `pages` that the folder has, and its `log2` if it has one, to be read only. It makes nothing and syncs nothing, and a write to what
+    /// it opens is refused `Device`. The descriptors are as `open` has them. Any number may read at once: they share the lock on the log, which keeps out
+    /// those who write, as these keep them out.
     ///
     /// Refused as `open` refuses, and `NoFile` where `log` or `pages` is missing.
     pub fn open_to_read(rt: &HostRuntime, dir: &str) -> Result<FileDisk, OpenError>
@@ -96,17 +115,17 @@ impl FileDisk {
     {
         let mut options = OpenOptions::new();
         options.read(true);
-        open_files(rt, dir, &options)
+        open_files(rt, dir, &options, Sharing::Readers)
     }
 
-    /// The same, to be read and written.
+    /// The same, to be read and written, by this opening alone.
     pub fn open_made(rt: &HostRuntime, dir: &str) -> Result<FileDisk, OpenError>
         ensures working { IfOk result (λ disk. ⟦<FileDisk as Disk>⟧.failed disk ≡ false) }
         ensures descriptors { IfOk result HasOwnDescriptors }
     {
         let mut options = OpenOptions::new();
         options.read(true).write(true);
-        open_files(rt, dir, &options)
+        open_files(rt, dir, &options, Sharing::Nobody)
     }
 
     /// Takes all bytes of a file away that stand at a place or after it, and brings that to the disk. No step of a store does that: it is for a log of which
@@ -164,6 +183,14 @@ impl FileDisk {
         }
     }
 
+    // Brings the three files to the disk, their lengths too.
+    pub(crate) fn sync_files(&self) -> io::Result<()> {
+        for file in [FileId::Log, FileId::Pages, FileId::Log2] {
+            self.file(file)?.sync_all()?;
+        }
+        Ok(())
+    }
+
     fn file(&self, file: FileId) -> io::Result<&File> {
         match file {
             FileId::Log => Ok(&self.log),
@@ -201,7 +228,7 @@ impl FileDisk {
     }
 }
 
-fn open_folder(rt: &HostRuntime, dir: &str) -> Result<File, OpenError> {
+pub(crate) fn open_folder(rt: &HostRuntime, dir: &str) -> Result<File, OpenError> {
     let found = fs::metadata(rt, dir)?;
     if !found.is_dir() {
         return Err(OpenError::NotAFolder);
@@ -210,7 +237,12 @@ fn open_folder(rt: &HostRuntime, dir: &str) -> Result<File, OpenError> {
 }
 
 // The files that a folder has, and no other. The log is locked.
-fn open_files(rt: &HostRuntime, dir: &str, options: &OpenOptions) -> Result<FileDisk, OpenError>
+fn open_files(
+    rt: &HostRuntime,
+    dir: &str,
+    options: &OpenOptions,
+    sharing: Sharing,
+) -> Result<FileDisk, OpenError>
     ensures working { IfOk result (λ disk. ⟦<FileDisk as Disk>⟧.failed disk ≡ false) }
     ensures descriptors { IfOk result HasOwnDescriptors }
 {
@@ -220,20 +252,12 @@ fn open_files(rt: &HostRuntime, dir: &str, options: &OpenOptions) -> Result<File
     let log_path = path_of_made_file(rt, dir, "log")?;
     path_of_made_file(rt, dir, "pages")?;
     let log = open_file(rt, log_path.as_str(), options)?;
-    lock(&log)?;
+    lock(&log, sharing)?;
     let Found { pages, log2, .. } = look(rt, dir, options, Some(&log))?;
     let Some(pages) = pages else {
         return Err(OpenError::NoFile("pages"));
     };
-    Ok(FileDisk {
-        log,
-        pages,
-        log2,
-        has_failed: false,
-        last_error: None,
-        writes: Count::new(),
-        syncs: Count::new(),
-    })
+    Ok(FileDisk::of(log, pages, log2))
 }
 
 // The path of a file that the folder has.
@@ -247,7 +271,11 @@ fn path_of_made_file(rt: &HostRuntime, dir: &str, name: &'static str) -> Result<
 }
 
 // The path of a file in the folder, where the name is that of a plain file, or of nothing yet.
-fn path_of_file(rt: &HostRuntime, dir: &str, name: &'static str) -> Result<String, OpenError> {
+pub(crate) fn path_of_file(
+    rt: &HostRuntime,
+    dir: &str,
+    name: &'static str,
+) -> Result<String, OpenError> {
     let path = format!(in rt.alloc(); "{dir}/{name}").map_err(|_| OpenError::Memory)?;
     match fs::metadata(rt, path.as_str()) {
         Ok(found) if found.is_file() => Ok(path),
@@ -257,7 +285,11 @@ fn path_of_file(rt: &HostRuntime, dir: &str, name: &'static str) -> Result<Strin
     }
 }
 
-fn open_file(rt: &HostRuntime, path: &str, options: &OpenOptions) -> Result<File, OpenError>
+pub(crate) fn open_file(
+    rt: &HostRuntime,
+    path: &str,
+    options: &OpenOptions,
+) -> Result<File, OpenError>
     ensures { IfOk result IsApart }
 {
     let file = options.open(rt, path)?;
@@ -269,8 +301,12 @@ fn open_file(rt: &HostRuntime, path: &str, options: &OpenOptions) -> Result<File
 }
 
 // The lock of the system on the whole file, which goes with this opening of it.
-fn lock(file: &File) -> Result<(), OpenError> {
-    match file.try_lock() {
+pub(crate) fn lock(file: &File, sharing: Sharing) -> Result<(), OpenError> {
+    let outcome = match sharing {
+        Sharing::Nobody => file.try_lock(),
+        Sharing::Readers => file.try_lock_shared(),
+    };
+    match outcome {
         Ok(()) => Ok(()),
         Err(TryLockError::WouldBlock) => Err(OpenError::Locked),
         Err(TryLockError::Error(error)) => Err(OpenError::System(error)),
@@ -332,10 +368,12 @@ fn look(
 {
     let log2 = open_if_made(rt, dir, "log2", options)?;
     let pages = open_if_made(rt, dir, "pages", options)?;
+    let part = path_of_file(rt, dir, "log.part")?;
     let folder = Folder {
         log: front_of(log)?,
         log2: front_of(log2.as_ref())?,
         pages: pages_front_of(pages.as_ref())?,
+        has_part: fs::exists(rt, part.as_str())?,
     };
     let logs = belong(&folder)?;
     look_back(rt, &folder, (log, log2.as_ref()), pages.as_ref())?;
@@ -435,7 +473,7 @@ fn pages_front_of(file: Option<&File>) -> Result<PagesFront, OpenError> {
     Ok(front)
 }
 
-fn sync_all(files: &[&File]) -> io::Result<()> {
+pub(crate) fn sync_all(files: &[&File]) -> io::Result<()> {
     for file in files {
         file.sync_all()?;
     }

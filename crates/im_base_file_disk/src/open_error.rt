@@ -9,7 +9,7 @@ use std::io;
 use std::io::ErrorKind;
 use thiserror::Error;
 
-/// What kept `FileDisk::open` from the files of a folder, in words for a user. `fault` is the refusal that
+/// What kept `FileDisk` from the files of a folder, in words for a user. `fault` is the refusal that
 /// programs print.
 #[derive(Debug, Drop, Error)]
 pub enum OpenError {
@@ -44,6 +44,12 @@ pub enum OpenError {
     /// byte is damaged, or it is a file of another program. It is left as it is.
     #[error("`{0}` in it does not begin as the log of a store")]
     NotALog(&'static str),
+    /// The folder has a `log.part`: a copy into it goes on, or was not finished. It is left as it is.
+    #[error("a copy into it was not finished")]
+    Unfinished,
+    /// The folder of a copy that is to be made has something in it.
+    #[error("it is not empty")]
+    NotEmpty,
     /// Another opening, of this program or of another, holds the files.
     #[error("the store is open elsewhere")]
     Locked,
@@ -71,6 +77,8 @@ impl OpenError {
             OpenError::ShortPages => Fault::NotAStore,
             OpenError::OlderPages => Fault::NotAStore,
             OpenError::NotALog(_) => Fault::NotAStore,
+            OpenError::Unfinished => Fault::NotAStore,
+            OpenError::NotEmpty => Fault::Device,
             OpenError::Locked => Fault::Locked,
             OpenError::Memory => Fault::Memory,
             OpenError::NoFolder(_) => Fault::Device,
@@ -90,6 +98,7 @@ impl From<Apart> for OpenError {
             Apart::NoFile(FileId::Log) => OpenError::NoFile("log"),
             Apart::NoFile(FileId::Log2) => OpenError::NoOtherLog,
             Apart::NoFile(FileId::Pages) => OpenError::NoFile("pages"),
+            Apart::Unfinished => OpenError::Unfinished,
             Apart::NoPages => OpenError::NoPages,
             Apart::ShortPages => OpenError::ShortPages,
             Apart::NotALog(file) => OpenError::NotALog(file_name(file)),

@@ -7,7 +7,7 @@ use Rattle.im_base_guard.specs.declared.folder.Front.{Front}
 use Rattle.im_base_guard.specs.declared.folder.PagesFront.{PagesFront}
 use Rattle.im_base_guard.specs.declared.belonging.Logs.{Logs}
 use Rattle.im_base_guard.specs.declared.belonging.Apart.{Apart}
-use Rattle.im_base_guard.specs.declared.belonging.Apart.TheVariants.{NoFile, NoPages, ShortPages, NotALog}
+use Rattle.im_base_guard.specs.declared.belonging.Apart.TheVariants.{Unfinished, NoFile, NoPages, ShortPages, NotALog}
 use Rattle.im_base_guard.specs.Fronts.{base_of, generation_of, says_made, says_second, BeginsWithChange}
 
 -- One of the logs says that it was made.
@@ -24,6 +24,12 @@ current f = if other_is_current f then f.log2 else f.log
 -- the other one
 abbrev pub left : Folder → Front
 left f = if other_is_current f then f.log else f.log2
+
+-- ---- what is not whole yet
+
+-- A copy into the folder was not finished.
+abbrev pub IsUnfinished : Folder → Type 0
+IsUnfinished f = f.has_part ≡ true
 
 -- ---- what is missing
 
@@ -58,6 +64,7 @@ IsCut f = ((slice_index (current f).bytes 47 ≢ 1) × LacksCounted (base_of (cu
 
 -- why the files of a folder do not belong together
 abbrev pub IsApart : Apart → Folder → Type 0
+IsApart Unfinished f = IsUnfinished f
 IsApart (NoFile Log) f = LacksLog f
 IsApart (NoFile Log2) f = LacksLog2 f
 IsApart (NoFile Pages) f = ⊥
@@ -91,6 +98,7 @@ word_of (Err ShortPages) = 5
 word_of (Err (NotALog Log)) = 6
 word_of (Err (NotALog Log2)) = 7
 word_of (Err (NotALog Pages)) = 8
+word_of (Err Unfinished) = 9
 
 -- It is that of a true verdict.
 pub record Decides (f : Folder) (word : ℕ) : Type 0 where

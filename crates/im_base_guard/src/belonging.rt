@@ -22,6 +22,8 @@ pub struct Logs {
 /// Why the files of a folder do not belong together.
 #[derive(Clone, Copy, Debug, PartialEq, Eq)]
 pub enum Apart {
+    /// A copy into the folder was not finished, whatever its files hold.
+    Unfinished,
     /// A log has bytes, and the other one, which was made before any byte was written, is missing.
     NoFile(FileId),
     /// A log says that it was made, and there is no file of pages, which was made before.
@@ -71,6 +73,9 @@ fn is_long_unmade(folder: &Folder, log: &Front) -> bool
 pub fn belong(folder: &Folder) -> Result<Logs, Apart>
     ensures { IsVerdict folder.now result }
 {
+    if folder.has_part {
+        return Err(Apart::Unfinished);
+    }
     if lacks_log(folder) {
         return Err(Apart::NoFile(FileId::Log));
     }

@@ -20,11 +20,13 @@ fn word(verdict: Result<Logs, Apart>) -> u32
         Err(Apart::NotALog(FileId::Log)) => 6,
         Err(Apart::NotALog(FileId::Log2)) => 7,
         Err(Apart::NotALog(FileId::Pages)) => 8,
+        Err(Apart::Unfinished) => 9,
     }
 }
 
 /// What `belong` answers of the files of a folder, as a number: 0 where they belong together and no log was made, 1 where one was; 2 where `log` is missing, 3
-/// `log2`, 4 `pages`; 5 where `pages` was cut; 6 where `log` is no log, 7 where `log2` is none.
+/// `log2`, 4 `pages`; 5 where `pages` was cut; 6 where `log` is no log, 7 where `log2` is none; 9 where a copy into
+/// the folder was not finished.
 pub fn decide(folder: &Folder) -> u32
     ensures { Decides folder.now result }
 {

@@ -58,4 +58,6 @@ pub struct Folder {
     pub log2: Front,
     /// The beginning of `pages`.
     pub pages: PagesFront,
+    /// It has a `log.part`: a copy into this folder was not finished.
+    pub has_part: bool,
 }

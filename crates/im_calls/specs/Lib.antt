@@ -1,2 +1,3 @@
 pub mod Sessions
 pub mod Made
+pub mod Copies

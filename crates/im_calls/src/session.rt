@@ -1,13 +1,15 @@
 //! A store that may be open.
 
-ghost use Rattle.std.specs.Prelude.{◌≡◌, ◌≢◌, ◌∷◌, [], if◌then◌else◌, IfSome};
+ghost use Rattle.std.specs.Prelude.{◌≡◌, ◌≢◌, ◌⊎◌, ◌<◌, ◌≤◌, ◌^◌, false, None, IfSome};
+ghost use Rattle.std.specs.Option.{IsSomeAnd};
+ghost use Rattle.im_calls.specs.Copies.{IsBegunOver, IsCopyEnded, IsPieceMade};
 ghost use Rattle.im_calls_form.specs.Calls.{IsAnswered, Refuses, Says, Shows, numbers_bytes};
-ghost use Rattle.im_engine_upkeep.specs.Numbers.{active_of, dirty_of, durable_end_of};
-ghost use Rattle.im_calls.specs.Sessions.{IsOpeningOver, IsServed, IsOther, WasEnded};
+ghost use Rattle.im_calls.specs.Sessions.{IsClosing, IsOpeningOver, IsServed, IsForStep, standing};
 
 use crate::opened::Opened;
-use im_base_caller_disk::CallerDisk;
+use im_base_caller_disk::{CallerDisk, CallerFiles};
 use im_base_disk::Disk;
+use im_base_mirror_disk::Mirrored;
 use im_base_two_logs::Renamed;
 use im_base_types::Fault;
 use im_calls_form::{Call, refuse};
@@ -20,11 +22,20 @@ const OPEN: u32 = 14;
 
 const CLOSE: u32 = 15;
 
+const COPY_BEGIN: u32 = 18;
+
+const COPY_PIECE: u32 = 19;
+
+const COPY_END: u32 = 20;
+
+/// The files of a store that its caller holds, and those of a copy of it, by their names.
+pub type Files = Mirrored<Renamed<CallerFiles>, Renamed<CallerDisk>>;
+
 /// A store, open or not.
 #[derive(Drop)]
 pub struct Session {
     alloc: Global,
-    store: Option<Opened<Renamed<CallerDisk>>>,
+    store: Option<Opened<Files>>,
 }
 
 /// A store that is not open.
@@ -39,26 +50,32 @@ pub fn blank(alloc: Global) -> Session
 pub fn made(session: &mut Session, call: &mut Call)
     ensures question { IsAnswered call.old call.new }
     ensures closed { session.old.store ≡ None → call.old.step ≢ 14 → Refuses call.new 10 × (session.new.store ≡ None) }
-    ensures opening { session.old.store ≡ None → call.old.step ≡ 14 → IsOpeningOver ⟦<Renamed<CallerDisk> as Disk>⟧ call.old call.new session.new.store }
-    ensures twice { IfSome session.old.store (λ store. call.old.step ≡ 14 → Refuses call.new 10 × (session.new.store ≡ Some store)) }
+    ensures opening { session.old.store ≡ None → call.old.step ≡ 14 → IsOpeningOver ⟦<Files as Disk>⟧ call.old call.new session.new.store }
+    ensures twice { IfSome session.old.store (λ opened. call.old.step ≡ 14 → Refuses call.new 10 × (session.new.store ≡ Some opened)) }
     ensures ended { call.old.step ≡ 15 → session.new.store ≡ None }
-    ensures stat { IfSome session.old.store (λ store. call.old.step ≡ 13 → Says call.new 14 6 × (session.new.store ≡ Some store)) }
-    ensures shown { IfSome session.old.store (λ store. call.old.step ≡ 13 → Shows call.new (numbers_bytes (active_of ⟦<Renamed<CallerDisk> as Disk>⟧ store.engine ∷ dirty_of ⟦<Renamed<CallerDisk> as Disk>⟧ store.engine ∷ durable_end_of ⟦<Renamed<CallerDisk> as Disk>⟧ store.engine ∷ store.engine.report.point ∷ store.engine.report.applied ∷ (if store.engine.failed then 1 else 0) ∷ []))) }
-    ensures left { IfSome session.old.store (λ store. call.old.step ≡ 15 → Says call.new 14 0 → WasEnded ⟦<Renamed<CallerDisk> as Disk>⟧ store.engine) }
-    ensures served { IfSome session.old.store (λ store. IsOther call.old.step → IsServed ⟦<Renamed<CallerDisk> as Disk>⟧ call.old call.new store session.new.store) }
+    ensures stat { IfSome session.old.store (λ opened. call.old.step ≡ 13 → Says call.new 14 6 × (session.new.store ≡ Some opened)) }
+    ensures shown { IfSome session.old.store (λ opened. call.old.step ≡ 13 → Shows call.new (numbers_bytes (standing ⟦<Files as Disk>⟧ opened.store.engine))) }
+    ensures left { IfSome session.old.store (λ opened. call.old.step ≡ 15 → IsClosing ⟦<Files as Disk>⟧ call.new opened.store) }
+    ensures begun { IfSome session.old.store (λ opened. call.old.step ≡ 18 → IsSomeAnd session.new.store (IsBegunOver ⟦<Renamed<CallerFiles> as Disk>⟧ ⟦<Renamed<CallerDisk> as Disk>⟧ ⟦<Files as Disk>⟧ call.old call.new opened)) }
+    ensures copied { IfSome session.old.store (λ opened. call.old.step ≡ 19 → IsSomeAnd session.new.store (λ now. IsPieceMade ⟦<Renamed<CallerFiles> as Disk>⟧ ⟦<Renamed<CallerDisk> as Disk>⟧ ⟦<Files as Disk>⟧ call.new opened.store now.store)) }
+    ensures whole { IfSome session.old.store (λ opened. call.old.step ≡ 20 → IsSomeAnd session.new.store (λ now. IsCopyEnded ⟦<Renamed<CallerFiles> as Disk>⟧ ⟦<Renamed<CallerDisk> as Disk>⟧ ⟦<Files as Disk>⟧ call.new opened.store now.store)) }
+    ensures served { IfSome session.old.store (λ opened. IsForStep call.old.step → IsServed ⟦<Files as Disk>⟧ call.old call.new opened session.new.store) }
 {
     match call.step {
         OPEN => open(session, call),
         CLOSE => close(session, call),
         STAT => stat(session, call),
+        COPY_BEGIN => begin_copy(session, call),
+        COPY_PIECE => copy_piece(session, call),
+        COPY_END => end_copy(session, call),
         _ => step(session, call),
     }
 }
 
 fn open(session: &mut Session, call: &mut Call)
     ensures question { IsAnswered call.old call.new }
-    ensures opening { session.old.store ≡ None → IsOpeningOver ⟦<Renamed<CallerDisk> as Disk>⟧ call.old call.new session.new.store }
-    ensures twice { IfSome session.old.store (λ store. Refuses call.new 10 × (session.new.store ≡ Some store)) }
+    ensures opening { session.old.store ≡ None → IsOpeningOver ⟦<Files as Disk>⟧ call.old call.new session.new.store }
+    ensures twice { IfSome session.old.store (λ opened. Refuses call.new 10 × (session.new.store ≡ Some opened)) }
 {
     if session.store.is_some() {
         refuse(call, Fault::Failed);
@@ -67,27 +84,35 @@ fn open(session: &mut Session, call: &mut Call)
     }
 }
 
-// Opens the store over the descriptors that are `key_len` and `hi_len`.
-fn opened(alloc: Global, call: &mut Call) -> Option<Opened<Renamed<CallerDisk>>>
+// Opens the store over the descriptors that are `key_len` and `hi_len`. With 1 as `fault` its files are only read.
+fn opened(alloc: Global, call: &mut Call) -> Option<Opened<Files>>
     ensures question { IsAnswered call.old call.new }
-    ensures opening { IsOpeningOver ⟦<Renamed<CallerDisk> as Disk>⟧ call.old call.new result }
+    ensures opening { IsOpeningOver ⟦<Files as Disk>⟧ call.old call.new result }
 {
-    let (Ok(ask), Ok(answer)) = (i32::try_from(call.key_len), i32::try_from(call.hi_len)) else {
+    let Some(disk) = disk_of(call, false) else {
         refuse(call, Fault::Device);
         return None;
     };
-    Opened::open(
-        alloc,
-        Renamed::new(CallerDisk::new(ask, answer), false),
-        call,
-    )
+    let files = CallerFiles::new(alloc, disk, call.fault == 1);
+    Opened::open(alloc, Mirrored::new(Renamed::new(files, false)), call)
+}
+
+// The disk over the descriptors that are `key_len` and `hi_len`, for the files of the store or for those of a copy.
+fn disk_of(call: &Call, is_copy: bool) -> Option<CallerDisk>
+    ensures some { IfSome result (λ disk. (call.now.key_len < 2 ^ 31) × (call.now.hi_len < 2 ^ 31) × (⟦<CallerDisk as Disk>⟧.failed disk ≡ false)) }
+    ensures none { result ≡ None → (2 ^ 31 ≤ call.now.key_len) ⊎ (2 ^ 31 ≤ call.now.hi_len) }
+{
+    let (Ok(ask), Ok(answer)) = (i32::try_from(call.key_len), i32::try_from(call.hi_len)) else {
+        return None;
+    };
+    Some(CallerDisk::new(ask, answer, is_copy))
 }
 
 fn close(session: &mut Session, call: &mut Call)
     ensures question { IsAnswered call.old call.new }
     ensures closed { session.old.store ≡ None → Refuses call.new 10 }
     ensures ended { session.new.store ≡ None }
-    ensures left { IfSome session.old.store (λ store. Says call.new 14 0 → WasEnded ⟦<Renamed<CallerDisk> as Disk>⟧ store.engine) }
+    ensures left { IfSome session.old.store (λ opened. IsClosing ⟦<Files as Disk>⟧ call.new opened.store) }
 {
     match session.store.take() {
         Some(store) => store.close(call),
@@ -99,7 +124,7 @@ fn stat(session: &Session, call: &mut Call)
     ensures question { IsAnswered call.old call.new }
     ensures closed { session.now.store ≡ None → Refuses call.new 10 }
     ensures told { IfSome session.now.store (λ _. Says call.new 14 6) }
-    ensures shown { IfSome session.now.store (λ store. Shows call.new (numbers_bytes (active_of ⟦<Renamed<CallerDisk> as Disk>⟧ store.engine ∷ dirty_of ⟦<Renamed<CallerDisk> as Disk>⟧ store.engine ∷ durable_end_of ⟦<Renamed<CallerDisk> as Disk>⟧ store.engine ∷ store.engine.report.point ∷ store.engine.report.applied ∷ (if store.engine.failed then 1 else 0) ∷ []))) }
+    ensures shown { IfSome session.now.store (λ opened. Shows call.new (numbers_bytes (standing ⟦<Files as Disk>⟧ opened.store.engine))) }
 {
     match &session.store {
         Some(store) => store.stat(call),
@@ -110,10 +135,48 @@ fn stat(session: &Session, call: &mut Call)
 fn step(session: &mut Session, call: &mut Call)
     ensures question { IsAnswered call.old call.new }
     ensures closed { session.old.store ≡ None → Refuses call.new 10 × (session.new.store ≡ None) }
-    ensures served { IfSome session.old.store (λ store. IsServed ⟦<Renamed<CallerDisk> as Disk>⟧ call.old call.new store session.new.store) }
+    ensures served { IfSome session.old.store (λ opened. IsServed ⟦<Files as Disk>⟧ call.old call.new opened session.new.store) }
 {
     match &mut session.store {
         Some(store) => store.step(session.alloc, call),
+        None => refuse(call, Fault::Failed),
+    }
+}
+
+// The files of the copy are the caller's too, over the descriptors that are `key_len` and `hi_len`.
+fn begin_copy(session: &mut Session, call: &mut Call)
+    ensures question { IsAnswered call.old call.new }
+    ensures closed { session.old.store ≡ None → Refuses call.new 10 × (session.new.store ≡ None) }
+    ensures begun { IfSome session.old.store (λ opened. IsSomeAnd session.new.store (IsBegunOver ⟦<Renamed<CallerFiles> as Disk>⟧ ⟦<Renamed<CallerDisk> as Disk>⟧ ⟦<Files as Disk>⟧ call.old call.new opened)) }
+{
+    let Some(store) = &mut session.store else {
+        refuse(call, Fault::Failed);
+        return;
+    };
+    match disk_of(call, true) {
+        Some(disk) => store.begin_copy(Renamed::new(disk, false), call),
+        None => refuse(call, Fault::Device),
+    }
+}
+
+fn copy_piece(session: &mut Session, call: &mut Call)
+    ensures question { IsAnswered call.old call.new }
+    ensures closed { session.old.store ≡ None → Refuses call.new 10 × (session.new.store ≡ None) }
+    ensures made { IfSome session.old.store (λ opened. IsSomeAnd session.new.store (λ now. IsPieceMade ⟦<Renamed<CallerFiles> as Disk>⟧ ⟦<Renamed<CallerDisk> as Disk>⟧ ⟦<Files as Disk>⟧ call.new opened.store now.store)) }
+{
+    match &mut session.store {
+        Some(store) => store.copy_piece(call),
+        None => refuse(call, Fault::Failed),
+    }
+}
+
+fn end_copy(session: &mut Session, call: &mut Call)
+    ensures question { IsAnswered call.old call.new }
+    ensures closed { session.old.store ≡ None → Refuses call.new 10 × (session.new.store ≡ None) }
+    ensures ended { IfSome session.old.store (λ opened. IsSomeAnd session.new.store (λ now. IsCopyEnded ⟦<Renamed<CallerFiles> as Disk>⟧ ⟦<Renamed<CallerDisk> as Disk>⟧ ⟦<Files as Disk>⟧ call.new opened.store now.store)) }
+{
+    match &mut session.store {
+        Some(store) => store.end_copy(call),
         None => refuse(call, Fault::Failed),
     }
 }

@@ -8,7 +8,7 @@ pub struct Call {
     pub step: u32,
     /// What was answered, by its number; at an opening, when it is asked, 1 where a Commit is to wait for a Force.
     pub word: u32,
-    /// The number of a refusal.
+    /// The number of a refusal; at an opening, when it is asked, 1 where the files are only read.
     pub fault: u32,
     /// How many entries at most, or a page, or at an opening how many frames.
     pub limit: u32,
@@ -16,9 +16,9 @@ pub struct Call {
     pub txn: u64,
     /// A row id, or at an opening how much log the next one may have to redo; in an answer its number.
     pub number: u64,
-    /// How many bytes of `key` are asked for, or at an opening the descriptor to ask.
+    /// How many bytes of `key` are asked for, or at an opening and where a copy begins the descriptor to ask.
     pub key_len: u32,
-    /// How many bytes of `hi` are asked for, or at an opening the descriptor to be answered.
+    /// How many bytes of `hi` are asked for, or at an opening and where a copy begins the descriptor to be answered.
     pub hi_len: u32,
     /// How many bytes of `out` were answered; at an opening, when it is asked, how much log the next one may have to read.
     pub out_len: u64,
@@ -26,6 +26,6 @@ pub struct Call {
     pub key: [u8; 256],
     /// The upper bound of a scan.
     pub hi: [u8; 256],
-    /// Entries, each of them a length, the bytes of its key, and its row id in 8 bytes, the lowest first.
+    /// Entries, each of them a length, the bytes of its key, and its row id in 8 bytes, the lowest first. A piece of a copy goes through it, and leaves any bytes.
     pub out: [u8; 67_584],
 }

@@ -4,6 +4,7 @@ use Rattle.im_base_types.specs.Changes.{Effect}
 use Rattle.im_base_disk.specs.Disk.{both}
 use Rattle.im_log_gate.specs.Header.{IsUnmade, Says}
 use Rattle.im_log_header.proofs.Saying.{unmade}
+use Rattle.im_theory_log.specs.Histories.{Base}
 use Rattle.im_page_file.specs.OtherLog.{IsNewest}
 use Rattle.im_engine.specs.FirstFormat.{StandsForFirst}
 use Rattle.im_engine.specs.Stands.{StandsFor}
@@ -13,13 +14,13 @@ use Rattle.im_engine.proofs.Named.{newest_current}
 no_bytes : IsUnmade []
 no_bytes = inl (omega arith)
 
-newest : (log pages : List ℕ) → IsUnmade log ⊎ Says 31 1 0 1 log → IsNewest (both log pages)
-newest log pages (inl none) = inr (none, no_bytes)
-newest log pages (inr says) = let other = unmade [] no_bytes in inl (record { earlier = omega (arith, says.generation, other.generation); known = inl no_bytes })
+newest : (b : Base) (log pages : List ℕ) → IsUnmade log ⊎ Says 31 1 0 1 log → IsNewest b (both log pages)
+newest b log pages (inl none) = inr (none, no_bytes)
+newest b log pages (inr says) = let other = unmade [] no_bytes in inl (record { earlier = omega (arith, says.generation, other.generation); known = inl no_bytes; left = inl no_bytes })
 
 pub first_stands : (before : List Effect) (log pages : List ℕ) → StandsForFirst before log pages → StandsFor before (both log pages)
 first_stands before log pages stands =
-    let above = newest log pages stands.format in
+    let above = newest stands.b log pages stands.format in
     let begun = stands.start in
     record {
       swapped = false;

@@ -106,7 +106,7 @@ begun = omega arith
 pub fresh_stands : (files : Files) → IsFresh files → IsUnmade (files Log2) → StandsFor [] files
 fresh_stands files fresh other = record {
   swapped = false;
-  current = newest_current files (inr (fresh.0, other));
+  current = newest_current files (fresh_store files fresh other).newest;
   b = new_from (base_of (files Log));
   base = base_of (files Log);
   start = omega arith;

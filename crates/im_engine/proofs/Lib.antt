@@ -27,6 +27,7 @@ pub mod Upgrading
 pub mod Openings
 pub mod CurrentLogs
 pub mod Looked
+pub mod DiskReads
 pub mod TurnLemmas
 pub mod Acknowledging
 pub mod Stopping

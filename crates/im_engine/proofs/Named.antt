@@ -41,20 +41,20 @@ same_pages false files = refl
 
 -- ---- one of the two is the current one
 
-pub newest_current : (files : Files) → IsNewest files → IsCurrent false files
-newest_current files (inl older) = inl older.earlier
-newest_current files (inr none) = inr ((unmade (files Log) none.0).generation, (unmade (files Log2) none.1).generation, refl)
+pub newest_current : {b : Base} (files : Files) → IsNewest b files → IsCurrent false files
+newest_current {b} files (inl older) = inl older.earlier
+newest_current {b} files (inr none) = inr ((unmade (files Log) none.0).generation, (unmade (files Log2) none.1).generation, refl)
 
 made_header : (file : List ℕ) → IsMade file → headers.IsMade file
 made_header file made = record { within = made.within; made = made.made; named = made.named }
 
-newest_has : (base : ℕ) (all : History) (files : Files) → IsLogOf base all (files Log) → IsNewest files → HasCurrent files
-newest_has base all files log (inl older) = record {
+newest_has : {b : Base} (base : ℕ) (all : History) (files : Files) → IsLogOf base all (files Log) → IsNewest b files → HasCurrent files
+newest_has {b} base all files log (inl older) = record {
   log = ⊎_elim (λ none. inl none.0) (λ has. inr (made_header (files Log) has.made)) log;
   other = older.known;
   apart = λ same. (let less = older.earlier in absurd (omega (arith, same, less)));
 }
-newest_has base all files log (inr none) = record { log = inl none.0; other = inl none.1; apart = λ same. none }
+newest_has {b} base all files log (inr none) = record { log = inl none.0; other = inl none.1; apart = λ same. none }
 
 -- ---- neither is made: then any of the two is the log that will be
 
@@ -93,7 +93,7 @@ module _ (before : List Effect) (files : Files) (stands : StandsFor before files
   both_none : (r : Bool) → generation_of (named r files Log) ≡ 0 → generation_of (named r files Log2) ≡ 0 → IsUnmade (named stands.swapped files Log) × IsUnmade (named stands.swapped files Log2)
   both_none r log other = by stands.has.newest
     where
-      by : IsNewest (named stands.swapped files) → IsUnmade (named stands.swapped files Log) × IsUnmade (named stands.swapped files Log2)
+      by : IsNewest stands.b (named stands.swapped files) → IsUnmade (named stands.swapped files Log) × IsUnmade (named stands.swapped files Log2)
       by (inl older) = let zero = none_by stands.swapped r files log other in let less = older.earlier in absurd (omega (arith, zero, less))
       by (inr none) = none
 

@@ -282,9 +282,6 @@ step_made_of d step reply old new none m = record {
   report = ap (λ (f : Fixed). f.redo) (told_fixed d (asked_by step) reply old new m.told);
 }
 
-pub made_as : {D : Type 0} (d : Ghosts D) (step given : Asked) → step ≡ given → (reply : Reply) (old new : Engine D d) → IsMade d (asked_by given) reply old new → IsMade d (asked_by step) reply old new
-made_as d step given is reply old new m = subst (λ (x : Asked). IsMade d (asked_by x) reply old new) (sym is) m
-
 -- of a step that is this one
 pub step_as : {D : Type 0} (d : Ghosts D) (step given : Asked) → step ≡ given → (reply : Reply) (old new : Engine D d) → None ≡ check_of d (asked_by step) old → IsMade d (asked_by given) reply old new → IsStep d step reply old new
 step_as d step given is reply old new none m = step_made_of d step reply old new none (subst (λ (x : Asked). IsMade d (asked_by x) reply old new) (sym is) m)

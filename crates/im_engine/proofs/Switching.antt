@@ -142,7 +142,7 @@ module _ {D : Type 0} (d : Ghosts D) (before : List Effect) (s : Shown) (v : Vie
           none = refl;
           number = done.number ∙ sym (ap (λ (x : Numbered). x.next) table);
           clean = done.clean;
-          in_file = in_file d next_base done.place (switched_writer done.place done.now) done.place new.writer new.disk done.stands refl refl done.clean done.stands.writing.stands.ready;
+          in_file = in_file d next_base done.place (switched_writer done.place done.now) done.place new.writer new.disk done.stands refl refl done.clean done.stands.writing.stands.ready (λ r of same. of);
           quiet = quiet;
         };
         grown = λ _. inr (record {

@@ -7,6 +7,7 @@ pub mod Aims
 pub mod Running
 pub mod Growing
 pub mod Kept
+pub mod Copied
 pub mod Costs
 pub mod Paces
 pub mod Told

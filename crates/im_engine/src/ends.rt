@@ -110,13 +110,14 @@ impl<D: Disk> Engine<D> {
         }
     }
 
-    // Writes a page, where something of it is left to be written (`flushes_are_served`).
+    // Writes a page, where something of it is left to be written (`flushes_are_served`). Where the log is forced for it, and its buffer holds several batches, the
+    // flushes of other pages are spared a force.
     pub(crate) fn flush_page(&mut self, page: PageNo) -> Reply
         requires works { self.old.failed ≡ false }
         ensures { IsMade D.Disk (answers.FlushPage page) result self.old self.new }
     {
         self.failed = true;
-        match self.writer.flush_one(&mut self.disk, page) {
+        match self.writer.flush_in_company(&mut self.disk, page) {
             Ok(()) => {
                 self.failed = false;
                 Reply::Done

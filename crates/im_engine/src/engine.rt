@@ -173,9 +173,6 @@ impl<D: TwoLogs> Engine<D> {
         if let Some(fault) = self.refusal(step) {
             return Reply::Refused(fault);
         }
-        if self.stepped {
-            return self.step_stepped(step);
-        }
         match step {
             Step::Begin => self.begin(),
             Step::Fetch(t, key) => self.fetch(*t, key),

@@ -17,9 +17,22 @@ impl<D: Disk> Engine<D> {
     ghost use Rattle.im_engine.specs.Aims.{under_of};
     ghost use Rattle.im_engine.specs.Told.{IsMade};
 
+    // Puts a key with its row id: with the split of its leaf, where one is wanted, or only with that split's first page.
+    pub(crate) fn insert(&mut self, t: TxnId, key: &[u8], rid: Rid) -> Reply
+        requires works { self.old.failed ≡ false }
+        requires checked { checked_by self.old.txns.rows (owns_in (under_of self.old.under) (answers.Do t (answers.Insert key.now rid))) (answers.Do t (answers.Insert key.now rid)) ≡ None }
+        ensures { IsMade D.Disk (answers.Do t (answers.Insert key.now rid)) result self.old self.new }
+    {
+        if self.stepped {
+            self.insert_stepped(t, key, rid)
+        } else {
+            self.insert_at_once(t, key, rid)
+        }
+    }
+
     // Puts a key with its row id (`inserts_are_served`), after the split of its leaf where that lacks room. For want of pages, or of memory
     // before its locks are granted, all is as it was; for want of page numbers or levels, or of memory after the grant, the engine fails.
-    pub(crate) fn insert(&mut self, t: TxnId, key: &[u8], rid: Rid) -> Reply
+    pub(crate) fn insert_at_once(&mut self, t: TxnId, key: &[u8], rid: Rid) -> Reply
         requires works { self.old.failed ≡ false }
         requires plain { self.old.stepped ≡ false }
         requires checked { checked_by self.old.txns.rows (owns_in (under_of self.old.under) (answers.Do t (answers.Insert key.now rid))) (answers.Do t (answers.Insert key.now rid)) ≡ None }

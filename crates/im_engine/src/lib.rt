@@ -16,6 +16,7 @@ mod accesses;
 mod buffer_size;
 mod checkpoints;
 mod config;
+mod copying;
 mod ends;
 mod engine;
 mod inserts;

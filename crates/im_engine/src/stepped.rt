@@ -10,7 +10,6 @@ mod closing;
 mod deleting;
 mod inserting;
 mod page;
-mod reads;
 mod steps;
 mod taking_back;
 mod turning_back;

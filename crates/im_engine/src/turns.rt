@@ -16,9 +16,22 @@ impl<D: Disk> Engine<D> {
     ghost use Rattle.im_engine.specs.Aims.{under_of};
     ghost use Rattle.im_engine.specs.Told.{IsMade};
 
+    // Goes on with what a transaction has under way: its structure change, or its rollback.
+    pub(crate) fn go_on(&mut self, t: TxnId) -> Reply
+        requires works { self.old.failed ≡ false }
+        requires checked { checked_by self.old.txns.rows (owns_in (under_of self.old.under) (answers.Continue t)) (answers.Continue t) ≡ None }
+        ensures { IsMade D.Disk (answers.Continue t) result self.old self.new }
+    {
+        if self.stepped {
+            self.go_on_stepped(t)
+        } else {
+            self.go_on_at_once(t)
+        }
+    }
+
     // Takes back the newest change that a transaction has left (`undone_changes_are_served`), and ends it where that was the last
     // (`last_undone_changes_are_served`). Its locks stay up to the End. For want of memory in front of the first record all is as it was.
-    pub(crate) fn go_on(&mut self, t: TxnId) -> Reply
+    pub(crate) fn go_on_at_once(&mut self, t: TxnId) -> Reply
         requires works { self.old.failed ≡ false }
         requires plain { self.old.stepped ≡ false }
         requires checked { checked_by self.old.txns.rows (owns_in (under_of self.old.under) (answers.Continue t)) (answers.Continue t) ≡ None }

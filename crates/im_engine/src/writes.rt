@@ -17,9 +17,22 @@ impl<D: Disk> Engine<D> {
     ghost use Rattle.im_engine.specs.Aims.{under_of};
     ghost use Rattle.im_engine.specs.Told.{IsMade};
 
+    // Drops a key: with the deletion of the leaf that it leaves empty, or only with that deletion's first page.
+    pub(crate) fn delete(&mut self, t: TxnId, key: &[u8]) -> Reply
+        requires works { self.old.failed ≡ false }
+        requires checked { checked_by self.old.txns.rows (owns_in (under_of self.old.under) (answers.Do t (answers.Delete key.now))) (answers.Do t (answers.Delete key.now)) ≡ None }
+        ensures { IsMade D.Disk (answers.Do t (answers.Delete key.now)) result self.old self.new }
+    {
+        if self.stepped {
+            self.delete_stepped(t, key)
+        } else {
+            self.delete_at_once(t, key)
+        }
+    }
+
     // Drops a key (`deletes_are_served`), and takes the leaf out of the tree that it leaves empty. For want of memory before its locks are
     // granted all is as it was; after the grant the engine fails.
-    pub(crate) fn delete(&mut self, t: TxnId, key: &[u8]) -> Reply
+    pub(crate) fn delete_at_once(&mut self, t: TxnId, key: &[u8]) -> Reply
         requires works { self.old.failed ≡ false }
         requires plain { self.old.stepped ≡ false }
         requires checked { checked_by self.old.txns.rows (owns_in (under_of self.old.under) (answers.Do t (answers.Delete key.now))) (answers.Do t (answers.Delete key.now)) ≡ None }

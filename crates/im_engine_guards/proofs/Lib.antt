@@ -4,3 +4,4 @@ mod PageFronts
 mod Counts
 mod Older
 mod Sound
+mod Walks

@@ -1,10 +1,11 @@
 -- The beginning of a log says what the log says.
-use Rattle.std.proofs.Common.{◌≡◌, ◌≢◌, ◌⊎◌, inl, inr, ⊎_elim, ℕ, ◌+◌, ◌-◌, ◌<◌, ◌≤◌, ◌==◌, ◌&&◌, nat_lt, if◌then◌else◌, Bool, true, false, List, [], ◌∷◌, ◌++◌, length, take, drop, get_or, replicate, slice_index, refl, sym, ◌∙◌, ap, subst, arith, length-take, take-take}
+use Rattle.std.proofs.Common.{◌≡◌, ◌⊎◌, inl, inr, ⊎_elim, ℕ, ◌+◌, ◌-◌, ◌<◌, ◌≤◌, ◌==◌, ◌&&◌, nat_lt, if◌then◌else◌, Bool, true, false, List, ◌++◌, length, take, drop, get_or, replicate, slice_index, refl, sym, ◌∙◌, ap, arith, length-take, take-take}
 use Rattle.std.specs.Int.{w64, from_be_bytes}
-use Rattle.std.proofs.lemmas.Bool.{cases_Bool, cases_lt, cond-true, cond-false, le-ltb, lt-ltb, and_right, eqb-true}
+use Rattle.std.proofs.lemmas.Bool.{cases_Bool, cases_lt, cond-true, cond-false, le-ltb, lt-ltb, ltb-true, and_parts, and_right, eqb-true}
 use Rattle.std.proofs.lemmas.List.{get_or-take, get_or-append_right, get_or-replicate, get_or_append_left, get_or_past, drop-take, take-append-le}
 use Rattle.im_base_guard.specs.declared.folder.Front.{Front}
 use Rattle.im_base_guard.specs.Fronts as guard
+use Rattle.im_base_guard.specs.LeftLog.{guard_gate}
 use Rattle.im_log_header.specs.Header.{IsUnmade, IsMade, says_made, says_second, number_at, first_gate, base_of, generation_of}
 use Rattle.im_engine_guards.specs.Guards.{IsFront}
 
@@ -110,4 +111,39 @@ module _ (file : List ℕ) (front : Front) (is : IsFront file front) where
         (λ (none : IsUnmade file). absurd (second_made holds none))
         (λ (made : IsMade file). let gate = second_gate holds in let within = made.within in sym (by_second holds (omega (arith, gate, within))))
         known
+  ]
+
+  -- a made one says that it was made, and an unmade one does not
+  pub unmade_says : guard.says_made front ≡ true → IsUnmade file → ⊥
+  unmade_says holds = by (and_parts (nat_lt 1 front.long) (slice_index front.bytes 0 == 1) holds)
+    where
+      by : (nat_lt 1 front.long ≡ true) × ((slice_index front.bytes 0 == 1) ≡ true) → IsUnmade file → ⊥
+      by both (inl short) = let long = ltb-true 1 front.long both.0 in let same = is.long in omega (arith, long, same, short)
+      by both (inr other) = other (sym (byte 0 (omega arith)) ∙ eqb-true (slice_index front.bytes 0) 1 both.1)
+
+  pub made_says : (IsUnmade file → ⊥) → guard.says_made front ≡ true
+  made_says made = elim (cases_Bool (guard.says_made front)) [
+    | inl holds ↦ holds
+    | inr fails ↦ absurd (made (unmade_by fails))
+  ]
+
+  -- its first gate and its base are those of the file
+  pub gate_same : (IsUnmade file → ⊥) → guard_gate front ≡ first_gate file
+  unfolding first_gate
+  gate_same made = elim (cases_Bool (guard.says_second front)) [
+    | inl second ↦ cond-true (guard.says_second front) 47 31 second ∙ sym (gate_by second)
+    | inr fails ↦ cond-false (guard.says_second front) 47 31 fails
+        ∙ sym
+        (cond-false (says_second (take 47 file)) 47 (if says_made (take 47 file) then 31 else 47) (sym second_same ∙ fails)
+        ∙ cond-true (says_made (take 47 file)) 31 47 (sym made_same ∙ made_says made))
+  ]
+
+  pub base_same : (guard.says_second front ≡ true → 47 < length file) → guard.base_of front ≡ base_of file
+  unfolding base_of
+  base_same long = elim (cases_Bool (guard.says_second front)) [
+    | inl second ↦ cond-true (guard.says_second front) (guard.number_at 24 front) 0 second
+        ∙ number_same 24 (omega arith) (long second)
+        ∙ sym (cond-true (says_second (take 47 file)) (number_at 24 (take 47 file)) 0 (sym second_same ∙ second))
+    | inr fails ↦ cond-false (guard.says_second front) (guard.number_at 24 front) 0 fails
+        ∙ sym (cond-false (says_second (take 47 file)) (number_at 24 (take 47 file)) 0 (sym second_same ∙ fails))
   ]

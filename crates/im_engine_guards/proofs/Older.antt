@@ -1,10 +1,10 @@
 -- Older pages are never found beside files that stand for effects.
-use Rattle.std.proofs.Common.{◌≡◌, ◌⊎◌, inl, inr, ⊎_elim, ℕ, ◌+◌, ◌==◌, ◌<◌, ◌≤◌, if◌then◌else◌, nat_le, Bool, true, false, List, [], ◌∷◌, Option, Some, None, refl, sym, ◌∙◌, ap, subst, arith}
+use Rattle.std.proofs.Common.{◌≡◌, inl, inr, ℕ, ◌+◌, ◌==◌, ◌<◌, ◌≤◌, if◌then◌else◌, nat_le, true, List, [], ◌∷◌, Option, Some, None, refl, sym, ◌∙◌, ap, arith}
 use Rattle.std.proofs.lemmas.Bool.{cases_Bool, cases_lt, cond-true, cond-false, eqb-true}
 use Rattle.im_base_types.specs.Pages.{Page}
 use Rattle.im_base_types.specs.Records.{Logged}
 use Rattle.im_theory_log.specs.Copies.{copy_in, noted, or_older}
-use Rattle.im_theory_log.specs.Histories.{Base, History, IsRecordOf, Rises}
+use Rattle.im_theory_log.specs.Histories.{Base, History, IsRecordOf, Rises, changes_page}
 use Rattle.im_theory_log.specs.RedoPoints.{Covers, redo_point}
 use Rattle.im_theory_page.specs.Header.{initial}
 use Rattle.im_theory_page.specs.PageFile.{file_page, page_count}
@@ -13,8 +13,33 @@ use Rattle.im_theory_left.specs.Left.{IsAtLeast, IsPast}
 use Rattle.im_theory_left.proofs.Left.{pages_there}
 use Rattle.im_base_guard.specs.declared.left_log.LeftLog.{LeftLog}
 use Rattle.im_base_guard.specs.LeftLog.{IsOlder}
-use Rattle.im_engine_guards.specs.Guards.{IsUncopied, Names, lsn_in}
+use Rattle.im_engine_guards.specs.Guards.{lsn_in}
 use Rattle.im_engine_guards.proofs.PageFronts.{page_lsn}
+
+-- A change of the log that was left, of whose page no record of the current log has a full copy.
+pub record IsUncopied (s : Logged) (before log : History) : Type 0 where
+  pub of : IsRecordOf s before
+  pub changes : changes_page s.what ≡ true
+  pub none : (r : Logged) → IsRecordOf r log → r.page ≡ s.page → copy_in r.lsn r.what ≡ None
+
+-- Such a one is the newest change that the walks have left, with its LSN and its page,
+pub record NamesNewest (l : LeftLog) (before log : History) : Type 0 where
+  pub newest : Logged
+  pub uncopied : IsUncopied newest before log
+  pub lsn : newest.lsn ≡ l.lsn
+  pub page : newest.page ≡ l.page
+
+-- and one of the greatest page.
+pub record NamesGreatest (l : LeftLog) (before log : History) : Type 0 where
+  pub greatest : Logged
+  pub uncopied : IsUncopied greatest before log
+  pub some : 1 ≤ greatest.lsn
+  pub last : greatest.page + 1 ≡ l.pages
+
+-- What the walks over the log that was left and over the current one name is so.
+pub record Names (l : LeftLog) (before log : History) : Type 0 where
+  pub newest : 0 < l.lsn → NamesNewest l before log
+  pub greatest : 0 < l.pages → NamesGreatest l before log
 
 -- where no record of a log has a copy of a page, none is noted
 none_noted : (from : ℕ) (log : History) (p : ℕ) → ((r : Logged) → IsRecordOf r log → r.page ≡ p → copy_in r.lsn r.what ≡ None) → noted from log p ≡ None

@@ -1,5 +1,5 @@
 -- The beginning of a file of pages says what page 0 says.
-use Rattle.std.proofs.Common.{◌≡◌, ℕ, nat_lt, ◌+◌, ◌*◌, ◌<◌, ◌≤◌, List, length, take, drop, get_or, replicate, slice_index, Option, Some, None, Bool, true, false, refl, sym, ◌∙◌, ap, subst, arith, inl, inr}
+use Rattle.std.proofs.Common.{◌≡◌, ℕ, nat_lt, ◌+◌, ◌*◌, ◌<◌, ◌≤◌, List, length, take, drop, slice_index, Some, None, refl, sym, ◌∙◌, ap, arith, inl, inr}
 use Rattle.std.specs.Int.{w32, w64, from_be_bytes}
 use Rattle.std.proofs.lemmas.Bool.{cases_Bool, cond-true, cond-false, lt-ltb}
 use Rattle.std.proofs.lemmas.List.{get_or-take, get_or-drop}

@@ -1,16 +1,15 @@
 -- Files that stand for effects are never refused.
-use Rattle.std.proofs.Common.{◌≡◌, ◌≢◌, ◌⊎◌, inl, inr, ⊎_elim, ℕ, ◌+◌, ◌/◌, ◌<◌, ◌≤◌, ◌||◌, if◌then◌else◌, Bool, true, false, List, [], length, get_or, slice_index, Option, Some, None, Result, Ok, Err, refl, sym, ◌∙◌, ap, subst, arith}
+use Rattle.std.proofs.Common.{◌≡◌, ◌≢◌, inl, inr, ⊎_elim, ℕ, ◌≤◌, ◌||◌, if◌then◌else◌, Bool, true, false, List, [], length, get_or, slice_index, Some, Result, Ok, Err, refl, sym, ◌∙◌, ap, subst, arith}
 use Rattle.std.specs.Prelude.{IfErr, IfOk}
 use Rattle.std.proofs.lemmas.Bool.{cases_Bool, cond-true, cond-false, le-ltb, lt-ltb}
 use Rattle.im_base_types.specs.Changes.{Effect}
-use Rattle.im_base_types.specs.declared.file_id.FileId.{FileId}
 use Rattle.im_base_types.specs.declared.file_id.FileId.TheVariants.{Log, Pages, Log2}
 use Rattle.im_base_disk.specs.Disk.{Files}
 use Rattle.im_base_two_logs.specs.Renamed.{named, same_files}
 use Rattle.im_base_guard.specs.declared.folder.Folder.{Folder}
 use Rattle.im_base_guard.specs.declared.folder.Front.{Front}
 use Rattle.im_base_guard.specs.declared.belonging.Apart.{Apart}
-use Rattle.im_base_guard.specs.declared.belonging.Apart.TheVariants.{NoFile, NoPages, ShortPages, NotALog}
+use Rattle.im_base_guard.specs.declared.belonging.Apart.TheVariants.{Unfinished, NoFile, NoPages, ShortPages, NotALog}
 use Rattle.im_base_guard.specs.declared.belonging.Logs.{Logs}
 use Rattle.im_base_guard.specs.Fronts as guard
 use Rattle.im_base_guard.specs.Belonging.{current, is_store, other_is_current, word_of, Decides, IsApart, IsVerdict, LacksCounted}
@@ -18,22 +17,20 @@ use Rattle.im_log_header.specs.Header as headers
 use Rattle.im_log_header.specs.Header.{generation_of, IsUnmade}
 use Rattle.im_log_choice.specs.Current.{IsCurrent, HasCurrent}
 use Rattle.im_log_choice.proofs.Names.{turned_has}
-use Rattle.im_log_gate.specs.Header.{base_of, first_gate, IsMade}
+use Rattle.im_log_gate.specs.Header.{first_gate, IsMade}
 use Rattle.im_log_gate.proofs.Reading.{ends_here}
-use Rattle.im_log.specs.Kept.{HasLog, IsLogOf}
+use Rattle.im_log.specs.Kept.{IsLogOf}
 use Rattle.im_log.specs.Spelled.{log_of}
 use Rattle.im_log.proofs.Spells.{log_is}
 use Rattle.im_page_file.specs.OtherLog.{IsNewest}
 use Rattle.im_theory_log.specs.Histories.{Base, History}
 use Rattle.im_theory_log.specs.Lawful.{IsLawful}
 use Rattle.im_theory_log.specs.RedoPoints.{Covers}
-use Rattle.im_theory_log.proofs.Fronts.{rises}
 use Rattle.im_theory_page.specs.PageFile.{file_page}
 use Rattle.im_theory_tree.specs.Theory.{page_tree}
 use Rattle.im_engine.specs.Stands.{StandsFor}
-use Rattle.im_engine_guards.specs.Guards.{IsFolder, IsFront, IsLeft, IsPagesFront, NeverOlder, NeverRefused}
+use Rattle.im_engine_guards.specs.Guards.{IsFolder, IsFront, IsLeft, IsPagesFront, NeverRefused}
 use Rattle.im_engine_guards.proofs.Counts.{never_counted}
-use Rattle.im_engine_guards.proofs.Older.{never_older}
 use Rattle.im_engine_guards.proofs.LogFronts.{byte, gate_by, generation_same, second_made, second_same, unmade_by}
 
 -- a log of the second format behind whose header no gate is open has no record
@@ -89,13 +86,13 @@ module _ (files : Files) (f : Folder) (is : IsFolder files f) (known : HasCurren
 made_header : (file : List ℕ) → IsMade file → headers.IsMade file
 made_header file made = record { within = made.within; made = made.made; named = made.named }
 
-newest_has : (base : ℕ) (all : History) (files : Files) → IsLogOf base all (files Log) → IsNewest files → HasCurrent files
-newest_has base all files log (inl older) = record {
+newest_has : {b : Base} (base : ℕ) (all : History) (files : Files) → IsLogOf base all (files Log) → IsNewest b files → HasCurrent files
+newest_has {b} base all files log (inl older) = record {
   log = ⊎_elim (λ none. inl none.0) (λ has. inr (made_header (files Log) has.made)) log;
   other = older.known;
   apart = λ same. (let less = older.earlier in absurd (omega (arith, same, less)));
 }
-newest_has base all files log (inr none) = record { log = inl none.0; other = inl none.1; apart = λ same. none }
+newest_has {b} base all files log (inr none) = record { log = inl none.0; other = inl none.1; apart = λ same. none }
 
 back_has : (swapped : Bool) (files : Files) → HasCurrent (named swapped files) → HasCurrent files
 back_has true files has = subst HasCurrent (same_files true files) (turned_has (named true files) has)
@@ -107,7 +104,7 @@ neither true y is = let never : ⊥ = cc in absurd never
 neither false y is = (refl, is)
 
 module _ (effects : List Effect) (files : Files) (f : Folder) (stands : StandsFor effects files) (is : IsFolder files f) where
-  known : HasCurrent files
+  pub known : HasCurrent files
   known = back_has stands.swapped files (newest_has stands.base stands.log (named stands.swapped files) stands.has.log stands.has.newest)
 
   module _ (so : IsLeft files f) where
@@ -117,6 +114,7 @@ module _ (effects : List Effect) (files : Files) (f : Folder) (stands : StandsFo
         so.fresh (unmade_by (files Log) f.log is.log both.0) (unmade_by (files Log2) f.log2 is.log2 both.1)
 
     never : (why : Apart) → IsApart why f → ⊥
+    never Unfinished half = let clash : true ≡ false = sym half ∙ is.whole in let never : ⊥ = cc in never
     never (NoFile Log) lacks = let clash : true ≡ false = sym is.log.there ∙ lacks.0 in let never : ⊥ = cc in never
     never (NoFile Log2) lacks = let clash : true ≡ false = sym is.log2.there ∙ lacks.1 in let never : ⊥ = cc in never
     never (NoFile Pages) lacks = lacks
@@ -148,14 +146,6 @@ module _ (effects : List Effect) (files : Files) (f : Folder) (stands : StandsFo
   pub current_named : (verdict : Result Logs Apart) → IsVerdict f verdict → IfOk verdict (λ logs. IsCurrent logs.other_is_current files)
   current_named (Err why) apart = tt
   current_named (Ok logs) so = subst (λ (s : Bool). IsCurrent s files) (sym (so.current ∙ other_is files f is known stands.swapped stands.current)) stands.current
-
-pub never_older_pages : NeverOlder
-never_older_pages effects files stands before past l names older =
-    by stands.swapped stands.has.covers
-  where
-    by : (s : Bool) → Covers stands.b stands.log (file_page (named s files Pages)) → ⊥
-    by true covers = never_older stands.b before stands.log (files Pages) past (rises stands.b page_tree stands.log stands.lawful) covers l names older
-    by false covers = never_older stands.b before stands.log (files Pages) past (rises stands.b page_tree stands.log stands.lawful) covers l names older
 
 pub sound : NeverRefused
 sound = record {

@@ -1,8 +1,7 @@
 -- What the guard of a folder says of a store.
-use Rattle.std.specs.Prelude.{◌≡◌, ◌≤◌, ◌<◌, ◌+◌, ◌*◌, nat_lt, if◌then◌else◌, ℕ, true, List, [], ◌++◌, length, take, drop, replicate, None, Result, IfErr, IfOk}
+use Rattle.std.specs.Prelude.{◌≡◌, ◌≤◌, ◌<◌, ◌+◌, ◌*◌, nat_lt, if◌then◌else◌, ℕ, false, true, List, [], ◌++◌, length, take, drop, replicate, Result, IfErr, IfOk}
 use Rattle.std.specs.Int.{w64, from_be_bytes}
 use Rattle.im_base_types.specs.Changes.{Effect}
-use Rattle.im_base_types.specs.Records.{Logged}
 use Rattle.im_base_types.specs.declared.file_id.FileId.TheVariants.{Log, Pages as PagesFile, Log2}
 use Rattle.im_base_types.specs.declared.page_kind.PageKind.TheVariants.{Free}
 use Rattle.im_base_disk.specs.Disk.{Files}
@@ -10,17 +9,15 @@ use Rattle.im_base_guard.specs.declared.folder.Front.{Front}
 use Rattle.im_base_guard.specs.declared.folder.PagesFront.{PagesFront}
 use Rattle.im_base_guard.specs.declared.folder.Folder.{Folder}
 use Rattle.im_base_guard.specs.declared.left_log.LeftLog.{LeftLog}
-use Rattle.im_base_guard.specs.LeftLog.{IsOlder}
+use Rattle.im_base_guard.specs.LeftLog.{IsOlder, current_log_of, left_log_of}
 use Rattle.im_base_guard.specs.Fronts.{BeginsWithChange}
 use Rattle.im_base_guard.specs.Belonging.{left, IsVerdict, Decides}
 use Rattle.im_base_guard.specs.declared.belonging.Apart.{Apart}
 use Rattle.im_base_guard.specs.declared.belonging.Logs.{Logs}
 use Rattle.im_log_choice.specs.Current.{IsCurrent}
 use Rattle.im_engine.specs.Stands.{StandsFor}
-use Rattle.im_log_header.specs.Header.{IsUnmade}
-use Rattle.im_theory_left.specs.Left.{IsPast}
-use Rattle.im_theory_log.specs.Copies.{copy_in}
-use Rattle.im_theory_log.specs.Histories.{History, IsRecordOf, changes_page}
+use Rattle.im_log_gate.specs.Header.{IsUnmade}
+use Rattle.im_theory_walk.specs.Walks.{IsAtEnd, walked}
 use Rattle.im_theory_page.specs.PageFile.{page_count}
 use Rattle.im_theory_tree.specs.Levels.{Pages}
 use Rattle.im_theory_tree.specs.Good.{IsGoodTree}
@@ -40,11 +37,12 @@ pub record IsPagesFront (file : List ℕ) (front : PagesFront) : Type 0 where
   pub bytes : 4096 ≤ length file → front.bytes ≡ take 28 file
   pub none : length file < 4096 → front.bytes ≡ replicate 28 0
 
--- The folder has all three files, and these are their beginnings.
+-- The folder has all three files, no copy into it is under way, and these are their beginnings.
 pub record IsFolder (files : Files) (f : Folder) : Type 0 where
   pub log : IsFront (files Log) f.log
   pub log2 : IsFront (files Log2) f.log2
   pub pages : IsPagesFront (files PagesFile) f.pages
+  pub whole : f.has_part ≡ false
 
 -- What the files that stand for effects say nothing of: where no log was made, neither is longer than a creation leaves it; and where the log that was left begins with a record that
 -- changes a page, the file of pages has the first two. A Switch makes both true, and no write makes a file shorter.
@@ -70,39 +68,26 @@ pub record NeverRefused : Type 0 where
 
 -- ---- older pages
 
--- A change of the log that was left, of whose page no record of the current log has a full copy.
-pub record IsUncopied (s : Logged) (before log : History) : Type 0 where
-  pub of : IsRecordOf s before
-  pub changes : changes_page s.what ≡ true
-  pub none : (r : Logged) → IsRecordOf r log → r.page ≡ s.page → copy_in r.lsn r.what ≡ None
-
--- Such a one is the newest change that the walks have left, with its LSN and its page,
-pub record NamesNewest (l : LeftLog) (before log : History) : Type 0 where
-  pub newest : Logged
-  pub uncopied : IsUncopied newest before log
-  pub lsn : newest.lsn ≡ l.lsn
-  pub page : newest.page ≡ l.page
-
--- and one of the greatest page.
-pub record NamesGreatest (l : LeftLog) (before log : History) : Type 0 where
-  pub greatest : Logged
-  pub uncopied : IsUncopied greatest before log
-  pub some : 1 ≤ greatest.lsn
-  pub last : greatest.page + 1 ≡ l.pages
-
--- What the walks over the log that was left and over the current one name is so.
-pub record Names (l : LeftLog) (before log : History) : Type 0 where
-  pub newest : 0 < l.lsn → NamesNewest l before log
-  pub greatest : 0 < l.pages → NamesGreatest l before log
-
 -- the LSN of a page in a file of pages, 0 where it is not there
 abbrev pub lsn_in : List ℕ → ℕ → ℕ
 lsn_in file p = if nat_lt p (page_count file) then from_be_bytes w64 (take 8 (drop (p * 4096) file)) else 0
 
--- The walks find no older pages beside files that stand for effects: over pages in which each change of the log that was left is, as a Switch makes them (`PastAfter`).
+-- the log that a walk is over
+abbrev pub log_of : LeftLog → Files → List ℕ
+log_of l files = if l.is_log2 then files Log2 else files Log
+
+-- The walks over the log that was left, as far as it is read, and then over the current one, to its end, in whatever pieces.
+pub record IsWalked (files : Files) (f : Folder) (l m : LeftLog) : Type 0 where
+  pub sizes : List ℕ
+  pub left : l ≡ walked sizes (log_of (left_log_of f) files) (left_log_of f)
+  pub further : List ℕ
+  pub current : m ≡ walked further (log_of (current_log_of f l) files) (current_log_of f l)
+  pub ends : IsAtEnd (log_of (current_log_of f l) files) m
+
+-- They find no older pages beside files that stand for effects.
 abbrev pub NeverOlder : Type 0
-NeverOlder = (effects : List Effect) (files : Files) (stands : StandsFor effects files) (before : History) → IsPast stands.b before → (l : LeftLog) → Names l before stands.log
-    → IsOlder l (page_count (files PagesFile)) (lsn_in (files PagesFile) l.page) → ⊥
+NeverOlder = (effects : List Effect) (files : Files) → StandsFor effects files → (f : Folder) → IsFolder files f → (l m : LeftLog) → IsWalked files f l m
+    → IsOlder m (page_count (files PagesFile)) (lsn_in (files PagesFile) m.page) → ⊥
 
 -- ---- why page 0 counts no more
 

@@ -5,16 +5,15 @@
 //!
 //! `guards_never_refuse` is the law of every verdict, `verdict` the guard with the law as its contract. Two things are supposed, of which that word says nothing
 //! (`IsLeft`): where no log was made, neither is longer than a creation leaves it; and where the log that was left begins with a record that changes a page, the first two
-//! pages are in the file. Of older pages two more are (`NeverOlder`): that what the walks name is so of the two logs, and that the pages that the current log is over have each
-//! change of the one that was left. Whether a file is there at all is no part of files as the theory has them.
+//! pages are in the file. Whether a file is there at all is no part of files as the theory has them.
 #![tactic(auto)]
 
 ghost use Rattle.im_engine_guards.specs.Guards.{NeverOlder, NeverRefused, IsSparing, TakesCurrent};
 
 use im_base_guard::{Apart, Folder, Logs, belong};
 
-/// The guard of a folder refuses no files that stand for effects, and takes the log that is the current one. Nor do the walks over the log that was left and the current one find
-/// older pages beside them, where what these name is so, and each change of the log that was left is in the pages that the current one is over.
+/// The guard of a folder refuses no files that stand for effects, and takes the log that is the current one. Nor do the walks over the log that was left and the current one, in
+/// whatever pieces these are read, find older pages beside them.
 pub fn guards_never_refuse()
     ensures refused { NeverRefused }
     ensures older { NeverOlder }

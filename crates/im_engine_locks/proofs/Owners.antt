@@ -6,9 +6,11 @@ use Rattle.std.specs.HashMap.{HashMap, UpdatesBy, get}
 use Rattle.std.specs.Map.{lookup}
 use Rattle.im_theory_machine.proofs.Bools.{cases_number}
 use Rattle.im_theory_machine.specs.Table.{Table, Held, all_of, nothing_held, held_of, locks_of, lasting_of, OthersKeep, SameHeld, HasFallen}
-use Rattle.im_engine_locks.specs.Index.{seen, Agrees, IsOnce, OthersHold}
+use Rattle.im_theory_machine.specs.Locks.{Name}
+use Rattle.im_engine_locks.specs.Index.{seen, Agrees, IsOnce, OthersHold, is_among, holders_at}
 use Rattle.im_engine_locks.specs.Owned.{held_in, IsKnown, SameOwn}
 use Rattle.im_engine_locks.specs.InStep.{owned, IsInStep}
+use Rattle.im_engine_locks.specs.declared.holder.Holder.{Holder}
 use Rattle.im_engine_locks.specs.declared.name_index.NameIndex.{NameIndex}
 use Rattle.im_engine_locks.specs.declared.own_locks.OwnLocks.{OwnLocks}
 use Rattle.im_engine_locks.specs.declared.stored_lock.StoredLock.{StoredLock}
@@ -128,3 +130,19 @@ on_both (Err e) f g h = h
 pub on_err : {A E P Q : Type 0} (r : Result A E) → (P → Q) → OnErr r P → OnErr r Q
 on_err (Ok a) f h = h
 on_err (Err e) f h = f h
+
+-- ---- nobody is left
+
+-- names of nobody and lists of nobody are in step
+pub none_left : {S : Type 0} (names : NameIndex) (m : HashMap ℕ OwnLocks S) → length m.entries ≡ 0 → ((n : Name) → holders_at names n ≡ []) → IsInStep names (owned m)
+none_left names m nobody none =
+    subst (λ (table : Table). IsInStep names table) (sym (ap (λ (es : List (ℕ × OwnLocks)). map (λ e. (e.0, held_in e.1)) es) (no_entries m.entries nobody)))
+    (record {
+      agrees = λ s n k. ap (λ (hs : List Holder). is_among hs s k) (none n);
+      once = λ s. tt;
+      once_falling = λ s. tt;
+    })
+  where
+    no_entries : (es : List (ℕ × OwnLocks)) → length es ≡ 0 → es ≡ []
+    no_entries [] e = refl
+    no_entries (d ∷ es) e = absurd cc

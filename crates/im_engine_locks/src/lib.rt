@@ -18,7 +18,8 @@
 //! keys of that digest that are held: mostly one, in place, as are keys of up to 31 bytes, so that a lock on such a key that
 //! nobody else holds wants no memory but room in the two. So a request costs two look-ups of its name, however many
 //! locks are held: one for those who are against it, which is left out where nobody else has a lock, and one to keep it;
-//! and a release costs one for each lock of its owner. On a machine of four cores, at a load of 7 to 8, the best of some runs: the 101 locks
+//! and a release costs one for each lock of its owner, or, where nobody else has a lock and the index has at most eight times the room for
+//! them, one pass over that room. Before it had that pass, on a machine of four cores, at a load of 7 to 8, the best of some runs: the 101 locks
 //! of a scan of 100 entries are granted by one call in 9.0 us and released in 5.7, and in the mean of 16 calls for the same in 6.9 and 0.3. Of
 //! 10, 1,000 and 30,000 locks, on keys of eight bytes, 7, 10 and 7 million are granted a second, and 15, 20 and 16 million released; one more is
 //! taken and released by another 4 million times a second.

@@ -61,6 +61,14 @@ impl NameIndex {
             Name::End => take_out(&mut self.end, owner, mode),
         }
     }
+
+    /// Takes all holders of all names out.
+    pub fn clear(&mut self)
+        ensures { (n : LockName) → holders_at self.new n ≡ [] }
+    {
+        self.keys.clear();
+        self.end.clear();
+    }
 }
 
 // A number by which a key is found: it is made of all bytes at once.

@@ -1,5 +1,5 @@
 -- How a log goes on in the other file.
-use Rattle.std.proofs.Common.{◌≡◌, ◌≢◌, ◌⊎◌, inl, inr, ⊎_elim, ℕ, ◌+◌, ◌^◌, ◌<◌, ◌≤◌, Bool, false, List, [], Some, refl, sym, ◌∙◌, ap, subst, arith}
+use Rattle.std.proofs.Common.{◌≡◌, ◌≢◌, ◌⊎◌, inl, inr, ⊎_elim, ℕ, ◌+◌, ◌^◌, ◌<◌, ◌≤◌, Bool, true, false, List, [], Some, refl, sym, ◌∙◌, ap, subst, arith}
 use Rattle.im_base_types.specs.declared.file_id.FileId.{FileId}
 use Rattle.im_base_types.specs.declared.file_id.FileId.TheVariants.{Log, Pages, Log2}
 use Rattle.im_base_types.specs.Records.{Logged}
@@ -9,7 +9,7 @@ use Rattle.im_base_disk.specs.Runs.{IsSynced, ChangesOnly}
 use Rattle.im_base_two_logs.specs.Renamed.{named}
 use Rattle.im_base_two_logs.specs.Runs.{LeavesNamed}
 use Rattle.im_log_header.specs.declared.header.Header.{Header}
-use Rattle.im_log_header.specs.Header.{IsEmptyLog}
+use Rattle.im_log_header.specs.Header.{IsBeingMade, IsEmptyLog}
 use Rattle.im_log_choice.specs.Current.{HasCurrent, IsCurrent}
 use Rattle.im_log_choice.specs.Laws.{HasOneOf}
 use Rattle.im_log_choice.specs.Switching.{IsSwitching}
@@ -25,7 +25,7 @@ use Rattle.im_log_gate.proofs.Starts.{made_some}
 use Rattle.im_log.specs.declared.log_file.LogFile.{LogFile}
 use Rattle.im_log.specs.Kept.{HasLog}
 use Rattle.im_log.specs.LogFile.{batch_lsn, IsLog}
-use Rattle.im_log.specs.Switching.{HasEither, WentOn}
+use Rattle.im_log.specs.Switching.{HasEither, IsKeptOrUnmade, WentOn}
 use Rattle.im_log.proofs.Creations.{blank_has}
 use Rattle.im_log.proofs.Runs.{of_log, nothing_sealed, nothing_buffered, starts_kept}
 
@@ -69,7 +69,7 @@ module _ {D : Type 0} (d : Ghosts D) where
         same c left = λ i file. synced file c left i
 
         here : HasEither base all start (d.seen disk) (d.seen disk)
-        here = record { swapped = false; current = current; has = has; log = inl has_all; pages = refl }
+        here = record { swapped = false; current = current; has = has; log = inl (has_all, inl refl); pages = refl }
 
     module _ (next : ℕ) (header : Header) (is : IsNextOf log.gate next header) (fits : next < 2 ^ 64) (starts : StartsAs log.gate (d.seen disk Log)) (of_gate : log.base ≡ base_at log.gate) where
       fits_header : header.next < 2 ^ 64
@@ -84,10 +84,37 @@ module _ {D : Type 0} (d : Ghosts D) where
           let says = made_logs.says header file is.ranged is.low fits_header new in
           subst (λ (n : ℕ). HasLog n [] file) start_is (blank_has header.base file (made_logs.made header file is.ranged is.low fits_header new) says.base (made_logs.empty header file is.ranged is.low fits_header new))
 
-      either : (c : Files) (s : Bool) → (named s c Log ≡ d.seen disk Log) ⊎ (IsEmptyLog header.generation header.base header.next (named s c Log) × (named s c Log2 ≡ d.seen disk Log))
-          → HasLog base all (named s c Log) ⊎ (HasLog (base + place_of log.gate) [] (named s c Log) × (named s c Log2 ≡ d.seen disk Log))
-      either c s (inl same) = inl (subst (HasLog base all) (sym same) has_all)
-      either c s (inr new) = inr (new_has (named s c Log) new.0, new.1)
+      -- beside the log from before the other is none of a later generation
+      beside : (file : List ℕ) → generation_of file < generation_of (d.seen disk Log) → IsBeingMade (d.seen disk Log2) header.generation header.base header.next file → IsKeptOrUnmade (d.seen disk Log2) file
+      beside file earlier (inl same) = inl same
+      beside file earlier (inr (inl none)) = inr none
+      beside file earlier (inr (inr new)) = absurd (
+          let says = (made_logs.says header file is.ranged is.low fits_header new).generation in
+          let now : header.generation ≡ generation_of (d.seen disk Log) + 1 = is.generation ∙ ap (λ (n : ℕ). n + 1) starts.generation in
+          omega (arith, earlier, says, now))
+
+      -- which is one of the other names
+      by_names : (c : Files) (s t : Bool) → generation_of (named s c Log2) < generation_of (named s c Log) → named s c Log ≡ d.seen disk Log → named t c Log ≡ d.seen disk Log → IsBeingMade (d.seen disk Log2) header.generation header.base header.next (named t c Log2)
+          → IsKeptOrUnmade (d.seen disk Log2) (named s c Log2)
+      by_names c true true earlier same was going = beside (named true c Log2) (subst (λ (n : ℕ). generation_of (named true c Log2) < n) (ap generation_of same) earlier) going
+      by_names c false false earlier same was going = beside (named false c Log2) (subst (λ (n : ℕ). generation_of (named false c Log2) < n) (ap generation_of same) earlier) going
+      by_names c true false earlier same was going = absurd (let one = ap generation_of same in let two = ap generation_of was in omega (arith, earlier, one, two))
+      by_names c false true earlier same was going = absurd (let one = ap generation_of same in let two = ap generation_of was in omega (arith, earlier, one, two))
+
+      -- the log from before is made, so the current one is the later
+      is_later : (c : Files) (s : Bool) → IsCurrent s c → named s c Log ≡ d.seen disk Log → generation_of (named s c Log2) < generation_of (named s c Log)
+      is_later c s (inl earlier) same = earlier
+      is_later c s (inr none) same = absurd (
+          let zero : generation_of (named s c Log) ≡ 0 = subst (λ (t : Bool). generation_of (named t c Log) ≡ 0) (sym none.2) none.0 in
+          let some = made_some (d.seen disk Log) h.made in
+          let was = ap generation_of same in
+          omega (arith, zero, some, was))
+
+      either : (c : Files) (s : Bool) → IsCurrent s c → IsSwitching (d.seen disk) header.generation header.base header.next c
+          → (named s c Log ≡ d.seen disk Log) ⊎ (IsEmptyLog header.generation header.base header.next (named s c Log) × (named s c Log2 ≡ d.seen disk Log))
+          → (HasLog base all (named s c Log) × IsKeptOrUnmade (d.seen disk Log2) (named s c Log2)) ⊎ (HasLog (base + place_of log.gate) [] (named s c Log) × (named s c Log2 ≡ d.seen disk Log))
+      either c s now going (inl same) = inl (subst (HasLog base all) (sym same) has_all, by_names c s going.swapped (is_later c s now same) same going.log going.other)
+      either c s now going (inr new) = inr (new_has (named s c Log) new.0, new.1)
 
       -- a stop within
       pub going_stops : (new : D) → IsCurrent false (d.seen disk) → HasCurrent (d.seen disk) → LeavesNamed d disk new (IsSwitching (d.seen disk) header.generation header.base header.next)
@@ -96,7 +123,7 @@ module _ {D : Type 0} (d : Ghosts D) where
           named_weakened disk new (IsSwitching (d.seen disk) header.generation header.base header.next) (HasEither base all (base + place_of log.gate) (d.seen disk)) run
           (λ told c going.
           let both = stops (d.seen disk) c header.generation header.base header.next current has (made_some (d.seen disk Log) h.made) (is.generation ∙ ap (λ (n : ℕ). n + 1) starts.generation) is.ranged.last is.ranged.low is.ranged.numbered fits_header going in
-          record { swapped = both.0.swapped; current = both.0.current; has = both.1; log = either c both.0.swapped both.0.log; pages = both.0.pages })
+          record { swapped = both.0.swapped; current = both.0.current; has = both.1; log = either c both.0.swapped both.0.current going both.0.log; pages = both.0.pages })
 
       -- and once it has gone on
       pub went_on : (new : LogFile) (new_disk : D) → new.failed ≡ false → new.base ≡ header.base → new.start ≡ 0 → new.used ≡ 0 → IsFirstOf header new.gate → StartsAs new.gate (d.seen new_disk Log) → IsMade (d.seen new_disk Log)

@@ -9,7 +9,7 @@ use Rattle.im_base_disk.specs.Runs.{IsSynced}
 use Rattle.im_base_two_logs.specs.Renamed.{named}
 use Rattle.im_base_two_logs.specs.Runs.{LeavesNamed}
 use Rattle.im_log_choice.specs.Current.{HasCurrent, IsCurrent}
-use Rattle.im_log_gate.specs.Header.{generation_of, least_number}
+use Rattle.im_log_gate.specs.Header.{generation_of, least_number, IsUnmade}
 use Rattle.im_log_gate.specs.Gate.{place_of}
 use Rattle.im_log.specs.declared.log_file.LogFile.{LogFile}
 use Rattle.im_log.specs.LogFile.{next_lsn, IsLog}
@@ -19,12 +19,16 @@ use Rattle.im_log.specs.Kept.{HasLog}
 abbrev pub next_gate : LogFile → ℕ
 next_gate log = if nat_lt 0 log.used then next_lsn log else log.base + place_of log.gate
 
--- Files have a current log: the one from before with its list, or one that starts at this LSN and has no record. Then the one from before is the other.
+-- A file is as it was, or not made.
+abbrev pub IsKeptOrUnmade : List ℕ → List ℕ → Type 0
+IsKeptOrUnmade was file = (file ≡ was) ⊎ IsUnmade file
+
+-- Files have a current log: the one from before with its list, and beside it no other than was; or one that starts at this LSN and has no record. Then the one from before is the other.
 pub record HasEither (base : ℕ) (all : List Logged) (start : ℕ) (was files : Files) : Type 0 where
   pub swapped : Bool
   pub current : IsCurrent swapped files
   pub has : HasCurrent files
-  pub log : HasLog base all (named swapped files Log) ⊎ (HasLog start [] (named swapped files Log) × (named swapped files Log2 ≡ was Log))
+  pub log : (HasLog base all (named swapped files Log) × IsKeptOrUnmade (was Log2) (named swapped files Log2)) ⊎ (HasLog start [] (named swapped files Log) × (named swapped files Log2 ≡ was Log))
   pub pages : files Pages ≡ was Pages
 
 module _ {D : Type 0} (d : Ghosts D) (base : ℕ) (all : List Logged) (next : ℕ) (old : LogFile) (old_disk : D) where

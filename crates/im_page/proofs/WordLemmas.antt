@@ -1,10 +1,11 @@
 -- A key whose first word is above that of another one is above it.
-use Rattle.std.proofs.Common.{ℕ, ◌+◌, ◌^◌, ◌<◌, ◌≤◌, List, length, take, sym, ◌∙◌, ⊎_elim, arith}
+use Rattle.std.proofs.Common.{◌≡◌, ℕ, ◌+◌, ◌^◌, ◌<◌, ◌≤◌, List, length, take, sym, ap, ◌∙◌, ⊎_elim, arith}
 use Rattle.std.specs.Int.{w64, from_be_bytes}
 use Rattle.std.specs.declared.cmp.Ordering.TheVariants.{Less}
 use Rattle.std.specs.Cmp.{nat_cmp_is}
+use Rattle.std.specs.Ordering.{nat_cmp}
 use Rattle.std.proofs.lemmas.Bool.{cases_lt}
-use Rattle.im_base_types.specs.Keys.{Key, IsBelow}
+use Rattle.im_base_types.specs.Keys.{Key, IsBelow, key_order}
 use Rattle.im_base_types.proofs.Words.{IsBytes, IsBytes-drop, IsBytes-take, words}
 use Rattle.im_theory_page.specs.Form.{key_from}
 use Rattle.im_page.specs.Sound.{IsTopOf, IsFootOf}
@@ -27,3 +28,10 @@ by_words a b top foot f g t h small lt =
     record { less = (words a b f g k l).apart (λ e. omega (arith, e, below)) ∙ sym (nat_cmp_is x y Less below) })
     (cases_lt (length a) 8))
     (cases_lt (length b) 8)
+
+-- two keys of eight bytes or more, whose first words differ, lie as these do
+pub order_of_words : (a b : Key) (x y : ℕ) → IsBytes a → IsBytes b → IsFootOf a x → IsFootOf b y → 8 ≤ length a → 8 ≤ length b → (x ≡ y → ⊥) → key_order a b ≡ nat_cmp x y
+order_of_words a b x y f g first second long also differ =
+    let p = first.0 long in
+    let q = second.0 also in
+    (words a b f g long also).apart (λ e. differ (p ∙ e ∙ sym q)) ∙ ap (λ (n : ℕ). nat_cmp n (from_be_bytes w64 (take 8 b))) (sym p) ∙ ap (λ (n : ℕ). nat_cmp x n) (sym q)

@@ -4,8 +4,11 @@ ghost use Rattle.std.specs.Prelude.{◌≡◌, ℕ, ◌+◌, ◌*◌, ◌^◌, �
 ghost use Rattle.im_theory_page.specs.Entry.{entry_at, width};
 ghost use Rattle.im_theory_page.specs.Form.{count_of, start_of, slot_at, key_from, entry_from, entries_of, IsPacked};
 ghost use Rattle.im_theory_page.specs.Found.{IsPlace};
+ghost use Rattle.im_base_types.specs.Keys.{key_order};
+ghost use Rattle.im_page.specs.Sound.{IsFootOf};
 
 use crate::number::{get_u16, get_u32, get_u64};
+use byteorder::{BigEndian, ByteOrder};
 use im_base_types::compare;
 use std::cmp::Ordering;
 
@@ -47,6 +50,30 @@ pub fn value(leaf: bool, bytes: &[u8], i: usize) -> u64
     }
 }
 
+/// The first eight bytes of a key as a number, 0 where it has fewer.
+pub fn foot_of(key: &[u8]) -> u64
+    ensures { IsFootOf key.now result }
+{
+    if key.len() < 8 {
+        return 0;
+    }
+    BigEndian::read_u64(key)
+}
+
+// The order of a cell's key and this one, whose first eight bytes are `first`. Where those of the cell's key are others, no other byte is read.
+fn order(other: &[u8], key: &[u8], first: u64) -> Ordering
+    requires { IsFootOf key.now first }
+    ensures { result ≡ key_order other.now key.now }
+{
+    if key.len() >= 8 && other.len() >= 8 {
+        let word = foot_of(other);
+        if word != first {
+            return word.cmp(&first);
+        }
+    }
+    compare(other, key)
+}
+
 /// The place of a key among the slots: `Ok` where it stands, `Err` where it would.
 pub fn find(leaf: bool, bytes: &[u8], key: &[u8]) -> Result<usize, usize>
     requires { IsPacked leaf bytes.now }
@@ -54,10 +81,11 @@ pub fn find(leaf: bool, bytes: &[u8], key: &[u8]) -> Result<usize, usize>
 {
     let mut low = 0;
     let mut high = get_u16(bytes, 12);
+    let first = foot_of(key);
     while low < high {
         let middle = low + (high - low) / 2;
         let at = get_u16(bytes, 32 + 2 * middle);
-        match compare(key_at(bytes, at), key) {
+        match order(key_at(bytes, at), key, first) {
             Ordering::Less => low = middle + 1,
             Ordering::Equal => return Ok(middle),
             Ordering::Greater => high = middle,

@@ -5,9 +5,9 @@ ghost use Rattle.im_base_types.specs.Keys.{IsBelow};
 ghost use Rattle.im_theory_page.specs.Form.{count_of, start_of, slot_at, key_from, cell_size, IsPacked};
 ghost use Rattle.im_theory_page.specs.Entry.{width};
 ghost use Rattle.im_theory_page.specs.Page.{IsHeader, IsForm};
-ghost use Rattle.im_page.specs.Sound.{HasSlots, IsTopOf, IsFootOf, IsPlace, ArePlaces, AreUniform, SlotsSound};
+ghost use Rattle.im_page.specs.Sound.{HasSlots, IsTopOf, IsPlace, ArePlaces, AreUniform, SlotsSound};
 
-use crate::cells::{cell_len, key_at};
+use crate::cells::{cell_len, foot_of, key_at};
 use crate::number::{get_u16, get_u32};
 use byteorder::{BigEndian, ByteOrder};
 use im_base_types::{PAGE_SIZE, compare};
@@ -19,16 +19,6 @@ fn top_of(key: &[u8]) -> u64
 {
     if key.len() < 8 {
         return u64::MAX;
-    }
-    BigEndian::read_u64(key)
-}
-
-/// The first eight bytes of a key as a number, 0 where it has fewer.
-fn foot_of(key: &[u8]) -> u64
-    ensures { IsFootOf key.now result }
-{
-    if key.len() < 8 {
-        return 0;
     }
     BigEndian::read_u64(key)
 }

@@ -63,7 +63,8 @@
 //! a buffer meanwhile and moves the rest at once, and as each slot is written again; and on the second machine a split,
 //! as each entry is put by an insertion of its own. Keys are compared eight bytes at a time. The first eight bytes of each key are read
 //! once by the test of a page's form, as a number that is kept for the next slot; where two such numbers differ, no other byte of the two
-//! keys is read.
+//! keys is read. A search reads those of its own key once: each of its steps is then one number read and compared, without a call, and
+//! only where the two are equal, or one of the keys is shorter, all bytes are compared.
 //!
 //! That no two cells share a byte and none is left over is tested in the first of three ways that serves:
 //! - The cells lie in the order of their slots, from the page's end down to where the cells begin, as where a page was filled in order, by

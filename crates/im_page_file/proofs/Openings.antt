@@ -32,7 +32,7 @@ module _ {D : Type 0} (d : Ghosts D) where
 
   -- an opening: a log, all of it durable, and a file of pages that it covers, all on the disk
   pub stands_opened : (b : Base) (base : ℕ) (all : History) (log : LogFile) (disk : D) → Rises b all → Covers b all (file_page (d.seen disk Pages)) → IsOpen d log disk → IsLog d base all all log disk
-      → Only Pages (d.seen disk) (d.may_leave disk) → Only Log2 (d.seen disk) (d.may_leave disk) → IsOlder (d.seen disk) → Stands d b base (opened b all (file_page (d.seen disk Pages))) log [] disk
+      → Only Pages (d.seen disk) (d.may_leave disk) → Only Log2 (d.seen disk) (d.may_leave disk) → IsOlder b (d.seen disk) → Stands d b base (opened b all (file_page (d.seen disk Pages))) log [] disk
   stands_opened b base all log disk up covered ready log_is synced other older = record {
     kept = opened_kept b all (file_page (d.seen disk Pages)) up covered;
     ready = ready;

@@ -41,7 +41,7 @@ open_synced d log old new seen outcomes works is_open = open_spared d log old ne
 -- ---- what a stop leaves
 
 module _ {D : Type 0} (d : Ghosts D) (b : Base) (base : ℕ) where
-  covered_by : (t : Writer) (c : Files) → WriterKept b t → HasLog base t.durable (c Log) → KeepsSynced t.pages (c Pages) → IsOlder c → IsCovered b base t.durable t.log c
+  covered_by : (t : Writer) (c : Files) → WriterKept b t → HasLog base t.durable (c Log) → KeepsSynced t.pages (c Pages) → IsOlder b c → IsCovered b base t.durable t.log c
   covered_by t c kept has keeps older = record {
     log = record { left = t.durable; has = has; longer = front_self t.durable; shorter = kept.front };
     pages = covers b t kept (file_page (c Pages)) keeps t.durable (record { from = front_self t.durable; upto = kept.front });
@@ -76,7 +76,7 @@ module _ {D : Type 0} (d : Ghosts D) (b : Base) (base : ℕ) where
     has_log c same = record { made = subst IsMade (sym same) st.log_is.made; starts = ap base_of same ∙ st.log_is.starts; spells = ap (log_of base) same ∙ st.log_is.on_disk }
 
     -- the other log is older still
-    older_left : (c : Files) → c Log ≡ d.seen old Log → c Log2 ≡ d.seen old Log2 → IsOlder c
+    older_left : (c : Files) → c Log ≡ d.seen old Log → c Log2 ≡ d.seen old Log2 → IsOlder b c
     older_left c log other = older_as (d.seen old) c (ap generation_of log) other st.older
 
     -- a stop now

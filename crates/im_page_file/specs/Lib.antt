@@ -5,3 +5,4 @@ pub mod OtherLog
 pub mod Stands
 pub mod Images
 pub mod PageCopy
+pub mod Takes

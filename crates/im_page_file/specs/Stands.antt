@@ -26,7 +26,7 @@ use Rattle.im_page_table.specs.KnownCopies.{KnowsCopies}
 pub record IsCovered (b : Base) (base : ℕ) (low high : History) (c : Files) : Type 0 where
   pub log : SpellsBetween base low high (c Log)
   pub pages : Covers b log.left (file_page (c Pages))
-  pub older : IsOlder c
+  pub older : IsOlder b c
 
 module _ {D : Type 0} (d : Ghosts D) (b : Base) (base : ℕ) where
   -- What a writer keeps is kept, and its log, its file of pages and its table are as it says; the other log is older, and on the disk.
@@ -38,7 +38,7 @@ module _ {D : Type 0} (d : Ghosts D) (b : Base) (base : ℕ) where
     pub tied : (p : ℕ) → IsTied (entry_in table p) (s.pages p).entry
     pub copies : KnowsCopies s
     pub other : Only Log2 (d.seen disk) (d.may_leave disk)
-    pub older : IsOlder (d.seen disk)
+    pub older : IsOlder b (d.seen disk)
 
   -- A stop at any moment since old leaves what redo can start from.
   abbrev pub LeavesCovered : History → History → D → D → Type 0

@@ -9,6 +9,7 @@ ghost use Rattle.im_page_table.specs.declared.table_entry.TableEntry.{TableEntry
 ghost use Rattle.im_page_file.specs.Stands.{Stands};
 ghost use Rattle.im_page_file.specs.Images.{MayImage, ImageKept};
 ghost use Rattle.im_page_file.specs.Imaging.{Imaging};
+ghost use Rattle.im_page_file.specs.Takes.{TakesImage};
 ghost use Rattle.im_page_file.specs.LogEnds.{fault_of};
 
 use im_base_disk::Disk;
@@ -34,6 +35,7 @@ pub fn append_image<D: Disk>(
         → ImageKept D.Disk b base s page table disk.old log.new disk.new result }
     ensures changes { ChangesOnly D.Disk Log disk.old disk.new }
     ensures forces { OnOk result (Forces D.Disk 1 disk.old disk.new) }
+    ensures quiet { TakesImage log.old → disk.new ≡ disk.old }
 {
     let image = Record::Image { page, bytes };
     log.append(disk, &image)

@@ -27,3 +27,4 @@ pub mod Switching
 mod Loans
 mod SameWriter
 mod RoundsDone
+pub mod InCompany

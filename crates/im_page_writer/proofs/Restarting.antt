@@ -41,7 +41,7 @@ pooled_none frames gets pages none = record {
 module _ {D : Type 0} (d : Ghosts D) (b : Base) (base : ℕ) where
   -- A new writer over an opened log, on a disk that is synced, whose file of pages the log covers.
   pub writer_opens : (all : History) (w : PageWriter) (frames : ℕ) (disk : D) → b.start ≤ base → Rises b all → Covers b all (file_page (d.seen disk Pages)) → IsOpen d w.log disk → IsLog d base all all w.log disk
-      → Only Pages (d.seen disk) (d.may_leave disk) → Only Log2 (d.seen disk) (d.may_leave disk) → IsOlder (d.seen disk) → w.pool ≡ record { held = []; frames = frames; gets = 0 } → w.table ≡ [] → w.failed ≡ false → w.known.from ≡ None → AreSyncedWith all (redo_point all) w.known.synced → StandsAs d b base (opened b all (file_page (d.seen disk Pages))) w disk
+      → Only Pages (d.seen disk) (d.may_leave disk) → Only Log2 (d.seen disk) (d.may_leave disk) → IsOlder b (d.seen disk) → w.pool ≡ record { held = []; frames = frames; gets = 0 } → w.table ≡ [] → w.failed ≡ false → w.known.from ≡ None → AreSyncedWith all (redo_point all) w.known.synced → StandsAs d b base (opened b all (file_page (d.seen disk Pages))) w disk
   writer_opens all w frames disk based up covered ready log_is synced other older pool table working unknown expected = record {
     working = working;
     known = record { from = subst (λ (from : Option ℕ). IsKnownFrom (opened b all (file_page (d.seen disk Pages))) from) (sym unknown) tt; synced = expected; copies = λ none. durable_redoing (opened b all (file_page (d.seen disk Pages))) refl };

@@ -1,7 +1,8 @@
 -- How the log goes on in the other file under a writer of pages.
-use Rattle.std.proofs.Common.{◌≡◌, ◌⊎◌, inl, inr, ⊎_elim, ℕ, ◌+◌, ◌<◌, ◌≤◌, Bool, true, false, not, List, [], Option, None, Some, Result, Ok, Err, refl, sym, ◌∙◌, ap, subst, arith}
+use Rattle.std.proofs.Common.{◌≡◌, ◌⊎◌, inl, inr, ⊎_elim, ℕ, ◌+◌, ◌<◌, ◌≤◌, Bool, true, false, not, List, [], Option, None, Some, Result, Ok, Err, take, refl, sym, ◌∙◌, ap, subst, arith}
 use Rattle.std.specs.Prelude.{◌≢◌, ◌↔◌, ◌^◌, nat_le, nat_lt, if◌then◌else◌, IfErr, IsErrAnd}
 use Rattle.std.proofs.lemmas.Bool.{cases_lt}
+use Rattle.std.proofs.lemmas.List.{append-nil}
 use Rattle.std.specs.Ordering.{nat_cmp}
 use Rattle.std.specs.BTreeMap.{BTreeMap, get, is_at}
 use Rattle.std.specs.Map.{lookup}
@@ -9,7 +10,7 @@ use Rattle.im_base_types.specs.declared.fault.Fault.{Fault}
 use Rattle.im_base_types.specs.declared.fault.Fault.TheVariants.{Capacity, Device, Failed, LogFull, NotAStore}
 use Rattle.im_base_types.specs.declared.file_id.FileId.TheVariants.{Log, Pages, Log2}
 use Rattle.im_base_types.specs.Pages.{Page}
-use Rattle.im_theory_log.specs.Histories.{Base, History, IsFront, end_of, page_at}
+use Rattle.im_theory_log.specs.Histories.{Base, History, IsFront, Rises, end_of, page_at}
 use Rattle.im_theory_log.specs.Copies.{GrowsByImages}
 use Rattle.im_theory_log.specs.Writer.{Writer}
 use Rattle.im_theory_log.specs.WriterSteps.{is_copied}
@@ -19,6 +20,8 @@ use Rattle.im_theory_log.proofs.RedoPoints.{covers_base}
 use Rattle.im_theory_log.proofs.WriterCovers.{covers}
 use Rattle.im_theory_switch.specs.Switch.{base_after, switched}
 use Rattle.im_theory_switch.proofs.Switch.{lsns_low, writer_switches}
+use Rattle.im_theory_left.specs.Left.{AreReadable}
+use Rattle.im_theory_left.proofs.Left.{past_after}
 use Rattle.im_base_disk.specs.declared.disk.Disk.{Ghosts}
 use Rattle.im_base_disk.specs.Disk.{Files}
 use Rattle.im_base_disk.proofs.Runs.{weakened}
@@ -28,19 +31,20 @@ use Rattle.im_base_two_logs.proofs.Runs.{other_names, then_named, unnamed}
 use Rattle.im_log_header.specs.Header as headers
 use Rattle.im_log_choice.specs.Current.{HasCurrent, IsCurrent}
 use Rattle.im_log_gate.specs.Gate.{generation_at, has_failed, place_of}
-use Rattle.im_log_gate.specs.Header.{generation_of, IsMade}
+use Rattle.im_log_gate.specs.Header.{base_of, generation_of, IsMade}
 use Rattle.im_log_gate.proofs.Starts.{made_some}
 use Rattle.im_log.specs.declared.log_file.LogFile.{LogFile}
 use Rattle.im_log.specs.LogFile.{HasNoRoom, IsOpen, end_with, next_lsn}
 use Rattle.im_log.specs.Kept.{HasLog}
-use Rattle.im_log.specs.Switching.{LogSwitchKept, HasEither, WentOn, next_gate}
+use Rattle.im_log.specs.Spelled.{log_of}
+use Rattle.im_log.specs.Switching.{LogSwitchKept, HasEither, IsKeptOrUnmade, WentOn, next_gate}
 use Rattle.im_log.proofs.Above.{front_then}
 use Rattle.im_log.proofs.Switching.{named_weakened}
 use Rattle.im_theory_page.specs.PageFile.{file_page}
 use Rattle.im_page_table.specs.declared.table_entry.TableEntry.{TableEntry}
 use Rattle.im_page_table.specs.DirtyTable.{entry_in, HasEntries, IsTied}
 use Rattle.im_page_table.proofs.Growing.{grows_none, grows_then, keeps_none, keeps_then, on_ok}
-use Rattle.im_page_file.specs.OtherLog.{IsOlder}
+use Rattle.im_page_file.specs.OtherLog.{IsOlder, LeftSays}
 use Rattle.im_page_file.specs.PageFile.{KeepsSynced}
 use Rattle.im_page_file.specs.Stands.{IsCovered, Stands}
 use Rattle.im_page_writer.specs.declared.known.Known.{Known}
@@ -68,15 +72,31 @@ made_header : (file : List ℕ) → IsMade file → headers.IsMade file
 made_header file made = record { within = made.within; made = made.made; named = made.named }
 
 -- where the other log is older, the log is the current one
-pub older_current : (files : Files) → IsMade (files Log) → IsOlder files → IsCurrent false files × HasCurrent files
-older_current files made older = (inl older.earlier, record { log = inr (made_header (files Log) made); other = older.known; apart = λ same. (let less = older.earlier in absurd (omega (arith, same, less))) })
+pub older_current : {b : Base} (files : Files) → IsMade (files Log) → IsOlder b files → IsCurrent false files × HasCurrent files
+older_current {b} files made older = (inl older.earlier, record { log = inr (made_header (files Log) made); other = older.known; apart = λ same. (let less = older.earlier in absurd (omega (arith, same, less))) })
 
 -- and the other way round, by the names of the current one
-current_older : (swapped : Bool) (files : Files) → IsCurrent swapped files → HasCurrent files → 1 ≤ generation_of (named swapped files Log) → IsOlder (named swapped files)
-current_older false files (inl less) has some = record { earlier = less; known = has.other }
-current_older false files (inr none) has some = (let low : generation_of (named false files Log) ≡ 0 = none.0 in absurd (omega (arith, some, low)))
-current_older true files (inl less) has some = record { earlier = less; known = has.log }
-current_older true files (inr none) has some = (let clash : true ≡ false = none.2 in absurd (cc clash))
+current_older : (b : Base) (swapped : Bool) (files : Files) → IsCurrent swapped files → HasCurrent files → 1 ≤ generation_of (named swapped files Log) → LeftSays b (named swapped files Log2) → IsOlder b (named swapped files)
+current_older b false files (inl less) has some left = record { earlier = less; known = has.other; left = left }
+current_older b false files (inr none) has some left = (let low : generation_of (named false files Log) ≡ 0 = none.0 in absurd (omega (arith, some, low)))
+current_older b true files (inl less) has some left = record { earlier = less; known = has.log; left = left }
+current_older b true files (inr none) has some left = (let clash : true ≡ false = none.2 in absurd (cc clash))
+
+-- a switch makes it so of the log that it leaves
+left_after : (b : Base) (base place : ℕ) (log : History) (file : List ℕ) → Rises b log → AreReadable log → HasLog base log file → LeftSays (base_after b log place) file
+left_after b base place log file up readable has = inr (record {
+  before = log;
+  cut = [];
+  header = ap (take 47) (append-nil file);
+  spells = subst (λ (bytes : List ℕ). HasLog (base_of file) log bytes) (sym (append-nil file)) (subst (λ (n : ℕ). HasLog n log file) (sym has.starts) has);
+  readable = readable;
+  past = past_after b log place up;
+})
+
+-- and of one that was left before it stays so
+left_still : (b : Base) (was file : List ℕ) → IsKeptOrUnmade was file → LeftSays b was → LeftSays b file
+left_still b was file (inl same) left = subst (LeftSays b) (sym same) left
+left_still b was file (inr none) left = inl none
 
 -- the file of pages has one name
 named_pages : (swapped : Bool) (files : Files) → named swapped files Pages ≡ files Pages
@@ -159,7 +179,7 @@ module _ {D : Type 0} (d : Ghosts D) (b : Base) (base : ℕ) where
   -- ---- the other log is made
 
   module _ (s : Writer) (e : ℕ) (w : PageWriter) (old : D) (is : StandsAs d b base s w old) (over : s.redo_end ≡ Some e) (durable : s.durable ≡ s.log) (clean : (p : ℕ) → (s.pages p).entry ≡ None)
-      (is_open : IsOpen d w.log old) where
+      (is_open : IsOpen d w.log old) (readable : AreReadable s.log) where
     st : Stands d b base s w.log w.table old
     st = is.writing.stands
 
@@ -192,6 +212,13 @@ module _ {D : Type 0} (d : Ghosts D) (b : Base) (base : ℕ) where
     keeps_synced : KeepsSynced s.pages (d.seen old Pages)
     keeps_synced p still = st.file.reads p ∙ (st.kept.pages p).still still
 
+    -- the log is all in its file
+    has_log : HasLog base s.log (d.seen old Log)
+    has_log = record { made = st.log_is.made; starts = st.log_is.starts; spells = subst (λ (l : History). log_of base (d.seen old Log) ≡ Some l) durable st.log_is.on_disk }
+
+    left_log : LeftSays (base_after b s.log start) (d.seen old Log)
+    left_log = left_after b base start s.log (d.seen old Log) st.kept.rises readable has_log
+
     -- a stop within
     left_either : (c : Files) → HasEither base s.log start (d.seen old) c → LeftSwitching b base s c
     left_either c r = record {
@@ -206,17 +233,17 @@ module _ {D : Type 0} (d : Ghosts D) (b : Base) (base : ℕ) where
         pages_same : named r.swapped c Pages ≡ d.seen old Pages
         pages_same = named_pages r.swapped c ∙ r.pages
 
-        by : HasLog base s.log (named r.swapped c Log) ⊎ (HasLog start [] (named r.swapped c Log) × (named r.swapped c Log2 ≡ d.seen old Log))
+        by : (HasLog base s.log (named r.swapped c Log) × IsKeptOrUnmade (d.seen old Log2) (named r.swapped c Log2)) ⊎ (HasLog start [] (named r.swapped c Log) × (named r.swapped c Log2 ≡ d.seen old Log))
             → IsCovered b base s.durable s.log (named r.swapped c) ⊎ IsCovered (base_after b s.log start) start [] [] (named r.swapped c)
         by (inl has) = inl (record {
-          log = record { left = s.log; has = has; longer = st.kept.front; shorter = front_self s.log };
+          log = record { left = s.log; has = has.0; longer = st.kept.front; shorter = front_self s.log };
           pages = covers b s st.kept (file_page (named r.swapped c Pages)) (subst (λ (bytes : List ℕ). KeepsSynced s.pages bytes) (sym pages_same) keeps_synced) s.log (record { from = st.kept.front; upto = front_self s.log });
-          older = current_older r.swapped c r.current r.has (made_some (named r.swapped c Log) has.made);
+          older = current_older b r.swapped c r.current r.has (made_some (named r.swapped c Log) has.0.made) (left_still b (d.seen old Log2) (named r.swapped c Log2) has.1 st.older.left);
         })
         by (inr next) = inr (record {
           log = record { left = []; has = next.0; longer = front_self []; shorter = front_self [] };
           pages = covers_base (base_after b s.log start) (file_page (named r.swapped c Pages)) (λ p. ap (λ (bytes : List ℕ). file_page bytes p) pages_same ∙ in_file p);
-          older = current_older r.swapped c r.current r.has (made_some (named r.swapped c Log) next.0.made);
+          older = current_older (base_after b s.log start) r.swapped c r.current r.has (made_some (named r.swapped c Log) next.0.made) (subst (LeftSays (base_after b s.log start)) (sym next.1) left_log);
         })
 
     pub turn_stops : (next : ℕ) (new_log : LogFile) (new : D) (result : Result Unit Fault) → LogSwitchKept d base s.log next w.log old new_log new result → LeavesNamed d old new (LeftSwitching b base s)
@@ -272,6 +299,7 @@ module _ {D : Type 0} (d : Ghosts D) (b : Base) (base : ℕ) where
             older = record {
               earlier = (let before : generation_of (d.seen new Log2) ≡ generation_of (d.seen old Log) = ap generation_of went.before in let now = went.generation in omega (arith, before, now));
               known = inr (subst (λ (bytes : List ℕ). headers.IsMade bytes) (sym went.before) (made_header (d.seen old Log) st.log_is.made));
+              left = subst (LeftSays (base_after b s.log start)) (sym went.before) left_log;
             };
           };
           entries = subst (λ (t : List TableEntry). HasEntries t s.pages) (sym table) is.writing.entries;

@@ -10,3 +10,4 @@ pub mod Outcome
 pub mod FlushedRows
 pub mod Switching
 pub mod Rounds
+pub mod Rooms

@@ -4,13 +4,15 @@ ghost use Rattle.im_base_types.specs.declared.fault.Fault.TheVariants.{Device, F
 ghost use Rattle.im_base_types.specs.declared.file_id.FileId.TheVariants.{Log};
 ghost use Rattle.im_theory_log.specs.Histories.{Base};
 ghost use Rattle.im_theory_log.specs.Writer.{Writer};
-ghost use Rattle.im_base_disk.specs.Runs.{ChangesOnly, Forces};
+ghost use Rattle.im_base_disk.specs.Runs.{ChangesOnly, Forces, Reads};
 ghost use Rattle.im_log.specs.LogFile.{HasNoRoom, end_with, IsOpen};
 ghost use Rattle.im_page_table.specs.declared.table_entry.TableEntry.{TableEntry};
 ghost use Rattle.im_theory_log.specs.WriterSteps.{is_copied};
 ghost use Rattle.im_page_table.specs.DirtyTable.{entry_in};
 ghost use Rattle.im_page_file.specs.Imaging.{Imaging};
+ghost use Rattle.im_page_file.specs.Takes.{TakesImage};
 ghost use Rattle.im_page_writer.specs.Outcome.{fault_of};
+ghost use Rattle.im_page_writer.specs.Rooms.{KeepsRoom};
 ghost use Rattle.im_page_writer.specs.Writing.{with_lsn, lsn_for, IsWriting, MayCopy, PageImageKept, CopyKept, GrownKept, ImagesKept, DurableKept};
 
 use im_base_disk::Disk;
@@ -59,6 +61,7 @@ fn append_page<D: Disk>(
         → MayCopy s pool.now number → PageImageKept D.Disk b base s number disk.old log.new table pool.now disk.new result }
     ensures changes { ChangesOnly D.Disk Log disk.old disk.new }
     ensures forces { OnOk result (Forces D.Disk 1 disk.old disk.new) }
+    ensures quiet { TakesImage log.old → disk.new ≡ disk.old }
 {
     match pool.find(number) {
         Some(frame) => append_image(disk, log, pool.page(frame).bytes(), number),
@@ -107,6 +110,8 @@ fn note_copy<D: Disk>(
     requires working { log.old.failed ≡ false }
     ensures outcome { Imaging D.Disk log.old log.new disk.new (fault_of result) }
     ensures kept { (b : Base) (base : ℕ) (s : Writer) → IsWriting D.Disk b base s log.old table.old pool.now disk.old → GrownKept D.Disk b base s disk.old log.new table.new pool.now disk.new result }
+    ensures quiet { TakesImage log.old → disk.new ≡ disk.old }
+    ensures room { KeepsRoom table.old table.new }
 {
     let Some(entry) = table.get(number) else {
         return Ok(());
@@ -115,6 +120,7 @@ fn note_copy<D: Disk>(
         return Ok(());
     }
     let lsn = append_page(disk, log, pool, spare, number)?;
+    table.pages_rise();
     table.enter(number, lsn, true);
     Ok(())
 }
@@ -135,6 +141,8 @@ pub(crate) fn note_in_file<D: Disk>(
     requires working { log.old.failed ≡ false }
     ensures outcome { Imaging D.Disk log.old log.new disk.new (fault_of result) }
     ensures kept { (b : Base) (base : ℕ) (s : Writer) → IsWriting D.Disk b base s log.old table.old pool.now disk.old → GrownKept D.Disk b base s disk.old log.new table.new pool.now disk.new result }
+    ensures reads { TakesImage log.old → Reads D.Disk disk.old disk.new }
+    ensures room { KeepsRoom table.old table.new }
 {
     let count = count_pages(disk)?;
     if number as u64 >= count {

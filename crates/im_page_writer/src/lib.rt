@@ -21,7 +21,9 @@
 //!   changed, and its frame given up. Where that forces the log, changed pages that go next are flushed with it: of the half of the
 //!   frames that were used least recently, the first eight, as far as their Images fit into the log's buffer, in rising number. The log
 //!   is forced once for them all, and the order of use stays. Where the buffer holds several batches, they are the first 64.
-//! - `flush_in_company` flushes a page in the same way, of all frames, where the log's buffer holds several batches, else as a flush does.
+//! - `flush_in_company` flushes a page; where that forces the log, whose buffer holds several batches, the Images of other changed pages go
+//!   with it, those of the oldest changes, as many as the buffer takes. Those pages are written by flushes of their own, which force nothing
+//!   then. A Switch writes its pages so.
 //! - A change (`log_change`) gets the page, makes room for its entry (`make_entry_room`), appends the record, changes the page,
 //!   gives it the record's LSN, and enters it. What the page does not take is refused before the append.
 //! - Room is made where the table is full: the least recently used page that was changed is flushed, in the same way, and the file synced. What

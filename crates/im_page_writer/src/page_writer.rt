@@ -23,6 +23,7 @@ use std::alloc::Global;
 mod changes;
 mod checkpoints;
 mod every_page;
+mod in_company;
 mod least_used;
 mod redo;
 mod round;

@@ -85,7 +85,7 @@ module _ {D : Type 0} (d : Ghosts D) (b : Base) (base : ℕ) (all : History) whe
   left_opening old mid only_now told log pages other may stops reads = by may.has.log
     where
       -- while the log is made, which was not
-      newest_by : IsUnmade (d.seen old Log) → (c : Files) → IsLogOf base all (c Log) → c Log2 ≡ d.seen old Log2 → IsNewest c
+      newest_by : IsUnmade (d.seen old Log) → (c : Files) → IsLogOf base all (c Log) → c Log2 ≡ d.seen old Log2 → IsNewest b c
       newest_by was c (inl none) same = inr (none.0, subst IsUnmade (sym same) (newest_unmade (d.seen old) was may.has.newest))
       newest_by was c (inr has) same = inl (newest_made (d.seen old) c (λ _. same) has.made (λ made. absurd (made was)) may.has.newest)
 
@@ -116,7 +116,7 @@ module _ {D : Type 0} (d : Ghosts D) (b : Base) (base : ℕ) (all : History) whe
     bare = λ unmade. absurd (not_both (d.seen mid Log) log.made unmade);
     covers = subst (λ (bytes : List ℕ). Covers b all (file_page bytes)) (sym (changes.seen Pages (λ e. cc e))) has.covers;
     newest = inl (newest_made (d.seen old) (d.seen mid) (λ _. changes.seen Log2 (λ e. cc e)) log.made
-        (λ made. subst IsNewest (sym (reads log.tells (λ fresh. made fresh.0)).seen) has.newest) has.newest);
+        (λ made. subst (IsNewest b) (sym (reads log.tells (λ fresh. made fresh.0)).seen) has.newest) has.newest);
   }
 
   pub may_behind : (old mid : D) (file : LogFile) → MayRestart b base all (d.seen old) → ChangesOnly d Log old mid → (d.tells → ¬ (IsFresh (d.seen old)) → Reads d old mid) → IsLog d base all all file mid → MayRestart b base all (d.seen mid)
@@ -188,7 +188,7 @@ module _ {D : Type 0} (d : Ghosts D) (b : Base) (base : ℕ) (all : History) whe
   -- ---- the writer
 
   -- that expects what the file was synced with
-  pub writer_starts : (file : LogFile) (w x : PageWriter) (synced : Synced) (frames : ℕ) (disk : D) → b.start ≤ base → Rises b all → Covers b all (file_page (d.seen disk Pages)) → Only Pages (d.seen disk) (d.may_leave disk) → Only Log2 (d.seen disk) (d.may_leave disk) → IsNewest (d.seen disk) → IsOpen d file disk → IsLog d base all all file disk
+  pub writer_starts : (file : LogFile) (w x : PageWriter) (synced : Synced) (frames : ℕ) (disk : D) → b.start ≤ base → Rises b all → Covers b all (file_page (d.seen disk Pages)) → Only Pages (d.seen disk) (d.may_leave disk) → Only Log2 (d.seen disk) (d.may_leave disk) → IsNewest b (d.seen disk) → IsOpen d file disk → IsLog d base all all file disk
       → x ≡ record w { known = record w.known { synced = synced } } → w.log ≡ file → w.pool ≡ record { held = []; frames = frames; gets = 0 } → w.table ≡ [] → w.failed ≡ false → w.known.from ≡ None → AreSyncedWith all (redo_point all) synced
       → StandsAs d b base (opened b all (file_page (d.seen disk Pages))) x disk
   writer_starts file w x synced frames disk start up covers pages other newest is_open log is same pool table working unknown expected =

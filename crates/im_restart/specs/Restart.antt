@@ -68,7 +68,7 @@ pub record HasStore (b : Base) (base : ℕ) (all : History) (files : Files) : Ty
   pub log : IsLogOf base all (files Log)
   pub bare : IsUnmade (files Log) → length (files Pages) ≡ 0
   pub covers : Covers b all (file_page (files Pages))
-  pub newest : IsNewest files
+  pub newest : IsNewest b files
 
 -- The pages that the records name are below a page count that an image of page 0 in the log says, or page 0 of the file: a log that goes on does not say how many pages it found.
 abbrev pub NamesWithin : History → Files → Type 0

@@ -58,7 +58,9 @@ pub struct ByThreads<'a, R> {
 
 impl<'a, R> ByThreads<'a, R> {
     /// The runtime that starts the threads.
-    pub fn new(rt: &'a R) -> ByThreads<'a, R> {
+    pub fn new(rt: &'a R) -> ByThreads<'a, R>
+        ensures { result.rt.now ≡ rt.now }
+    {
         ByThreads { rt }
     }
 }

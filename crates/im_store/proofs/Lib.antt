@@ -1,3 +1,4 @@
+mod Copies
 pub mod Ended
 pub mod Kept
 pub mod Opened

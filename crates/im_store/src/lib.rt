@@ -10,11 +10,15 @@
 //! The contract: a step is a step of the engine and then upkeep, whose steps are of no transaction (`IsStepKept`); what is due after it was made by the rule
 //! of `im_engine_upkeep`, with the bounds of the opening, or was refused. So what `im_engine` promises holds through it. Bounds never change.
 //!
+//! Over a disk that copies itself a copy of the store is made while it is in use: `begin_copy`, `copy_piece` between any steps, `end_copy`. They are the engine's, and the
+//! upkeep is as it was.
+//!
 //! Threads share the engine alone, by a front: `into_engine` hands it out, and `OpenStore::over` takes it back.
 //!
-//! It stands on `im_engine` and `im_engine_upkeep`.
+//! It stands on `im_engine` and `im_engine_upkeep`, and for copies on `im_base_mirror_disk`.
 #![tactic(auto)]
 
+mod copying;
 mod open_store;
 mod unkept;
 

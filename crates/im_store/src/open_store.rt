@@ -20,7 +20,7 @@ use std::thread::Threads;
 /// A store that is open: its engine, and the upkeep that its next opening wants.
 #[derive(Drop)]
 pub struct OpenStore<D: Disk> {
-    engine: Engine<D>,
+    pub(crate) engine: Engine<D>,
     upkeep: Upkeep,
     // What of that was refused after the last step.
     unkept: Option<Unkept>,

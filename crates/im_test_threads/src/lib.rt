@@ -1,4 +1,4 @@
-//! Tests of threads that share a store through a front: the engine over a disk that stops within one of its calls, and a store in memory.
+//! Tests of threads that share a store through a front: the engine over a disk in memory, and over one that stops within one of its calls.
 #![tactic(auto)]
 
 #[cfg(test)]
@@ -7,5 +7,7 @@ mod memory;
 mod open_fronts;
 #[cfg(test)]
 mod stops;
+#[cfg(test)]
+mod stores;
 #[cfg(test)]
 mod threads;

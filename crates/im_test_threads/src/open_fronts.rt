@@ -2,10 +2,10 @@
 //! prove nothing.
 
 use crate::memory::mapped;
+use crate::stores::fresh;
 use im_base_steps::{Reply, Step};
 use im_base_types::Fault;
-use im_front::{Open, Rested, Share, Shared, Work, serve};
-use im_front_memory::MemoryStore;
+use im_front::{Open, Rested, Share, Shared, Stats, Work, serve};
 use im_theory_store::Store;
 use std::alloc::Global;
 use std::sync::Wait;
@@ -63,26 +63,59 @@ fn inserts<E: Store, R: Wait>(
     Ok(committed)
 }
 
+// What came of it: how many each thread committed, and what the front counted.
+#[derive(Clone, Copy)]
+struct Came {
+    one: u64,
+    two: u64,
+    stats: Stats,
+}
+
+// Both threads at work.
+fn both<E: Store + Send, R: Threads + Wait + Sync>(
+    rt: &R,
+    alloc: Global,
+    front: &Open<E>,
+) -> Result<Came, Fault> {
+    let mut reader = front.share(rt)?;
+    if !set_apart(rt, alloc, front)? {
+        return Err(Fault::Failed);
+    }
+    let (one, two) = join(
+        rt,
+        || inserts(rt, alloc, front, 1),
+        || inserts(rt, alloc, front, 2),
+    );
+    Ok(Came {
+        one: one?,
+        two: two?,
+        stats: front.stats(&mut reader),
+    })
+}
+
+// The same over a store at rest, and how many steps the front made.
+fn both_over<E: Store + Send, R: Threads + Wait + Sync>(
+    rt: &R,
+    alloc: Global,
+    at_rest: Rested<E>,
+) -> Result<(Came, u64), Fault> {
+    let front = match Open::new(alloc, at_rest) {
+        Ok(front) => front,
+        Err((fault, _at_rest)) => return Err(fault),
+    };
+    let came = both(rt, alloc, &front);
+    let left = front.close();
+    Ok((came?, left.made))
+}
+
 #[test]
 fn two_threads_share_an_open_front(rt: HostRuntime) -> Result<(), Fail> {
-    let at_rest = Rested::new(MemoryStore::new(rt.alloc()));
-    let front = match Open::new(rt.alloc(), at_rest) {
-        Ok(front) => front,
-        Err((fault, _at_rest)) => return Err(Fail::from(fault)),
-    };
-    let mut reader = front.share(&rt)?;
-    assert!(rt; set_apart(&rt, rt.alloc(), &front)?);
-    let (one, two) = join(
-        &rt,
-        || inserts(&rt, rt.alloc(), &front, 1),
-        || inserts(&rt, rt.alloc(), &front, 2),
-    );
-    assert!(rt; one? == 200);
-    assert!(rt; two? == 200);
-    let stats = front.stats(&mut reader);
-    let left = front.close();
-    assert!(rt; stats.committed == 401);
-    assert!(rt; left.made == 1_204);
+    let at_rest = Rested::new(fresh(&rt, rt.alloc())?);
+    let (came, made) = both_over(&rt, rt.alloc(), at_rest)?;
+    assert!(rt; came.one == 200);
+    assert!(rt; came.two == 200);
+    assert!(rt; came.stats.committed == 401);
+    assert!(rt; made == 1_204);
     Ok(())
 }
 
@@ -100,14 +133,14 @@ struct Seen {
     after: u64,
 }
 
-impl<'a> Work<MemoryStore> for LookUps<'a> {
+impl<'a, E: Store> Work<E> for LookUps<'a> {
     type Out = Result<Seen, Fault>;
 
     fn run<L: Ledger + Send + Sync, R: Threads + Wait + Sync>(
         self,
         rt: &R,
         alloc: Global,
-        front: &Shared<MemoryStore, L>,
+        front: &Shared<E, L>,
     ) -> (Result<Seen, Fault>, Vec<Share<L>>) {
         let mut shares = Vec::new(alloc);
         let mut mine = match front.share(rt) {
@@ -123,11 +156,11 @@ impl<'a> Work<MemoryStore> for LookUps<'a> {
 }
 
 // The look-ups, between two looks at the memory of the process.
-fn watched<L: Ledger, R: Wait>(
+fn watched<E: Store, L: Ledger, R: Wait>(
     host: &HostRuntime,
     rt: &R,
     alloc: Global,
-    front: &Shared<MemoryStore, L>,
+    front: &Shared<E, L>,
     mine: &mut Share<L>,
 ) -> Result<Seen, Fault> {
     let before = mapped(host)?;
@@ -140,10 +173,10 @@ fn watched<L: Ledger, R: Wait>(
     })
 }
 
-fn look_ups<L: Ledger, R: Wait>(
+fn look_ups<E: Store, L: Ledger, R: Wait>(
     rt: &R,
     alloc: Global,
-    front: &Shared<MemoryStore, L>,
+    front: &Shared<E, L>,
     mine: &mut Share<L>,
 ) -> Result<u64, Fault> {
     let Reply::Started(t) = front.call(rt, mine, Step::Begin) else {
@@ -161,11 +194,21 @@ fn look_ups<L: Ledger, R: Wait>(
     Ok(found)
 }
 
+// The same over a store at rest: what was seen, and how many steps the front made, and its shares.
+fn looked_up<E: Store, R: Threads + Wait + Sync>(
+    host: &HostRuntime,
+    rt: &R,
+    alloc: Global,
+    at_rest: Rested<E>,
+) -> Result<(Seen, u64, Option<u64>), Fault> {
+    let (seen, ended) = serve(rt, alloc, at_rest, LookUps { host })?;
+    Ok((seen?, ended.made, ended.sum))
+}
+
 #[test]
 fn a_kept_trace_is_never_full_and_takes_no_memory(rt: HostRuntime) -> Result<(), Fail> {
-    let at_rest = Rested::new(MemoryStore::new(rt.alloc()));
-    let (seen, ended) = serve(&rt, rt.alloc(), at_rest, LookUps { host: &rt })?;
-    let seen = seen?;
+    let at_rest = Rested::new(fresh(&rt, rt.alloc())?);
+    let (seen, made, sum) = looked_up(&rt, &rt, rt.alloc(), at_rest)?;
     assert!(rt; seen.found == LOOK_UPS);
     assert!(rt;
         seen.after <= seen.before.saturating_add(MORE),
@@ -173,7 +216,7 @@ fn a_kept_trace_is_never_full_and_takes_no_memory(rt: HostRuntime) -> Result<(),
         seen.before,
         seen.after
     );
-    assert!(rt; ended.made == LOOK_UPS + 3);
-    assert!(rt; ended.sum == Some(LOOK_UPS + 3));
+    assert!(rt; made == LOOK_UPS + 3);
+    assert!(rt; sum == Some(LOOK_UPS + 3));
     Ok(())
 }

@@ -1,16 +1,17 @@
 //! Threads that share one store on a model disk which stops within one of its calls: what the trace acknowledged is there afterwards.
 
-ghost use Rattle.std.specs.Prelude.{◌≡◌, false, IfOk};
+ghost use Rattle.std.specs.Prelude.{◌≡◌, false};
 ghost use Rattle.im_base_disk.specs.Runs.{IsSynced};
 ghost use Rattle.im_front.specs.Held.{IsResting};
 
+use crate::stores::{Memory, front_over, new_store};
 use crate::threads::both_shares;
 use im_base_disk::Disk;
 use im_base_model_disk::{Fill, Length, ModelDisk, Stop};
 use im_base_steps::{Reply, Step};
 use im_base_two_logs::Renamed;
 use im_base_types::{Fault, Key, Rid, TxnId};
-use im_engine::{Config, Engine, every_list_of_lives, look};
+use im_engine::{Config, look};
 use im_front::{Closed, Front, Recorded, Share, Told};
 use im_theory_store::Store;
 use std::alloc::Global;
@@ -56,23 +57,6 @@ fn stop_at(alloc: Global, call: u64) -> Result<Stop, Fault> {
             Fill::Written
         },
     })
-}
-
-// A new store at rest, on a disk that will stop.
-fn new_store<R: Threads + Sync>(
-    rt: &R,
-    alloc: Global,
-    stop: Stop,
-) -> Result<Engine<Renamed<ModelDisk>>, Fault>
-    ensures resting { IfOk result (λ e. IsResting ⟦<Engine<Renamed<ModelDisk>> as Store>⟧ e) }
-{
-    every_list_of_lives();
-    let mut disk = ModelDisk::new(Vec::new(alloc), Vec::new(alloc));
-    disk.arm(stop);
-    match Engine::open_or_create(rt, alloc, Renamed::new(disk, false), Config::default()) {
-        Ok(engine) => Ok(engine),
-        Err(_) => Err(Fault::Device),
-    }
 }
 
 // The key of a thread's transaction. The keys of both threads stand in turn.
@@ -152,10 +136,7 @@ fn both<E: Store + Send, L: Ledger + Send + Sync, R: Threads + Wait + Sync>(
     requires resting { IsResting E.Store engine }
     requires blank { (blank.name ≡ L.name) × (blank.parts ≡ L.parts) × (blank.parts ≡ 1024) }
 {
-    let front = match Front::<E, L>::new(alloc, engine, blank) {
-        Ok(front) => front,
-        Err(refused) => return Err(refused.0),
-    };
+    let front = front_over::<E, L>(alloc, engine, blank)?;
     let shares = work_at_once(rt, alloc, &front)?;
     Ok(front.close(shares))
 }
@@ -180,7 +161,7 @@ fn work_at_once<E: Store + Send, L: Ledger + Send + Sync, R: Threads + Wait + Sy
 fn reopened<R: Threads + Sync>(
     rt: &R,
     alloc: Global,
-    closed: Closed<Engine<Renamed<ModelDisk>>>,
+    closed: Closed<Memory>,
 ) -> Result<Left, Fault> {
     let Closed { engine, trace, .. } = closed;
     let (stopped, entries) = left_on(rt, alloc, engine.into_disk().into_disk());
@@ -238,7 +219,7 @@ fn stopped_at<L: Ledger + Send + Sync, R: Threads + Wait + Sync>(
     requires blank { (blank.name ≡ L.name) × (blank.parts ≡ L.parts) × (blank.parts ≡ 1024) }
 {
     let engine = new_store(rt, alloc, stop_at(alloc, call)?)?;
-    let closed = both::<Engine<Renamed<ModelDisk>>, L, R>(rt, alloc, engine, blank)?;
+    let closed = both::<Memory, L, R>(rt, alloc, engine, blank)?;
     reopened(rt, alloc, closed)
 }
 

@@ -1,12 +1,13 @@
 //! Threads that meet, and what one caller reads back.
 
 ghost use Rattle.std.specs.Prelude.{◌≡◌};
+ghost use Rattle.im_front.specs.Held.{IsResting};
 
+use crate::stores::{Memory, fresh, front_over};
 use im_base_steps::{Reply, Step};
 use im_base_types::{Fault, WorkerStart};
 use im_front::{Closed, Front, LoadArgs, Share, Stats};
 use im_front_load::load_text;
-use im_front_memory::MemoryStore;
 use im_theory_store::Store;
 use std::alloc::Global;
 use std::marker::Brand;
@@ -46,21 +47,15 @@ fn load_two_at_once(rt: HostRuntime) -> Result<(), Fail> {
     };
     let mut text = Vec::new(rt.alloc());
     let args = LoadArgs::new(2, 3, 0).expect(&rt, "in their ranges");
-    let status = load_text(
-        &rt,
-        rt.alloc(),
-        MemoryStore::new(rt.alloc()),
-        args,
-        &meet,
-        &mut text,
-    )?;
+    let store = fresh(&rt, rt.alloc())?;
+    let status = load_text(&rt, rt.alloc(), store, args, &meet, &mut text)?;
     assert_eq!(rt; status, 0);
     assert!(rt; meet.met[0].load(Ordering::SeqCst) && meet.met[1].load(Ordering::SeqCst));
     assert!(rt; text.as_slice().ends_with(b"\ntrace 18\n"));
     Ok(())
 }
 
-// What one caller sees of a store in memory within its steps.
+// What one caller sees of a store within its steps.
 #[derive(Clone, Copy)]
 struct Within {
     found: bool,
@@ -69,7 +64,7 @@ struct Within {
     cut: bool,
 }
 
-// What one caller sees of a store in memory.
+// What one caller sees of a store.
 #[derive(Clone, Copy)]
 struct Seen {
     within: Within,
@@ -116,10 +111,10 @@ pub fn both_shares<L: Ledger>(
 }
 
 // One transaction inserts a key and the next one looks for it.
-fn insert_and_look<L: Ledger, R: Wait>(
+fn insert_and_look<E: Store, L: Ledger, R: Wait>(
     rt: &R,
     alloc: Global,
-    front: &Front<MemoryStore, L>,
+    front: &Front<E, L>,
     mine: &mut Share<L>,
 ) -> Result<Within, Fault> {
     make(rt, front, mine, Step::Begin);
@@ -141,10 +136,10 @@ fn insert_and_look<L: Ledger, R: Wait>(
 }
 
 // The same by a share of its own. A second share makes no step.
-fn look_by_share<L: Ledger, R: Wait>(
+fn look_by_share<E: Store, L: Ledger, R: Wait>(
     rt: &R,
     alloc: Global,
-    front: &Front<MemoryStore, L>,
+    front: &Front<E, L>,
 ) -> Result<(Within, Vec<Share<L>>), Fault> {
     let mut mine = front.share(rt)?;
     let other = front.share(rt)?;
@@ -154,18 +149,17 @@ fn look_by_share<L: Ledger, R: Wait>(
 }
 
 // The same on a new store. The second share does not come back where it is not asked for.
-fn one_caller<L: Ledger, R: Wait>(
+fn one_caller<E: Store, L: Ledger, R: Wait>(
     rt: &R,
     alloc: Global,
+    store: E,
     blank: Blank,
     both: bool,
 ) -> Result<Seen, Fault>
+    requires resting { IsResting E.Store store }
     requires blank { (blank.name ≡ L.name) × (blank.parts ≡ L.parts) × (blank.parts ≡ 1024) }
 {
-    let front = match Front::<MemoryStore, L>::new(alloc, MemoryStore::new(alloc), blank) {
-        Ok(front) => front,
-        Err(refused) => return Err(refused.0),
-    };
+    let front = front_over::<E, L>(alloc, store, blank)?;
     let (within, mut shares) = look_by_share(rt, alloc, &front)?;
     let _away = if both { None } else { shares.pop() };
     let Closed {
@@ -193,7 +187,14 @@ fn key(alloc: Global) -> Result<Vec<u8>, Fault> {
 
 #[test]
 fn read_back(rt: HostRuntime) -> Result<(), Fail> {
-    let seen = one_caller::<Brand, HostRuntime>(&rt, rt.alloc(), Blank::new(1024), true)?;
+    let store = fresh(&rt, rt.alloc())?;
+    let seen = one_caller::<Memory, Brand, HostRuntime>(
+        &rt,
+        rt.alloc(),
+        store,
+        Blank::new(1024),
+        true,
+    )?;
     let within = seen.within;
     assert!(rt; within.found && within.busy && within.cut);
     assert_eq!(rt;
@@ -210,31 +211,37 @@ fn read_back(rt: HostRuntime) -> Result<(), Fail> {
 
 #[test]
 fn a_share_that_stays_away_leaves_no_sum(rt: HostRuntime) -> Result<(), Fail> {
-    let seen = one_caller::<Brand, HostRuntime>(&rt, rt.alloc(), Blank::new(1024), false)?;
+    let store = fresh(&rt, rt.alloc())?;
+    let seen = one_caller::<Memory, Brand, HostRuntime>(
+        &rt,
+        rt.alloc(),
+        store,
+        Blank::new(1024),
+        false,
+    )?;
     assert_eq!(rt; seen.sum, None);
     Ok(())
 }
 
 // An older transaction fetches the key that a younger one has inserted, while that one commits. Whether the first has found the key.
-fn found_behind_another<L: Ledger + Send + Sync, R: Threads + Wait + Sync>(
+fn found_behind_another<E: Store + Send, L: Ledger + Send + Sync, R: Threads + Wait + Sync>(
     rt: &R,
     alloc: Global,
+    store: E,
     blank: Blank,
 ) -> Result<bool, Fault>
+    requires resting { IsResting E.Store store }
     requires blank { (blank.name ≡ L.name) × (blank.parts ≡ L.parts) × (blank.parts ≡ 1024) }
 {
-    let front = match Front::<MemoryStore, L>::new(alloc, MemoryStore::new(alloc), blank) {
-        Ok(front) => front,
-        Err(refused) => return Err(refused.0),
-    };
+    let front = front_over::<E, L>(alloc, store, blank)?;
     older_finds(rt, alloc, &front)
 }
 
 // The same on a front.
-fn older_finds<L: Ledger + Send + Sync, R: Threads + Wait + Sync>(
+fn older_finds<E: Store + Send, L: Ledger + Send + Sync, R: Threads + Wait + Sync>(
     rt: &R,
     alloc: Global,
-    front: &Front<MemoryStore, L>,
+    front: &Front<E, L>,
 ) -> Result<bool, Fault> {
     let mut older = front.share(rt)?;
     let mut younger = front.share(rt)?;
@@ -248,10 +255,10 @@ fn older_finds<L: Ledger + Send + Sync, R: Threads + Wait + Sync>(
 }
 
 // Both begin, and the younger one inserts the key that is answered.
-fn begin_both<L: Ledger, R: Wait>(
+fn begin_both<E: Store, L: Ledger, R: Wait>(
     rt: &R,
     alloc: Global,
-    front: &Front<MemoryStore, L>,
+    front: &Front<E, L>,
     older: &mut Share<L>,
     younger: &mut Share<L>,
 ) -> Result<Vec<u8>, Fault> {
@@ -282,7 +289,13 @@ fn is_committed<E: Store, L: Ledger, R: Wait>(rt: &R, front: &Front<E, L>, mine:
 
 #[test]
 fn a_blocked_call_goes_on(rt: HostRuntime) -> Result<(), Fail> {
-    let found = found_behind_another::<Brand, HostRuntime>(&rt, rt.alloc(), Blank::new(1024))?;
+    let store = fresh(&rt, rt.alloc())?;
+    let found = found_behind_another::<Memory, Brand, HostRuntime>(
+        &rt,
+        rt.alloc(),
+        store,
+        Blank::new(1024),
+    )?;
     assert!(rt; found);
     Ok(())
 }

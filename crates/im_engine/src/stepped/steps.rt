@@ -1,4 +1,4 @@
-//! A step of a store that makes its structure changes page by page.
+//! What a Continue of a store makes that makes its structure changes page by page.
 
 ghost use Rattle.std.specs.Prelude.{◌≡◌, None, false, true};
 ghost use Rattle.im_engine.specs.NextParts.{IsNextPart};
@@ -6,8 +6,7 @@ ghost use Rattle.im_engine.specs.NextParts.{IsNextPart};
 use crate::engine::Engine;
 use crate::stepped::{Aim, Part, Under};
 use im_base_disk::Disk;
-use im_base_steps::{Reply, Step};
-use im_base_two_logs::TwoLogs;
+use im_base_steps::Reply;
 use im_base_types::TxnId;
 
 // What a Continue of a transaction makes next.
@@ -52,40 +51,6 @@ impl<D: Disk> Engine<D> {
             Part::Delete => self.end_delete(t),
             Part::Split => self.end_split(t),
             Part::Drop => self.end_drop(t),
-        }
-    }
-}
-
-impl<D: TwoLogs> Engine<D> {
-    ghost use Rattle.im_base_steps.specs.Calls.{asked_by};
-    ghost use Rattle.im_theory_machine.specs.View.{owns_in};
-    ghost use Rattle.im_theory_steps.specs.Checks.{checked_by};
-    ghost use Rattle.im_engine.specs.Aims.{under_of};
-    ghost use Rattle.im_engine.specs.Told.{IsMade};
-
-    // Makes a step behind its checks.
-    pub(crate) fn step_stepped(&mut self, step: &Step) -> Reply
-        requires works { self.old.failed ≡ false }
-        requires stepped { self.old.stepped ≡ true }
-        requires checked { checked_by self.old.txns.rows (owns_in (under_of self.old.under) (asked_by step.now)) (asked_by step.now) ≡ None }
-        ensures { IsMade D.Disk (asked_by step.now) result self.old self.new }
-    {
-        match step {
-            Step::Begin => self.begin(),
-            Step::Fetch(t, key) => self.fetch_stepped(*t, key),
-            Step::Seek(t, key) => self.seek_stepped(*t, key, true),
-            Step::Next(t, key) => self.seek_stepped(*t, key, false),
-            Step::Prev(t, key) => self.prev_stepped(*t, key),
-            Step::Scan(t, lo, hi, limit) => self.scan_stepped(*t, lo, hi, *limit),
-            Step::Commit(t) => self.commit(*t),
-            Step::Rollback(t) => self.roll_back(*t),
-            Step::Continue(t) => self.go_on_stepped(*t),
-            Step::Force => self.force(),
-            Step::FlushPage(page) => self.flush_page(*page),
-            Step::Checkpoint => self.checkpoint(),
-            Step::Switch => self.switch(),
-            Step::Insert(t, key, rid) => self.insert_stepped(*t, key, *rid),
-            Step::Delete(t, key) => self.delete_stepped(*t, key),
         }
     }
 }

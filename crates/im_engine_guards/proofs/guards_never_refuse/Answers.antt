@@ -1,4 +1,5 @@
-use Rattle.im_engine_guards.proofs.Sound.{never_older_pages, sound}
+use Rattle.im_engine_guards.proofs.Sound.{sound}
+use Rattle.im_engine_guards.proofs.Walks.{never_older_pages}
 use Rattle.im_engine_guards.proofs.guards_never_refuse.Goals as goal
 
 pub returns-clause-refused : goal.returns-clause-refused

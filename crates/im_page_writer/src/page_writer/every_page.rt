@@ -29,7 +29,7 @@ impl PageWriter {
         self.rows[at].page
     }
 
-    // Writes the pages of the rows that a Checkpoint would have, in rising number, each as `flush_one` does.
+    // Writes the pages of the rows that a Checkpoint would have, in rising number, each as `flush_in_company` does.
     fn flush_rows<D: Disk>(&mut self, disk: &mut D) -> Result<(), Fault>
         requires ready { IsReadyWriter D.Disk self.old disk.old }
         requires working { self.old.failed ≡ false }
@@ -39,12 +39,12 @@ impl PageWriter {
     {
         for i in 0..self.row_count() {
             let number = self.row_page(i);
-            self.flush_one(disk, number)?;
+            self.flush_in_company(disk, number)?;
         }
         Ok(())
     }
 
-    // Writes every page that was changed, in rising number, each as `flush_one` does.
+    // Writes every page that was changed, in rising number, each as `flush_in_company` does.
     pub(super) fn flush_every<D: Disk>(&mut self, disk: &mut D) -> Result<(), Fault>
         requires ready { IsReadyWriter D.Disk self.old disk.old }
         requires working { self.old.failed ≡ false }

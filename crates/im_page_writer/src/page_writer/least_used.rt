@@ -19,7 +19,10 @@ const MOST_AT_ONCE: usize = 64;
 pub(super) const HALF: usize = MOST_DIRTY / 2;
 
 impl PageWriter {
-    ghost use Rattle.im_page_pool.specs.Pool.{IsAt};
+    ghost use Rattle.im_base_disk.specs.Runs.{Reads};
+    ghost use Rattle.im_page_file.specs.Takes.{TakesImage};
+    ghost use Rattle.im_page_pool.specs.Pool.{is_changed, IsAt};
+    ghost use Rattle.im_page_writer.specs.Rooms.{KeepsRoom};
     ghost use Rattle.im_page_writer.specs.Outcome.{fault_of, Flushes};
     ghost use Rattle.im_page_writer.specs.PageWriter.{IsReadyWriter, StandsAs, FlushedOne};
     ghost use Rattle.im_page_writer.specs.Writing.{SameHeld};
@@ -94,48 +97,18 @@ impl PageWriter {
     }
 
     // Whether something waits in the log's buffer, and another batch finds room there: never where the buffer holds one.
-    fn takes_more(&self) -> bool {
+    pub(super) fn takes_more(&self) -> bool {
         self.log.waiting() > 0 && self.log.takes(LONGEST_BATCH)
     }
 
     // Whether the flush of a page forces the log.
-    fn wants_force(&self, number: PageNo) -> bool {
+    pub(super) fn wants_force(&self, number: PageNo) -> bool
+        ensures { is_changed self.now.pool number ≡ false → result ≡ false }
+    {
         match self.pool.find(number) {
             None => false,
             Some(frame) => self.pool.is_changed(frame) && !self.is_unforced(frame),
         }
-    }
-
-    /// Flushes a page, as `flush_one` does. Where that forces the log, whose buffer holds several batches, other changed pages go with it:
-    /// the first 64 of those that were used least recently, as `flush_with_others` takes them.
-    ///
-    /// Refused `LogFull`, where an Image would end above LSN 2^62, `Device`, or `Failed` after a call that failed.
-    pub fn flush_in_company<D: Disk>(&mut self, disk: &mut D, number: PageNo) -> Result<(), Fault>
-        requires ready { IsReadyWriter D.Disk self.old disk.old }
-        ensures outcome { Flushes D.Disk self.old disk.old self.new disk.new (fault_of result) }
-        ensures kept { (b : Base) (base : ℕ) (s : Writer) → StandsAs D.Disk b base s self.old disk.old → OnOk result (FlushedOne D.Disk b base s number disk.old self.new disk.new) }
-        ensures held { OnOk result (SameHeld self.old.pool self.new.pool) }
-    {
-        if self.failed {
-            return Err(Fault::Failed);
-        }
-        self.note_with_room(disk, number)?;
-        self.flush_more(disk, number)?;
-        self.flush_one(disk, number)
-    }
-
-    // Flushes other changed pages, where the flush of this one forces the log, whose buffer takes another batch.
-    fn flush_more<D: Disk>(&mut self, disk: &mut D, number: PageNo) -> Result<(), Fault>
-        requires ready { IsReadyWriter D.Disk self.old disk.old }
-        requires working { self.old.failed ≡ false }
-        ensures outcome { Flushes D.Disk self.old disk.old self.new disk.new (fault_of result) }
-        ensures held { OnOk result (SameHeld self.old.pool self.new.pool) }
-    {
-        if !self.takes_more() || !self.wants_force(number) {
-            return Ok(());
-        }
-        let among = self.pool.frames();
-        self.flush_company(disk, among)
     }
 
     // Flushes the least recently used page that was changed, if there is one, with others that go next.
@@ -181,11 +154,18 @@ impl PageWriter {
     }
 
     // The same of one page, of which none may be known.
-    fn note_with_room<D: Disk>(&mut self, disk: &mut D, number: PageNo) -> Result<(), Fault>
+    pub(super) fn note_with_room<D: Disk>(
+        &mut self,
+        disk: &mut D,
+        number: PageNo,
+    ) -> Result<(), Fault>
         requires ready { IsReadyWriter D.Disk self.old disk.old }
         requires working { self.old.failed ≡ false }
         ensures outcome { Flushes D.Disk self.old disk.old self.new disk.new (fault_of result) }
         ensures pool { self.new.pool ≡ self.old.pool }
+        ensures reads { Reads D.Disk disk.old disk.new }
+        ensures room { KeepsRoom self.old.table self.new.table }
+        ensures rows { self.new.rows ≡ self.old.rows }
     {
         if !self.log.takes(IMAGE_SIZE) {
             return Ok(());
@@ -202,6 +182,9 @@ impl PageWriter {
         requires working { self.old.failed ≡ false }
         ensures outcome { Flushes D.Disk self.old disk.old self.new disk.new (fault_of result) }
         ensures pool { self.new.pool ≡ self.old.pool }
+        ensures reads { TakesImage self.old.log → Reads D.Disk disk.old disk.new }
+        ensures room { KeepsRoom self.old.table self.new.table }
+        ensures rows { self.new.rows ≡ self.old.rows }
     {
         self.failed = true;
         note_in_file(

@@ -5,6 +5,7 @@ ghost use Rattle.im_base_types.specs.declared.fault.Fault.{Fault};
 ghost use Rattle.im_base_types.specs.declared.fault.Fault.TheVariants.{Capacity, Device, Failed, LogFull};
 ghost use Rattle.im_base_types.specs.declared.file_id.FileId.TheVariants.{Pages};
 ghost use Rattle.im_theory_log.specs.Histories.{Base};
+ghost use Rattle.im_theory_left.specs.Left.{AreReadable};
 ghost use Rattle.im_theory_log.specs.Writer.{Writer};
 ghost use Rattle.im_base_disk.specs.Disk.{Only};
 ghost use Rattle.im_base_disk.specs.Runs.{CostsAtMost};
@@ -27,7 +28,7 @@ impl PageWriter {
         requires working { self.old.failed ≡ false }
         requires empty { self.old.log.used ≡ 0 }
         ensures ready { IsReadyWriter D.Disk self.new disk.new }
-        ensures kept { (b : Base) (base : ℕ) (s : Writer) (e : ℕ) → StandsAs D.Disk b base s self.old disk.old → s.redo_end ≡ Some e → s.durable ≡ s.log → ((p : ℕ) → (s.pages p).entry ≡ None)
+        ensures kept { (b : Base) (base : ℕ) (s : Writer) (e : ℕ) → StandsAs D.Disk b base s self.old disk.old → s.redo_end ≡ Some e → s.durable ≡ s.log → ((p : ℕ) → (s.pages p).entry ≡ None) → AreReadable s.log
             → Only Pages (D.seen disk.old) (D.may_leave disk.old) → SwitchKept D.Disk b base s next disk.old self.new disk.new result }
         ensures causes { IfErr result (RefusesSwitch D.Disk self.old.failed self.new.log disk.new) }
         ensures full { result ≡ Err LogFull → HasNoRoom self.new.log }
@@ -45,7 +46,7 @@ impl PageWriter {
         Ok(())
     }
 
-    /// The log goes on in the other log file, with no record: every changed page is written, in rising number, each as `flush_one` does; the log is forced; the file of
+    /// The log goes on in the other log file, with no record: every changed page is written, in rising number, each as `flush_in_company` does; the log is forced; the file of
     /// pages is synced; and the other file is made a log of the next generation, whose first byte has the LSN at which this log ends, and whose transactions have the
     /// number `next` or a greater one. So the pages as they are then are what the next log is over: nobody may be unfinished. No memory is taken. Where the dirty table is
     /// empty it makes eleven device calls at most: four of a force, one sync, and six by which the other file is made a log.
@@ -56,7 +57,7 @@ impl PageWriter {
         requires numbered { 1 ≤ next }
         requires ready { IsReadyWriter D.Disk self.old disk.old }
         ensures ready { IsReadyWriter D.Disk self.new disk.new }
-        ensures kept { (b : Base) (base : ℕ) (s : Writer) (e : ℕ) → StandsAs D.Disk b base s self.old disk.old → s.redo_end ≡ Some e → SwitchKept D.Disk b base s next disk.old self.new disk.new result }
+        ensures kept { (b : Base) (base : ℕ) (s : Writer) (e : ℕ) → StandsAs D.Disk b base s self.old disk.old → s.redo_end ≡ Some e → AreReadable s.log → SwitchKept D.Disk b base s next disk.old self.new disk.new result }
         ensures early { (e : Fault) → self.old.failed ≡ false → MayNotSwitch self.old.log e → (result ≡ Err e) × (self.new ≡ self.old) × (disk.new ≡ disk.old) }
         ensures causes { IfErr result (RefusesSwitch D.Disk self.old.failed self.new.log disk.new) }
         ensures full { result ≡ Err LogFull → HasNoRoom self.new.log }

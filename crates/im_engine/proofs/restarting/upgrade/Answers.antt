@@ -1,4 +1,6 @@
 use Rattle.std.proofs.Common.{refl}
+use Rattle.im_theory_left.proofs.Left.{lawful_readable}
+use Rattle.im_theory_tree.specs.Theory.{page_tree}
 use Rattle.im_engine.proofs.Upgrading.{stays_kept, stays_opens, switch_kept, switch_opens}
 use Rattle.im_engine.proofs.restarting.upgrade.Goals as goal
 
@@ -20,5 +22,5 @@ pub returns-clause-kept : goal.returns-clause-kept
 returns-clause-kept g c before rest =
     let e = c.switch.ensures in
     let first = c.is_first_format.ensures.0 (cc c.if-not-is_first_format.false) in
-    switch_kept g.D.Disk before c.args.next c.args.writer.now c.args.disk.now rest c.switch.new.self c.switch.new.disk c.args.writer.now.failed c.switch.result (e.kept rest.b rest.base rest.now rest.redo_end rest.stands rest.over) e.causes
+    switch_kept g.D.Disk before c.args.next c.args.writer.now c.args.disk.now rest c.switch.new.self c.switch.new.disk c.args.writer.now.failed c.switch.result (e.kept rest.b rest.base rest.now rest.redo_end rest.stands rest.over (lawful_readable rest.b page_tree rest.now.log rest.lawful)) e.causes
     (λ is. (e.last is).1) first

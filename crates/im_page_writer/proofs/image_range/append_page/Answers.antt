@@ -33,3 +33,9 @@ returns-in-None-clause-kept g c b base s table w may =
           (λ lsn done. copy_done g.D.Disk b base s c.args.log.now table c.args.pool.now c.args.disk.now w p may lsn c.append_image-in-None.new.log c.append_image-in-None.new.disk k.stops done);
       stops = k.stops;
     }
+
+pub returns-in-Some-clause-quiet : goal.returns-in-Some-clause-quiet
+returns-in-Some-clause-quiet g c = c.append_image.ensures.quiet
+
+pub returns-in-None-clause-quiet : goal.returns-in-None-clause-quiet
+returns-in-None-clause-quiet g c = c.append_image-in-None.ensures.quiet

@@ -1,10 +1,12 @@
-use Rattle.std.proofs.Common.{◌≡◌, Bool, None, Some, sym, ◌∙◌, ap, rules}
+use Rattle.std.proofs.Common.{◌≡◌, Bool, true, None, Some, sym, ◌∙◌, ap, rules}
 use Rattle.std.specs.Prelude.{not}
 use Rattle.im_page_table.specs.DirtyTable.{dirty_entry}
 use Rattle.im_page_writer.proofs.Goings.{goes_start, leaves_of}
 use Rattle.im_page_writer.proofs.Imaging.{image_copies}
 use Rattle.im_page_file.proofs.ImageCalls.{imaging_none}
 use Rattle.im_page_writer.proofs.NotedCopies.{goes_told, may_note, since_some, told_of}
+use Rattle.im_theory_log.specs.WriterSteps.{changed_entry}
+use Rattle.im_page_writer.proofs.InCompany.{room_put}
 use Rattle.im_page_writer.proofs.image_range.note_copy.Goals as goal
 
 pub returns-in_default-clause-outcome : goal.returns-in_default-clause-outcome
@@ -43,3 +45,7 @@ returns-clause-kept g c b base s w =
     let done = image_copies g.D.Disk b base s p c.args.table.now c.args.pool.now c.args.disk.now c.in_ok-lsn.lsn c.append_page.new.log new w.stands.kept may k.ok in
     let goes = goes_told g.D.Disk b base s p c.in_ok-lsn.lsn l.0 e c.args.disk.now new c.append_page.new.log c.args.table.now c.enter.new.self c.args.pool.now done c.in-Some.ensures.some l.1 c.enter.ensures.entry in
     record { ok = record { now = told_of p done.now; goes = goes }; stops = leaves_of g.D.Disk b base s c.args.disk.now new k.stops }
+
+pub returns-clause-room : goal.returns-clause-room
+returns-clause-room g c q has =
+    room_put (changed_entry true c.in_ok-lsn.lsn) c.args.number q c.args.table.now c.enter.new.self (dirty_entry c.in-Some.entry) c.pages_rise.ensures c.in-Some.ensures.some c.enter.ensures.table has

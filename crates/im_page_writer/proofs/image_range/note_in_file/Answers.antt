@@ -3,6 +3,7 @@ use Rattle.im_page_table.proofs.Growing.{on_ok}
 use Rattle.im_page_writer.proofs.Goings.{goes_then, leaves_so_far, leaves_then}
 use Rattle.im_page_writer.proofs.Flushing.{goes_read, leaves_read}
 use Rattle.im_page_file.proofs.ImageCalls.{imaging_lost}
+use Rattle.im_page_writer.proofs.InCompany.{reads_still}
 use Rattle.im_page_writer.proofs.image_range.note_in_file.Goals as goal
 
 pub returns-in_err-count-clause-outcome : goal.returns-in_err-count-clause-outcome
@@ -34,3 +35,6 @@ returns-clause-kept g c b base s w =
       ok = on_ok c.note_copy.result _ _ k.ok (λ is. record { now = is.now; goes = goes_then g.D.Disk b base s old s log table pool mid goes is.now c.note_copy.new.log c.note_copy.new.table pool new is.goes });
       stops = leaves_then g.D.Disk b base s old s log table pool mid goes new k.stops;
     }
+
+pub returns-clause-reads : goal.returns-clause-reads
+returns-clause-reads g c takes = reads_still g.D.Disk c.args.disk.now c.count_pages.new.disk c.note_copy.new.disk c.count_pages.ensures.reads (c.note_copy.ensures.quiet takes)

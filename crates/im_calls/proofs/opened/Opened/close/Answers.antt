@@ -1,14 +1,19 @@
-use Rattle.std.proofs.Common.{rules}
+use Rattle.std.proofs.Common.{subst, sym}
+use Rattle.im_calls.specs.Sessions.{TellsEnd}
 use Rattle.im_calls.proofs.opened.Opened.close.Goals as goal
 
-pub returns-in-Ok-Ok-clause-ended : goal.returns-in-Ok-Ok-clause-ended
-returns-in-Ok-Ok-clause-ended g c =
-    λ said.
-    record {
-      mid = c.end-kept.new.self.engine;
-      disk = c.close-synced.result.1;
-      kept = c.end-kept.ensures.kept;
-      works = search rules;
-      same = c.close-synced.ensures.seen;
-      synced = search rules;
-    }
+pub returns-in-Ok-clause-ended : goal.returns-in-Ok-clause-ended
+returns-in-Ok-clause-ended g c = record {
+  result = c.close-ended.result.0;
+  disk = c.close-ended.result.1;
+  end = c.close-ended.ensures;
+  tells = subst (TellsEnd c.tell.new.call) (sym c.in-Ok.is) c.tell.ensures.told;
+}
+
+pub returns-clause-ended : goal.returns-clause-ended
+returns-clause-ended g c = record {
+  result = c.close-ended.result.0;
+  disk = c.close-ended.result.1;
+  end = c.close-ended.ensures;
+  tells = subst (TellsEnd c.refuse.new.call) (sym c.in-Err.is) c.refuse.ensures.told;
+}

@@ -1,18 +1,9 @@
-use Rattle.std.proofs.Common.{refl, ap, ◌∙◌, length, rules}
+use Rattle.std.proofs.Common.{refl, ap}
 use Rattle.im_base_types.specs.Answers as answers
-use Rattle.im_page_writer.specs.Outcome.{pages_of}
-use Rattle.im_engine.proofs.Running.{has_good_tree, plain_under, walk_is}
-use Rattle.im_engine.proofs.Reading.{granted, waits, dies, refused}
-use Rattle.std.proofs.lemmas.List.{length-map}
-use Rattle.im_base_steps.specs.declared.reply.Blocker.TheVariants.{Lock}
 use Rattle.im_base_steps.specs.declared.reply.Reply.TheVariants as replies
-use Rattle.im_base_txn.specs.Rows.{changed, with_mark}
-use Rattle.im_base_txn.specs.declared.transaction.Mark.TheVariants.{MustRollBack}
-use Rattle.im_engine.specs.Numbered.{Numbered, besides_rows}
-use Rattle.im_engine.proofs.Telling.{told_answered, told_refused, read_lost}
-use Rattle.im_engine.proofs.Causes.{read_answered, read_cause, read_refused}
 use Rattle.im_engine.proofs.Checked.{access_free}
-use Rattle.im_engine.proofs.Paced.{paced_alone}
+use Rattle.im_engine.proofs.SteppedReading.{made_granted, made_waits, made_dies, made_hidden, made_refused}
+use Rattle.im_engine.proofs.SteppedTold.{tree_here, walk_here}
 use Rattle.im_engine.proofs.engine.Engine.fetch.Goals as goal
 
 pub set_mark-requires-clause-before : goal.set_mark-requires-clause-before
@@ -20,103 +11,37 @@ set_mark-requires-clause-before g c = access_free c.args.self.now.txns.rows _ c.
 
 pub returns-in-Some : goal.returns-in-Some
 returns-in-Some g c =
-    let old = c.args.self.now in
-    record {
-      kept = λ before s v life.
-          let r = (life.running c.requires.works).1 in
-          let read = c.in-Ok-Granted.ensures.kept (pages_of r.now) v.walk (has_good_tree g.D.Disk before s v old r (plain_under g.D.Disk old c.requires.plain)) (walk_is g.D.Disk before s v old r (plain_under g.D.Disk old c.requires.plain)) in
-          granted g.D.Disk before s v c.args.t (answers.Fetch c.args.key.now) old _ life c.requires.works c.requires.checked refl answers.found c.in-Ok-Granted.field-0 read c.in-Ok-Granted.found c.in-Ok-Granted.field-0-is (answers.Found c.in-Some.rid) (ap answers.found c.in-Some.is) c.in-Ok-Granted.ensures.outcome refl refl refl;
-      told = told_answered g.D.Disk old _ c.requires.works refl refl (replies.Found c.in-Some.rid) (λ k. refl) refl refl tt refl refl c.in-Ok-Granted.ensures.outcome.ends.alive;
-      answered = read_answered g.D.Disk old c.fetch.new.writer.log c.fetch.new.disk c.requires.works c.args.t (answers.Fetch c.args.key.now) refl c.requires.checked (replies.Found c.in-Some.rid) (λ x e. cc e);
-      suits = search rules;
-      at_once = λ _. search rules;
-      paced = paced_alone g.D.Disk _ _ old _ refl (λ is. cc is) c.requires.plain;
-      grouped = tt;
-      frames = search rules;
-      wants = λ b before s v r. tt;
-      quiet = λ none. absurd (none tt);
-      costs = tt;
-    }
+    made_granted g.D.Disk c.args.t (answers.Fetch c.args.key.now) refl c.args.self.now _ c.requires.works c.requires.checked refl refl c.beside_of.result c.beside_of.ensures
+    c.in-Ok-Seen-Granted.ensures.outcome refl answers.found c.in-Ok-Seen-Granted.field-0 c.in-Ok-Seen-Granted.ensures.kept c.in-Ok-Seen-Granted.field-0-0 c.in-Ok-Seen-Granted.field-0-is c.in-Ok-Seen-Granted.found c.in-Ok-Seen-Granted.field-0-0-is (replies.Found c.in-Some.rid)
+    (record { stays = λ k. refl; late = refl; answered = refl; number = tt; suits = refl; at_once = refl; grouped = tt }) (ap answers.found c.in-Some.is) refl refl
 
 pub returns-in-None : goal.returns-in-None
 returns-in-None g c =
-    let old = c.args.self.now in
-    record {
-      kept = λ before s v life.
-          let r = (life.running c.requires.works).1 in
-          let read = c.in-Ok-Granted.ensures.kept (pages_of r.now) v.walk (has_good_tree g.D.Disk before s v old r (plain_under g.D.Disk old c.requires.plain)) (walk_is g.D.Disk before s v old r (plain_under g.D.Disk old c.requires.plain)) in
-          granted g.D.Disk before s v c.args.t (answers.Fetch c.args.key.now) old _ life c.requires.works c.requires.checked refl answers.found c.in-Ok-Granted.field-0 read c.in-Ok-Granted.found c.in-Ok-Granted.field-0-is answers.Absent (ap answers.found c.in-None.is) c.in-Ok-Granted.ensures.outcome refl refl refl;
-      told = told_answered g.D.Disk old _ c.requires.works refl refl replies.Absent (λ k. refl) refl refl tt refl refl c.in-Ok-Granted.ensures.outcome.ends.alive;
-      answered = read_answered g.D.Disk old c.fetch.new.writer.log c.fetch.new.disk c.requires.works c.args.t (answers.Fetch c.args.key.now) refl c.requires.checked replies.Absent (λ x e. cc e);
-      suits = search rules;
-      at_once = λ _. search rules;
-      paced = paced_alone g.D.Disk _ _ old _ refl (λ is. cc is) c.requires.plain;
-      grouped = tt;
-      frames = search rules;
-      wants = λ b before s v r. tt;
-      quiet = λ none. absurd (none tt);
-      costs = tt;
-    }
+    made_granted g.D.Disk c.args.t (answers.Fetch c.args.key.now) refl c.args.self.now _ c.requires.works c.requires.checked refl refl c.beside_of.result c.beside_of.ensures
+    c.in-Ok-Seen-Granted.ensures.outcome refl answers.found c.in-Ok-Seen-Granted.field-0 c.in-Ok-Seen-Granted.ensures.kept c.in-Ok-Seen-Granted.field-0-0 c.in-Ok-Seen-Granted.field-0-is c.in-Ok-Seen-Granted.found c.in-Ok-Seen-Granted.field-0-0-is replies.Absent
+    (record { stays = λ k. refl; late = refl; answered = refl; number = tt; suits = refl; at_once = refl; grouped = tt }) (ap answers.found c.in-None.is) refl refl
 
-pub returns-in-Ok-Wait : goal.returns-in-Ok-Wait
-returns-in-Ok-Wait g c =
-    let old = c.args.self.now in
-    record {
-      kept = λ before s v life.
-          let r = (life.running c.requires.works).1 in
-          let read = c.in-Ok-Wait.ensures.kept (pages_of r.now) v.walk (has_good_tree g.D.Disk before s v old r (plain_under g.D.Disk old c.requires.plain)) (walk_is g.D.Disk before s v old r (plain_under g.D.Disk old c.requires.plain)) in
-          waits g.D.Disk before s v c.args.t (answers.Fetch c.args.key.now) old _ life c.requires.works c.requires.checked answers.found c.in-Ok-Wait.field-0 read c.in-Ok-Wait.holder c.in-Ok-Wait.field-0-is c.in-Ok-Wait.ensures.outcome refl refl refl;
-      told = told_answered g.D.Disk old _ c.requires.works refl refl (replies.Blocked (Lock c.in-Ok-Wait.holder)) (λ k. refl) refl refl tt refl refl c.in-Ok-Wait.ensures.outcome.ends.alive;
-      answered = read_answered g.D.Disk old c.fetch.new.writer.log c.fetch.new.disk c.requires.works c.args.t (answers.Fetch c.args.key.now) refl c.requires.checked (replies.Blocked (Lock c.in-Ok-Wait.holder)) (λ x e. cc e);
-      suits = search rules;
-      at_once = λ _. search rules;
-      paced = paced_alone g.D.Disk _ _ old _ refl (λ is. cc is) c.requires.plain;
-      grouped = tt;
-      frames = search rules;
-      wants = λ b before s v r. tt;
-      quiet = λ none. absurd (none tt);
-      costs = tt;
-    }
+pub returns-in-Ok-Seen-Wait : goal.returns-in-Ok-Seen-Wait
+returns-in-Ok-Seen-Wait g c =
+    made_waits g.D.Disk c.args.t (answers.Fetch c.args.key.now) refl c.args.self.now _ c.requires.works c.requires.checked refl refl c.beside_of.result c.beside_of.ensures
+    c.in-Ok-Seen-Wait.ensures.outcome refl answers.found c.in-Ok-Seen-Wait.field-0 c.in-Ok-Seen-Wait.ensures.kept c.in-Ok-Seen-Wait.field-0-0 c.in-Ok-Seen-Wait.field-0-is c.in-Ok-Seen-Wait.holder c.in-Ok-Seen-Wait.field-0-0-is refl
 
-pub returns-in-Ok-Die : goal.returns-in-Ok-Die
-returns-in-Ok-Die g c =
-    let old = c.args.self.now in
-    record {
-      kept = λ before s v life.
-          let r = (life.running c.requires.works).1 in
-          let read = c.in-Ok-Die.ensures.kept (pages_of r.now) v.walk (has_good_tree g.D.Disk before s v old r (plain_under g.D.Disk old c.requires.plain)) (walk_is g.D.Disk before s v old r (plain_under g.D.Disk old c.requires.plain)) in
-          dies g.D.Disk before s v c.args.t (answers.Fetch c.args.key.now) old _ life c.requires.works c.requires.checked answers.found c.in-Ok-Die.field-0 read c.in-Ok-Die.field-0-is c.in-Ok-Die.ensures.outcome c.set_mark.ensures refl refl;
-      told = told_answered g.D.Disk old _ c.requires.works (ap besides_rows c.set_mark.ensures) refl replies.Die (λ k. refl) refl refl tt refl (ap (λ (x : Numbered). length x.rows) c.set_mark.ensures ∙ length-map old.txns.rows (changed c.args.t (with_mark MustRollBack))) c.in-Ok-Die.ensures.outcome.ends.alive;
-      answered = read_answered g.D.Disk old c.fetch.new.writer.log c.fetch.new.disk c.requires.works c.args.t (answers.Fetch c.args.key.now) refl c.requires.checked replies.Die (λ x e. cc e);
-      suits = search rules;
-      at_once = λ _. search rules;
-      paced = paced_alone g.D.Disk _ _ old _ refl (λ is. cc is) c.requires.plain;
-      grouped = tt;
-      frames = search rules;
-      wants = λ b before s v r. tt;
-      quiet = λ none. absurd (none tt);
-      costs = tt;
-    }
+pub returns-in-Ok-Seen-Die : goal.returns-in-Ok-Seen-Die
+returns-in-Ok-Seen-Die g c =
+    made_dies g.D.Disk c.args.t (answers.Fetch c.args.key.now) refl c.args.self.now _ c.requires.works c.requires.checked refl refl c.beside_of.result c.beside_of.ensures
+    c.in-Ok-Seen-Die.ensures.outcome refl answers.found c.in-Ok-Seen-Die.field-0 c.in-Ok-Seen-Die.ensures.kept c.in-Ok-Seen-Die.field-0-0 c.in-Ok-Seen-Die.field-0-is c.in-Ok-Seen-Die.field-0-0-is c.set_mark.ensures
+
+pub returns-in-Ok-Hidden : goal.returns-in-Ok-Hidden
+returns-in-Ok-Hidden g c =
+    made_hidden g.D.Disk c.args.t (answers.Fetch c.args.key.now) refl c.args.self.now _ c.requires.works c.requires.checked refl refl c.beside_of.result c.beside_of.ensures
+    c.in-Ok-Hidden.ensures.outcome refl answers.found c.in-Ok-Hidden.field-0 c.in-Ok-Hidden.ensures.kept c.in-Ok-Hidden.field-0-is refl
 
 pub returns-in-Err : goal.returns-in-Err
 returns-in-Err g c =
     let old = c.args.self.now in
-    record {
-      kept = λ before s v life.
-          let r = (life.running c.requires.works).1 in
-          let sound = c.in-Err.ensures.kept (pages_of r.now) v.walk (has_good_tree g.D.Disk before s v old r (plain_under g.D.Disk old c.requires.plain)) (walk_is g.D.Disk before s v old r (plain_under g.D.Disk old c.requires.plain)) in
-          refused g.D.Disk before s v c.args.t (answers.Fetch c.args.key.now) old _ life c.requires.works c.requires.checked (λ t f le left. g.met.D.Disk.counts_now c.fetch.new.disk t f le left) c.in-Err.fault refl c.in-Err.ensures.outcome sound
-          c.breaks-self.ensures refl (c.in-Err.ensures.table, c.in-Err.ensures.lasting) c.told.result c.told.ensures refl;
-      told = told_refused g.D.Disk old _ c.requires.works refl refl c.in-Err.fault c.told.result c.told.ensures c.breaks-self.ensures refl (λ _. c.in-Err.ensures.table) (λ lost. read_lost g.D.Disk old.writer old.disk c.fetch.new.writer c.fetch.new.disk lost c.in-Err.fault c.in-Err.ensures.outcome.ends (old.working c.requires.works));
-      answered =
-          read_refused g.D.Disk old c.fetch.new.writer.log c.fetch.new.disk c.requires.works c.args.t (answers.Fetch c.args.key.now) refl c.requires.checked c.in-Err.fault c.told.result c.told.ensures
-          (read_cause g.D.Disk old.writer old.disk c.fetch.new.writer c.fetch.new.disk c.in-Err.fault c.in-Err.ensures.outcome.ends (old.working c.requires.works));
-      suits = search rules;
-      at_once = λ _. search rules;
-      paced = paced_alone g.D.Disk _ _ old _ refl (λ is. cc is) c.requires.plain;
-      grouped = tt;
-      frames = search rules;
-      wants = λ b before s v r. tt;
-      quiet = λ none. absurd (none tt);
-      costs = tt;
-    }
+    made_refused g.D.Disk c.args.t (answers.Fetch c.args.key.now) refl c.args.self.now _ c.requires.works c.requires.checked refl refl c.beside_of.result c.beside_of.ensures
+    (λ t f le left. g.met.D.Disk.counts_now c.fetch_beside.new.disk t f le left) c.in-Err.fault c.in-Err.ensures.outcome
+    (λ before s v life.
+    let r = (life.running c.requires.works).1 in
+    c.in-Err.ensures.kept _ v.walk (tree_here g.D.Disk before s v old r c.beside_of.result c.beside_of.ensures).tree (walk_here g.D.Disk before s v old r c.beside_of.result c.beside_of.ensures))
+    c.breaks-self.ensures refl c.in-Err.ensures.table c.in-Err.ensures.lasting c.told.result c.told.ensures

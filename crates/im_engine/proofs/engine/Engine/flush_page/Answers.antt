@@ -18,7 +18,7 @@ returns-in-Ok g c =
           let r = (life.running c.requires.works).1 in
           flushed g.D.Disk before s v old _ life c.requires.works c.args.page c.in-Ok.ensures.outcome (c.in-Ok.ensures.kept b r.base r.now r.stands) refl refl refl refl;
       told = told_answered g.D.Disk old _ c.requires.works refl refl replies.Done (λ k. refl) refl refl tt refl refl c.in-Ok.ensures.outcome.ends.alive;
-      answered = behind g.D.Disk old c.flush_one.new.self.log c.flush_one.new.disk c.requires.works (answers.FlushPage c.args.page) replies.Done refl (λ fault. not_refused_for g.D.Disk old c.flush_one.new.self.log c.flush_one.new.disk c.requires.works (FlushCause g.D.Disk c.flush_one.new.self.log c.flush_one.new.disk) replies.Done (λ x e. cc e) fault);
+      answered = behind g.D.Disk old c.flush_in_company.new.self.log c.flush_in_company.new.disk c.requires.works (answers.FlushPage c.args.page) replies.Done refl (λ fault. not_refused_for g.D.Disk old c.flush_in_company.new.self.log c.flush_in_company.new.disk c.requires.works (FlushCause g.D.Disk c.flush_in_company.new.self.log c.flush_in_company.new.disk) replies.Done (λ x e. cc e) fault);
       suits = search rules;
       at_once = λ _. search rules;
       paced = paced_beside g.D.Disk _ _ old _ refl (λ is. cc is) refl;
@@ -34,13 +34,13 @@ returns-in-Err g c =
     let old = c.args.self.now in
     let ends = c.in-Err.ensures.outcome.ends in
     record {
-      kept = λ before s v life. flush_refused g.D.Disk before s v old _ life c.requires.works c.args.page c.in-Err.fault c.in-Err.ensures.outcome c.told.result c.told.ensures refl (λ t f le left. g.met.D.Disk.counts_now c.flush_one.new.disk t f le left);
+      kept = λ before s v life. flush_refused g.D.Disk before s v old _ life c.requires.works c.args.page c.in-Err.fault c.in-Err.ensures.outcome c.told.result c.told.ensures refl (λ t f le left. g.met.D.Disk.counts_now c.flush_in_company.new.disk t f le left);
       told =
-          told_refused g.D.Disk old _ c.requires.works refl refl c.in-Err.fault c.told.result c.told.ensures (flush_ends g.D.Disk old.writer old.disk c.flush_one.new.self c.flush_one.new.disk c.in-Err.fault ends) refl (λ _ u. refl)
-          (λ lost. flush_lost g.D.Disk old.writer old.disk c.flush_one.new.self c.flush_one.new.disk lost c.in-Err.fault ends (old.working c.requires.works));
+          told_refused g.D.Disk old _ c.requires.works refl refl c.in-Err.fault c.told.result c.told.ensures (flush_ends g.D.Disk old.writer old.disk c.flush_in_company.new.self c.flush_in_company.new.disk c.in-Err.fault ends) refl (λ _ u. refl)
+          (λ lost. flush_lost g.D.Disk old.writer old.disk c.flush_in_company.new.self c.flush_in_company.new.disk lost c.in-Err.fault ends (old.working c.requires.works));
       answered =
-          behind g.D.Disk old c.flush_one.new.self.log c.flush_one.new.disk c.requires.works (answers.FlushPage c.args.page) (replies.Refused c.told.result) refl (λ fault. refused_for g.D.Disk old c.flush_one.new.self.log c.flush_one.new.disk c.requires.works (FlushCause g.D.Disk c.flush_one.new.self.log c.flush_one.new.disk) c.in-Err.fault c.told.result c.told.ensures
-          (flush_cause g.D.Disk old.writer old.disk c.flush_one.new.self c.flush_one.new.disk c.in-Err.fault c.in-Err.ensures.outcome.ends (old.working c.requires.works)) fault);
+          behind g.D.Disk old c.flush_in_company.new.self.log c.flush_in_company.new.disk c.requires.works (answers.FlushPage c.args.page) (replies.Refused c.told.result) refl (λ fault. refused_for g.D.Disk old c.flush_in_company.new.self.log c.flush_in_company.new.disk c.requires.works (FlushCause g.D.Disk c.flush_in_company.new.self.log c.flush_in_company.new.disk) c.in-Err.fault c.told.result c.told.ensures
+          (flush_cause g.D.Disk old.writer old.disk c.flush_in_company.new.self c.flush_in_company.new.disk c.in-Err.fault c.in-Err.ensures.outcome.ends (old.working c.requires.works)) fault);
       suits = search rules;
       at_once = λ _. search rules;
       paced = paced_beside g.D.Disk _ _ old _ refl (λ is. cc is) refl;

@@ -1,17 +1,13 @@
 use Rattle.std.proofs.Common.{ℕ, List, subst}
 use Rattle.im_base_types.specs.Answers as answers
 use Rattle.im_engine.specs.Told.{IsMade}
-use Rattle.im_engine.proofs.Stepping.{step_as, step_barred, step_made_of}
+use Rattle.im_engine.proofs.Stepping.{step_as, step_barred}
 use Rattle.im_engine.proofs.engine.Engine.step.Goals as goal
 
 pub returns-in-Some : goal.returns-in-Some
 returns-in-Some g c =
     let old = c.args.self.now in
     step_barred g.D.Disk c.args.step.now old (g.met.D.Disk.only_now old.disk) c.in-Some.fault c.in-Some.ensures
-
-pub returns-then-self : goal.returns-then-self
-returns-then-self g c =
-    step_made_of g.D.Disk c.args.step.now c.step_stepped.result c.args.self.now c.step_stepped.new.self c.in_default.ensures c.step_stepped.ensures
 
 pub returns-in-Begin : goal.returns-in-Begin
 returns-in-Begin g c =

@@ -3,7 +3,9 @@ use Rattle.std.specs.Prelude.{◌↔◌}
 use Rattle.im_base_types.specs.Answers as answers
 use Rattle.im_base_types.specs.declared.fault.Fault.{Fault}
 use Rattle.im_base_types.specs.declared.fault.Fault.TheVariants.{Device}
+use Rattle.im_theory_left.proofs.Left.{lawful_readable}
 use Rattle.im_theory_log.specs.Histories.{Base}
+use Rattle.im_theory_tree.specs.Theory.{page_tree}
 use Rattle.im_page_writer.specs.Switching.{RefusesSwitch, SwitchKept}
 use Rattle.im_base_steps.specs.declared.reply.Reply.TheVariants as replies
 use Rattle.im_engine.specs.Faults.{told_as}
@@ -38,7 +40,7 @@ returns-in-Ok g c =
       kept = λ before s v life.
           let b : Base = (life.running c.requires.works).0 in
           let r = (life.running c.requires.works).1 in
-          let kept = subst (λ (n : ℕ). SwitchKept g.D.Disk b r.base r.now n old.disk new_writer disk (Ok tt)) c.next.ensures (c.in-Ok.ensures.kept b r.base r.now r.redo_end r.stands r.over) in
+          let kept = subst (λ (n : ℕ). SwitchKept g.D.Disk b r.base r.now n old.disk new_writer disk (Ok tt)) c.next.ensures (c.in-Ok.ensures.kept b r.base r.now r.redo_end r.stands r.over (lawful_readable b page_tree r.now.log r.lawful)) in
           gone_on g.D.Disk before s v old _ life c.requires.works c.requires.checked kept.ok kept.stops refl refl refl refl;
       told = told_answered g.D.Disk old _ c.requires.works refl refl replies.Done (λ k. refl) refl refl tt refl refl (works_on (g.D.Disk.failed disk) (Ok tt) refl (c.in-Ok.ensures.device below));
       answered = behind g.D.Disk old new_writer.log disk c.requires.works answers.Switch replies.Done c.requires.checked (λ fault. switch_made g.D.Disk old new_writer.log disk replies.Done may (λ x e. cc e) fault);
@@ -64,7 +66,7 @@ returns-in-Err g c =
       kept = λ before s v life.
           let b : Base = (life.running c.requires.works).0 in
           let r = (life.running c.requires.works).1 in
-          let kept = subst (λ (n : ℕ). SwitchKept g.D.Disk b r.base r.now n old.disk new_writer disk (Err f)) c.next.ensures (c.in-Err.ensures.kept b r.base r.now r.redo_end r.stands r.over) in
+          let kept = subst (λ (n : ℕ). SwitchKept g.D.Disk b r.base r.now n old.disk new_writer disk (Err f)) c.next.ensures (c.in-Err.ensures.kept b r.base r.now r.redo_end r.stands r.over (lawful_readable b page_tree r.now.log r.lawful)) in
           switch_refused g.D.Disk before s v old _ life c.requires.works c.requires.checked f (switch_breaks g.D.Disk new_writer.log disk f causes) c.told.result c.told.ensures refl kept.stops (λ t x le left. g.met.D.Disk.counts_now disk t x le left);
       told = told_refused g.D.Disk old _ c.requires.works refl refl f c.told.result c.told.ensures (switch_ends g.D.Disk new_writer.log disk f causes) refl (λ _ u. refl) (λ lost. lost_as (g.D.Disk.failed disk) f (Err f) refl (c.in-Err.ensures.device below) lost);
       answered =

@@ -15,8 +15,8 @@ loop-i-init g c = record {
 
 pub loop-i-preserved : goal.loop-i-preserved
 loop-i-preserved g c = record {
-  outcome = behind g.D.Disk AsksNothing none_still c.loop-i.invariant.outcome c.in_ok-flush_one.ensures.outcome;
-  rows = c.flush_one.ensures.rows ∙ c.loop-i.invariant.rows;
+  outcome = behind g.D.Disk AsksNothing none_still c.loop-i.invariant.outcome c.in_ok-flush_in_company.ensures.outcome;
+  rows = c.flush_in_company.ensures.rows ∙ c.loop-i.invariant.rows;
   unmoved = λ none. absurd (omega (arith, none));
   flushed = λ b base s is.
       let d = g.D.Disk in
@@ -25,18 +25,18 @@ loop-i-preserved g c = record {
       let so = l.invariant.flushed b base s is in
       let none : DirtyPage = record { page = 0; rec_lsn = 0 } in
       rows_next d b base s c.args.self.now.rows.items old l.i none l.self l.disk (omega (arith, c.loop-i-test.true, c.row_count-i-end.ensures)) so c.row_page-number.result (c.row_page-number.ensures none ∙ ap (λ r. (slice_index_or r.items l.i none).page) l.invariant.rows)
-      c.flush_one.new.self c.flush_one.new.disk (c.in_ok-flush_one.ensures.kept b base so.now (stands_on d b base s old so.now l.self l.disk so.on));
+      c.flush_in_company.new.self c.flush_in_company.new.disk (c.in_ok-flush_in_company.ensures.kept b base so.now (stands_on d b base s old so.now l.self l.disk so.on));
 }
 
-pub returns-in_err-flush_one-clause-outcome : goal.returns-in_err-flush_one-clause-outcome
-returns-in_err-flush_one-clause-outcome g c = handed_on g.D.Disk c.from_residual.result c.from_residual.ensures.1 (behind g.D.Disk AsksNothing none_still c.loop-i.invariant.outcome c.in_err-flush_one.ensures.outcome)
+pub returns-in_err-flush_in_company-clause-outcome : goal.returns-in_err-flush_in_company-clause-outcome
+returns-in_err-flush_in_company-clause-outcome g c = handed_on g.D.Disk c.from_residual.result c.from_residual.ensures.1 (behind g.D.Disk AsksNothing none_still c.loop-i.invariant.outcome c.in_err-flush_in_company.ensures.outcome)
 
 pub returns-clause-kept : goal.returns-clause-kept
 returns-clause-kept g c b base s is =
     rows_done g.D.Disk b base s c.args.self.now.rows.items c.args.disk.now c.loop-i.i c.loop-i.self c.loop-i.disk (omega (arith, c.loop-i-test.false, c.loop-i.auto.i-end, c.row_count-i-end.ensures)) (c.loop-i.invariant.flushed b base s is)
 
-pub returns-in_err-flush_one-clause-none : goal.returns-in_err-flush_one-clause-none
-returns-in_err-flush_one-clause-none g c none =
+pub returns-in_err-flush_in_company-clause-none : goal.returns-in_err-flush_in_company-clause-none
+returns-in_err-flush_in_company-clause-none g c none =
     let many : length c.args.self.now.rows.items ≡ 0 = ap (λ (rows : List DirtyPage). length rows) none in
     absurd (omega (arith, many, c.loop-i-test.true, c.row_count-i-end.ensures))
 

@@ -6,6 +6,7 @@ use Rattle.im_log.specs.Switching.{next_gate}
 use Rattle.im_page_pool.specs.Pool.{PoolView}
 use Rattle.im_base_disk.specs.Runs.{CostsAtMost}
 use Rattle.im_base_disk.proofs.Costs.{most_as, most_none, most_then}
+use Rattle.im_theory_left.proofs.Left.{grown_readable}
 use Rattle.im_theory_log.specs.WriterSteps.{forced, synced}
 use Rattle.im_page_table.proofs.Growing.{grows_none}
 use Rattle.im_page_writer.proofs.FlushedRows.{synced_clean}
@@ -17,19 +18,19 @@ use Rattle.im_page_writer.proofs.Writers.{goes_on_start, goes_on_then}
 use Rattle.im_page_writer.proofs.page_writer.PageWriter.switch.Goals as goal
 
 pub returns-in_err-may_switch-clause-kept : goal.returns-in_err-may_switch-clause-kept
-returns-in_err-may_switch-clause-kept g c b base s e is over =
+returns-in_err-may_switch-clause-kept g c b base s e is over readable =
     let old = c.args.disk.now in
     let on = goes_on_start g.D.Disk b base s c.args.self.now old (g.met.D.Disk.only_now old) is in
     record { ok = search rules; stops = grown_switching g.D.Disk b base s old old (record { high = s.log; grows = grows_none b s.log; stops = on.goes.stops }) }
 
 pub returns-in_err-flush_every-clause-kept : goal.returns-in_err-flush_every-clause-kept
-returns-in_err-flush_every-clause-kept g c b base s e is over = record {
+returns-in_err-flush_every-clause-kept g c b base s e is over readable = record {
   ok = search rules;
   stops = grown_switching g.D.Disk b base s c.args.disk.now c.flush_every.new.disk (flush_left g.D.Disk c.in_err-flush_every.field-0.0 c.in_err-flush_every.ensures.outcome c.if-self.false b base s is);
 }
 
 pub returns-in_err-force-clause-kept : goal.returns-in_err-force-clause-kept
-returns-in_err-force-clause-kept g c b base s e is over =
+returns-in_err-force-clause-kept g c b base s e is over readable =
     let d = g.D.Disk in
     let old = c.args.disk.now in
     let w = c.flush_every.new.self in
@@ -39,7 +40,7 @@ returns-in_err-force-clause-kept g c b base s e is over =
     record { ok = search rules; stops = switching_then d b base s old one.now w mid one.on c.force.new.disk (grown_switching d b base one.now mid c.force.new.disk (leaves_of d b base one.now mid c.force.new.disk k.stops)) }
 
 pub returns-in_err-sync_pages-clause-kept : goal.returns-in_err-sync_pages-clause-kept
-returns-in_err-sync_pages-clause-kept g c b base s e is over =
+returns-in_err-sync_pages-clause-kept g c b base s e is over readable =
     let d = g.D.Disk in
     let old = c.args.disk.now in
     let w = c.flush_every.new.self in
@@ -55,7 +56,7 @@ returns-in_err-sync_pages-clause-kept g c b base s e is over =
     record { ok = search rules; stops = switching_then d b base s old t x behind on new (grown_switching d b base t behind new (leaves_of d b base t behind new k.stops)) }
 
 pub returns-clause-kept : goal.returns-clause-kept
-returns-clause-kept g c b base s e is over =
+returns-clause-kept g c b base s e is over readable =
     let d = g.D.Disk in
     let old = c.args.disk.now in
     let w = c.flush_every.new.self in
@@ -72,7 +73,7 @@ returns-clause-kept g c b base s e is over =
     let u = synced t in
     let all = goes_on_then d b base s old t x behind on u y after three.ok in
     kept_then d b base s old u y after all c.args.next c.switch_log.new.self c.switch_log.new.disk c.switch_log.result
-    (c.switch_log.ensures.kept b base u e (stands_on d b base s old u y after all) (one.on.goes.keeps.redo_end ∙ over) refl (λ p. synced_clean (one.now.pages p).entry (one.written p)) c.in_ok-sync_pages.ensures.durable)
+    (c.switch_log.ensures.kept b base u e (stands_on d b base s old u y after all) (one.on.goes.keeps.redo_end ∙ over) refl (λ p. synced_clean (one.now.pages p).entry (one.written p)) (grown_readable b s.log u.log all.goes.keeps.log readable) c.in_ok-sync_pages.ensures.durable)
 
 pub returns-in_err-may_switch-clause-causes : goal.returns-in_err-may_switch-clause-causes
 returns-in_err-may_switch-clause-causes g c =

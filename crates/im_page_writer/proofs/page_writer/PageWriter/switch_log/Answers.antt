@@ -7,21 +7,21 @@ use Rattle.im_page_writer.proofs.Switching.{no_room, told_device, told_same, tur
 use Rattle.im_page_writer.proofs.page_writer.PageWriter.switch_log.Goals as goal
 
 pub returns-in_err-switch_log-clause-kept : goal.returns-in_err-switch_log-clause-kept
-returns-in_err-switch_log-clause-kept g c b base s e is over durable clean pages =
+returns-in_err-switch_log-clause-kept g c b base s e is over durable clean readable pages =
     let w = c.args.self.now in
     let old = c.args.disk.now in
     let kept = c.in_err-switch_log.ensures.kept base s.log s.durable is.writing.stands.log_is pages is.writing.stands.other in
-    record { ok = search rules; stops = turn_stops g.D.Disk b base s e w old is over durable clean (c.requires.ready.opened c.requires.working) c.args.next c.switch_log.new.self c.switch_log.new.disk _ kept }
+    record { ok = search rules; stops = turn_stops g.D.Disk b base s e w old is over durable clean (c.requires.ready.opened c.requires.working) readable c.args.next c.switch_log.new.self c.switch_log.new.disk _ kept }
 
 pub returns-clause-kept : goal.returns-clause-kept
-returns-clause-kept g c b base s e is over durable clean pages =
+returns-clause-kept g c b base s e is over durable clean readable pages =
     let w = c.args.self.now in
     let old = c.args.disk.now in
     let opened = c.requires.ready.opened c.requires.working in
     let kept = c.in_ok-switch_log.ensures.kept base s.log s.durable is.writing.stands.log_is pages is.writing.stands.other in
     record {
-      ok = turned g.D.Disk b base s e w old is over durable clean opened c.args.next _ c.switch_log.new.disk refl c.switch_log.ensures.ready kept.ok refl refl c.forget.ensures.from c.forget.ensures.none;
-      stops = turn_stops g.D.Disk b base s e w old is over durable clean opened c.args.next c.switch_log.new.self c.switch_log.new.disk _ kept;
+      ok = turned g.D.Disk b base s e w old is over durable clean opened readable c.args.next _ c.switch_log.new.disk refl c.switch_log.ensures.ready kept.ok refl refl c.forget.ensures.from c.forget.ensures.none;
+      stops = turn_stops g.D.Disk b base s e w old is over durable clean opened readable c.args.next c.switch_log.new.self c.switch_log.new.disk _ kept;
     }
 
 pub returns-in_err-switch_log-clause-causes : goal.returns-in_err-switch_log-clause-causes

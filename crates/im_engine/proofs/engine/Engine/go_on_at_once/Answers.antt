@@ -1,0 +1,107 @@
+use Rattle.std.proofs.Common.{inl, refl, sym, ap, ◌∙◌, ◌+◌, length, rules}
+use Rattle.std.proofs.lemmas.List.{length-map}
+use Rattle.im_base_txn.specs.Rows.{changed, is_committing, with_record}
+use Rattle.im_engine.proofs.Waits.{not_waiting}
+use Rattle.im_base_steps.specs.declared.reply.Reply.TheVariants as replies
+use Rattle.im_engine.specs.Numbered.{Numbered, besides_rows}
+use Rattle.im_base_types.specs.declared.fault.Fault.TheVariants as faults
+use Rattle.im_engine.proofs.Causes.{refused_inj}
+use Rattle.im_engine.proofs.Telling.{not_true, told_answered, told_refused, told_rolled_back}
+use Rattle.im_engine.proofs.Running.{plain_under}
+use Rattle.im_engine.proofs.Turning.{alone_checked, continue_found, continue_made, continue_mark, continue_refused, has_ended, has_more, has_more_to_undo, lacks_way, stands_going, told_capacity, told_failed, turn_lost, turn_refused, lacks_room, told_memory}
+use Rattle.im_engine.proofs.Paced.{paced_alone}
+use Rattle.im_engine.proofs.engine.Engine.go_on_at_once.Goals as goal
+
+pub end-requires : goal.end-requires
+end-requires g c =
+    let found = sym c.in-Some.ensures.found in
+    not_waiting c.args.self.now.txns.rows c.args.t c.in-Some.row found (ap is_committing (continue_mark c.args.self.now.txns.rows c.args.t c.in-Some.row found (alone_checked g.D.Disk c.args.self.now c.args.t (plain_under g.D.Disk c.args.self.now c.requires.plain) c.requires.checked)))
+
+pub returns-in_default : goal.returns-in_default
+returns-in_default g c =
+    let old = c.args.self.now in
+    absurd (continue_found old.txns.rows c.args.t (sym c.find.ensures.found ∙ c.in_default.is) (alone_checked g.D.Disk old c.args.t (plain_under g.D.Disk old c.requires.plain) c.requires.checked))
+
+pub returns-in-Ok-More : goal.returns-in-Ok-More
+returns-in-Ok-More g c =
+    let old = c.args.self.now in
+    let row = c.in-Some.row in
+    let found = sym c.in-Some.ensures.found in
+    record {
+      kept = λ before s v life.
+          let b = (life.running c.requires.works).0 in
+          let r = (life.running c.requires.works).1 in
+          let kept = c.in-Ok-More.ensures.kept b r.base r.now r.redo_end (stands_going g.D.Disk before s v c.args.t row old r found c.requires.checked (plain_under g.D.Disk old c.requires.plain)) (has_more_to_undo g.D.Disk before s v c.args.t row old r found c.requires.checked (plain_under g.D.Disk old c.requires.plain)) in
+          has_more g.D.Disk before s v c.args.t row old _ life c.requires.works found c.requires.checked (plain_under g.D.Disk old c.requires.plain) refl refl kept.stops c.in-Ok-More.field-0 c.in-Ok-More.last c.in-Ok-More.undo_next c.in-Ok-More.field-0-is kept.sound refl c.note_record.ensures;
+      told =
+          told_answered g.D.Disk old _ c.requires.works (ap besides_rows c.note_record.ensures) refl replies.More (λ k. refl) refl refl tt refl
+          (ap (λ (x : Numbered). length x.rows) c.note_record.ensures ∙ length-map old.txns.rows (changed c.args.t (with_record c.in-Ok-More.last c.in-Ok-More.undo_next))) c.in-Ok-More.ensures.outcome.ends.alive;
+      answered = continue_made g.D.Disk old c.requires.works c.args.t c.requires.checked c.undo_next.new.writer.log c.undo_next.new.disk replies.More (λ x e. cc e);
+      suits = search rules;
+      at_once = λ _. search rules;
+      paced = paced_alone g.D.Disk _ _ old _ refl (λ is. cc is) c.requires.plain;
+      grouped = tt;
+      frames = search rules;
+      wants = λ b before s v r. record { short = λ is. absurd (let never : ⊥ = cc is in never); used_up = λ is. absurd (let never : ⊥ = cc is in never); broken = λ is. absurd (let never : ⊥ = cc is in never); begun = λ steps _ _. absurd (not_true old.stepped c.requires.plain steps) };
+      quiet = λ none. absurd (none tt);
+      costs = tt;
+    }
+
+pub returns-in-Ok-Ended : goal.returns-in-Ok-Ended
+returns-in-Ok-Ended g c =
+    let old = c.args.self.now in
+    let found = sym c.in-Some.ensures.found in
+    let row = c.in-Some.row in
+    record {
+      kept = λ before s v life.
+          let b = (life.running c.requires.works).0 in
+          let r = (life.running c.requires.works).1 in
+          let kept = c.in-Ok-Ended.ensures.kept b r.base r.now r.redo_end (stands_going g.D.Disk before s v c.args.t row old r found c.requires.checked (plain_under g.D.Disk old c.requires.plain)) (has_more_to_undo g.D.Disk before s v c.args.t row old r found c.requires.checked (plain_under g.D.Disk old c.requires.plain)) in
+          has_ended g.D.Disk before s v c.args.t row old _ life c.requires.works found c.requires.checked (plain_under g.D.Disk old c.requires.plain) refl refl kept.stops c.in-Ok-Ended.field-0 c.in-Ok-Ended.field-0-is kept.sound c.release_all.ensures
+          (c.end.ensures.one row found ∙ ap (λ (x : Numbered). length x.rows + 1) c.end.ensures.left) c.end.ensures.left;
+      told =
+          told_rolled_back g.D.Disk old _ c.requires.works (ap besides_rows c.end.ensures.left) refl (c.end.ensures.one c.in-Some.row found) refl
+          (λ lost. absurd (not_true (g.D.Disk.failed c.undo_next.new.disk) c.in-Ok-Ended.ensures.outcome.ends.alive lost));
+      answered = continue_made g.D.Disk old c.requires.works c.args.t c.requires.checked c.undo_next.new.writer.log c.undo_next.new.disk replies.RolledBack (λ x e. cc e);
+      suits = search rules;
+      at_once = λ _. search rules;
+      paced = paced_alone g.D.Disk _ _ old _ refl (λ is. cc is) c.requires.plain;
+      grouped = tt;
+      frames = search rules;
+      wants = λ b before s v r. record { short = λ is. absurd (let never : ⊥ = cc is in never); used_up = λ is. absurd (let never : ⊥ = cc is in never); broken = λ is. absurd (let never : ⊥ = cc is in never); begun = λ steps _ _. absurd (not_true old.stepped c.requires.plain steps) };
+      quiet = λ none. absurd (none tt);
+      costs = tt;
+    }
+
+pub returns-in-Err : goal.returns-in-Err
+returns-in-Err g c =
+    let old = c.args.self.now in
+    let row = c.in-Some.row in
+    let found = sym c.in-Some.ensures.found in
+    record {
+      kept = λ before s v life.
+          let b = (life.running c.requires.works).0 in
+          let r = (life.running c.requires.works).1 in
+          let kept = c.in-Err.ensures.kept b r.base r.now r.redo_end (stands_going g.D.Disk before s v c.args.t row old r found c.requires.checked (plain_under g.D.Disk old c.requires.plain)) (has_more_to_undo g.D.Disk before s v c.args.t row old r found c.requires.checked (plain_under g.D.Disk old c.requires.plain)) in
+          turn_refused g.D.Disk before s v c.args.t row old _ life c.requires.works found c.requires.checked (plain_under g.D.Disk old c.requires.plain) refl c.in-Err.fault c.in-Err.ensures.outcome.ends kept.sound kept.again kept.stops c.breaks-self.ensures refl refl
+          c.told.result c.told.ensures (λ t f le left. g.met.D.Disk.counts_now c.undo_next.new.disk t f le left);
+      told =
+          told_refused g.D.Disk old _ c.requires.works refl refl c.in-Err.fault c.told.result c.told.ensures c.breaks-self.ensures refl (λ _ u. refl)
+          (λ lost. turn_lost g.D.Disk old.writer c.undo_next.new.writer c.undo_next.new.disk lost c.in-Err.fault c.in-Err.ensures.outcome.ends);
+      answered = continue_refused g.D.Disk old c.requires.works c.args.t c.requires.checked c.undo_next.new.writer c.undo_next.new.disk c.in-Err.fault c.told.result c.told.ensures c.in-Err.ensures.outcome.ends;
+      suits = search rules;
+      at_once = λ _. search rules;
+      paced = paced_alone g.D.Disk _ _ old _ refl (λ is. cc is) c.requires.plain;
+      grouped = tt;
+      frames = search rules;
+      wants = λ b before s v r.
+          let kept = c.in-Err.ensures.kept b r.base r.now r.redo_end (stands_going g.D.Disk before s v c.args.t row old r found c.requires.checked (plain_under g.D.Disk old c.requires.plain)) (has_more_to_undo g.D.Disk before s v c.args.t row old r found c.requires.checked (plain_under g.D.Disk old c.requires.plain)) in
+          record {
+            short = λ wants _. inl (lacks_room g.D.Disk before s v c.args.t row old r found c.requires.checked (plain_under g.D.Disk old c.requires.plain) (kept.short (told_memory c.in-Err.fault (sym c.told.ensures ∙ refused_inj c.told.result faults.Memory wants))));
+            used_up = λ full. lacks_way g.D.Disk before s v c.args.t row old r found c.requires.checked (plain_under g.D.Disk old c.requires.plain) (kept.used_up (told_capacity c.in-Err.fault (sym c.told.ensures ∙ refused_inj c.told.result faults.Capacity full)));
+            broken = λ late. kept.begun (told_failed g.D.Disk old.writer c.undo_next.new.writer c.undo_next.new.disk c.in-Err.fault c.in-Err.ensures.outcome.ends (sym c.told.ensures ∙ refused_inj c.told.result faults.Failed late));
+            begun = λ steps _ _. absurd (not_true old.stepped c.requires.plain steps);
+          };
+      quiet = λ none. absurd (none tt);
+      costs = tt;
+    }

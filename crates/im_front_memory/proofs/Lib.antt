@@ -1,6 +1,0 @@
-pub mod NetLemmas
-pub mod ListLemmas
-pub mod Moving
-pub mod AccessLemmas
-pub mod Rolling
-pub mod EndLemmas

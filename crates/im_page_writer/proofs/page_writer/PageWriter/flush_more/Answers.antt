@@ -1,9 +1,0 @@
-use Rattle.im_page_writer.proofs.Outcomes.{idle_any}
-use Rattle.im_page_writer.proofs.Placing.{held_none}
-use Rattle.im_page_writer.proofs.page_writer.PageWriter.flush_more.Goals as goal
-
-pub returns-then-not-takes_more-clause-outcome : goal.returns-then-not-takes_more-clause-outcome
-returns-then-not-takes_more-clause-outcome g c = idle_any g.D.Disk g.met.D.Disk.only_now c.args.self.now c.args.disk.now c.requires.working c.requires.ready
-
-pub returns-then-not-takes_more-clause-held : goal.returns-then-not-takes_more-clause-held
-returns-then-not-takes_more-clause-held g c = held_none c.args.self.now.pool

@@ -1,0 +1,14 @@
+use Rattle.im_store.proofs.copying.OpenStore+Mirrored+D+T.copy_piece.Goals as goal
+
+pub returns-clause-copied : goal.returns-clause-copied
+returns-clause-copied g c =
+    let is = c.copy_piece.ensures in
+    record {
+      still = record { only = is.only; kept = is.kept };
+      none = is.none;
+      same = is.same;
+      last = is.last;
+      more = is.more;
+      gone = is.gone;
+      refused = record { failed = is.failed; causes = is.causes };
+    }

@@ -1,0 +1,4 @@
+mod Heads
+pub mod Pieces
+mod Positions
+pub mod Changes
