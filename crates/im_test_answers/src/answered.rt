@@ -10,7 +10,7 @@ use im_base_two_logs::Renamed;
 use im_base_types::Fault;
 use im_engine::Config;
 use im_engine_upkeep::Bounds;
-use im_tool::{StoreEnd, store_text};
+use im_tool::{NoCopies, StoreEnd, store_text};
 use im_tool_files::{Cause, Causes, Opening};
 use im_tool_user::Manner;
 use std::alloc::Global;
@@ -37,21 +37,31 @@ const BY_NUMBERS: Manner = Manner {
     has_words: false,
     has_prompt: false,
     is_batch: false,
+    is_read: false,
 };
 
 const IN_WORDS: Manner = Manner {
     has_words: true,
     has_prompt: false,
     is_batch: false,
+    is_read: false,
 };
 
 const AS_BATCH: Manner = Manner {
     has_words: false,
     has_prompt: false,
     is_batch: true,
+    is_read: false,
 };
 
-static RUNS: [Run; 8] = [
+const TO_READ: Manner = Manner {
+    has_words: true,
+    has_prompt: false,
+    is_batch: false,
+    is_read: true,
+};
+
+static RUNS: [Run; 12] = [
     Run {
         name: "a store answers each line",
         log: b"",
@@ -93,6 +103,16 @@ static RUNS: [Run; 8] = [
         printed: "Nothing was done: an older transaction is in the way. `rollback N`, `continue N` while there is `more`, and begin again.\nforce                    makes the log durable\nA commit does that by itself.\nrefused 16: a bad line\nstarted 1\nrefused 16: a bad line: KEY is not written so in `fetch N KEY`, `help KEY` says how\nrefused 16: a bad line: KEY is not written so in `fetch N KEY`, `help KEY` says how\nabsent\nrefused 16: a bad line: KEY is not written so in `scan N KEY KEY LIMIT`, `help KEY` says how\n",
     },
     Run {
+        name: "a store that is only read refuses changes, and goes on",
+        log: b"",
+        fails: 0,
+        bound: 0,
+        manner: TO_READ,
+        lines: "begin\ninsert 1 a 7\nfetch 1 a\ndelete 1 a\ncheckpoint\nswitch\nforce\nflush 1\nnext 1 a\ncopy x\ncommit 1\n",
+        end: StoreEnd::Input,
+        printed: "started 1\nrefused 110: the store is only read\nabsent\nrefused 110: the store is only read\nrefused 110: the store is only read\nrefused 110: the store is only read\nrefused 110: the store is only read\nrefused 110: the store is only read\nend\nrefused 16: a bad line: FOLDER names no folder in `copy FOLDER`\ncommitted\n",
+    },
+    Run {
         name: "a batch ends at a refused line",
         log: b"",
         fails: 0,
@@ -114,9 +134,20 @@ static RUNS: [Run; 8] = [
         printed: "started 1\ninserted\ncommitted\nclose refused 8\n",
     },
     Run {
-        name: "without a bound nothing is done there",
+        name: "without a bound the files are brought to the disk there",
         log: b"",
         fails: 11,
+        bound: 0,
+        manner: BY_NUMBERS,
+        lines: "begin\ninsert 1 a 7\ncommit 1\n",
+        end: StoreEnd::RefusedClose(Fault::Device),
+        printed: "started 1\ninserted\ncommitted\nclose refused 8\n",
+    },
+    // Each of the three files is synced, by one call.
+    Run {
+        name: "and nothing else is done",
+        log: b"",
+        fails: 14,
         bound: 0,
         manner: BY_NUMBERS,
         lines: "begin\ninsert 1 a 7\ncommit 1\n",
@@ -132,6 +163,26 @@ static RUNS: [Run; 8] = [
         lines: "begin\ncommit 1\nbegin\ninsert 2 a 7\ncommit 2\nbegin\n",
         end: StoreEnd::Input,
         printed: "started 1\ncommitted\nstarted 2\ninserted\ncheckpoint refused 8\nrefused 10\nrefused 10\n",
+    },
+    Run {
+        name: "it is told once, and not after lines without a step",
+        log: b"",
+        fails: 11,
+        bound: 4_096,
+        manner: BY_NUMBERS,
+        lines: "begin\ncommit 1\nbegin\ninsert 2 a 7\nredo\nhelp\n",
+        end: StoreEnd::Input,
+        printed: "started 1\ncommitted\nstarted 2\ninserted\ncheckpoint refused 8\nredo 0 0\nrefused 16\n",
+    },
+    Run {
+        name: "a batch ends where a Checkpoint is refused",
+        log: b"",
+        fails: 11,
+        bound: 4_096,
+        manner: AS_BATCH,
+        lines: "begin\ncommit 1\nbegin\ninsert 2 a 7\nredo\n",
+        end: StoreEnd::RefusedLine,
+        printed: "started 1\ncommitted\nstarted 2\ninserted\ncheckpoint refused 8\n",
     },
 ];
 
@@ -164,6 +215,7 @@ fn answers<D: Disk + Cause + Opening + Drop, R: Threads + Sync>(
         &mut reader,
         &mut printed,
         &mut causes,
+        &mut NoCopies,
     )?;
     Ok((end, printed))
 }

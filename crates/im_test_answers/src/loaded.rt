@@ -3,8 +3,9 @@
 use im_base_model_disk::ModelDisk;
 use im_base_steps::Step;
 use im_base_two_logs::Renamed;
-use im_engine::{Config, Engine};
+use im_engine::Config;
 use im_engine_upkeep::Bounds;
+use im_store::OpenStore;
 use im_tool::{LoadCount, Loaded, dump_text, load_text};
 use im_tool_files::{Causes, ProgressLine, Untold};
 use im_tool_user::{Form, Present, WhyBad};
@@ -193,22 +194,35 @@ fn a_load_takes_the_portable_form(rt: HostRuntime) -> Result<(), Fail> {
 // What a dump of a store of one entry prints, in a form.
 fn dumped<R: Threads + Sync>(rt: &R, alloc: Global, form: Form) -> Result<Vec<u8>, Fail> {
     let disk = ModelDisk::new(Vec::new(alloc), Vec::new(alloc));
-    let mut engine = match Engine::open_or_create(
+    match OpenStore::open(
         rt,
         alloc,
         Renamed::new(disk, false),
         Config::default(),
+        Bounds::of_bytes(0, 0),
     ) {
-        Ok(engine) => engine,
-        Err((fault, _disk)) => return Err(Fail::from(fault)),
-    };
+        Ok(mut store) => {
+            let text = dumped_entry(alloc, &mut store, form);
+            let _disk = store.into_disk();
+            text
+        }
+        Err((fault, _disk)) => Err(Fail::from(fault)),
+    }
+}
+
+// Puts the entry in, and dumps it.
+fn dumped_entry(
+    alloc: Global,
+    store: &mut OpenStore<Renamed<ModelDisk>>,
+    form: Form,
+) -> Result<Vec<u8>, Fail> {
     let key = Vec::from_slice(alloc, b"a b")?;
     let steps = [Step::Begin, Step::Insert(1, key, 255), Step::Commit(1)];
     for step in &steps {
-        let _reply = engine.step(step);
+        let _reply = store.step(step);
     }
     let mut text = Vec::new(alloc);
-    let refused = dump_text(alloc, &mut engine, &mut text, form, &mut Untold)?;
+    let refused = dump_text(alloc, store, &mut text, form, &mut Untold)?;
     if refused.is_some() {
         text.clear();
     }

@@ -30,6 +30,31 @@ fn look(rt: &HostRuntime, dir: &str) -> Result<(u64, Result<(), Fault>), Fail> {
     Ok((length, written))
 }
 
+// What is answered while a copy goes into a folder, by an opening and by another copy; and by an opening once the copy has the names of a store, and is held.
+fn copied(
+    rt: &HostRuntime,
+    dir: &str,
+) -> Result<(Option<Fault>, Option<Fault>, Option<Fault>), Fail> {
+    let mut disk = FileDisk::create_copy(rt, dir)?;
+    write_synced(&mut disk, FileId::Log, 0, &[1, 2, 3])?;
+    let half = refused(rt, dir);
+    let other = match FileDisk::create_copy(rt, dir) {
+        Ok(_) => None,
+        Err(error) => Some(error.fault()),
+    };
+    let _named = disk.name_copy(rt, dir)?;
+    Ok((half, other, refused(rt, dir)))
+}
+
+// The lengths of the log that two who read at once find, and the refusal of one who writes.
+fn looked_at_twice(rt: &HostRuntime, dir: &str) -> Result<(u64, u64, Option<Fault>), Fail> {
+    let mut one = FileDisk::open_to_read(rt, dir)?;
+    let mut other = FileDisk::open_to_read(rt, dir)?;
+    let first = one.len(FileId::Log)?;
+    let second = other.len(FileId::Log)?;
+    Ok((first, second, refused(rt, dir)))
+}
+
 // The refusal of more bytes than there is memory for.
 fn read_past_memory(rt: &HostRuntime, alloc: Global, dir: &str) -> Result<Option<Fault>, Fail> {
     let mut disk = FileDisk::open(rt, dir)?;
@@ -45,6 +70,28 @@ fn a_folder_has_one_writer(rt: HostRuntime) -> Result<(), Fail> {
     assert!(rt; FileDisk::open_to_read(&rt, "im_disk_test/new").is_err());
     assert!(rt; read_past_memory(&rt, rt.alloc(), dir)? == Some(Fault::Memory));
     fs::remove_dir_all(&rt, "im_disk_test")?;
+    Ok(())
+}
+
+#[test]
+fn half_a_copy_is_no_store(rt: HostRuntime) -> Result<(), Fail> {
+    let dir = "im_disk_copy/store";
+    let _ = fs::remove_dir_all(&rt, "im_disk_copy");
+    assert!(rt;
+        copied(&rt, dir)?
+            == (
+                Some(Fault::NotAStore),
+                Some(Fault::Device),
+                Some(Fault::Locked)
+            )
+    );
+    assert!(rt; !fs::exists(&rt, "im_disk_copy/store/log.part")?);
+    assert!(rt; looked_at_twice(&rt, dir)? == (3, 3, Some(Fault::Locked)));
+    fs::write(&rt, "im_disk_copy/store/log.part", "")?;
+    assert!(rt; refused(&rt, dir) == Some(Fault::NotAStore));
+    fs::remove_file(&rt, "im_disk_copy/store/log.part")?;
+    assert!(rt; refused(&rt, dir).is_none());
+    fs::remove_dir_all(&rt, "im_disk_copy")?;
     Ok(())
 }
 
@@ -83,6 +130,8 @@ fn errors_of_an_opening_have_words(rt: HostRuntime) -> Result<(), Fail> {
     let alloc = rt.alloc();
     let text = format!(in alloc; "{}", OpenError::NotAFile("pages"))?;
     assert!(rt; text.as_str() == "`pages` in it is no plain file");
+    let half = format!(in alloc; "{}", OpenError::Unfinished)?;
+    assert!(rt; half.as_str() == "a copy into it was not finished");
     let missing = OpenError::from(std::io::Error::from_raw_os_error(2));
     let text = format!(in alloc; "{missing}")?;
     assert!(rt;

@@ -9,6 +9,8 @@ mod laws_at_one_leaf;
 #[cfg(test)]
 mod log;
 #[cfg(test)]
+mod mirror;
+#[cfg(test)]
 mod page;
 #[cfg(test)]
 mod record;

@@ -4,7 +4,9 @@
 use crate::texts::Part::{Each, Text};
 use crate::texts::{Part, text_of};
 use im_engine::BufferSize;
-use im_tool_every::{Counts, every_failure, every_restart, every_text};
+use im_tool_every::{
+    Counts, Start, Stops, Sweep, every_failure, every_restart, every_text, sweep_text,
+};
 use im_tool_lines::StoreScript;
 use std::alloc::{AllocError, Global};
 use std::io;
@@ -43,7 +45,14 @@ fn restarts<R: Threads + Sync>(rt: &R, alloc: Global, script: &[u8]) -> Result<C
         return Ok(counts);
     };
     for life in &script.lives {
-        every_restart(rt, alloc, life, BufferSize::ONE, &mut counts)?;
+        every_restart(
+            rt,
+            alloc,
+            life,
+            BufferSize::ONE,
+            Stops::EachCall,
+            &mut counts,
+        )?;
     }
     Ok(counts)
 }
@@ -188,7 +197,9 @@ fn failures<R: Threads + Sync>(rt: &R, alloc: Global, script: &[u8]) -> Result<C
         mut lives,
     } = script;
     match lives.pop() {
-        Some(life) => every_failure(rt, alloc, life, BufferSize::ONE),
+        Some(mut life) => {
+            every_failure(rt, alloc, &Start::empty(alloc), &mut life, BufferSize::ONE)
+        }
         None => Ok(Counts::default()),
     }
 }
@@ -200,5 +211,132 @@ fn failures_are_told(rt: HostRuntime) -> Result<(), Fail> {
         assert!(rt; counts.stops >= 96, "{name}: {}", counts.stops);
         assert!(rt; counts.bad == 0, "{name}: {}", counts.bad);
     }
+    Ok(())
+}
+
+// A key `a` with row id 7 in a log of the first format, which an opening switches.
+const FIRST: &str =
+    "set log 014152494553494d3100001000000000000000000000000000000000000000010000004c0000002b01000000000000000100000000000000000000000000000000000000010161000000000000000700000021080000000000000001000000000000002400000000000000000000000000\n";
+
+// A name, a script, whether its calls fail, whether that is done in settings, what is printed, and the status. The first life has 10 device calls, so
+// there are 8 stops within each and 8 at the end; it has 10 reads, so there are 6 failures of each of the 20, and 6 lives without.
+static SWEPT: [(&str, &str, bool, bool, &str, u8); 6] = [
+    (
+        "a_setting_that_is_named",
+        "life frames 8 group workers 4\nbegin\ninsert 1 a 7\ncommit 1\nforce\n",
+        false,
+        true,
+        "frames 8 group workers 4 buffer 4 stops 88 restarts 2368 bad 0\n",
+        0,
+    ),
+    (
+        "lives_before_are_made_as_they_stand",
+        "life\nbegin\ninsert 1 a 7\ncommit 1\nlife workers 1\nbegin\nstop end long 00\nlife\n",
+        false,
+        false,
+        "stops 8 restarts 64 bad 0\n",
+        0,
+    ),
+    (
+        "each_call_fails",
+        "life\nbegin\ninsert 1 a 7\ncommit 1\n",
+        true,
+        false,
+        "failures 126 restarts 828 bad 0\n",
+        0,
+    ),
+    (
+        "the_last_life_has_no_stop",
+        "life\nstop 1 long 00\n",
+        false,
+        false,
+        "script not single\n",
+        1,
+    ),
+    (
+        "files_that_are_no_store",
+        "set log 0141\nlife\n",
+        false,
+        true,
+        "open refused 11\n",
+        1,
+    ),
+    (
+        "bad_line_is_named",
+        "life\nfoo\n",
+        true,
+        true,
+        "refused 16 line 2\n",
+        1,
+    ),
+];
+
+// Whether a sweep, with a buffer of 4 where there are settings, prints this and no more, with this exit status.
+fn prints_swept<R: Threads + Sync>(
+    rt: &R,
+    alloc: Global,
+    script: &str,
+    fails: bool,
+    in_settings: bool,
+    want: &str,
+    want_status: u8,
+) -> io::Result<bool> {
+    let mut printed = Vec::new(alloc);
+    let mut reader = script.as_bytes();
+    let buffer = if in_settings {
+        BufferSize::new(4)
+    } else {
+        None
+    };
+    let sweep = Sweep {
+        fails,
+        in_settings,
+        buffer,
+    };
+    let status = sweep_text(rt, alloc, sweep, &mut reader, &mut printed, &mut io::sink())?;
+    Ok(status == want_status && printed.as_slice() == want.as_bytes())
+}
+
+#[test]
+fn sweeps_print_their_counts(rt: HostRuntime) -> Result<(), Fail> {
+    for (name, script, fails, in_settings, want, want_status) in &SWEPT {
+        assert!(rt;
+            prints_swept(
+                &rt,
+                rt.alloc(),
+                script,
+                *fails,
+                *in_settings,
+                want,
+                *want_status
+            )?,
+            "{name}"
+        );
+    }
+    Ok(())
+}
+
+// The upgrade's calls are stopped, and those of the life behind it.
+#[test]
+fn a_store_of_the_first_format_is_swept(rt: HostRuntime) -> Result<(), Fail> {
+    let mut script = Vec::from_slice(rt.alloc(), FIRST.as_bytes())?;
+    script.extend_from_slice(b"life\nbegin\ninsert 2 b 8\ncommit 2\n")?;
+    let mut printed = Vec::new(rt.alloc());
+    let mut reader = script.as_slice();
+    let sweep = Sweep {
+        fails: false,
+        in_settings: false,
+        buffer: None,
+    };
+    let status = sweep_text(
+        &rt,
+        rt.alloc(),
+        sweep,
+        &mut reader,
+        &mut printed,
+        &mut io::sink(),
+    )?;
+    assert!(rt; status == 0);
+    assert!(rt; printed.ends_with(b"bad 0\n") && !printed.starts_with(b"stops 0 "));
     Ok(())
 }

@@ -4,7 +4,7 @@ use crate::drilled::drilled;
 use crate::texts::Part::{Each, Text};
 use crate::texts::{Part, text_of};
 use im_engine::BufferSize;
-use im_tool_every::{Counts, every_stop};
+use im_tool_every::{Counts, Start, Stops, every_stop};
 use im_tool_lines::StoreScript;
 use std::alloc::{AllocError, Global};
 use std::io;
@@ -65,8 +65,16 @@ fn stops<R: Threads + Sync>(rt: &R, alloc: Global, script: &[u8]) -> Result<Coun
         log2: _log2,
         mut lives,
     } = script;
-    if let Some(life) = lives.pop() {
-        counts = every_stop(rt, alloc, life, BufferSize::ONE, &mut io::sink())?;
+    if let Some(mut life) = lives.pop() {
+        counts = every_stop(
+            rt,
+            alloc,
+            &Start::empty(alloc),
+            &mut life,
+            BufferSize::ONE,
+            Stops::EachCall,
+            &mut io::sink(),
+        )?;
     }
     Ok(counts)
 }

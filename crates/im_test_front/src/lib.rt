@@ -17,6 +17,8 @@ mod lacking;
 #[cfg(test)]
 mod load;
 #[cfg(test)]
+mod refused;
+#[cfg(test)]
 mod sharing;
 #[cfg(test)]
 mod sleeping;

@@ -1,9 +1,11 @@
 //! Copies of the files of a store, which are changed and looked at.
 
 use im_base_disk::{Disk, read_vec};
+use im_base_file_disk::FileDisk;
+use im_base_scratch_disk::ScratchDisk;
 use im_base_types::{Fault, FileId};
 use im_tool::check_text;
-use im_tool_files::{ScratchDisk, Untold};
+use im_tool_files::Untold;
 use std::alloc::Global;
 use std::fs;
 use std::test::Fail;
@@ -11,6 +13,9 @@ use std::thread::Threads;
 
 /// Where a store's first log has its first gate.
 pub(crate) const FIRST_GATE: usize = 47;
+
+// A disk in memory.
+pub(crate) type Scratch = ScratchDisk<FileDisk>;
 
 // The bytes of the three files.
 #[derive(Drop)]
@@ -36,7 +41,7 @@ pub(crate) fn copies_in(rt: &HostRuntime, folder: &str) -> Result<Copies, Fail> 
 }
 
 // The bytes of a file of a disk.
-fn file_of(alloc: Global, disk: &mut ScratchDisk, file: FileId) -> Result<Vec<u8>, Fault> {
+fn file_of(alloc: Global, disk: &mut Scratch, file: FileId) -> Result<Vec<u8>, Fault> {
     if disk.has_failed() {
         return Err(Fault::Device);
     }
@@ -45,7 +50,7 @@ fn file_of(alloc: Global, disk: &mut ScratchDisk, file: FileId) -> Result<Vec<u8
 }
 
 // The files of a disk.
-pub(crate) fn copies_of(alloc: Global, disk: &mut ScratchDisk) -> Result<Copies, Fail> {
+pub(crate) fn copies_of(alloc: Global, disk: &mut Scratch) -> Result<Copies, Fail> {
     Ok(Copies {
         log: file_of(alloc, disk, FileId::Log)?,
         pages: file_of(alloc, disk, FileId::Pages)?,
@@ -54,7 +59,7 @@ pub(crate) fn copies_of(alloc: Global, disk: &mut ScratchDisk) -> Result<Copies,
 }
 
 // A disk with these files.
-pub(crate) fn scratch(alloc: Global, copies: &Copies) -> Result<ScratchDisk, Fail> {
+pub(crate) fn scratch(alloc: Global, copies: &Copies) -> Result<Scratch, Fail> {
     let mut disk = ScratchDisk::new(alloc, None);
     disk.write_at(FileId::Log, 0, &copies.log)?;
     disk.write_at(FileId::Pages, 0, &copies.pages)?;

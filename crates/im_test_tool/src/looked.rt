@@ -1,14 +1,17 @@
 //! A look at a store whose opening takes pages, and at one that a stop left with an empty leaf.
 
-use crate::copies::{Copies, FIRST_GATE, copied, copies_in, copies_of, is_whole, said_of, scratch};
+use crate::copies::{
+    Copies, FIRST_GATE, Scratch, copied, copies_in, copies_of, is_whole, said_of, scratch,
+};
 use im_base_file_disk::FileDisk;
+use im_base_scratch_disk::ScratchDisk;
 use im_base_steps::{Reply, Step};
 use im_base_two_logs::Renamed;
 use im_base_types::{Fault, LONGEST_KEY};
 use im_engine::{Config, Engine};
 use im_engine_upkeep::Bounds;
-use im_tool::{stat_text, store_text};
-use im_tool_files::{Causes, ScratchDisk, Untold};
+use im_tool::{NoCopies, stat_text, store_text};
+use im_tool_files::{Causes, Untold};
 use im_tool_user::Manner;
 use std::alloc::Global;
 use std::fs;
@@ -67,6 +70,7 @@ pub(crate) fn fill<R: Threads + Sync>(
         &mut reader,
         &mut printed,
         &mut causes,
+        &mut NoCopies,
     )?;
     Ok(())
 }
@@ -210,7 +214,7 @@ fn filled<R: Threads + Sync>(
     count: u64,
     together: u64,
 ) -> Result<Copies, Fail> {
-    let disk = ScratchDisk::new(alloc, None);
+    let disk: Scratch = ScratchDisk::new(alloc, None);
     match Engine::open_or_create(rt, alloc, Renamed::new(disk, false), Config::default()) {
         Ok(mut engine) => {
             let put = put_all(alloc, &mut engine, count, together);
@@ -224,7 +228,7 @@ fn filled<R: Threads + Sync>(
 
 fn put_all(
     alloc: Global,
-    engine: &mut Engine<Renamed<ScratchDisk>>,
+    engine: &mut Engine<Renamed<Scratch>>,
     count: u64,
     together: u64,
 ) -> Result<(), Fail> {

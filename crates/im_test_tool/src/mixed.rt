@@ -11,7 +11,7 @@ use im_base_two_logs::Renamed;
 use im_base_types::{Fault, PAGE_SIZE};
 use im_engine::{Config, Engine};
 use im_engine_upkeep::Bounds;
-use im_tool::store_text;
+use im_tool::{NoCopies, store_text};
 use im_tool_files::Causes;
 use im_tool_user::Manner;
 use std::alloc::Global;
@@ -92,6 +92,7 @@ fn answered<R: Threads + Sync>(
         &mut reader,
         &mut printed,
         &mut causes,
+        &mut NoCopies,
     )?;
     Ok((printed, causes.writer))
 }

@@ -3,7 +3,7 @@
 use crate::entry_walk::EntryWalk;
 use im_base_two_logs::TwoLogs;
 use im_base_types::Fault;
-use im_engine::Engine;
+use im_store::OpenStore;
 use im_tool_files::Progress;
 use im_tool_user::{Form, write_end, write_head, write_part};
 use std::alloc::Global;
@@ -15,14 +15,14 @@ const A_PART: u64 = 10_000;
 
 /// Writes all entries of a store in a form, a part at a time, and tells how far it is. It answers the refusal of a step, if one was refused: then only a
 /// part of the text may be there, and none where the entries could not be counted.
-pub fn dump_text<D: TwoLogs, W: Write, P: Progress>(
+pub fn dump_text<D: TwoLogs + Drop, W: Write, P: Progress>(
     alloc: Global,
-    engine: &mut Engine<D>,
+    store: &mut OpenStore<D>,
     writer: &mut W,
     form: Form,
     progress: &mut P,
 ) -> io::Result<Option<Fault>> {
-    let all = match count_entries(alloc, engine) {
+    let all = match count_entries(alloc, store) {
         Ok(all) => all,
         Err(fault) => return Ok(Some(fault)),
     };
@@ -31,7 +31,7 @@ pub fn dump_text<D: TwoLogs, W: Write, P: Progress>(
         Ok(walk) => walk,
         Err(fault) => return Ok(Some(fault)),
     };
-    let refused = write_entries(alloc, engine, writer, form, walk, all, progress)?;
+    let refused = write_entries(alloc, store, writer, form, walk, all, progress)?;
     progress.end();
     if refused.is_none() {
         write_end(writer, form)?;
@@ -39,11 +39,11 @@ pub fn dump_text<D: TwoLogs, W: Write, P: Progress>(
     Ok(refused)
 }
 
-fn count_entries<D: TwoLogs>(alloc: Global, engine: &mut Engine<D>) -> Result<u64, Fault> {
+fn count_entries<D: TwoLogs + Drop>(alloc: Global, store: &mut OpenStore<D>) -> Result<u64, Fault> {
     let mut walk = EntryWalk::new(alloc)?;
     let mut all = 0u64;
     for _part in 0..u64::MAX {
-        let part = walk.next_part(alloc, engine)?;
+        let part = walk.next_part(alloc, store)?;
         if part.is_empty() {
             break;
         }
@@ -53,9 +53,9 @@ fn count_entries<D: TwoLogs>(alloc: Global, engine: &mut Engine<D>) -> Result<u6
 }
 
 // Writes what is left of a walk, and answers the refusal of a step.
-fn write_entries<D: TwoLogs, W: Write, P: Progress>(
+fn write_entries<D: TwoLogs + Drop, W: Write, P: Progress>(
     alloc: Global,
-    engine: &mut Engine<D>,
+    store: &mut OpenStore<D>,
     writer: &mut W,
     form: Form,
     walk: EntryWalk,
@@ -66,7 +66,7 @@ fn write_entries<D: TwoLogs, W: Write, P: Progress>(
     let mut done = 0u64;
     let mut shown = 0u64;
     for _part in 0..u64::MAX {
-        let part = match walk.next_part(alloc, engine) {
+        let part = match walk.next_part(alloc, store) {
             Ok(part) => part,
             Err(fault) => return Ok(Some(fault)),
         };

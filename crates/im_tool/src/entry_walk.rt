@@ -4,7 +4,7 @@ use crate::transfer::{begun, fault_of};
 use im_base_steps::{Reply, Step};
 use im_base_two_logs::TwoLogs;
 use im_base_types::{Fault, Key, LONGEST_KEY, MOST_ENTRIES, Rid};
-use im_engine::Engine;
+use im_store::OpenStore;
 use std::alloc::Global;
 
 /// Goes over the entries of a store in rising order. Each part is read by a transaction of its own, which then ends, so that no lock is held from one part
@@ -23,15 +23,15 @@ impl EntryWalk {
     }
 
     /// The next entries, none after the last. Refused as the steps are that read them.
-    pub(crate) fn next_part<D: TwoLogs>(
+    pub(crate) fn next_part<D: TwoLogs + Drop>(
         &mut self,
         alloc: Global,
-        engine: &mut Engine<D>,
+        store: &mut OpenStore<D>,
     ) -> Result<Vec<(Key, Rid)>, Fault> {
         let Some(from) = self.from.take() else {
             return Ok(Vec::new(alloc));
         };
-        let part = read_part(alloc, engine, from)?;
+        let part = read_part(alloc, store, from)?;
         if part.len() >= MOST_ENTRIES {
             if let Some((last, _)) = part.last() {
                 self.from = key_after(alloc, last.bytes())?;
@@ -42,18 +42,18 @@ impl EntryWalk {
 }
 
 // The first entries from a key on.
-fn read_part<D: TwoLogs>(
+fn read_part<D: TwoLogs + Drop>(
     alloc: Global,
-    engine: &mut Engine<D>,
+    store: &mut OpenStore<D>,
     from: Vec<u8>,
 ) -> Result<Vec<(Key, Rid)>, Fault> {
     let greatest = vec![in alloc; 255; LONGEST_KEY].map_err(|_| Fault::Memory)?;
-    let number = begun(engine)?;
-    let part = match engine.step(&Step::Scan(number, from, greatest, MOST_ENTRIES as u64)) {
+    let number = begun(store)?;
+    let part = match store.step(&Step::Scan(number, from, greatest, MOST_ENTRIES as u64)) {
         Reply::Entries(part) => part,
         reply => return Err(fault_of(reply)),
     };
-    match engine.step(&Step::Rollback(number)) {
+    match store.step(&Step::Rollback(number)) {
         Reply::RolledBack => Ok(part),
         reply => Err(fault_of(reply)),
     }

@@ -3,18 +3,23 @@
 ghost use Rattle.std.specs.Prelude.{◌≡◌, ◌≤◌, false, IfOk};
 ghost use Rattle.im_base_disk.specs.Runs.{IsSynced};
 
+use crate::copying::{FolderCopier, copy_program};
 use crate::limits::{bounds_of, config_of};
 use crate::store::{StoreEnd, store_text};
 use crate::tasks::{load_program, look_program, tell_damage};
 use clap::Error;
 use im_base_disk::Disk;
 use im_base_file_disk::FileDisk;
+use im_base_mirror_disk::Mirrored;
 use im_base_model_disk::ModelDisk;
+use im_base_scratch_disk::ScratchDisk;
 use im_base_two_logs::Renamed;
 use im_base_types::Fault;
 use im_engine::MOST_WORKERS;
+use im_engine_upkeep::Bounds;
 use im_tool_files::{
-    Cause, Causes, Opening, WatchedDisk, print_refused_opening, tell, tell_unopened, trim_program,
+    Cause, Causes, Opening, WatchedDisk, print_refused_opening, tell, tell_unopened, tell_unread,
+    trim_program,
 };
 use im_tool_user::{LineInput, Manner, Options, Task, parse_options};
 use std::alloc::AllocError;
@@ -62,6 +67,8 @@ fn run_task<T: Threads + Sync>(rt: &HostRuntime, threads: &T, options: &Options)
     };
     match options.task {
         Task::Steps => run_in_folder(rt, threads, dir, options),
+        Task::Read => read_in_folder(rt, threads, dir, options),
+        Task::Copy(folder) => copy_program(rt, threads, dir, folder),
         Task::Load(present) => load_program(rt, threads, dir, options, present),
         Task::Trim => trim_program(rt, dir),
         task => look_program(rt, threads, dir, task),
@@ -138,6 +145,51 @@ fn run_on_files<R: LineInput, W: Write, T: Threads + Sync>(
     }
 }
 
+// The steps of lines that only read.
+fn read_in_folder<T: Threads + Sync>(
+    rt: &HostRuntime,
+    threads: &T,
+    dir: &str,
+    options: &Options,
+) -> io::Result<u8>
+    ensures { IfOk result (λ status. status ≤ 3) }
+{
+    let mut reader = BufReader::new(rt.alloc(), rt.reader())?;
+    let mut writer = BufWriter::new(rt.alloc(), io::writer(rt))?;
+    read_on_files(rt, threads, dir, options, &mut reader, &mut writer)
+}
+
+fn read_on_files<R: LineInput, W: Write, T: Threads + Sync>(
+    rt: &HostRuntime,
+    threads: &T,
+    dir: &str,
+    options: &Options,
+    reader: &mut R,
+    writer: &mut W,
+) -> io::Result<u8>
+    ensures { IfOk result (λ status. status ≤ 3) }
+{
+    match FileDisk::open_to_read(rt, dir) {
+        Ok(files) => {
+            let watched = WatchedDisk::new(files, rt.stderr(), rt);
+            let disk = ScratchDisk::new(rt.alloc(), Some(watched));
+            let end = run_steps(rt, threads, disk, dir, options, reader, writer)?;
+            if let StoreEnd::RefusedOpening(fault) = end {
+                tell(rt, dir, &fault);
+                if fault == Fault::NotAStore {
+                    tell_damage(rt, threads, dir);
+                }
+            }
+            Ok(status_at(end))
+        }
+        Err(error) => {
+            print_refused_opening(writer, error.fault())?;
+            tell_unread(rt, dir, &error);
+            Ok(1)
+        }
+    }
+}
+
 // The steps that the lines of a reader ask for, as the options say.
 fn run_steps<D: Disk + Cause + Opening + Drop, R: LineInput, W: Write, T: Threads + Sync>(
     rt: &HostRuntime,
@@ -151,7 +203,11 @@ fn run_steps<D: Disk + Cause + Opening + Drop, R: LineInput, W: Write, T: Thread
     requires working { D.failed disk ≡ false }
     requires synced { IsSynced D.Disk disk }
 {
-    let (config, bounds) = (config_of(options), bounds_of(options));
+    let config = config_of(options);
+    let bounds = match options.task {
+        Task::Read => Bounds::of_bytes(0, 0),
+        _ => bounds_of(options),
+    };
     let mut causes = Causes {
         writer: rt.stderr(),
         dir,
@@ -160,13 +216,17 @@ fn run_steps<D: Disk + Cause + Opening + Drop, R: LineInput, W: Write, T: Thread
     store_text(
         threads,
         rt.alloc(),
-        Renamed::new(disk, false),
+        Mirrored::new(Renamed::new(disk, false)),
         config,
         bounds,
         manner_of(rt, options),
         reader,
         writer,
         &mut causes,
+        &mut FolderCopier {
+            rt,
+            dir: options.dir,
+        },
     )
 }
 
@@ -188,5 +248,6 @@ fn manner_of(rt: &HostRuntime, options: &Options) -> Manner {
         has_words: options.has_words || has_user,
         has_prompt: has_user,
         is_batch: options.is_batch,
+        is_read: options.task == Task::Read,
     }
 }

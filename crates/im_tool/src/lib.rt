@@ -6,10 +6,11 @@
 //! Checkpoints are taken, and the log goes on in the other file, as the `Bounds` of `im_engine_upkeep` want it, and after the last line, so that the next opening has little to read and little to redo, or nothing. What goes to which
 //! stream is tested, by stored outputs word for word among other tests, and stands in no clause.
 //!
-//! It stands on the engine, on `im_tool_user` for what its users write and are answered, and on `im_tool_files` for the disks, and for what is told of files.
+//! It stands on `im_store` for a store that is open, on `im_tool_user` for what its users write and are answered, and on `im_tool_files` for the disks, and for what is told of files.
 //! Scripts are none of its work, so it is proved beside their crates.
 #![tactic(auto)]
 
+mod copying;
 mod dump;
 mod entry_walk;
 mod imstore;
@@ -20,6 +21,7 @@ mod store;
 mod tasks;
 mod transfer;
 
+pub use copying::{Copier, NoCopies};
 pub use dump::dump_text;
 pub use imstore::store_program;
 pub use look::{check_text, stat_text};

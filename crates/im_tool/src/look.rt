@@ -3,9 +3,11 @@
 ghost use Rattle.std.specs.Prelude.{◌≤◌, IfOk};
 
 use crate::recovered::{opened, write_changed};
+use im_base_disk::Disk;
+use im_base_scratch_disk::ScratchDisk;
 use im_tool_files::{
-    Broken, Progress, ScratchDisk, Surveyed, WatchedFiles, broken_text, numbers_text, survey_files,
-    whole_text,
+    Broken, Progress, ScratchFiles, Surveyed, WatchedFiles, broken_text, numbers_text,
+    survey_files, whole_text,
 };
 use im_tool_look::{TreeSurvey, check_pages};
 use std::alloc::Global;
@@ -21,14 +23,15 @@ struct Looked {
 }
 
 // What the log says, how the pages go with it, and what the tree and the free list are after an opening. The disk is handed back.
-fn look<T: Threads + Sync, P: Progress>(
+fn look<D: Disk + Drop, T: Threads + Sync, P: Progress>(
     rt: &T,
     alloc: Global,
-    disk: ScratchDisk,
+    disk: ScratchDisk<D>,
     progress: &mut P,
-) -> (Result<Looked, Broken>, ScratchDisk) {
-    let mut disk = disk;
-    let read = survey_files(alloc, &mut WatchedFiles::new(&mut disk, progress));
+) -> (Result<Looked, Broken>, ScratchDisk<D>) {
+    let mut files = ScratchFiles::of(disk);
+    let read = survey_files(alloc, &mut WatchedFiles::new(&mut files, progress));
+    let disk = files.into_disk();
     let surveyed = match read {
         Ok(surveyed) => surveyed,
         Err(broken) => {
@@ -46,35 +49,35 @@ fn look<T: Threads + Sync, P: Progress>(
 }
 
 // The tree in the pages as an opening leaves them.
-fn tree_behind<T: Threads + Sync, P: Progress>(
+fn tree_behind<D: Disk + Drop, T: Threads + Sync, P: Progress>(
     rt: &T,
     alloc: Global,
-    disk: ScratchDisk,
+    disk: ScratchDisk<D>,
     progress: &mut P,
-) -> (Result<TreeSurvey, Broken>, ScratchDisk) {
-    let mut engine = match opened(rt, alloc, disk) {
-        Ok(engine) => engine,
+) -> (Result<TreeSurvey, Broken>, ScratchDisk<D>) {
+    let mut store = match opened(rt, alloc, disk) {
+        Ok(store) => store,
         Err((fault, disk)) => return (Err(Broken::Opening(fault)), disk),
     };
-    let written = write_changed(&mut engine);
-    let mut disk = engine.into_disk().into_disk();
+    let written = write_changed(&mut store);
+    let mut files = ScratchFiles::of(store.into_disk().into_disk());
     let tree = match written {
-        Ok(()) => check_pages(alloc, &mut WatchedFiles::new(&mut disk, progress)),
+        Ok(()) => check_pages(alloc, &mut WatchedFiles::new(&mut files, progress)),
         Err(fault) => Err(fault),
     };
-    (tree.map_err(Broken::Opening), disk)
+    (tree.map_err(Broken::Opening), files.into_disk())
 }
 
 /// Checks a store: the records of its current log, the file of pages beside them, the whole batches after the log's end, and the tree and the free list as an opening
 /// finds them. Writes `ok`, or a line for each rule that does not hold, and answers the exit status, 0 or 1, and the disk. Whole batches after the log's end
 /// are told, and are no damage as long as one put can have left them; so is a newer log that lacks nothing but its first byte, as a stop may have left that too.
-pub fn check_text<W: Write, P: Progress, T: Threads + Sync>(
+pub fn check_text<D: Disk + Drop, W: Write, P: Progress, T: Threads + Sync>(
     rt: &T,
     alloc: Global,
     writer: &mut W,
-    disk: ScratchDisk,
+    disk: ScratchDisk<D>,
     progress: &mut P,
-) -> (io::Result<u8>, ScratchDisk)
+) -> (io::Result<u8>, ScratchDisk<D>)
     ensures { IfOk result.0 (λ status. status ≤ 1) }
 {
     let (looked, disk) = look(rt, alloc, disk, progress);
@@ -86,13 +89,13 @@ pub fn check_text<W: Write, P: Progress, T: Threads + Sync>(
 }
 
 /// Writes what a store has, in numbers, and answers the exit status, 0, or 1 where it is broken, and the disk.
-pub fn stat_text<W: Write, P: Progress, T: Threads + Sync>(
+pub fn stat_text<D: Disk + Drop, W: Write, P: Progress, T: Threads + Sync>(
     rt: &T,
     alloc: Global,
     writer: &mut W,
-    disk: ScratchDisk,
+    disk: ScratchDisk<D>,
     progress: &mut P,
-) -> (io::Result<u8>, ScratchDisk)
+) -> (io::Result<u8>, ScratchDisk<D>)
     ensures { IfOk result.0 (λ status. status ≤ 1) }
 {
     let (looked, disk) = look(rt, alloc, disk, progress);

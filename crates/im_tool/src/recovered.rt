@@ -1,10 +1,13 @@
 //! A store as an opening finds it, over its files, of which nothing is changed.
 
+use im_base_disk::Disk;
+use im_base_scratch_disk::ScratchDisk;
 use im_base_steps::{Reply, Step};
 use im_base_two_logs::Renamed;
 use im_base_types::{Fault, MOST_DIRTY, MOST_FRAMES};
-use im_engine::{BufferSize, Config, Engine};
-use im_tool_files::ScratchDisk;
+use im_engine::{BufferSize, Config};
+use im_engine_upkeep::Bounds;
+use im_store::OpenStore;
 use std::alloc::Global;
 use std::thread::Threads;
 
@@ -18,28 +21,31 @@ const TO_LOOK: Config = Config {
     workers: 1,
 };
 
-/// The store of the files, opened over them. Refused as `Engine::open_or_create` is, with the disk.
-pub(crate) fn opened<T: Threads + Sync>(
+/// The store of the files, opened over them, with no upkeep. Refused as `OpenStore::open` is, with the disk.
+pub(crate) fn opened<D: Disk + Drop, T: Threads + Sync>(
     rt: &T,
     alloc: Global,
-    disk: ScratchDisk,
-) -> Result<Engine<Renamed<ScratchDisk>>, (Fault, ScratchDisk)> {
+    disk: ScratchDisk<D>,
+) -> Result<OpenStore<Renamed<ScratchDisk<D>>>, (Fault, ScratchDisk<D>)> {
     if disk.has_failed() {
         return Err((Fault::Device, disk));
     }
-    Engine::open_or_create(rt, alloc, Renamed::new(disk, false), TO_LOOK).map_err(|refused| (
+    let disk = Renamed::new(disk, false);
+    OpenStore::open(rt, alloc, disk, TO_LOOK, Bounds::of_bytes(0, 0)).map_err(|refused| (
         refused.0,
         refused.1.into_disk(),
     ))
 }
 
 /// Writes each page that lacks changes in its file.
-pub(crate) fn write_changed(engine: &mut Engine<Renamed<ScratchDisk>>) -> Result<(), Fault> {
+pub(crate) fn write_changed<D: Disk + Drop>(
+    store: &mut OpenStore<Renamed<ScratchDisk<D>>>,
+) -> Result<(), Fault> {
     for _written in 0..MOST_DIRTY {
-        let Some(change) = engine.oldest_change() else {
+        let Some(change) = store.engine().oldest_change() else {
             break;
         };
-        if let Reply::Refused(fault) = engine.step(&Step::FlushPage(change.page)) {
+        if let Reply::Refused(fault) = store.step(&Step::FlushPage(change.page)) {
             return Err(fault);
         }
     }

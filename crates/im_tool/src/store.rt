@@ -3,15 +3,19 @@
 ghost use Rattle.std.specs.Prelude.{◌≡◌, ◌≤◌, false, IfOk};
 ghost use Rattle.im_base_disk.specs.Runs.{IsSynced};
 
+use crate::copying::Copier;
+use im_base_disk::Disk;
 use im_base_steps::{Reply, Step};
 use im_base_two_logs::TwoLogs;
 use im_base_types::Fault;
-use im_engine::{Config, Engine};
-use im_engine_upkeep::{Bounds, Due, Upkeep, has_first_format};
-use im_tool_files::{Cause, Causes, Opening, print_refused_opening};
+use im_engine::Config;
+use im_engine_upkeep::{Bounds, Due};
+use im_store::OpenStore;
+use im_tool_files::{Cause, Causes, NoCopy, Opening, print_refused_opening};
 use im_tool_user::{
-    LineInput, Manner, end_prompt, is_help, print_entries, print_prompt, print_refused,
-    print_reply, print_stop, refuse, run_help, step_in, why_no_step, without_newline,
+    LineInput, Manner, end_prompt, is_change, is_help, print_entries, print_prompt, print_refused,
+    print_reply, print_stop, refuse, refuse_change, run_help, step_in, why_no_step,
+    without_newline,
 };
 use im_tool_words::report_text;
 use std::alloc::{AllocError, Global};
@@ -35,18 +39,19 @@ pub enum StoreEnd {
 /// Opens the store of a disk, makes the steps that the input's lines ask for, and writes each reply, one a line.
 ///
 /// Replies are flushed before a line is waited for, after each `committed`, and at the end. The line `entries` writes how
-/// many entries there are, and each; `redo` what redo did in the opening. A bad line is answered `refused 16`, and the store goes on. Empty lines are passed over,
+/// many entries there are, and each; `redo` what redo did in the opening; `copy FOLDER` how many bytes the copy has that the copier made. A bad line is answered `refused 16`, and the store goes on. Empty lines are passed over,
 /// and a carriage return in front of a newline is left out. An error is of the program's own memory, input or output.
 ///
 /// Checkpoints are taken after the opening and after the steps, and the log goes on in the other file, as the bounds want it. At the end of the input a long
 /// log is left for an empty one, or all changed pages are written and a last Checkpoint is taken, so that the next opening has nothing to redo. Where such a step is
-/// refused, a line `checkpoint refused N`, `switch refused N` or `close refused N` says so. Where a call of the disk failed, what failed stands in a line of `causes`, once.
+/// refused, or the files cannot be synced then, a line `checkpoint refused N`, `switch refused N` or `close refused N` says so. Where a call of the disk failed, what failed stands in a line of `causes`, once.
 pub fn store_text<
     D: TwoLogs + Cause + Opening + Drop,
     R: LineInput,
     W: Write,
     E: Write,
     T: Threads + Sync,
+    C: Copier<D>,
 >(
     rt: &T,
     alloc: Global,
@@ -57,37 +62,16 @@ pub fn store_text<
     reader: &mut R,
     writer: &mut W,
     causes: &mut Causes<E>,
+    copier: &mut C,
 ) -> io::Result<StoreEnd>
     requires working { D.failed disk ≡ false }
     requires synced { IsSynced D.Disk disk }
 {
-    let mut disk = disk;
-    let has_first_format = match has_first_format(&mut disk) {
-        Ok(is_so) => is_so,
-        Err(fault) => {
-            print_refused_opening(writer, fault)?;
-            causes.tell(&disk);
-            return Ok(StoreEnd::RefusedOpening(fault));
-        }
-    };
-    match Engine::open_or_create(rt, alloc, disk, config) {
-        Ok(mut engine) => {
-            engine.disk().is_done();
-            let mut upkeep = Upkeep::of(&engine, bounds);
-            if has_first_format {
-                upkeep.leave_first_format();
-            }
-            let run = run_to_close(
-                alloc,
-                &mut engine,
-                &mut upkeep,
-                manner,
-                reader,
-                writer,
-                causes,
-            );
-            let _disk = engine.into_disk();
-            let end = run?;
+    match OpenStore::open(rt, alloc, disk, config, bounds) {
+        Ok(mut store) => {
+            store.engine().disk().is_done();
+            let run = run_to_end(alloc, &mut store, manner, reader, writer, causes, copier);
+            let end = closed(store, run, manner, writer, causes)?;
             writer.flush()?;
             Ok(end)
         }
@@ -99,61 +83,77 @@ pub fn store_text<
     }
 }
 
-// Makes the steps that the lines ask for, and closes the store after them.
-fn run_to_close<D: TwoLogs + Cause, R: LineInput, W: Write, E: Write>(
+// Makes what is due, and then the steps that the lines ask for.
+fn run_to_end<D: TwoLogs + Cause + Drop, R: LineInput, W: Write, E: Write, C: Copier<D>>(
     alloc: Global,
-    engine: &mut Engine<D>,
-    upkeep: &mut Upkeep,
+    store: &mut OpenStore<D>,
     manner: Manner,
     reader: &mut R,
     writer: &mut W,
     causes: &mut Causes<E>,
+    copier: &mut C,
 ) -> io::Result<StoreEnd> {
-    let is_unkept = keep(engine, upkeep, manner, writer)?;
-    causes.tell(engine.disk());
-    if is_unkept && manner.is_batch {
+    if manner.is_read {
+        return run_all_lines(alloc, store, manner, reader, writer, causes, copier);
+    }
+    store.keep();
+    let refused = tell_unkept(store, manner, writer)?;
+    causes.tell(store.engine().disk());
+    if refused.is_some() && manner.is_batch {
         return Ok(StoreEnd::RefusedLine);
     }
-    let end = run_all_lines(alloc, engine, upkeep, manner, reader, writer, causes)?;
-    if end != StoreEnd::Input {
-        return Ok(end);
+    run_all_lines(alloc, store, manner, reader, writer, causes, copier)
+}
+
+// Ends the store. After the last line it is closed, unless it was only read, or has failed, which was told then.
+fn closed<D: TwoLogs + Cause + Drop, W: Write, E: Write>(
+    store: OpenStore<D>,
+    run: io::Result<StoreEnd>,
+    manner: Manner,
+    writer: &mut W,
+    causes: &mut Causes<E>,
+) -> io::Result<StoreEnd> {
+    if !matches!(&run, Ok(StoreEnd::Input)) || store.engine().failed() || manner.is_read {
+        let _disk = store.into_disk();
+        return run;
     }
-    match upkeep.close(engine) {
-        Ok(()) => Ok(end),
+    let (closed, disk) = store.close();
+    match closed {
+        Ok(()) => run,
         Err(fault) => {
             write!(writer, "close ")?;
             print_refused(writer, manner, fault.number(), &fault)?;
-            causes.tell(engine.disk());
+            causes.tell(&disk);
             Ok(StoreEnd::RefusedClose(fault))
         }
     }
 }
 
-fn run_all_lines<D: TwoLogs + Cause, R: LineInput, W: Write, E: Write>(
+fn run_all_lines<D: TwoLogs + Cause + Drop, R: LineInput, W: Write, E: Write, C: Copier<D>>(
     alloc: Global,
-    engine: &mut Engine<D>,
-    upkeep: &mut Upkeep,
+    store: &mut OpenStore<D>,
     manner: Manner,
     reader: &mut R,
     writer: &mut W,
     causes: &mut Causes<E>,
+    copier: &mut C,
 ) -> io::Result<StoreEnd> {
     let mut line = Vec::new(alloc);
     run_lines(
-        alloc, engine, upkeep, manner, reader, &mut line, writer, causes,
+        alloc, store, manner, reader, &mut line, writer, causes, copier,
     )
 }
 
 // Reads line by line into the room for one.
-fn run_lines<D: TwoLogs + Cause, R: LineInput, W: Write, E: Write>(
+fn run_lines<D: TwoLogs + Cause + Drop, R: LineInput, W: Write, E: Write, C: Copier<D>>(
     alloc: Global,
-    engine: &mut Engine<D>,
-    upkeep: &mut Upkeep,
+    store: &mut OpenStore<D>,
     manner: Manner,
     reader: &mut R,
     line: &mut Vec<u8>,
     writer: &mut W,
     causes: &mut Causes<E>,
+    copier: &mut C,
 ) -> io::Result<StoreEnd> {
     let mut is_told = false;
     for _count in 0..u64::MAX {
@@ -171,14 +171,13 @@ fn run_lines<D: TwoLogs + Cause, R: LineInput, W: Write, E: Write>(
             return Ok(StoreEnd::Input);
         }
         if !text.is_empty() {
-            let refused = run_line(alloc, engine, upkeep, manner, text, writer)?;
-            let is_unkept = keep(engine, upkeep, manner, writer)?;
-            is_told = tell_held_up(engine, upkeep, manner, is_told, writer)?;
-            causes.tell(engine.disk());
+            let refused = run_line(alloc, store, manner, text, writer, copier)?;
+            is_told = tell_held_up(store, manner, is_told, writer)?;
+            causes.tell(store.engine().disk());
             if refused == Some(Fault::NotAStore) {
                 causes.tell_broken();
             }
-            if (refused.is_some() || is_unkept) && manner.is_batch {
+            if refused.is_some() && manner.is_batch {
                 return Ok(StoreEnd::RefusedLine);
             }
         }
@@ -186,32 +185,27 @@ fn run_lines<D: TwoLogs + Cause, R: LineInput, W: Write, E: Write>(
     Ok(StoreEnd::Input)
 }
 
-// Makes what is due, and answers whether that was refused.
-fn keep<D: TwoLogs, W: Write>(
-    engine: &mut Engine<D>,
-    upkeep: &mut Upkeep,
+// Writes what was refused of the upkeep after the last step, and answers it, if anything was.
+fn tell_unkept<D: TwoLogs + Drop, W: Write>(
+    store: &OpenStore<D>,
     manner: Manner,
     writer: &mut W,
-) -> io::Result<bool> {
-    let name = name_of(upkeep.due(engine));
-    match upkeep.keep(engine) {
-        Ok(()) => Ok(false),
-        Err(fault) => {
-            write!(writer, "{name} ")?;
-            print_refused(writer, manner, fault.number(), &fault)
-        }
-    }
+) -> io::Result<Option<Fault>> {
+    let Some(unkept) = store.unkept() else {
+        return Ok(None);
+    };
+    write!(writer, "{} ", name_of(unkept.due))?;
+    refuse(writer, manner, unkept.fault)
 }
 
 // Says once, where words are wanted, that the log is past its bound while a transaction is active. It answers whether that is so.
-fn tell_held_up<D: TwoLogs, W: Write>(
-    engine: &Engine<D>,
-    upkeep: &Upkeep,
+fn tell_held_up<D: TwoLogs + Drop, W: Write>(
+    store: &OpenStore<D>,
     manner: Manner,
     is_told: bool,
     writer: &mut W,
 ) -> io::Result<bool> {
-    let is_so = manner.has_words && upkeep.is_held_up(engine);
+    let is_so = manner.has_words && store.is_held_up();
     if is_so && !is_told {
         writeln!(
             writer,
@@ -229,17 +223,22 @@ fn name_of(due: Due) -> &'static str {
     }
 }
 
-// Makes what a line asks for, and answers the refusal, if it was refused.
-fn run_line<D: TwoLogs, W: Write>(
+// Makes what a line asks for, and answers the refusal, if it was refused, or the upkeep after it.
+fn run_line<D: TwoLogs + Drop, W: Write, C: Copier<D>>(
     alloc: Global,
-    engine: &mut Engine<D>,
-    upkeep: &mut Upkeep,
+    store: &mut OpenStore<D>,
     manner: Manner,
     line: &[u8],
     writer: &mut W,
+    copier: &mut C,
 ) -> io::Result<Option<Fault>> {
+    if let Some(folder) = folder_in(line) {
+        if let Some(copied) = copier.copy(alloc, store, folder) {
+            return print_copied(manner, writer, copier, folder, copied);
+        }
+    }
     if line == b"entries".as_slice() {
-        return match engine.entries(alloc) {
+        return match store.entries(alloc) {
             Ok(entries) => {
                 print_entries(alloc, writer, manner, &entries)?;
                 Ok(None)
@@ -248,7 +247,7 @@ fn run_line<D: TwoLogs, W: Write>(
         };
     }
     if line == b"redo".as_slice() {
-        let report = engine.redo_report();
+        let report = store.engine().redo_report();
         report_text(writer, report.point, report.applied)?;
         return Ok(None);
     }
@@ -256,7 +255,12 @@ fn run_line<D: TwoLogs, W: Write>(
         return run_help(manner, line, writer);
     }
     match step_in(alloc, manner, line) {
-        Ok(step) => run_step(alloc, engine, upkeep, manner, &step, writer),
+        Ok(step) if manner.is_read && is_change(&step) => {
+            refuse_change(writer, manner)?;
+            // (it ends a batch as a line does that is none)
+            Ok(Some(Fault::BadScript))
+        }
+        Ok(step) => run_step(alloc, store, manner, &step, writer),
         Err(Fault::BadScript) => {
             let why = why_no_step(alloc, line);
             print_refused(writer, manner, Fault::BadScript.number(), &why)?;
@@ -266,15 +270,47 @@ fn run_line<D: TwoLogs, W: Write>(
     }
 }
 
-fn run_step<D: TwoLogs, W: Write>(
+// The folder that a line `copy FOLDER` names.
+fn folder_in(line: &[u8]) -> Option<&str> {
+    let folder = line.strip_prefix(b"copy ")?;
+    match std::str::from_utf8(folder) {
+        Ok(folder) if !folder.is_empty() => Some(folder),
+        _ => None,
+    }
+}
+
+// Writes what came of a copy, and answers the refusal, if it was refused.
+fn print_copied<D: Disk, W: Write, C: Copier<D>>(
+    manner: Manner,
+    writer: &mut W,
+    copier: &C,
+    folder: &str,
+    copied: Result<u64, NoCopy>,
+) -> io::Result<Option<Fault>> {
+    match copied {
+        Ok(bytes) => {
+            writeln!(writer, "copied {bytes}")?;
+            Ok(None)
+        }
+        Err(why) => {
+            if !manner.has_words {
+                copier.tell(folder, &why);
+            }
+            print_refused(writer, manner, why.number(), &why)?;
+            // (it ends a batch as a line does that is none)
+            Ok(Some(Fault::BadScript))
+        }
+    }
+}
+
+fn run_step<D: TwoLogs + Drop, W: Write>(
     alloc: Global,
-    engine: &mut Engine<D>,
-    upkeep: &mut Upkeep,
+    store: &mut OpenStore<D>,
     manner: Manner,
     step: &Step,
     writer: &mut W,
 ) -> io::Result<Option<Fault>> {
-    let reply = upkeep.step(engine, step);
+    let reply = store.step(step);
     if let Reply::Refused(fault) = reply {
         return refuse(writer, manner, fault);
     }
@@ -286,5 +322,5 @@ fn run_step<D: TwoLogs, W: Write>(
     if matches!(&reply, Reply::Committed) {
         writer.flush()?;
     }
-    Ok(None)
+    tell_unkept(store, manner, writer)
 }

@@ -8,11 +8,12 @@ use crate::look::{check_text, stat_text};
 use crate::recovered::opened;
 use crate::transfer::{LoadCount, Loaded, load_text};
 use im_base_file_disk::FileDisk;
+use im_base_scratch_disk::ScratchDisk;
 use im_base_two_logs::Renamed;
 use im_base_types::Fault;
 use im_tool_files::{
-    Cause, Causes, Progress, ProgressLine, ScratchDisk, Untold, WatchedDisk, print_refused_opening,
-    tell, tell_unopened, tell_unread,
+    Cause, Causes, Progress, ProgressLine, ScratchFiles, Untold, WatchedDisk,
+    print_refused_opening, tell, tell_unopened, tell_unread,
 };
 use im_tool_look::{LogDamage, log_text, read_log};
 use im_tool_user::{Form, LineInput, Options, Present, Task, WhyBad};
@@ -71,8 +72,8 @@ fn look_at<W: Write, T: Threads + Sync>(
     dir: &str,
     task: Task,
     writer: &mut W,
-    disk: ScratchDisk,
-) -> (io::Result<u8>, ScratchDisk)
+    disk: ScratchDisk<FileDisk>,
+) -> (io::Result<u8>, ScratchDisk<FileDisk>)
     ensures { IfOk result.0 (λ status. status ≤ 1) }
 {
     let mut progress = ProgressLine::new(rt.stderr(), rt.stderr().is_terminal(), "MiB read", rt);
@@ -81,7 +82,7 @@ fn look_at<W: Write, T: Threads + Sync>(
         Task::Stat => stat_text(threads, rt.alloc(), writer, disk, &mut progress),
         Task::Log => print_log(rt, dir, writer, disk),
         Task::Dump(form) => dump(rt, threads, dir, writer, form, disk),
-        Task::Steps | Task::Load(_) | Task::Trim => (Ok(0), disk),
+        Task::Steps | Task::Read | Task::Load(_) | Task::Trim | Task::Copy(_) => (Ok(0), disk),
     }
 }
 
@@ -103,8 +104,8 @@ pub(crate) fn tell_damage<T: Threads + Sync>(rt: &HostRuntime, threads: &T, dir:
 }
 
 // Says on standard error how many transactions a dump leaves out.
-fn tell_left_out(rt: &HostRuntime, dir: &str, disk: &mut ScratchDisk) {
-    if let Ok(said) = read_log(rt.alloc(), disk) {
+fn tell_left_out(rt: &HostRuntime, dir: &str, files: &mut ScratchFiles<FileDisk>) {
+    if let Ok(said) = read_log(rt.alloc(), files) {
         let losers = said.analysed.losers.len();
         if losers > 0 {
             tell(
@@ -138,13 +139,13 @@ fn print_log<W: Write>(
     rt: &HostRuntime,
     dir: &str,
     writer: &mut W,
-    disk: ScratchDisk,
-) -> (io::Result<u8>, ScratchDisk)
+    disk: ScratchDisk<FileDisk>,
+) -> (io::Result<u8>, ScratchDisk<FileDisk>)
     ensures { IfOk result.0 (λ status. status ≤ 1) }
 {
-    let mut disk = disk;
-    let printed = log_text(rt.alloc(), writer, &mut disk);
-    (end_log(rt, dir, writer, printed), disk)
+    let mut files = ScratchFiles::of(disk);
+    let printed = log_text(rt.alloc(), writer, &mut files);
+    (end_log(rt, dir, writer, printed), files.into_disk())
 }
 
 // Says at which damage the records end. It answers the exit status.
@@ -172,23 +173,24 @@ fn dump<W: Write, T: Threads + Sync>(
     dir: &str,
     writer: &mut W,
     form: Form,
-    disk: ScratchDisk,
-) -> (io::Result<u8>, ScratchDisk)
+    disk: ScratchDisk<FileDisk>,
+) -> (io::Result<u8>, ScratchDisk<FileDisk>)
     ensures { IfOk result.0 (λ status. status ≤ 1) }
 {
-    let mut disk = disk;
-    tell_left_out(rt, dir, &mut disk);
+    let mut files = ScratchFiles::of(disk);
+    tell_left_out(rt, dir, &mut files);
+    let disk = files.into_disk();
     let is_shown = rt.stderr().is_terminal() && !rt.stdout().is_terminal();
     let mut progress = ProgressLine::new(rt.stderr(), is_shown, "entries", rt);
     progress.say("opening a copy of the store, and counting its entries");
-    let mut engine = match opened(threads, rt.alloc(), disk) {
-        Ok(engine) => engine,
+    let mut store = match opened(threads, rt.alloc(), disk) {
+        Ok(store) => store,
         Err((fault, disk)) => return (refused(rt, dir, writer, fault), disk),
     };
-    let dumped = dump_text(rt.alloc(), &mut engine, writer, form, &mut progress);
+    let dumped = dump_text(rt.alloc(), &mut store, writer, form, &mut progress);
     (
         end_dump(rt, dir, writer, dumped),
-        engine.into_disk().into_disk(),
+        store.into_disk().into_disk(),
     )
 }
 

@@ -6,8 +6,9 @@ ghost use Rattle.im_base_disk.specs.Runs.{IsSynced};
 use im_base_steps::{Reply, Step};
 use im_base_two_logs::TwoLogs;
 use im_base_types::{Fault, Rid, TxnId};
-use im_engine::{Config, Engine};
-use im_engine_upkeep::{Bounds, Upkeep, has_first_format};
+use im_engine::Config;
+use im_engine_upkeep::Bounds;
+use im_store::OpenStore;
 use im_tool_files::{Cause, Causes, Opening, Progress};
 use im_tool_user::{EntryText, LineInput, Next, Present, WhyBad};
 use std::alloc::Global;
@@ -79,23 +80,11 @@ pub fn load_text<
     requires working { D.failed disk ≡ false }
     requires synced { IsSynced D.Disk disk }
 {
-    let mut disk = disk;
-    let has_first_format = match has_first_format(&mut disk) {
-        Ok(is_so) => is_so,
-        Err(fault) => {
-            causes.tell(&disk);
-            return Ok(Loaded::RefusedOpening(fault));
-        }
-    };
-    match Engine::open_or_create(rt, alloc, disk, config) {
-        Ok(mut engine) => {
-            engine.disk().is_done();
-            let mut upkeep = Upkeep::of(&engine, bounds);
-            if has_first_format {
-                upkeep.leave_first_format();
-            }
-            let loaded = load_to_close(alloc, &mut engine, &mut upkeep, present, reader, progress);
-            let disk = engine.into_disk();
+    match OpenStore::open(rt, alloc, disk, config, bounds) {
+        Ok(mut store) => {
+            store.engine().disk().is_done();
+            let run = load_to_end(alloc, &mut store, present, reader, progress);
+            let (loaded, disk) = closed(store, run);
             progress.end();
             causes.tell(&disk);
             loaded
@@ -107,32 +96,39 @@ pub fn load_text<
     }
 }
 
-// Loads the lines, and closes the store after them.
-fn load_to_close<D: TwoLogs, R: LineInput, P: Progress>(
+// Makes what is due, and loads the lines.
+fn load_to_end<D: TwoLogs + Drop, R: LineInput, P: Progress>(
     alloc: Global,
-    engine: &mut Engine<D>,
-    upkeep: &mut Upkeep,
+    store: &mut OpenStore<D>,
     present: Present,
     reader: &mut R,
     progress: &mut P,
 ) -> io::Result<Loaded> {
-    if let Err(fault) = upkeep.keep(engine) {
-        return Ok(Loaded::Refused(1, fault));
+    store.keep();
+    if let Some(unkept) = store.unkept() {
+        return Ok(Loaded::Refused(1, unkept.fault));
     }
-    let loaded = load_all_lines(alloc, engine, upkeep, present, reader, progress)?;
-    let Loaded::All(count) = loaded else {
-        return Ok(loaded);
+    load_all_lines(alloc, store, present, reader, progress)
+}
+
+// Ends the store, which is closed where all was loaded.
+fn closed<D: TwoLogs + Drop>(
+    store: OpenStore<D>,
+    run: io::Result<Loaded>,
+) -> (io::Result<Loaded>, D) {
+    let Ok(Loaded::All(count)) = run else {
+        return (run, store.into_disk());
     };
-    match upkeep.close(engine) {
-        Ok(()) => Ok(loaded),
-        Err(fault) => Ok(Loaded::RefusedClose(count, fault)),
+    let (closed, disk) = store.close();
+    match closed {
+        Ok(()) => (Ok(Loaded::All(count)), disk),
+        Err(fault) => (Ok(Loaded::RefusedClose(count, fault)), disk),
     }
 }
 
-fn load_all_lines<D: TwoLogs, R: LineInput, P: Progress>(
+fn load_all_lines<D: TwoLogs + Drop, R: LineInput, P: Progress>(
     alloc: Global,
-    engine: &mut Engine<D>,
-    upkeep: &mut Upkeep,
+    store: &mut OpenStore<D>,
     present: Present,
     reader: &mut R,
     progress: &mut P,
@@ -141,14 +137,13 @@ fn load_all_lines<D: TwoLogs, R: LineInput, P: Progress>(
     if let Some(why) = text.read_head(reader)? {
         return Ok(Loaded::BadLine(text.number(), why));
     }
-    load_entries(alloc, engine, upkeep, present, reader, &mut text, progress)
+    load_entries(alloc, store, present, reader, &mut text, progress)
 }
 
 // Puts in one entry after another, and commits the last ones.
-fn load_entries<D: TwoLogs, R: LineInput, P: Progress>(
+fn load_entries<D: TwoLogs + Drop, R: LineInput, P: Progress>(
     alloc: Global,
-    engine: &mut Engine<D>,
-    upkeep: &mut Upkeep,
+    store: &mut OpenStore<D>,
     present: Present,
     reader: &mut R,
     text: &mut EntryText,
@@ -159,36 +154,38 @@ fn load_entries<D: TwoLogs, R: LineInput, P: Progress>(
     for done in 0..u64::MAX {
         let (key, rid, at) = match text.next_entry(alloc, reader)? {
             Next::Entry(key, rid, at) => (key, rid, at),
-            Next::End => return Ok(end_load(engine, upkeep, number, count, text, progress)),
+            Next::End => return Ok(end_load(store, number, count, text, progress)),
             Next::Bad(at, why) => return Ok(Loaded::BadLine(at, why)),
             Next::Memory(at) => return Ok(Loaded::Refused(at, Fault::Memory)),
         };
         if done % A_COMMIT == 0 {
-            match begun(engine) {
+            match begun(store) {
                 Ok(started) => number = started,
                 Err(fault) => return Ok(Loaded::Refused(at, fault)),
             }
         }
-        if let Some(end) = load_entry(engine, number, present, key, rid, at, &mut count) {
+        if let Some(end) = load_entry(store, number, present, key, rid, at, &mut count) {
             return Ok(end);
         }
+        if let Some(unkept) = store.unkept() {
+            return Ok(Loaded::Refused(at, unkept.fault));
+        }
         if done % A_COMMIT == A_COMMIT - 1 {
-            if let Err(fault) = committed(engine, number) {
+            if let Err(fault) = committed(store, number) {
                 return Ok(Loaded::Refused(at, fault));
             }
+            if let Some(unkept) = store.unkept() {
+                return Ok(Loaded::Refused(at, unkept.fault));
+            }
             progress.show(done.saturating_add(1), text.all());
-        }
-        if let Err(fault) = upkeep.keep(engine) {
-            return Ok(Loaded::Refused(at, fault));
         }
     }
     Ok(Loaded::All(count))
 }
 
 // Commits what was put in since the last commit.
-fn end_load<D: TwoLogs, P: Progress>(
-    engine: &mut Engine<D>,
-    upkeep: &mut Upkeep,
+fn end_load<D: TwoLogs + Drop, P: Progress>(
+    store: &mut OpenStore<D>,
     number: TxnId,
     count: LoadCount,
     text: &EntryText,
@@ -196,35 +193,35 @@ fn end_load<D: TwoLogs, P: Progress>(
 ) -> Loaded {
     let done = count.all();
     if done % A_COMMIT != 0 {
-        if let Err(fault) = committed(engine, number) {
+        if let Err(fault) = committed(store, number) {
             return Loaded::Refused(text.number(), fault);
         }
         progress.show(done, text.all());
     }
-    match upkeep.keep(engine) {
-        Ok(()) => Loaded::All(count),
-        Err(fault) => Loaded::Refused(text.number(), fault),
+    match store.unkept() {
+        None => Loaded::All(count),
+        Some(unkept) => Loaded::Refused(text.number(), unkept.fault),
     }
 }
 
 /// Begins a transaction, and answers its number.
-pub(crate) fn begun<D: TwoLogs>(engine: &mut Engine<D>) -> Result<TxnId, Fault> {
-    match engine.step(&Step::Begin) {
+pub(crate) fn begun<D: TwoLogs + Drop>(store: &mut OpenStore<D>) -> Result<TxnId, Fault> {
+    match store.step(&Step::Begin) {
         Reply::Started(number) => Ok(number),
         reply => Err(fault_of(reply)),
     }
 }
 
-fn committed<D: TwoLogs>(engine: &mut Engine<D>, number: TxnId) -> Result<(), Fault> {
-    match engine.step(&Step::Commit(number)) {
+fn committed<D: TwoLogs + Drop>(store: &mut OpenStore<D>, number: TxnId) -> Result<(), Fault> {
+    match store.step(&Step::Commit(number)) {
         Reply::Committed => Ok(()),
         reply => Err(fault_of(reply)),
     }
 }
 
 // Puts in an entry, or does with it what is done with a key that is there. It answers how the load ends where that is refused.
-fn load_entry<D: TwoLogs>(
-    engine: &mut Engine<D>,
+fn load_entry<D: TwoLogs + Drop>(
+    store: &mut OpenStore<D>,
     number: TxnId,
     present: Present,
     key: Vec<u8>,
@@ -233,17 +230,17 @@ fn load_entry<D: TwoLogs>(
     count: &mut LoadCount,
 ) -> Option<Loaded> {
     let insert = Step::Insert(number, key, rid);
-    match engine.step(&insert) {
+    match store.step(&insert) {
         Reply::Inserted => {
             count.put = count.put.saturating_add(1);
             None
         }
         Reply::Duplicate => match (present, insert) {
             (Present::Skipped, Step::Insert(_, key, _)) => {
-                skip(engine, number, key, rid, at, count)
+                skip(store, number, key, rid, at, count)
             }
             (Present::Replaced, Step::Insert(_, key, _)) => {
-                replace(engine, number, key, rid, at, count)
+                replace(store, number, key, rid, at, count)
             }
             _ => Some(Loaded::Duplicate(at)),
         },
@@ -252,15 +249,15 @@ fn load_entry<D: TwoLogs>(
 }
 
 // Leaves a key that is there, and counts whether it has another row id.
-fn skip<D: TwoLogs>(
-    engine: &mut Engine<D>,
+fn skip<D: TwoLogs + Drop>(
+    store: &mut OpenStore<D>,
     number: TxnId,
     key: Vec<u8>,
     rid: Rid,
     at: u64,
     count: &mut LoadCount,
 ) -> Option<Loaded> {
-    match engine.step(&Step::Fetch(number, key)) {
+    match store.step(&Step::Fetch(number, key)) {
         Reply::Found(there) => {
             count.skipped = count.skipped.saturating_add(1);
             if there != rid {
@@ -273,8 +270,8 @@ fn skip<D: TwoLogs>(
 }
 
 // Gives a key that is there another row id.
-fn replace<D: TwoLogs>(
-    engine: &mut Engine<D>,
+fn replace<D: TwoLogs + Drop>(
+    store: &mut OpenStore<D>,
     number: TxnId,
     key: Vec<u8>,
     rid: Rid,
@@ -282,9 +279,12 @@ fn replace<D: TwoLogs>(
     count: &mut LoadCount,
 ) -> Option<Loaded> {
     let delete = Step::Delete(number, key);
-    let deleted = engine.step(&delete);
+    let deleted = store.step(&delete);
+    if let Some(unkept) = store.unkept() {
+        return Some(Loaded::Refused(at, unkept.fault));
+    }
     let reply = match (deleted, delete) {
-        (Reply::Deleted, Step::Delete(_, key)) => engine.step(&Step::Insert(number, key, rid)),
+        (Reply::Deleted, Step::Delete(_, key)) => store.step(&Step::Insert(number, key, rid)),
         (reply, _) => reply,
     };
     match reply {

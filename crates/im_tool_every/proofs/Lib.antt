@@ -1,1 +1,4 @@
+pub mod Fronts
+pub mod LeftFiles
 pub mod Opens
+pub mod Verdicts

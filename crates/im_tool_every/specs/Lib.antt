@@ -1,1 +1,3 @@
 pub mod Opened
+pub mod Counted
+pub mod Guarded

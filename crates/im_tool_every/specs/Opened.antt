@@ -26,7 +26,7 @@ module _ (d : Ghosts (Renamed ModelDisk)) where
     pub listing : IsListing d found old new
     pub verdict : good ≡ true ↔ IsGood asked found
 
-  -- What an opening came to, whether it was judged so, and the disk behind that.
+  -- What an opening came to, whether it was judged so, and the disk after that.
   abbrev pub IsVerdictOn : List AskedEffect → Judged → ModelDisk → Result (Engine (Renamed ModelDisk) d) (Fault × Renamed ModelDisk) → Type 0
   IsVerdictOn asked judged new (Ok e) = (listed : Engine (Renamed ModelDisk) d) × IsJudgedBy asked e listed judged.good × (judged.calls ≡ model_calls e.disk.disk) × (new ≡ listed.disk.disk)
   IsVerdictOn asked judged new (Err x) = (judged.good ≡ true ↔ IsPassedOver x.0) × (judged.calls ≡ model_calls x.1.disk) × (new ≡ x.1.disk)

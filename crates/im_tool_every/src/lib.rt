@@ -6,17 +6,30 @@
 //! that were acknowledged (`IsAllowed` of `im_tool_judge`), by the life's lines and replies alone.
 //!
 //! `every_failure` makes a life again and again, in which each time another device call fails, or another read, and judges the answers
-//! (`is_disturbed`) and the opening after it.
+//! (`is_disturbed`) and the opening after it; then each call of the opening after the whole life fails in turn.
 //!
-//! It stands on `im_tool_judge` for the verdicts, on `im_tool_drill` for lives, on the engine and the model disk. What it prints is tested, and
-//! stands in no clause; of an opening each verdict is the judge's (`IsJudged`), and a stopped one leaves what the stop does (`IsStopped`).
+//! `sweep_text` does either to the last life of a script, in each setting that its words leave open: frames, group, workers, the log's buffer. What
+//! that life begins with (`Start`) stands before what it asked, as one effect that was acknowledged. It stops a life and an opening at their ends
+//! too, where a call that was answered and not synced shows, and leaves single bytes as written (`Stops::Everywhere`).
+//!
+//! It stands on `im_tool_judge` for the verdicts, on `im_tool_drill` for lives, on `im_base_guard` for the guards, on the engine and the model disk. What it prints is tested, and
+//! stands in no clause; of an opening each verdict is the judge's (`IsJudged`), and a stopped one leaves what the stop does (`IsStopped`). What a stop left
+//! is bad too where the guards of a folder of these files would refuse it (`IsGuarded`); each verdict is counted (`IsJudgedIn`).
 #![tactic(auto)]
 
 mod every;
 mod failing;
+mod guards;
 mod judged_opening;
+mod settings;
+mod start;
+mod sweep;
 mod text;
+mod ways;
 
 pub use every::{Counts, every_restart, every_stop};
 pub use failing::every_failure;
+pub use start::Start;
+pub use sweep::{Sweep, sweep_text};
 pub use text::every_text;
+pub use ways::Stops;

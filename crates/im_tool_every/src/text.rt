@@ -3,6 +3,8 @@
 ghost use Rattle.std.specs.Prelude.{◌≤◌, IfOk};
 
 use crate::every::every_stop;
+use crate::start::Start;
+use crate::ways::Stops;
 use im_base_types::Fault;
 use im_engine::BufferSize;
 use im_tool_lines::{Script, ScriptError, StoreLife, StoreScript, is_raw};
@@ -29,8 +31,10 @@ pub fn every_text<R: Read, W: Write, P: Write, T: Threads + Sync>(
     let mut text = Vec::new(alloc);
     reader.read_to_end(&mut text)?;
     match life_of(alloc, &text) {
-        Ok(Some(life)) => {
-            let counts = every_stop(rt, alloc, life, buffer, progress)?;
+        Ok(Some(mut life)) => {
+            let start = Start::empty(alloc);
+            let stops = Stops::EachCall;
+            let counts = every_stop(rt, alloc, &start, &mut life, buffer, stops, progress)?;
             writeln!(
                 writer,
                 "stops {} restarts {} bad {}",
@@ -38,11 +42,25 @@ pub fn every_text<R: Read, W: Write, P: Write, T: Threads + Sync>(
             )?;
             Ok(if counts.bad == 0 { 0 } else { 1 })
         }
-        Ok(None) => {
-            writeln!(writer, "script not single")?;
-            Ok(1)
-        }
-        Err(ScriptError::BadLine(number)) => {
+        Ok(None) => write_not_single(writer),
+        Err(error) => write_refused(writer, error),
+    }
+}
+
+/// Says that a script has not the lives that are asked for, and answers the status.
+pub(crate) fn write_not_single<W: Write>(writer: &mut W) -> io::Result<u8>
+    ensures { IfOk result (λ status. status ≤ 1) }
+{
+    writeln!(writer, "script not single")?;
+    Ok(1)
+}
+
+/// Says which line of a script is bad, and answers the status.
+pub(crate) fn write_refused<W: Write>(writer: &mut W, error: ScriptError) -> io::Result<u8>
+    ensures { IfOk result (λ status. status ≤ 1) }
+{
+    match error {
+        ScriptError::BadLine(number) => {
             writeln!(
                 writer,
                 "refused {} line {number}",
@@ -50,22 +68,21 @@ pub fn every_text<R: Read, W: Write, P: Write, T: Threads + Sync>(
             )?;
             Ok(1)
         }
-        Err(ScriptError::Memory) => Err(io::Error::from(AllocError)),
+        ScriptError::Memory => Err(io::Error::from(AllocError)),
     }
 }
 
 // The life of a script that has one, with no `set` line and no stop.
 fn life_of(alloc: Global, text: &[u8]) -> Result<Option<StoreLife>, ScriptError> {
-    if is_raw(text) {
-        let _script = Script::parse(alloc, text)?;
+    let Some(script) = store_script(alloc, text)? else {
         return Ok(None);
-    }
+    };
     let StoreScript {
         log,
         pages,
         log2,
         mut lives,
-    } = StoreScript::parse(alloc, text)?;
+    } = script;
     let Some(life) = lives.pop() else {
         return Ok(None);
     };
@@ -78,4 +95,14 @@ fn life_of(alloc: Global, text: &[u8]) -> Result<Option<StoreLife>, ScriptError>
         return Ok(None);
     }
     Ok(Some(life))
+}
+
+/// A script of lives of a store; none, where it is one of lives over batches.
+pub(crate) fn store_script(alloc: Global, text: &[u8]) -> Result<Option<StoreScript>, ScriptError> {
+    if is_raw(text) {
+        let _script = Script::parse(alloc, text)?;
+        return Ok(None);
+    }
+    let script = StoreScript::parse(alloc, text)?;
+    Ok(Some(script))
 }

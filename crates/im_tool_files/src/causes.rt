@@ -2,7 +2,9 @@
 
 use im_base_disk::Disk;
 use im_base_file_disk::{DiskError, FileDisk};
+use im_base_mirror_disk::Mirrored;
 use im_base_model_disk::ModelDisk;
+use im_base_scratch_disk::ScratchDisk;
 use im_base_two_logs::Renamed;
 use std::io::Write;
 
@@ -19,6 +21,22 @@ impl Cause for FileDisk {
 }
 
 impl<D: Disk + Cause> Cause for Renamed<D> {
+    fn cause(&self) -> Option<&DiskError> {
+        self.disk().cause()
+    }
+}
+
+impl<D: Disk + Cause + Drop> Cause for ScratchDisk<D> {
+    fn cause(&self) -> Option<&DiskError> {
+        match self.base() {
+            Some(base) => base.cause(),
+            None => None,
+        }
+    }
+}
+
+// Of the copy its own disk tells.
+impl<D: Disk + Cause, T: Disk + Drop> Cause for Mirrored<D, T> {
     fn cause(&self) -> Option<&DiskError> {
         self.disk().cause()
     }

@@ -1,7 +1,7 @@
 //! Over which disks does `imstore` look at a store, and what does it tell of its files without opening it?
 //!
-//! `WatchedDisk` is the files of a folder, with a line that tells how far an opening has read the log; `ScratchDisk` is files that are only read, over which
-//! what is written stays in memory. `Causes` tells why a call of a disk failed, `ProgressLine` how far a long task is. `survey_files` reads the files of a store
+//! `WatchedDisk` is the files of a folder, with a line that tells how far an opening has read the log; `CopyDisk` the files of a copy, which tell what fails, and
+//! `CopyTarget` why there is none. `Causes` tells why a call of a disk failed, `ProgressLine` how far a long task is. `survey_files` reads the files of a store
 //! as they stand, and the texts here tell what it found; `trim_program` cuts the log that a store has left to its first batch.
 //!
 //! It stands on `im_tool_look` for what the bytes of a store's files say. No store is opened here, so it is proved beside the engine. What goes to which
@@ -9,8 +9,10 @@
 #![tactic(auto)]
 
 mod causes;
+mod copy_disk;
+mod copy_target;
 mod progress;
-mod scratch_disk;
+mod scratch_files;
 mod survey;
 mod telling;
 mod trim;
@@ -18,8 +20,10 @@ mod watched_disk;
 mod watched_files;
 
 pub use causes::{Cause, Causes};
+pub use copy_disk::CopyDisk;
+pub use copy_target::{NoCopy, begun_copy, clear_copy, named_copy};
 pub use progress::{Progress, ProgressLine, Untold};
-pub use scratch_disk::ScratchDisk;
+pub use scratch_files::ScratchFiles;
 pub use survey::{Broken, Surveyed, broken_text, numbers_text, survey_files, whole_text};
 pub use telling::{print_refused_opening, tell, tell_unopened, tell_unread};
 pub use trim::trim_program;

@@ -4,10 +4,11 @@ ghost use Rattle.std.specs.Prelude.{◌≡◌, ◌≢◌, ◌≤◌, false, IfOk
 ghost use Rattle.im_base_types.specs.declared.file_id.FileId.TheVariants.{Pages};
 
 use crate::causes::Cause;
-use crate::scratch_disk::ScratchDisk;
+use crate::scratch_files::ScratchFiles;
 use crate::telling::{print_refused_opening, tell, tell_unread};
 use im_base_disk::Disk;
 use im_base_file_disk::FileDisk;
+use im_base_scratch_disk::ScratchDisk;
 use im_base_types::{Fault, FileId};
 use im_tool_look::{Files, LogDamage, first_batch_end, read_log};
 use std::alloc::Global;
@@ -42,10 +43,12 @@ fn trim_in<W: Write>(rt: &HostRuntime, dir: &str, writer: &mut W) -> io::Result<
 
 // The same over its files.
 fn trim<W: Write>(rt: &HostRuntime, dir: &str, writer: &mut W, files: FileDisk) -> io::Result<u8>
+    requires working { ⟦<FileDisk as Disk>⟧.failed files ≡ false }
     ensures { IfOk result (λ status. status ≤ 1) }
 {
-    let mut disk = ScratchDisk::new(rt.alloc(), Some(files));
-    let spare = spare_of(rt.alloc(), &mut disk);
+    let mut files = ScratchFiles::of(ScratchDisk::new(rt.alloc(), Some(files)));
+    let spare = spare_of(rt.alloc(), &mut files);
+    let disk = files.into_disk();
     if let Some(error) = disk.cause() {
         tell(rt, dir, error);
     }
@@ -93,18 +96,18 @@ fn other_log(log: FileId) -> FileId
 }
 
 // What there is to give back. None where that is no byte, or no store was made yet.
-fn spare_of(alloc: Global, disk: &mut ScratchDisk) -> Result<Option<Spare>, LogDamage>
+fn spare_of(alloc: Global, files: &mut ScratchFiles<FileDisk>) -> Result<Option<Spare>, LogDamage>
     ensures { IfOk result (λ found. IfSome found (λ spare. (spare.left ≢ Pages) × (spare.current ≢ Pages))) }
 {
-    let said = read_log(alloc, disk)?;
+    let said = read_log(alloc, files)?;
     let left = said.log.other_file();
     let current = other_log(left);
-    let kept = first_batch_end(alloc, disk, &said)?;
-    let bytes = disk
+    let kept = first_batch_end(alloc, files, &said)?;
+    let bytes = files
         .length(left)
         .map_err(LogDamage::Unread)?
         .saturating_sub(kept);
-    let length = disk.length(current).map_err(LogDamage::Unread)?;
+    let length = files.length(current).map_err(LogDamage::Unread)?;
     let end = said.end.saturating_add(1);
     let behind = if said.records == 0 {
         length.saturating_sub(end)
@@ -143,12 +146,12 @@ fn give_back<W: Write>(
     rt: &HostRuntime,
     dir: &str,
     writer: &mut W,
-    disk: ScratchDisk,
+    disk: ScratchDisk<FileDisk>,
     spare: Spare,
 ) -> io::Result<u8>
     ensures { IfOk result (λ status. status ≤ 1) }
 {
-    let Some(mut files) = disk.into_files() else {
+    let Some(mut files) = disk.into_base() else {
         return Ok(1);
     };
     if !files.has_failed() && is_given_back(&mut files, spare) {

@@ -5,7 +5,9 @@ use crate::causes::Cause;
 use crate::progress::{Progress, ProgressLine};
 use im_base_disk::Disk;
 use im_base_file_disk::{DiskError, FileDisk};
+use im_base_mirror_disk::Mirrored;
 use im_base_model_disk::ModelDisk;
+use im_base_scratch_disk::ScratchDisk;
 use im_base_two_logs::Renamed;
 use im_base_types::{Fault, FileId};
 use std::cell::Cell;
@@ -33,6 +35,20 @@ impl Opening for ModelDisk {
 impl<D: Disk + Opening> Opening for Renamed<D> {
     fn is_done(&self) {
         self.disk().is_done();
+    }
+}
+
+impl<D: Disk + Opening, T: Disk + Drop> Opening for Mirrored<D, T> {
+    fn is_done(&self) {
+        self.disk().is_done();
+    }
+}
+
+impl<D: Disk + Opening + Drop> Opening for ScratchDisk<D> {
+    fn is_done(&self) {
+        if let Some(base) = self.base() {
+            base.is_done();
+        }
     }
 }
 

@@ -5,7 +5,7 @@ ghost use Rattle.std.specs.Prelude.{◌≤◌, IfOk};
 use clap::builder::ValueParser;
 use clap::{Arg, ArgAction, ArgMatches, Command, Error};
 use im_engine::BufferSize;
-use im_tool_every::every_text;
+use im_tool_every::{Sweep, every_text, sweep_text};
 use im_tool_lines::{reason_of, refused_line};
 use im_tool_text::drill_text;
 use std::alloc::{AllocError, Global};
@@ -13,19 +13,23 @@ use std::io::{BufWriter, ErrorKind, IsTerminal, Read, Write};
 use std::thread::Threads;
 use std::{fs, io};
 
-/// How a script is run.
+/// What is done with a script.
 #[derive(Clone, Copy)]
-struct Run {
+enum Run {
+    /// Its lives are made.
+    Lives(BufferSize),
     /// Its one life is stopped everywhere.
-    is_everywhere: bool,
-    /// The log's buffer of its stores.
-    buffer: BufferSize,
+    Everywhere(BufferSize),
+    /// Its last life is swept.
+    Swept(Sweep),
 }
 
 /// Runs the script that the command line names, or standard input where it names none, and prints what its
 /// lives answer. With `--buffer N` the logs of its stores have a buffer of N batches, 1 to 64. With `--every` it stops the script's one life
-/// everywhere, tells on standard error how far it is, where that is a terminal, and prints how often, and how many openings were bad. The first
-/// word is the program's name. It answers the exit status.
+/// everywhere, tells on standard error how far it is, where that is a terminal, and prints how often, and how many openings were bad. With
+/// `--every-failure` each call of its last life fails in turn, in place of that. Beside one of the two, `--settings` has the last life swept in each
+/// setting that its words leave open, with a buffer of 1, 4 and 32 where none is named, and prints a line for each. The first word is the
+/// program's name. It answers the exit status.
 ///
 /// An error is of the program's own memory, input or output: its status is 1.
 pub fn drill_program<T: Threads + Sync>(
@@ -46,8 +50,13 @@ pub fn drill_program<T: Threads + Sync>(
             return Ok(status_of(&error));
         }
     };
+    let Some(run) = run_of(&matches) else {
+        let _ = eprintln!(rt;
+            "imdrill: --every and --every-failure exclude each other, and --settings stands beside one of them"
+        );
+        return Ok(2);
+    };
     let mut writer = BufWriter::new(alloc, io::writer(rt))?;
-    let run = run_of(&matches);
     let status = match matches.get_str("SCRIPT") {
         Some(path) => run_file(rt, threads, path, run, &mut writer)?,
         None => {
@@ -91,11 +100,13 @@ fn run_text<W: Write, T: Threads + Sync>(
     ensures { IfOk result (λ status. status ≤ 1) }
 {
     let mut printed = Vec::new(rt.alloc());
-    let status = if run.is_everywhere {
-        run_every(rt, threads, text, run.buffer, &mut printed)?
-    } else {
-        let mut reader = text;
-        drill_text(threads, rt.alloc(), run.buffer, &mut reader, &mut printed)?
+    let status = match run {
+        Run::Lives(buffer) => {
+            let mut reader = text;
+            drill_text(threads, rt.alloc(), buffer, &mut reader, &mut printed)?
+        }
+        Run::Everywhere(buffer) => run_every(rt, threads, text, buffer, &mut printed)?,
+        Run::Swept(sweep) => run_sweep(rt, threads, text, sweep, &mut printed)?,
     };
     writer.write_all(&printed)?;
     if let Some((number, line)) = refused_line(&printed, text) {
@@ -138,6 +149,39 @@ fn run_every<T: Threads + Sync>(
     }
 }
 
+// Sweeps the script's last life, and tells how far it is in the same way.
+fn run_sweep<T: Threads + Sync>(
+    rt: &HostRuntime,
+    threads: &T,
+    text: &[u8],
+    sweep: Sweep,
+    printed: &mut Vec<u8>,
+) -> io::Result<u8>
+    ensures { IfOk result (λ status. status ≤ 1) }
+{
+    let mut reader = text;
+    let mut progress = rt.stderr();
+    if progress.is_terminal() {
+        sweep_text(
+            threads,
+            rt.alloc(),
+            sweep,
+            &mut reader,
+            printed,
+            &mut progress,
+        )
+    } else {
+        sweep_text(
+            threads,
+            rt.alloc(),
+            sweep,
+            &mut reader,
+            printed,
+            &mut io::sink(),
+        )
+    }
+}
+
 // Help goes to standard output, and is no error.
 fn status_of(error: &Error) -> u8
     ensures { result ≤ 2 }
@@ -145,19 +189,32 @@ fn status_of(error: &Error) -> u8
     if error.use_stderr() { 2 } else { 0 }
 }
 
-fn run_of(matches: &ArgMatches) -> Run {
-    Run {
-        is_everywhere: matches.get_flag("every"),
-        buffer: buffer_of(matches.get_one::<u64>("buffer")),
+// None, where the words do not go together.
+fn run_of(matches: &ArgMatches) -> Option<Run> {
+    let named = buffer_of(matches.get_one::<u64>("buffer"));
+    let buffer = named.unwrap_or(BufferSize::ONE);
+    let every = matches.get_flag("every");
+    let fails = matches.get_flag("every-failure");
+    let in_settings = matches.get_flag("settings");
+    if every == fails {
+        if every || in_settings {
+            return None;
+        }
+        return Some(Run::Lives(buffer));
     }
+    if every && !in_settings {
+        return Some(Run::Everywhere(buffer));
+    }
+    Some(Run::Swept(Sweep {
+        fails,
+        in_settings,
+        buffer: named,
+    }))
 }
 
-// A buffer of so many batches, and of one where none is named.
-fn buffer_of(batches: Option<u64>) -> BufferSize {
-    let Some(batches) = batches else {
-        return BufferSize::ONE;
-    };
-    BufferSize::new(batches as usize).unwrap_or(BufferSize::ONE)
+// A buffer of so many batches, where they are named.
+fn buffer_of(batches: Option<u64>) -> Option<BufferSize> {
+    BufferSize::new(batches? as usize)
 }
 
 fn parse_words<'a>(alloc: Global, words: &'a [String]) -> Result<ArgMatches<'a>, Error> {
@@ -165,11 +222,19 @@ fn parse_words<'a>(alloc: Global, words: &'a [String]) -> Result<ArgMatches<'a>,
     let every = Arg::new(alloc, "every")
         .long("every")
         .action(ArgAction::SetTrue);
+    let fails = Arg::new(alloc, "every-failure")
+        .long("every-failure")
+        .action(ArgAction::SetTrue);
+    let settings = Arg::new(alloc, "settings")
+        .long("settings")
+        .action(ArgAction::SetTrue);
     let buffer = Arg::new(alloc, "buffer")
         .long("buffer")
         .value_parser(ValueParser::unsigned(1, 64));
     let command = Command::new(alloc, "imdrill")
         .arg(every)?
+        .arg(fails)?
+        .arg(settings)?
         .arg(buffer)?
         .arg(script)?;
     command.try_get_matches_from(words)

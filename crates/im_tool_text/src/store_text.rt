@@ -6,35 +6,26 @@ use im_tool_answers::{StoreAnswers, StoreReply};
 use im_tool_drill::StoreDrilled;
 use im_tool_raw::Opening;
 use im_tool_words::{entries_text, reply_text, report_text};
-use std::alloc::Global;
 use std::io;
 use std::io::Write;
 
 /// Prints what the lives of a store answer, and what stands after the last.
-pub(crate) fn print_store<W: Write>(
-    alloc: Global,
-    writer: &mut W,
-    drilled: &StoreDrilled,
-) -> io::Result<()> {
+pub(crate) fn print_store<W: Write>(writer: &mut W, drilled: &StoreDrilled) -> io::Result<()> {
     for life in &drilled.lives {
-        print_store_life(alloc, writer, life)?;
+        print_store_life(writer, life)?;
     }
     match &drilled.last {
-        Ok(entries) => entries_text(alloc, writer, "final", entries),
+        Ok(entries) => entries_text(writer, "final", entries),
         Err(fault) => writeln!(writer, "final refused {}", fault.number()),
     }
 }
 
-fn print_store_life<W: Write>(
-    alloc: Global,
-    writer: &mut W,
-    life: &StoreAnswers,
-) -> io::Result<()> {
+fn print_store_life<W: Write>(writer: &mut W, life: &StoreAnswers) -> io::Result<()> {
     print_opening(writer, life.opening)?;
     for reply in &life.replies {
         match reply {
             StoreReply::Step(reply) => {
-                reply_text(alloc, writer, reply)?;
+                reply_text(writer, reply)?;
                 writeln!(writer)?;
             }
             StoreReply::Calls(calls) => writeln!(writer, "calls {calls}")?,

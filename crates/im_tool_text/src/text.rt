@@ -70,7 +70,7 @@ fn run_store<W: Write, T: Threads + Sync>(
 ) -> io::Result<Result<(), ScriptError>> {
     match StoreScript::parse(alloc, text) {
         Ok(script) => {
-            print_store(alloc, writer, &drill_store(rt, alloc, &script, buffer)?)?;
+            print_store(writer, &drill_store(rt, alloc, &script, buffer)?)?;
             Ok(Ok(()))
         }
         Err(error) => Ok(Err(error)),

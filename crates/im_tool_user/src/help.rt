@@ -4,7 +4,7 @@ use std::io;
 use std::io::Write;
 
 /// Each line that asks for something: how it is written, what it does, and what else is to be known of it.
-static LINES: [(&str, &str, &str); 19] = [
+static LINES: [(&str, &str, &str); 20] = [
     (
         "begin",
         "a transaction begins; its number is answered",
@@ -89,6 +89,11 @@ static LINES: [(&str, &str, &str); 19] = [
         "redo",
         "where the opening began to redo the log, and how many records it applied",
         "Answers `redo POINT COUNT`.",
+    ),
+    (
+        "copy FOLDER",
+        "copies the store, as a stop now would leave it, into a new folder",
+        "Answers `copied N`, N bytes, and then the copy is a store, with what was committed. The folder is made, or is empty. This one goes on, also where the copy is refused.",
     ),
     (
         "help [WORD]",

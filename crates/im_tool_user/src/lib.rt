@@ -21,7 +21,8 @@ mod words_step;
 pub use entry_text::{EntryText, Form, Next, WhyBad, write_end, write_head, write_part};
 pub use line_input::{LineInput, without_newline};
 pub use manner::{
-    Manner, end_prompt, is_help, print_prompt, print_refused, refuse, run_help, step_in,
+    Manner, ONLY_READ, end_prompt, is_change, is_help, print_prompt, print_refused, refuse,
+    refuse_change, run_help, step_in,
 };
 pub use no_step::{NoStep, why_no_step};
 pub use options::{MOST_MIB, Options, Present, Task, parse_options};

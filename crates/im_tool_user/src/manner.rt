@@ -19,6 +19,38 @@ pub struct Manner {
     pub has_prompt: bool,
     /// The first line that is refused ends the run.
     pub is_batch: bool,
+    /// The store is only read: a line that would change it is refused.
+    pub is_read: bool,
+}
+
+/// The number that is printed where a line would change a store that is only read. The engine has no such refusal.
+pub const ONLY_READ: u8 = 110;
+
+/// Whether a step asks for a change, of the entries or of the files.
+pub fn is_change(step: &Step) -> bool {
+    match step {
+        Step::Insert(..)
+        | Step::Delete(..)
+        | Step::Force
+        | Step::FlushPage(_)
+        | Step::Checkpoint
+        | Step::Switch => true,
+        Step::Begin
+        | Step::Fetch(..)
+        | Step::Seek(..)
+        | Step::Next(..)
+        | Step::Prev(..)
+        | Step::Scan(..)
+        | Step::Commit(_)
+        | Step::Rollback(_)
+        | Step::Continue(_) => false,
+    }
+}
+
+/// Refuses a line that would change a store that is only read.
+pub fn refuse_change<W: Write>(writer: &mut W, manner: Manner) -> io::Result<()> {
+    print_refused(writer, manner, ONLY_READ, &"the store is only read")?;
+    Ok(())
 }
 
 /// Writes a prompt, where there is one.

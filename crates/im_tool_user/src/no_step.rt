@@ -17,6 +17,8 @@ pub enum NoStep {
     NoNumber(&'static str, &'static str),
     /// The key is not written as a key.
     NoKey(&'static str),
+    /// What stands for a folder names none.
+    NoFolder(&'static str),
     /// Something stands after the last part.
     More(&'static str),
 }
@@ -43,6 +45,9 @@ impl Display for NoStep {
                     "a bad line: KEY is not written so in `{usage}`, `help KEY` says how"
                 )
             }
+            NoStep::NoFolder(usage) => {
+                write!(f, "a bad line: FOLDER names no folder in `{usage}`")
+            }
             NoStep::More(usage) => write!(f, "a bad line: nothing may follow `{usage}`"),
         }
     }
@@ -59,6 +64,9 @@ pub fn why_no_step(alloc: Global, line: &[u8]) -> NoStep {
         let Some(text) = left else {
             return NoStep::Missing(usage, part);
         };
+        if part == "FOLDER" {
+            return NoStep::NoFolder(usage);
+        }
         left = if part == "KEY" {
             match after_key(alloc, text) {
                 Ok(after) => after,

@@ -24,9 +24,11 @@ pub enum Present {
 
 /// What the program is asked for.
 #[derive(Clone, Copy, Debug, PartialEq, Eq)]
-pub enum Task {
+pub enum Task<'a> {
     /// Steps, which standard input asks for.
     Steps,
+    /// Steps that only read, and change no byte of the files.
+    Read,
     /// Whether the store is whole, and what is broken where it is not.
     Check,
     /// What the store has, in numbers.
@@ -39,6 +41,8 @@ pub enum Task {
     Load(Present),
     /// The log that the store has left, emptied.
     Trim,
+    /// A copy of the files, in the folder of this name.
+    Copy(&'a str),
 }
 
 /// What the words of the command line say.
@@ -46,7 +50,7 @@ pub enum Task {
 pub struct Options<'a> {
     /// The folder of the store. Without one the store is in memory.
     pub dir: Option<&'a str>,
-    pub task: Task,
+    pub task: Task<'a>,
     /// The frames of the pool, 8 to 1,024.
     pub frames: Option<u64>,
     /// The most pages.
@@ -83,8 +87,10 @@ pub fn parse_options<'a>(
     })
 }
 
-fn task_of(matches: &ArgMatches) -> Task {
-    if matches.get_flag("check") {
+fn task_of<'a>(matches: &ArgMatches<'a>) -> Task<'a> {
+    if let Some(folder) = matches.get_str("copy") {
+        Task::Copy(folder)
+    } else if matches.get_flag("check") {
         Task::Check
     } else if matches.get_flag("stat") {
         Task::Stat
@@ -96,6 +102,8 @@ fn task_of(matches: &ArgMatches) -> Task {
         Task::Load(present_of(matches))
     } else if matches.get_flag("trim") {
         Task::Trim
+    } else if matches.get_flag("read") {
+        Task::Read
     } else {
         Task::Steps
     }
@@ -123,10 +131,8 @@ fn command<'a>(alloc: Global, most_workers: u64) -> Result<Command<'a>, Error> {
     let command = Command::new(alloc, "imstore").version(VERSION).about(
         "Keeps keys with their row ids in a store, and makes the steps that standard input asks for",
     );
-    with_tasks(
-        alloc,
-        with_flags(alloc, with_numbers(alloc, command, most_workers)?)?,
-    )
+    let command = with_flags(alloc, with_numbers(alloc, command, most_workers)?)?;
+    with_copies(alloc, with_tasks(alloc, command)?)
 }
 
 // The folder, and the options that are numbers.
@@ -250,6 +256,29 @@ fn with_tasks<'a>(alloc: Global, command: Command<'a>) -> Result<Command<'a>, Er
     )
 }
 
+// A copy of the store, and steps that only read.
+fn with_copies<'a>(alloc: Global, command: Command<'a>) -> Result<Command<'a>, Error> {
+    let copy = Arg::new(alloc, "copy")
+        .long("copy")
+        .value_name("FOLDER")
+        .action(ArgAction::Set)
+        .help("Copy the store, which no program writes, into a new folder, and check the copy");
+    let read = flag(
+        alloc,
+        "read",
+        "Make the steps of lines that only read, and change nothing; others may read meanwhile",
+    )
+    .requires_arg("DIR")?
+    .conflicts_with("pages")?
+    .conflicts_with("checkpoint")?
+    .conflicts_with("switch")?;
+    Ok(
+        command
+            .arg(as_task(copy, "copy")?)?
+            .arg(apart(read, "read")?)?,
+    )
+}
+
 fn with_task<'a>(
     alloc: Global,
     command: Command<'a>,
@@ -268,13 +297,13 @@ fn flag<'a>(alloc: Global, name: &'a str, help: &'a str) -> Arg<'a> {
 
 // A flag of which one at most is given, which needs the folder, and which takes no option of steps that it would not heed.
 fn task_flag<'a>(alloc: Global, name: &'a str, help: &'a str) -> Result<Arg<'a>, Error> {
-    let mut arg = flag(alloc, name, help).requires_arg("DIR")?;
-    for other in ["check", "stat", "log", "dump", "load", "trim"] {
-        if other != name {
-            arg = arg.conflicts_with(other)?;
-        }
-    }
-    arg = arg.conflicts_with("batch")?;
+    as_task(flag(alloc, name, help), name)
+}
+
+fn as_task<'a>(arg: Arg<'a>, name: &'a str) -> Result<Arg<'a>, Error> {
+    let mut arg = apart(arg, name)?
+        .requires_arg("DIR")?
+        .conflicts_with("batch")?;
     if name != "load" {
         arg = arg
             .conflicts_with("frames")?
@@ -282,6 +311,19 @@ fn task_flag<'a>(alloc: Global, name: &'a str, help: &'a str) -> Result<Arg<'a>,
             .conflicts_with("checkpoint")?
             .conflicts_with("switch")?
             .conflicts_with("workers")?;
+    }
+    Ok(arg)
+}
+
+// An option beside which none of the others may be given that say what is done.
+fn apart<'a>(arg: Arg<'a>, name: &'a str) -> Result<Arg<'a>, Error> {
+    let mut arg = arg;
+    for other in [
+        "read", "check", "stat", "log", "dump", "load", "trim", "copy",
+    ] {
+        if other != name {
+            arg = arg.conflicts_with(other)?;
+        }
     }
     Ok(arg)
 }

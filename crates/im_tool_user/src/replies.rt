@@ -17,7 +17,7 @@ pub fn print_reply<W: Write>(
     reply: &Reply,
 ) -> io::Result<()> {
     if !manner.has_words {
-        return reply_text(alloc, writer, reply);
+        return reply_text(writer, reply);
     }
     match reply {
         Reply::Entry(key, rid) => {
@@ -34,7 +34,7 @@ pub fn print_reply<W: Write>(
             }
             Ok(())
         }
-        _ => reply_text(alloc, writer, reply),
+        _ => reply_text(writer, reply),
     }
 }
 
@@ -81,7 +81,7 @@ pub fn print_entries<W: Write>(
     entries: &[(Key, Rid)],
 ) -> io::Result<()> {
     if !manner.has_words {
-        return entries_text(alloc, writer, "total", entries);
+        return entries_text(writer, "total", entries);
     }
     writeln!(writer, "total {}", entries.len())?;
     print_keys(alloc, writer, entries)

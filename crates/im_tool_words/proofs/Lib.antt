@@ -1,3 +1,4 @@
+pub mod EntryTexts
 pub mod KeyWords
 pub mod StepSpelled
 pub mod Texts

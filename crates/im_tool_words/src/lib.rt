@@ -5,13 +5,15 @@
 //!
 //! `step_line` decides the grammar of the lines that ask for steps: what it reads is spelled as the grammar says (`SpellsStep`), and
 //! no line spells what it refuses as bad. So do `number_of` (`IsNumber`), `page_of` (`IsPageNumber`) and `bytes_of` for single words;
-//! `first_piece` cuts a text at a separator. `reply_text`, `entries_text` and `report_text` print; their text is tested and stands in no clause.
+//! `first_piece` cuts a text at a separator. `reply_text`, `entries_text` and `report_text` print: the text of an entry is a clause
+//! (`put_entry`), and it is written whole; the other words are tested and stand in no clause.
 //!
 //! This crate knows the steps and the replies of a store of many transactions (`im_base_steps`), and no store.
 #![tactic(auto)]
 
 mod digits;
 mod entry_lines;
+mod entry_text;
 mod key_word;
 mod number;
 mod pieces;

@@ -1,28 +1,25 @@
 //! The words of replies.
 
+use crate::entry_text::{ENTRY_ROOM, put_entry};
 use im_base_steps::{Blocker, Reply};
 use im_base_types::{Key, Rid};
-use std::alloc::Global;
 use std::io;
 use std::io::Write;
 
 /// Writes the words of a reply, without a newline. Keys are in hexadecimal.
-pub fn reply_text<W: Write>(alloc: Global, writer: &mut W, reply: &Reply) -> io::Result<()> {
+pub fn reply_text<W: Write>(writer: &mut W, reply: &Reply) -> io::Result<()> {
     match reply {
         Reply::Started(number) => write!(writer, "started {number}"),
         Reply::Found(rid) => write!(writer, "found {rid}"),
         Reply::Absent => write!(writer, "absent"),
         Reply::Entry(key, rid) => {
             write!(writer, "entry")?;
-            entry_words(alloc, writer, key, *rid)
+            entry_words(writer, key, *rid)
         }
         Reply::End => write!(writer, "end"),
         Reply::Entries(list) => {
             write!(writer, "entries")?;
-            for (key, rid) in list {
-                entry_words(alloc, writer, key, *rid)?;
-            }
-            Ok(())
+            entries_words(writer, list)
         }
         Reply::Inserted => write!(writer, "inserted"),
         Reply::Duplicate => write!(writer, "duplicate"),
@@ -38,8 +35,19 @@ pub fn reply_text<W: Write>(alloc: Global, writer: &mut W, reply: &Reply) -> io:
     }
 }
 
-// An entry after other words.
-fn entry_words<W: Write>(alloc: Global, writer: &mut W, key: &Key, rid: Rid) -> io::Result<()> {
-    let digits = hex::encode(alloc, key.bytes())?;
-    write!(writer, " {digits} {rid}")
+// An entry after other words, by one write.
+fn entry_words<W: Write>(writer: &mut W, key: &Key, rid: Rid) -> io::Result<()> {
+    let mut text = [b' '; ENTRY_ROOM];
+    let end = put_entry(&mut text, key.bytes(), rid);
+    writer.write_all(&text[..end])
+}
+
+// Entries after other words, each by one write.
+fn entries_words<W: Write>(writer: &mut W, list: &[(Key, Rid)]) -> io::Result<()> {
+    let mut text = [b' '; ENTRY_ROOM];
+    for (key, rid) in list {
+        let end = put_entry(&mut text, key.bytes(), *rid);
+        writer.write_all(&text[..end])?;
+    }
+    Ok(())
 }

@@ -1,5 +1,5 @@
-//! `imdrill [--every] [--buffer N] [SCRIPT]`: runs a script of lives on a model disk and prints what they answer; or stops its one life everywhere, and
-//! prints how many openings after that were bad.
+//! `imdrill [--every | --every-failure] [--settings] [--buffer N] [SCRIPT]`: runs a script of lives on a model disk and prints what they answer; or stops
+//! its life everywhere, or has each of its calls fail, in one setting or in all, and prints how many openings after that were bad.
 #![tactic(auto)]
 
 use im_tool_script::drill_program;

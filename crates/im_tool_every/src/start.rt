@@ -1,0 +1,128 @@
+//! What a life begins with.
+
+ghost use Rattle.std.specs.Prelude.{◌≡◌, false};
+ghost use Rattle.im_base_disk.specs.Runs.{IsSynced};
+
+use crate::every::{Counts, judge, new_disk};
+use crate::judged_opening::left_by;
+use im_base_disk::Disk;
+use im_base_model_disk::ModelDisk;
+use im_base_two_logs::Renamed;
+use im_base_types::{Fault, Key, Rid};
+use im_engine::BufferSize;
+use im_tool_answers::StoreReply;
+use im_tool_drill::{open_store, run_store_life};
+use im_tool_judge::{AskedEffect, Change, effects_asked};
+use im_tool_lines::{LifeOptions, StoreLife, StoreLine};
+use std::alloc::{AllocError, Global};
+use std::thread::Threads;
+
+// An opening with what is there where nothing is named: so the entries of a disk are those of any opening.
+const PLAIN: LifeOptions = LifeOptions {
+    frames: None,
+    max_pages: None,
+    failing_call: None,
+    failing_read: None,
+    stepped: false,
+    group: false,
+    workers: None,
+};
+
+/// A disk, and the entries that an opening finds on it.
+#[derive(Drop)]
+pub struct Start {
+    disk: ModelDisk,
+    entries: Vec<(Key, Rid)>,
+}
+
+impl Start {
+    /// Three empty files.
+    pub fn empty(alloc: Global) -> Start {
+        Start {
+            disk: new_disk(alloc),
+            entries: Vec::new(alloc),
+        }
+    }
+
+    /// The entries that an opening finds on this disk, or why it finds none.
+    pub fn of<T: Threads + Sync>(
+        rt: &T,
+        alloc: Global,
+        disk: ModelDisk,
+        buffer: BufferSize,
+    ) -> Result<Result<Start, Fault>, AllocError> {
+        let copy = left_by(alloc, &disk)?;
+        match entries_on(rt, alloc, copy, buffer) {
+            Ok(entries) => Ok(Ok(Start { disk, entries })),
+            Err(Fault::Memory) => Err(AllocError),
+            Err(fault) => Ok(Err(fault)),
+        }
+    }
+
+    pub(crate) fn disk(&self) -> &ModelDisk {
+        &self.disk
+    }
+
+    /// What a life asked that began with this, by its lines and replies: first stands what it began with, as one effect that was acknowledged.
+    pub(crate) fn asked(
+        &self,
+        alloc: Global,
+        lines: &[StoreLine],
+        replies: &[StoreReply],
+    ) -> Result<Vec<AskedEffect>, AllocError> {
+        let mut asked = effects_asked(alloc, lines, replies)?;
+        asked.insert(0, effect_of(alloc, &self.entries)?)?;
+        Ok(asked)
+    }
+
+    /// What the next life begins with, after this one as it stands: its end is judged, and counted where it is bad.
+    pub(crate) fn after<T: Threads + Sync>(
+        &self,
+        rt: &T,
+        alloc: Global,
+        life: &StoreLife,
+        buffer: BufferSize,
+        counts: &mut Counts,
+    ) -> Result<Result<Start, Fault>, AllocError> {
+        let disk = left_by(alloc, &self.disk)?;
+        let (told, disk) = run_store_life(rt, alloc, disk, life, buffer)?;
+        let asked = self.asked(alloc, &life.lines, &told.replies)?;
+        let left = left_by(alloc, &disk)?;
+        let _calls = judge(rt, alloc, &left, PLAIN, buffer, &asked, counts)?;
+        Start::of(rt, alloc, left, buffer)
+    }
+}
+
+// The entries that an opening finds on this disk.
+fn entries_on<T: Threads + Sync>(
+    rt: &T,
+    alloc: Global,
+    disk: ModelDisk,
+    buffer: BufferSize,
+) -> Result<Vec<(Key, Rid)>, Fault>
+    requires working { ⟦<ModelDisk as Disk>⟧.failed disk ≡ false }
+    requires synced { IsSynced ⟦<ModelDisk as Disk>⟧ disk }
+{
+    match open_store(rt, alloc, Renamed::new(disk, false), PLAIN, buffer) {
+        Ok(mut engine) => {
+            let found = engine.entries(alloc);
+            let _disk = engine.into_disk();
+            found
+        }
+        Err((fault, _named)) => Err(fault),
+    }
+}
+
+// These entries, put by one effect that was acknowledged.
+fn effect_of(alloc: Global, entries: &[(Key, Rid)]) -> Result<AskedEffect, AllocError> {
+    let mut changes = Vec::new(alloc);
+    for entry in entries {
+        let key = Vec::from_slice(alloc, entry.0.bytes())?;
+        changes.push(Change::Insertion(key, entry.1))?;
+    }
+    Ok(AskedEffect {
+        txn: 0,
+        changes,
+        acked: true,
+    })
+}
