@@ -21,7 +21,7 @@ MAIN = """
 fn main(rt: HostRuntime) {
     let _size = im_size();
     let none = im_base_guard::Front::NONE;
-    let folder = im_base_guard::Folder { log: none, log2: none, pages: im_base_guard::PagesFront::NONE };
+    let folder = im_base_guard::Folder { log: none, log2: none, pages: im_base_guard::PagesFront::NONE, has_part: false };
     let _word = im_belong(&folder);
     let mut left = im_base_guard::LeftLog::begin(&folder);
     im_left_log(&folder, &mut left);

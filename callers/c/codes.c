@@ -47,6 +47,9 @@ const char *vah_strerror(int code)
 	case VAH_DEADLOCK: return "the thread would wait for itself, or for one that waits for it";
 	case VAH_STOPPED: return "the opening was given up by its caller";
 	case VAH_CLOSED: return "the store was closed";
+	case VAH_READ_ONLY: return "the store was opened to be read only";
+	case VAH_NOT_EMPTY: return "the folder of a copy is not empty";
+	case VAH_NOT_COPIED: return "a call of the system on the files of a copy failed";
 	default: return "no code of vahondrisa";
 	}
 }

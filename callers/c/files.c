@@ -1,7 +1,7 @@
 /* The files of a store, and the calls of the system that it asks for. Whether the files of a folder belong together is decided by what FileDisk asks too
  * (crates/im_base_guard), which is proved: here they are opened, locked, read and synced. The two are tested on one list, examples/imstore_guards_files. */
 #define _GNU_SOURCE
-#include "internal.h"
+#include "files.h"
 #include <errno.h>
 #include <fcntl.h>
 #include <signal.h>
@@ -39,6 +39,21 @@ enum { LEN = 1, READ, WRITE, SYNC };
 
 #ifdef VAH_TEST
 atomic_ulong vah_test_syncs;
+
+/* Counts a call: within one of these numbers the process is killed, and the other and each after it fails. */
+static int is_counted_out(unsigned long *fail_at, unsigned long *kill_at)
+{
+	static pthread_mutex_t counting = PTHREAD_MUTEX_INITIALIZER; /* the files of a copy are synced while others write them */
+	pthread_mutex_lock(&counting);
+	if (*kill_at && !--*kill_at)
+		raise(SIGKILL);
+	int fails = *fail_at && !--*fail_at;
+	*fail_at += (unsigned long)fails;
+	pthread_mutex_unlock(&counting);
+	if (fails)
+		errno = EIO;
+	return fails;
+}
 #endif
 
 /* In tests, whether this call is to fail. */
@@ -49,24 +64,41 @@ static int is_to_fail(struct device *device)
 		atomic_fetch_add(&vah_test_syncs, 1);
 		usleep((useconds_t)device->slow);
 	}
-	if (device->kill_at && !--device->kill_at)
-		raise(SIGKILL);
-	if (device->fail_at && !--device->fail_at) {
-		device->fail_at = 1;
-		errno = EIO;
-		return 1;
-	}
+	return is_counted_out(&device->fail_at, &device->kill_at);
 #else
 	(void)device;
-#endif
 	return 0;
+#endif
 }
 
-/* Notes the system's reason for the first call that failed. */
+int is_copy_to_fail(struct copy *copy)
+{
+#ifdef VAH_TEST
+	return copy && is_counted_out(&copy->fail_at, &copy->kill_at);
+#else
+	(void)copy;
+	return 0;
+#endif
+}
+
+/* Whether a call is for a file of the copy that is under way, or of one that was given up. */
+static int is_of_copy(const struct device_call *q) { return q->file >= FILES; }
+
+static int descriptor_of(const struct device *device, uint32_t file)
+{
+	if (file < FILES)
+		return device->files[file];
+	return device->copy && file < 2 * FILES ? device->copy->files[file - FILES] : -1;
+}
+
+/* Notes the system's reason for the first call that failed, of the store or of its copy. */
 static void note(struct device *device)
 {
 	int none = 0;
-	atomic_compare_exchange_strong(&device->why, &none, errno);
+	if (!is_of_copy(&device->question))
+		atomic_compare_exchange_strong(&device->why, &none, errno);
+	else if (device->copy && !device->copy->why)
+		device->copy->why = errno;
 }
 
 /* Writes all bytes. A file that may not grow raises a signal, which this thread must not end by: it is taken back. */
@@ -89,6 +121,8 @@ static void count(struct device *device)
 {
 	const struct device_call *q = &device->question;
 	int is_of_pages = q->file == PAGES;
+	if (is_of_copy(q))
+		return;
 	device->syncs += q->kind == SYNC;
 	device->page_reads += is_of_pages && q->kind == READ;
 	device->page_writes += is_of_pages && q->kind == WRITE;
@@ -99,14 +133,15 @@ static void count(struct device *device)
 static void make(struct device *device, const void *bytes)
 {
 	const struct device_call *q = &device->question;
-	int fd = q->file < FILES ? device->files[q->file] : -1, failed = is_to_fail(device);
+	int fd = descriptor_of(device, q->file), failed = is_of_copy(q) ? is_copy_to_fail(device->copy) : is_to_fail(device);
+	int is_absent = device->is_read_only && fd < 0; /* a file that is read as one without bytes */
 	struct stat st = { 0 };
 	if (device->is_stopped) {
 		failed = 1;
 		errno = ECANCELED;
 	}
 	switch (q->kind) {
-	case LEN: failed = failed || fstat(fd, &st); break;
+	case LEN: failed = failed || (!is_absent && fstat(fd, &st)); break;
 	case READ: break;
 	case WRITE: failed = failed || write_whole(fd, bytes, q->len, (off_t)q->place); break;
 	default: failed = failed || fdatasync(fd); break;
@@ -173,7 +208,7 @@ ssize_t vah_device_read(int fd, void *to, size_t len)
 	}
 	if (len != q->len)
 		return -1;
-	if (whole_at(device->files[q->file], 0, to, len, (off_t)q->place)) {
+	if (whole_at(descriptor_of(device, q->file), 0, to, len, (off_t)q->place)) {
 		note(device);
 		return -1;
 	}
@@ -185,35 +220,30 @@ ssize_t vah_device_read(int fd, void *to, size_t len)
 
 enum { PAGE_SIZE = 4096 };
 
-/* Where an opening is: the folder, where its refusal's words go, and the code. */
-struct opening { const char *path; char *text; size_t size; int code, why; };
-
-static int refuse(struct opening *o, int code, const char *words)
+int refuse_files(struct opening *o, int code, const char *words)
 {
 	snprintf(o->text, o->size, "%s: %s", o->path, words);
 	o->code = code;
 	return -1;
 }
 
-/* A call of the system failed. */
-static int refuse_system(struct opening *o)
+int refuse_system(struct opening *o)
 {
 	char room[128], words[256];
 	int error = errno;
 	const char *why = strerror_r(error, room, sizeof room);
 	o->why = error;
 	switch (error) {
-	case ENOMEM: return refuse(o, VAH_MEMORY, "out of memory");
-	case ENOTDIR: case EEXIST: return refuse(o, VAH_DEVICE, "it is no folder, or lies under something that is none");
+	case ENOMEM: return refuse_files(o, VAH_MEMORY, "out of memory");
+	case ENOTDIR: case EEXIST: return refuse_files(o, VAH_DEVICE, "it is no folder, or lies under something that is none");
 	case ENOENT: snprintf(words, sizeof words, "there is no such folder, and it cannot be made: %s", why); break;
 	case EACCES: snprintf(words, sizeof words, "the system does not allow it: %s", why); break;
 	default: snprintf(words, sizeof words, "%s", why); break;
 	}
-	return refuse(o, VAH_DEVICE, words);
+	return refuse_files(o, VAH_DEVICE, words);
 }
 
-/* Makes the folder where there is none, and those above it. */
-static int make_folders(struct opening *o, char *path)
+int make_folders(struct opening *o, char *path)
 {
 	struct stat st;
 	for (char *at = path + 1; ; at++) {
@@ -237,9 +267,8 @@ static int make_folders(struct opening *o, char *path)
 	return 0;
 }
 
-/* Brings the folder and each above it to the disk, so that a power cut takes none of them. Those that may not be read this
- * program has not made. */
-static int sync_folders(struct opening *o, char *path)
+/* Those that may not be read this program has not made. */
+int sync_folders(struct opening *o, char *path)
 {
 	for (size_t len = strlen(path); ; ) {
 		const char *name = len ? path : ".";
@@ -270,7 +299,7 @@ static int has_file(struct opening *o, const char *name)
 	char words[64], *path;
 	struct stat st;
 	if (asprintf(&path, "%s/%s", o->path, name) < 0)
-		return refuse(o, VAH_MEMORY, "out of memory");
+		return refuse_files(o, VAH_MEMORY, "out of memory");
 	int is_there = !stat(path, &st), why = errno;
 	free(path);
 	errno = why;
@@ -279,32 +308,36 @@ static int has_file(struct opening *o, const char *name)
 	if (S_ISREG(st.st_mode))
 		return 1;
 	snprintf(words, sizeof words, "`%s` in it is no plain file", name);
-	return refuse(o, VAH_NOT_A_STORE, words);
+	return refuse_files(o, VAH_NOT_A_STORE, words);
 }
 
-/* Opens a file of the folder, made where it is missing; -1 where it is refused. It must not have the descriptor of a standard stream: what the
- * program prints there would be written over the store. */
-static int open_file(struct opening *o, const char *name)
+int not_standard(struct opening *o, int fd)
 {
-	char *path;
-	if (asprintf(&path, "%s/%s", o->path, name) < 0)
-		return refuse(o, VAH_MEMORY, "out of memory");
-	int fd = open(path, O_RDWR | O_CREAT | O_CLOEXEC | O_NOCTTY, 0666), why = errno;
-	free(path);
-	errno = why;
 	if (fd < 0)
 		return refuse_system(o);
 	if (fd > STDERR_FILENO)
 		return fd;
 	close(fd);
-	return refuse(o, VAH_DEVICE, "no descriptor is left but those of the standard streams");
+	return refuse_files(o, VAH_DEVICE, "no descriptor is left but those of the standard streams");
+}
+
+/* Opens a file of the folder; -1 where it is refused. */
+static int open_file(struct opening *o, const char *name)
+{
+	char *path;
+	if (asprintf(&path, "%s/%s", o->path, name) < 0)
+		return refuse_files(o, VAH_MEMORY, "out of memory");
+	int fd = open(path, o->flags | O_CLOEXEC | O_NOCTTY, 0666), why = errno;
+	free(path);
+	errno = why;
+	return not_standard(o, fd);
 }
 
 /* What is read of the files of a folder, as crates/im_base_guard has it (src/folder.rt): how long each is, its first bytes, zeros where it has no more, and
- * whether it is there. Of `pages` no byte is read where it has no whole page. */
+ * whether it is there. Of `pages` no byte is read where it has no whole page. And whether there is a `log.part`. */
 struct log_front { uint64_t len; uint8_t bytes[65]; bool is_there; };
 struct pages_front { uint64_t len; uint8_t bytes[28]; bool is_there; };
-struct folder { struct log_front log, log2; struct pages_front pages; };
+struct folder { struct log_front log, log2; struct pages_front pages; bool has_part; };
 
 /* Whether they belong together: 0 where they do and no log was made, 1 where one was, and else why not, by a number. */
 uint32_t im_belong(const struct folder *folder);
@@ -325,6 +358,7 @@ static const char *const why_apart[] = {
 	[5] = "`pages` in it lacks pages that the store had when its log began",
 	[6] = "`log` in it does not begin as the log of a store",
 	[7] = "`log2` in it does not begin as the log of a store",
+	[9] = "a copy into it was not finished",
 };
 
 /* Reads the beginning of a file: as many bytes as there is room for, and none where it has fewer than so many. */
@@ -361,7 +395,7 @@ static int walk(struct opening *o, const int *files, const struct folder *folder
 	uint64_t len = left->is_log2 ? folder->log2.len : folder->log.len;
 	uint8_t *room = left->is_over ? NULL : malloc(TOLD_EACH);
 	if (!left->is_over && !room)
-		return refuse(o, VAH_MEMORY, "out of memory");
+		return refuse_files(o, VAH_MEMORY, "out of memory");
 	for (uint64_t from = ~left->place; !left->is_over && left->place < len && left->place != from; ) {
 		size_t size = len - left->place < TOLD_EACH ? (size_t)(len - left->place) : TOLD_EACH;
 		from = left->place;
@@ -393,7 +427,7 @@ static int look_back(struct opening *o, const int *files, const struct folder *f
 		return refuse_system(o);
 	for (size_t i = 0; i < sizeof bytes; i++)
 		lsn = lsn << 8 | bytes[i];
-	return im_is_older(&left, pages, lsn) ? refuse(o, VAH_NOT_A_STORE, "`pages` in it is older than its logs: it lacks the newest change from before the last switch") : 0;
+	return im_is_older(&left, pages, lsn) ? refuse_files(o, VAH_NOT_A_STORE, "`pages` in it is older than its logs: it lacks the newest change from before the last switch") : 0;
 }
 
 /* Looks at the files that the folder has, and asks whether they belong together: 1 where a log was made, 0 where none was, -1 where they are refused.
@@ -403,6 +437,10 @@ static int look(struct opening *o, int *files)
 	struct folder folder = { 0 };
 	if (open_if_made(o, &files[LOG2], "log2") || open_if_made(o, &files[PAGES], "pages"))
 		return -1;
+	int has_part = has_file(o, "log.part");
+	if (has_part < 0)
+		return -1;
+	folder.has_part = has_part;
 	if (log_front_of(o, files[LOG], &folder.log) || log_front_of(o, files[LOG2], &folder.log2))
 		return -1;
 	folder.pages.is_there = files[PAGES] >= 0;
@@ -410,8 +448,34 @@ static int look(struct opening *o, int *files)
 		return -1;
 	uint32_t word = im_belong(&folder);
 	if (word >= 2)
-		return refuse(o, VAH_NOT_A_STORE, why_apart[word]);
+		return refuse_files(o, VAH_NOT_A_STORE, why_apart[word]);
 	return look_back(o, files, &folder) ? -1 : (int)word;
+}
+
+/* Locks a store by its log. */
+static int lock_log(struct opening *o, int fd, int how)
+{
+	if (!flock(fd, how | LOCK_NB))
+		return 0;
+	return errno == EWOULDBLOCK ? refuse_files(o, VAH_LOCKED, "the store is open elsewhere") : refuse_system(o);
+}
+
+/* Opens and looks at the files that the folder has, in the order of FileDisk::open_to_read. */
+static int open_to_read(struct opening *o, int *files)
+{
+	static const char *const wanted[] = { "log", "pages" };
+	char words[64];
+	for (int i = 0; i < 2; i++) {
+		int is_there = has_file(o, wanted[i]);
+		snprintf(words, sizeof words, "there is no `%s` in it", wanted[i]);
+		if (is_there <= 0)
+			return is_there < 0 ? -1 : refuse_files(o, VAH_NOT_A_STORE, words);
+	}
+	if ((files[LOG] = open_file(o, "log")) < 0 || lock_log(o, files[LOG], LOCK_SH))
+		return -1;
+	if (look(o, files) < 0)
+		return -1;
+	return files[PAGES] < 0 ? refuse_files(o, VAH_NOT_A_STORE, words) : 0;
 }
 
 /* Opens, locks, looks, makes and syncs, in the order of FileDisk::open. */
@@ -423,8 +487,8 @@ static int open_files(struct opening *o, int *files, int folder, char *path)
 		return -1;
 	if ((files[LOG] = open_file(o, "log")) < 0)
 		return -1;
-	if (flock(files[LOG], LOCK_EX | LOCK_NB))
-		return errno == EWOULDBLOCK ? refuse(o, VAH_LOCKED, "the store is open elsewhere") : refuse_system(o);
+	if (lock_log(o, files[LOG], LOCK_EX))
+		return -1;
 	if ((is_made = look(o, files)) < 0)
 		return -1;
 	if (files[PAGES] < 0 && (files[PAGES] = open_file(o, "pages")) < 0)
@@ -436,29 +500,49 @@ static int open_files(struct opening *o, int *files, int folder, char *path)
 	return is_made ? 0 : sync_folders(o, path);
 }
 
+int open_folders(struct opening *o, int *folders)
+{
+	for (int i = 0; i < 3; i++)
+		if ((folders[i] = open(o->path, O_RDONLY | O_DIRECTORY | O_CLOEXEC)) < 0)
+			return refuse_system(o);
+	return 0;
+}
+
+void close_all(const int *files, int count)
+{
+	for (int i = 0; i < count; i++)
+		if (files[i] >= 0)
+			close(files[i]);
+}
+
+char *own_path(struct opening *o)
+{
+	char *path = strdup(o->path);
+	if (!path)
+		refuse_files(o, VAH_MEMORY, "out of memory");
+	else if (!*path) {
+		errno = ENOENT;
+		refuse_system(o);
+	}
+	return path;
+}
+
 int vah_device_open(struct device *device, const char *path, char *text, size_t size)
 {
-	struct opening o = { path, text, size, 0, 0 };
+	struct opening o = { path, device->is_read_only ? O_RDONLY : O_RDWR | O_CREAT, text, size, 0, 0 };
 	int folders[3] = { -1, -1, -1 };
-	char *copy = strdup(path);
+	char *own = own_path(&o);
 	device->files[LOG] = device->files[PAGES] = device->files[LOG2] = -1;
-	if (!copy) {
-		refuse(&o, VAH_MEMORY, "out of memory");
-	} else if (!*path) {
-		errno = ENOENT;
-		refuse_system(&o);
-	} else if (!make_folders(&o, copy)) {
-		/* As long as these three stand, nothing that is opened gets the descriptor of a standard stream. */
-		for (int i = 0; i < 3 && !o.code; i++)
-			if ((folders[i] = open(path, O_RDONLY | O_DIRECTORY | O_CLOEXEC)) < 0)
-				refuse_system(&o);
-		if (!o.code)
-			open_files(&o, device->files, folders[0], copy);
+	if (!o.code && (device->is_read_only || !make_folders(&o, own)) && !open_folders(&o, folders)) {
+		if (fstat(folders[0], &device->folder))
+			refuse_system(&o);
+		else if (device->is_read_only)
+			open_to_read(&o, device->files);
+		else
+			open_files(&o, device->files, folders[0], own);
 	}
-	for (int i = 0; i < 3; i++)
-		if (folders[i] >= 0)
-			close(folders[i]);
-	free(copy);
+	close_all(folders, 3);
+	free(own);
 	if (o.code) {
 		vah_device_close(device);
 		errno = o.why;

@@ -4,6 +4,7 @@
 #include "vahondrisa.h"
 #include <pthread.h>
 #include <stdatomic.h>
+#include <sys/stat.h>
 #include <sys/types.h>
 
 /* ---- the exports of the proved library; the allocator of its second one takes no bytes ---- */
@@ -44,25 +45,39 @@ _Static_assert(sizeof(struct call) == 68144 && offsetof(struct call, txn) == 16 
 	&& offsetof(struct call, out) == 560, "the call is laid out as im_calls_form has it");
 _Static_assert(sizeof(vah_entry) == 264 && offsetof(vah_entry, key) == 9, "bindings know the entry by these");
 _Static_assert(sizeof(vah_ref) == 24 && offsetof(vah_ref, rid) == 16, "bindings know a place in an answer by these");
-_Static_assert(sizeof(vah_config) == 56 && offsetof(vah_config, redo_bytes) == 16 && offsetof(vah_config, log_bytes) == 24
-	&& offsetof(vah_config, wait_ms) == 32 && offsetof(vah_config, progress) == 40, "bindings know the config by these");
+_Static_assert(sizeof(vah_config) == 64 && offsetof(vah_config, redo_bytes) == 16 && offsetof(vah_config, log_bytes) == 24
+	&& offsetof(vah_config, wait_ms) == 32 && offsetof(vah_config, progress) == 40 && offsetof(vah_config, read_only) == 56, "bindings know the config by these");
 _Static_assert(sizeof(vah_info) == 104 && offsetof(vah_info, restarts) == 48, "bindings know the info by these");
 
-/* What is asked, and what is answered, by number: crates/im_calls_form; STAT, OPEN and CLOSE crates/im_calls. */
-enum { BEGIN, FETCH, SEEK, NEXT, SCAN, INSERT, DELETE, COMMIT, ROLLBACK, CONTINUE, FLUSH_PAGE, FORCE, CHECKPOINT, STAT, OPEN, CLOSE, SWITCH, PREV };
+/* What is asked, and what is answered, by number: crates/im_calls_form; STAT, OPEN, CLOSE and those of a copy crates/im_calls. */
+enum { BEGIN, FETCH, SEEK, NEXT, SCAN, INSERT, DELETE, COMMIT, ROLLBACK, CONTINUE, FLUSH_PAGE, FORCE, CHECKPOINT, STAT, OPEN, CLOSE, SWITCH, PREV,
+	COPY_BEGIN, COPY_PIECE, COPY_END };
 enum { STARTED, FOUND, ABSENT, ENTRY, END, ENTRIES, INSERTED, DUPLICATE, DELETED, COMMITTED, ROLLED_BACK, MORE, BLOCKED, DIE, DONE, REFUSED, BLOCKED_TREE };
 
 /* ---- the device: files.c ---- */
 
-/* The files of a store, as the proved library numbers them. */
+/* The files of a store, as the proved library numbers them; those of its copy are so many later. */
 enum { LOG, PAGES, LOG2, FILES };
 
 /* A device call that the store asks for: crates/im_base_caller_disk. */
 struct device_call { uint32_t kind, file; uint64_t place, len; };
 
+/* The files of a copy that is under way. They are used under the store's lock, but where they are made and named. */
+struct copy {
+	const char *path;
+	int folder;             /* it, as long as the copy goes on */
+	int files[FILES];
+	const char *names[FILES]; /* how each is called; NULL where it was not made */
+	int why;                /* the system's reason for the first call that failed; 0: none did */
+	unsigned long fail_at, kill_at; /* in tests, as those of the device */
+};
+
 /* The files, and the call that is asked for. */
 struct device {
 	int files[FILES];
+	int is_read_only;       /* none of them is written */
+	struct stat folder;     /* theirs */
+	struct copy *copy;      /* NULL where none is under way */
 	struct device_call question;
 	int is_written;         /* the bytes of a write are still to come */
 	int is_answered;        /* the answer was read; the bytes of a read come after it */
@@ -79,8 +94,17 @@ struct device {
 	unsigned long slow;     /* in tests: how many microseconds longer a sync takes */
 };
 
-/* Opens the files of a folder, and locks them. A code; `text` then says why. */
+/* Opens the files of a folder, and locks them; where they are only read with others who only read. A code; `text` then says why. */
 int vah_device_open(struct device *device, const char *path, char *text, size_t size);
+
+/* Of a copy, parts.c: makes the files in a folder that is empty, or that it makes, and does not lie in the store's; syncs them; gives them the names of a store, when
+ * all of it is written; says why it was given up; and takes those away that it made. A code; `text` then says why. */
+int vah_device_make_copy(struct copy *copy, const struct stat *store, char *text, size_t size);
+int vah_device_sync_copy(struct copy *copy, char *text, size_t size);
+int vah_device_name_copy(struct copy *copy, char *text, size_t size);
+int vah_device_refuse_copy(struct copy *copy, char *text, size_t size);
+void vah_device_take_copy_away(struct copy *copy);
+void vah_device_close_copy(struct copy *copy);
 
 /* Lets go of the files and of their lock; and, in a child, of the files alone, whose lock is the parent's. */
 void vah_device_close(struct device *device);
@@ -130,6 +154,7 @@ struct store {
 
 	pthread_mutex_t lock;
 	atomic_uint awake;      /* callers that are in the library and do not sleep */
+	atomic_ullong turns;    /* how often the lock was taken */
 	pthread_cond_t ended;   /* a transaction ended, or the store failed */
 	unsigned waiting;       /* for that */
 	pthread_cond_t room;    /* a place is free, or nobody is first any more */
@@ -137,8 +162,12 @@ struct store {
 	unsigned placeless;     /* those of them that wait for a place */
 	pthread_cond_t forced;  /* the log was forced, the store failed, or one of those that wait is to force it */
 	unsigned committing;    /* commits that wait for a force */
+	unsigned asleep;        /* those of them that sleep, and were not woken */
+	unsigned called;        /* that were woken one by one, and have not gone on */
+	uint64_t woken;         /* how often all were woken at once */
 	unsigned since;         /* steps since the first of them began to wait */
 	uint64_t closings;      /* how often a close was refused: each sends the sleepers back */
+	int is_copied;          /* a thread makes a copy of it */
 	int has_failed;
 
 	struct place places[PLACES];
@@ -148,6 +177,7 @@ struct store {
 	uint64_t tick;          /* rises ten times a second at most, while somebody waits to begin, or asks to */
 	uint64_t tick_ns;       /* when it rose */
 
+	int is_read_only;
 	uint64_t wait_ms;
 	uint64_t forces, waits, restarts; /* as in vah_info */
 	struct handle *handle;
@@ -225,9 +255,10 @@ int leave_to_parent(const vah_store *name, struct store **s);
 
 /* ---- the lock, and who waits: turns.c ---- */
 
-/* Takes the lock, and lets go of it. */
+/* Takes the lock, and lets go of it; and lets go of it until those who wait for it have had it. */
 void enter(struct store *s);
 void done(struct store *s);
+void let_others_in(struct store *s);
 
 /* The number of the thread that calls. */
 uint64_t this_thread(void);
@@ -241,8 +272,9 @@ int wait_to_begin(struct store *s, struct place *p, unsigned flags, struct wait 
 /* Waits until a transaction that holds a lock, of this number, has ended. */
 int wait_for_lock(struct store *s, struct place *p, uint64_t holder, struct wait *w);
 
-/* Sleeps among the commits that wait for a force. */
+/* Sleeps among the commits that wait for a force; and wakes them all. */
 void sleep_for_force(struct store *s);
+void wake_for_force(struct store *s);
 int is_force_due(struct store *s);
 
 /* Notes that a transaction gave way: whether it can have been to another thread's, and that it is first no more. */

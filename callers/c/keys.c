@@ -70,6 +70,8 @@ static int by_key(vah_txn *txn, const struct question *q, uint64_t *number, vah_
 	int code = enter_to_ask(txn, &a, &s, &p);
 	if (code)
 		return fail(NULL, code);
+	if (s->is_read_only && (q->what == INSERT || q->what == DELETE))
+		return leave_with(s, VAH_READ_ONLY);
 	a.call = s->call;
 	code = make_in(s, p, make_step, &a);
 	if (!code && number)
@@ -158,7 +160,7 @@ int vah_put(vah_txn *txn, const void *key, size_t len, uint64_t rid, int *was_th
 	int code = enter_to_ask(txn, &a, &s, &p);
 	if (code)
 		return fail(NULL, code);
-	code = make_in(s, p, make_put, &a);
+	code = s->is_read_only ? VAH_READ_ONLY : make_in(s, p, make_put, &a);
 	if (!code && was_there)
 		*was_there = a.told.word == REPLACED;
 	if (!code && previous && a.told.word == REPLACED)

@@ -27,7 +27,7 @@ static void wake(struct store *s, uint32_t what, const struct told *told)
 	s->forces += is_forced;
 	if (s->committing && (is_forced || s->has_failed)) {
 		s->committing = 0;
-		pthread_cond_broadcast(&s->forced);
+		wake_for_force(s);
 		is_over = 1;
 	}
 	if (is_over || told->word == COMMITTED || told->word == ROLLED_BACK)
@@ -44,6 +44,8 @@ struct told ask_in(struct store *s, struct call *call, uint64_t txn, const struc
 	if (q->what == INSERT && vah_test_refused_insert && !--vah_test_refused_insert)
 		return (struct told){ REFUSED, VAH_MEMORY, 0 };
 #endif
+	if (s->has_failed && q->what != STAT) /* by a read for a copy too, after which the proved library fails at the next call of the device alone */
+		return (struct told){ REFUSED, VAH_FAILED, 0 };
 	call->step = q->what;
 	call->txn = txn;
 	call->limit = q->limit;

@@ -6,6 +6,7 @@
 #define _GNU_SOURCE
 #include "internal.h"
 #include <time.h>
+#include <unistd.h>
 
 /* So many steps at most are made while a commit waits for a force. */
 enum { LONG_WAIT = 256 };
@@ -29,6 +30,7 @@ void enter(struct store *s)
 {
 	atomic_fetch_add(&s->awake, 1);
 	pthread_mutex_lock(&s->lock);
+	atomic_fetch_add(&s->turns, 1);
 }
 
 /* Whether the commits that wait for a force have to wait no longer: nobody but this caller is awake, or they have waited long. */
@@ -40,8 +42,13 @@ int is_force_due(struct store *s)
 /* One caller less is awake. The last one leaves the force to one that waits for it, so that none waits for nobody. */
 static void leave(struct store *s)
 {
-	if (is_force_due(s))
+	if (is_force_due(s)) {
+		unsigned one = s->asleep > 0;
+		s->asleep -= one;
+		s->called += one;
+		atomic_fetch_add(&s->awake, one);
 		pthread_cond_signal(&s->forced);
+	}
 	atomic_fetch_sub(&s->awake, 1);
 }
 
@@ -51,11 +58,42 @@ void done(struct store *s)
 	pthread_mutex_unlock(&s->lock);
 }
 
-void sleep_for_force(struct store *s)
+/* The lock goes to whoever is there first, which would be the one that lets go of it: so it waits a little, and until as many have had it as wanted it.
+ * A second is enough for each, whatever the machine does. */
+void let_others_in(struct store *s)
 {
 	leave(s);
+	unsigned long long turns = atomic_load(&s->turns), others = atomic_load(&s->awake);
+	pthread_mutex_unlock(&s->lock);
+	for (int i = 0; i == 0 || (i < 20000 && atomic_load(&s->turns) - turns < others); i++)
+		usleep(50);
+	enter(s);
+}
+
+/* Who is woken is awake from then on, and not from when the machine has it run: those that go on before it wait for what it brings. */
+void sleep_for_force(struct store *s)
+{
+	uint64_t before = s->woken;
+	s->asleep++;
+	leave(s);
 	pthread_cond_wait(&s->forced, &s->lock);
-	atomic_fetch_add(&s->awake, 1);
+	atomic_fetch_add(&s->turns, 1);
+	if (s->woken != before)
+		return;
+	if (s->called) { /* by a call for it, or for another one, which then counts itself */
+		s->called--;
+	} else {
+		s->asleep--;
+		atomic_fetch_add(&s->awake, 1);
+	}
+}
+
+void wake_for_force(struct store *s)
+{
+	atomic_fetch_add(&s->awake, s->asleep);
+	s->asleep = s->called = 0;
+	s->woken++;
+	pthread_cond_broadcast(&s->forced);
 }
 
 /* ---- waits ---- */

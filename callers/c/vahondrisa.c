@@ -8,7 +8,7 @@
 /* Whether a config is of this size in some version: they grew at the end. */
 static int is_config_size(size_t size)
 {
-	return size == offsetof(vah_config, log_bytes) || size == offsetof(vah_config, wait_ms) || size >= sizeof(vah_config);
+	return size == offsetof(vah_config, log_bytes) || size == offsetof(vah_config, wait_ms) || size == offsetof(vah_config, read_only) || size >= sizeof(vah_config);
 }
 
 /* The fields of a config that this version knows, over the defaults. */
@@ -23,7 +23,7 @@ static int read_config(const vah_config *given, vah_config *config)
 		if (((const uint8_t *)given)[i])
 			return VAH_INVALID; /* a later version's field that is not left at 0 */
 	memcpy(config, given, given->size < sizeof *config ? given->size : sizeof *config);
-	return VAH_OK;
+	return config->read_only <= 1 ? VAH_OK : VAH_INVALID;
 }
 
 /* Frees what a store has while it is open. Its shell stays. */
@@ -47,7 +47,9 @@ static int fill_shell(struct store *s, const char *path, const vah_config *confi
 	s->has_failed = 0;
 	s->forces = s->waits = s->restarts = 0;
 	s->wait_ms = config->wait_ms;
-	s->device = (struct device){ .progress = config->progress, .with = config->with };
+	s->is_copied = 0;
+	s->is_read_only = (int)config->read_only;
+	s->device = (struct device){ .progress = config->progress, .with = config->with, .is_read_only = s->is_read_only };
 #ifdef VAH_TEST
 	s->device.fail_at = getenv("VAH_FAIL_AT") ? strtoul(getenv("VAH_FAIL_AT"), NULL, 10) : 0;
 	s->device.kill_at = getenv("VAH_KILL_AT") ? strtoul(getenv("VAH_KILL_AT"), NULL, 10) : 0;
@@ -68,6 +70,7 @@ static int open_session(struct store *s, const vah_config *config)
 	im_init(s->handle);
 	call->step = OPEN;
 	call->word = 1; /* commits wait for a force */
+	call->fault = (uint32_t)config->read_only;
 	call->limit = config->frames;
 	call->txn = config->max_pages;
 	call->number = config->redo_bytes;
@@ -158,7 +161,7 @@ int vah_close(vah_store *store)
 		return VAH_OK;
 	if ((code = enter_store(store, &s)))
 		return code == VAH_FORKED ? close_parents(store) : fail(NULL, code);
-	if (s->taken || s->waiting || s->queueing) {
+	if (s->taken || s->waiting || s->queueing || s->is_copied) {
 		send_back(s);
 		return leave_with(s, VAH_ACTIVE);
 	}
@@ -176,6 +179,8 @@ static int of_store(vah_store *store, uint32_t what)
 	int code = enter_store(store, &s);
 	if (code)
 		return fail(NULL, code);
+	if (s->is_read_only)
+		return leave_with(s, VAH_READ_ONLY);
 	struct told told = ask_store(s, what);
 	return leave_with(s, told_code(&told));
 }
@@ -193,6 +198,7 @@ static int stat_in(struct store *s, vah_info *info)
 	if (told_code(&told))
 		return told_code(&told);
 	memcpy(info, s->call->out, offsetof(vah_info, restarts));
+	info->has_failed |= (uint64_t)s->has_failed;
 	info->restarts = s->restarts;
 	info->waits = s->waits;
 	info->forces = s->forces;

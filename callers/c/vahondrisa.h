@@ -65,9 +65,11 @@
  *	@section files	Files
  *
  *  A store is a folder with the files `log`, `log2` and `pages`. It is open once
- *  at a time: a second opening, here or elsewhere, is refused VAH_LOCKED. Files
- *  are read alike on each machine. Never delete, copy or put back one of the
- *  three alone. A child that outlives the program without exec holds the lock on.
+ *  at a time: a second opening, here or elsewhere, is refused VAH_LOCKED. Those
+ *  that only read (vah_config.read_only) may be any number, and are one to all
+ *  others. Files are read alike on each machine. Never delete, copy or put back
+ *  one of the three alone: vah_copy makes a copy of a store in use. A child that
+ *  outlives the program without exec holds the lock on.
  */
 #ifndef VAHONDRISA_H
 #define VAHONDRISA_H
@@ -125,6 +127,11 @@ typedef struct vah_config {
 	                           *   header. Where it returns another number than 0
 	                           *   the opening is given up: VAH_STOPPED. Or NULL */
 	void *with;               /**< its first argument */
+	uint64_t read_only;       /**< 1: the files are only read. What the opening redoes
+	                           *   and takes back stays in memory, and no byte of them
+	                           *   is changed; what would change a key is refused
+	                           *   VAH_READ_ONLY. Any number may look at a store at a
+	                           *   time. It must be there. Or 0 */
 } vah_config;
 
 /** For redo_bytes, and the default: 16 MiB, or 7 times the bytes of the file of
@@ -133,7 +140,7 @@ typedef struct vah_config {
 /** For log_bytes, and the default: 64 MiB, or 8 times the bytes of the file of
  *  pages, whichever is more. */
 #define VAH_LOG_GROWS UINT64_MAX
-#define VAH_CONFIG_INIT { sizeof(vah_config), 1024, 1000000, VAH_REDO_GROWS, VAH_LOG_GROWS, 0, NULL, NULL }
+#define VAH_CONFIG_INIT { sizeof(vah_config), 1024, 1000000, VAH_REDO_GROWS, VAH_LOG_GROWS, 0, NULL, NULL, 0 }
 
 /** What vah_stat tells. The numbers from `restarts` on count from the opening. */
 typedef struct vah_info {
@@ -173,7 +180,7 @@ typedef struct vah_info {
 /** An argument is NULL or no handle, or a flag or a size is not known. */
 #define VAH_INVALID 104
 /** Transactions of the store are active, or another thread sleeps in a call of
- *  it: it was not closed, or not switched. */
+ *  it, or copies it: it was not closed, or not switched. */
 #define VAH_ACTIVE 105
 /** The store was opened by the process that this one was forked from. */
 #define VAH_FORKED 106
@@ -185,6 +192,13 @@ typedef struct vah_info {
 #define VAH_STOPPED 108
 /** The store was closed. */
 #define VAH_CLOSED 109
+/** The store was opened to be read only. Nothing was changed. */
+#define VAH_READ_ONLY 110
+/** The folder of a copy has something in it, or lies in the store's own. */
+#define VAH_NOT_EMPTY 111
+/** A call of the system on the folder or the files of a copy failed: there is no
+ *  copy. The store goes on. */
+#define VAH_NOT_COPIED 112
 /* The refusals of the store, by the numbers that its programs print. */
 #define VAH_NO_TRANSACTION 1   /**< the transaction has ended */
 #define VAH_MUST_ROLL_BACK 2   /**< a call of it was answered VAH_GIVE_WAY, or a
@@ -210,8 +224,8 @@ const char *vah_strerror(int code);
 /** What the last call of this thread that was refused said, with the folder's
  *  name and the system's reason where there is one. VAH_NOT_FOUND and
  *  VAH_EXISTS are answers, and leave it as it is. Never NULL; good until the
- *  next call of this thread. After VAH_DEVICE and VAH_FAILED errno is the
- *  system's reason, or 0 where it is not known. */
+ *  next call of this thread. After VAH_DEVICE, VAH_FAILED and VAH_NOT_COPIED errno
+ *  is the system's reason, or 0 where it is not known. */
 const char *vah_last_error(void);
 
 /** The version of the library, as VAH_VERSION. */
@@ -234,7 +248,8 @@ int vah_open(const char *path, const vah_config *config, vah_store **store);
  *  end the store. What was committed is kept whatever this returns, and the
  *  store has ended on each code but VAH_ACTIVE. NULL is taken.
  *  On VAH_ACTIVE those that sleep in a call of the store, but for commits, are
- *  woken, and answered VAH_BUSY: so end the transactions, and close again.
+ *  woken, and answered VAH_BUSY, and so is a vah_copy: so end the transactions, and
+ *  close again.
  *  @return VAH_ACTIVE, VAH_CLOSED, VAH_DEVICE, VAH_FAILED, VAH_FORKED */
 int vah_close(vah_store *store);
 
@@ -341,6 +356,18 @@ int vah_switch(vah_store *store);
 
 /** Make all records so far durable, those of active transactions too. */
 int vah_flush(vah_store *store);
+
+/** Copy the store into a folder, while other threads go on: they wait for 256 KiB
+ *  at a time at most. The copy is a store. It has what a stop at its end might have
+ *  left: each commit that has returned 0 by then, of the others some, and each of
+ *  them whole. When 0 is returned it is on the disk.
+ *  @param[in] folder one that is empty, or is to be made, on any disk, and not in the
+ *  store's own. Until the copy is whole its files have other names, and an opening of the folder is refused
+ *  VAH_NOT_A_STORE; where it fails they are taken away
+ *  @return VAH_NOT_EMPTY, VAH_NOT_COPIED, VAH_MEMORY; VAH_BUSY where another copy of
+ *  the store is under way, or another thread called vah_close meanwhile; VAH_DEVICE
+ *  and VAH_FAILED where the store itself failed */
+int vah_copy(vah_store *store, const char *folder);
 
 /** Tell how the store stands.
  *  @param[in] size sizeof(vah_info): a later version's numbers are left out */

@@ -6,15 +6,16 @@
 #include <stdatomic.h>
 #include <unistd.h>
 
-enum { THREADS = 8, EACH = 12 };
+enum { THREADS = 8, EACH = 12, ROUNDS = 40 };
 extern atomic_ulong vah_test_syncs;
 
-struct work { vah_store *store; int number, is_calm; unsigned long acked, asked; };
+struct work { vah_store *store; pthread_barrier_t *all; int number, is_calm; unsigned long acked, asked; };
 
 /* Each transaction puts one key in. Ends at the first call that is refused by the device, or after that. */
 static void *commit_each(void *arg)
 {
 	struct work *work = arg;
+	pthread_barrier_wait(work->all);
 	for (int i = 0; i < EACH; i++) {
 		unsigned char key[2] = { (unsigned char)(work->number * 31), (unsigned char)i };
 		vah_txn *txn = NULL;
@@ -40,11 +41,14 @@ static int run(const char *dir, struct work *works, int is_calm)
 {
 	vah_store *store;
 	pthread_t all[THREADS];
+	pthread_barrier_t are_there;
 	int rc = vah_open(dir, NULL, &store);
-	for (int i = 0; i < THREADS; i++) works[i] = (struct work){ store, i, is_calm, 0, 0 };
+	for (int i = 0; i < THREADS; i++) works[i] = (struct work){ store, &are_there, i, is_calm, 0, 0 };
 	if (rc) return rc;
+	pthread_barrier_init(&are_there, NULL, THREADS);
 	for (int i = 0; i < THREADS; i++) HOLDS(!pthread_create(&all[i], NULL, commit_each, &works[i]));
 	for (int i = 0; i < THREADS; i++) pthread_join(all[i], NULL);
+	pthread_barrier_destroy(&are_there);
 	return vah_close(store);
 }
 
@@ -67,6 +71,23 @@ static void kept(const char *dir, const struct work *works)
 	OK(vah_close(store));
 }
 
+/* Commits of threads that are there at once share syncs. Alone, each would make two, so that no round had fewer than it has commits; where the machine lets
+ * few of the threads run at once, one of the next rounds shows it. */
+static void share_syncs(const char *folder)
+{
+	struct work works[THREADS];
+	unsigned long syncs = THREADS * EACH;
+	for (int i = 0; i < ROUNDS && syncs >= THREADS * EACH; i++) {
+		char dir[4096];
+		unsigned long before = vah_test_syncs;
+		snprintf(dir, sizeof dir, "%.4000s/calm%d", folder, i);
+		OK(run(dir, works, 1));
+		syncs = vah_test_syncs - before;
+		kept(dir, works);
+	}
+	HOLDS(syncs < THREADS * EACH);
+}
+
 static void *wait_for_key(void *arg)
 {
 	OK(vah_insert(arg, "k", 1, 1));
@@ -78,6 +99,7 @@ static void awaited(const char *dir)
 {
 	vah_store *store;
 	vah_txn *old, *young;
+	vah_info info;
 	pthread_t thread;
 	OK(vah_open(dir, NULL, &store));
 	OK(vah_begin(store, &old));
@@ -85,7 +107,10 @@ static void awaited(const char *dir)
 	OK(vah_insert(young, "k", 1, 2));
 	OK(vah_delete(young, "k", 1));
 	HOLDS(!pthread_create(&thread, NULL, wait_for_key, old));
-	usleep(20000);
+	do {
+		usleep(1000);
+		OK(vah_stat(store, &info));
+	} while (!info.waits);
 	OK(vah_commit(young));
 	pthread_join(thread, NULL);
 	OK(vah_commit(old));
@@ -98,11 +123,8 @@ int main(int argc, char **argv)
 	struct work works[THREADS];
 	int step = argc > 2 ? atoi(argv[2]) : 1, stopped = 0, rc = 1;
 	if (argc < 2) return 1;
-	snprintf(dir, sizeof dir, "%s/calm", argv[1]);
 	setenv("VAH_SLOW_SYNC", "2000", 1);
-	OK(run(dir, works, 1));
-	HOLDS(vah_test_syncs < THREADS * EACH); /* alone, each would make two */
-	kept(dir, works);
+	share_syncs(argv[1]);
 	unsetenv("VAH_SLOW_SYNC");
 	for (int n = 1; rc; n += step) {
 		snprintf(dir, sizeof dir, "%s/%d", argv[1], n);

@@ -37,6 +37,7 @@ static void is_refused(vah_store *store, vah_txn *txn)
 	IS(vah_flush(store), VAH_FORKED);
 	IS(vah_checkpoint(store), VAH_FORKED);
 	IS(vah_switch(store), VAH_FORKED);
+	IS(vah_copy(store, "never_made"), VAH_FORKED);
 	IS(vah_close(store), VAH_FORKED);
 	IS(vah_close(store), VAH_CLOSED);
 	IS(vah_flush(store), VAH_CLOSED);
@@ -108,7 +109,7 @@ static void beside_threads(vah_txn *txn, int children)
 		usleep(1500);
 		pid_t child = fork();
 		if (!child) {
-			alarm(60); /* a lock that nobody lets go of would hold it for ever */
+			alarm(250); /* a lock that nobody lets go of would hold it for ever */
 			is_refused(store, txn);
 			has_own_store(i + 1);
 			_exit(0);

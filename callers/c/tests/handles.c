@@ -46,6 +46,7 @@ static void refuses_store(vah_store *store, int code)
 	IS(vah_flush(store), code);
 	IS(vah_checkpoint(store), code);
 	IS(vah_switch(store), code);
+	IS(vah_copy(store, "never_made"), code);
 	if (store) IS(vah_close(store), code);
 	HOLDS(txn == (vah_txn *)&rounds && info.active == 77);
 }

@@ -1,5 +1,5 @@
-/* The lines of imstore, as far as examples/imstore_guards_files writes them, over this library: so one list guards both. lines FOLDER, or
- * lines --check FOLDER. */
+/* The lines of imstore, as far as examples/imstore_guards_files and examples/failing_calls write them, over this library: so one list guards both, and
+ * the calls of both fail in turn. lines FOLDER, or lines --check FOLDER. */
 #include "test.h"
 #include <inttypes.h>
 
@@ -11,6 +11,15 @@ static int refused(int code)
 	fflush(stdout);
 	fprintf(stderr, "imstore: %s\n", vah_last_error());
 	return 1;
+}
+
+/* Prints what a line is answered: this word, or that it is refused. */
+static void answer(int code, const char *done)
+{
+	if (code)
+		printf("refused %d\n", code);
+	else
+		printf("%s\n", done);
 }
 
 /* A key: words joined by +, each of which may be repeated, as z*248. */
@@ -59,24 +68,29 @@ int main(int argc, char **argv)
 	if (is_check) printf("ok\n");
 	while (!is_check && fgets(line, sizeof line, stdin)) {
 		if (!strcmp(line, "begin\n")) {
-			OK(vah_begin(store, &txns[++begun]));
-			printf("started %u\n", begun);
+			code = vah_begin(store, &txns[begun + 1]);
+			begun += !code;
+			snprintf(word, sizeof word, "started %u", begun);
+			answer(code, word);
 		} else if (!strcmp(line, "entries\n")) {
 			print_entries(store);
 		} else if (sscanf(line, "insert %u %399s %" SCNu64, &t, word, &row) == 3) {
-			OK(vah_insert(txns[t], key, key_of(word, key), row));
-			printf("inserted\n");
+			answer(vah_insert(txns[t], key, key_of(word, key), row), "inserted");
 		} else if (sscanf(line, "commit %u", &t) == 1) {
-			OK(vah_commit(txns[t]));
+			answer(vah_commit(txns[t]), "committed");
 			txns[t] = NULL;
-			printf("committed\n");
 		} else if (!strcmp(line, "switch\n")) {
-			OK(vah_switch(store));
-			printf("done\n");
+			answer(vah_switch(store), "done");
+		} else if (!strcmp(line, "checkpoint\n")) {
+			answer(vah_checkpoint(store), "done");
+		} else if (!strncmp(line, "flush ", 6)) {
+			answer(vah_flush(store), "done");
 		}
 		fflush(stdout);
 	}
 	for (t = 1; t <= begun; t++) vah_rollback(txns[t]);
-	OK(vah_close(store));
-	return 0;
+	code = vah_close(store);
+	if (code)
+		printf("close refused %d\n", code);
+	return code != 0;
 }

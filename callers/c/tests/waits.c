@@ -400,7 +400,7 @@ static void twice(void)
 	int rc = VAH_OK;
 	start_busy(store, &old);
 	OK(vah_begin(store, &waits.txn));
-	for (int i = 0; !rc && i < 20; i++) { /* again where the machine has held the older one up, so that it was left alone */
+	for (int i = 0; !rc && i < 200; i++) { /* again where the machine has held the older one up, so that it was left alone */
 		IS(vah_fetch(waits.txn, "o", 1, &rid), VAH_GIVE_WAY);
 		start(&waits, again);
 		if (!(rc = vah_again(waits.txn))) OK(answer(&waits));
@@ -456,7 +456,7 @@ static void ended_between(void)
 	vah_store *store = open_named("between", 0);
 	vah_info info;
 	int tries = 0;
-	while (!is_ended_between(store)) HOLDS(++tries < 50);
+	while (!is_ended_between(store)) HOLDS(++tries < 500);
 	OK(vah_stat(store, &info));
 	HOLDS(info.active == 0);
 	OK(vah_close(store));
@@ -505,9 +505,10 @@ static void crowd(int threads)
 
 /* ---- more threads than places, none of which rests ---- */
 
-enum { RESTLESS = 80 };
-struct restless { vah_store *store; pthread_t thread; unsigned long begun; };
-static atomic_int all_there, stop;
+enum { RESTLESS = 80, SHARE = 60 };
+struct restless { vah_store *store; pthread_t thread; int is_there; unsigned long begun; };
+static atomic_int there, all_there, stop;
+static atomic_ulong all_begun;
 
 static void *begin_and_end(void *arg)
 {
@@ -516,33 +517,37 @@ static void *begin_and_end(void *arg)
 		vah_txn *txn;
 		OK(vah_begin(r->store, &txn));
 		OK(vah_commit(txn));
-		r->begun += (unsigned long)atomic_load(&all_there);
+		if (atomic_load(&all_there)) {
+			r->begun++;
+			atomic_fetch_add(&all_begun, 1);
+		} else if (!r->is_there) {
+			r->is_there = 1;
+			atomic_fetch_add(&there, 1);
+		}
 	}
 	return NULL;
 }
 
-/* Lets them begin and end for a while; how many of them had less than a tenth of their share, or all where hardly any began. */
+/* Lets them begin and end until each might have had its share; how many of them had less than a tenth of it. */
 static int poor_ones(vah_store *store)
 {
 	static struct restless all[RESTLESS];
-	unsigned long sum = 0;
 	int poor = 0;
+	atomic_store(&there, 0);
 	atomic_store(&all_there, 0);
+	atomic_store(&all_begun, 0);
 	atomic_store(&stop, 0);
 	for (int i = 0; i < RESTLESS; i++) {
 		all[i] = (struct restless){ .store = store };
 		HOLDS(!pthread_create(&all[i].thread, NULL, begin_and_end, &all[i]));
 	}
-	usleep(100000);
+	for (double from = seconds(); atomic_load(&there) < RESTLESS; usleep(1000)) HOLDS(seconds() - from < 120); /* each has had a turn */
 	atomic_store(&all_there, 1);
-	usleep(500000);
+	while (atomic_load(&all_begun) < SHARE * RESTLESS) usleep(1000);
 	atomic_store(&stop, 1);
-	for (int i = 0; i < RESTLESS; i++) {
-		pthread_join(all[i].thread, NULL);
-		sum += all[i].begun;
-	}
-	for (int i = 0; i < RESTLESS; i++) poor += all[i].begun < sum / RESTLESS / 10;
-	return sum < 20 * RESTLESS ? RESTLESS : poor;
+	for (int i = 0; i < RESTLESS; i++) pthread_join(all[i].thread, NULL);
+	for (int i = 0; i < RESTLESS; i++) poor += all[i].begun < SHARE / 10;
+	return poor;
 }
 
 /* All but one of the places are kept: they come and go in the one that is left, and each has its turn. Again where the machine held them up. */
@@ -552,7 +557,7 @@ static void turns(void)
 	vah_txn *kept[63];
 	int poor = RESTLESS;
 	for (int i = 0; i < 63; i++) OK(vah_begin(store, &kept[i]));
-	for (int i = 0; poor >= RESTLESS / 10 && i < 6; i++) poor = poor_ones(store);
+	for (int i = 0; poor >= RESTLESS / 10 && i < 10; i++) poor = poor_ones(store);
 	HOLDS(poor < RESTLESS / 10);
 	for (int i = 0; i < 63; i++) OK(vah_rollback(kept[i]));
 	OK(vah_close(store));

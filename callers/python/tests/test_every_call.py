@@ -59,6 +59,32 @@ class EveryCall(unittest.TestCase):
                 break
         self.assertGreater(n, 20)
 
+    def test_every_call_of_a_copy_fails_in_turn(self):
+        with tempfile.TemporaryDirectory() as room, vahondrisa.open(os.path.join(room, "store")) as store:
+            for n in itertools.count(1):
+                store.write(lambda txn: txn.put(b"a", n))
+                with self.subTest(n=n):
+                    to, failed = os.path.join(room, str(n)), None
+                    os.environ["VAH_COPY_FAIL_AT"] = str(n)
+                    try:
+                        store.copy(to)
+                    except vahondrisa.NotCopied as it:
+                        failed = it
+                    finally:
+                        del os.environ["VAH_COPY_FAIL_AT"]
+                    if failed:
+                        self.assertEqual((failed.errno, failed.__cause__.errno, failed.filename), (errno.EIO, errno.EIO, to))
+                    if not os.path.isdir(to) or not os.listdir(to):
+                        self.assertTrue(failed)
+                    elif os.path.exists(to + "/log.part"):
+                        self.assertRaisesRegex(vahondrisa.NotAStore, "a copy into it was not finished", vahondrisa.open, to)
+                    else:
+                        with vahondrisa.open(to) as copy:
+                            self.assertEqual(copy.get(b"a"), n)
+                if not failed:
+                    break
+            self.assertGreater(n, 12)
+
     def test_a_name_that_is_refused_half_way_is_none(self):
         for refused in (1, 2, 3):  # of its three entries
             with self.subTest(refused=refused), tempfile.TemporaryDirectory() as room:

@@ -120,7 +120,13 @@ class Threads(Case):
                     store.write(lambda txn: txn.put(key, j))
                     kept.append(key)
 
-            raised = together(*(lambda i=i: body(i) for i in range(16)), lambda: (time.sleep(0.03 + 0.005 * turn), store.close()))
+            def close():
+                time.sleep(0.03 + 0.005 * turn)
+                while not kept:
+                    time.sleep(0.001)
+                store.close()
+
+            raised = together(*(lambda i=i: body(i) for i in range(16)), close)
             self.assertIsNone(raised.pop())
             self.assertEqual([(type(it), str(it)) for it in raised], [(ValueError, "the store is closed")] * 16)
             with vahondrisa.open(self.dir) as store, store.begin() as txn:
@@ -131,11 +137,22 @@ class Threads(Case):
         older, younger = store.begin(), store.begin()
         younger[b"a"] = 1
 
+        begun, is_closed = threading.Event(), threading.Event()
+
         def within():
             with store.begin():
-                time.sleep(0.2)
+                begun.set()
+                is_closed.wait()
 
-        raised = together(lambda: older.get(b"a"), lambda: older.range(b"a").__next__(), within, lambda: (time.sleep(0.1), store.close(), store.close()))
+        def close():
+            begun.wait()
+            while store.info()["waits"] < 2:
+                time.sleep(0.01)
+            store.close()
+            store.close()
+            is_closed.set()
+
+        raised = together(lambda: older.get(b"a"), lambda: older.range(b"a").__next__(), within, close)
         self.assertIsNone(raised.pop())
         self.assertEqual([(type(it), str(it)) for it in raised], [(ValueError, "the store is closed")] * 3)
         self.assertRaisesRegex(ValueError, "^the store is closed$", younger.commit)
@@ -156,7 +173,7 @@ class Threads(Case):
 
                 def again():
                     younger.again()
-                    if not has_ended.wait(10):
+                    if not has_ended.wait(100):
                         younger.commit()  # so that a close that waits for it ends
 
                 def ends():
@@ -182,7 +199,7 @@ class Threads(Case):
             return told[0]
 
         for end in (lambda _, txn: txn.rollback(), lambda store, _: store.close()):
-            self.assertIn(4, (told_beside(end, count) for count in (2000, 8000, 32000)))
+            self.assertIn(4, (told_beside(end, count) for count in (2000, 8000) + (32000,) * 8))  # until it comes in between
 
     def test_a_close_that_an_interrupt_cuts_off(self):
         def interrupted():
@@ -329,7 +346,7 @@ class Threads(Case):
                 self.assertEqual(run.stdout.readline(), b"begun\n")
                 time.sleep(0.01 + turn * 37 % 50 * 0.01)
                 run.send_signal(signal.SIGINT)
-                out, err = run.communicate(timeout=60)
+                out, err = run.communicate(timeout=200)
             self.assertEqual((run.returncode, err), (7, b""), (turn, out))
             closed, told, kept = out.decode().split(" ", 1)[0], out.decode().split("[", 1)[1].split("]", 1)[0], out.decode().rsplit("[", 1)[1].rstrip("]\n")
             self.assertEqual((closed, told), ("True", "'the store is closed'"))
@@ -352,13 +369,13 @@ class Threads(Case):
                 time.sleep(0.2)
                 self.assertIsNone(run.poll())
                 run.send_signal(signal.SIGINT)
-                err = run.communicate(timeout=20)[1]
+                err = run.communicate(timeout=200)[1]
                 self.assertEqual((run.returncode, err.splitlines()[-1]), (-signal.SIGINT, b"KeyboardInterrupt"))
 
     def test_daemon_threads_at_the_end(self):
         for _ in range(3):
             with self.run_on(DAEMONS, stderr=subprocess.PIPE) as run:
-                err = run.communicate(timeout=60)[1]
+                err = run.communicate(timeout=200)[1]
                 self.assertEqual((run.returncode, err), (0, b""))
             self.assertTrue(all(len(keys) == 10 for keys in self.turns().values()))
 

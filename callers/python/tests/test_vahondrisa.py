@@ -25,16 +25,18 @@ class Stop(Exception): pass
 def stop(*_): raise Stop
 signal.signal(signal.SIGALRM, stop)
 store = vahondrisa.open(sys.argv[1])
-turn = stops = 0
+turn, stops, patience = 0, 0, 1
 while stops < 150:
+    begun = turn
     try:
-        signal.setitimer(signal.ITIMER_REAL, 0.0002 + (stops * 37 % 100) * 0.00002)
+        signal.setitimer(signal.ITIMER_REAL, patience * (0.0002 + (stops * 37 % 100) * 0.00002))
         for turn in range(turn + 1, turn + 1000):
             with store.begin() as txn:
                 for j in range(10):
                     txn.insert(b"%d.%d" % (turn, j), turn)
     except Stop:
         stops += 1
+        patience = 1 if turn > begun + 1 else 2 * patience  # a machine that is busy takes longer for one turn
         txn = None  # while no signal comes
 signal.setitimer(signal.ITIMER_REAL, 0)
 print(turn)
@@ -240,7 +242,7 @@ class Stores(Case):
 
     def test_the_error_of_a_rollback_does_not_hide_the_first(self):
         with self.run_on(FULL, stderr=subprocess.PIPE) as run:
-            out, err = run.communicate(timeout=60)
+            out, err = run.communicate(timeout=200)
         self.assertEqual((out.decode().split(), run.returncode), (["8", "own"] * 2, 0), err)
 
     def test_a_kill_keeps_what_was_committed(self):

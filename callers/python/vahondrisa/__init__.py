@@ -15,7 +15,7 @@
 Any thread may use a store, and a transaction. Ctrl-C ends a call that waits. A store has room for several indexes, by name (`Store.index`), and for
 values of bytes (`Store.blob`).
 """
-from ._errors import Busy, Deadlock, Error, Failed, GiveWay, Locked, NotAStore
+from ._errors import Busy, Deadlock, Error, Failed, GiveWay, Locked, NotAStore, NotCopied, ReadOnly
 from ._keys import Keys, Range
 from ._named import Blob, Index, Values
 from ._store import Store, build, open
@@ -23,6 +23,6 @@ from ._transaction import Transaction
 
 __all__ = [
     "open", "build", "Store", "Transaction", "Keys", "Range", "Index", "Blob", "Values",
-    "Error", "GiveWay", "Busy", "Deadlock", "Locked", "NotAStore", "Failed",
+    "Error", "GiveWay", "Busy", "Deadlock", "Locked", "NotAStore", "Failed", "ReadOnly", "NotCopied",
 ]
 __version__ = "0.1.0"

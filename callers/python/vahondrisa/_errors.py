@@ -122,11 +122,37 @@ class Failed(_OfFiles):
     """
 
 
+class ReadOnly(_OfFiles):
+    """The store was opened to be read only: an OSError with the number EROFS. Nothing was changed.
+
+    >>> vahondrisa.open(folder + "/looked").close()
+    >>> with vahondrisa.open(folder + "/looked", read_only=True) as looked:
+    ...     try:
+    ...         looked.write(lambda txn: txn.put(b"apple", 7))
+    ...     except vahondrisa.ReadOnly as it:
+    ...         print(it.strerror)
+    Read-only file system
+    """
+
+
+class NotCopied(_OfFiles):
+    """There is no copy, and the store goes on: the folder has something in it, with the number ENOTEMPTY, or a call of the system on the copy's files failed. An OSError
+    with the system's number, and with the system's error as `__cause__`.
+
+    >>> try:
+    ...     store.copy(folder)              # which is the store's own
+    ... except vahondrisa.NotCopied as it:
+    ...     print(it.strerror)
+    Directory not empty
+    """
+
+
 _KINDS = {
     c.GIVE_WAY: GiveWay, c.BUSY: Busy, c.DEADLOCK: Deadlock, c.LOCKED: Locked, c.NOT_A_STORE: NotAStore,
     c.CAPACITY: Failed, c.LOG_FULL: Failed, c.DEVICE: Failed, c.FAILED: Failed,
+    c.READ_ONLY: ReadOnly, c.NOT_EMPTY: NotCopied, c.NOT_COPIED: NotCopied,
 }
-_NUMBERS = {c.LOCKED: errno.EBUSY, c.NOT_A_STORE: errno.EINVAL}
+_NUMBERS = {c.LOCKED: errno.EBUSY, c.NOT_A_STORE: errno.EINVAL, c.READ_ONLY: errno.EROFS, c.NOT_EMPTY: errno.ENOTEMPTY}
 
 
 def refuse(code: int, path: Optional[str] = None) -> NoReturn:
@@ -144,6 +170,6 @@ def refuse(code: int, path: Optional[str] = None) -> NoReturn:
     kind = _KINDS.get(code, Error)
     if not issubclass(kind, _OfFiles):
         raise kind(code, text)
-    number = _NUMBERS.get(code, system if code in (c.DEVICE, c.FAILED) and system else None)
+    number = _NUMBERS.get(code, system if code in (c.DEVICE, c.FAILED, c.NOT_COPIED) and system else None)
     cause = OSError(number, os.strerror(number)) if number and code not in _NUMBERS else None
     raise kind(code, text, number, path) from cause

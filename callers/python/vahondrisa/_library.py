@@ -10,6 +10,7 @@ SCAN_MAX = 256
 NO_WAIT = 1
 REDO_GROWS = LOG_GROWS = (1 << 64) - 1
 NOT_FOUND, EXISTS, GIVE_WAY, BUSY, INVALID, ACTIVE, FORKED, DEADLOCK, STOPPED, CLOSED = 100, 101, 102, 103, 104, 105, 106, 107, 108, 109
+READ_ONLY, NOT_EMPTY, NOT_COPIED = 110, 111, 112
 NO_TRANSACTION, MUST_ROLL_BACK, KEY_LENGTH, ROLLING_BACK, CAPACITY, LOG_FULL, DEVICE, MEMORY = 1, 2, 3, 4, 6, 7, 8, 9
 FAILED, NOT_A_STORE, POOL_SIZE, LOCKED = 10, 11, 13, 19
 
@@ -30,7 +31,7 @@ Progress = ctypes.CFUNCTYPE(c_int, c_void_p, c_uint64)
 class Config(ctypes.Structure):
     _fields_ = [
         ("size", c_size_t), ("frames", c_uint32), ("max_pages", c_uint32), ("redo_bytes", c_uint64), ("log_bytes", c_uint64),
-        ("wait_ms", c_uint64), ("progress", Progress), ("with_", c_void_p),
+        ("wait_ms", c_uint64), ("progress", Progress), ("with_", c_void_p), ("read_only", c_uint64),
     ]
 
 
@@ -45,7 +46,7 @@ class Info(ctypes.Structure):
 
 
 # The library's own build tests these sizes too.
-assert (ctypes.sizeof(Entry), ctypes.sizeof(Config), ctypes.sizeof(Info)) == (264, 56, 104) and entries(1).size == 264
+assert (ctypes.sizeof(Entry), ctypes.sizeof(Config), ctypes.sizeof(Info)) == (264, 64, 104) and entries(1).size == 264
 
 
 def _load() -> ctypes.CDLL:
@@ -80,6 +81,7 @@ _FUNCTIONS = {
     "vah_checkpoint": (c_void_p,),
     "vah_switch": (c_void_p,),
     "vah_flush": (c_void_p,),
+    "vah_copy": (c_void_p, c_char_p),
     "vah_stat_with": (c_void_p, POINTER(Info), c_size_t),
     "vah_version": (),
 }

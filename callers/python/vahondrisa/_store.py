@@ -20,7 +20,7 @@ Path = Union[str, bytes, "os.PathLike[str]", "os.PathLike[bytes]"]
 
 def open(
     path: Path, *, frames: int = 1024, max_pages: int = 1_000_000, redo_bytes: int = c.REDO_GROWS, log_bytes: int = c.LOG_GROWS,
-    timeout: Optional[float] = None, progress: "Optional[Callable[[int], object]]" = None,
+    timeout: Optional[float] = None, progress: "Optional[Callable[[int], object]]" = None, read_only: bool = False,
 ) -> "Store":
     """Opens the store in a folder, or makes one, with the folder and those above it.
 
@@ -28,18 +28,18 @@ def open(
     opening has to redo, 0 for any, and by default 16 MiB, or 7 times the file of pages; `log_bytes` the most that it has to read, where now and then
     no transaction is active, 0 for any, and by default 64 MiB, or 8 times. `timeout` is how many seconds a call waits at most for other transactions
     before it raises Busy. `progress` is called now and then with the number of bytes read so far; an exception that it raises ends the opening, and
-    leaves the store as it was.
+    leaves the store as it was. With `read_only=True` the files are only read, and no byte of them is changed: what would change a key raises ReadOnly, the store must
+    be there, and any number may look at it at a time, while nobody has it open to write.
 
     Raises Locked, NotAStore, Failed where a call of the system failed, all of them OSErrors, and ValueError, TypeError, MemoryError.
 
     >>> vahondrisa.open(folder + "/orders", frames=64, timeout=5.0).close()
     """
-    name = os.fsencode(path)
-    if b"\0" in name:
-        raise ValueError("path must not have a byte 0")
+    name = _name_of(path)
     config = c.Config(ctypes.sizeof(c.Config))
     config.frames, config.max_pages = number_of(frames, 32, "frames"), number_of(max_pages, 32, "max_pages")
     config.redo_bytes, config.log_bytes = number_of(redo_bytes, 64, "redo_bytes"), number_of(log_bytes, 64, "log_bytes")
+    config.read_only = bool(read_only)
     timeout, raised = seconds_of(timeout, "timeout"), []
     if progress is not None:
         config.progress = c.Progress(_told(progress, raised))
@@ -57,6 +57,14 @@ def open(
     if code:
         refuse(code, store._path)
     return store
+
+
+def _name_of(path: Path) -> bytes:
+    """A path as the library takes it."""
+    name = os.fsencode(path)
+    if b"\0" in name:
+        raise ValueError("path must not have a byte 0")
+    return name
 
 
 def build() -> str:
@@ -201,6 +209,25 @@ class Store:
     def flush(self) -> None:
         """Makes all records so far durable, those of active transactions too."""
         self._call(c.lib.vah_flush)
+
+    def copy(self, folder: Path) -> None:
+        """Copies the store into a folder that is empty or is to be made, while other threads go on. The copy is a store, and on the disk. It has what a stop at its end
+        might have left: each commit that has returned by then, of the others some, and each of them whole.
+
+        Raises NotCopied, and Busy where another copy of the store is under way. Then there is no copy, and an opening of what may be left raises NotAStore.
+
+        >>> store.write(lambda txn: txn.put(b"apple", 7))
+        >>> store.copy(folder + "_backup")
+        >>> with vahondrisa.open(folder + "_backup") as backup:
+        ...     backup.get(b"apple")
+        7
+        """
+        name = _name_of(folder)
+        code = c.lib.vah_copy(self._opened(), name)
+        if code == c.BUSY:
+            self._opened()  # another thread is to close it
+        if code:
+            refuse(code, os.fsdecode(folder))
 
     def info(self) -> Dict[str, int]:
         """How the store stands: active transactions, dirty_pages, durable_end, redo_from, redone, has_failed; and since the opening restarts, waits, forces,

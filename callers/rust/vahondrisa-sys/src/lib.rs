@@ -45,6 +45,7 @@ pub struct vah_config {
     pub wait_ms: u64,
     pub progress: Option<vah_progress>,
     pub with: *mut c_void,
+    pub read_only: u64,
 }
 
 #[repr(C)]
@@ -76,6 +77,9 @@ pub const VAH_FORKED: c_int = 106;
 pub const VAH_DEADLOCK: c_int = 107;
 pub const VAH_STOPPED: c_int = 108;
 pub const VAH_CLOSED: c_int = 109;
+pub const VAH_READ_ONLY: c_int = 110;
+pub const VAH_NOT_EMPTY: c_int = 111;
+pub const VAH_NOT_COPIED: c_int = 112;
 pub const VAH_NO_TRANSACTION: c_int = 1;
 pub const VAH_MUST_ROLL_BACK: c_int = 2;
 pub const VAH_KEY_LENGTH: c_int = 3;
@@ -97,7 +101,7 @@ pub const VAH_LOG_GROWS: u64 = u64::MAX;
 // The library's own build tests these sizes and places too.
 const _: () = assert!(core::mem::size_of::<vah_entry>() == 264 && core::mem::offset_of!(vah_entry, key) == 9);
 const _: () = assert!(core::mem::size_of::<vah_ref>() == 24);
-const _: () = assert!(core::mem::size_of::<vah_config>() == 56 && core::mem::offset_of!(vah_config, redo_bytes) == 16);
+const _: () = assert!(core::mem::size_of::<vah_config>() == 64 && core::mem::offset_of!(vah_config, redo_bytes) == 16);
 const _: () = assert!(core::mem::offset_of!(vah_config, wait_ms) == 32 && core::mem::offset_of!(vah_config, progress) == 40);
 const _: () = assert!(core::mem::size_of::<vah_info>() == 104);
 
@@ -133,5 +137,6 @@ extern "C" {
     pub fn vah_checkpoint(store: *mut vah_store) -> c_int;
     pub fn vah_switch(store: *mut vah_store) -> c_int;
     pub fn vah_flush(store: *mut vah_store) -> c_int;
+    pub fn vah_copy(store: *mut vah_store, folder: *const c_char) -> c_int;
     pub fn vah_stat_with(store: *mut vah_store, info: *mut vah_info, size: usize) -> c_int;
 }

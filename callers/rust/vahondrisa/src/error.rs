@@ -98,6 +98,12 @@ pub enum ErrorKind {
     Forked,
     /// The progress of an opening was told to stop. The store is as it was.
     Stopped,
+    /// The store was opened to be read only. Nothing was changed.
+    ReadOnly,
+    /// The folder of a copy has something in it, or lies in the store's own.
+    NotEmpty,
+    /// A call of the system on the folder or the files of a copy failed; `source` has its error. There is no copy, and the store goes on.
+    NotCopied,
     /// A code of a later library.
     Other,
 }
@@ -105,9 +111,9 @@ pub enum ErrorKind {
 impl Error {
     /// The error of a code, in the words of the call of this thread that was refused last.
     pub(crate) fn last(code: i32) -> Error {
-        // after these two `errno` is the system's reason
+        // after these `errno` is the system's reason
         let system = io::Error::last_os_error();
-        let is_known = matches!(code, sys::VAH_DEVICE | sys::VAH_FAILED) && system.raw_os_error() != Some(0);
+        let is_known = matches!(code, sys::VAH_DEVICE | sys::VAH_FAILED | sys::VAH_NOT_COPIED) && system.raw_os_error() != Some(0);
         // SAFETY: the text is never null, and good until this thread's next call.
         let text = unsafe { CStr::from_ptr(sys::vah_last_error()) };
         Error { code, text: text.to_string_lossy().into_owned(), source: is_known.then_some(system) }
@@ -146,6 +152,9 @@ impl Error {
             sys::VAH_INVALID => ErrorKind::Invalid,
             sys::VAH_FORKED => ErrorKind::Forked,
             sys::VAH_STOPPED => ErrorKind::Stopped,
+            sys::VAH_READ_ONLY => ErrorKind::ReadOnly,
+            sys::VAH_NOT_EMPTY => ErrorKind::NotEmpty,
+            sys::VAH_NOT_COPIED => ErrorKind::NotCopied,
             _ => ErrorKind::Other,
         }
     }
@@ -177,11 +186,13 @@ impl From<Error> for io::Error {
     /// An error of the kind that comes nearest, the system's own where that is known, with this one within it.
     fn from(error: Error) -> io::Error {
         let kind = match error.kind() {
-            ErrorKind::Device | ErrorKind::Failed => error.source.as_ref().map_or(io::ErrorKind::Other, io::Error::kind),
+            ErrorKind::Device | ErrorKind::Failed | ErrorKind::NotCopied => error.source.as_ref().map_or(io::ErrorKind::Other, io::Error::kind),
             ErrorKind::Memory => io::ErrorKind::OutOfMemory,
             ErrorKind::NotAStore => io::ErrorKind::InvalidData,
             ErrorKind::KeyLength | ErrorKind::PoolSize | ErrorKind::Invalid => io::ErrorKind::InvalidInput,
             ErrorKind::Locked | ErrorKind::Busy | ErrorKind::GiveWay => io::ErrorKind::WouldBlock,
+            ErrorKind::ReadOnly => io::ErrorKind::PermissionDenied,
+            ErrorKind::NotEmpty => io::ErrorKind::AlreadyExists,
             _ => io::ErrorKind::Other,
         };
         io::Error::new(kind, error)

@@ -28,11 +28,12 @@ pub struct Options {
     redo_bytes: u64,
     log_bytes: u64,
     wait_ms: u64,
+    read_only: bool,
 }
 
 impl Default for Options {
     fn default() -> Options {
-        Options { frames: 1_024, max_pages: 1_000_000, redo_bytes: sys::VAH_REDO_GROWS, log_bytes: sys::VAH_LOG_GROWS, wait_ms: 0 }
+        Options { frames: 1_024, max_pages: 1_000_000, redo_bytes: sys::VAH_REDO_GROWS, log_bytes: sys::VAH_LOG_GROWS, wait_ms: 0, read_only: false }
     }
 }
 
@@ -73,6 +74,26 @@ impl Options {
         self
     }
 
+    /// Only reads the files: what the opening redoes and takes back stays in memory, and no byte of them is changed. What would change a key is refused
+    /// `ReadOnly`, and so are `checkpoint`, `switch` and `flush`. Any number may look at a store at a time, while nobody has it open to write. It must be
+    /// there.
+    ///
+    /// ```
+    /// # let dir = std::env::temp_dir().join(format!("vahondrisa-doc-look-{}", std::process::id()));
+    /// # vahondrisa::Store::open(&dir)?.write(|txn| txn.put(b"apple", 7))?;
+    /// use vahondrisa::{ErrorKind, Store};
+    ///
+    /// let (one, other) = (Store::options().read_only(true).open(&dir)?, Store::options().read_only(true).open(&dir)?);
+    /// assert_eq!((one.begin()?.get(b"apple")?, other.begin()?.get(b"apple")?), (Some(7), Some(7)));
+    /// assert_eq!(one.begin()?.put(b"apple", 8).unwrap_err().kind(), ErrorKind::ReadOnly);
+    /// # one.close()?; other.close()?; std::fs::remove_dir_all(dir).unwrap();
+    /// # Ok::<(), vahondrisa::Error>(())
+    /// ```
+    pub fn read_only(mut self, is_read_only: bool) -> Options {
+        self.read_only = is_read_only;
+        self
+    }
+
     /// Opens the store in a folder, or makes one, with the folder and those above it.
     pub fn open(&self, path: impl AsRef<Path>) -> Result<Store> {
         self.open_watched(path.as_ref(), None, ptr::null_mut())
@@ -90,7 +111,7 @@ impl Options {
     }
 
     fn open_watched(&self, path: &Path, progress: Option<sys::vah_progress>, with: *mut c_void) -> Result<Store> {
-        let name = CString::new(path.as_os_str().as_bytes()).map_err(|it| Error::of_path(it.into()))?;
+        let name = name_of(path)?;
         let config = sys::vah_config {
             size: std::mem::size_of::<sys::vah_config>(),
             frames: self.frames,
@@ -100,12 +121,18 @@ impl Options {
             wait_ms: self.wait_ms,
             progress,
             with,
+            read_only: self.read_only.into(),
         };
         let mut at = ptr::null_mut();
         // SAFETY: the path ends with 0, all pointers are to what lives over the call, and `with` is what `progress` takes.
         done(unsafe { sys::vah_open(name.as_ptr(), &config, &mut at) })?;
         Ok(Store::of(at, path.to_path_buf()))
     }
+}
+
+/// A path as the library takes it.
+pub(crate) fn name_of(path: &Path) -> Result<CString> {
+    CString::new(path.as_os_str().as_bytes()).map_err(|it| Error::of_path(it.into()))
 }
 
 /// Who is told of an opening's progress, and the panic that it left, which may not pass through C.

@@ -2,7 +2,7 @@ use crate::blob::Blob;
 use crate::catalogue::{self, Kind};
 use crate::error::{Error, Result};
 use crate::index::Index;
-use crate::options::Options;
+use crate::options::{name_of, Options};
 use crate::transaction::{milliseconds, Transaction};
 use std::cell::RefCell;
 use std::fmt;
@@ -258,6 +258,28 @@ impl Store {
     /// Makes all records so far durable, those of active transactions too.
     pub fn flush(&self) -> Result<()> {
         done(unsafe { sys::vah_flush(self.at) })
+    }
+
+    /// Copies the store into a folder that is empty or is to be made, while other threads go on: they wait for 256 KiB at a time at most. The copy is a store,
+    /// and on the disk. It has what a stop at its end might have left: each commit that has returned by then, of the others some, and each of them whole.
+    ///
+    /// Refused `NotEmpty`, `NotCopied`, `Memory`, and `Busy` where another copy of the store is under way; `Device` and `Failed` where the store itself failed.
+    /// Then there is no copy, and an opening of what may be left of it is refused `NotAStore`.
+    ///
+    /// ```
+    /// # let dir = std::env::temp_dir().join(format!("vahondrisa-doc-copy-{}", std::process::id()));
+    /// # let backup = dir.with_extension("backup");
+    /// # let store = vahondrisa::Store::open(&dir)?;
+    /// store.write(|txn| txn.put(b"apple", 7))?;
+    /// store.copy(&backup)?;
+    /// assert_eq!(vahondrisa::Store::open(&backup)?.begin()?.get(b"apple")?, Some(7));
+    /// # store.close()?; std::fs::remove_dir_all(dir).unwrap(); std::fs::remove_dir_all(backup).unwrap();
+    /// # Ok::<(), vahondrisa::Error>(())
+    /// ```
+    pub fn copy(&self, folder: impl AsRef<Path>) -> Result<()> {
+        let name = name_of(folder.as_ref())?;
+        // SAFETY: the path ends with 0, and lives over the call.
+        done(unsafe { sys::vah_copy(self.at, name.as_ptr()) })
     }
 
     /// How the store stands.

@@ -76,6 +76,40 @@ fn every_call_fails_in_turn() {
 }
 
 #[test]
+#[ignore = "over a library whose device fails: make -C callers test"]
+fn every_call_of_a_copy_fails_in_turn() {
+    let _alone = ALONE.lock().unwrap_or_else(PoisonError::into_inner);
+    let dir = std::env::temp_dir().join(format!("vahondrisa-every-call-of-a-copy-{}", std::process::id()));
+    let _ = std::fs::remove_dir_all(&dir);
+    let store = Store::open(dir.join("store")).unwrap();
+    for n in 1u64.. {
+        let to = dir.join(n.to_string());
+        store.write(|txn| txn.put(b"a", n)).unwrap();
+        std::env::set_var("VAH_COPY_FAIL_AT", n.to_string());
+        let outcome = store.copy(&to);
+        std::env::remove_var("VAH_COPY_FAIL_AT");
+        if let Err(error) = &outcome {
+            let source = error.source().and_then(|it| it.downcast_ref::<std::io::Error>());
+            assert_eq!((error.kind(), source.and_then(std::io::Error::raw_os_error)), (ErrorKind::NotCopied, Some(5)), "{n}: {error}");
+        }
+        if std::fs::read_dir(&to).map_or(true, |mut it| it.next().is_none()) {
+            assert!(outcome.is_err());
+            continue;
+        }
+        match Store::open(&to) {
+            Ok(copy) => assert_eq!(copy.begin().unwrap().get(b"a").unwrap(), Some(n)),
+            Err(error) => assert!(error.kind() == ErrorKind::NotAStore && error.to_string().ends_with("a copy into it was not finished"), "{n}: {error}"),
+        }
+        if outcome.is_ok() {
+            assert!(n > 12, "{n} calls alone");
+            break;
+        }
+    }
+    store.close().unwrap();
+    std::fs::remove_dir_all(&dir).unwrap();
+}
+
+#[test]
 #[ignore = "over a library that refuses an insert: make -C callers test"]
 fn a_name_that_is_refused_half_way_is_none() {
     let _alone = ALONE.lock().unwrap_or_else(PoisonError::into_inner);

@@ -1,0 +1,147 @@
+"""Copies of a store in use, and openings that only read."""
+import errno
+import hashlib
+import os
+import pickle
+import threading
+import unittest
+
+import vahondrisa
+from support import Case, together
+
+
+class Copies(Case):
+    def test_copies_beside_threads_that_commit(self):
+        with vahondrisa.open(self.dir, frames=16, log_bytes=300_000) as store:
+            acked, is_over = [0] * 4, threading.Event()
+
+            def load(i):
+                while not is_over.is_set():
+                    n = acked[i] + 1
+                    store.write(lambda txn: [txn.put(b"%d.%d.%d" % (i, n, part), n) for part in range(3)])
+                    acked[i] = n
+
+            def copies():
+                try:
+                    while min(acked) < 3:
+                        store.info()
+                    for turn in range(8):
+                        before = list(acked)
+                        store.copy(os.path.join(self.room.name, f"copy{turn}"))
+                        self.is_whole(f"copy{turn}", before)
+                finally:
+                    is_over.set()
+
+            self.assertEqual(together(*(lambda i=i: load(i) for i in range(4)), copies), [None] * 5)
+
+    def is_whole(self, name, acked):
+        """A copy has each transaction that was acknowledged, whole, and of the others those that came one after another."""
+        with vahondrisa.open(os.path.join(self.room.name, name)) as copy, copy.begin() as txn:
+            for i, count in enumerate(acked):
+                found = {}
+                for key, rid in txn.prefix(b"%d." % i):
+                    found.setdefault(rid, []).append(key)
+                self.assertTrue(all(len(keys) == 3 for keys in found.values()))
+                self.assertEqual(set(found), set(range(1, len(found) + 1)))
+                self.assertGreaterEqual(len(found), count)
+
+    def test_the_interpreter_goes_on(self):
+        with vahondrisa.open(self.dir) as store:
+            for turn in range(20):
+                store.write(lambda txn: [txn.put(b"%d.%d" % (turn, i) + b"x" * 200, i) for i in range(1000)])
+            store.switch()
+            copies = 0
+
+            def work():
+                while copying.is_alive():
+                    turns.append(store.get(b"none"))
+
+            while True:  # until so much was done beside one that it was not all before and after
+                turns, to = [], os.path.join(self.room.name, f"copy{copies}")
+                copying = threading.Thread(target=store.copy, args=(to,))
+                copying.start()
+                work()
+                copies += 1
+                with vahondrisa.open(to) as copy, copy.begin() as txn:
+                    self.assertEqual(len(txn), 20_000)
+                if len(turns) > 5:
+                    break
+                self.assertLess(copies, 50)
+
+    def test_folders(self):
+        with vahondrisa.open(self.dir) as store:
+            store.write(lambda txn: txn.put(b"a", 1))
+            store.copy(self.dir + "2/deep")
+            store.copy(os.fsencode(self.dir) + b"3")
+            os.mkdir(self.dir + "4")
+            store.copy(self.dir + "4")
+            for name in ("2/deep", "3", "4"):
+                with vahondrisa.open(self.dir + name) as copy:
+                    self.assertEqual(copy.get(b"a"), 1)
+            for folder, number in ((self.dir, errno.ENOTEMPTY), (self.dir + "4", errno.ENOTEMPTY), ("/proc/none/here", errno.ENOENT)):
+                with self.assertRaises(OSError) as caught:
+                    store.copy(folder)
+                told = caught.exception
+                self.assertEqual((type(told), told.errno, told.filename, told.strerror), (vahondrisa.NotCopied, number, folder, os.strerror(number)))
+                self.assertIn(folder, str(told))
+                self.assertEqual(str(pickle.loads(pickle.dumps(told))), str(told))
+            self.assertRaisesRegex(ValueError, "^path must not have a byte 0$", store.copy, "a\0b")
+            self.assertRaises(TypeError, store.copy, 5)
+            self.assertEqual(store.get(b"a"), 1)  # it goes on
+            os.mkdir(self.dir + "5")
+            with open(self.dir + "5/log.part", "wb"):
+                pass
+            self.assertRaisesRegex(vahondrisa.NotAStore, "a copy into it was not finished", vahondrisa.open, self.dir + "5")
+        self.assertRaisesRegex(ValueError, "^the store is closed$", store.copy, self.dir + "6")
+        self.assertFalse(os.path.exists(self.dir + "6"))
+
+    def test_a_close_gives_a_copy_up(self):
+        for turn in range(10):
+            store, to = vahondrisa.open(self.dir), os.path.join(self.room.name, "copy")
+            told = together(lambda: store.copy(to), store.close)
+            self.assertIsNone(told[1])
+            self.assertIn((type(told[0]), str(told[0])), ((type(None), "None"), (ValueError, "the store is closed")))
+            if os.path.exists(to + "/log"):
+                vahondrisa.open(to).close()
+            for name in os.listdir(to) if os.path.exists(to) else ():
+                os.remove(os.path.join(to, name))
+
+
+class Looks(Case):
+    def sums(self):
+        """The bytes of the files."""
+        sums = {}
+        for name in os.listdir(self.dir):
+            with open(os.path.join(self.dir, name), "rb") as file:
+                sums[name] = hashlib.sha256(file.read()).hexdigest()
+        return sums
+
+    def test_several_look_at_once_and_nothing_is_changed(self):
+        with vahondrisa.open(self.dir) as store:
+            store.write(lambda txn: txn.update({b"a": 1, b"b": 2}))
+            self.assertRaises(vahondrisa.Locked, vahondrisa.open, self.dir, read_only=True)
+        before = self.sums()
+        with vahondrisa.open(self.dir, read_only=True) as one, vahondrisa.open(self.dir, read_only=True) as other:
+            self.assertRaises(vahondrisa.Locked, vahondrisa.open, self.dir)
+            with one.begin() as txn, other.begin() as others:
+                self.assertEqual((dict(txn), dict(others)), ({b"a": 1, b"b": 2},) * 2)
+                for change in (lambda: txn.put(b"a", 3), lambda: txn.insert(b"c", 3), lambda: txn.delete(b"a"), txn.clear, lambda: txn.pop(b"a")):
+                    with self.assertRaises(OSError) as caught:
+                        change()
+                    self.assertEqual((type(caught.exception), caught.exception.code, caught.exception.errno), (vahondrisa.ReadOnly, 110, errno.EROFS))
+                self.assertEqual(txn[b"a"], 1)  # it goes on
+            for call in (one.checkpoint, one.switch, one.flush, lambda: one.index("new"), lambda: one.write(lambda txn: txn.put(b"c", 3))):
+                self.assertRaises(vahondrisa.ReadOnly, call)
+            self.assertEqual((one.get(b"c"), one.info()["active"], one.indexes()), (None, 0, []))
+        self.assertEqual(self.sums(), before)
+
+    def test_no_store_is_made(self):
+        self.assertRaises(vahondrisa.Failed, vahondrisa.open, self.dir, read_only=True)
+        self.assertFalse(os.path.exists(self.dir))
+        os.mkdir(self.dir)
+        self.assertRaisesRegex(vahondrisa.NotAStore, "there is no `log` in it", vahondrisa.open, self.dir, read_only=True)
+        self.assertEqual(os.listdir(self.dir), [])
+
+
+if __name__ == "__main__":
+    unittest.main()
