@@ -269,6 +269,13 @@ def entries_in(lines):
     return dict(line.split(" ") for line in lines[1:])
 
 
+def in_order(pool, work, cases, size):
+    """What the work answers for each case, in their order. Those of the greatest size are begun first, so that none of them ends long after the others."""
+    begun = {at: pool.apply_async(work, (cases[at],)) for at in sorted(range(len(cases)), key=lambda at: -size(cases[at]))}
+    for at in range(len(cases)):
+        yield begun[at].get()
+
+
 def is_stored(path, lines):
     """Whether each line that is stored is among these; with STORE=1 these are stored."""
     if os.environ.get("STORE") == "1":

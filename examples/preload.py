@@ -103,7 +103,7 @@ class Refused:
     """A program, one of whose calls fails."""
 
     def __init__(self, folder):
-        self.folder = folder
+        self.folder, self.said = folder, ""
         numbers = f"{folder}/numbers{os.getpid()}"
         with open(numbers, "wb") as it:
             it.write(bytes(4096))
@@ -112,8 +112,10 @@ class Refused:
         self.env = dict(os.environ, LD_PRELOAD=f"{folder}/preload.so", NUMBERS=numbers)
 
     def run(self, words, kind, number, lines="", store=""):
-        """Its status, the lines of its output, and how many calls of this kind came, of which that of the number failed. FOLDER is the store's."""
+        """Its status, the lines of its output, and how many calls of this kind came, of which that of the number failed; `said` is its standard error.
+        FOLDER is the store's."""
         self.numbers[:16] = struct.pack("qq", number, 0)
         env = dict(self.env, KIND=kind, FOLDER=store)
         done = subprocess.run(words, env=env, input=lines.encode(), capture_output=True, timeout=120, check=False)
+        self.said = done.stderr.decode(errors="replace")
         return done.returncode, done.stdout.decode().split("\n")[:-1], struct.unpack("qq", self.numbers[:16])[1]
