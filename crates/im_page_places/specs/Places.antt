@@ -1,5 +1,5 @@
 -- Which page stands in which frame, and which frames are free.
-use Rattle.std.specs.Prelude.{◌≡◌, ℕ, ◌+◌, ◌*◌, ◌<◌, ◌≤◌, List, [], ◌∷◌, length, ◌==◌, nat_eq, Option, Some, None, if◌then◌else◌}
+use Rattle.std.specs.Prelude.{◌≡◌, ℕ, ◌+◌, ◌*◌, ◌<◌, ◌≤◌, List, [], ◌∷◌, length, ◌==◌, nat_eq, slice_get, Option, Some, None, if◌then◌else◌}
 use Rattle.std.specs.Option.{option_flatten, option_map_or}
 use Rattle.std.specs.Map.{keys_of, values_of, lookup}
 
@@ -59,3 +59,7 @@ pub record GoTogether (frames : List (ℕ × Option ℕ)) (at : ℕ → Option (
   pub all : length (taken_in frames) + length free ≡ length frames
   pub found : Finds at (taken_in frames)
   pub room : 2 * length frames ≤ places
+
+-- What is noted of frames, the number after that of a page, is so of the frames by their use. Of a frame with a page there may be no note.
+abbrev pub Shows : List ℕ → List (ℕ × Option ℕ) → Type 0
+Shows notes frames = (f : ℕ) (p : ℕ) → slice_get notes f ≡ Some (p + 1) → lookup (nat_eq f) frames ≡ Some (Some p)

@@ -8,9 +8,11 @@
 //! at first, and the caller's to keep.
 //!
 //! All places are in the order of use from the start, in the list of `lru`, and a map with room for one more than twice as many numbers
-//! finds the place of a page (`numbers`). `Places::new` takes all memory, and no other call takes any.
+//! finds the place of a page (`numbers`). Mostly a guess has found it before (`guesses`), so that a page get is one look-up, in the
+//! order of use. `Places::new` takes all memory, and no other call takes any.
 #![tactic(auto)]
 
+mod guesses;
 mod numbers;
 mod places;
 

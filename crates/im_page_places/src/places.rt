@@ -7,6 +7,7 @@ ghost use Rattle.lru.specs.LruCache.{promoted, last_entry};
 ghost use Rattle.im_base_types.specs.declared.fault.Fault.TheVariants.{Memory};
 ghost use Rattle.im_page_places.specs.Places.{taken_in, frame_count, AreUnused, IsAll, AreApart};
 
+use crate::guesses::Guesses;
 use crate::numbers::{enter, leave};
 use im_base_types::{Fault, PageNo};
 use lru::{Iter, LruCache};
@@ -23,18 +24,19 @@ pub struct Places {
     /// The frame of each held page. Pages that were held may be left in it, with no frame.
     numbers: HashMap<PageNo, Option<u32>>,
     free: Vec<u32>,
+    guesses: Guesses,
 }
 
 impl Model for Places {
     ghost use Rattle.std.specs.Prelude.{◌≡◌, ◌≤◌, ◌+◌, nat_eq, length, vec_capacity};
     ghost use Rattle.std.specs.HashMap.{get, hash_map_len, spare};
-    ghost use Rattle.im_page_places.specs.Places.{PlacesView, taken_in, GoTogether};
+    ghost use Rattle.im_page_places.specs.Places.{PlacesView, taken_in, GoTogether, Shows};
 
     ghost Value = { PlacesView };
 
     ghost view = { λ a. record { taken = taken_in a.by_use.entries; free = a.free.items } };
 
-    ghost invariant = { λ a. GoTogether a.by_use.entries (get nat_eq a.numbers) (hash_map_len a.numbers + spare a.numbers) a.free.items × (length a.by_use.entries ≤ vec_capacity a.free) };
+    ghost invariant = { λ a. GoTogether a.by_use.entries (get nat_eq a.numbers) (hash_map_len a.numbers + spare a.numbers) a.free.items × (length a.by_use.entries ≤ vec_capacity a.free) × Shows a.guesses a.by_use.entries };
 }
 
 impl Places {
@@ -50,10 +52,12 @@ impl Places {
         let by_use = all_unused(alloc, frames)?;
         let numbers = HashMap::with_capacity(alloc, 2 * frames + 1).map_err(|_| Fault::Memory)?;
         let free = all_free(alloc, frames)?;
+        let guesses = Guesses::new(alloc, frames)?;
         Ok(Places {
             by_use,
             numbers,
             free,
+            guesses,
         })
     }
 
@@ -65,10 +69,13 @@ impl Places {
         self.by_use.len() - self.free.len()
     }
 
-    /// The place of a page. The order stays.
+    /// The place of a page: by a guess, and only where that is wrong by a look-up. The order stays.
     pub fn find(&self, p: PageNo) -> Option<u32>
         ensures { result ≡ lookup (nat_eq p) self.now.taken }
     {
+        if let Some(place) = self.guesses.find(p) {
+            return Some(place);
+        }
         self.numbers.get(&p).copied().flatten()
     }
 
@@ -78,6 +85,7 @@ impl Places {
         ensures moved { self.new ≡ record self.old { taken = promoted (nat_eq p) self.old.taken } }
     {
         if let Some(place) = self.find(p) {
+            self.guesses.guess(p, place);
             self.by_use.promote(&place);
             return Some(place);
         }
@@ -122,6 +130,8 @@ impl Places {
         let place = self.next();
         enter(&mut self.numbers, &self.by_use, p, place);
         let _ = self.by_use.put(place, Some(p));
+        self.guesses.note(place, p as u64 + 1);
+        self.guesses.guess(p, place);
         let _ = self.free.pop();
     }
 
@@ -133,6 +143,7 @@ impl Places {
     {
         if let Some(place) = leave(&mut self.numbers, p) {
             let _ = self.by_use.put(place, None);
+            self.guesses.note(place, 0);
             self.free.push_reserved(place);
         }
     }

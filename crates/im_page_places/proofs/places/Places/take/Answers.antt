@@ -1,8 +1,9 @@
-use Rattle.std.proofs.Common.{◌≡◌, ◌-◌, ◌<◌, ℕ, ◌∷◌, List, Some, None, nat_eq, length, take, slice_index, vec_len, sym, ap, ◌∙◌, arith, rules}
+use Rattle.std.proofs.Common.{◌≡◌, ◌+◌, ◌-◌, ◌<◌, ℕ, ◌∷◌, List, Some, None, nat_eq, length, take, slice_index, vec_len, sym, subst, ap, ◌∙◌, arith, rules}
 use Rattle.std.specs.Map.{lookup}
 use Rattle.std.specs.HashMap.{get}
-use Rattle.im_page_places.specs.Places.{PlacesView, taken_in}
+use Rattle.im_page_places.specs.Places.{PlacesView, taken_in, Shows}
 use Rattle.im_page_places.proofs.UseLemmas.{Uses, shown, put_gives, next_unused, taken_next, keeps_taken}
+use Rattle.im_page_places.proofs.GuessLemmas.{shows_front, one_page}
 use Rattle.im_page_places.proofs.places.Places.take.Goals as goal
 
 pub invariant_of-self : goal.invariant_of-self
@@ -17,10 +18,12 @@ invariant_of-self c =
     let long : vec_len c.self.inside.free ≡ length free = search rules in
     let rest : c.pop.new.self.items ≡ take (length free - 1) free = c.pop.ensures.rest ∙ ap (λ (n : ℕ). take (n - 1) free) long in
     let unused = next_unused es at _ free c.self.invariant.0 c.args.p f absent some next in
-    keeps_taken es at _ free c.self.invariant.0 c.args.p f absent some next c.put.new.self.entries (get nat_eq c.enter.new.numbers) _ c.pop.new.self.items _
-    (put_gives c.self.inside.by_use c.put.new.self f None (Some c.args.p) c.put.result unused c.put.ensures.succeeds c.put.ensures.entries)
-    c.enter.ensures.found c.enter.ensures.room rest
-    (let v = c.self.invariant.1 in let k = c.pop.ensures.capacity in omega arith)
+    let put = put_gives c.self.inside.by_use c.put.new.self f None (Some c.args.p) c.put.result unused c.put.ensures.succeeds c.put.ensures.entries in
+    let kept = keeps_taken es at _ free c.self.invariant.0 c.args.p f absent some next c.put.new.self.entries (get nat_eq c.enter.new.numbers) _ c.pop.new.self.items _
+    put c.enter.ensures.found c.enter.ensures.room rest
+    (let v = c.self.invariant.1 in let k = c.pop.ensures.capacity in omega arith) in
+    let shows = shows_front f None es unused c.self.inside.guesses c.self.invariant.2 (Some c.args.p) (c.args.p + 1) c.put.new.self.entries (one_page c.args.p) put in
+    (kept.0, kept.1, subst (λ (g : List ℕ). Shows g c.put.new.self.entries) (sym (c.guess.ensures ∙ c.note.ensures)) shows)
 
 pub returns : goal.returns
 returns c =
