@@ -350,6 +350,9 @@ void im_left_go_on(const struct folder *folder, struct left_log *left);
 void im_left_take(struct left_log *left, const uint8_t *piece, size_t len);
 bool im_is_older(const struct left_log *left, uint64_t pages, uint64_t lsn);
 
+/* The number of a folder into which a copy was not finished. */
+enum { UNFINISHED = 9 };
+
 /* The words for these numbers. */
 static const char *const why_apart[] = {
 	[2] = "there is no `log` in it",
@@ -358,7 +361,7 @@ static const char *const why_apart[] = {
 	[5] = "`pages` in it lacks pages that the store had when its log began",
 	[6] = "`log` in it does not begin as the log of a store",
 	[7] = "`log2` in it does not begin as the log of a store",
-	[9] = "a copy into it was not finished",
+	[UNFINISHED] = "a copy into it was not finished",
 };
 
 /* Reads the beginning of a file: as many bytes as there is room for, and none where it has fewer than so many. */
@@ -465,6 +468,10 @@ static int open_to_read(struct opening *o, int *files)
 {
 	static const char *const wanted[] = { "log", "pages" };
 	char words[64];
+	int has_part = has_file(o, "log.part");
+	/* Until its end a copy lacks a log, which is not what a user has to be told of it. */
+	if (has_part)
+		return has_part < 0 ? -1 : refuse_files(o, VAH_NOT_A_STORE, why_apart[UNFINISHED]);
 	for (int i = 0; i < 2; i++) {
 		int is_there = has_file(o, wanted[i]);
 		snprintf(words, sizeof words, "there is no `%s` in it", wanted[i]);

@@ -203,17 +203,25 @@ static void write_file(const char *at)
 	close(fd);
 }
 
-/* A copy that is under way is no store, whoever opens it, and no folder for another one. */
-static int looked;
-static void look_at_end(void)
+/* Half a copy is no store, whoever opens it, and is told as one. */
+static void is_half(const char *name)
 {
 	vah_store *store = NULL;
 	vah_config config = VAH_CONFIG_INIT;
-	for (looked = 0; looked < 2; looked++) {
-		config.read_only = (uint64_t)looked;
-		IS(vah_open(in_folder("new"), &config, &store), VAH_NOT_A_STORE);
+	for (int reads = 0; reads < 2; reads++) {
+		config.read_only = (uint64_t)reads;
+		IS(vah_open(in_folder(name), &config, &store), VAH_NOT_A_STORE);
+		HOLDS(!store && strstr(vah_last_error(), "a copy into it was not finished"));
 	}
-	HOLDS(!store && names_in(in_folder("new")) == 3);
+}
+
+/* So is a copy that is under way. */
+static int looked;
+static void look_at_end(void)
+{
+	is_half("new");
+	HOLDS(names_in(in_folder("new")) == 3);
+	looked++;
 }
 
 /* A folder by a path from the current one, which lies in the store's own, beside it, or nowhere. */
@@ -247,7 +255,7 @@ static void folders(void)
 	OK(put_parts(txn, 0, atomic_load(&workers[0].acked) + 1)); /* that is not committed, and not in the copy */
 	vah_test_at_copy_end = look_at_end;
 	OK(copy_to(store, "new"));
-	HOLDS(looked == 2);
+	HOLDS(looked == 1);
 	vah_test_at_copy_end = NULL;
 	OK(copy_to(store, "deep/er/new"));
 	HOLDS(!mkdir(in_folder("empty"), 0700));
@@ -292,8 +300,9 @@ static void folders(void)
 	HOLDS(!mkdir(in_folder("half"), 0700));
 	write_file(in_folder("half/log.part"));
 	IS(copy_to(store, "half"), VAH_NOT_EMPTY);
-	IS(vah_open(in_folder("half"), NULL, &other), VAH_NOT_A_STORE);
-	HOLDS(strstr(vah_last_error(), "a copy into it was not finished"));
+	is_half("half");
+	write_file(in_folder("half/log")); /* whatever else is there */
+	is_half("half");
 	OK(vah_close(store));
 	IS(copy_to(store, "closed"), VAH_CLOSED);
 	look(in_folder("store"), acked);
