@@ -49,12 +49,10 @@ mod work;
 
 use anyhow::{Result, bail};
 use asked::{Asked, Mode, asked_by};
-use im_base_file_disk::FileDisk;
-use im_base_two_logs::Renamed;
 use im_base_types::Fault;
 use im_engine::{BufferSize, Config, Engine};
 use im_front::{Left, Open};
-use im_open::open;
+use im_open::{Files, open};
 use im_theory_store::Store;
 use std::alloc::Global;
 use std::sync::Wait;
@@ -170,7 +168,7 @@ fn measure_on<E: Store + Send, R: Threads + Wait + Clock + Sync>(
 }
 
 // Closes the store. How many steps it made, and how many entries it has.
-fn close(alloc: Global, left: Left<Engine<Renamed<FileDisk>>>) -> Result<(u64, usize), Fault> {
+fn close(alloc: Global, left: Left<Engine<Files>>) -> Result<(u64, usize), Fault> {
     let Left {
         mut engine,
         made,

@@ -1,1 +1,2 @@
 mod Engines
+mod Still

@@ -8,6 +8,7 @@ ghost use Rattle.im_open.specs.Refusals.{IsRefusal, IsRefusalKept};
 use crate::not_opened::NotOpened;
 use im_base_disk::Disk;
 use im_base_file_disk::FileDisk;
+use im_base_mirror_disk::Mirrored;
 use im_base_two_logs::Renamed;
 use im_engine::{Config, Engine};
 use im_engine_upkeep::{Bounds, LogBound, RedoBound};
@@ -15,6 +16,9 @@ use im_front::Rested;
 use im_store::OpenStore;
 use im_theory_store::Store;
 use std::thread::Threads;
+
+/// The files of a store in a folder, and those of a copy of it, by their names.
+pub type Files = Mirrored<Renamed<FileDisk>, Renamed<FileDisk>>;
 
 /// Opens the store in a folder, or makes one where there is none, with its upkeep: for one thread. No transaction is active in it and nothing is locked, and
 /// it keeps the folder until it ends. Threads are started by `threads` alone. Refused as `FileDisk::open` and `OpenStore::open` are.
@@ -24,8 +28,8 @@ pub fn open_store<R: Threads + Sync>(
     folder: &str,
     config: Config,
     bounds: Bounds,
-) -> Result<OpenStore<Renamed<FileDisk>>, NotOpened>
-    ensures opened { IfOk result (λ s. IsOpenedHere ⟦<Renamed<FileDisk> as Disk>⟧ config bounds s) }
+) -> Result<OpenStore<Files>, NotOpened>
+    ensures opened { IfOk result (λ s. IsOpenedHere ⟦<Files as Disk>⟧ config bounds s) }
     ensures works { IfOk result (λ s. (s.engine.failed ≡ false) × (s.engine.txns.rows ≡ [])) }
     ensures limits { IfOk result (λ s. (s.engine.max_pages ≡ config.max_pages) × (s.engine.writer.pool.frames ≡ config.frames) × (s.engine.txns.group ≡ config.group)) }
     ensures bounds { IfOk result (λ s. s.upkeep.bounds ≡ bounds) }
@@ -38,7 +42,7 @@ pub fn open_store<R: Threads + Sync>(
     match OpenStore::open(
         threads,
         rt.alloc(),
-        Renamed::new(disk, false),
+        Mirrored::new(Renamed::new(disk, false)),
         config,
         bounds,
     ) {
@@ -54,12 +58,12 @@ pub fn open<R: Threads + Sync>(
     threads: &R,
     folder: &str,
     config: Config,
-) -> Result<Rested<Engine<Renamed<FileDisk>>>, NotOpened>
+) -> Result<Rested<Engine<Files>>, NotOpened>
     ensures group { IfOk result (λ e. e.txns.group ≡ config.group) }
     ensures frames { IfOk result (λ e. e.writer.pool.frames ≡ config.frames) }
     ensures limit { IfOk result (λ e. e.max_pages ≡ config.max_pages) }
     ensures works { IfOk result (λ e. (e.failed ≡ false) × (e.txns.rows ≡ [])) }
-    ensures kept { IfOk result (λ e. IsKeptHere ⟦<Renamed<FileDisk> as Disk>⟧ config e) }
+    ensures kept { IfOk result (λ e. IsKeptHere ⟦<Files as Disk>⟧ config e) }
     ensures causes { IfErr result (λ e. IsRefusalKept config e) }
 {
     match opened(rt, threads, folder, config) {
@@ -74,13 +78,13 @@ fn opened<R: Threads + Sync>(
     threads: &R,
     folder: &str,
     config: Config,
-) -> Result<Engine<Renamed<FileDisk>>, NotOpened>
-    ensures rests { IfOk result (λ engine. IsResting ⟦<Engine<Renamed<FileDisk>> as Store>⟧ engine) }
+) -> Result<Engine<Files>, NotOpened>
+    ensures rests { IfOk result (λ engine. IsResting ⟦<Engine<Files> as Store>⟧ engine) }
     ensures group { IfOk result (λ e. e.txns.group ≡ config.group) }
     ensures frames { IfOk result (λ e. e.writer.pool.frames ≡ config.frames) }
     ensures limit { IfOk result (λ e. e.max_pages ≡ config.max_pages) }
     ensures works { IfOk result (λ e. (e.failed ≡ false) × (e.txns.rows ≡ [])) }
-    ensures kept { IfOk result (λ e. IsKeptHere ⟦<Renamed<FileDisk> as Disk>⟧ config e) }
+    ensures kept { IfOk result (λ e. IsKeptHere ⟦<Files as Disk>⟧ config e) }
     ensures causes { IfErr result (λ e. IsRefusalKept config e) }
 {
     let mut store = match open_store(rt, threads, folder, config, usual()) {

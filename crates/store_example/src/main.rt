@@ -1,16 +1,14 @@
-//! How a program keeps keys in a folder: it opens the store, makes a transaction, lists what is there, and does what keeps the next opening short; and, in
-//! `threads`, how threads share one.
+//! How a program keeps keys in a folder: it opens the store, makes a transaction, lists what is there, copies it, and does what keeps the next opening
+//! short; and, in `threads`, how threads share one.
 #![tactic(auto)]
 
 mod threads;
 
-use im_base_file_disk::FileDisk;
 use im_base_steps::{Reply, Step};
-use im_base_two_logs::Renamed;
 use im_engine::{BufferSize, Config};
 use im_engine_upkeep::Bounds;
 use im_front::Open;
-use im_open::{open, open_store};
+use im_open::{Files, copy, open, open_store};
 use im_store::OpenStore;
 use std::fs;
 use std::sync::Wait;
@@ -19,22 +17,44 @@ use threads::{insert_all, show};
 
 const ALONE: &str = "store_example_files";
 
+const COPY: &str = "store_example_copy";
+
 const SHARED: &str = "store_example_threads";
 
 fn main(rt: HostRuntime) -> anyhow::Result<()> {
     alone(&rt, &rt)?;
     fs::remove_dir_all(&rt, ALONE)?;
+    copied(&rt, &rt)?;
+    fs::remove_dir_all(&rt, COPY)?;
     together(&rt, &rt)?;
     fs::remove_dir_all(&rt, SHARED)?;
     Ok(())
 }
 
-// One transaction, and the entries after it. What keeps the next opening short is done by the steps, and by the end.
+// A store of one thread, and a copy of it. What keeps the next opening short is done by the steps, and by the end.
 fn alone<R: Threads + Sync>(rt: &HostRuntime, threads: &R) -> anyhow::Result<()> {
     let mut store = open_store(rt, threads, ALONE, config(false), Bounds::default())?;
-    insert(rt, &mut store)?;
-    list(rt, &mut store)?;
+    let used = use_store(rt, &mut store);
     let (closed, _disk) = store.close();
+    used?;
+    closed?;
+    Ok(())
+}
+
+// One transaction, the entries after it, and a copy, while the store is open.
+fn use_store(rt: &HostRuntime, store: &mut OpenStore<Files>) -> anyhow::Result<()> {
+    insert(rt, store)?;
+    list(rt, store)?;
+    copy(rt, store, COPY)?;
+    Ok(())
+}
+
+// The copy is a store of its own.
+fn copied<R: Threads + Sync>(rt: &HostRuntime, threads: &R) -> anyhow::Result<()> {
+    let mut store = open_store(rt, threads, COPY, config(false), Bounds::default())?;
+    let listed = list(rt, &mut store);
+    let (closed, _disk) = store.close();
+    listed?;
     closed?;
     Ok(())
 }
@@ -62,7 +82,7 @@ fn together<R: Threads + Wait + Sync>(rt: &HostRuntime, threads: &R) -> anyhow::
 }
 
 // Inserts a key and commits.
-fn insert(rt: &HostRuntime, store: &mut OpenStore<Renamed<FileDisk>>) -> anyhow::Result<()> {
+fn insert(rt: &HostRuntime, store: &mut OpenStore<Files>) -> anyhow::Result<()> {
     if let Reply::Started(number) = store.step(&Step::Begin) {
         let key = Vec::from_slice(rt.alloc(), b"apple")?;
         let inserted = store.step(&Step::Insert(number, key, 7));
@@ -72,7 +92,7 @@ fn insert(rt: &HostRuntime, store: &mut OpenStore<Renamed<FileDisk>>) -> anyhow:
     Ok(())
 }
 
-fn list(rt: &HostRuntime, store: &mut OpenStore<Renamed<FileDisk>>) -> anyhow::Result<()> {
+fn list(rt: &HostRuntime, store: &mut OpenStore<Files>) -> anyhow::Result<()> {
     for (key, rid) in &store.entries(rt.alloc())? {
         let name = std::str::from_utf8(key.bytes())?;
         println!(rt; "{name} {rid}")?;

@@ -4,14 +4,12 @@
 //! A Switch is refused `Busy` while any transaction is active, and where many threads work some always is. So each of them holds `Quiet` to read from `Begin` to the
 //! end of its transaction, and the keeper takes it to write for one Switch: that waits for the transactions that are under way, and those that come wait for it.
 
-use im_base_file_disk::FileDisk;
 use im_base_steps::{Reply, Step};
-use im_base_two_logs::Renamed;
 use im_base_types::{Fault, TxnId};
 use im_engine::{Config, Engine};
 use im_engine_upkeep::Bounds;
 use im_front::{Left, Open, Stats};
-use im_open::open;
+use im_open::{Files, open};
 use im_store::OpenStore;
 use im_theory_store::Store;
 use std::alloc::Global;
@@ -54,7 +52,7 @@ pub fn show<R: Threads + Sync>(
     rt: &HostRuntime,
     threads: &R,
     done: Done,
-    left: Left<Engine<Renamed<FileDisk>>>,
+    left: Left<Engine<Files>>,
     folder: &str,
 ) -> anyhow::Result<()> {
     close(left)?;
@@ -68,7 +66,7 @@ pub fn show<R: Threads + Sync>(
 }
 
 // Closes the store, of which one thread has the engine again.
-fn close(left: Left<Engine<Renamed<FileDisk>>>) -> Result<(), Fault> {
+fn close(left: Left<Engine<Files>>) -> Result<(), Fault> {
     let Left { engine, .. } = left;
     let (closed, _disk) = OpenStore::over(engine, Bounds::default()).close();
     closed
@@ -77,8 +75,10 @@ fn close(left: Left<Engine<Renamed<FileDisk>>>) -> Result<(), Fault> {
 // How many entries the store in a folder has.
 fn count<R: Threads + Sync>(rt: &HostRuntime, threads: &R, folder: &str) -> anyhow::Result<usize> {
     let mut engine = open(rt, threads, folder, Config::default())?.into_engine();
-    let entries = engine.entries(rt.alloc())?;
-    Ok(entries.len())
+    let entries = engine.entries(rt.alloc());
+    let (closed, _disk) = engine.close();
+    closed?;
+    Ok(entries?.len())
 }
 
 /// All threads at work, to the end of each; and what they did then.

@@ -3,7 +3,7 @@ use Rattle.im_open.proofs.open_folder.open_store.Goals as goal
 
 -- it was opened over the disk of the folder's files
 pub returns-in-Ok-open-clause-opened : goal.returns-in-Ok-open-clause-opened
-returns-in-Ok-open-clause-opened g c = record { disk = c.new.result; works = search rules; opened = c.in-Ok-open.ensures }
+returns-in-Ok-open-clause-opened g c = record { disk = c.new-2.result; works = search rules; opened = c.in-Ok-open.ensures }
 
 -- the opening of a store says why
 pub returns-in-Err-open-clause-causes : goal.returns-in-Err-open-clause-causes
