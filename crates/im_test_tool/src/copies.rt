@@ -1,4 +1,5 @@
 //! Copies of the files of a store, which are changed and looked at.
+ghost use Rattle.std.specs.Prelude.{◌≡◌, false};
 
 use im_base_disk::{Disk, read_vec};
 use im_base_file_disk::FileDisk;
@@ -40,6 +41,13 @@ pub(crate) fn copies_in(rt: &HostRuntime, folder: &str) -> Result<Copies, Fail> 
     })
 }
 
+// The same, and the folder goes.
+pub(crate) fn taken_from(rt: &HostRuntime, folder: &str) -> Result<Copies, Fail> {
+    let copies = copies_in(rt, folder)?;
+    fs::remove_dir_all(rt, folder)?;
+    Ok(copies)
+}
+
 // The bytes of a file of a disk.
 fn file_of(alloc: Global, disk: &mut Scratch, file: FileId) -> Result<Vec<u8>, Fault> {
     if disk.has_failed() {
@@ -50,7 +58,7 @@ fn file_of(alloc: Global, disk: &mut Scratch, file: FileId) -> Result<Vec<u8>, F
 }
 
 // The files of a disk.
-pub(crate) fn copies_of(alloc: Global, disk: &mut Scratch) -> Result<Copies, Fail> {
+pub(crate) fn copies_of(alloc: Global, disk: &mut Scratch) -> Result<Copies, Fault> {
     Ok(Copies {
         log: file_of(alloc, disk, FileId::Log)?,
         pages: file_of(alloc, disk, FileId::Pages)?,
@@ -58,13 +66,22 @@ pub(crate) fn copies_of(alloc: Global, disk: &mut Scratch) -> Result<Copies, Fai
     })
 }
 
-// A disk with these files.
-pub(crate) fn scratch(alloc: Global, copies: &Copies) -> Result<Scratch, Fail> {
-    let mut disk = ScratchDisk::new(alloc, None);
+// Writes these files.
+fn write_files<D: Disk>(disk: &mut D, copies: &Copies) -> Result<(), Fault>
+    requires working { D.failed disk.old ≡ false }
+{
     disk.write_at(FileId::Log, 0, &copies.log)?;
     disk.write_at(FileId::Pages, 0, &copies.pages)?;
-    disk.write_at(FileId::Log2, 0, &copies.log2)?;
-    Ok(disk)
+    disk.write_at(FileId::Log2, 0, &copies.log2)
+}
+
+// A disk with these files.
+pub(crate) fn scratch(alloc: Global, copies: &Copies) -> Result<Scratch, Fault> {
+    let mut disk = ScratchDisk::new(alloc, None);
+    match write_files(&mut disk, copies) {
+        Ok(()) => Ok(disk),
+        Err(fault) => Err(fault),
+    }
 }
 
 // The same bytes once more.
@@ -84,21 +101,16 @@ pub(crate) fn lay(over: &mut [u8], at: usize, bytes: &[u8]) {
     }
 }
 
-// What the check says of files, with its status.
+// What the check says of files, with its status, which is 255 where that could not be written.
 pub(crate) fn said_of<R: Threads + Sync>(
     rt: &R,
     alloc: Global,
     copies: &Copies,
-) -> Result<(u8, Vec<u8>), Fail> {
+) -> Result<(u8, Vec<u8>), Fault> {
+    let disk = scratch(alloc, copies)?;
     let mut printed = Vec::new(alloc);
-    let (status, _disk) = check_text(
-        rt,
-        alloc,
-        &mut printed,
-        scratch(alloc, copies)?,
-        &mut Untold,
-    );
-    Ok((status?, printed))
+    let (status, _disk) = check_text(rt, alloc, &mut printed, disk, &mut Untold);
+    Ok((status.unwrap_or(u8::MAX), printed))
 }
 
 // Whether the check of a store finds no damage.
@@ -106,7 +118,7 @@ pub(crate) fn is_whole<R: Threads + Sync>(
     rt: &R,
     alloc: Global,
     copies: &Copies,
-) -> Result<bool, Fail> {
+) -> Result<bool, Fault> {
     let (status, printed) = said_of(rt, alloc, copies)?;
     Ok(status == 0 && printed.as_slice() == b"ok\n".as_slice())
 }

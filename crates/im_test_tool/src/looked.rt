@@ -1,8 +1,11 @@
 //! A look at a store whose opening takes pages, and at one that a stop left with an empty leaf.
 
+ghost use Rattle.std.specs.Prelude.{◌≡◌, false};
+
 use crate::copies::{
-    Copies, FIRST_GATE, Scratch, copied, copies_in, copies_of, is_whole, said_of, scratch,
+    Copies, FIRST_GATE, Scratch, copied, copies_of, is_whole, said_of, scratch, taken_from,
 };
+use im_base_disk::Disk;
 use im_base_file_disk::FileDisk;
 use im_base_scratch_disk::ScratchDisk;
 use im_base_steps::{Reply, Step};
@@ -13,12 +16,12 @@ use im_engine_upkeep::Bounds;
 use im_tool::{NoCopies, stat_text, store_text};
 use im_tool_files::{Causes, Untold};
 use im_tool_user::Manner;
-use std::alloc::Global;
-use std::fs;
+use std::alloc::{AllocError, Global};
 use std::io::BufReader;
 use std::process::Abort;
 use std::test::Fail;
 use std::thread::Threads;
+use std::{fs, io};
 
 // Fifteen keys of 255 bytes fill the root; one of them is deleted, another transaction takes its room, and the first never ends.
 static GOING: &str = "begin
@@ -45,34 +48,59 @@ insert 3 00+z*253 0
 commit 3
 ";
 
-// Makes the steps of these lines in the store of a folder.
-pub(crate) fn fill<R: Threads + Sync>(
-    rt: &HostRuntime,
-    threads: &R,
-    folder: &str,
+// What is printed of lines, and what of calls that fail.
+pub(crate) fn answered<R: Threads + Sync>(
+    rt: &R,
+    alloc: Global,
+    disk: FileDisk,
+    bounds: Bounds,
     lines: &[u8],
-) -> Result<(), Fail> {
-    let mut reader = BufReader::new(rt.alloc(), lines)?;
-    let disk = FileDisk::open(rt, folder)?;
-    let mut printed = Vec::new(rt.alloc());
+) -> io::Result<(Vec<u8>, Vec<u8>)>
+    requires working { ⟦<FileDisk as Disk>⟧.failed disk ≡ false }
+{
+    let mut reader = BufReader::new(alloc, lines)?;
+    let mut printed = Vec::new(alloc);
     let mut causes = Causes {
-        writer: Vec::new(rt.alloc()),
-        dir: "",
+        writer: Vec::new(alloc),
+        dir: "folder",
         is_told: false,
     };
     let _end = store_text(
-        threads,
-        rt.alloc(),
+        rt,
+        alloc,
         Renamed::new(disk, false),
         Config::default(),
-        Bounds::of_bytes(0, 0),
+        bounds,
         Manner::default(),
         &mut reader,
         &mut printed,
         &mut causes,
         &mut NoCopies,
     )?;
+    Ok((printed, causes.writer))
+}
+
+// Makes the steps of these lines in the store of a folder, within these bounds.
+pub(crate) fn fill_within<R: Threads + Sync>(
+    rt: &HostRuntime,
+    threads: &R,
+    folder: &str,
+    bounds: Bounds,
+    lines: &[u8],
+) -> Result<(), Fail> {
+    let disk = FileDisk::open(rt, folder)?;
+    let _told = answered(threads, rt.alloc(), disk, bounds, lines)?;
     Ok(())
+}
+
+// The same without bounds.
+pub(crate) fn fill<R: Threads + Sync>(
+    rt: &HostRuntime,
+    threads: &R,
+    folder: &str,
+    lines: &[u8],
+) -> Result<(), Fail> {
+    fill_within(rt, threads, folder, Bounds::of_bytes(0, 0), lines)
 }
 
 // The files of the store that these lines make in a new folder, which goes again.
@@ -84,34 +112,35 @@ pub(crate) fn made_by<R: Threads + Sync>(
 ) -> Result<Copies, Fail> {
     let _ = fs::remove_dir_all(rt, folder);
     fill(rt, threads, folder, lines.as_bytes())?;
-    let copies = copies_in(rt, folder)?;
-    fs::remove_dir_all(rt, folder)?;
-    Ok(copies)
+    taken_from(rt, folder)
 }
 
-// The numbers of a store, with the status.
+// The numbers of a store, with the status, which is 255 where they could not be written.
 pub(crate) fn numbers_of<R: Threads + Sync>(
     rt: &R,
     alloc: Global,
     copies: &Copies,
-) -> Result<(u8, Vec<u8>), Fail> {
+) -> Result<(u8, Vec<u8>), Fault> {
+    let disk = scratch(alloc, copies)?;
     let mut printed = Vec::new(alloc);
-    let (status, _disk) = stat_text(
-        rt,
-        alloc,
-        &mut printed,
-        scratch(alloc, copies)?,
-        &mut Untold,
-    );
-    Ok((status?, printed))
+    let (status, _disk) = stat_text(rt, alloc, &mut printed, disk, &mut Untold);
+    Ok((status.unwrap_or(u8::MAX), printed))
 }
 
-fn has_two_leaves<R: Threads + Sync>(rt: &R, alloc: Global, copies: &Copies) -> Result<bool, Fail> {
+fn has_two_leaves<R: Threads + Sync>(
+    rt: &R,
+    alloc: Global,
+    copies: &Copies,
+) -> Result<bool, Fault> {
     let (status, printed) = numbers_of(rt, alloc, copies)?;
     Ok(status == 0 && printed.starts_with(b"entries 16\nheight 2\nleaves 2 fill "))
 }
 
-fn has_empty_leaf<R: Threads + Sync>(rt: &R, alloc: Global, copies: &Copies) -> Result<bool, Fail> {
+fn has_empty_leaf<R: Threads + Sync>(
+    rt: &R,
+    alloc: Global,
+    copies: &Copies,
+) -> Result<bool, Fault> {
     let (_status, printed) = numbers_of(rt, alloc, copies)?;
     Ok(
         printed
@@ -184,6 +213,19 @@ fn a_leaf_that_a_stop_left_empty_is_no_damage(rt: HostRuntime) -> Result<(), Fai
     stop_at_each_gate(&rt, rt.alloc(), &copies)
 }
 
+// Whether the files are whole where the gate at this place is closed, and whether they have an empty leaf.
+fn looked_at_cut<R: Threads + Sync>(
+    rt: &R,
+    alloc: Global,
+    copies: &Copies,
+    gate: usize,
+) -> Result<(bool, bool), Fail> {
+    let cut = cut_at(alloc, copies, gate)?;
+    let whole = is_whole(rt, alloc, &cut)?;
+    let empty = has_empty_leaf(rt, alloc, &cut)?;
+    Ok((whole, empty))
+}
+
 // Some of these stops fall between the record that empties the leaf and the end of its page deletion.
 fn stop_at_each_gate<R: Abort + Threads + Sync>(
     rt: &R,
@@ -197,11 +239,9 @@ fn stop_at_each_gate<R: Abort + Threads + Sync>(
             break;
         };
         gate = next;
-        let cut = cut_at(alloc, copies, gate)?;
-        assert!(rt; is_whole(rt, alloc, &cut)?, "{gate}");
-        if has_empty_leaf(rt, alloc, &cut)? {
-            emptied = emptied.saturating_add(1);
-        }
+        let (whole, empty) = looked_at_cut(rt, alloc, copies, gate)?;
+        assert!(rt; whole, "{gate}");
+        emptied = emptied.saturating_add(u64::from(empty));
     }
     assert!(rt; emptied > 0);
     Ok(())
@@ -213,54 +253,74 @@ fn filled<R: Threads + Sync>(
     alloc: Global,
     count: u64,
     together: u64,
-) -> Result<Copies, Fail> {
+) -> Result<Copies, Fault> {
     let disk: Scratch = ScratchDisk::new(alloc, None);
     match Engine::open_or_create(rt, alloc, Renamed::new(disk, false), Config::default()) {
         Ok(mut engine) => {
             let put = put_all(alloc, &mut engine, count, together);
             let mut disk = engine.into_disk().into_disk();
-            put?;
-            copies_of(alloc, &mut disk)
+            match put {
+                Ok(true) => copies_of(alloc, &mut disk),
+                _ => Err(Fault::Failed),
+            }
         }
-        Err((fault, _disk)) => Err(Fail::from(fault)),
+        Err((fault, _disk)) => Err(fault),
     }
 }
 
+// What a reply says in place of a transaction's number.
+const INSERTED: u64 = u64::MAX;
+
+const COMMITTED: u64 = u64::MAX - 1;
+
+// A number for what a reply says, 0 for any other.
+fn told(reply: &Reply) -> u64 {
+    match reply {
+        Reply::Started(number) => *number,
+        Reply::Inserted => INSERTED,
+        Reply::Committed => COMMITTED,
+        _ => 0,
+    }
+}
+
+fn made(engine: &mut Engine<Renamed<Scratch>>, step: &Step) -> u64 {
+    told(&engine.step(step))
+}
+
+// The n-th key.
+fn key(alloc: Global, n: u64) -> Result<Vec<u8>, AllocError> {
+    let mut key = vec![in alloc; b'z'; LONGEST_KEY]?;
+    key[..8].copy_from_slice(&n.to_be_bytes());
+    Ok(key)
+}
+
+// Puts so many keys in, so many in a transaction. Whether all of that was done.
 fn put_all(
     alloc: Global,
     engine: &mut Engine<Renamed<Scratch>>,
     count: u64,
     together: u64,
-) -> Result<(), Fail> {
+) -> Result<bool, AllocError> {
     let mut number = 0;
+    let mut is_done = true;
     for n in 0..count {
         if n % together.max(1) == 0 {
-            let Reply::Started(begun) = engine.step(&Step::Begin) else {
-                return Err(Fail::from(Fault::Failed));
-            };
-            number = begun;
+            number = made(engine, &Step::Begin);
         }
-        let mut key = vec![in alloc; b'z'; LONGEST_KEY]?;
-        key[..8].copy_from_slice(&n.to_be_bytes());
-        let Reply::Inserted = engine.step(&Step::Insert(number, key, n)) else {
-            return Err(Fail::from(Fault::Failed));
-        };
+        let insert = Step::Insert(number, key(alloc, n)?, n);
+        is_done = is_done && made(engine, &insert) == INSERTED;
         if n % together.max(1) == together.saturating_sub(1) {
-            let Reply::Committed = engine.step(&Step::Commit(number)) else {
-                return Err(Fail::from(Fault::Failed));
-            };
+            is_done = is_done && made(engine, &Step::Commit(number)) == COMMITTED;
         }
     }
-    Ok(())
+    Ok(is_done)
 }
 
-// The files as they are where the gate at this place is closed, and all after it is left.
-fn closed_at(alloc: Global, copies: &Copies, gate: usize) -> Result<Copies, Fail> {
-    let mut closed = copied(alloc, copies)?;
-    if let Some(byte) = closed.log.get_mut(gate) {
+// Closes the gate at this place, and leaves all after it.
+fn close_at(log: &mut [u8], gate: usize) {
+    if let Some(byte) = log.get_mut(gate) {
         *byte = 0;
     }
-    Ok(closed)
 }
 
 // The gate before which so many batches stand.
@@ -288,21 +348,29 @@ fn is_told_behind<R: Threads + Sync>(
     status: u8,
     end: &str,
 ) -> Result<bool, Fail> {
-    let copies = filled(rt, alloc, count, together)?;
+    let mut copies = filled(rt, alloc, count, together)?;
     let gate = gate_after(&copies.log, closed);
-    let closed = closed_at(alloc, &copies, gate)?;
-    let (found, printed) = said_of(rt, alloc, &closed)?;
+    close_at(&mut copies.log, gate);
     let said = format!(in alloc; " whole batches behind the closed gate at {gate}{end}")?;
+    let (found, printed) = said_of(rt, alloc, &copies)?;
     Ok(found == status && printed.ends_with(said.as_bytes()))
 }
 
-#[test]
-fn batches_that_a_stop_left_are_no_damage(rt: HostRuntime) -> Result<(), Fail> {
-    for (count, together, closed, status, end) in &BEHIND {
+fn each_is_told_behind<R: Abort + Threads + Sync>(
+    rt: &R,
+    alloc: Global,
+    rows: &[(u64, u64, u32, u8, &str)],
+) -> Result<(), Fail> {
+    for (count, together, closed, status, end) in rows {
         assert!(rt;
-            is_told_behind(&rt, rt.alloc(), *count, *together, *closed, *status, end)?,
+            is_told_behind(rt, alloc, *count, *together, *closed, *status, end)?,
             "{count}"
         );
     }
     Ok(())
+}
+
+#[test]
+fn batches_that_a_stop_left_are_no_damage(rt: HostRuntime) -> Result<(), Fail> {
+    each_is_told_behind(&rt, rt.alloc(), &BEHIND)
 }

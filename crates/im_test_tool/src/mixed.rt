@@ -1,21 +1,16 @@
 //! Files that do not belong together, and calls of the system that fail.
 
-ghost use Rattle.std.specs.Prelude.{◌≡◌, false};
-
-use crate::copies::{Copies, FIRST_GATE, copied, copies_in, said_of};
-use crate::looked::numbers_of;
-use im_base_disk::Disk;
+use crate::copies::{Copies, FIRST_GATE, copied, said_of, taken_from};
+use crate::looked::{answered, fill_within, numbers_of};
 use im_base_file_disk::FileDisk;
 use im_base_model_disk::ModelDisk;
 use im_base_two_logs::Renamed;
 use im_base_types::{Fault, PAGE_SIZE};
 use im_engine::{Config, Engine};
 use im_engine_upkeep::Bounds;
-use im_tool::{NoCopies, store_text};
-use im_tool_files::Causes;
-use im_tool_user::Manner;
 use std::alloc::Global;
-use std::io::{BufReader, Write};
+use std::io::Write;
+use std::process::Abort;
 use std::test::Fail;
 use std::thread::Threads;
 use std::{fs, io};
@@ -66,44 +61,12 @@ fn write_lines(lines: &mut Vec<u8>) -> io::Result<()> {
     Ok(())
 }
 
-// What is printed of lines, and what of calls that fail.
-fn answered<R: Threads + Sync>(
-    rt: &R,
-    alloc: Global,
-    disk: FileDisk,
-    lines: &[u8],
-) -> Result<(Vec<u8>, Vec<u8>), Fail>
-    requires working { ⟦<FileDisk as Disk>⟧.failed disk ≡ false }
-{
-    let mut reader = BufReader::new(alloc, lines)?;
-    let mut printed = Vec::new(alloc);
-    let mut causes = Causes {
-        writer: Vec::new(alloc),
-        dir: "folder",
-        is_told: false,
-    };
-    let _end = store_text(
-        rt,
-        alloc,
-        Renamed::new(disk, false),
-        Config::default(),
-        Bounds::of_bytes(1_048_576, 0),
-        Manner::default(),
-        &mut reader,
-        &mut printed,
-        &mut causes,
-        &mut NoCopies,
-    )?;
-    Ok((printed, causes.writer))
-}
-
-// Makes a store in a folder, which is closed in order.
+// Makes a store in a folder, which is closed in order within bounds of a MiB.
 fn make_store<R: Threads + Sync>(rt: &HostRuntime, threads: &R, folder: &str) -> Result<(), Fail> {
     let _ = fs::remove_dir_all(rt, folder);
     let mut lines = Vec::new(rt.alloc());
     write_lines(&mut lines)?;
-    let _told = answered(threads, rt.alloc(), FileDisk::open(rt, folder)?, &lines)?;
-    Ok(())
+    fill_within(rt, threads, folder, Bounds::of_bytes(1_048_576, 0), &lines)
 }
 
 fn damaged(alloc: Global, copies: &Copies, damage: Damage) -> Result<Copies, Fail> {
@@ -166,33 +129,56 @@ fn is_refused<R: Threads + Sync>(
     )
 }
 
-// A store that was closed in order is opened without a look at a page: also where none of the file's bytes is one.
-#[test]
-fn files_that_do_not_belong_together_are_refused_by_name(rt: HostRuntime) -> Result<(), Fail> {
-    make_store(&rt, &rt, "im_tool_mixed")?;
-    let copies = copies_in(&rt, "im_tool_mixed")?;
-    fs::remove_dir_all(&rt, "im_tool_mixed")?;
-    for (damage, name, in_opening) in &DAMAGES {
+fn each_is_refused<R: Abort + Threads + Sync>(
+    rt: &R,
+    alloc: Global,
+    copies: &Copies,
+    rows: &[(Damage, &str, bool)],
+) -> Result<(), Fail> {
+    for (damage, name, in_opening) in rows {
         assert!(rt;
-            is_named(&rt, rt.alloc(), &copies, *damage, name)?
-                && is_refused(&rt, rt.alloc(), &copies, *damage, *in_opening)?,
+            is_named(rt, alloc, copies, *damage, name)?
+                && is_refused(rt, alloc, copies, *damage, *in_opening)?,
             "{damage:?}"
         );
     }
     Ok(())
 }
 
+// A store that was closed in order is opened without a look at a page: also where none of the file's bytes is one.
+#[test]
+fn files_that_do_not_belong_together_are_refused_by_name(rt: HostRuntime) -> Result<(), Fail> {
+    make_store(&rt, &rt, "im_tool_mixed")?;
+    let copies = taken_from(&rt, "im_tool_mixed")?;
+    each_is_refused(&rt, rt.alloc(), &copies, &DAMAGES)
+}
+
+// Whether a commit in a folder that is opened to be read only is refused, and its call is told.
+fn is_failing<R: Threads + Sync>(
+    rt: &HostRuntime,
+    threads: &R,
+    folder: &str,
+) -> Result<bool, Fail> {
+    let disk = FileDisk::open_to_read(rt, folder)?;
+    let lines = b"begin\ninsert 2 a 1\ncommit 2\n";
+    let (printed, told) = answered(
+        threads,
+        rt.alloc(),
+        disk,
+        Bounds::of_bytes(1_048_576, 0),
+        lines,
+    )?;
+    Ok(
+        printed.starts_with(b"started 2\ninserted\nrefused 8\n")
+            && told.starts_with(b"imstore: folder: a write to `log` at byte "),
+    )
+}
+
 // The files are opened to be read only: the system refuses the first write.
 #[test]
 fn a_call_that_fails_is_named(rt: HostRuntime) -> Result<(), Fail> {
     make_store(&rt, &rt, "im_tool_failing")?;
-    let disk = FileDisk::open_to_read(&rt, "im_tool_failing")?;
-    let lines = b"begin\ninsert 2 a 1\ncommit 2\n";
-    let (printed, told) = answered(&rt, rt.alloc(), disk, lines)?;
+    assert!(rt; is_failing(&rt, &rt, "im_tool_failing")?);
     fs::remove_dir_all(&rt, "im_tool_failing")?;
-    assert!(rt;
-        printed.starts_with(b"started 2\ninserted\nrefused 8\n")
-            && told.starts_with(b"imstore: folder: a write to `log` at byte ")
-    );
     Ok(())
 }

@@ -1,35 +1,58 @@
 //! A look at a store whose log goes on in the other file, and at logs of which one is damaged.
 
-use crate::copies::{Copies, copied, copies_in, file_in, is_whole, lay, said_of};
+use crate::copies::{Copies, copied, file_in, is_whole, lay, said_of, taken_from};
 use crate::looked::{fill, numbers_of};
 use crate::mixed::has_part;
 use im_base_file_disk::FileDisk;
 use im_base_types::{Fault, PAGE_SIZE};
 use std::alloc::Global;
-use std::fs;
+use std::io::Write;
+use std::process::Abort;
 use std::test::Fail;
 use std::thread::Threads;
+use std::{fs, io};
 
-// A store that goes on in its other file, so many times, with keys of each of its logs.
+// The lines of a store that goes on in its other file, so many times.
+fn write_lines(lines: &mut Vec<u8>, switches: u64, keys: Keys) -> io::Result<()> {
+    write_keys(lines, 0, keys)?;
+    for n in 1..switches.saturating_add(1) {
+        lines.extend_from_slice(b"switch\n")?;
+        write_keys(lines, n, keys)?;
+    }
+    Ok(())
+}
+
+// Whether a store has keys in each of its logs.
+#[derive(Clone, Copy)]
+enum Keys {
+    None,
+    InEachLog,
+}
+
+// Two transactions with a key each.
+fn write_keys(lines: &mut Vec<u8>, n: u64, keys: Keys) -> io::Result<()> {
+    let t = n.saturating_mul(2).saturating_add(1);
+    let u = t.saturating_add(1);
+    match keys {
+        Keys::None => Ok(()),
+        Keys::InEachLog => write!(
+            lines,
+            "begin\ninsert {t} a{n} {t}\ncommit {t}\nbegin\ninsert {u} b{n} {u}\ncommit {u}\n"
+        ),
+    }
+}
+
+// Makes such a store.
 fn make_store<R: Threads + Sync>(
     rt: &HostRuntime,
     threads: &R,
     folder: &str,
     switches: u64,
+    keys: Keys,
 ) -> Result<(), Fail> {
     let _ = fs::remove_dir_all(rt, folder);
     let mut lines = Vec::new(rt.alloc());
-    for n in 0..switches.saturating_add(1) {
-        if n > 0 {
-            lines.extend_from_slice(b"switch\n")?;
-        }
-        let t = n.saturating_mul(2).saturating_add(1);
-        let u = t.saturating_add(1);
-        let text = format!(in rt.alloc();
-            "begin\ninsert {t} a{n} {t}\ncommit {t}\nbegin\ninsert {u} b{n} {u}\ncommit {u}\n"
-        )?;
-        lines.extend_from_slice(text.as_bytes())?;
-    }
+    write_lines(&mut lines, switches, keys)?;
     fill(rt, threads, folder, &lines)
 }
 
@@ -41,17 +64,15 @@ static LOGS: [(u64, &str); 4] = [
     (3, "\nlog generation 4 in log2, from LSN "),
 ];
 
-// The files of such a store, whose folder goes again.
+// The files of such a store with keys, whose folder goes again.
 fn copies_after<R: Threads + Sync>(
     rt: &HostRuntime,
     threads: &R,
     folder: &str,
     switches: u64,
 ) -> Result<Copies, Fail> {
-    make_store(rt, threads, folder, switches)?;
-    let copies = copies_in(rt, folder)?;
-    fs::remove_dir_all(rt, folder)?;
-    Ok(copies)
+    make_store(rt, threads, folder, switches, Keys::InEachLog)?;
+    taken_from(rt, folder)
 }
 
 // Whether that is told of these files.
@@ -60,24 +81,43 @@ fn is_told<R: Threads + Sync>(
     alloc: Global,
     copies: &Copies,
     said: &str,
-) -> Result<bool, Fail> {
+) -> Result<bool, Fault> {
+    let whole = is_whole(rt, alloc, copies)?;
     let (status, numbers) = numbers_of(rt, alloc, copies)?;
     Ok(
-        status == 0
+        whole
+            && status == 0
             && has_part(&numbers, said)
             && has_part(&numbers, "\ncommits 2\n")
-            && has_part(&numbers, "\nswitch waits for 0 transactions\n")
-            && is_whole(rt, alloc, copies)?,
+            && has_part(&numbers, "\nswitch waits for 0 transactions\n"),
     )
+}
+
+// Whether that is told of a store after so many switches.
+fn is_told_after<R: Threads + Sync>(
+    rt: &HostRuntime,
+    threads: &R,
+    switches: u64,
+    said: &str,
+) -> Result<bool, Fail> {
+    let copies = copies_after(rt, threads, "im_tool_logs", switches)?;
+    Ok(is_told(threads, rt.alloc(), &copies, said)?)
+}
+
+fn each_is_told<R: Abort + Threads + Sync>(
+    rt: &HostRuntime,
+    threads: &R,
+    rows: &[(u64, &str)],
+) -> Result<(), Fail> {
+    for (switches, said) in rows {
+        assert!(threads; is_told_after(rt, threads, *switches, said)?, "{switches}");
+    }
+    Ok(())
 }
 
 #[test]
 fn a_store_is_looked_at_by_its_current_log(rt: HostRuntime) -> Result<(), Fail> {
-    for (switches, said) in &LOGS {
-        let copies = copies_after(&rt, &rt, "im_tool_logs", *switches)?;
-        assert!(rt; is_told(&rt, rt.alloc(), &copies, said)?, "{switches}");
-    }
-    Ok(())
+    each_is_told(&rt, &rt, &LOGS)
 }
 
 // Where bytes of a log are changed: of `log`, which is of generation 1, or of `log2`, which is of generation 2.
@@ -166,16 +206,26 @@ fn is_named<R: Threads + Sync>(
     Ok(status == 1 && has_part(&printed, said))
 }
 
-#[test]
-fn a_damaged_log_is_named(rt: HostRuntime) -> Result<(), Fail> {
-    let copies = copies_after(&rt, &rt, "im_tool_damaged", 1)?;
-    for (log, at, bytes, said) in &DAMAGES {
+// The rows are lent, here and below: a proof about a function that names so long a table has all of it at each step.
+fn each_is_named<R: Abort + Threads + Sync>(
+    rt: &R,
+    alloc: Global,
+    copies: &Copies,
+    rows: &[(Log, usize, &[u8], &str)],
+) -> Result<(), Fail> {
+    for (log, at, bytes, said) in rows {
         assert!(rt;
-            is_named(&rt, rt.alloc(), &copies, *log, *at, bytes, said)?,
+            is_named(rt, alloc, copies, *log, *at, bytes, said)?,
             "{log:?} {at}"
         );
     }
     Ok(())
+}
+
+#[test]
+fn a_damaged_log_is_named(rt: HostRuntime) -> Result<(), Fail> {
+    let copies = copies_after(&rt, &rt, "im_tool_damaged", 1)?;
+    each_is_named(&rt, rt.alloc(), &copies, &DAMAGES)
 }
 
 // What is written at a place of the newer log, whose first byte is damaged, and whether the check tells that.
@@ -202,11 +252,17 @@ fn is_doubted<R: Threads + Sync>(
 #[test]
 fn a_damaged_first_byte_is_told(rt: HostRuntime) -> Result<(), Fail> {
     let copies = copies_after(&rt, &rt, "im_tool_doubted", 1)?;
-    for (at, bytes, told) in &DOUBTS {
-        assert!(rt;
-            is_doubted(&rt, rt.alloc(), &copies, *at, bytes)? == *told,
-            "{at}"
-        );
+    each_is_doubted(&rt, rt.alloc(), &copies, &DOUBTS)
+}
+
+fn each_is_doubted<R: Abort + Threads + Sync>(
+    rt: &R,
+    alloc: Global,
+    copies: &Copies,
+    rows: &[(usize, &[u8], bool)],
+) -> Result<(), Fail> {
+    for (at, bytes, told) in rows {
+        assert!(rt; is_doubted(rt, alloc, copies, *at, bytes)? == *told, "{at}");
     }
     Ok(())
 }
@@ -242,11 +298,17 @@ fn is_compared<R: Threads + Sync>(
 #[test]
 fn pages_are_compared_with_the_log_before(rt: HostRuntime) -> Result<(), Fail> {
     let copies = copies_after(&rt, &rt, "im_tool_before", 1)?;
-    for (size, said) in &BEFORE {
-        assert!(rt;
-            is_compared(&rt, rt.alloc(), &copies, *size, said)?,
-            "{size}"
-        );
+    each_is_compared(&rt, rt.alloc(), &copies, &BEFORE)
+}
+
+fn each_is_compared<R: Abort + Threads + Sync>(
+    rt: &R,
+    alloc: Global,
+    copies: &Copies,
+    rows: &[(usize, &str)],
+) -> Result<(), Fail> {
+    for (size, said) in rows {
+        assert!(rt; is_compared(rt, alloc, copies, *size, said)?, "{size}");
     }
     Ok(())
 }
@@ -276,20 +338,6 @@ enum Comes {
     Refused(&'static str),
     // It is not read either.
     Unread(&'static str),
-}
-
-fn switch_empty<R: Threads + Sync>(
-    rt: &HostRuntime,
-    threads: &R,
-    folder: &str,
-    switches: u64,
-) -> Result<(), Fail> {
-    let _ = fs::remove_dir_all(rt, folder);
-    let mut lines = Vec::new(rt.alloc());
-    for _ in 0..switches {
-        lines.extend_from_slice(b"switch\n")?;
-    }
-    fill(rt, threads, folder, &lines)
 }
 
 // Writes a file of a folder.
@@ -330,8 +378,8 @@ fn act_on<R: Threads + Sync>(
     act: Act,
 ) -> Result<(), Fail> {
     match act {
-        Act::Make(switches) => make_store(rt, threads, folder, switches),
-        Act::Empty(switches) => switch_empty(rt, threads, folder, switches),
+        Act::Make(switches) => make_store(rt, threads, folder, switches, Keys::InEachLog),
+        Act::Empty(switches) => make_store(rt, threads, folder, switches, Keys::None),
         Act::Fill(lines) => fill(rt, threads, folder, lines.as_bytes()),
         Act::Overwrite(name, at, bytes) => overwrite(rt, folder, name, at, bytes),
         Act::Cut(name, size) => shorten(rt, folder, name, size),
@@ -350,17 +398,22 @@ fn is_refused(rt: &HostRuntime, folder: &str, words: &str) -> Result<bool, Fail>
     }
 }
 
+fn opens(rt: &HostRuntime, folder: &str) -> bool {
+    FileDisk::open(rt, folder).is_ok()
+}
+
+fn is_unread(rt: &HostRuntime, folder: &str) -> bool {
+    FileDisk::open_to_read(rt, folder).is_err()
+}
+
 fn comes_to(rt: &HostRuntime, folder: &str, comes: Comes) -> Result<bool, Fail> {
     match comes {
-        Comes::Open => Ok(FileDisk::open(rt, folder).is_ok()),
+        Comes::Open => Ok(opens(rt, folder)),
         Comes::OpenWith(size) => {
-            let pages = file_in(rt, folder, "pages")?;
-            Ok(pages.len() == size && FileDisk::open(rt, folder).is_ok())
+            Ok(file_in(rt, folder, "pages")?.len() == size && opens(rt, folder))
         }
         Comes::Refused(words) => is_refused(rt, folder, words),
-        Comes::Unread(words) => Ok(
-            is_refused(rt, folder, words)? && FileDisk::open_to_read(rt, folder).is_err(),
-        ),
+        Comes::Unread(words) => Ok(is_refused(rt, folder, words)? && is_unread(rt, folder)),
     }
 }
 
@@ -431,16 +484,22 @@ static TURNS: [(Act, Comes); 20] = [
     (Act::Cut("pages", PAGE_SIZE), Comes::OpenWith(PAGE_SIZE)),
 ];
 
+fn each_leads<R: Abort + Threads + Sync>(
+    rt: &HostRuntime,
+    threads: &R,
+    folder: &str,
+    turns: &[(Act, Comes)],
+) -> Result<(), Fail> {
+    for (act, comes) in turns {
+        assert!(threads; leads_to(rt, threads, folder, *act, *comes)?, "{act:?}");
+    }
+    fs::remove_dir_all(rt, folder)?;
+    Ok(())
+}
+
 #[test]
 fn an_opening_asks_whether_the_files_are_all_there(rt: HostRuntime) -> Result<(), Fail> {
-    for (act, comes) in &TURNS {
-        assert!(rt;
-            leads_to(&rt, &rt, "im_tool_turns", *act, *comes)?,
-            "{act:?}"
-        );
-    }
-    fs::remove_dir_all(&rt, "im_tool_turns")?;
-    Ok(())
+    each_leads(&rt, &rt, "im_tool_turns", &TURNS)
 }
 
 // Bytes 1 to 47 of a log of generation 4 that begins with the LSN 65,536, and allows transactions from 7 on.
@@ -453,17 +512,26 @@ fn opens_cut(rt: &HostRuntime, folder: &str, log: &[u8], size: usize) -> Result<
     lay(&mut log, 0, &[0]);
     lay(&mut log, 1, HEADER.get(..size).unwrap_or(&[]));
     put_file(rt, folder, "log2", &log)?;
-    Ok(FileDisk::open(rt, folder).is_ok())
+    Ok(opens(rt, folder))
 }
 
 // A stop within the write of a switch's header leaves bytes of it, and after them a record of the log before the current one.
 #[test]
 fn a_header_that_was_cut_is_no_damage(rt: HostRuntime) -> Result<(), Fail> {
-    make_store(&rt, &rt, "im_tool_header", 2)?;
-    let log = file_in(&rt, "im_tool_header", "log2")?;
-    for (size, _) in HEADER.iter().enumerate() {
-        assert!(rt; opens_cut(&rt, "im_tool_header", &log, size)?, "{size}");
-    }
+    make_store(&rt, &rt, "im_tool_header", 2, Keys::InEachLog)?;
+    let other = first_unopened(&rt, "im_tool_header")?;
+    assert!(rt; other.is_none(), "{other:?}");
     fs::remove_dir_all(&rt, "im_tool_header")?;
     Ok(())
+}
+
+// The first length of that header with which the store in a folder is not opened.
+fn first_unopened(rt: &HostRuntime, folder: &str) -> Result<Option<usize>, Fail> {
+    let log = file_in(rt, folder, "log2")?;
+    for size in 0..HEADER.len() {
+        if !opens_cut(rt, folder, &log, size)? {
+            return Ok(Some(size));
+        }
+    }
+    Ok(None)
 }

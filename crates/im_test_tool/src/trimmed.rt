@@ -1,37 +1,55 @@
 //! The log that a store has left, cut to its first batch.
 
-use crate::copies::{copies_in, is_whole};
+use crate::copies::{Copies, copies_in, file_in, is_whole};
 use crate::looked::{fill, numbers_of};
 use crate::mixed::has_part;
 use im_base_file_disk::FileDisk;
 use im_tool::store_program;
+use std::alloc::{AllocError, Global};
 use std::fs;
+use std::process::Abort;
 use std::test::Fail;
 use std::thread::Threads;
 
 const FOLDER: &str = "im_tool_trimmed";
 
+fn strings_of(alloc: Global, words: &[&str]) -> Result<Vec<String>, AllocError> {
+    let mut strings = Vec::new(alloc);
+    for word in words {
+        strings.push(String::from_str(alloc, word)?)?;
+    }
+    Ok(strings)
+}
+
 // The exit status of a trim of a folder.
 fn trimmed<R: Threads + Sync>(rt: &HostRuntime, threads: &R, folder: &str) -> Result<u8, Fail> {
-    let mut words = Vec::new(rt.alloc());
-    for word in ["imstore", "--trim", folder] {
-        words.push(String::from_str(rt.alloc(), word)?)?;
-    }
+    let words = strings_of(rt.alloc(), &["imstore", "--trim", folder])?;
     Ok(store_program(rt, threads, &words)?)
 }
 
 // The lengths of the logs.
 fn lengths(rt: &HostRuntime) -> Result<(usize, usize), Fail> {
-    let copies = copies_in(rt, FOLDER)?;
-    Ok((copies.log.len(), copies.log2.len()))
+    let log = file_in(rt, FOLDER, "log")?.len();
+    let log2 = file_in(rt, FOLDER, "log2")?.len();
+    Ok((log, log2))
+}
+
+// Whether a store has so many keys.
+fn is_counted<R: Threads + Sync>(
+    rt: &R,
+    alloc: Global,
+    copies: &Copies,
+    count: u64,
+) -> Result<bool, Fail> {
+    let said = format!(in alloc; "entries {count}\n")?;
+    let (status, numbers) = numbers_of(rt, alloc, copies)?;
+    Ok(status == 0 && has_part(&numbers, said.as_str()))
 }
 
 // Whether the store is whole, and has so many keys.
 fn has_keys<R: Threads + Sync>(rt: &HostRuntime, threads: &R, count: u64) -> Result<bool, Fail> {
     let copies = copies_in(rt, FOLDER)?;
-    let (status, numbers) = numbers_of(threads, rt.alloc(), &copies)?;
-    let said = format!(in rt.alloc(); "entries {count}\n")?;
-    Ok(status == 0 && has_part(&numbers, said.as_str()) && is_whole(threads, rt.alloc(), &copies)?)
+    Ok(is_counted(threads, rt.alloc(), &copies, count)? && is_whole(threads, rt.alloc(), &copies)?)
 }
 
 // The status of a trim while the store is open elsewhere.
@@ -86,14 +104,23 @@ fn is_trimmed<R: Threads + Sync>(
     has_keys(rt, threads, count)
 }
 
+// The rows are lent: a proof about a function that names a table has all of it at each step.
+fn each_is_trimmed<R: Abort + Threads + Sync>(
+    rt: &HostRuntime,
+    threads: &R,
+    turns: &[(&str, u64, Left)],
+) -> Result<(), Fail> {
+    for (lines, count, left) in turns {
+        fill(rt, threads, FOLDER, lines.as_bytes())?;
+        assert!(threads; is_trimmed(rt, threads, *count, *left)?, "{count}");
+    }
+    fs::remove_dir_all(rt, FOLDER)?;
+    Ok(())
+}
+
 #[test]
 fn the_log_that_a_store_left_is_cut_to_its_first_batch(rt: HostRuntime) -> Result<(), Fail> {
     let _ = fs::remove_dir_all(&rt, FOLDER);
     assert!(rt; trimmed(&rt, &rt, FOLDER)? == 1 && !fs::exists(&rt, FOLDER)?);
-    for (lines, count, left) in &TURNS {
-        fill(&rt, &rt, FOLDER, lines.as_bytes())?;
-        assert!(rt; is_trimmed(&rt, &rt, *count, *left)?, "{count}");
-    }
-    fs::remove_dir_all(&rt, FOLDER)?;
-    Ok(())
+    each_is_trimmed(&rt, &rt, &TURNS)
 }
