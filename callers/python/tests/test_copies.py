@@ -10,6 +10,13 @@ import vahondrisa
 from support import Case, together
 
 
+# A log of the first format, in which the key a was inserted and committed.
+FIRST_LOG = bytes.fromhex(
+    "014152494553494d3100001000000000000000000000000000000000000000010000004c0000002b01000000000000000100000000000000000000000000000000000000010161"
+    "000000000000000700000021080000000000000001000000000000002400000000000000000000000000"
+)
+
+
 class Copies(Case):
     def test_copies_beside_threads_that_commit(self):
         with vahondrisa.open(self.dir, frames=16, log_bytes=300_000) as store:
@@ -44,6 +51,28 @@ class Copies(Case):
                 self.assertTrue(all(len(keys) == 3 for keys in found.values()))
                 self.assertEqual(set(found), set(range(1, len(found) + 1)))
                 self.assertGreaterEqual(len(found), count)
+
+    def test_a_copy_while_the_store_leaves_the_first_format(self):
+        for turn in range(20):
+            folder, to = os.path.join(self.room.name, f"first{turn}"), os.path.join(self.room.name, f"copy{turn}")
+            os.mkdir(folder)
+            for name, text in (("log", FIRST_LOG), ("pages", b"")):
+                with open(os.path.join(folder, name), "wb") as file:
+                    file.write(text)
+            with vahondrisa.open(folder) as store:
+
+                def upgrade():
+                    for n in range(turn):
+                        store.write(lambda txn: txn.put(b"b%d" % n, n))
+                    store.switch()
+                    store.write(lambda txn: txn.put(b"c", 3))
+
+                self.assertEqual(together(upgrade, lambda: store.copy(to)), [None] * 2)
+            self.assertGreater(os.path.getsize(os.path.join(folder, "log2")), 0)
+            with vahondrisa.open(to) as copy, copy.begin() as txn:
+                found = dict(txn.range())
+            each = [(b"a", 7), *((b"b%d" % n, n) for n in range(turn)), (b"c", 3)]
+            self.assertEqual(found, dict(each[: max(1, len(found))]))
 
     def test_the_interpreter_goes_on(self):
         with vahondrisa.open(self.dir) as store:
