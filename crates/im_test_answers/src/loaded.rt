@@ -12,6 +12,7 @@ use im_tool_user::{Form, Present, WhyBad};
 use std::alloc::Global;
 use std::io;
 use std::io::{BufReader, Write};
+use std::process::Abort;
 use std::test::Fail;
 use std::thread::Threads;
 use std::time::Clock;
@@ -76,18 +77,33 @@ static LOADS: [(u32, bool, &str, &str); 2] = [
     (3, false, "", ""),
 ];
 
+// Whether so many entries are loaded, and what is told of it begins and ends so, or is nothing where it is not shown.
+fn tells<R: Threads + Clock + Sync>(
+    rt: &R,
+    alloc: Global,
+    count: u32,
+    is_shown: bool,
+    begin: &str,
+    end: &str,
+) -> io::Result<bool> {
+    let mut text = Vec::new(alloc);
+    write_entries(&mut text, count)?;
+    let (loaded, told) = loaded(rt, alloc, Present::Refused, &text, is_shown)?;
+    Ok(
+        loaded == Loaded::All(put(u64::from(count)))
+            && told.starts_with(begin.as_bytes())
+            && told.ends_with(end.as_bytes())
+            && (is_shown || told.is_empty()),
+    )
+}
+
 #[test]
 fn a_load_tells_how_far_it_is(rt: HostRuntime) -> Result<(), Fail> {
     for (count, is_shown, begin, end) in &LOADS {
-        let mut text = Vec::new(rt.alloc());
-        write_entries(&mut text, *count)?;
-        let (loaded, told) = loaded(&rt, rt.alloc(), Present::Refused, &text, *is_shown)?;
-        assert!(rt; loaded == Loaded::All(put(u64::from(*count))));
         assert!(rt;
-            told.starts_with(begin.as_bytes()) && told.ends_with(end.as_bytes()),
+            tells(&rt, rt.alloc(), *count, *is_shown, begin, end)?,
             "{count}"
         );
-        assert!(rt; *is_shown || told.is_empty());
     }
     Ok(())
 }
@@ -143,10 +159,11 @@ static PORTABLE: [(&str, Loaded); 9] = [
 fn ends<R: Threads + Clock + Sync>(
     rt: &R,
     alloc: Global,
+    present: Present,
     text: &str,
     want: &Loaded,
 ) -> io::Result<bool> {
-    let (end, _told) = loaded(rt, alloc, Present::Refused, text.as_bytes(), false)?;
+    let (end, _told) = loaded(rt, alloc, present, text.as_bytes(), false)?;
     Ok(end == *want)
 }
 
@@ -176,19 +193,35 @@ static TWICE: [(Present, Loaded); 3] = [
 #[test]
 fn keys_that_are_there_are_left_or_replaced(rt: HostRuntime) -> Result<(), Fail> {
     for (present, want) in &TWICE {
-        let text = b"imstore entries 3\na 7\na 7\na 8\n".as_slice();
-        let (end, _told) = loaded(&rt, rt.alloc(), *present, text, false)?;
-        assert!(rt; end == *want);
+        assert!(rt;
+            ends(
+                &rt,
+                rt.alloc(),
+                *present,
+                "imstore entries 3\na 7\na 7\na 8\n",
+                want
+            )?,
+            "{present:?}"
+        );
+    }
+    Ok(())
+}
+
+// The texts are lent: a proof about a function that names so long a table has all of it at each step.
+fn each_ends<R: Abort + Threads + Clock + Sync>(
+    rt: &R,
+    alloc: Global,
+    rows: &[(&str, Loaded)],
+) -> Result<(), Fail> {
+    for (text, want) in rows {
+        assert!(rt; ends(rt, alloc, Present::Refused, text, want)?, "{text}");
     }
     Ok(())
 }
 
 #[test]
 fn a_load_takes_the_portable_form(rt: HostRuntime) -> Result<(), Fail> {
-    for (text, want) in &PORTABLE {
-        assert!(rt; ends(&rt, rt.alloc(), text, want)?, "{text}");
-    }
-    Ok(())
+    each_ends(&rt, rt.alloc(), &PORTABLE)
 }
 
 // What a dump of a store of one entry prints, in a form.
@@ -210,17 +243,21 @@ fn dumped<R: Threads + Sync>(rt: &R, alloc: Global, form: Form) -> Result<Vec<u8
     }
 }
 
+// Puts the entry in.
+fn put_entry(alloc: Global, store: &mut OpenStore<Renamed<ModelDisk>>) -> Result<(), Fail> {
+    let _begun = store.step(&Step::Begin);
+    let _inserted = store.step(&Step::Insert(1, Vec::from_slice(alloc, b"a b")?, 255));
+    let _committed = store.step(&Step::Commit(1));
+    Ok(())
+}
+
 // Puts the entry in, and dumps it.
 fn dumped_entry(
     alloc: Global,
     store: &mut OpenStore<Renamed<ModelDisk>>,
     form: Form,
 ) -> Result<Vec<u8>, Fail> {
-    let key = Vec::from_slice(alloc, b"a b")?;
-    let steps = [Step::Begin, Step::Insert(1, key, 255), Step::Commit(1)];
-    for step in &steps {
-        let _reply = store.step(step);
-    }
+    put_entry(alloc, store)?;
     let mut text = Vec::new(alloc);
     let refused = dump_text(alloc, store, &mut text, form, &mut Untold)?;
     if refused.is_some() {

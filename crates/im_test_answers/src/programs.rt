@@ -3,8 +3,10 @@
 use im_tool::store_program;
 use im_tool_script::drill_program;
 use std::alloc::{AllocError, Global};
-use std::fs;
+use std::process::Abort;
 use std::test::Fail;
+use std::thread::Threads;
+use std::{fs, io};
 
 static DRILLS: [(&[&str], u8); 4] = [
     (&["imdrill", "im_tool_no_such_script"], 1),
@@ -35,24 +37,59 @@ fn strings_of(alloc: Global, words: &[&str]) -> Result<Vec<String>, AllocError> 
     Ok(strings)
 }
 
+fn drill_status<R: Threads + Sync>(
+    rt: &HostRuntime,
+    threads: &R,
+    words: &[&str],
+) -> io::Result<u8> {
+    let strings = strings_of(rt.alloc(), words)?;
+    drill_program(rt, threads, &strings)
+}
+
+fn store_status<R: Threads + Sync>(
+    rt: &HostRuntime,
+    threads: &R,
+    words: &[&str],
+) -> io::Result<u8> {
+    let strings = strings_of(rt.alloc(), words)?;
+    store_program(rt, threads, &strings)
+}
+
+// The rows are lent, here and below: a proof about a function that names a table has all of it at each step.
+fn each_drill_answers<R: Abort + Threads + Sync>(
+    rt: &HostRuntime,
+    threads: &R,
+    rows: &[(&[&str], u8)],
+) -> Result<(), Fail> {
+    for (words, status) in rows {
+        assert!(threads; drill_status(rt, threads, words)? == *status, "{status}");
+    }
+    Ok(())
+}
+
 #[test]
 fn the_drill_program_answers_its_status(rt: HostRuntime) -> Result<(), Fail> {
     fs::write(&rt, "im_tool_script", "raw\n")?;
-    for (words, status) in &DRILLS {
-        let strings = strings_of(rt.alloc(), words)?;
-        assert!(rt; drill_program(&rt, &rt, &strings)? == *status, "{status}");
-    }
+    each_drill_answers(&rt, &rt, &DRILLS)?;
     fs::remove_file(&rt, "im_tool_script")?;
+    Ok(())
+}
+
+fn each_store_answers<R: Abort + Threads + Sync>(
+    rt: &HostRuntime,
+    threads: &R,
+    rows: &[(&[&str], u8)],
+) -> Result<(), Fail> {
+    for (words, status) in rows {
+        assert!(threads; store_status(rt, threads, words)? == *status, "{status}");
+    }
     Ok(())
 }
 
 #[test]
 fn the_store_program_answers_its_status(rt: HostRuntime) -> Result<(), Fail> {
     fs::write(&rt, "im_tool_no_folder", "")?;
-    for (words, status) in &STORES {
-        let strings = strings_of(rt.alloc(), words)?;
-        assert!(rt; store_program(&rt, &rt, &strings)? == *status, "{status}");
-    }
+    each_store_answers(&rt, &rt, &STORES)?;
     fs::remove_file(&rt, "im_tool_no_folder")?;
     fs::remove_dir_all(&rt, "im_tool_store")?;
     Ok(())

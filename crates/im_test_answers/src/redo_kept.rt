@@ -31,14 +31,32 @@ fn lengths<R: Threads + Sync>(
     }
 }
 
-// Makes a step, and what is due after it. Whether that was not refused.
-fn made(
-    engine: &mut Engine<Renamed<ModelDisk>>,
-    upkeep: &mut Upkeep,
-    step: &Step,
-) -> (Reply, bool) {
-    let reply = upkeep.step(engine, step);
-    (reply, upkeep.keep(engine).is_ok())
+// A number for what a reply says: a transaction's, or one of these; 0 for any other.
+fn told(reply: &Reply) -> u64 {
+    match reply {
+        Reply::Started(txn) => *txn,
+        Reply::Inserted => INSERTED,
+        Reply::Committed => COMMITTED,
+        _ => 0,
+    }
+}
+
+const INSERTED: u64 = u64::MAX;
+
+const COMMITTED: u64 = u64::MAX - 1;
+
+// Makes a step, and what is due after it. What is answered where that was not refused.
+fn made(engine: &mut Engine<Renamed<ModelDisk>>, upkeep: &mut Upkeep, step: &Step) -> u64 {
+    let said = told(&upkeep.step(engine, step));
+    if upkeep.keep(engine).is_ok() { said } else { 0 }
+}
+
+// The n-th key.
+fn key(alloc: Global, n: u64) -> Result<Vec<u8>, Fail> {
+    let mut key = vec![in alloc; b'z'; LONGEST_KEY]?;
+    key[0] = (n % 90 * 37 % 90) as u8;
+    key[1] = (n / 90 % 256) as u8;
+    Ok(key)
 }
 
 // Puts the n-th key in and commits it. Whether all of that was done.
@@ -48,15 +66,10 @@ fn is_put(
     upkeep: &mut Upkeep,
     n: u64,
 ) -> Result<bool, Fail> {
-    let Reply::Started(txn) = engine.step(&Step::Begin) else {
-        return Ok(false);
-    };
-    let mut key = vec![in alloc; b'z'; LONGEST_KEY]?;
-    key[0] = (n % 90 * 37 % 90) as u8;
-    key[1] = (n / 90 % 256) as u8;
-    let insert = made(engine, upkeep, &Step::Insert(txn, key, n));
-    let commit = made(engine, upkeep, &Step::Commit(txn));
-    Ok(matches!(&insert, (Reply::Inserted, true)) && matches!(&commit, (Reply::Committed, true)))
+    let key = key(alloc, n)?;
+    let txn = told(&engine.step(&Step::Begin));
+    let is_inserted = made(engine, upkeep, &Step::Insert(txn, key, n)) == INSERTED;
+    Ok(is_inserted && made(engine, upkeep, &Step::Commit(txn)) == COMMITTED)
 }
 
 // How much an opening may have to redo, in bytes.
@@ -107,12 +120,11 @@ fn stop_behind_each<R: Abort + Threads + Sync>(
     for n in 0..keys {
         assert!(rt; is_put(alloc, engine, &mut upkeep, n)?, "{n}");
         let (redone, read) = lengths(rt, alloc, engine)?;
-        assert!(rt; redone <= MOST, "{n}");
-        assert!(rt; !is_switched || read <= LONGEST, "{n}");
+        assert!(rt; redone <= MOST && (!is_switched || read <= LONGEST), "{n}");
     }
     // A log of a later file begins above the LSN 0.
-    assert!(rt; (engine.durable_end() > engine.log_length()) == is_switched);
-    assert!(rt; upkeep.close(engine).is_ok());
+    let goes_on = engine.durable_end() > engine.log_length();
+    assert!(rt; goes_on == is_switched && upkeep.close(engine).is_ok());
     let (redone, read) = lengths(rt, alloc, engine)?;
     assert!(rt; redone <= 4_096 || is_switched && read <= LONGEST);
     Ok(())
