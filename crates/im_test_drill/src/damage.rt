@@ -11,6 +11,7 @@ use im_base_types::Fault;
 use im_engine::{Config, Engine};
 use im_tool_lines::StoreScript;
 use std::alloc::{AllocError, Global};
+use std::process::Abort;
 use std::test::Fail;
 use std::thread::Threads;
 
@@ -43,8 +44,10 @@ fn answer_of<R: Threads + Sync>(
         Ok(mut engine) => {
             let made = make_steps(alloc, &mut engine);
             let _disk = engine.into_disk();
-            made?;
-            Ok(0)
+            match made {
+                Ok(()) => Ok(0),
+                Err(error) => Err(error),
+            }
         }
         Err(fault) => Ok(fault.number()),
     }
@@ -120,12 +123,14 @@ fn ones(alloc: Global, len: usize) -> Result<Vec<u8>, AllocError> {
 // A log of no bytes or one was never made. One that is cut elsewhere is none.
 #[test]
 fn a_log_that_is_cut_is_no_store(rt: HostRuntime) -> Result<(), Fail> {
-    let alloc = rt.alloc();
-    let log = whole_log(alloc);
+    each_cut(&rt, rt.alloc(), &whole_log(rt.alloc()))
+}
+
+fn each_cut<R: Abort + Threads + Sync>(rt: &R, alloc: Global, log: &[u8]) -> Result<(), Fail> {
     assert!(rt; log.len() == 113, "{}", log.len());
     for size in 0..log.len() {
         let cut = Vec::from_slice(alloc, &log[..size])?;
-        let answer = answer_of(&rt, alloc, cut, Vec::new(alloc))?;
+        let answer = answer_of(rt, alloc, cut, Vec::new(alloc))?;
         let want = if size < 2 { 0 } else { 11 };
         assert!(rt; answer == want, "{size}: {answer}");
     }
@@ -152,17 +157,31 @@ fn others_with<R: Threads + Sync>(
     byte: u8,
     len: usize,
 ) -> Result<usize, AllocError> {
-    let log = whole_log(alloc);
+    others_of(rt, alloc, &whole_log(alloc), byte, len)
+}
+
+fn others_of<R: Threads + Sync>(
+    rt: &R,
+    alloc: Global,
+    log: &[u8],
+    byte: u8,
+    len: usize,
+) -> Result<usize, AllocError> {
     let mut others = 0usize;
     for at in 0..log.len() {
-        let mut damaged = Vec::from_slice(alloc, &log)?;
-        if at < damaged.len() {
-            damaged[at] = byte;
-        }
+        let damaged = replaced(alloc, log, at, byte)?;
         let answer = answer_of(rt, alloc, damaged, ones(alloc, len)?)?;
         if answer != 0 && answer != 11 {
             others = others.wrapping_add(1);
         }
     }
     Ok(others)
+}
+
+fn replaced(alloc: Global, log: &[u8], at: usize, byte: u8) -> Result<Vec<u8>, AllocError> {
+    let mut damaged = Vec::from_slice(alloc, log)?;
+    if let Some(found) = damaged.get_mut(at) {
+        *found = byte;
+    }
+    Ok(damaged)
 }

@@ -1,9 +1,12 @@
 //! A script, and what it prints.
 
+use crate::texts::{Part, text_of};
 use im_engine::BufferSize;
 use im_tool_text::drill_text;
 use std::alloc::Global;
 use std::io;
+use std::process::Abort;
+use std::test::Fail;
 use std::thread::Threads;
 
 /// What a script prints, and its exit status.
@@ -38,4 +41,29 @@ pub fn prints<R: Threads + Sync>(
 ) -> io::Result<bool> {
     let (status, printed) = drilled(rt, alloc, script)?;
     Ok(status == want_status && printed.as_slice() == want)
+}
+
+/// Whether the script of some parts prints the text of others and no more, with status 0.
+fn prints_parts<R: Threads + Sync>(
+    rt: &R,
+    alloc: Global,
+    script: &[Part],
+    want: &[Part],
+) -> io::Result<bool> {
+    let script = text_of(alloc, script)?;
+    let want = text_of(alloc, want)?;
+    prints(rt, alloc, &script, &want, 0)
+}
+
+/// Asks that of each row, which has a name, a script and what it prints. The rows are lent: a proof about a function that names so long a table has all of it
+/// at each step.
+pub fn each_prints_parts<R: Abort + Threads + Sync>(
+    rt: &R,
+    alloc: Global,
+    rows: &[(&str, &[Part], &[Part])],
+) -> Result<(), Fail> {
+    for (name, script, want) in rows {
+        assert!(rt; prints_parts(rt, alloc, script, want)?, "{name}");
+    }
+    Ok(())
 }

@@ -10,6 +10,7 @@ use im_tool_every::{
 use im_tool_lines::StoreScript;
 use std::alloc::{AllocError, Global};
 use std::io;
+use std::process::Abort;
 use std::test::Fail;
 use std::thread::Threads;
 
@@ -57,14 +58,25 @@ fn restarts<R: Threads + Sync>(rt: &R, alloc: Global, script: &[u8]) -> Result<C
     Ok(counts)
 }
 
-#[test]
-fn losers_are_taken_back(rt: HostRuntime) -> Result<(), Fail> {
-    for (name, parts) in &LOSERS {
-        let counts = restarts(&rt, rt.alloc(), &text_of(rt.alloc(), parts)?)?;
-        assert!(rt; counts.restarts >= 60, "{name}: {}", counts.restarts);
-        assert!(rt; counts.bad == 0, "{name}: {}", counts.bad);
+// The rows are lent, here and below: a proof about a function that names so long a table has all of it at each step.
+fn each_is_taken_back<R: Abort + Threads + Sync>(
+    rt: &R,
+    alloc: Global,
+    rows: &[(&str, &[Part])],
+) -> Result<(), Fail> {
+    for (name, parts) in rows {
+        let counts = restarts(rt, alloc, &text_of(alloc, parts)?)?;
+        assert!(rt;
+            counts.restarts >= 60 && counts.bad == 0,
+            "{name}: {counts:?}"
+        );
     }
     Ok(())
+}
+
+#[test]
+fn losers_are_taken_back(rt: HostRuntime) -> Result<(), Fail> {
+    each_is_taken_back(&rt, rt.alloc(), &LOSERS)
 }
 
 static EVERY: [(&str, &str, &str, u8); 6] = [
@@ -127,15 +139,23 @@ fn prints_every<R: Threads + Sync>(
     Ok(status == want_status && printed.as_slice() == want.as_bytes())
 }
 
-#[test]
-fn every_stop_prints_its_counts(rt: HostRuntime) -> Result<(), Fail> {
-    for (name, script, want, want_status) in &EVERY {
+fn each_prints_every<R: Abort + Threads + Sync>(
+    rt: &R,
+    alloc: Global,
+    rows: &[(&str, &str, &str, u8)],
+) -> Result<(), Fail> {
+    for (name, script, want, want_status) in rows {
         assert!(rt;
-            prints_every(&rt, rt.alloc(), script, want, *want_status)?,
+            prints_every(rt, alloc, script, want, *want_status)?,
             "{name}"
         );
     }
     Ok(())
+}
+
+#[test]
+fn every_stop_prints_its_counts(rt: HostRuntime) -> Result<(), Fail> {
+    each_prints_every(&rt, rt.alloc(), &EVERY)
 }
 
 // Two Commits wait, and one force commits both.
@@ -204,139 +224,151 @@ fn failures<R: Threads + Sync>(rt: &R, alloc: Global, script: &[u8]) -> Result<C
     }
 }
 
-#[test]
-fn failures_are_told(rt: HostRuntime) -> Result<(), Fail> {
-    for (name, parts) in &FAILURES {
-        let counts = failures(&rt, rt.alloc(), &text_of(rt.alloc(), parts)?)?;
-        assert!(rt; counts.stops >= 96, "{name}: {}", counts.stops);
-        assert!(rt; counts.bad == 0, "{name}: {}", counts.bad);
+fn each_is_told<R: Abort + Threads + Sync>(
+    rt: &R,
+    alloc: Global,
+    rows: &[(&str, &[Part])],
+) -> Result<(), Fail> {
+    for (name, parts) in rows {
+        let counts = failures(rt, alloc, &text_of(alloc, parts)?)?;
+        assert!(rt; counts.stops >= 96 && counts.bad == 0, "{name}: {counts:?}");
     }
     Ok(())
+}
+
+#[test]
+fn failures_are_told(rt: HostRuntime) -> Result<(), Fail> {
+    each_is_told(&rt, rt.alloc(), &FAILURES)
 }
 
 // A key `a` with row id 7 in a log of the first format, which an opening switches.
 const FIRST: &str =
     "set log 014152494553494d3100001000000000000000000000000000000000000000010000004c0000002b01000000000000000100000000000000000000000000000000000000010161000000000000000700000021080000000000000001000000000000002400000000000000000000000000\n";
 
-// A name, a script, whether its calls fail, whether that is done in settings, what is printed, and the status. The first life has 10 device calls, so
+// Whether the calls of a script are stopped or fail, and whether that is done in settings.
+#[derive(Clone, Copy)]
+enum How {
+    Stopped,
+    Failing,
+    InSettings,
+    FailingInSettings,
+}
+
+// A name, a script, how it is swept, what is printed, and the status. The first life has 10 device calls, so
 // there are 8 stops within each and 8 at the end; it has 10 reads, so there are 6 failures of each of the 20, and 6 lives without.
-static SWEPT: [(&str, &str, bool, bool, &str, u8); 6] = [
+static SWEPT: [(&str, &str, How, &str, u8); 6] = [
     (
         "a_setting_that_is_named",
         "life frames 8 group workers 4\nbegin\ninsert 1 a 7\ncommit 1\nforce\n",
-        false,
-        true,
+        How::InSettings,
         "frames 8 group workers 4 buffer 4 stops 88 restarts 2368 bad 0\n",
         0,
     ),
     (
         "lives_before_are_made_as_they_stand",
         "life\nbegin\ninsert 1 a 7\ncommit 1\nlife workers 1\nbegin\nstop end long 00\nlife\n",
-        false,
-        false,
+        How::Stopped,
         "stops 8 restarts 64 bad 0\n",
         0,
     ),
     (
         "each_call_fails",
         "life\nbegin\ninsert 1 a 7\ncommit 1\n",
-        true,
-        false,
+        How::Failing,
         "failures 126 restarts 828 bad 0\n",
         0,
     ),
     (
         "the_last_life_has_no_stop",
         "life\nstop 1 long 00\n",
-        false,
-        false,
+        How::Stopped,
         "script not single\n",
         1,
     ),
     (
         "files_that_are_no_store",
         "set log 0141\nlife\n",
-        false,
-        true,
+        How::InSettings,
         "open refused 11\n",
         1,
     ),
     (
         "bad_line_is_named",
         "life\nfoo\n",
-        true,
-        true,
+        How::FailingInSettings,
         "refused 16 line 2\n",
         1,
     ),
 ];
 
-// Whether a sweep, with a buffer of 4 where there are settings, prints this and no more, with this exit status.
+// What a sweep prints, with a buffer of 4 where there are settings, and its exit status.
+fn swept<R: Threads + Sync>(
+    rt: &R,
+    alloc: Global,
+    script: &[u8],
+    how: How,
+) -> io::Result<(u8, Vec<u8>)> {
+    let fails = matches!(how, How::Failing | How::FailingInSettings);
+    let in_settings = matches!(how, How::InSettings | How::FailingInSettings);
+    let sweep = Sweep {
+        fails,
+        in_settings,
+        buffer: if in_settings {
+            BufferSize::new(4)
+        } else {
+            None
+        },
+    };
+    let mut printed = Vec::new(alloc);
+    let mut reader = script;
+    let status = sweep_text(rt, alloc, sweep, &mut reader, &mut printed, &mut io::sink())?;
+    Ok((status, printed))
+}
+
+// Whether a sweep prints this and no more, with this exit status.
 fn prints_swept<R: Threads + Sync>(
     rt: &R,
     alloc: Global,
     script: &str,
-    fails: bool,
-    in_settings: bool,
+    how: How,
     want: &str,
     want_status: u8,
 ) -> io::Result<bool> {
-    let mut printed = Vec::new(alloc);
-    let mut reader = script.as_bytes();
-    let buffer = if in_settings {
-        BufferSize::new(4)
-    } else {
-        None
-    };
-    let sweep = Sweep {
-        fails,
-        in_settings,
-        buffer,
-    };
-    let status = sweep_text(rt, alloc, sweep, &mut reader, &mut printed, &mut io::sink())?;
+    let (status, printed) = swept(rt, alloc, script.as_bytes(), how)?;
     Ok(status == want_status && printed.as_slice() == want.as_bytes())
 }
 
-#[test]
-fn sweeps_print_their_counts(rt: HostRuntime) -> Result<(), Fail> {
-    for (name, script, fails, in_settings, want, want_status) in &SWEPT {
+fn each_prints_swept<R: Abort + Threads + Sync>(
+    rt: &R,
+    alloc: Global,
+    rows: &[(&str, &str, How, &str, u8)],
+) -> Result<(), Fail> {
+    for (name, script, how, want, want_status) in rows {
         assert!(rt;
-            prints_swept(
-                &rt,
-                rt.alloc(),
-                script,
-                *fails,
-                *in_settings,
-                want,
-                *want_status
-            )?,
+            prints_swept(rt, alloc, script, *how, want, *want_status)?,
             "{name}"
         );
     }
     Ok(())
 }
 
+#[test]
+fn sweeps_print_their_counts(rt: HostRuntime) -> Result<(), Fail> {
+    each_prints_swept(&rt, rt.alloc(), &SWEPT)
+}
+
+// A store of the first format, and a life.
+fn of_first_format(alloc: Global) -> io::Result<Vec<u8>> {
+    let mut script = Vec::from_slice(alloc, FIRST.as_bytes())?;
+    script.extend_from_slice(b"life\nbegin\ninsert 2 b 8\ncommit 2\n")?;
+    Ok(script)
+}
+
 // The upgrade's calls are stopped, and those of the life behind it.
 #[test]
 fn a_store_of_the_first_format_is_swept(rt: HostRuntime) -> Result<(), Fail> {
-    let mut script = Vec::from_slice(rt.alloc(), FIRST.as_bytes())?;
-    script.extend_from_slice(b"life\nbegin\ninsert 2 b 8\ncommit 2\n")?;
-    let mut printed = Vec::new(rt.alloc());
-    let mut reader = script.as_slice();
-    let sweep = Sweep {
-        fails: false,
-        in_settings: false,
-        buffer: None,
-    };
-    let status = sweep_text(
-        &rt,
-        rt.alloc(),
-        sweep,
-        &mut reader,
-        &mut printed,
-        &mut io::sink(),
-    )?;
-    assert!(rt; status == 0);
-    assert!(rt; printed.ends_with(b"bad 0\n") && !printed.starts_with(b"stops 0 "));
+    let script = of_first_format(rt.alloc())?;
+    let (status, printed) = swept(&rt, rt.alloc(), &script, How::Stopped)?;
+    assert!(rt; status == 0 && printed.ends_with(b"bad 0\n") && !printed.starts_with(b"stops 0 "));
     Ok(())
 }

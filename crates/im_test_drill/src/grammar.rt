@@ -156,20 +156,23 @@ fn each_is_bad<R: Abort + Threads + Sync>(
     Ok(())
 }
 
-#[test]
-fn lines_that_the_grammar_lacks_are_refused(rt: HostRuntime) -> Result<(), Fail> {
-    for script in &SCRIPTS {
+fn each_is_refused<R: Abort + Threads + Sync>(
+    rt: &R,
+    alloc: Global,
+    scripts: &[&str],
+) -> Result<(), Fail> {
+    for script in scripts {
         assert!(rt;
-            prints(
-                &rt,
-                rt.alloc(),
-                script.as_bytes(),
-                b"refused 16 line 1\n",
-                1
-            )?,
+            prints(rt, alloc, script.as_bytes(), b"refused 16 line 1\n", 1)?,
             "{script}"
         );
     }
+    Ok(())
+}
+
+#[test]
+fn lines_that_the_grammar_lacks_are_refused(rt: HostRuntime) -> Result<(), Fail> {
+    each_is_refused(&rt, rt.alloc(), &SCRIPTS)?;
     each_is_bad(&rt, rt.alloc(), "raw", &IN_RAW)
 }
 

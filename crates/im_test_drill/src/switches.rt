@@ -9,6 +9,7 @@ use im_tool_lines::StoreScript;
 use std::alloc::{AllocError, Global};
 use std::io;
 use std::io::Write;
+use std::process::Abort;
 use std::test::Fail;
 use std::thread::Threads;
 
@@ -79,14 +80,25 @@ fn stops<R: Threads + Sync>(rt: &R, alloc: Global, script: &[u8]) -> Result<Coun
     Ok(counts)
 }
 
-#[test]
-fn every_stop_of_a_switch_is_good(rt: HostRuntime) -> Result<(), Fail> {
-    for (name, parts) in &NEW {
-        let counts = stops(&rt, rt.alloc(), &text_of(rt.alloc(), parts)?)?;
-        assert!(rt; counts.stops >= 132, "{name}: {}", counts.stops);
-        assert!(rt; counts.bad == 0, "{name}: {}", counts.bad);
+// The rows are lent: a proof about a function that names so long a table has all of it at each step.
+fn each_is_good<R: Abort + Threads + Sync>(
+    rt: &R,
+    alloc: Global,
+    rows: &[(&str, &[Part])],
+) -> Result<(), Fail> {
+    for (name, parts) in rows {
+        let counts = stops(rt, alloc, &text_of(alloc, parts)?)?;
+        assert!(rt;
+            counts.stops >= 132 && counts.bad == 0,
+            "{name}: {counts:?}"
+        );
     }
     Ok(())
+}
+
+#[test]
+fn every_stop_of_a_switch_is_good(rt: HostRuntime) -> Result<(), Fail> {
+    each_is_good(&rt, rt.alloc(), &NEW)
 }
 
 // A life of a store that begins with that log: its options, its lines, and the entries that may be there in the end, from those that the log has to those of the last Commit.
@@ -217,24 +229,37 @@ fn every_upgrade<R: Threads + Sync>(
     alloc: Global,
     upgraded: &Upgraded,
 ) -> io::Result<Counts> {
-    let mut script = text_of(alloc, &[Text(FIRST), Text(upgraded.options)])?;
-    let lines = text_of(alloc, upgraded.lines)?;
-    script.extend_from_slice(&lines)?;
-    let mut states = Vec::new(alloc);
-    for state in upgraded.states {
-        states.push(text_of(alloc, state)?)?;
+    let script = script_of(alloc, upgraded)?;
+    let states = states_of(alloc, upgraded.states)?;
+    every_call(rt, alloc, &script, upgraded.options, &states)
+}
+
+fn script_of(alloc: Global, upgraded: &Upgraded) -> io::Result<Vec<u8>> {
+    let mut script = Vec::from_slice(alloc, FIRST.as_bytes())?;
+    script.extend_from_slice(upgraded.options.as_bytes())?;
+    script.extend_from_slice(&text_of(alloc, upgraded.lines)?)?;
+    Ok(script)
+}
+
+fn states_of(alloc: Global, states: &[&[Part]]) -> io::Result<Vec<Vec<u8>>> {
+    let mut texts = Vec::new(alloc);
+    for state in states {
+        texts.push(text_of(alloc, state)?)?;
     }
+    Ok(texts)
+}
+
+// Stops the life of a script within each of its device calls.
+fn every_call<R: Threads + Sync>(
+    rt: &R,
+    alloc: Global,
+    script: &[u8],
+    options: &str,
+    states: &[Vec<u8>],
+) -> io::Result<Counts> {
     let mut counts = Counts::default();
     for call in 1..MOST_CALLS {
-        if !each_way(
-            rt,
-            alloc,
-            &script,
-            call,
-            upgraded.options,
-            &states,
-            &mut counts,
-        )? {
+        if !each_way(rt, alloc, script, call, options, states, &mut counts)? {
             break;
         }
     }
@@ -293,19 +318,24 @@ fn count(counts: &mut Counts, ended: &Ended) {
     }
 }
 
-#[test]
-fn every_stop_of_an_upgraded_store_is_good(rt: HostRuntime) -> Result<(), Fail> {
-    for upgraded in &UPGRADED {
-        let counts = every_upgrade(&rt, rt.alloc(), upgraded)?;
-        let name = upgraded.name;
+fn each_upgrade_is_good<R: Abort + Threads + Sync>(
+    rt: &R,
+    alloc: Global,
+    rows: &[Upgraded],
+) -> Result<(), Fail> {
+    for upgraded in rows {
+        let counts = every_upgrade(rt, alloc, upgraded)?;
         // The upgrade has thirteen calls, and a Commit and a switch ten at least.
-        assert!(rt; counts.stops >= 6 * 23, "{name}: {}", counts.stops);
         assert!(rt;
-            counts.restarts >= 2 * 6 * 13,
-            "{name}: {}",
-            counts.restarts
+            counts.stops >= 6 * 23 && counts.restarts >= 2 * 6 * 13 && counts.bad == 0,
+            "{}: {counts:?}",
+            upgraded.name
         );
-        assert!(rt; counts.bad == 0, "{name}: {}", counts.bad);
     }
     Ok(())
+}
+
+#[test]
+fn every_stop_of_an_upgraded_store_is_good(rt: HostRuntime) -> Result<(), Fail> {
+    each_upgrade_is_good(&rt, rt.alloc(), &UPGRADED)
 }

@@ -5,6 +5,7 @@ use crate::texts::Part::{Each, Scattered, Text};
 use crate::texts::{Part, text_of};
 use std::alloc::Global;
 use std::io;
+use std::io::Write;
 use std::process::Abort;
 use std::test::Fail;
 use std::thread::Threads;
@@ -170,13 +171,18 @@ fn prints_so<R: Threads + Sync>(
     script: &[u8],
     so: Prints,
 ) -> io::Result<bool> {
+    let (Prints::All(parts) | Prints::First(parts) | Prints::Last(parts)) = so;
+    let want = text_of(alloc, parts)?;
     let (status, printed) = drilled(rt, alloc, script)?;
-    let is_so = match so {
-        Prints::All(parts) => printed == text_of(alloc, parts)?,
-        Prints::First(parts) => printed.starts_with(&text_of(alloc, parts)?),
-        Prints::Last(parts) => printed.ends_with(&text_of(alloc, parts)?),
-    };
-    Ok(status == 0 && is_so)
+    Ok(status == 0 && is_so(&printed, so, &want))
+}
+
+fn is_so(printed: &[u8], so: Prints, want: &[u8]) -> bool {
+    match so {
+        Prints::All(_) => printed == want,
+        Prints::First(_) => printed.starts_with(want),
+        Prints::Last(_) => printed.ends_with(want),
+    }
 }
 
 #[test]
@@ -190,8 +196,10 @@ fn each_prints_so<R: Abort + Threads + Sync>(
     rows: &[(&str, &[Part], Prints)],
 ) -> Result<(), Fail> {
     for (name, parts, so) in rows {
-        let script = text_of(alloc, parts)?;
-        assert!(rt; prints_so(rt, alloc, &script, *so)?, "{name}");
+        assert!(rt;
+            prints_so(rt, alloc, &text_of(alloc, parts)?, *so)?,
+            "{name}"
+        );
     }
     Ok(())
 }
@@ -199,18 +207,25 @@ fn each_prints_so<R: Abort + Threads + Sync>(
 // An opening that takes a loser back is stopped within each of its first calls, and the next one has the same in the end.
 #[test]
 fn an_opening_that_splits_may_be_stopped(rt: HostRuntime) -> Result<(), Fail> {
-    let alloc = rt.alloc();
+    each_stop(&rt, rt.alloc(), &DELETED_BY_A_LOSER, Prints::Last(&SIXTEEN))
+}
+
+fn each_stop<R: Abort + Threads + Sync>(
+    rt: &R,
+    alloc: Global,
+    parts: &[Part],
+    so: Prints,
+) -> Result<(), Fail> {
     for call in 1..17u32 {
-        let mut script = text_of(alloc, &DELETED_BY_A_LOSER)?;
-        let stop = text_of(
-            alloc,
-            &[Each(call, call + 1, "life frames 8\nstop N long 00\n")],
-        )?;
-        script.extend_from_slice(&stop)?;
-        assert!(rt;
-            prints_so(&rt, alloc, &script, Prints::Last(&SIXTEEN))?,
-            "{call}"
-        );
+        let script = stopped(alloc, parts, call)?;
+        assert!(rt; prints_so(rt, alloc, &script, so)?, "{call}");
     }
     Ok(())
+}
+
+// A script, and an opening behind it that is stopped within this call.
+fn stopped(alloc: Global, parts: &[Part], call: u32) -> io::Result<Vec<u8>> {
+    let mut script = text_of(alloc, parts)?;
+    writeln!(script, "life frames 8\nstop {call} long 00")?;
+    Ok(script)
 }

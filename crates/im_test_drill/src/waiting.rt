@@ -1,8 +1,8 @@
 //! Commits that wait for a force, and the end of the log.
 
-use crate::drilled::prints;
+use crate::drilled::each_prints_parts;
+use crate::texts::Part;
 use crate::texts::Part::{Each, Text};
-use crate::texts::{Part, text_of};
 use std::test::Fail;
 
 // A key of 250 bytes comes and goes: two records of 292 bytes.
@@ -146,10 +146,5 @@ static WAITING: [(&str, &[Part], &[Part]); 13] = [
 
 #[test]
 fn commits_wait_for_a_force(rt: HostRuntime) -> Result<(), Fail> {
-    for (name, script, want) in &WAITING {
-        let script = text_of(rt.alloc(), script)?;
-        let want = text_of(rt.alloc(), want)?;
-        assert!(rt; prints(&rt, rt.alloc(), &script, &want, 0)?, "{name}");
-    }
-    Ok(())
+    each_prints_parts(&rt, rt.alloc(), &WAITING)
 }

@@ -1,8 +1,8 @@
 //! Lives whose openings share redo among workers: scripts with what they print.
 
-use crate::drilled::prints;
+use crate::drilled::each_prints_parts;
+use crate::texts::Part;
 use crate::texts::Part::{Each, Text};
-use crate::texts::{Part, text_of};
 use std::test::Fail;
 
 // Fifteen keys of 255 bytes are committed, and a loser splits their leaf.
@@ -93,10 +93,5 @@ static SHARED: [(&str, &[Part], &[Part]); 8] = [
 
 #[test]
 fn workers_share_redo(rt: HostRuntime) -> Result<(), Fail> {
-    for (name, script, want) in &SHARED {
-        let script = text_of(rt.alloc(), script)?;
-        let want = text_of(rt.alloc(), want)?;
-        assert!(rt; prints(&rt, rt.alloc(), &script, &want, 0)?, "{name}");
-    }
-    Ok(())
+    each_prints_parts(&rt, rt.alloc(), &SHARED)
 }
