@@ -64,15 +64,16 @@ fn flush_past_the_end(
 {
     let opened = disk.calls();
     let lsn = log_insert(writer, disk, b"a")?;
-    assert!(rt; since(disk, opened) == 0);
+    let logged = since(disk, opened);
     writer.flush_one(disk, 1)?;
-    assert!(rt; since(disk, opened) == 6);
-    assert!(rt; disk.end(FileId::Pages) == 8_192);
+    let flushed = (since(disk, opened), disk.end(FileId::Pages));
     writer.flush_one(disk, 1)?;
-    assert!(rt; got(writer, disk, 1)? == (lsn, 1));
-    assert!(rt; since(disk, opened) == 6);
+    let page = got(writer, disk, 1)?;
+    let again = since(disk, opened);
     writer.sync_pages(disk)?;
-    assert!(rt; since(disk, opened) == 7);
+    let synced = since(disk, opened);
+    assert!(rt; (logged, again, synced) == (0, 6, 7));
+    assert!(rt; (flushed, page) == ((6, 8_192), (lsn, 1)));
     Ok(())
 }
 
@@ -92,12 +93,13 @@ fn evict(rt: &impl Abort, writer: &mut PageWriter, disk: &mut ModelDisk) -> Resu
     let opened = disk.calls();
     let first = log_insert(writer, disk, b"a")?;
     change_each(writer, disk, 2, 9)?;
-    assert!(rt; since(disk, opened) == 0);
-    assert!(rt; got(writer, disk, 9)? == (0, 0));
-    assert!(rt; since(disk, opened) == 6);
-    assert!(rt; got(writer, disk, 1)? == (first, 1));
-    assert!(rt; since(disk, opened) == 11);
-    assert!(rt; disk.end(FileId::Pages) == 12_288);
+    let changed = since(disk, opened);
+    let ninth = got(writer, disk, 9)?;
+    let evicted = since(disk, opened);
+    let page = got(writer, disk, 1)?;
+    let ended = (since(disk, opened), disk.end(FileId::Pages));
+    assert!(rt; (changed, evicted, ended) == (0, 6, (11, 12_288)));
+    assert!(rt; (ninth, page) == ((0, 0), (first, 1)));
     Ok(())
 }
 
@@ -116,15 +118,15 @@ fn fill_table(rt: &impl Abort, writer: &mut PageWriter, disk: &mut ModelDisk) ->
 {
     let opened = disk.calls();
     writer.make_entry_room(disk)?;
-    assert!(rt; since(disk, opened) == 0);
+    let empty = since(disk, opened);
     // A write of the last of 1,024 pages takes those before along, and each has its entry then.
-    assert!(rt; change(writer, disk, 1_023)?);
+    let is_changed = change(writer, disk, 1_023)?;
     writer.flush_one(disk, 1_023)?;
-    assert!(rt; writer.dirty_count() == 1_024);
+    let full = writer.dirty_count();
     let filled = disk.calls();
     writer.make_entry_room(disk)?;
-    assert!(rt; since(disk, filled) == 1);
-    assert!(rt; writer.dirty_count() == 0);
+    assert!(rt; is_changed && (empty, full) == (0, 1_024));
+    assert!(rt; (since(disk, filled), writer.dirty_count()) == (1, 0));
     Ok(())
 }
 

@@ -26,9 +26,16 @@ fn switch_logs<D: TwoLogs>(alloc: Global, disk: &mut D) -> Result<Lsn, Fault>
     requires working { D.failed disk.old ≡ false }
 {
     let mut writer = open_current(alloc, disk)?;
-    log_insert(&mut writer, disk, b"a")?;
+    insert_two(&mut writer, disk)
+}
+
+// The same with a writer that is lent: what a function owns is dropped at each of its exits, which takes a proof each.
+fn insert_two<D: TwoLogs>(writer: &mut PageWriter, disk: &mut D) -> Result<Lsn, Fault>
+    requires ready { IsReadyWriter D.Disk writer.old disk.old }
+{
+    log_insert(writer, disk, b"a")?;
     writer.switch(disk, 2)?;
-    let lsn = log_insert(&mut writer, disk, b"b")?;
+    let lsn = log_insert(writer, disk, b"b")?;
     writer.force(disk)?;
     Ok(lsn)
 }
@@ -38,7 +45,14 @@ fn look<D: TwoLogs>(alloc: Global, disk: &mut D) -> Result<(Lsn, Lsn, usize), Fa
     requires working { D.failed disk.old ≡ false }
 {
     let mut writer = open_current(alloc, disk)?;
-    let page = got(&mut writer, disk, 1)?;
+    look_at(&mut writer, disk)
+}
+
+// The same of a writer.
+fn look_at<D: TwoLogs>(writer: &mut PageWriter, disk: &mut D) -> Result<(Lsn, Lsn, usize), Fault>
+    requires ready { IsReadyWriter D.Disk writer.old disk.old }
+{
+    let page = got(writer, disk, 1)?;
     Ok((writer.durable_end(), page.0, page.1))
 }
 
