@@ -108,7 +108,7 @@ impl FileDisk {
     /// it opens is refused `Device`. The descriptors are as `open` has them. Any number may read at once: they share the lock on the log, which keeps out
     /// those who write, as these keep them out.
     ///
-    /// Refused as `open` refuses, and `NoFile` where `log` or `pages` is missing.
+    /// Refused as `open` refuses, `Unfinished` whatever else is there or missing, and `NoFile` where `log` or `pages` is missing.
     pub fn open_to_read(rt: &HostRuntime, dir: &str) -> Result<FileDisk, OpenError>
         ensures working { IfOk result (λ disk. ⟦<FileDisk as Disk>⟧.failed disk ≡ false) }
         ensures descriptors { IfOk result HasOwnDescriptors }
@@ -249,6 +249,10 @@ fn open_files(
     let _first = open_folder(rt, dir)?;
     let _second = open_folder(rt, dir)?;
     let _third = open_folder(rt, dir)?;
+    // Until its end a copy lacks a log, which is not what a user has to be told of it.
+    if has_part(rt, dir)? {
+        return Err(OpenError::Unfinished);
+    }
     let log_path = path_of_made_file(rt, dir, "log")?;
     path_of_made_file(rt, dir, "pages")?;
     let log = open_file(rt, log_path.as_str(), options)?;
@@ -268,6 +272,12 @@ fn path_of_made_file(rt: &HostRuntime, dir: &str, name: &'static str) -> Result<
     } else {
         Err(OpenError::NoFile(name))
     }
+}
+
+// Whether a copy into the folder goes on, or was not finished.
+fn has_part(rt: &HostRuntime, dir: &str) -> Result<bool, OpenError> {
+    let part = path_of_file(rt, dir, "log.part")?;
+    Ok(fs::exists(rt, part.as_str())?)
 }
 
 // The path of a file in the folder, where the name is that of a plain file, or of nothing yet.
@@ -368,12 +378,11 @@ fn look(
 {
     let log2 = open_if_made(rt, dir, "log2", options)?;
     let pages = open_if_made(rt, dir, "pages", options)?;
-    let part = path_of_file(rt, dir, "log.part")?;
     let folder = Folder {
         log: front_of(log)?,
         log2: front_of(log2.as_ref())?,
         pages: pages_front_of(pages.as_ref())?,
-        has_part: fs::exists(rt, part.as_str())?,
+        has_part: has_part(rt, dir)?,
     };
     let logs = belong(&folder)?;
     look_back(rt, &folder, (log, log2.as_ref()), pages.as_ref())?;

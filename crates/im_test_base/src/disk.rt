@@ -15,6 +15,13 @@ fn refused(rt: &HostRuntime, dir: &str) -> Option<Fault> {
     }
 }
 
+// Whether each opening of a folder says that a copy into it was not finished.
+fn is_half_a_copy(rt: &HostRuntime, dir: &str) -> bool {
+    matches!(FileDisk::open(rt, dir), Err(OpenError::Unfinished))
+        && matches!(FileDisk::open_to_read(rt, dir), Err(OpenError::Unfinished))
+        && matches!(FileDisk::open_made(rt, dir), Err(OpenError::Unfinished))
+}
+
 // Writes three bytes into the log of a folder. It answers the refusal of another opening meanwhile.
 fn written(rt: &HostRuntime, dir: &str) -> Result<Option<Fault>, Fail> {
     let mut disk = FileDisk::open(rt, dir)?;
@@ -30,14 +37,11 @@ fn look(rt: &HostRuntime, dir: &str) -> Result<(u64, Result<(), Fault>), Fail> {
     Ok((length, written))
 }
 
-// What is answered while a copy goes into a folder, by an opening and by another copy; and by an opening once the copy has the names of a store, and is held.
-fn copied(
-    rt: &HostRuntime,
-    dir: &str,
-) -> Result<(Option<Fault>, Option<Fault>, Option<Fault>), Fail> {
+// What is answered while a copy goes into a folder, by openings and by another copy; and by an opening once the copy has the names of a store, and is held.
+fn copied(rt: &HostRuntime, dir: &str) -> Result<(bool, Option<Fault>, Option<Fault>), Fail> {
     let mut disk = FileDisk::create_copy(rt, dir)?;
     write_synced(&mut disk, FileId::Log, 0, &[1, 2, 3])?;
-    let half = refused(rt, dir);
+    let half = is_half_a_copy(rt, dir);
     let other = match FileDisk::create_copy(rt, dir) {
         Ok(_) => None,
         Err(error) => Some(error.fault()),
@@ -77,18 +81,11 @@ fn a_folder_has_one_writer(rt: HostRuntime) -> Result<(), Fail> {
 fn half_a_copy_is_no_store(rt: HostRuntime) -> Result<(), Fail> {
     let dir = "im_disk_copy/store";
     let _ = fs::remove_dir_all(&rt, "im_disk_copy");
-    assert!(rt;
-        copied(&rt, dir)?
-            == (
-                Some(Fault::NotAStore),
-                Some(Fault::Device),
-                Some(Fault::Locked)
-            )
-    );
+    assert!(rt; copied(&rt, dir)? == (true, Some(Fault::Device), Some(Fault::Locked)));
     assert!(rt; !fs::exists(&rt, "im_disk_copy/store/log.part")?);
     assert!(rt; looked_at_twice(&rt, dir)? == (3, 3, Some(Fault::Locked)));
     fs::write(&rt, "im_disk_copy/store/log.part", "")?;
-    assert!(rt; refused(&rt, dir) == Some(Fault::NotAStore));
+    assert!(rt; is_half_a_copy(&rt, dir));
     fs::remove_file(&rt, "im_disk_copy/store/log.part")?;
     assert!(rt; refused(&rt, dir).is_none());
     fs::remove_dir_all(&rt, "im_disk_copy")?;
