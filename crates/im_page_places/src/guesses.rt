@@ -31,7 +31,7 @@ impl Model for Guesses {
 impl Guesses {
     /// Of so many frames, none of which has a page.
     pub fn new(alloc: Global, frames: usize) -> Result<Self, Fault>
-        requires { frames ≤ 1024 }
+        requires { frames ≤ 262144 }
         ensures none { IfOk result (λ g. g ≡ replicate frames 0) }
         ensures refused { IfErr result (λ e. e ≡ Memory) }
     {

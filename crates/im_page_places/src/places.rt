@@ -43,7 +43,7 @@ impl Places {
     /// All of so many frames free.
     pub fn new(alloc: Global, frames: usize) -> Result<Self, Fault>
         requires some { 1 ≤ frames }
-        requires most { frames ≤ 1024 }
+        requires most { frames ≤ 262144 }
         ensures none { IfOk result (λ v. v.taken ≡ []) }
         ensures count { IfOk result (λ v. frame_count v ≡ frames) }
         ensures apart { IfOk result AreApart }
@@ -152,7 +152,7 @@ impl Places {
 // So many frames, by use, none of which has a page.
 fn all_unused(alloc: Global, frames: usize) -> Result<LruCache<u32, Option<PageNo>>, Fault>
     requires some { 1 ≤ frames }
-    requires most { frames ≤ 1024 }
+    requires most { frames ≤ 262144 }
     ensures unused { IfOk result (λ c. AreUnused frames c.entries) }
     ensures refused { IfErr result (λ e. e ≡ Memory) }
 {
@@ -166,7 +166,7 @@ fn all_unused(alloc: Global, frames: usize) -> Result<LruCache<u32, Option<PageN
 
 // So many numbers from 0 on, in room for just as many.
 fn all_free(alloc: Global, frames: usize) -> Result<Vec<u32>, Fault>
-    requires { frames ≤ 1024 }
+    requires { frames ≤ 262144 }
     ensures all { IfOk result (λ v. IsAll frames v.items) }
     ensures room { IfOk result (λ v. frames ≤ vec_capacity v) }
     ensures refused { IfErr result (λ e. e ≡ Memory) }

@@ -47,10 +47,10 @@ impl Model for Pool {
 }
 
 impl Pool {
-    /// A pool of so many frames, 8 to 1,024, that holds nothing. All memory is taken here: no other call takes any. Refused `Memory`.
+    /// A pool of so many frames, 8 to 262,144 (1 GiB), that holds nothing. All memory is taken here: no other call takes any. Refused `Memory`.
     pub fn new(alloc: Global, frames: usize) -> Result<Self, Fault>
         requires least { 8 ≤ frames }
-        requires most { frames ≤ 1024 }
+        requires most { frames ≤ 262144 }
         ensures pool { IfOk result (λ pool. pool ≡ record { held = []; frames = frames; gets = 0 }) }
         ensures refused { IfErr result (λ e. e ≡ Memory) }
     {
