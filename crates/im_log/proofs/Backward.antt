@@ -15,7 +15,7 @@ use Rattle.im_log.specs.declared.log_opening.Opening.{Opening}
 use Rattle.im_log.specs.Gates.{IsOfLog}
 use Rattle.im_log.specs.Kept.{HasLog}
 use Rattle.im_log.specs.Spelled.{logged_at, record_size, records_from, batches_records, log_of}
-use Rattle.im_log.specs.Opening.{current_of, rest_of, position_of, HasRead, ReadOn, Ended, Stepped}
+use Rattle.im_log.specs.Opening.{current_of, rest_of, position_of, HasNext, HasRead, ReadOn, Ended, Stepped}
 use Rattle.im_log.proofs.Openings.{rest_long}
 use Rattle.im_log.proofs.Spells.{First, first_is, step, batch_step, log_is}
 
@@ -71,11 +71,11 @@ module _ {D : Type 0} (d : Ghosts D) (base : ℕ) (older : List Logged) where
 
   -- the next batch
   pub read_filled : (old new : Opening) (disk new_disk : D) → HasRead d base older old disk → old.end ≤ old.at → d.seen new_disk ≡ d.seen disk → unread d old.gate disk ≡ in_front (rest_of new ∷ []) (unread d new.gate new_disk)
-      → new.at ≡ 0 → new.behind ≡ old.behind + (new.end + 5) → new.base ≡ old.base → new.failed ≡ false → HasRead d base older new new_disk
-  read_filled old new disk new_disk h done seen is at behind same works =
-      let long : length (rest_of new) ≡ new.end = omega (arith, rest_long new, at) in
-      let start : base + old.behind + 5 ≡ base + position_of new = omega (arith, behind, at) in
-      let after : base + old.behind + (5 + length (rest_of new)) ≡ base + new.behind = omega (arith, behind, long) in
+      → HasNext old new → new.base ≡ old.base → new.failed ≡ false → HasRead d base older new new_disk
+  read_filled old new disk new_disk h done seen is next same works =
+      let long : length (rest_of new) ≡ new.end - new.at = rest_long new in
+      let start : base + old.behind + 5 ≡ base + position_of new = omega (arith, next.behind) in
+      let after : base + old.behind + (5 + length (rest_of new)) ≡ base + new.behind = omega (arith, next.behind, long) in
       record {
         tells = h.tells;
         working = works;
@@ -88,7 +88,7 @@ module _ {D : Type 0} (d : Ghosts D) (base : ℕ) (older : List Logged) where
             (batch_step (base + old.behind) (rest_of new) ahead older all (ap (λ (k : ℕ). records_from 0 k (rest_of new) older) start ∙ in_batch)
             ∙ ap (λ (k : ℕ). batches_records k ahead all) after
             ∙ onward)
-            (omega (arith, room, behind, long));
+            (omega (arith, room, next.behind, long));
       }
 
   -- there is none, and the file spells what was read
@@ -105,7 +105,7 @@ module _ {D : Type 0} (d : Ghosts D) (base : ℕ) (older : List Logged) where
 
 -- before the first record
 pub read_none : {D : Type 0} (d : Ghosts D) (base : ℕ) (gate : Gate) (opening : Opening) (disk : D) → IsOfLog gate → StartsAs gate (d.seen disk Log) → base_of (d.seen disk Log) ≡ base → place_of gate ≡ first_of gate → d.tells → IsMade (d.seen disk Log)
-    → (opening.gate ≡ gate) × (opening.base ≡ base_at gate) × (opening.at ≡ 0) × (opening.end ≡ 0) × (opening.behind ≡ place_of gate) × (opening.failed ≡ false) → HasRead d base [] opening disk
+    → (opening.gate ≡ gate) × (opening.base ≡ base_at gate) × (opening.at ≡ 0) × (opening.end ≡ 0) × (opening.behind ≡ place_of gate) × (opening.failed ≡ false) × (opening.held ≡ 0) → HasRead d base [] opening disk
 read_none d base gate opening disk of starts low first told made is =
     let nothing : opening.end - opening.at ≡ 0 = omega (arith, is.2, is.3) in
     let at : place_of gate ≡ first_gate (d.seen disk Log) = first ∙ starts.first in

@@ -1,5 +1,5 @@
 -- How an opening goes on from record to record.
-use Rattle.std.proofs.Common.{◌≡◌, ℕ, ◌+◌, ◌-◌, ◌<◌, ◌≤◌, ◌^◌, false, List, [], ◌∷◌, length, take, drop, Option, Some, None, MatchOption, Ok, refl, sym, ◌∙◌, ap, subst, arith, length-drop}
+use Rattle.std.proofs.Common.{◌≡◌, ℕ, ◌+◌, ◌-◌, ◌<◌, ◌≤◌, ◌^◌, false, List, [], ◌∷◌, length, take, drop, min, Option, Some, None, MatchOption, Ok, refl, sym, ◌∙◌, ap, subst, arith, length-drop, length-take}
 use Rattle.std.proofs.lemmas.List.{length-take-le, take-take, drop-take, drop-drop}
 use Rattle.im_base_types.specs.declared.file_id.FileId.{FileId}
 use Rattle.im_base_types.specs.declared.file_id.FileId.TheVariants.{Log}
@@ -13,7 +13,7 @@ use Rattle.im_log_gate.specs.Header.{base_of, first_gate, IsMade}
 use Rattle.im_log_record.specs.Reading.{entry_of}
 use Rattle.im_log.specs.declared.log_opening.Opening.{Opening}
 use Rattle.im_log.specs.Spelled.{logged_at, record_size, first_record, records_from, batches_records, spelled_by, log_of}
-use Rattle.im_log.specs.Opening.{rest_of, position_of, IsBegun, IsOpening, Next, NextKept, Ended, Stepped, RefusedBatch}
+use Rattle.im_log.specs.Opening.{ahead_of, rest_of, position_of, HasNext, IsBegun, IsOpening, Next, NextKept, Ended, Stepped, RefusedBatch}
 use Rattle.im_log.specs.declared.log_file.LogFile.{LogFile}
 use Rattle.im_log.specs.Gates.{IsOfLog}
 use Rattle.im_log.specs.Kept.{HasLog}
@@ -34,7 +34,41 @@ rest_is items at end size le =
     sym (ap (λ (k : ℕ). drop size (take k (drop at items))) e ∙ drop-take size m (drop at items) ∙ ap (take m) (drop-drop size at items))
 
 pub rest_long : (opening : Opening) → length (rest_of opening) ≡ opening.end - opening.at
-rest_long opening = length-take-le (opening.end - opening.at) (drop opening.at opening.bytes.items) (omega (arith, opening.sized, opening.within, opening.ends, length-drop opening.at opening.bytes.items))
+rest_long opening = length-take-le (opening.end - opening.at) (drop opening.at opening.bytes.items) (omega (arith, opening.holds, opening.within, opening.ends, length-drop opening.at opening.bytes.items))
+
+-- ---- bytes that were read ahead
+
+-- those that come after some of them
+front_on : (a there : List ℕ) (k : ℕ) → k ≤ length a → a ≡ take (length a) there → drop k a ≡ take (length (drop k a)) (drop k there)
+front_on a there k le is =
+    let m : ℕ = length (drop k a) in
+    let n : length a ≡ k + m = omega (arith, length-drop k a, le) in
+    ap (λ (l : List ℕ). drop k l) (is ∙ ap (λ (j : ℕ). take j there) n) ∙ drop-take k m there
+
+module _ (items : List ℕ) (end held size : ℕ) (fits : size + 5 < length (take (held - end) (drop end items))) where
+  within_held : size + 5 < held - end
+  within_held =
+      let cut : length (take (held - end) (drop end items)) ≡ min (held - end) (length (drop end items)) = length-take (held - end) (drop end items) in
+      omega (arith, fits, cut)
+
+  -- the records of the batch that is gone past
+  pub batch_is : take size (drop 5 (take (held - end) (drop end items))) ≡ take (end + 5 + size - (end + 5)) (drop (end + 5) items)
+  batch_is =
+      let same : size ≡ end + 5 + size - (end + 5) = omega arith in
+      ap (λ (l : List ℕ). take size l) (sym (rest_is items end held 5 (omega (arith, within_held))))
+      ∙ take-take size (held - (end + 5)) (drop (end + 5) items) (omega (arith, within_held))
+      ∙ ap (λ (k : ℕ). take k (drop (end + 5) items)) same
+
+  -- what was read and comes after it
+  pub ahead_on : (file : List ℕ) (place : ℕ) → take (held - end) (drop end items) ≡ take (length (take (held - end) (drop end items))) (drop place file)
+      → take (held - (end + 5 + size)) (drop (end + 5 + size) items) ≡ take (length (take (held - (end + 5 + size)) (drop (end + 5 + size) items))) (drop (place + (size + 5)) file)
+  ahead_on file place is =
+      let a : List ℕ = take (held - end) (drop end items) in
+      let k : ℕ = size + 5 in
+      let past : end + k ≡ end + 5 + size = omega arith in
+      subst (λ (x : ℕ). take (held - x) (drop x items) ≡ take (length (take (held - x) (drop x items))) (drop (place + (size + 5)) file)) past
+      (subst (λ (l : List ℕ). l ≡ take (length l) (drop (place + (size + 5)) file)) (sym (rest_is items end held k (omega (arith, within_held))))
+      (front_on a (drop place file) k (omega (arith, fits)) is ∙ ap (λ (l : List ℕ). take (length (drop k a)) l) (drop-drop k place file)))
 
 pub in_front_some : (b : List ℕ) (o : Option (List (List ℕ))) (ahead : List (List ℕ)) → in_front (b ∷ []) o ≡ Some ahead → (rest : List (List ℕ)) × (o ≡ Some rest) × (ahead ≡ b ∷ rest)
 in_front_some b None ahead is = let never : None ≡ Some ahead = is in cc
@@ -96,16 +130,16 @@ module _ {D : Type 0} (d : Ghosts D) (base : ℕ) (all older : List Logged) wher
 
   -- the next batch
   pub filled : (old new : Opening) (disk new_disk : D) → IsOpening d base all older old disk → old.end ≤ old.at → d.seen new_disk ≡ d.seen disk → unread d old.gate disk ≡ in_front (rest_of new ∷ []) (unread d new.gate new_disk)
-      → new.at ≡ 0 → new.behind ≡ old.behind + (new.end + 5) → new.base ≡ old.base → new.failed ≡ false → IsOpening d base all older new new_disk
-  filled old new disk new_disk h done seen is at behind same works =
+      → HasNext old new → new.base ≡ old.base → new.failed ≡ false → IsOpening d base all older new new_disk
+  filled old new disk new_disk h done seen is next same works =
       let parts = in_front_some (rest_of new) (unread d new.gate new_disk) h.ahead (sym is ∙ h.unread) in
       let onward : batches_records (base + old.behind) (rest_of new ∷ parts.0) older ≡ Some all =
       ap (λ (l : List Logged). batches_records (base + old.behind) (rest_of new ∷ parts.0) l) (batch_done old disk h done)
       ∙ ap (λ (bs : List (List ℕ)). batches_records (base + old.behind) bs h.mid) (sym parts.2) ∙ h.onward in
       let t = batch_taken (base + old.behind) (rest_of new) parts.0 older all onward in
-      let long : length (rest_of new) ≡ new.end = omega (arith, rest_long new, at) in
-      let start : base + position_of new ≡ base + old.behind + 5 = omega (arith, behind, at) in
-      let after : base + new.behind ≡ base + old.behind + (5 + length (rest_of new)) = omega (arith, behind, long) in
+      let long : length (rest_of new) ≡ new.end - new.at = rest_long new in
+      let start : base + position_of new ≡ base + old.behind + 5 = omega (arith, next.behind) in
+      let after : base + new.behind ≡ base + old.behind + (5 + length (rest_of new)) = omega (arith, next.behind, long) in
       record {
         tells = h.tells;
         working = works;
@@ -118,7 +152,7 @@ module _ {D : Type 0} (d : Ghosts D) (base : ℕ) (all older : List Logged) wher
         ahead = parts.0;
         unread = parts.1;
         onward = ap (λ (k : ℕ). batches_records k parts.0 t.mid) after ∙ t.onward;
-        room = omega (arith, h.room, behind, long, ap size_of parts.2);
+        room = omega (arith, h.room, next.behind, long, ap size_of parts.2);
       }
 
   -- there is none
@@ -171,7 +205,7 @@ log_batches base file all is = by_batches base (first_gate file) (batches (first
 
 -- an opening before its first record
 pub started : {D : Type 0} (d : Ghosts D) (base : ℕ) (all : List Logged) (gate : Gate) (opening : Opening) (disk : D) → IsOfLog gate → StartsAs gate (d.seen disk Log) → place_of gate ≡ first_of gate → d.tells → HasLog base all (d.seen disk Log)
-    → (opening.gate ≡ gate) × (opening.base ≡ base_at gate) × (opening.at ≡ 0) × (opening.end ≡ 0) × (opening.behind ≡ place_of gate) × (opening.failed ≡ false) → IsOpening d base all [] opening disk
+    → (opening.gate ≡ gate) × (opening.base ≡ base_at gate) × (opening.at ≡ 0) × (opening.end ≡ 0) × (opening.behind ≡ place_of gate) × (opening.failed ≡ false) × (opening.held ≡ 0) → IsOpening d base all [] opening disk
 started d base all gate opening disk of starts first told has is =
     let bs = log_batches base (d.seen disk Log) all has.spells in
     let nothing : 0 ≡ opening.end - opening.at = omega (arith, is.2, is.3) in
@@ -195,14 +229,22 @@ started d base all gate opening disk of starts first told has is =
       room = omega (arith, room, behind);
     }
 
+-- where nothing was read
+pub nothing_ahead : (opening : Opening) (there : List ℕ) → opening.held ≡ 0 → ahead_of opening ≡ take (length (ahead_of opening)) there
+nothing_ahead opening there none =
+    let z : opening.held - opening.end ≡ 0 = omega (arith, none) in
+    let nothing : ahead_of opening ≡ [] = ap (λ (k : ℕ). take k (drop opening.end opening.bytes.items)) z in
+    nothing ∙ ap (λ (l : List ℕ). take (length l) there) (sym nothing)
+
 -- the opening on any bytes, before its first record
 pub begun_start : {D : Type 0} (d : Ghosts D) (gate : Gate) (opening : Opening) (disk : D) → (d.tells → StartsAs gate (d.seen disk Log)) → has_failed gate ≡ false → IsReading d gate disk
-    → (opening.gate ≡ gate) × (opening.base ≡ base_at gate) × (opening.at ≡ 0) × (opening.end ≡ 0) × (opening.behind ≡ place_of gate) × (opening.failed ≡ false) → IsBegun d opening disk
+    → (opening.gate ≡ gate) × (opening.base ≡ base_at gate) × (opening.at ≡ 0) × (opening.end ≡ 0) × (opening.behind ≡ place_of gate) × (opening.failed ≡ false) × (opening.held ≡ 0) → IsBegun d opening disk
 begun_start d gate opening disk starts usable reading is = record {
   reading = subst (λ (g : Gate). IsReading d g disk) (sym is.0) reading;
   starts = λ told. subst (λ (g : Gate). StartsAs g (d.seen disk Log)) (sym is.0) (starts told);
   working = λ works. ap has_failed is.0 ∙ usable;
   behind = λ works. is.4 ∙ sym (ap place_of is.0);
+  ahead = λ works told. nothing_ahead opening (drop (place_of opening.gate) (d.seen disk Log)) is.6;
 }
 
 -- what an answer of none says, and one of some

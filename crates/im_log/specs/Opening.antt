@@ -26,11 +26,14 @@ rest_of opening = take (opening.end - opening.at) (drop opening.at opening.bytes
 abbrev pub position_of : Opening → ℕ
 position_of opening = opening.behind - (opening.end - opening.at)
 
--- It stands where it stood.
-pub record StaysAt (old new : Opening) : Type 0 where
-  pub at : new.at ≡ old.at
-  pub end : new.end ≡ old.end
-  pub behind : new.behind ≡ old.behind
+-- It stands at the first record of the next batch, which has some bytes.
+pub record HasNext (old new : Opening) : Type 0 where
+  pub some : new.at < new.end
+  pub behind : new.behind ≡ old.behind + (new.end - new.at + 5)
+
+-- Those that were read of the file and come after its batch.
+abbrev pub ahead_of : Opening → List ℕ
+ahead_of opening = take (opening.held - opening.end) (drop opening.end opening.bytes.items)
 
 -- It read a record, and stands behind it.
 pub record Stepped (old : Opening) (lsn : ℕ) (new : Opening) : Type 0 where
@@ -52,6 +55,7 @@ module _ {D : Type 0} (d : Ghosts D) where
     pub starts : d.tells → StartsAs opening.gate (d.seen disk Log)
     pub working : opening.failed ≡ false → has_failed opening.gate ≡ false
     pub behind : opening.failed ≡ false → opening.behind ≡ place_of opening.gate
+    pub ahead : opening.failed ≡ false → d.tells → ahead_of opening ≡ take (length (ahead_of opening)) (drop (place_of opening.gate) (d.seen disk Log))
 
   -- The disk tells its bytes, the made file spells all these records, and what was read of them are the older ones.
   pub record IsOpening (base : ℕ) (all older : List Logged) (opening : Opening) (disk : D) : Type 0 where

@@ -5,8 +5,8 @@
 //! Above this layer nobody speaks of bytes, batches or gates. There is a list of records, the newest first, and a front of it
 //! that is durable. An append adds a record to the list, a force makes all of it durable, and a stop at any moment leaves a
 //! front between the durable one and the whole. An LSN is the base and the place of a record's first byte in the file; LSNs
-//! rise. Records wait for a force in a buffer of 16,384 bytes that is made at the opening: an append that fits makes no device
-//! call and takes no memory, and one that does not fit forces first.
+//! rise. Records wait for a force in a buffer that is made at the opening, of one batch of 16,384 bytes or of several: an append that
+//! fits makes no device call and takes no memory, and one that does not fit forces first.
 //!
 //! `IsOpen` holds on any bytes and is asked and given by each call. `IsLog` says which list the log is, over a disk that tells
 //! its bytes; what each call keeps of it stands in its clause `kept`. After a call that failed every later one is refused: how an append or
@@ -14,6 +14,9 @@
 //!
 //! `LogFile::switch_log` goes on in the other file, where nothing waits: the log has no record then, and its first LSN is above all of the one from before, which is the
 //! other log. A stop within leaves files whose current log is the one, with its records, or the other (`HasEither`).
+//!
+//! An opening reads the file into that buffer, by a length call and a read for as much as there is room for, and goes over the batches that came. So it takes
+//! no more memory, and its calls go by the bytes of the log and not by the number of its batches.
 //!
 //! Nothing that was written is read again but by `read_at` and `read_span`: an append costs a copy of its record into the buffer, and
 //! a force one write of what is buffered and one of a byte, however long the log is. `im_bench log --time` measures it on the model

@@ -1,4 +1,4 @@
-//! A log is opened behind the last batch of its file, which is read once.
+//! A log is opened after the last batch of its file, which is read once, several batches at a time.
 
 ghost use Rattle.std.specs.Prelude.{◌*◌, ◌≡◌, ◌+◌, ◌-◌, ◌^◌, ◌<◌, ◌≤◌, ◌⊎◌, ◌↔◌, true, false, not, is_ok, length, IfErr, IfOk, OnOk, List, ℕ, Some};
 ghost use Rattle.im_log.specs.Gates.{IsOfLog};
@@ -25,14 +25,16 @@ pub struct Opening {
     gate: Gate,
     /// The LSN of the file's first byte.
     base: u64,
-    /// The batch that was read last.
+    /// What was read of the file last stands at its front: the batch whose records are taken, and what comes after it.
     bytes: Vec<u8>,
     /// Where the record stands in it that was read last.
     from: usize,
     /// Where the next one stands in it.
     at: usize,
-    /// How many bytes the batch has.
+    /// Where the batch ends in it.
     end: usize,
+    /// How many bytes were read.
+    held: usize,
     /// The place behind the batch in the file.
     behind: u64,
     failed: bool,
@@ -40,7 +42,8 @@ pub struct Opening {
     ghost sized: { 16389 ≤ length bytes.items },
     ghost ordered: { from ≤ at },
     ghost within: { at ≤ end },
-    ghost ends: { end ≤ 16384 },
+    ghost ends: { end ≤ held },
+    ghost holds: { held ≤ length bytes.items },
     ghost after: { end ≤ behind },
     ghost placed: { base + behind ≤ 2 ^ 62 },
     ghost of_gate: { base ≡ base_at gate },
@@ -66,16 +69,16 @@ impl Opening {
     ghost use Rattle.im_log_record.specs.Reading.{entry_of, Gives};
     ghost use Rattle.im_log.specs.LogFile.{IsOpen, IsLog};
     ghost use Rattle.im_log.specs.Spelled.{first_record};
-    ghost use Rattle.im_log.specs.Opening.{current_of, rest_of, position_of, IsBegun, IsOpening, NextKept, HasRead, ReadOn, StaysAt, Stepped, RefusedBatch, Ended};
+    ghost use Rattle.im_log.specs.Opening.{ahead_of, current_of, rest_of, position_of, IsBegun, IsOpening, NextKept, HasNext, HasRead, ReadOn, Stepped, RefusedBatch, Ended};
 
-    /// Begins to read a log at its first gate. It takes the room for a batch, in which the log's records will wait.
+    /// Begins to read a log at its first gate. It takes the room for so many batches, into which the file is read, and in which the log's records will wait.
     ///
     /// Refused `Memory`.
     pub fn start(alloc: Global, gate: Gate, batches: usize) -> Result<Opening, Fault>
         requires few { (1 ≤ batches) × (batches ≤ 64) }
         requires of_log { IsOfLog gate }
         requires first { place_of gate ≡ first_of gate }
-        ensures opening { IfOk result (λ opening. (opening.gate ≡ gate) × (opening.base ≡ base_at gate) × (opening.at ≡ 0) × (opening.end ≡ 0) × (opening.behind ≡ place_of gate) × (opening.failed ≡ false)) }
+        ensures opening { IfOk result (λ opening. (opening.gate ≡ gate) × (opening.base ≡ base_at gate) × (opening.at ≡ 0) × (opening.end ≡ 0) × (opening.behind ≡ place_of gate) × (opening.failed ≡ false) × (opening.held ≡ 0)) }
         ensures causes { IfErr result (λ e. e ≡ Memory) }
     {
         let base = gate.base();
@@ -87,22 +90,23 @@ impl Opening {
             from: 0,
             at: 0,
             end: 0,
+            held: 0,
             behind,
             failed: false,
         })
     }
 
-    // Reads the next batch, if there is one.
-    fn fill<D: Disk>(&mut self, disk: &mut D) -> Result<bool, Fault>
+    // Reads the next batch alone, if there is one. A batch that the format refuses is refused here.
+    fn read_alone<D: Disk>(&mut self, disk: &mut D) -> Result<bool, Fault>
         requires begun { IsBegun D.Disk self.old disk.old }
         requires working { self.old.failed ≡ false }
         ensures begun { IsBegun D.Disk self.new disk.new }
         ensures reads { Reads D.Disk disk.old disk.new }
         ensures closed { result ≡ Ok false → IsReady D.Disk self.new.gate disk.new }
         ensures none { result ≡ Ok false → D.tells → unread D.Disk self.old.gate disk.old ≡ Some [] }
-        ensures stays { result ≡ Ok false → StaysAt self.old self.new }
+        ensures stays { result ≡ Ok false → self.new.behind ≡ self.old.behind }
         ensures one { result ≡ Ok true → D.tells → unread D.Disk self.old.gate disk.old ≡ in_front (rest_of self.new ∷ []) (unread D.Disk self.new.gate disk.new) }
-        ensures read { result ≡ Ok true → (self.new.at ≡ 0) × (1 ≤ self.new.end) × (self.new.behind ≡ self.old.behind + (self.new.end + 5)) }
+        ensures read { result ≡ Ok true → HasNext self.old self.new }
         ensures refused { result ≡ Err NotAStore → D.tells → RefusedBatch self.old.base (place_of self.old.gate) (unread D.Disk self.old.gate disk.old) }
         ensures base { self.new.base ≡ self.old.base }
         ensures failed { self.new.failed ≡ not (is_ok result) }
@@ -110,6 +114,10 @@ impl Opening {
         ensures device { result ≡ Err Device ↔ (D.failed disk.new ≡ true) }
     {
         self.failed = true;
+        self.from = 0;
+        self.at = 0;
+        self.end = 0;
+        self.held = 0;
         let next = self.gate.read_into(disk, &mut self.bytes)?;
         if let Some(size) = next {
             let behind = self.gate.place();
@@ -117,12 +125,104 @@ impl Opening {
                 return Err(Fault::NotAStore);
             }
             self.behind = behind;
-            self.from = 0;
-            self.at = 0;
             self.end = size;
+            self.held = size;
         }
         self.failed = false;
         Ok(next.is_some())
+    }
+
+    // Reads the file from the gate on, as much as the room takes.
+    fn read_ahead<D: Disk>(&mut self, disk: &mut D) -> Result<(), Fault>
+        requires begun { IsBegun D.Disk self.old disk.old }
+        requires working { self.old.failed ≡ false }
+        ensures begun { IsBegun D.Disk self.new disk.new }
+        ensures reads { Reads D.Disk disk.old disk.new }
+        ensures unread { unread D.Disk self.new.gate disk.new ≡ unread D.Disk self.old.gate disk.old }
+        ensures place { (place_of self.new.gate ≡ place_of self.old.gate) × (self.new.behind ≡ self.old.behind) }
+        ensures base { self.new.base ≡ self.old.base }
+        ensures failed { self.new.failed ≡ not (is_ok result) }
+        ensures causes { IfErr result (λ e. e ≡ Device) }
+        ensures device { result ≡ Err Device ↔ (D.failed disk.new ≡ true) }
+    {
+        self.failed = true;
+        self.from = 0;
+        self.at = 0;
+        self.end = 0;
+        self.held = 0;
+        self.held = self.gate.read_ahead(disk, &mut self.bytes)?;
+        self.failed = false;
+        Ok(())
+    }
+
+    // Goes on to the next batch, where all of it and the next gate were read.
+    fn pass<D: Disk>(&mut self, disk: &D) -> Result<bool, Fault>
+        requires begun { IsBegun D.Disk self.old disk.now }
+        requires working { self.old.failed ≡ false }
+        ensures begun { IsBegun D.Disk self.new disk.now }
+        ensures stays { result ≡ Ok false → (self.new.gate ≡ self.old.gate) × (self.new.behind ≡ self.old.behind) }
+        ensures one { result ≡ Ok true → D.tells → unread D.Disk self.old.gate disk.now ≡ in_front (rest_of self.new ∷ []) (unread D.Disk self.new.gate disk.now) }
+        ensures read { result ≡ Ok true → HasNext self.old self.new }
+        ensures refused { IfErr result (λ e. (e ≡ NotAStore) × (D.tells → RefusedBatch self.old.base (place_of self.old.gate) (unread D.Disk self.old.gate disk.now))) }
+        ensures base { self.new.base ≡ self.old.base }
+        ensures failed { self.new.failed ≡ not (is_ok result) }
+    {
+        let Some(size) = self.gate.pass(disk, &self.bytes[self.end..self.held]) else {
+            return Ok(false);
+        };
+        let behind = self.gate.place();
+        if behind > LAST_LSN - self.base {
+            self.failed = true;
+            return Err(Fault::NotAStore);
+        }
+        self.behind = behind;
+        self.from = self.end + 5;
+        self.at = self.end + 5;
+        self.end = self.end + 5 + size;
+        Ok(true)
+    }
+
+    // What was read shows that the log ends at the gate.
+    fn is_at_end<D: Disk>(&self, disk: &D) -> bool
+        requires begun { IsBegun D.Disk self.now disk.now }
+        requires working { self.now.failed ≡ false }
+        ensures closed { result ≡ true → IsReady D.Disk self.now.gate disk.now }
+        ensures none { result ≡ true → D.tells → unread D.Disk self.now.gate disk.now ≡ Some [] }
+    {
+        self.gate.is_closed(disk, &self.bytes[self.end..self.held])
+    }
+
+    // Goes on to the next batch, if there is one: in what was read, or else in what is then read from the gate on. One of which the room does not take all
+    // is read alone, and so is one that is refused.
+    fn fill<D: Disk>(&mut self, disk: &mut D) -> Result<bool, Fault>
+        requires begun { IsBegun D.Disk self.old disk.old }
+        requires working { self.old.failed ≡ false }
+        ensures begun { IsBegun D.Disk self.new disk.new }
+        ensures reads { Reads D.Disk disk.old disk.new }
+        ensures closed { result ≡ Ok false → IsReady D.Disk self.new.gate disk.new }
+        ensures none { result ≡ Ok false → D.tells → unread D.Disk self.old.gate disk.old ≡ Some [] }
+        ensures one { result ≡ Ok true → D.tells → unread D.Disk self.old.gate disk.old ≡ in_front (rest_of self.new ∷ []) (unread D.Disk self.new.gate disk.new) }
+        ensures read { result ≡ Ok true → HasNext self.old self.new }
+        ensures refused { result ≡ Err NotAStore → D.tells → RefusedBatch self.old.base (place_of self.old.gate) (unread D.Disk self.old.gate disk.old) }
+        ensures base { self.new.base ≡ self.old.base }
+        ensures failed { self.new.failed ≡ not (is_ok result) }
+        ensures causes { IfErr result (λ e. (e ≡ NotAStore) ⊎ (e ≡ Device)) }
+        ensures device { result ≡ Err Device ↔ (D.failed disk.new ≡ true) }
+    {
+        if self.pass(disk)? {
+            return Ok(true);
+        }
+        if self.is_at_end(disk) {
+            return Ok(false);
+        }
+        self.read_ahead(disk)?;
+        if self.pass(disk)? {
+            return Ok(true);
+        }
+        if self.is_at_end(disk) {
+            return Ok(false);
+        }
+        self.read_alone(disk)
     }
 
     // Moves on to the next record of the batch.
@@ -132,6 +232,7 @@ impl Opening {
         ensures refused { IfErr result (λ e. (e ≡ NotAStore) × (first_record (rest_of self.old) ≡ None)) }
         ensures gate { self.new.gate ≡ self.old.gate }
         ensures behind { self.new.behind ≡ self.old.behind }
+        ensures ahead { ahead_of self.new ≡ ahead_of self.old }
         ensures base { self.new.base ≡ self.old.base }
         ensures failed { self.new.failed ≡ not (is_ok result) }
     {
@@ -199,7 +300,7 @@ impl Opening {
     }
 }
 
-/// Opens a log at its first gate: reads its records to the last, and checks each. The file is read once.
+/// Opens a log at its first gate: reads its records to the last, and checks each. The file is read once, but for batches of which not all came.
 ///
 /// Refused `NotAStore` where the bytes are no log; `Device`; `Memory`.
 pub fn open_log<D: Disk>(

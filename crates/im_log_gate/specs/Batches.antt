@@ -1,6 +1,6 @@
 -- What the bytes of a log file stand for. A gate is a byte; behind it stand four bytes of length, the records of its batch
 -- and the next gate.
-use Rattle.std.specs.Prelude.{All, ◌≤◌, ◌≡◌, ◌⊎◌, ℕ, zero, suc, ◌+◌, ◌<◌, ◌==◌, nat_le, nat_lt, Bool, ◌&&◌, if◌then◌else◌, List, [], ◌∷◌, ◌++◌, length, take, drop, Option, Some, None}
+use Rattle.std.specs.Prelude.{All, ◌≤◌, ◌≡◌, ◌⊎◌, ℕ, zero, suc, ◌+◌, ◌<◌, ◌==◌, nat_le, nat_lt, Bool, ◌&&◌, if◌then◌else◌, List, [], ◌∷◌, ◌++◌, length, take, drop, slice_index, Option, Some, None}
 use Rattle.std.specs.Int.{w32, from_be_bytes, to_be_bytes}
 
 -- The length that the four bytes behind a gate give. Here and below, `behind` is all that stands behind the gate.
@@ -14,6 +14,13 @@ batch behind = take (batch_length behind) (drop 4 behind)
 -- The length is in range, and the records and the next gate lie within the file.
 abbrev pub is_whole : List ℕ → Bool
 is_whole behind = nat_le 1 (batch_length behind) && nat_le (batch_length behind) 16384 && nat_lt (4 + batch_length behind) (length behind)
+
+-- These bytes begin with an open gate, all of its batch and the next gate.
+pub record BeginsWhole (bytes : List ℕ) : Type 0 where
+  pub gate : slice_index bytes 0 ≡ 1
+  pub some : 1 ≤ batch_length (drop 1 bytes)
+  pub most : batch_length (drop 1 bytes) ≤ 16384
+  pub room : batch_length (drop 1 bytes) + 5 < length bytes
 
 -- These before the others; none where the others are refused.
 abbrev pub in_front : List (List ℕ) → Option (List (List ℕ)) → Option (List (List ℕ))

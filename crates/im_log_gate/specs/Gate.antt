@@ -1,5 +1,5 @@
 -- What a gate knows of the log file that it stands in.
-use Rattle.std.specs.Prelude.{◌≡◌, ◌≢◌, ℕ, Bool, false, List, slice_index, Option}
+use Rattle.std.specs.Prelude.{◌≡◌, ◌≢◌, ℕ, Bool, false, List, length, take, drop, slice_index, Option}
 use Rattle.im_base_types.specs.declared.file_id.FileId.{FileId}
 use Rattle.im_base_disk.specs.declared.disk.Disk.{Ghosts}
 use Rattle.im_base_disk.specs.Disk.{Only}
@@ -58,6 +58,10 @@ module _ {D : Type 0} (d : Ghosts D) where
   -- Those from the gate on.
   abbrev pub unread : Gate → D → Option (List (List ℕ))
   unread gate disk = batches_from (place_of gate) (d.seen disk (file_of gate))
+
+  -- These bytes are those of the file from the gate on.
+  abbrev pub IsFromGate : Gate → D → List ℕ → Type 0
+  IsFromGate gate disk bytes = has_failed gate ≡ false → d.tells → bytes ≡ take (length bytes) (drop (place_of gate) (d.seen disk (file_of gate)))
 
   -- The gate stands after whole batches, and all of its file is on the disk.
   pub record IsReading (gate : Gate) (disk : D) : Type 0 where

@@ -11,6 +11,7 @@ use im_base_types::{BATCH_ROOM, Fault, FileId, LAST_LSN, TxnId};
 use im_log_header::{Header, LogStart};
 use std::alloc::Global;
 
+mod ahead;
 mod switching;
 
 /// Where a log file of the first format has its first gate, in bytes from its start: behind the header.

@@ -34,6 +34,13 @@
 //! `Gate::switch_log` makes the other log file one of the second format with no batch, and goes on in it; `Gate::next_header` says with which header: of the
 //! next generation, and with the LSN of this gate as its base. A stop within leaves the one log or the other as the current one.
 //!
+//! # Reading
+//!
+//! `Gate::read_into` reads one batch, by a length call and three reads. `Gate::read_ahead` fills a room with what the file has from the gate on,
+//! by a length call and one read. In these bytes `Gate::pass` goes past one batch after another, and `Gate::is_closed` sees the gate that ends the
+//! log, both with no call: so many short batches cost no more than one read of their bytes. A batch of which the room does not have all is read again,
+//! from its gate on or alone. So is one that the format refuses, which `read_into` then tells.
+//!
 //! # What it stands on, and its invariant
 //!
 //! It stands on the trait `Disk`, on headers and on how a log goes on in the other file (`im_log_choice`), and makes each change by a write and a sync of one range (`write_synced`). The invariant of a gate
@@ -42,6 +49,7 @@
 //! (`ready_spared`, `reading_spared` in the proofs). What is said of bytes is said of a disk that tells them.
 #![tactic(auto)]
 
+mod ahead;
 mod creation;
 mod gate;
 mod put;

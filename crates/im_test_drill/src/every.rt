@@ -275,7 +275,7 @@ static SWEPT: [(&str, &str, How, &str, u8); 6] = [
         "each_call_fails",
         "life\nbegin\ninsert 1 a 7\ncommit 1\n",
         How::Failing,
-        "failures 126 restarts 828 bad 0\n",
+        "failures 126 restarts 684 bad 0\n",
         0,
     ),
     (

@@ -14,7 +14,11 @@ use std::alloc::Global;
 use std::test::Fail;
 
 // A commit joins the log, and is forced. It answers its LSN.
-fn commit<D: Disk>(disk: &mut D, log: &mut LogFile, transaction: TxnId) -> Result<Lsn, Fault>
+pub(crate) fn commit<D: Disk>(
+    disk: &mut D,
+    log: &mut LogFile,
+    transaction: TxnId,
+) -> Result<Lsn, Fault>
     requires numbered { 1 ≤ transaction }
     requires ready { IsOpen D.Disk log.old disk.old }
     ensures ready { OnOk result (IsOpen D.Disk log.new disk.new) }
