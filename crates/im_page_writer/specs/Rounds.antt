@@ -1,5 +1,5 @@
 -- What a round of redo keeps: its pages lent, changed by its records, and taken back.
-use Rattle.std.specs.Prelude.{◌≡◌, ◌≢◌, ◌<◌, ◌≤◌, ◌+◌, ◌||◌, ℕ, List, length, slice_index_or, Bool, true, false, if◌then◌else◌, Some, Option, Result, IfErr, IfOk, IfSome}
+use Rattle.std.specs.Prelude.{◌≡◌, ◌≢◌, ◌<◌, ◌≤◌, ◌+◌, ◌||◌, ℕ, List, [], length, slice_index_or, Bool, true, false, if◌then◌else◌, Some, Option, Result, IfErr, IfOk, IfSome}
 use Rattle.std.specs.Map.{keys_of}
 use Rattle.im_base_types.specs.declared.fault.Fault.{Fault}
 use Rattle.im_base_types.specs.declared.fault.Fault.TheVariants.{NotAStore}
@@ -16,7 +16,7 @@ use Rattle.im_page_table.specs.DirtyTable.{entry_in}
 use Rattle.im_page_table.specs.Growth.{Keeps}
 use Rattle.im_page_rounds.specs.declared.round_page.RoundPage.{RoundPage}
 use Rattle.im_page_rounds.specs.Hand.{AllTaken, AreAmong, is_applied}
-use Rattle.im_page_rounds.specs.Rounds.{applied_of_all, changing, redone_all}
+use Rattle.im_page_rounds.specs.Rounds.{applied_of_all, changing, of_page, redone_all}
 use Rattle.im_page_file.specs.Stands.{LeavesCovered}
 use Rattle.im_page_writer.specs.declared.page_writer.PageWriter.{PageWriter}
 use Rattle.im_page_writer.specs.Writing.{LeavesGrown}
@@ -85,19 +85,30 @@ pub record RoundHere (numbers : List ℕ) (point : ℕ) (known : ℕ → Bool) (
   pub others : (q : ℕ) → IsOther numbers (length numbers) q → held_of new.pool q ≡ held_of old.pool q
   pub other_entries : (q : ℕ) → IsOther numbers (length numbers) q → entry_in new.table q ≡ entry_in old.table q
 
+-- ---- the pages that take part
+
+-- Of records in turn these are the changes of the pages that take part, each page's in their order, and no other page's.
+pub record AreOfThose (who : ℕ → Bool) (rs own : List Logged) : Type 0 where
+  pub these : (p : ℕ) → who p ≡ true → of_page p own ≡ of_page p (changing rs)
+  pub others : (p : ℕ) → who p ≡ false → of_page p own ≡ []
+
+-- the writer after the records in turn, where each page that takes part goes past all of them, and every other page stays
+abbrev pub redone_of : (ℕ → Bool) → (ℕ → Bool) → List Logged → Writer → Writer
+redone_of who known rs s = record s { pages = λ q. if who q then (redone_all known rs s).pages q else s.pages q }
+
 module _ {D : Type 0} (d : Ghosts D) (b : Base) (base : ℕ) where
-  -- Each page was as before, the log had Images more, and then the records of a round were redone.
-  pub record RoundFrom (s : Writer) (rs : List Logged) (old : D) (w : PageWriter) (disk : D) : Type 0 where
+  -- Each page was as before, the log had Images more, and then the pages that take part went past the records.
+  pub record RoundFrom (who : ℕ → Bool) (s : Writer) (rs : List Logged) (old : D) (w : PageWriter) (disk : D) : Type 0 where
     pub before : Writer
     pub keeps : Keeps b s before
     pub stops : LeavesCovered d b base s.durable before.log old disk
     -- of which pages a full copy is known
     pub known : ℕ → Bool
-    pub stands : StandsAs d b base (redone_all known rs before) w disk
+    pub stands : StandsAs d b base (redone_of who known rs before) w disk
 
-  -- What a round of these pages keeps, where it is redone; it is refused as no store only where a record is of another page, or a page needs one and does not take it.
-  pub record RoundKept (numbers : List ℕ) (s : Writer) (rs : List Logged) (old : D) (w : PageWriter) (disk : D) (result : Result (Option ℕ) Fault) : Type 0 where
-    pub ok : IfOk result (λ redone. IfSome redone (λ n. RoundFrom s rs old w disk))
-    pub applied : IfOk result (λ redone. IfSome redone (λ n. n ≡ applied_of_all rs (λ q. (s.pages q).page)))
+  -- What a round of these pages keeps, where its own records of all these are redone; it is refused as no store only where a record is of another page, or a page needs one and does not take it.
+  pub record RoundKept (numbers : List ℕ) (who : ℕ → Bool) (s : Writer) (rs own : List Logged) (old : D) (w : PageWriter) (disk : D) (result : Result (Option ℕ) Fault) : Type 0 where
+    pub ok : IfOk result (λ redone. IfSome redone (λ n. RoundFrom who s rs old w disk))
+    pub applied : IfOk result (λ redone. IfSome redone (λ n. n ≡ applied_of_all own (λ q. (s.pages q).page)))
     pub stops : LeavesGrown d b base s old disk
-    pub cause : AreAmong numbers (changing rs) → AllTaken rs (λ q. (s.pages q).page) → IfErr result (λ e. e ≢ NotAStore)
+    pub cause : AreAmong numbers own → AllTaken own (λ q. (s.pages q).page) → IfErr result (λ e. e ≢ NotAStore)

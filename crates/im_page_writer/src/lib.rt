@@ -38,10 +38,10 @@
 //!   `redo_change` applies a record to its page, if the page's LSN is below the record's. Both make frame and entry free as at
 //!   any time, so that redo needs no more frames than a store that runs. A page so loaded or changed counts as changed from the
 //!   redo point on.
-//! - `redo_round` does so for a round: records one after another, whose bytes stand in one part of the log, with the pages that they are
-//!   of, no more than there are frames. Room is made for the entries of all of them, each page is got, and then they are lent in
+//! - `redo_round` does so for a round: all changes of some pages in a run of records whose bytes stand in one part of the log, with those
+//!   pages, no more than there are frames. Room is made for the entries of all of them, each page is got, and then they are lent in
 //!   exchange for spare pages, changed by the records (`redo_records` of im_page_rounds) by any number of workers and taken back. No call
-//!   of the disk comes in between.
+//!   of the disk comes in between. These pages have then gone past the whole run, and no other page has.
 //!
 //! A refusal for want of memory, or since a page does not take a record, leaves the writer working. Each other one fails it, and
 //! from then on each call answers `Failed` and calls no disk (`fails`, `already`).

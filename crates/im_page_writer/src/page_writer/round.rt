@@ -1,5 +1,5 @@
 //! A round of redo: its pages are got, lent, changed by its records, and taken back.
-ghost use Rattle.std.specs.Prelude.{◌≡◌, ◌≢◌, ◌≤◌, ◌<◌, ◌+◌, ◌/◌, ◌%◌, ◌++◌, ◌||◌, ℕ, List, [], Bool, None, Some, Ok, true, false, get_or, is_some, length, vec_len, IfErr, IfOk, IfSome, OnOk};
+ghost use Rattle.std.specs.Prelude.{◌≡◌, ◌≢◌, ◌≤◌, ◌<◌, ◌+◌, ◌/◌, ◌%◌, ◌++◌, ◌||◌, ℕ, List, Bool, None, Some, Ok, true, false, get_or, is_some, length, slice_index_or, vec_len, IfErr, IfOk, IfSome, OnOk};
 ghost use Rattle.std.specs.BTreeMap.{get};
 ghost use Rattle.std.specs.Ordering.{nat_cmp};
 ghost use Rattle.im_base_types.specs.declared.fault.Fault.TheVariants.{NotAStore};
@@ -38,10 +38,10 @@ impl PageWriter {
     ghost use Rattle.im_page_rounds.specs.declared.worker.Worker.{Worker};
     ghost use Rattle.im_page_rounds.specs.Hand.{AllTaken, AreAmong, AreRising, StandIn};
     ghost use Rattle.im_page_rounds.specs.Workers.{HaveRoom, SameRoom, page_in};
-    ghost use Rattle.im_page_rounds.specs.Rounds.{AreFrom, HaveHad, applied_of_all, changing};
+    ghost use Rattle.im_page_rounds.specs.Rounds.{AreFrom, HaveHad, applied_of_all};
     ghost use Rattle.im_page_writer.specs.Outcome.{fault_of, no_page, AllPages, AreLoaded, Flushes, HasPages, Reads, Redoes};
-    ghost use Rattle.im_page_writer.specs.PageWriter.{IsReadyWriter, StandsAs, GoesOn};
-    ghost use Rattle.im_page_writer.specs.Rounds.{AreHeld, AreShown, IsBack, Lends, LendsAll, RoundFrom, RoundHere, RoundKept, TakesBack, entry_after};
+    ghost use Rattle.im_page_writer.specs.PageWriter.{IsReadyWriter, StandsAs, Evicted, GoesOn};
+    ghost use Rattle.im_page_writer.specs.Rounds.{AreHeld, AreOfThose, AreShown, IsBack, Lends, LendsAll, RoundHere, RoundKept, TakesBack, entry_after};
     ghost use Rattle.im_page_writer.specs.Writing.{SameHeld};
 
     // Flushes the least recently used pages that were changed, with others that go next, until none is left.
@@ -127,8 +127,10 @@ impl PageWriter {
 
     /// How many pages may be held.
     pub fn frames(&self) -> usize
-        ensures { result ≡ self.now.pool.frames }
+        ensures frames { result ≡ self.now.pool.frames }
+        ensures some { 1 ≤ result }
     {
+        let _held = self.pool.len();
         self.pool.frames()
     }
 
@@ -138,6 +140,7 @@ impl PageWriter {
         requires working { self.old.failed ≡ false }
         ensures outcome { Reads D.Disk self.old disk.old self.new disk.new (fault_of result) }
         ensures kept { (pages : AllPages) → HasPages D.Disk AreLoaded pages self.old disk.old → IfErr result (λ e. e ≢ NotAStore) }
+        ensures last { (k : ℕ) → k + 1 ≡ length numbers.now → OnOk result (Holds self.new.pool (slice_index_or numbers.now k 0)) }
     {
         for i in 0..numbers.len() {
             self.get(disk, numbers[i])?;
@@ -309,6 +312,7 @@ impl PageWriter {
     fn holds_all(&self, numbers: &[PageNo]) -> bool
         ensures held { result ≡ true → AreHeld numbers.now self.now.pool }
         ensures entries { result ≡ true → length self.now.table + length numbers.now ≤ 1024 }
+        ensures all { AreHeld numbers.now self.now.pool → length self.now.table + length numbers.now ≤ 1024 → result ≡ true }
     {
         for i in 0..numbers.len() {
             if !self.pool.holds(numbers[i]) {
@@ -316,6 +320,22 @@ impl PageWriter {
             }
         }
         self.has_entries_room(numbers.len())
+    }
+
+    // Makes room for the entries of pages, gets them, and answers whether all are held at once, with room for their entries. One page
+    // alone always is: room for one entry is made once more after its get.
+    fn hold_all<D: Disk>(&mut self, disk: &mut D, numbers: &[PageNo]) -> Result<bool, Fault>
+        requires ready { IsReadyWriter D.Disk self.old disk.old }
+        ensures outcome { Reads D.Disk self.old disk.old self.new disk.new (fault_of result) }
+        ensures kept { (pages : AllPages) → HasPages D.Disk AreLoaded pages self.old disk.old → IfErr result (λ e. e ≢ NotAStore) }
+        ensures held { IfOk result (λ held. held ≡ true → AreHeld numbers.now self.new.pool) }
+        ensures entries { IfOk result (λ held. held ≡ true → length self.new.table + length numbers.now ≤ 1024) }
+        ensures one { (pages : AllPages) → HasPages D.Disk AreLoaded pages self.old disk.old → length numbers.now ≡ 1 → IfOk result (λ held. held ≡ true) }
+    {
+        self.make_entries_room(disk, numbers.len())?;
+        self.get_all(disk, numbers)?;
+        self.make_entry_room(disk)?;
+        Ok(self.holds_all(numbers))
     }
 
     // Redoes the records of a round, whose pages are all held. No call of the disk comes between the loan of the pages and their return.
@@ -353,12 +373,15 @@ impl PageWriter {
         applied
     }
 
-    /// Redoes a round: records of the durable log one after another, at these LSNs, whose bytes stand in a part of the log that begins at
-    /// `from`. `numbers` are those of their pages, in rising order, no more than there are frames. Room is made for their entries first,
-    /// then each page is got; then they are lent to the workers, who have a spare page for each, changed by the records, and taken back:
-    /// page i of the round is worker i's, mod how many workers there are. Each calls `turn` with its number before its first record. It
-    /// answers how many records were applied, which is the same for any number of workers, as are the pages; or none, where the pages can't
-    /// all be held at once with room for their entries: then no record was, and each can be redone alone.
+    /// Redoes a round: records of the durable log at these LSNs, those of each page in the order of the log, whose bytes stand in a part of
+    /// the log that begins at `from`. `numbers` are those of their pages, in rising order, no more than there are frames. Room is made for
+    /// their entries first, then each page is got; then they are lent to the workers, who have a spare page for each, changed by the
+    /// records, and taken back: page i of the round is worker i's, mod how many workers there are. Each calls `turn` with its number before
+    /// its first record. It answers how many records were applied, which is the same for any number of workers, as are the pages; or none,
+    /// where the pages can't all be held at once with room for their entries: then no record was. One page alone can.
+    ///
+    /// A round may be of some pages of a longer run of records. Then it has all changes of each of those in that run, and these pages have
+    /// gone past all of it, and no other page has.
     ///
     /// Refused `NotAStore` where a page does not take a record, or one is of another page; otherwise as `get` is. Nothing grows, so it is
     /// never refused for want of memory.
@@ -380,16 +403,16 @@ impl PageWriter {
         requires rising { AreRising numbers.now }
         requires ready { IsReadyWriter D.Disk self.old disk.old }
         ensures outcome { Redoes D.Disk no_page self.old self.new disk.new (fault_of result) }
-        ensures kept { (b : Base) (base : ℕ) (s : Writer) (newer front : History) (rs : List Logged) → StandsAs D.Disk b base s self.old disk.old → s.redo_end ≡ None → s.point ≡ point
-            → newer ++ onto rs front ≡ s.durable → AreFrom point rs → HaveHad b front s.pages → StandIn from span.now lsns.now (changing rs)
-            → ((p : ℕ) → is_some (get nat_cmp copies.now p) ≡ true → HasCopy s.durable p s.point) → RoundKept D.Disk b base numbers.now s rs disk.old self.new disk.new result }
-        ensures none { (b : Base) (base : ℕ) (s : Writer) → StandsAs D.Disk b base s self.old disk.old → AreLoaded s → result ≡ Ok None → RoundFrom D.Disk b base s [] disk.old self.new disk.new }
+        ensures kept { (b : Base) (base : ℕ) (s : Writer) (newer front : History) (rs own : List Logged) (who : ℕ → Bool) → StandsAs D.Disk b base s self.old disk.old → s.redo_end ≡ None → s.point ≡ point
+            → newer ++ onto rs front ≡ s.durable → AreFrom point rs → HaveHad b front s.pages → AreOfThose who rs own → StandIn from span.now lsns.now own
+            → ((p : ℕ) → is_some (get nat_cmp copies.now p) ≡ true → HasCopy s.durable p s.point) → RoundKept D.Disk b base numbers.now who s rs own disk.old self.new disk.new result }
+        ensures none { (b : Base) (base : ℕ) (s : Writer) → StandsAs D.Disk b base s self.old disk.old → AreLoaded s → result ≡ Ok None → Evicted D.Disk b base s disk.old self.new disk.new }
+        ensures one { (b : Base) (base : ℕ) (s : Writer) → StandsAs D.Disk b base s self.old disk.old → AreLoaded s → length numbers.now ≡ 1 → result ≢ Ok None }
         ensures few { IfOk result (λ redone. IfSome redone (λ n. n ≤ length lsns.now)) }
         ensures room { SameRoom workers.old workers.new }
     {
-        self.make_entries_room(disk, numbers.len())?;
-        self.get_all(disk, numbers)?;
-        if !self.holds_all(numbers) {
+        let held = self.hold_all(disk, numbers)?;
+        if !held {
             return Ok(None);
         }
         let applied = self.redo_lent(
