@@ -1,7 +1,6 @@
--- Records, as redo applies them round after round.
-use Rattle.std.proofs.Common.{◌≡◌, inl, inr, ℕ, suc, zero, ◌+◌, ◌-◌, ◌<◌, ◌≤◌, List, [], ◌∷◌, ◌++◌, length, take, drop, Bool, true, false, Option, None, Some, refl, sym, ◌∙◌, ap, subst, arith, append_assoc}
-use Rattle.std.specs.Prelude.{if◌then◌else◌, Result, Ok}
-use Rattle.im_base_types.specs.declared.fault.Fault.{Fault}
+-- The records of a segment, as redo comes to them.
+use Rattle.std.proofs.Common.{◌≡◌, inl, inr, ℕ, suc, zero, ◌-◌, ◌<◌, ◌≤◌, List, [], ◌∷◌, ◌++◌, length, take, drop, Bool, true, false, Option, refl, sym, ◌∙◌, ap, subst, arith, append_assoc}
+use Rattle.std.specs.Prelude.{if◌then◌else◌}
 use Rattle.im_base_types.specs.Pages.{Page}
 use Rattle.im_base_types.specs.Records.{Logged}
 use Rattle.im_theory_log.specs.Histories.{Base, History, IsRecordOf, Rises, changes_page}
@@ -14,25 +13,22 @@ use Rattle.im_base_disk.specs.Runs.{Reads}
 use Rattle.im_log.specs.Reading.{SpellsRecord}
 use Rattle.im_log.specs.Span.{IsSpanOf, IsWhole}
 use Rattle.im_log.specs.Spelled.{record_size}
-use Rattle.im_page_rounds.specs.Hand.{AreAmong, StandIn}
-use Rattle.im_page_rounds.specs.Rounds.{AreFrom, applied_of_all, changing}
+use Rattle.im_page_rounds.specs.Hand.{StandIn}
+use Rattle.im_page_rounds.specs.Rounds.{AreFrom, changing}
 use Rattle.im_page_writer.specs.declared.page_writer.PageWriter.{PageWriter}
 use Rattle.im_page_writer.specs.PageWriter.{StandsAs}
-use Rattle.im_page_writer.specs.Rounds.{RoundFrom, RoundKept}
-use Rattle.im_restart_redo.specs.declared.rounds.Passed.{Passed}
 use Rattle.im_restart_redo.specs.Redo.{applied_in, first_lsn, lsns_from}
 use Rattle.im_restart_redo.specs.Applying.{HasPassed, IsApplying}
-use Rattle.im_restart_redo.specs.Changes.{AreNoted}
-use Rattle.im_restart_redo.specs.Rounds.{AreWhole, IsWholeAt, passed_of}
+use Rattle.im_restart_redo.specs.Changes.{record_lsns}
+use Rattle.im_restart_redo.specs.Rounds.{AreWhole, IsWholeAt}
 use Rattle.im_restart_redo.specs.Window.{AreAlsoOf}
 use Rattle.im_restart_redo.proofs.Passing.{count_same, passed_all}
 use Rattle.im_restart_redo.proofs.Within.{record_still, within_read}
-use Rattle.im_restart_redo.proofs.RoundsPassed.{round_counted, round_passed}
-use Rattle.im_restart_redo.proofs.Runs.{record_lsns, onto_has, run_of}
+use Rattle.im_restart_redo.proofs.Runs.{onto_has, run_of}
 
 -- ---- the records of a run, in a part of the log
 
-abbrev AreRecords : History → List Logged → Type 0
+abbrev pub AreRecords : History → List Logged → Type 0
 AreRecords all [] = Unit {0}
 AreRecords all (r ∷ rs) = IsRecordOf r all × AreRecords all rs
 
@@ -40,7 +36,7 @@ in_front : (rs : List Logged) (f : History) (r : Logged) → IsRecordOf r f → 
 in_front [] f r has = has
 in_front (x ∷ rs) f r has = in_front rs (x ∷ f) r (inr has)
 
-records_onto : (rs : List Logged) (f : History) → AreRecords (onto rs f) rs
+pub records_onto : (rs : List Logged) (f : History) → AreRecords (onto rs f) rs
 records_onto [] f = tt
 records_onto (r ∷ rs) f = (in_front rs (r ∷ f) r (inl refl), records_onto rs (r ∷ f))
 
@@ -48,11 +44,11 @@ in_longer : (after h : History) (r : Logged) → IsRecordOf r h → IsRecordOf r
 in_longer [] h r has = has
 in_longer (x ∷ after) h r has = inr (in_longer after h r has)
 
-records_longer : (after h : History) (rs : List Logged) → AreRecords h rs → AreRecords (after ++ h) rs
+pub records_longer : (after h : History) (rs : List Logged) → AreRecords h rs → AreRecords (after ++ h) rs
 records_longer after h [] all = tt
 records_longer after h (r ∷ rs) all = (in_longer after h r all.0, records_longer after h rs all.1)
 
-records_changing : (h : History) (rs : List Logged) → AreRecords h rs → AreRecords h (changing rs)
+pub records_changing : (h : History) (rs : List Logged) → AreRecords h rs → AreRecords h (changing rs)
 records_changing h [] all = tt
 records_changing h (r ∷ rs) all = by (changes_page r.what) (records_changing h rs all.1)
   where
@@ -60,7 +56,7 @@ records_changing h (r ∷ rs) all = by (changes_page r.what) (records_changing h
     by true rest = (all.0, rest)
     by false rest = rest
 
-stand_in : (all : History) (from : ℕ) (span : List ℕ) (cs : List Logged) (lsns : List ℕ) → record_lsns cs ≡ lsns → AreRecords all cs → IsSpanOf all from span → AreWhole from span lsns → StandIn from span lsns cs
+pub stand_in : (all : History) (from : ℕ) (span : List ℕ) (cs : List Logged) (lsns : List ℕ) → record_lsns cs ≡ lsns → AreRecords all cs → IsSpanOf all from span → AreWhole from span lsns → StandIn from span lsns cs
 stand_in all from span [] [] is records shows whole = tt
 stand_in all from span [] (l ∷ lsns) is records shows whole = absurd (cc is)
 stand_in all from span (r ∷ cs) [] is records shows whole = absurd (cc is)
@@ -69,15 +65,6 @@ stand_in all from span (r ∷ cs) (l ∷ lsns) is records shows whole =
     let rest : record_lsns cs ≡ lsns = cc is in
     let spelled = subst (λ (n : ℕ). from ≤ n → IsWhole (drop (n - from) span) → SpellsRecord r (take (record_size (drop (n - from) span)) (drop (n - from) span))) one (shows r records.0) whole.0.low whole.0.whole in
     (record { lsn_is = sym one; low = whole.0.low; whole = whole.0.whole; spelled = spelled }, stand_in all from span cs lsns rest records.1 shows whole.1)
-
-among_in : (all : History) (numbers : List ℕ) (cs : List Logged) (lsns : List ℕ) → record_lsns cs ≡ lsns → AreRecords all cs → AreNoted all numbers lsns → AreAmong numbers cs
-among_in all numbers [] [] is records noted = tt
-among_in all numbers [] (l ∷ lsns) is records noted = absurd (cc is)
-among_in all numbers (r ∷ cs) [] is records noted = absurd (cc is)
-among_in all numbers (r ∷ cs) (l ∷ lsns) is records noted =
-    let one : r.lsn ≡ l = cc is in
-    let rest : record_lsns cs ≡ lsns = cc is in
-    (noted.0 r records.0 one, among_in all numbers cs lsns rest records.1 noted.1)
 
 -- one record more stands there as a whole
 pub whole_more : (from : ℕ) (span lsns : List ℕ) (l : ℕ) → AreWhole from span lsns → IsWholeAt from span l → AreWhole from span (lsns ++ l ∷ [])
@@ -106,11 +93,11 @@ applying_read d b base begun file from lsns count w disk so t new stands reads =
 pub begun_still : {D : Type 0} (d : Ghosts D) (b : Base) (base : ℕ) (begun : History) (file : ℕ → Option Page) (from : D) (lsns : List ℕ) (count : ℕ) (w : PageWriter) (disk : D) (so : IsApplying d b base begun file lsns count from w disk) → AreAlsoOf begun so.passed.now.log
 begun_still d b base begun file from lsns count w disk so r has = record_still b begun so.passed.now.log r so.passed.within.log has
 
--- ---- a round
+-- ---- a segment
 
 module _ {D : Type 0} (d : Ghosts D) (b : Base) (base : ℕ) (begun : History) (file : ℕ → Option Page) (from : D) (lsns : List ℕ) (count : ℕ) (w : PageWriter) (disk : D) (so : IsApplying d b base begun file lsns count from w disk) where
   -- So many records, from the first on, with the state that has gone past all before them.
-  pub record RoundNext (n : ℕ) : Type 0 where
+  pub record SegmentNext (n : ℕ) : Type 0 where
     pub after : History
     pub rs : List Logged
     pub front : History
@@ -119,23 +106,22 @@ module _ {D : Type 0} (d : Ghosts D) (b : Base) (base : ℕ) (begun : History) (
     pub rest : drop n lsns ≡ lsns_from (redo_point begun) after
     pub passed : HasPassed d b base begun file front from w disk
     pub counted : count ≡ applied_in (first_lsn b begun file) (redo_point begun) front
-    pub stand : (at : ℕ) (span : List ℕ) → IsSpanOf begun at span → AreWhole at span (take n lsns) → StandIn at span (take n lsns) (changing rs)
-    pub among : (numbers : List ℕ) → AreNoted begun numbers (take n lsns) → AreAmong numbers (changing rs)
+    pub these : record_lsns (changing rs) ≡ take n lsns
+    pub records : AreRecords begun (changing rs)
 
   kept : WriterKept b so.passed.now
   kept = so.passed.within.stands.writing.stands.kept
 
-  begun_rises : Rises b begun
+  pub begun_rises : Rises b begun
   begun_rises = rises_in b begun so.passed.now.log (front_of_front begun so.passed.now.durable so.passed.now.log so.passed.within.durable kept.front) kept.rises
 
-  pub round_next : (n : ℕ) → n < length lsns → RoundNext (suc n)
-  round_next n lt =
+  pub segment_next : (n : ℕ) → n < length lsns → SegmentNext (suc n)
+  segment_next n lt =
       let run = run_of b (redo_point begun) lsns so.newer so.front (subst (λ (h : History). Rises b h) (sym so.split) begun_rises) n lt so.left_is in
       let front : History = run.before ++ so.front in
       let split : run.after ++ onto run.rs front ≡ begun =
       ap (λ (h : History). run.after ++ h) (sym (onto_front run.rs run.before so.front)) ∙ sym (append_assoc run.after (onto run.rs run.before) so.front) ∙ ap (λ (h : History). h ++ so.front) run.split ∙ so.split in
       let (more, is) = onto_has run.rs front in
-      let records = records_changing begun run.rs (subst (λ (h : History). AreRecords h run.rs) split (records_longer run.after (onto run.rs front) run.rs (records_onto run.rs front))) in
       record {
         after = run.after;
         rs = run.rs;
@@ -145,47 +131,11 @@ module _ {D : Type 0} (d : Ghosts D) (b : Base) (base : ℕ) (begun : History) (
         rest = run.rest;
         passed = passed_all d b base begun file from w disk (run.after ++ more) run.before so.front (append_assoc run.after more front ∙ ap (λ (h : History). run.after ++ h) is ∙ split) run.none so.passed;
         counted = so.counted ∙ sym (count_same (first_lsn b begun file) (redo_point begun) run.before so.front run.none);
-        stand = λ at span shows whole. stand_in begun at span (changing run.rs) (take (suc n) lsns) run.these records shows whole;
-        among = λ numbers noted. among_in begun numbers (changing run.rs) (take (suc n) lsns) run.these records noted;
+        these = run.these;
+        records = records_changing begun run.rs (subst (λ (h : History). AreRecords h run.rs) split (records_longer run.after (onto run.rs front) run.rs (records_onto run.rs front)));
       }
 
-  -- redo goes past them
-  pub round_applied : (n : ℕ) (next : RoundNext n) (t : PageWriter) (new : D) → RoundFrom d b base next.passed.now next.rs disk t new → (applied : ℕ) → applied ≡ applied_of_all next.rs (λ q. (next.passed.now.pages q).page)
-      → IsApplying d b base begun file (drop n lsns) (count + applied) from t new
-  round_applied n next t new done applied is = record {
-    newer = next.after;
-    front = onto next.rs next.front;
-    split = next.split;
-    left_is = next.rest;
-    passed = round_passed d b base begun file from w disk next.front next.passed next.after next.rs next.split next.above t new done;
-    counted = round_counted d b base begun file from w disk next.front next.passed next.after next.rs next.split next.above count applied next.counted is;
-  }
-
-  -- none was redone
-  none_applied : (t : PageWriter) (new : D) → RoundFrom d b base so.passed.now [] disk t new → IsApplying d b base begun file lsns (count + 0) from t new
-  none_applied t new none = record {
-    newer = so.newer;
-    front = so.front;
-    split = so.split;
-    left_is = so.left_is;
-    passed = round_passed d b base begun file from w disk so.front so.passed so.newer [] so.split tt t new none;
-    counted = (let e : count + 0 ≡ count = omega arith in e) ∙ so.counted;
-  }
-
-  -- what the call keeps that redoes them
-  pub round_sound : (n : ℕ) (next : RoundNext n) (numbers : List ℕ) (t : PageWriter) (new : D) (redone : Option ℕ) → RoundKept d b base numbers next.passed.now next.rs disk t new (Ok redone) → (redone ≡ None → RoundFrom d b base so.passed.now [] disk t new)
-      → IsApplying d b base begun file (drop (passed_of n redone).changes lsns) (count + (passed_of n redone).applied) from t new
-  round_sound n next numbers t new (Some applied) one none = round_applied n next t new one.ok applied one.applied
-  round_sound n next numbers t new None one none = none_applied t new (none refl)
-
   -- the records that were planned
-  pub planned_next : (n : ℕ) → 0 < n → n ≤ length lsns → RoundNext n
+  pub planned_next : (n : ℕ) → 0 < n → n ≤ length lsns → SegmentNext n
   planned_next zero some le = absurd (omega (arith, some))
-  planned_next (suc n) some le = round_next n (omega (arith, le))
-
--- where nothing went past, redo stands as before
-pub none_passed : {D : Type 0} (d : Ghosts D) (b : Base) (base : ℕ) (begun : History) (file : ℕ → Option Page) (from : D) (lsns : List ℕ) (count : ℕ) (p : Passed) (w : PageWriter) (disk : D) → p.changes ≡ 0 → p.applied ≤ p.changes
-    → IsApplying d b base begun file (drop p.changes lsns) (count + p.applied) from w disk → IsApplying d b base begun file lsns count from w disk
-none_passed d b base begun file from lsns count p w disk none few so =
-    subst (λ (n : ℕ). IsApplying d b base begun file lsns n from w disk) (let e : count + p.applied ≡ count = omega (arith, none, few) in e)
-    (subst (λ (n : ℕ). IsApplying d b base begun file (drop n lsns) (count + p.applied) from w disk) none so)
+  planned_next (suc n) some le = segment_next n (omega (arith, le))

@@ -1,32 +1,28 @@
--- Redo goes past a round.
+-- What redo makes of pages by records in turn, and that they take these.
 use Rattle.std.proofs.Common.{◌≡◌, ℕ, ◌+◌, ◌<◌, ◌≤◌, List, [], ◌∷◌, ◌++◌, Bool, Option, sym, ◌∙◌, ap, subst, arith, append_assoc}
 use Rattle.std.specs.Prelude.{if◌then◌else◌}
 use Rattle.im_base_types.specs.Pages.{Page}
 use Rattle.im_base_types.specs.Records.{Logged, What, InsertKey, DeleteKey, UndoInsert, UndoDelete, Smo, UndoSmo, DummyClr, Commit, End, Image, Checkpoint, Unreadable}
-use Rattle.im_theory_log.specs.Histories.{Base, History, IsFront, Rises, end_of, page_at}
+use Rattle.im_theory_log.specs.Histories.{Base, History, Rises, end_of, page_at}
 use Rattle.im_theory_log.specs.Copies.{Reaches, onto, redo_all, redo_one}
-use Rattle.im_theory_log.specs.RedoPoints.{redo_point}
 use Rattle.im_theory_log.specs.Writer.{Writer, WriterKept}
 use Rattle.im_theory_log.specs.WriterSteps.{applies}
 use Rattle.im_theory_log.proofs.Redo.{reaches_one}
-use Rattle.im_theory_log.proofs.Histories.{front_of_front, rises_in}
+use Rattle.im_theory_log.proofs.Histories.{rises_in}
 use Rattle.im_base_disk.specs.declared.disk.Disk.{Ghosts}
 use Rattle.im_page_table.specs.Growth.{Keeps}
 use Rattle.im_page_table.specs.KnownCopies.{redone_as}
 use Rattle.im_page_rounds.specs.Hand.{AllTaken}
 use Rattle.im_page_rounds.specs.OnePage.{PageTakes}
 use Rattle.im_page_rounds.specs.Rounds.{AreFrom, HaveHad, applied_of_all, redone_all}
-use Rattle.im_page_rounds.proofs.Rounds.{round_leaves}
 use Rattle.im_restart_redo.proofs.Runs.{onto_has}
 use Rattle.im_page_writer.specs.declared.page_writer.PageWriter.{PageWriter}
 use Rattle.im_page_writer.specs.Redoing.{TakesRecord}
-use Rattle.im_page_writer.specs.Rounds.{RoundFrom}
-use Rattle.im_restart_redo.specs.Redo.{AreApplicable, applied_in, first_lsn}
+use Rattle.im_restart_redo.specs.Redo.{AreApplicable, applied_in}
 use Rattle.im_restart_redo.specs.Applying.{HasPassed, IsLsnBehind}
 use Rattle.im_restart_redo.proofs.Applying.{applicable_at}
 use Rattle.im_restart_redo.proofs.Counting.{applied_by, lsn_redone, one_counted}
 use Rattle.im_restart_redo.proofs.Reached.{needs_record}
-use Rattle.im_restart_redo.proofs.Within.{within_more}
 
 -- one word for both
 takes_same : (w : What) (g : Page) → TakesRecord w g → PageTakes w g
@@ -49,14 +45,14 @@ rises_under b rs f up = let (newer, is) = onto_has rs f in rises_in b f (onto rs
 
 module _ (b : Base) (first : ℕ → ℕ) (point : ℕ) where
   -- the LSNs of the pages
-  lsns_after : (rs : List Logged) (f : History) (pages : ℕ → Page) → Rises b (onto rs f) → ((p : ℕ) → IsLsnBehind b (first p) f (pages p).lsn) → (p : ℕ) → IsLsnBehind b (first p) (onto rs f) (redo_all rs p (pages p)).lsn
+  pub lsns_after : (rs : List Logged) (f : History) (pages : ℕ → Page) → Rises b (onto rs f) → ((p : ℕ) → IsLsnBehind b (first p) f (pages p).lsn) → (p : ℕ) → IsLsnBehind b (first p) (onto rs f) (redo_all rs p (pages p)).lsn
   lsns_after [] f pages up is p = is p
   lsns_after (r ∷ rs) f pages up is p =
       let here = rises_under b rs (r ∷ f) up in
       lsns_after rs (r ∷ f) (λ q. redo_one r q (pages q)) up (λ q. lsn_redone b (first q) f r here.1 q (pages q) (is q)) p
 
   -- how many were applied
-  counted_after : (rs : List Logged) (f : History) (pages : ℕ → Page) (count : ℕ) → Rises b (onto rs f) → AreFrom point rs → ((p : ℕ) → IsLsnBehind b (first p) f (pages p).lsn) → count ≡ applied_in first point f
+  pub counted_after : (rs : List Logged) (f : History) (pages : ℕ → Page) (count : ℕ) → Rises b (onto rs f) → AreFrom point rs → ((p : ℕ) → IsLsnBehind b (first p) f (pages p).lsn) → count ≡ applied_in first point f
       → count + applied_of_all rs pages ≡ applied_in first point (onto rs f)
   counted_after [] f pages count up from is counted = (let e : count + 0 ≡ count = omega arith in e) ∙ counted
   counted_after (r ∷ rs) f pages count up from is counted =
@@ -94,30 +90,17 @@ taken_after b (r ∷ rs) newer later f pages up can has =
     )
 
 -- each page has had the records of the round
-had_after : (b : Base) (known : ℕ → Bool) (rs : List Logged) (f : History) (s : Writer) → HaveHad b f s.pages → HaveHad b (onto rs f) (redone_all known rs s).pages
+pub had_after : (b : Base) (known : ℕ → Bool) (rs : List Logged) (f : History) (s : Writer) → HaveHad b f s.pages → HaveHad b (onto rs f) (redone_all known rs s).pages
 had_after b known [] f s had = had
 had_after b known (r ∷ rs) f s had = had_after b known rs (r ∷ f) (redone_as (known r.page) r s) (λ p. ((had p).0, (let k : r.lsn < r.lsn + 1 = omega arith in k)))
 
-had_keeps : (b : Base) (s t : Writer) (f : History) → Keeps b s t → HaveHad b f s.pages → HaveHad b f t.pages
+pub had_keeps : (b : Base) (s t : Writer) (f : History) → Keeps b s t → HaveHad b f s.pages → HaveHad b f t.pages
 had_keeps b s t f keeps had p = ((keeps.pages p).waits ∙ (had p).0, (let was : end_of b f < (s.pages p).upto = (had p).1 in let up : (s.pages p).upto ≤ (t.pages p).upto = (keeps.pages p).upto in omega (arith, was, up)))
 
 module _ {D : Type 0} (d : Ghosts D) (b : Base) (base : ℕ) (begun : History) (file : ℕ → Option Page) (from : D) (w : PageWriter) (disk : D) (f : History) (so : HasPassed d b base begun file f from w disk)
-    (after : History) (rs : List Logged) (split : after ++ onto rs f ≡ begun) (above : AreFrom (redo_point begun) rs) where
+    (after : History) (rs : List Logged) (split : after ++ onto rs f ≡ begun) where
   kept : WriterKept b so.now
   kept = so.within.stands.writing.stands.kept
-
-  whole : IsFront (onto rs f) so.now.log
-  whole = front_of_front (onto rs f) so.now.durable so.now.log (front_of_front (onto rs f) begun so.now.durable (record { newer = after; is = split }) so.within.durable) kept.front
-
-  rises : Rises b (onto rs f)
-  rises = rises_in b (onto rs f) so.now.log whole kept.rises
-
-  -- where the round stands in the durable log
-  pub round_durable : (so.within.durable.newer ++ after) ++ onto rs f ≡ so.now.durable
-  round_durable = append_assoc so.within.durable.newer after (onto rs f) ∙ ap (λ (h : History). so.within.durable.newer ++ h) split ∙ so.within.durable.is
-
-  pub round_above : AreFrom so.now.point rs
-  round_above = subst (λ (n : ℕ). AreFrom n rs) (sym so.within.point) above
 
   -- its records are taken
   pub round_taken : AreApplicable b begun → AllTaken rs (λ q. (so.now.pages q).page)
@@ -125,19 +108,3 @@ module _ {D : Type 0} (d : Ghosts D) (b : Base) (base : ℕ) (begun : History) (
       let log : so.now.log ≡ (so.within.log.images ++ after) ++ onto rs f = so.within.log.is ∙ ap (λ (h : History). so.within.log.images ++ h) (sym split) ∙ sym (append_assoc so.within.log.images after (onto rs f)) in
       taken_after b rs (so.within.log.images ++ after) after f (λ q. (so.now.pages q).page) (subst (λ (h : History). Rises b h) log kept.rises) (subst (λ (h : History). AreApplicable b h) (sym split) can)
       (λ p. record { upto = (so.now.pages p).upto; past = (so.had p).1; is = subst (λ (h : History). Reaches b h (so.now.pages p).upto p (so.now.pages p).page) log ((kept.pages p).now (so.had p).0) })
-
-  -- redo has gone past it
-  pub round_passed : (t : PageWriter) (new : D) → RoundFrom d b base so.now rs disk t new → HasPassed d b base begun file (onto rs f) from t new
-  round_passed t new done =
-      let s = redone_all done.known rs done.before in
-      let leaves = round_leaves done.known rs done.before in
-      record {
-        now = s;
-        within = within_more d b base begun from so.now w disk so.within done.before s t new done.keeps done.stops done.stands leaves.log leaves.durable leaves.point leaves.redo_end;
-        had = had_after b done.known rs f done.before (had_keeps b so.now done.before f done.keeps so.had);
-        lsns = λ p. subst (λ (g : Page). IsLsnBehind b (first_lsn b begun file p) (onto rs f) g.lsn) (ap (redo_all rs p) (sym (done.keeps.pages p).page) ∙ sym (leaves.page p))
-            (lsns_after b (first_lsn b begun file) (redo_point begun) rs f (λ q. (so.now.pages q).page) rises so.lsns p);
-      }
-
-  pub round_counted : (count n : ℕ) → count ≡ applied_in (first_lsn b begun file) (redo_point begun) f → n ≡ applied_of_all rs (λ q. (so.now.pages q).page) → count + n ≡ applied_in (first_lsn b begun file) (redo_point begun) (onto rs f)
-  round_counted count n counted is = ap (λ (k : ℕ). count + k) is ∙ counted_after b (first_lsn b begun file) (redo_point begun) rs f (λ q. (so.now.pages q).page) count rises above so.lsns counted

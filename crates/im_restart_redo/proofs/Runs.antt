@@ -8,14 +8,11 @@ use Rattle.im_theory_log.specs.Histories.{Base, History, IsRecordOf, Rises, chan
 use Rattle.im_theory_log.specs.Copies.{onto}
 use Rattle.im_theory_log.proofs.Histories.{end_le}
 use Rattle.im_page_rounds.specs.Rounds.{AreFrom, changing}
+use Rattle.im_restart_redo.specs.Changes.{record_lsns}
 use Rattle.im_restart_redo.specs.Redo.{lsns_from}
 use Rattle.im_restart_redo.proofs.Passing.{first_of_rest, passed_newest}
 
 -- ---- lists of records, the oldest first
-
-abbrev pub record_lsns : List Logged → List ℕ
-record_lsns [] = []
-record_lsns (r ∷ rs) = r.lsn ∷ record_lsns rs
 
 abbrev pub oldest_first : History → List Logged
 oldest_first [] = []

@@ -4,5 +4,6 @@ pub mod Loading
 pub mod Recovery
 pub mod Redo
 pub mod Rounds
+pub mod Segments
 pub mod Window
 pub mod Within

@@ -13,12 +13,15 @@
 //!    also so for a record that stands before the page's copy in the log: a copy may be older than the records around it, and its
 //!    own LSN says which of them it has.
 //!
-//! The changes are made in rounds (`rounds`). A round is the next changes in a row, as many as are of no more pages than there are
-//! frames, of 256 pages and 4,096 changes at most, and whose records stand in the room, into which the log is read by one read from the
-//! first of them on where it is not there yet (`window`); one change at least. Its pages are got, lent to workers, each of whom changes its
-//! own by their records, and taken back (`PageWriter::redo_round`). The caller lends the room: the larger it is, the fewer reads. What else
-//! rounds need, workers with a spare page for each page among it, is made before the first call of the disk (`round_room`), so that want of
-//! memory is told with nothing done.
+//! The changes are made in segments (`segment`). A segment is the next changes in a row, as many as have records that stand in the room, of
+//! 524,288 at most, into which the log is read by one read from the first of them on where it is not there yet (`window`); one change at
+//! least. They are put in order of pages, those of a page in order of LSNs, and then made page after page: each page is got once a segment,
+//! however many frames there are. Changes of different pages do not meet, so the pages come out as in the order of the log.
+//!
+//! The pages of a segment are taken in rounds (`rounds`), of no more than there are frames and of 256 at most. A round's pages are got, lent
+//! to workers, each of whom changes its own by their records, and taken back (`PageWriter::redo_round`). The caller lends the room: the
+//! larger it is, the fewer reads and gets. What else is needed, workers with a spare page for each page of a round among it, is made before
+//! the first call of the disk (`round_room`), so that want of memory is told with nothing done.
 //!
 //! For a caller who can start no threads, `redo_alone` applies the records in the calling thread, one by one (`alone`). Both promise the
 //! same, for any number of workers.
@@ -41,8 +44,10 @@
 //! `lawful_is_applicable`, in proofs/Applicable, gives `AreApplicable` of each lawful log over a tree whose words speak of leaves
 //! (`IsOnLeaves`).
 //!
-//! Between its calls redo has gone past a front of the log (`HasPassed`): no page waits, and each has had all records of that front.
-//! Records that change no page, and those below the redo point, are gone past in the proof alone.
+//! At a segment's ends redo has gone past a front of the log (`HasPassed`): no page waits, and each has had all records of that front.
+//! Within it the log is passed up to an LSN that is a function of the page (`HasPassedTo`): pages that are done have had the segment's
+//! records, and the others none of them (`IsWithinSegment`). A stop there leaves what a stop at its ends does, as each page has the records
+//! below its own LSN. Records that change no page, and those below the redo point, are gone past in the proof alone.
 //!
 //! It stands on the writer of pages, on the codec of records, and on the definitions of analysis.
 #![tactic(auto)]
@@ -53,6 +58,7 @@ mod records;
 mod redoing;
 mod round_room;
 mod rounds;
+mod segment;
 mod window;
 
 pub use alone::redo_alone;

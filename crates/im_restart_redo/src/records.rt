@@ -16,7 +16,7 @@ ghost use Rattle.im_restart_redo.specs.Changes.{AreOwn, lsns_of};
 ghost use Rattle.im_restart_redo.specs.Window.{Shows};
 
 use crate::round_room::RoundRoom;
-use crate::rounds::redo_some;
+use crate::segment::{Segment, redo_segment};
 use crate::window::Window;
 use im_base_disk::Disk;
 use im_base_types::{Fault, Lsn, PageNo, WorkerStart};
@@ -63,7 +63,7 @@ pub(crate) fn redo_one<D: Disk>(
     Ok(applied)
 }
 
-/// Makes these changes again, round after round, and answers how many pages took theirs.
+/// Makes these changes again, segment after segment, and answers how many pages took theirs.
 pub(crate) fn redo_all<D: Disk, R: Threads + Sync, T: WorkerStart + Sync>(
     rt: &R,
     at_start: &T,
@@ -73,10 +73,11 @@ pub(crate) fn redo_all<D: Disk, R: Threads + Sync, T: WorkerStart + Sync>(
     copies: &BTreeMap<PageNo, Lsn>,
     changes: &[Change],
     room: &mut [u8],
+    segment: &mut Segment,
     rounds: &mut RoundRoom,
 ) -> Result<u64, Fault>
     requires room { 16384 ≤ length room.old }
-    requires frames { rounds.old.most ≤ writer.old.pool.frames }
+    requires pages { 0 < rounds.old.most }
     requires ready { IsReadyWriter D.Disk writer.old disk.old }
     requires working { writer.old.failed ≡ false }
     ensures outcome { Recovers D.Disk no_page writer.old writer.new disk.new (fault_of result) }
@@ -87,11 +88,11 @@ pub(crate) fn redo_all<D: Disk, R: Threads + Sync, T: WorkerStart + Sync>(
     let mut count = 0;
     let mut done = 0;
     let mut window = Window::empty();
-    for _round in 0..changes.len() {
+    for _segment in 0..changes.len() {
         if done >= changes.len() {
             break;
         }
-        let passed = redo_some(
+        let passed = redo_segment(
             rt,
             at_start,
             writer,
@@ -101,6 +102,7 @@ pub(crate) fn redo_all<D: Disk, R: Threads + Sync, T: WorkerStart + Sync>(
             &changes[done..],
             &mut window,
             room,
+            segment,
             rounds,
         )?;
         done += passed.changes;

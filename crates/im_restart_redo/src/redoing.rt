@@ -16,6 +16,7 @@ ghost use Rattle.im_restart_redo.specs.Redo.{AreApplicable, RedoneKept};
 use crate::copies::load_all;
 use crate::records::redo_all;
 use crate::round_room::RoundRoom;
+use crate::segment::Segment;
 use im_base_disk::Disk;
 use im_base_types::{Fault, Lsn, PageNo, WorkerStart};
 use im_page_writer::PageWriter;
@@ -25,8 +26,8 @@ use std::collections::BTreeMap;
 use std::thread::Threads;
 
 /// Brings the pages of a writer that was just opened to what the whole durable log made of them: the noted copies are loaded in
-/// rising page number, and then the records that change a page, from the redo point on, are applied to their pages, round after
-/// round, by so many workers, each of which calls `turn` with its number before its first record of a round: pages and count are the same
+/// rising page number, and then the records that change a page, from the redo point on, are applied to their pages, segment of the log
+/// after segment, and within one page after page, by so many workers, each of which calls `turn` with its number before its first record of a round: pages and count are the same
 /// for any number. `copies` has the LSN of each noted copy, and `changes` those of the records, each with its page. Records are read again into `room`,
 /// of 16,384 bytes at least. It answers how many records were applied: those that change a page whose LSN was lower than theirs as redo first had it.
 ///
@@ -59,6 +60,7 @@ pub fn redo<D: Disk, R: Threads + Sync, T: WorkerStart + Sync>(
         return Err(Fault::Failed);
     }
     let mut rounds = RoundRoom::new(alloc, writer.frames(), changes.len(), workers)?;
+    let mut segment = Segment::new(alloc, rounds.longest)?;
     load_all(writer, disk, point, copies, room)?;
     redo_all(
         rt,
@@ -69,6 +71,7 @@ pub fn redo<D: Disk, R: Threads + Sync, T: WorkerStart + Sync>(
         copies,
         changes,
         room,
+        &mut segment,
         &mut rounds,
     )
 }

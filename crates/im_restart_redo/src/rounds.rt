@@ -1,25 +1,22 @@
 //! Rounds: changes made again at once to the pages that they are of.
 
-ghost use Rattle.std.specs.Prelude.{◌≡◌, ◌≢◌, ◌≤◌, ◌<◌, ◌+◌, ℕ, List, false, if◌then◌else◌, length, take, Option, IfErr, IfOk, OnOk};
-ghost use Rattle.im_base_types.specs.declared.fault.Fault.TheVariants.{NotAStore};
+ghost use Rattle.std.specs.Prelude.{◌≡◌, ◌≤◌, ◌<◌, ◌+◌, ℕ, List, false, if◌then◌else◌, length, take, Option, IfOk, OnOk};
 ghost use Rattle.im_base_types.specs.Pages.{Page};
-ghost use Rattle.im_base_disk.specs.Runs.{Reads};
 ghost use Rattle.im_theory_log.specs.Histories.{Base, History};
 ghost use Rattle.im_theory_log.specs.RedoPoints.{redo_point};
-ghost use Rattle.im_theory_log.specs.Writer.{Writer};
 ghost use Rattle.im_restart_analysis.specs.CopyLsns.{AreCopies};
-ghost use Rattle.im_page_rounds.specs.Hand.{AreRising};
 ghost use Rattle.im_page_writer.specs.Outcome.{fault_of, no_page};
-ghost use Rattle.im_page_writer.specs.PageWriter.{IsReadyWriter, StandsAs};
-ghost use Rattle.im_restart_redo.specs.Changes.{AreNoted, AreOwn, lsns_of};
+ghost use Rattle.im_page_writer.specs.PageWriter.{IsReadyWriter};
+ghost use Rattle.im_restart_redo.specs.Changes.{lsns_of};
 ghost use Rattle.im_restart_redo.specs.Redo.{AreApplicable};
 ghost use Rattle.im_restart_redo.specs.Recovery.{Recovers};
 ghost use Rattle.im_restart_redo.specs.Applying.{IsApplying};
 ghost use Rattle.im_restart_redo.specs.Rounds.{AreWhole, PassedKept, passed_of};
-ghost use Rattle.im_restart_redo.specs.Window.{AreAlsoOf, Shows};
+ghost use Rattle.im_restart_redo.specs.Segments.{AreOrdered, IsWithinSegment, PartKept, lsns_in};
+ghost use Rattle.im_restart_redo.specs.Window.{Shows};
 
 use crate::records::redo_one;
-use crate::round_room::{RoundRoom, is_whole_at};
+use crate::round_room::RoundRoom;
 use crate::window::Window;
 use im_base_disk::Disk;
 use im_base_types::{Fault, Lsn, PageNo, WorkerStart};
@@ -42,8 +39,8 @@ fn one_if(applied: bool) -> u64
     if applied { 1 } else { 0 }
 }
 
-// Makes the next change alone.
-fn redo_first<D: Disk>(
+/// Makes the next change alone.
+pub(crate) fn redo_first<D: Disk>(
     writer: &mut PageWriter,
     disk: &mut D,
     point: Lsn,
@@ -73,56 +70,6 @@ fn redo_first<D: Disk>(
     })
 }
 
-// Whether a window has all of the round that was planned in it: it begins where the round does, the round has all changes, or the window has the
-// record of the next one too.
-fn has_all(window: Window, room: &[u8], planned: usize, changes: &[Change]) -> bool
-    requires some { 0 < length changes.now }
-    requires used { window.used ≤ length room.now }
-{
-    if window.from == changes[0].lsn || planned >= changes.len() {
-        return true;
-    }
-    is_whole_at(changes[planned].lsn, window.from, &room[..window.used])
-}
-
-// Plans the next round. The log is read to the room from its first record on, where that has not all of it.
-fn plan_round<D: Disk>(
-    writer: &mut PageWriter,
-    disk: &mut D,
-    changes: &[Change],
-    window: &mut Window,
-    room: &mut [u8],
-    rounds: &mut RoundRoom,
-) -> Result<(), Fault>
-    requires some { 0 < length changes.now }
-    requires used { window.old.used ≤ length room.old }
-    requires ready { IsReadyWriter D.Disk writer.old disk.old }
-    requires working { writer.old.failed ≡ false }
-    ensures outcome { Recovers D.Disk no_page writer.old writer.new disk.new (fault_of result) }
-    ensures kept { (b : Base) (base : ℕ) (s : Writer) → StandsAs D.Disk b base s writer.old disk.old → OnOk result (StandsAs D.Disk b base s writer.new disk.new) }
-    ensures shows { (b : Base) (base : ℕ) (s : Writer) (log : History) → StandsAs D.Disk b base s writer.old disk.old → AreAlsoOf log s.log → Shows log window.old room.old
-        → OnOk result (Shows log window.new room.new) }
-    ensures sound { IfErr result (λ e. e ≢ NotAStore) }
-    ensures reads { Reads D.Disk disk.old disk.new }
-    ensures room { length room.new ≡ length room.old }
-    ensures used { window.new.used ≤ length room.new }
-    ensures most { rounds.new.most ≡ rounds.old.most }
-    ensures within { OnOk result (length rounds.new.lsns.items ≤ length changes.now) }
-    ensures lsns { OnOk result (rounds.new.lsns.items ≡ take (length rounds.new.lsns.items) (lsns_of changes.now)) }
-    ensures whole { OnOk result (AreWhole window.new.from (take window.new.used room.new) rounds.new.lsns.items) }
-    ensures noted { (log : History) → AreOwn log changes.now → OnOk result (AreNoted log rounds.new.numbers.items rounds.new.lsns.items) }
-    ensures rising { OnOk result (AreRising rounds.new.numbers.items) }
-    ensures few { OnOk result (length rounds.new.numbers.items ≤ rounds.new.most) }
-{
-    rounds.plan(window.from, &room[..window.used], changes);
-    if has_all(*window, room, rounds.lsns.len(), changes) {
-        return Ok(());
-    }
-    window.refill(writer, disk, changes[0].lsn, room)?;
-    rounds.plan(window.from, &room[..window.used], changes);
-    Ok(())
-}
-
 // What went past by a round of so many records, of which so many were applied, if it was redone.
 fn passed_by(planned: usize, redone: Option<u64>) -> Passed
     ensures { result ≡ passed_of planned redone }
@@ -139,10 +86,10 @@ fn passed_by(planned: usize, redone: Option<u64>) -> Passed
     }
 }
 
-// Redoes the round that was planned, of no more pages than there are frames. None of its changes went past where its pages can't all be held
-// at once: then nothing was redone.
+// Makes the changes of the next pages, of so many at most: from the first of these changes on, which stand in order of pages, each page's to
+// its last. None went past where the pages can't all be held at once: then nothing was redone. One page alone can.
 #[tactic(auto, using(crate::proofs::Rooms::room_fewer, im_page_rounds::proofs::Places::room_same, im_page_rounds::proofs::Places::some_on))]
-fn redo_planned<D: Disk, R: Threads + Sync, T: WorkerStart + Sync>(
+fn redo_pages<D: Disk, R: Threads + Sync, T: WorkerStart + Sync>(
     rt: &R,
     at_start: &T,
     writer: &mut PageWriter,
@@ -151,22 +98,28 @@ fn redo_planned<D: Disk, R: Threads + Sync, T: WorkerStart + Sync>(
     copies: &BTreeMap<PageNo, Lsn>,
     window: Window,
     room: &[u8],
+    most: usize,
+    changes: &[(PageNo, Lsn)],
     rounds: &mut RoundRoom,
 ) -> Result<Passed, Fault>
-    requires some { 0 < length rounds.old.lsns.items }
+    requires some { 0 < length changes.now }
+    requires pages { 0 < most }
+    requires few { most ≤ rounds.old.most }
+    requires order { AreOrdered changes.now }
+    requires fits { length changes.now ≤ rounds.old.longest }
     requires used { window.used ≤ length room.now }
-    requires rising { AreRising rounds.old.numbers.items }
-    requires few { length rounds.old.numbers.items ≤ rounds.old.most }
-    requires frames { rounds.old.most ≤ writer.old.pool.frames }
     requires ready { IsReadyWriter D.Disk writer.old disk.old }
     ensures outcome { Recovers D.Disk no_page writer.old writer.new disk.new (fault_of result) }
     ensures most { rounds.new.most ≡ rounds.old.most }
-    ensures passed { IfOk result (λ passed. (passed.changes ≤ length rounds.old.lsns.items) × (passed.applied ≤ length rounds.old.lsns.items) × (passed.applied ≤ passed.changes)) }
-    ensures kept { (b : Base) (base : ℕ) (begun : History) (file : ℕ → Option Page) (from : D) (lsns : List ℕ) (count : ℕ) → IsApplying D.Disk b base begun file lsns count from writer.old disk.old
-        → length rounds.old.lsns.items ≤ length lsns → rounds.old.lsns.items ≡ take (length rounds.old.lsns.items) lsns → AreWhole window.from (take window.used room.now) rounds.old.lsns.items
-        → AreNoted begun rounds.old.numbers.items rounds.old.lsns.items → Shows begun window room.now → AreApplicable b begun → point ≡ redo_point begun → AreCopies point copies.now begun
-        → PassedKept D.Disk b base begun file lsns count from writer.new disk.new result }
+    ensures longest { rounds.new.longest ≡ rounds.old.longest }
+    ensures passed { IfOk result (λ passed. (passed.changes ≤ length changes.now) × (passed.applied ≤ passed.changes)) }
+    ensures kept { (b : Base) (base : ℕ) (begun : History) (file : ℕ → Option Page) (from : D) (all : List (ℕ × ℕ)) (later : List ℕ) (count : ℕ) → IsWithinSegment D.Disk b base begun file all changes.now later count from writer.old disk.old
+        → AreWhole window.from (take window.used room.now) (lsns_in changes.now) → Shows begun window room.now → AreApplicable b begun → point ≡ redo_point begun → AreCopies point copies.now begun
+        → PartKept D.Disk b base begun file all changes.now later count from writer.new disk.new result }
+    ensures one { (b : Base) (base : ℕ) (begun : History) (file : ℕ → Option Page) (from : D) (all : List (ℕ × ℕ)) (later : List ℕ) (count : ℕ) → IsWithinSegment D.Disk b base begun file all changes.now later count from writer.old disk.old
+        → most ≡ 1 → IfOk result (λ passed. 0 < passed.changes) }
 {
+    rounds.plan(most, changes);
     let planned = rounds.lsns.len();
     let redone = writer.redo_round(
         rt,
@@ -183,44 +136,48 @@ fn redo_planned<D: Disk, R: Threads + Sync, T: WorkerStart + Sync>(
     Ok(passed_by(planned, redone))
 }
 
-/// Makes the next changes: those that are one round, and one at least.
-pub(crate) fn redo_some<D: Disk, R: Threads + Sync, T: WorkerStart + Sync>(
+/// Makes the changes of the next pages, of one at least: from the first of these changes on, which stand in order of pages, each page's to its
+/// last.
+///
+/// Refused `NotAStore` where the pages can't even be held one by one, which no store leads to.
+pub(crate) fn redo_part<D: Disk, R: Threads + Sync, T: WorkerStart + Sync>(
     rt: &R,
     at_start: &T,
     writer: &mut PageWriter,
     disk: &mut D,
     point: Lsn,
     copies: &BTreeMap<PageNo, Lsn>,
-    changes: &[Change],
-    window: &mut Window,
-    room: &mut [u8],
+    window: Window,
+    room: &[u8],
+    changes: &[(PageNo, Lsn)],
     rounds: &mut RoundRoom,
 ) -> Result<Passed, Fault>
     requires some { 0 < length changes.now }
-    requires room { 16384 ≤ length room.old }
-    requires used { window.old.used ≤ length room.old }
-    requires frames { rounds.old.most ≤ writer.old.pool.frames }
+    requires pages { 0 < rounds.old.most }
+    requires order { AreOrdered changes.now }
+    requires fits { length changes.now ≤ rounds.old.longest }
+    requires used { window.used ≤ length room.now }
     requires ready { IsReadyWriter D.Disk writer.old disk.old }
-    requires working { writer.old.failed ≡ false }
     ensures outcome { Recovers D.Disk no_page writer.old writer.new disk.new (fault_of result) }
-    ensures room { length room.new ≡ length room.old }
-    ensures used { window.new.used ≤ length room.new }
     ensures most { rounds.new.most ≡ rounds.old.most }
+    ensures longest { rounds.new.longest ≡ rounds.old.longest }
     ensures passed { IfOk result (λ passed. (0 < passed.changes) × (passed.changes ≤ length changes.now) × (passed.applied ≤ passed.changes)) }
-    ensures kept { (b : Base) (base : ℕ) (begun : History) (file : ℕ → Option Page) (from : D) (count : ℕ) → IsApplying D.Disk b base begun file (lsns_of changes.now) count from writer.old disk.old
-        → AreOwn begun changes.now → Shows begun window.old room.old → AreApplicable b begun → point ≡ redo_point begun → AreCopies point copies.now begun → PassedKept D.Disk b base begun file (lsns_of changes.now) count from writer.new disk.new result }
-    ensures shows { (b : Base) (base : ℕ) (begun : History) (file : ℕ → Option Page) (from : D) (count : ℕ) → IsApplying D.Disk b base begun file (lsns_of changes.now) count from writer.old disk.old
-        → AreOwn begun changes.now → Shows begun window.old room.old → AreApplicable b begun → point ≡ redo_point begun → AreCopies point copies.now begun → OnOk result (Shows begun window.new room.new) }
+    ensures kept { (b : Base) (base : ℕ) (begun : History) (file : ℕ → Option Page) (from : D) (all : List (ℕ × ℕ)) (later : List ℕ) (count : ℕ) → IsWithinSegment D.Disk b base begun file all changes.now later count from writer.old disk.old
+        → AreWhole window.from (take window.used room.now) (lsns_in changes.now) → Shows begun window room.now → AreApplicable b begun → point ≡ redo_point begun → AreCopies point copies.now begun
+        → PartKept D.Disk b base begun file all changes.now later count from writer.new disk.new result }
 {
-    plan_round(writer, disk, changes, window, room, rounds)?;
-    if rounds.lsns.len() == 0 {
-        return redo_first(writer, disk, point, copies, changes, window, room);
-    }
-    let passed = redo_planned(
-        rt, at_start, writer, disk, point, copies, *window, room, rounds,
+    let most = rounds.most;
+    let passed = redo_pages(
+        rt, at_start, writer, disk, point, copies, window, room, most, changes, rounds,
     )?;
-    if passed.changes == 0 {
-        return redo_first(writer, disk, point, copies, changes, window, room);
+    if passed.changes > 0 {
+        return Ok(passed);
     }
-    Ok(passed)
+    let alone = redo_pages(
+        rt, at_start, writer, disk, point, copies, window, room, 1, changes, rounds,
+    )?;
+    if alone.changes == 0 {
+        return Err(Fault::NotAStore);
+    }
+    Ok(alone)
 }

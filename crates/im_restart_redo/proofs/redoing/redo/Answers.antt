@@ -36,8 +36,27 @@ returns-in_err-rounds-clause-kept g c b base begun file is can at copies changes
       stops = leaves_now d b base begun from (opened b begun file) c.args.writer.now from within;
     }
 
-pub redo_all-requires-clause-frames : goal.redo_all-requires-clause-frames
-redo_all-requires-clause-frames g c = omega (arith, c.in_ok-rounds.ensures.few, c.frames.ensures, c.in_ok-load_all.ensures.outcome.frames)
+pub returns-in_err-segment-clause-outcome : goal.returns-in_err-segment-clause-outcome
+returns-in_err-segment-clause-outcome g c =
+    let r = c.from_residual-in_err-segment.result in
+    recovery_own g.D.Disk {m = mild} refl refl refl r (unmoved g.D.Disk c.args.writer.now c.args.disk.now (sym c.has_failed.ensures ∙ c.if-has_failed.false) c.requires.ready)
+    (err_on r c.in_err-segment.field-0.0 _ c.from_residual-in_err-segment.ensures.1 (ap mild c.in_err-segment.ensures.refused))
+
+pub returns-in_err-segment-clause-memory : goal.returns-in_err-segment-clause-memory
+returns-in_err-segment-clause-memory g c is = (refl, refl)
+
+pub returns-in_err-segment-clause-kept : goal.returns-in_err-segment-clause-kept
+returns-in_err-segment-clause-kept g c b base begun file is can at copies changes =
+    let d = g.D.Disk in
+    let from = c.args.disk.now in
+    let within = within_opened d b base begun from file c.args.writer.now from (goes_on_start d b base (opened b begun file) c.args.writer.now from (g.met.D.Disk.only_now from) is) in
+    record {
+      sound = sound_on c.from_residual-in_err-segment.result _ _ c.from_residual-in_err-segment.ensures.1 (λ same. let clash : Memory ≡ NotAStore = sym c.in_err-segment.ensures.refused ∙ same in cc clash);
+      stops = leaves_now d b base begun from (opened b begun file) c.args.writer.now from within;
+    }
+
+pub redo_all-requires-clause-pages : goal.redo_all-requires-clause-pages
+redo_all-requires-clause-pages g c = omega (arith, c.in_ok-rounds.ensures.some)
 
 pub returns-in_err-load_all-clause-outcome : goal.returns-in_err-load_all-clause-outcome
 returns-in_err-load_all-clause-outcome g c =
