@@ -43,15 +43,15 @@ use im_restart_analysis::{Analysed, Change};
 use std::alloc::Global;
 use std::cmp::max;
 
-// How much of the log redo reads at once, in bytes: no less, and no more.
+// How much of the log redo reads at once, in bytes: no less, and no more. The more it reads, the fewer times it gets a page.
 const LEAST_ROOM: u64 = 65_536;
 
-const MOST_ROOM: u64 = 1_048_576;
+const MOST_ROOM: u64 = 16_777_216;
 
 // How much of the log from an LSN to its end redo reads at once.
 fn room_size(from: Lsn, end: Lsn) -> usize
     ensures least { 65536 ≤ result }
-    ensures most { result ≤ 1048576 }
+    ensures most { result ≤ 16777216 }
 {
     if end <= from || end - from <= LEAST_ROOM {
         return LEAST_ROOM as usize;
