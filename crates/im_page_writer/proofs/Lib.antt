@@ -10,6 +10,7 @@ pub mod Placing
 pub mod NotedCopies
 pub mod Flushing
 pub mod Writers
+mod OldestChanges
 pub mod TableRoom
 pub mod Logging
 pub mod Changing

@@ -1,21 +1,27 @@
--- Behind the flush of the least recently used changed page and a sync, the dirty table has room.
-use Rattle.std.proofs.Common.{◌≡◌, ℕ, ◌+◌, ◌<◌, ◌≤◌, false, true, Bool, List, [], ◌∷◌, length, Option, None, Some, refl, sym, ◌∙◌, ap, subst, arith}
-use Rattle.std.specs.Prelude.{is_some, option_map, if◌then◌else◌, ◌==◌, nat_eq}
+-- Behind the flush of the page that is written next and a sync, the dirty table has room.
+use Rattle.std.proofs.Common.{◌≡◌, inl, inr, ℕ, ◌+◌, ◌<◌, ◌≤◌, false, true, Bool, List, [], ◌∷◌, length, Option, None, Some, refl, sym, ◌∙◌, ap, subst, arith}
+use Rattle.std.specs.Prelude.{is_some, map, option_map, if◌then◌else◌, ◌==◌, nat_eq, nat_lt, IfSome}
 use Rattle.std.specs.Option.{option_map_or}
 use Rattle.std.specs.Map.{lookup, remove_entry}
-use Rattle.std.proofs.lemmas.Bool.{cond-true, cond-false, eq-eqb, ne_eqb}
-use Rattle.im_theory_log.specs.Writer.{DirtyEntry, PageState, IsWritten}
+use Rattle.std.proofs.lemmas.Bool.{cases_Bool, cases_eq, cond-true, cond-false, eq-eqb, ltb-false, ne_eqb}
+use Rattle.im_base_types.specs.declared.tables.DirtyPage.{DirtyPage}
+use Rattle.im_base_disk.specs.declared.disk.Disk.{Ghosts}
+use Rattle.im_theory_log.specs.Histories.{Base}
+use Rattle.im_theory_log.specs.Writer.{DirtyEntry, PageState, Writer, IsWritten}
 use Rattle.im_theory_log.specs.WriterSteps.{synced_page}
 use Rattle.im_page_pool.specs.declared.frame.Frame.{Frame}
 use Rattle.im_page_pool.specs.Pool.{Held, PoolView, frame_of, held_of, last_changed}
 use Rattle.im_page_places.proofs.PlaceLemmas.{length_remove_entry}
 use Rattle.im_page_places.proofs.EntryLemmas.{lookup_others}
 use Rattle.im_page_table.specs.declared.table_entry.TableEntry.{TableEntry}
-use Rattle.im_page_table.specs.DirtyTable.{dirty_entry, entry_in, IsRising, synced_entries, HasEntries}
+use Rattle.im_page_table.specs.DirtyTable.{dirty_entry, entry_in, oldest, IsRising, synced_entries, HasEntries}
+use Rattle.im_page_writer.specs.declared.page_writer.PageWriter.{PageWriter}
 use Rattle.im_page_writer.specs.Writing.{IsShown, IsPooled, SameHeld}
-use Rattle.im_page_writer.specs.PageWriter.{IsOldestWritten}
+use Rattle.im_page_writer.specs.PageWriter.{next_written, IsNextWritten, StandsAs}
 use Rattle.im_page_writer.proofs.Placing.{written_synced}
 use Rattle.im_page_writer.proofs.FlushedRows.{synced_clean}
+use Rattle.im_page_writer.proofs.OldestChanges.{none_changed_in, oldest_there}
+use Rattle.im_page_writer.proofs.Writers.{none_left}
 use Rattle.im_page_table.proofs.Tables.{above_rising, held_synced, not_below, synced_rising}
 
 -- ---- the last page of a list that was changed
@@ -99,6 +105,31 @@ shorter xs es p up all has none =
         let other : q ≡ p → ⊥ = λ same. let clash : None ≡ Some e = sym none ∙ ap (λ (n : ℕ). entry_in xs n) (sym same) ∙ is in cc clash in
         ap (λ o. is_some o) (lookup_others p q es other) ∙ all q e is
 
+-- ---- the entries of a table by their pages
+
+abbrev rows_in : List TableEntry → List (ℕ × DirtyEntry)
+rows_in xs = map (λ x. (x.page, dirty_entry x)) xs
+
+rows_count : (xs : List TableEntry) → length (rows_in xs) ≡ length xs
+rows_count [] = refl
+rows_count (x ∷ xs) = let rest = rows_count xs in omega (arith, rest)
+
+row_there : (xs : List TableEntry) (p : ℕ) → is_some (entry_in xs p) ≡ true → is_some (lookup (nat_eq p) (rows_in xs)) ≡ true
+row_there [] p is = is
+row_there (x ∷ xs) p is = elim (cases_eq x.page p) [
+  | inl here ↦ some_first (nat_eq p x.page) (dirty_entry x) (lookup (nat_eq p) (rows_in xs)) (eq-eqb p x.page (sym here))
+  | inr other ↦ some_rest (nat_eq p x.page) (dirty_entry x) (lookup (nat_eq p) (rows_in xs))
+      (row_there xs p (ap (λ (o : Option DirtyEntry). is_some o) (sym (cond-false (x.page == p) (Some (dirty_entry x)) (entry_in xs p) (ne_eqb x.page p other))) ∙ is))
+]
+
+-- ---- which page is written next
+
+pub next_large : (w : PageWriter) → nat_lt 1024 w.pool.frames ≡ true → next_written w ≡ option_map (λ r. r.page) (oldest None w.table)
+next_large w large = cond-true (nat_lt 1024 w.pool.frames) (option_map (λ r. r.page) (oldest None w.table)) (option_map (λ e. e.0) (last_changed w.pool.held)) large
+
+pub next_small : (w : PageWriter) → nat_lt 1024 w.pool.frames ≡ false → next_written w ≡ option_map (λ e. e.0) (last_changed w.pool.held)
+next_small w small = cond-false (nat_lt 1024 w.pool.frames) (option_map (λ r. r.page) (oldest None w.table)) (option_map (λ e. e.0) (last_changed w.pool.held)) small
+
 -- ---- behind a sync
 
 -- a table in which no page has an entry has none
@@ -119,33 +150,97 @@ module _ (table : List TableEntry) (pages : ℕ → PageState) (up : IsRising ta
       by (Some h) same = refl
       by None same = absurd (let clash : None ≡ Some e = sym (gone p (subst (λ (o : Option Held). IsShown o (pages p)) same (pooled.shows p))) ∙ is in cc clash)
 
-  pub room_left : (old pool : PoolView) → IsPooled pool pages → SameHeld old pool → length pool.held ≤ 1024 → IsOldestWritten (last_changed old.held) pages → length (synced_entries table) < 1024
-  room_left old pool pooled same few done = by (last_changed old.held) refl
+  -- where each page is written none stays
+  none_stay : ((p : ℕ) → IsWritten (pages p).entry) → length (synced_entries table) ≤ 0
+  none_stay all =
+      let empty : List (ℕ × Held) = [] in
+      no_longer (synced_entries table) empty (synced_rising table up) (λ p e here. absurd (let clash : None ≡ Some e = sym (gone p (all p)) ∙ here in cc clash))
+
+  -- in a pool of no more frames than the table has entries there are no more held pages, of which one is written
+  left_in_frames : (old pool : PoolView) → IsPooled pool pages → SameHeld old pool → length pool.held ≤ 1024 → IsNextWritten (option_map (λ e. e.0) (last_changed old.held)) pages → length (synced_entries table) < 1024
+  left_in_frames old pool pooled same few done = by (last_changed old.held) refl
     where
       by : (o : Option (ℕ × Held)) → last_changed old.held ≡ o → length (synced_entries table) < 1024
-      by None is =
-          let all : (p : ℕ) → IsWritten (pages p).entry = subst (λ (o : Option (ℕ × Held)). IsOldestWritten o pages) is done in
-          let empty : List (ℕ × Held) = [] in
-          let none = no_longer (synced_entries table) empty (synced_rising table up) (λ p e here. absurd (let clash : None ≡ Some e = sym (gone p (all p)) ∙ here in cc clash)) in
-          omega (arith, none)
+      by None is = let none = none_stay (subst (λ (o : Option (ℕ × Held)). IsNextWritten (option_map (λ e. e.0) o) pages) is done) in omega (arith, none)
       by (Some e) is =
-          let written : IsWritten (pages e.0).entry = subst (λ (o : Option (ℕ × Held)). IsOldestWritten o pages) is done in
+          let written : IsWritten (pages e.0).entry = subst (λ (o : Option (ℕ × Held)). IsNextWritten (option_map (λ e. e.0) o) pages) is done in
           let less = shorter (synced_entries table) pool.held e.0 (synced_rising table up) (stays_held pool pooled) (same.held e.0 ∙ last_held old.held e is) (gone e.0 written) in
           omega (arith, less, few)
 
--- ---- the flush
+  -- in a larger one each entry that stays is of a page that had one before, as the page had that is written
+  left_of_entries : (before : List TableEntry) → AllIn (synced_entries table) (rows_in before) → length before ≤ 1024 → IsNextWritten (option_map (λ r. r.page) (oldest None before)) pages → length (synced_entries table) < 1024
+  left_of_entries before stay few done = by (oldest None before) refl
+    where
+      by : (o : Option DirtyPage) → oldest None before ≡ o → length (synced_entries table) < 1024
+      by None is = let none = none_stay (subst (λ (o : Option DirtyPage). IsNextWritten (option_map (λ r. r.page) o) pages) is done) in omega (arith, none)
+      by (Some r) is =
+          let written : IsWritten (pages r.page).entry = subst (λ (o : Option DirtyPage). IsNextWritten (option_map (λ r. r.page) o) pages) is done in
+          let less = shorter (synced_entries table) (rows_in before) r.page (synced_rising table up) stay (row_there before r.page (oldest_there before r is)) (gone r.page written) in
+          omega (arith, less, rows_count before, few)
 
-pub oldest_none : (o : Option (ℕ × Held)) (pages : ℕ → PageState) → None ≡ option_map frame_of o → (o ≡ None → (p : ℕ) → IsWritten (pages p).entry) → IsOldestWritten o pages
-oldest_none None pages is all = all refl
-oldest_none (Some e) pages is all = absurd (cc is)
+  -- a page that stays changed was changed before
+  stays_entered : (before : List TableEntry) (first : ℕ → PageState) → HasEntries before first → ((p : ℕ) → IsWritten (first p).entry → IsWritten (pages p).entry) → AllIn (synced_entries table) (rows_in before)
+  stays_entered before first had keeps p e here = row_there before p (by (first p).entry refl)
+    where
+      by : (o : Option DirtyEntry) → (first p).entry ≡ o → is_some (entry_in before p) ≡ true
+      by None none = absurd (let clash : None ≡ Some e = sym (gone p (keeps p (subst (λ (o : Option DirtyEntry). IsWritten o) (sym none) tt))) ∙ here in cc clash)
+      by (Some x) some = ap (λ (o : Option DirtyEntry). is_some o) (had p ∙ some)
 
-pub oldest_some : (o : Option (ℕ × Held)) (pages : ℕ → PageState) (frame : Frame) → Some frame ≡ option_map frame_of o → IsWritten (pages frame.number).entry → IsOldestWritten o pages
-oldest_some None pages frame is done = absurd (cc is)
-oldest_some (Some e) pages frame is done =
-    let same : frame ≡ frame_of e = cc is in
-    subst (λ (f : Frame). IsWritten (pages f.number).entry) same done
+  pub room_left : (v : PageWriter) (pool : PoolView) (first : ℕ → PageState) → HasEntries v.table first → ((p : ℕ) → IsWritten (first p).entry → IsWritten (pages p).entry) → length v.table ≤ 1024
+      → IsPooled pool pages → SameHeld v.pool pool → length pool.held ≤ pool.frames → IsNextWritten (next_written v) pages → length (synced_entries table) < 1024
+  room_left v pool first had keeps few pooled same within done = elim (cases_Bool (nat_lt 1024 v.pool.frames)) [
+    | inl large ↦ left_of_entries v.table (stays_entered v.table first had keeps) few (subst (λ (o : Option ℕ). IsNextWritten o pages) (next_large v large) done)
+    | inr small ↦
+        let frames : v.pool.frames ≤ 1024 = ltb-false 1024 v.pool.frames small in
+        left_in_frames v.pool pool pooled same (omega (arith, frames, within, same.frames)) (subst (λ (o : Option ℕ). IsNextWritten o pages) (next_small v small) done)
+  ]
+
+-- ---- the page that is written next
+
+pub if_number : (o : Option (ℕ × Held)) (r : Option Frame) → r ≡ option_map frame_of o → IfSome r (λ f. option_map (λ e. e.0) o ≡ Some f.number)
+if_number None r is = subst (λ (x : Option Frame). IfSome x (λ f. None ≡ Some f.number)) (sym is) tt
+if_number (Some e) r is = subst (λ (x : Option Frame). IfSome x (λ f. Some e.0 ≡ Some f.number)) (sym is) refl
+
+pub no_number : (o : Option (ℕ × Held)) (p : ℕ) → None ≡ option_map frame_of o → option_map (λ e. e.0) o ≡ Some p → ⊥
+no_number None p is has = cc has
+no_number (Some e) p is has = cc is
+
+pub if_found : (o : Option Held) (p : ℕ) (r : Option Frame) → r ≡ option_map (λ h. frame_of (p, h)) o → IfSome r (λ f. Some p ≡ Some f.number)
+if_found None p r is = subst (λ (x : Option Frame). IfSome x (λ f. Some p ≡ Some f.number)) (sym is) tt
+if_found (Some h) p r is = subst (λ (x : Option Frame). IfSome x (λ f. Some p ≡ Some f.number)) (sym is) refl
+
+pub none_found : (o : Option Held) (p : ℕ) → None ≡ option_map (λ h. frame_of (p, h)) o → o ≡ None
+none_found None p is = refl
+none_found (Some h) p is = absurd (cc is)
+
+-- where there is none, nothing is left to be written of any page
+none_named : (o : Option (ℕ × Held)) → option_map (λ e. e.0) o ≡ None → o ≡ None
+none_named None is = refl
+none_named (Some e) is = absurd (cc is)
+
+none_oldest_named : (o : Option DirtyPage) → option_map (λ r. r.page) o ≡ None → o ≡ None
+none_oldest_named None is = refl
+none_oldest_named (Some r) is = absurd (cc is)
+
+module _ {D : Type 0} (d : Ghosts D) (b : Base) (base : ℕ) (s : Writer) (w : PageWriter) (disk : D) (is : StandsAs d b base s w disk) where
+  none_next : next_written w ≡ None → (p : ℕ) → IsWritten (s.pages p).entry
+  none_next none p = elim (cases_Bool (nat_lt 1024 w.pool.frames)) [
+    | inl large ↦ subst (λ (o : Option DirtyEntry). IsWritten o) (is.writing.entries p) (none_changed_in w.table (none_oldest_named (oldest None w.table) (sym (next_large w large) ∙ none)) p)
+    | inr small ↦ none_left d b base s w disk p is (none_changed w.pool.held (none_named (last_changed w.pool.held) (sym (next_small w small) ∙ none)) p)
+  ]
+
+  -- one that is not held is written
+  pub next_absent : ((p : ℕ) → next_written w ≡ Some p → held_of w.pool p ≡ None) → IsNextWritten (next_written w) s.pages
+  next_absent absent = by (next_written w) refl
+    where
+      by : (o : Option ℕ) → next_written w ≡ o → IsNextWritten o s.pages
+      by None none = none_next none
+      by (Some p) some = subst (λ (o : Option Held). IsShown o (s.pages p)) (absent p some) (is.writing.pooled.shows p)
+
+pub next_done : (o : Option ℕ) (pages : ℕ → PageState) (p : ℕ) → o ≡ Some p → IsWritten (pages p).entry → IsNextWritten o pages
+next_done o pages p is done = subst (λ (n : Option ℕ). IsNextWritten n pages) (sym is) done
 
 -- a sync keeps it
-pub oldest_synced : (o : Option (ℕ × Held)) (pages : ℕ → PageState) → IsOldestWritten o pages → IsOldestWritten o (λ q. synced_page (pages q))
-oldest_synced None pages is = λ p. written_synced (pages p).entry (is p)
-oldest_synced (Some e) pages is = written_synced (pages e.0).entry is
+pub next_synced : (o : Option ℕ) (pages : ℕ → PageState) → IsNextWritten o pages → IsNextWritten o (λ q. synced_page (pages q))
+next_synced None pages is = λ p. written_synced (pages p).entry (is p)
+next_synced (Some p) pages is = written_synced (pages p).entry is

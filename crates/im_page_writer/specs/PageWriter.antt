@@ -1,5 +1,5 @@
 -- What a writer of pages knows of its disk, and what each of its calls keeps.
-use Rattle.std.specs.Prelude.{◌≡◌, ◌≢◌, ◌<◌, ◌≤◌, ◌⊎◌, ℕ, true, false, Option, None, Some, length, Result, IfErr, IfOk, OnOk}
+use Rattle.std.specs.Prelude.{◌≡◌, ◌≢◌, ◌<◌, ◌≤◌, ◌⊎◌, ℕ, true, false, if◌then◌else◌, nat_lt, Option, None, Some, option_map, length, Result, IfErr, IfOk, OnOk}
 use Rattle.im_base_types.specs.declared.fault.Fault.{Fault}
 use Rattle.im_base_types.specs.declared.fault.Fault.TheVariants.{Memory, NotAStore}
 use Rattle.im_base_types.specs.Pages.{Page}
@@ -13,10 +13,10 @@ use Rattle.im_log.specs.Spelled.{logged_at}
 use Rattle.im_theory_log.specs.Writer.{PageState, Writer, IsWritten}
 use Rattle.im_base_disk.specs.declared.disk.Disk.{Ghosts}
 use Rattle.im_log.specs.LogFile.{IsOpen}
-use Rattle.im_page_table.specs.DirtyTable.{entry_in}
+use Rattle.im_page_table.specs.DirtyTable.{entry_in, oldest}
 use Rattle.im_page_table.specs.KnownCopies.{IsAtOrAfter}
 use Rattle.im_page_pool.specs.declared.frame.Frame.{Frame}
-use Rattle.im_page_pool.specs.Pool.{Held, PoolView, last_changed, page_at}
+use Rattle.im_page_pool.specs.Pool.{last_changed, page_at}
 use Rattle.im_page_writer.specs.declared.page_writer.PageWriter.{PageWriter}
 use Rattle.im_page_writer.specs.Synced.{end_of_log, IsKnown}
 use Rattle.im_page_file.specs.Stands.{LeavesCovered}
@@ -35,18 +35,22 @@ pub record IsUnforced (w : PageWriter) (p : ℕ) : Type 0 where
   pub late : IsAtOrAfter w.known.from (page_at w.pool p).lsn
   pub below : (page_at w.pool p).lsn < end_of_log w.log
 
--- of the least recently used page that was changed nothing is left to be written; where there is none, of no page
-abbrev pub IsOldestWritten : Option (ℕ × Held) → (ℕ → PageState) → Type 0
-IsOldestWritten None pages = (p : ℕ) → IsWritten (pages p).entry
-IsOldestWritten (Some e) pages = IsWritten (pages e.0).entry
+-- the page that is written next: the least recently used one that was changed; where the pool has more frames than the dirty table has entries, the one whose first change since its last write is the oldest
+abbrev pub next_written : PageWriter → Option ℕ
+next_written w = if nat_lt 1024 w.pool.frames then option_map (λ r. r.page) (oldest None w.table) else option_map (λ e. e.0) (last_changed w.pool.held)
+
+-- of this page nothing is left to be written; where there is none, of no page
+abbrev pub IsNextWritten : Option ℕ → (ℕ → PageState) → Type 0
+IsNextWritten None pages = (p : ℕ) → IsWritten (pages p).entry
+IsNextWritten (Some p) pages = IsWritten (pages p).entry
 
 module _ {D : Type 0} (d : Ghosts D) where
-  -- On any bytes: the log is open, and works, and the pool has at most as many frames as the dirty table has entries. After a failure it says
-  -- only that the log's last gate stands in its file, unless the disk has failed.
+  -- On any bytes: the log is open, and works, and the pool has at most 262,144 frames. After a failure it says only that the log's last gate
+  -- stands in its file, unless the disk has failed.
   pub record IsReadyWriter (w : PageWriter) (disk : D) : Type 0 where
     pub opened : w.failed ≡ false → IsOpen d w.log disk
     pub works : w.failed ≡ false → w.log.failed ≡ false
-    pub few : w.failed ≡ false → w.pool.frames ≤ 1024
+    pub few : w.failed ≡ false → w.pool.frames ≤ 262144
     pub still : d.failed disk ≡ false → IsOpen d w.log disk
 
   module _ (b : Base) (base : ℕ) where
@@ -111,24 +115,19 @@ module _ {D : Type 0} (d : Ghosts D) where
 
     -- ---- room in the dirty table
 
-    -- The least recently used page that was changed is written, if there is one.
-    pub record FlushedOldest (s : Writer) (old : D) (pool : PoolView) (w : PageWriter) (disk : D) : Type 0 where
+    -- The page that was the next is written, if there was one.
+    pub record FlushedNext (s : Writer) (old : D) (v w : PageWriter) (disk : D) : Type 0 where
       pub now : Writer
       pub on : GoesOn s old now w disk
-      pub oldest : IsOldestWritten (last_changed pool.held) now.pages
+      pub next : IsNextWritten (next_written v) now.pages
 
-    -- what its flush keeps
-    pub record OldestKept (s : Writer) (old : D) (pool : PoolView) (w : PageWriter) (disk : D) (result : Result Unit Fault) : Type 0 where
-      pub ok : OnOk result (FlushedOldest s old pool w disk)
-      pub stops : LeavesGrown d b base s old disk
-
-    -- The table has room. Where it was full, no page was written since the last sync, and nothing is left to be written of the page that was the least recently used of those changed.
+    -- The table has room. Where it was full, no page was written since the last sync, and nothing is left to be written of the page that was the next.
     pub record HasRoom (s : Writer) (old : D) (v w : PageWriter) (disk : D) : Type 0 where
       pub now : Writer
       pub on : GoesOn s old now w disk
       pub room : length w.table < 1024
       pub synced : length v.table ≡ 1024 → (p : ℕ) → (now.pages p).unsynced ≡ false
-      pub oldest : length v.table ≡ 1024 → IsOldestWritten (last_changed v.pool.held) now.pages
+      pub next : length v.table ≡ 1024 → IsNextWritten (next_written v) now.pages
 
     -- what room in the table keeps
     pub record RoomKept (s : Writer) (old : D) (v w : PageWriter) (disk : D) (result : Result Unit Fault) : Type 0 where

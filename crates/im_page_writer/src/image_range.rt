@@ -16,7 +16,7 @@ ghost use Rattle.im_page_writer.specs.Rooms.{KeepsRoom};
 ghost use Rattle.im_page_writer.specs.Writing.{with_lsn, lsn_for, IsWriting, MayCopy, PageImageKept, CopyKept, GrownKept, ImagesKept, DurableKept};
 
 use im_base_disk::Disk;
-use im_base_types::{Fault, Lsn, MOST_FRAMES, PageNo};
+use im_base_types::{Fault, Lsn, PageNo};
 use im_log::LogFile;
 use im_page::Page;
 use im_page_file::{append_image, count_pages};
@@ -24,7 +24,7 @@ use im_page_pool::Pool;
 use im_page_table::DirtyTable;
 
 /// How many LSNs are noted.
-const NOTED: usize = MOST_FRAMES;
+pub(crate) const NOTED: usize = 1_024;
 
 // Notes the LSN of an Image, where there is room for it.
 fn push_lsn(lsns: &mut Vec<Lsn>, lsn: Lsn)

@@ -9,7 +9,7 @@
 //!
 //! # The writer of pages
 //!
-//! `PageWriter` has the log, a pool of 8 to 1,024 frames over the file of pages, and the dirty table (im_page_table). It owns no disk.
+//! `PageWriter` has the log, a pool of 8 to 262,144 frames over the file of pages, and the dirty table (im_page_table). It owns no disk.
 //!
 //! - A flush (`flush_one`) writes a page that was changed: it alone, where the file has it, and past the file's end every page
 //!   from the page count up to it, so that no range of the file is left without a page. First the Images of those pages join the
@@ -20,15 +20,18 @@
 //! - A page that is got (`get`) stays in its frame. Where no frame is free, the least recently used page is flushed, if it was
 //!   changed, and its frame given up. Where that forces the log, changed pages that go next are flushed with it: of the half of the
 //!   frames that were used least recently, the first eight, as far as their Images fit into the log's buffer, in rising number. The log
-//!   is forced once for them all, and the order of use stays. Where the buffer holds several batches, they are the first 64.
+//!   is forced once for them all, and the order of use stays. Where the buffer holds several batches, they are the first 64. In a pool of
+//!   more than 1,024 frames they are those of the oldest changes, which the dirty table tells: a walk by use would go over the unchanged
+//!   pages each time, of which there may be 261,120.
 //! - `flush_in_company` flushes a page; where that forces the log, whose buffer holds several batches, the Images of other changed pages go
 //!   with it, those of the oldest changes, as many as the buffer takes. Those pages are written by flushes of their own, which force nothing
 //!   then. A Switch writes its pages so.
 //! - A change (`log_change`) gets the page, makes room for its entry (`make_entry_room`), appends the record, changes the page,
 //!   gives it the record's LSN, and enters it. What the page does not take is refused before the append.
-//! - Room is made where the table is full: the least recently used page that was changed is flushed, in the same way, and the file synced. What
-//!   stays in the table then is changed pages in frames, and of those there are at most 1,023: one entry is free (`room`). Where less than
-//!   half of the entries are of written pages, more pages are flushed first, until half of them are, so that one sync takes out many.
+//! - Room is made where the table is full: the least recently used page that was changed is flushed, in the same way, and the file synced. In a
+//!   pool of more than 1,024 frames it is the page with the oldest change. What stays in the table then is changed pages in frames, each of
+//!   which had its entry before: one entry is free, that of the page that was flushed (`room`). Where less than half of the entries are of
+//!   written pages, more pages are flushed first, until half of them are, so that one sync takes out many.
 //! - `log_only` appends a record that changes no page, `log_smo` one page of a structure change, which then is the record's
 //!   page; `force` forces the log, `sync_pages` syncs the file, `read_at` reads a record again.
 //! - A Checkpoint (`log_checkpoint`) syncs the file, appends one record with the next transaction number, the rows of active transactions

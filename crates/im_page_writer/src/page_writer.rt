@@ -8,10 +8,11 @@ ghost use Rattle.im_log.specs.LogFile.{end_with};
 ghost use Rattle.im_page_table.specs.KnownCopies.{IsAtOrAfter};
 
 use crate::flush::flush_page;
+use crate::image_range::NOTED;
 use crate::known::{Known, Synced};
 use crate::page_writer::least_used::HALF;
 use im_base_disk::Disk;
-use im_base_types::{DirtyPage, Fault, Lsn, MOST_DIRTY, MOST_FRAMES, PageNo};
+use im_base_types::{DirtyPage, Fault, Lsn, MOST_DIRTY, PageNo};
 use im_log::LogFile;
 use im_log_record::Record;
 use im_page::Page;
@@ -20,6 +21,7 @@ use im_page_pool::{Frame, Pool};
 use im_page_table::DirtyTable;
 use std::alloc::Global;
 
+mod by_age;
 mod changes;
 mod checkpoints;
 mod every_page;
@@ -62,7 +64,7 @@ fn lsn_room(alloc: Global) -> Result<Vec<Lsn>, Fault>
     ensures room { IfOk result (λ lsns. 1024 ≤ vec_capacity lsns) }
     ensures refused { IfErr result (λ e. e ≡ Memory) }
 {
-    Vec::with_capacity(alloc, MOST_FRAMES).map_err(|_| Fault::Memory)
+    Vec::with_capacity(alloc, NOTED).map_err(|_| Fault::Memory)
 }
 
 // Room for the rows of the dirty table.
@@ -105,7 +107,7 @@ impl PageWriter {
     ghost use Rattle.im_page_writer.specs.Synced.{IsForeign, IsOwn};
     ghost use Rattle.im_page_writer.specs.Writing.{SameHeld};
     ghost use Rattle.im_page_writer.specs.Outcome.{fault_of, no_page, none_mild, AllPages, AreLoadedTo, Flushes, HasPages, IsSound, Logs, Outcome};
-    ghost use Rattle.im_page_writer.specs.PageWriter.{IsReadyWriter, IsUnforced, StandsAs, FlushedOne, StepKept, FlushedOldest, HasRoom, IsPlain, LogKept};
+    ghost use Rattle.im_page_writer.specs.PageWriter.{IsReadyWriter, IsUnforced, StandsAs, FlushedOne, StepKept, FlushedNext, HasRoom, IsPlain, LogKept};
 
     /// Writes a page in place, if it was changed since it was read or written: it alone, where the file has it, and past the file's
     /// end every page from the page count up to it, unchanged ones too. First the Images of those pages join the log of which it is
@@ -347,11 +349,11 @@ impl PageWriter {
         self.pool.page(frame)
     }
 
-    /// A writer over a log, with room for so many pages, 8 to 1,024. All memory that it and its pool take is taken here. Refused
+    /// A writer over a log, with room for so many pages, 8 to 262,144. All memory that it and its pool take is taken here. Refused
     /// `Memory`.
     pub fn new(alloc: Global, log: LogFile, frames: usize) -> Result<Self, Fault>
         requires least { 8 ≤ frames }
-        requires most { frames ≤ 1024 }
+        requires most { frames ≤ 262144 }
         requires usable { log.failed ≡ false }
         ensures log { IfOk result (λ w. w.log ≡ log) }
         ensures pool { IfOk result (λ w. w.pool ≡ record { held = []; frames = frames; gets = 0 }) }
@@ -471,15 +473,15 @@ impl PageWriter {
         self.table.oldest_change()
     }
 
-    // Flushes the least recently used page that was changed, if there is one, and as many others as make room.
-    fn flush_oldest<D: Disk>(&mut self, disk: &mut D) -> Result<(), Fault>
+    // Flushes the page that is written next, if there is one, and as many others as make room.
+    fn flush_first<D: Disk>(&mut self, disk: &mut D) -> Result<(), Fault>
         requires ready { IsReadyWriter D.Disk self.old disk.old }
         requires working { self.old.failed ≡ false }
         ensures outcome { Flushes D.Disk self.old disk.old self.new disk.new (fault_of result) }
-        ensures kept { (b : Base) (base : ℕ) (s : Writer) → StandsAs D.Disk b base s self.old disk.old → OnOk result (FlushedOldest D.Disk b base s disk.old self.old.pool self.new disk.new) }
+        ensures kept { (b : Base) (base : ℕ) (s : Writer) → StandsAs D.Disk b base s self.old disk.old → OnOk result (FlushedNext D.Disk b base s disk.old self.old self.new disk.new) }
         ensures held { OnOk result (SameHeld self.old.pool self.new.pool) }
     {
-        match self.pool.oldest_changed() {
+        match self.first_changed() {
             None => Ok(()),
             Some(frame) => self.flush_for_room(disk, frame),
         }
@@ -502,9 +504,10 @@ impl PageWriter {
         self.flush_one(disk, frame.number)
     }
 
-    /// Makes room in the dirty table, where it is full: the least recently used page that was changed is flushed, if there is one, and
-    /// the file of pages synced. Where less than half of the entries are of pages that are written, more pages are flushed before, the least recently
-    /// used first, until half of them are, so that one sync takes out many. It comes after a page has its frame, and before the append of
+    /// Makes room in the dirty table, where it is full: the page that is written next is flushed, if there is one, and the file of pages
+    /// synced. That page is the least recently used one that was changed; in a pool of more than 1,024 frames it is the one whose first change
+    /// since its last write is the oldest. Where less than half of the entries are of pages that are written, more pages are flushed before, in
+    /// the same order, until half of them are, so that one sync takes out many. It comes after a page has its frame, and before the append of
     /// the record that changes the page.
     ///
     /// Refused `LogFull`, where an Image would end above LSN 2^62, `Device`, or `Failed` after a call that failed.
@@ -521,7 +524,7 @@ impl PageWriter {
         if !self.table.is_full() {
             return Ok(());
         }
-        self.flush_oldest(disk)?;
+        self.flush_first(disk)?;
         self.table.pages_rise();
         let _held = self.pool.len();
         self.sync_pages(disk)

@@ -3,7 +3,7 @@
 ghost use Rattle.std.specs.Prelude.{OnOk};
 ghost use Rattle.im_page_writer.specs.PageWriter.{IsReadyWriter};
 
-use crate::writers::{end, got, log_insert, new_disk, open, open_over, since};
+use crate::writers::{end, got, log_insert, new_disk, open, open_large, open_over, since};
 use im_base_disk::Disk;
 use im_base_model_disk::ModelDisk;
 use im_base_types::{Fault, FileId, PageNo};
@@ -127,6 +127,32 @@ fn fill_table(rt: &impl Abort, writer: &mut PageWriter, disk: &mut ModelDisk) ->
     writer.make_entry_room(disk)?;
     assert!(rt; is_changed && (empty, full) == (0, 1_024));
     assert!(rt; (since(disk, filled), writer.dirty_count()) == (1, 0));
+    Ok(())
+}
+
+#[test]
+fn a_full_table_is_synced_in_a_large_pool(rt: HostRuntime) -> Result<(), Fail> {
+    let alloc = rt.alloc();
+    let mut disk = new_disk(alloc);
+    let mut writer = open_large(alloc, &mut disk, 1_030)?;
+    let told = fill_large(&rt, &mut writer, &mut disk);
+    end(writer, disk);
+    told
+}
+
+fn fill_large(rt: &impl Abort, writer: &mut PageWriter, disk: &mut ModelDisk) -> Result<(), Fail>
+    requires { IsReadyWriter ⟦<ModelDisk as Disk>⟧ writer.old disk.old }
+{
+    change_each(writer, disk, 1, 1_025)?;
+    let full = (writer.dirty_count(), disk.end(FileId::Pages));
+    let is_changed = change(writer, disk, 0)?;
+    // At least half of the entries left at the sync, and the page that was changed last has its own.
+    let left = writer.dirty_count();
+    let first = got(writer, disk, 1)?;
+    let last = got(writer, disk, 1_024)?;
+    assert!(rt; full == (1_024, 0));
+    assert!(rt; is_changed && 1 <= left && left <= 513);
+    assert!(rt; (first, last) == ((400, 0), (400, 0)));
     Ok(())
 }
 

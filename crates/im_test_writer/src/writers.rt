@@ -47,6 +47,18 @@ pub fn open_over<D: Disk>(alloc: Global, disk: &mut D, pages: &[u8]) -> Result<P
     open(alloc, disk)
 }
 
+/// One with so many frames.
+pub fn open_large<D: Disk>(alloc: Global, disk: &mut D, frames: usize) -> Result<PageWriter, Fault>
+    requires working { D.failed disk.old ≡ false }
+    requires least { 8 ≤ frames }
+    requires most { frames ≤ 262144 }
+    ensures ready { IfOk result (λ w. IsReadyWriter D.Disk w disk.new) }
+{
+    disk.sync(FileId::Log)?;
+    let log = open_or_create(alloc, disk, 1)?;
+    PageWriter::new(alloc, log, frames)
+}
+
 /// Ends both. A test hands them in: what it owns takes a proof of its own at each of its exits.
 pub fn end(_writer: PageWriter, _disk: ModelDisk) {}
 

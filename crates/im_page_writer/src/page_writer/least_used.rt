@@ -1,10 +1,11 @@
 //! Pages that are written before their turn, so that those that go one after another from a full pool share a force of the log.
-ghost use Rattle.std.specs.Prelude.{◌≡◌, ◌≤◌, ℕ, false, length, OnOk};
+ghost use Rattle.std.specs.Prelude.{◌≡◌, ◌≤◌, ℕ, None, Some, false, length, nat_lt, option_map, IfSome, OnOk};
 ghost use Rattle.im_theory_log.specs.Histories.{Base};
 ghost use Rattle.im_theory_log.specs.Writer.{Writer};
 
 use crate::PageWriter;
 use crate::image_range::note_in_file;
+use crate::page_writer::by_age::oldest_changes;
 use im_base_disk::Disk;
 use im_base_types::{Fault, IMAGE_SIZE, LONGEST_BATCH, MOST_DIRTY, PageNo};
 use im_page_pool::Frame;
@@ -21,15 +22,17 @@ pub(super) const HALF: usize = MOST_DIRTY / 2;
 impl PageWriter {
     ghost use Rattle.im_base_disk.specs.Runs.{Reads};
     ghost use Rattle.im_page_file.specs.Takes.{TakesImage};
-    ghost use Rattle.im_page_pool.specs.Pool.{is_changed, IsAt};
+    ghost use Rattle.im_page_pool.specs.Pool.{held_of, is_changed, IsAt};
+    ghost use Rattle.im_page_table.specs.DirtyTable.{oldest};
     ghost use Rattle.im_page_writer.specs.Rooms.{KeepsRoom};
     ghost use Rattle.im_page_writer.specs.Outcome.{fault_of, Flushes};
-    ghost use Rattle.im_page_writer.specs.PageWriter.{IsReadyWriter, StandsAs, FlushedOne};
+    ghost use Rattle.im_page_writer.specs.PageWriter.{next_written, IsReadyWriter, StandsAs, FlushedOne};
     ghost use Rattle.im_page_writer.specs.Writing.{SameHeld};
 
     /// Flushes a held page, as `flush_one` does. Where that forces the log, other changed pages go with it, of the half of the frames that
     /// were used least recently: the first eight, or 64 where the log's buffer holds several batches, without those whose Image is wanted
-    /// and does not fit into the buffer any more, or that the file does not have. So one force serves them all. The order of use stays.
+    /// and does not fit into the buffer any more, or that the file does not have. So one force serves them all. The order of use stays. In a
+    /// pool of more than 1,024 frames they are those of the oldest changes.
     pub(crate) fn flush_with_others<D: Disk>(
         &mut self,
         disk: &mut D,
@@ -46,7 +49,7 @@ impl PageWriter {
         self.flush_one(disk, frame.number)
     }
 
-    // Flushes changed pages that were used least recently, in rising number, where the flush of this page forces the log.
+    // Flushes changed pages that are written next, in rising number, where the flush of this page forces the log.
     fn flush_others<D: Disk>(&mut self, disk: &mut D, frame: Frame) -> Result<(), Fault>
         requires ready { IsReadyWriter D.Disk self.old disk.old }
         requires working { self.old.failed ≡ false }
@@ -67,7 +70,7 @@ impl PageWriter {
         self.flush_company(disk, among)
     }
 
-    // Flushes changed pages among so many that were used least recently, in rising number.
+    // Flushes changed pages that are written next, in rising number: where their use decides, among so many that were used least recently.
     fn flush_company<D: Disk>(&mut self, disk: &mut D, among: usize) -> Result<(), Fault>
         requires ready { IsReadyWriter D.Disk self.old disk.old }
         requires working { self.old.failed ≡ false }
@@ -75,12 +78,58 @@ impl PageWriter {
         ensures held { OnOk result (SameHeld self.old.pool self.new.pool) }
     {
         let mut numbers = [0; MOST_AT_ONCE];
-        let first = self.pool.oldest_changes(among, &mut numbers[..AT_ONCE]);
+        let first = self.next_changes(among, &mut numbers[..AT_ONCE]);
         self.note_copies(disk, &numbers[..first])?;
         let count = self.more_of(among, first, &mut numbers);
         self.note_copies(disk, &numbers[..count])?;
         numbers[..count].sort_unstable();
         self.flush_copied(disk, &numbers[..count])
+    }
+
+    // Whether the pool has more frames than the dirty table has entries. The changed pages are found by that then, as most frames may hold pages
+    // without a change, over which a walk by their use would go each time.
+    pub(super) fn is_large(&self) -> bool
+        ensures { result ≡ nat_lt 1024 self.now.pool.frames }
+    {
+        self.pool.frames() > MOST_DIRTY
+    }
+
+    // Where the page is held that is written next, if it is held.
+    pub(super) fn first_changed(&self) -> Option<Frame>
+        ensures at { IfSome result (IsAt self.now.pool) }
+        ensures next { IfSome result (λ frame. next_written self.now ≡ Some frame.number) }
+        ensures none { (p : ℕ) → result ≡ None → next_written self.now ≡ Some p → held_of self.now.pool p ≡ None }
+    {
+        if self.is_large() {
+            self.find_oldest_change()
+        } else {
+            self.pool.oldest_changed()
+        }
+    }
+
+    // Where the page is held whose first change since its last write is the oldest, if it is held.
+    fn find_oldest_change(&self) -> Option<Frame>
+        ensures at { IfSome result (IsAt self.now.pool) }
+        ensures next { IfSome result (λ frame. option_map (λ r. r.page) (oldest None self.now.table) ≡ Some frame.number) }
+        ensures none { (p : ℕ) → result ≡ None → option_map (λ r. r.page) (oldest None self.now.table) ≡ Some p → held_of self.now.pool p ≡ None }
+    {
+        match self.table.oldest_change() {
+            Some(row) => self.pool.find(row.page),
+            None => None,
+        }
+    }
+
+    // The numbers of changed pages that are written next, as many as there is room for: where their use decides, among so many that were used
+    // least recently.
+    fn next_changes(&self, among: usize, numbers: &mut [PageNo]) -> usize
+        ensures within { result ≤ length numbers.old }
+        ensures room { length numbers.new ≡ length numbers.old }
+    {
+        if self.is_large() {
+            oldest_changes(self.table.entries(), numbers)
+        } else {
+            self.pool.oldest_changes(among, numbers)
+        }
     }
 
     // The numbers of more such pages, where another batch finds room in the log's buffer, else of as many as there are.
@@ -90,7 +139,7 @@ impl PageWriter {
         ensures room { length numbers.new ≡ length numbers.old }
     {
         if self.takes_more() {
-            self.pool.oldest_changes(among, numbers)
+            self.next_changes(among, numbers)
         } else {
             first
         }
@@ -111,14 +160,14 @@ impl PageWriter {
         }
     }
 
-    // Flushes the least recently used page that was changed, if there is one, with others that go next.
+    // Flushes the page that is written next, if there is one, with others that go next.
     pub(super) fn flush_next<D: Disk>(&mut self, disk: &mut D) -> Result<(), Fault>
         requires ready { IsReadyWriter D.Disk self.old disk.old }
         requires working { self.old.failed ≡ false }
         ensures outcome { Flushes D.Disk self.old disk.old self.new disk.new (fault_of result) }
         ensures held { OnOk result (SameHeld self.old.pool self.new.pool) }
     {
-        match self.pool.oldest_changed() {
+        match self.first_changed() {
             None => Ok(()),
             Some(frame) => self.flush_with_others(disk, frame),
         }

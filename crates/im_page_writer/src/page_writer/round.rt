@@ -44,14 +44,14 @@ impl PageWriter {
     ghost use Rattle.im_page_writer.specs.Rounds.{AreHeld, AreOfThose, AreShown, IsBack, Lends, LendsAll, RoundHere, RoundKept, TakesBack, entry_after};
     ghost use Rattle.im_page_writer.specs.Writing.{SameHeld};
 
-    // Flushes the least recently used pages that were changed, with others that go next, until none is left.
+    // Flushes the changed pages that are written next, with others that go next, until none is left.
     fn flush_all<D: Disk>(&mut self, disk: &mut D) -> Result<(), Fault>
         requires ready { IsReadyWriter D.Disk self.old disk.old }
         requires working { self.old.failed ≡ false }
         ensures outcome { Flushes D.Disk self.old disk.old self.new disk.new (fault_of result) }
     {
         for _company in 0..MOST_DIRTY {
-            if self.pool.oldest_changed().is_none() {
+            if self.first_changed().is_none() {
                 break;
             }
             self.flush_next(disk)?;

@@ -1,6 +1,6 @@
 use Rattle.std.proofs.Common.{◌≡◌, ◌<◌, ◌≤◌, List, length, false, true, refl, subst, sym, ◌∙◌, rules, arith}
 use Rattle.im_theory_log.specs.WriterSteps.{synced}
-use Rattle.im_page_pool.specs.Pool.{last_changed}
+use Rattle.im_page_writer.specs.PageWriter.{next_written}
 use Rattle.im_page_table.specs.declared.table_entry.TableEntry.{TableEntry}
 use Rattle.im_page_writer.proofs.Goings.{leaves_last}
 use Rattle.im_page_file.proofs.LogEnds.{ends_as}
@@ -8,7 +8,7 @@ use Rattle.im_page_writer.proofs.LoggedChanges.{ok_with}
 use Rattle.im_page_table.proofs.Growing.{on_ok}
 use Rattle.im_page_writer.proofs.Outcomes.{behind, idle_any, none_still, stands_on, step_flushes}
 use Rattle.im_page_writer.specs.Outcome.{AsksNothing}
-use Rattle.im_page_writer.proofs.TableRoom.{oldest_synced, room_left}
+use Rattle.im_page_writer.proofs.TableRoom.{next_synced, room_left}
 use Rattle.im_page_writer.proofs.Writers.{goes_on_start, goes_on_then}
 use Rattle.im_page_writer.proofs.page_writer.PageWriter.make_entry_room.Goals as goal
 
@@ -20,14 +20,14 @@ returns-then-not-is_full-clause-kept g c b base s is =
     let w = c.args.self.now in
     let old = c.args.disk.now in
     let never : length w.table ≡ 1024 → ⊥ = λ full. let clash : false ≡ true = sym c.if-not-is_full.true ∙ c.is_full.ensures.full.1 full in cc clash in
-    record { now = s; on = goes_on_start g.D.Disk b base s w old (g.met.D.Disk.only_now old) is; room = omega (arith, never, c.is_full.ensures.within); synced = λ full. absurd (never full); oldest = λ full. absurd (never full) }
+    record { now = s; on = goes_on_start g.D.Disk b base s w old (g.met.D.Disk.only_now old) is; room = omega (arith, never, c.is_full.ensures.within); synced = λ full. absurd (never full); next = λ full. absurd (never full) }
 
 pub returns-clause-outcome : goal.returns-clause-outcome
 returns-clause-outcome g c =
     let e = c.sync_pages.ensures in
-    let mid = c.flush_oldest.new.self in
-    let disk = c.flush_oldest.new.disk in
-    behind g.D.Disk AsksNothing none_still c.in_ok-flush_oldest.ensures.outcome
+    let mid = c.flush_first.new.self in
+    let disk = c.flush_first.new.disk in
+    behind g.D.Disk AsksNothing none_still c.in_ok-flush_first.ensures.outcome
     (step_flushes g.D.Disk c.sync_pages.result e.outcome e.room (ends_as mid.log c.sync_pages.new.self.log e.log)
     (λ b base s is. on_ok c.sync_pages.result _ _ (e.kept b base s is).ok (λ on. record { now = synced s; on = on }))
     (λ b base s is. leaves_last g.D.Disk b base s disk s mid.log mid.table mid.pool disk (goes_on_start g.D.Disk b base s mid disk (g.met.D.Disk.only_now disk) is).goes c.sync_pages.new.disk (e.kept b base s is).stops))
@@ -35,18 +35,17 @@ returns-clause-outcome g c =
 pub returns-clause-kept : goal.returns-clause-kept
 returns-clause-kept g c b base s is =
     let v = c.args.self.now in
-    let first = c.in_ok-flush_oldest.ensures.kept b base s is in
+    let first = c.in_ok-flush_first.ensures.kept b base s is in
     let t = first.now in
-    let mid = c.flush_oldest.new.self in
+    let mid = c.flush_first.new.self in
     let writing = first.on.goes.writing in
-    let sync = c.sync_pages.ensures.kept b base t (stands_on g.D.Disk b base s c.args.disk.now t mid c.flush_oldest.new.disk first.on) in
-    let frames : mid.pool.frames ≤ 1024 = c.in_ok-flush_oldest.ensures.outcome.ready.few first.on.working in
-    let few : length mid.pool.held ≤ 1024 = omega (arith, frames, c.len-held.ensures.within) in
-    let left = room_left mid.table t.pages c.pages_rise.ensures writing.entries v.pool mid.pool writing.pooled c.in_ok-flush_oldest.ensures.held few first.oldest in
+    let sync = c.sync_pages.ensures.kept b base t (stands_on g.D.Disk b base s c.args.disk.now t mid c.flush_first.new.disk first.on) in
+    let left = room_left mid.table t.pages c.pages_rise.ensures writing.entries v mid.pool s.pages is.writing.entries (λ p. (first.on.goes.keeps.pages p).written) c.is_full.ensures.within
+    writing.pooled c.in_ok-flush_first.ensures.held c.len-held.ensures.within first.next in
     ok_with c.sync_pages.result _ _ _ sync.ok c.sync_pages.ensures.table (λ on table. record {
       now = synced t;
-      on = goes_on_then g.D.Disk b base s c.args.disk.now t mid c.flush_oldest.new.disk first.on (synced t) c.sync_pages.new.self c.sync_pages.new.disk on;
+      on = goes_on_then g.D.Disk b base s c.args.disk.now t mid c.flush_first.new.disk first.on (synced t) c.sync_pages.new.self c.sync_pages.new.disk on;
       room = subst (λ (l : List TableEntry). length l < 1024) (sym table) left;
       synced = λ full p. refl;
-      oldest = λ full. oldest_synced (last_changed v.pool.held) t.pages first.oldest;
+      next = λ full. next_synced (next_written v) t.pages first.next;
     })
