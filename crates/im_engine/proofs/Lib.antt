@@ -50,6 +50,8 @@ pub mod SteppedLogs
 pub mod SteppedMade
 pub mod SteppedReads
 pub mod SteppedPaces
+pub mod Answered
+pub mod AtOnce
 pub mod SteppedReading
 pub mod SteppedOwners
 pub mod SteppedPages
@@ -59,6 +61,7 @@ pub mod SteppedInserting
 pub mod SteppedInserts
 pub mod SteppedDeleting
 pub mod SteppedDeletes
+pub mod SteppedAnswered
 pub mod SteppedEnds
 pub mod SteppedFinishes
 pub mod SteppedBacks

@@ -54,11 +54,12 @@ use Rattle.im_engine.specs.Kept.{StepKept}
 use Rattle.im_engine.specs.Numbered.{Numbered, besides_rows}
 use Rattle.im_engine.specs.Running.{IsLife, IsRunning}
 use Rattle.im_engine.specs.Told.{DeleteCause, DeleteWants, IsAnswered, IsMade, fixed_of}
+use Rattle.im_engine.proofs.Answered.{IsPlain, exit_made}
 use Rattle.im_engine.proofs.Causes.{behind, delete_cause, not_refused_for, refused_for, refused_inj}
 use Rattle.im_engine.proofs.Edited.{blocked, died, edit_refused, failed_as, unchanged}
 use Rattle.im_engine.proofs.SteppedDeleting.{Below, Here, begun_made, fits, kept_here, more_is_not_one, taken_made}
 use Rattle.im_engine.proofs.SteppedEdits.{by_itself, its_mark, walk_of}
-use Rattle.im_engine.proofs.SteppedExits.{IsPlain, barred_seen, exit_made, hides, paced_by}
+use Rattle.im_engine.proofs.SteppedExits.{barred_seen, hides, paced_by}
 use Rattle.im_engine.proofs.SteppedMade.{left_by_edit, tree_made}
 use Rattle.im_engine.proofs.SteppedPaces.{same_under}
 use Rattle.im_engine.proofs.SteppedTold.{none_under}
@@ -111,11 +112,11 @@ module _ {D : Type 0} (d : Ghosts D) (t : ℕ) (key : Key) (old new : Engine D d
       stays_under : IsSameUnder old.under new.under
       stays_under = subst (λ (x : Option Under). IsSameUnder old.under x) (sym same) (same_under old.under)
 
-      seen_made : (x : LockAnswer Deleting) → o ≡ Seen x → (reply : Reply) → IsPlain d t a old new checked beside told reply → besides_rows new.txns ≡ besides_rows old.txns → length new.txns.rows ≡ length old.txns.rows → ((y : Fault) → reply ≢ replies.Refused y) → (told_by reply ≢ answers.BlockedTree)
+      seen_made : (x : LockAnswer Deleting) → o ≡ Seen x → (reply : Reply) → IsPlain d t a old new reply → besides_rows new.txns ≡ besides_rows old.txns → length new.txns.rows ≡ length old.txns.rows → ((y : Fault) → reply ≢ replies.Refused y) → (told_by reply ≢ answers.BlockedTree)
           → (reply ≢ replies.More) → ((b : Base) (before : List Effect) (s : Shown) (v : View) (r : IsRunning d b before s v old) → reply ≡ replies.Deleted → HasOne (settled b r.now.log) key → ⊥)
           → ((before : List Effect) (s : Shown) (v : View) → IsLife d before s v old → StepKept d before s v (Do t a) (told_by reply) old new) → IsMade d (Do t a) reply old new
       seen_made x so reply plain rest rows not unblocked no_more keeps kept_as =
-          exit_made d t a old new checked beside told works fixed reply plain rest rows works_on one.ends.alive one.frames kept_as (answered reply not)
+          exit_made d t a old new works fixed reply plain rest rows works_on one.ends.alive one.frames kept_as (answered reply not)
           (paced_by d t a old new checked beside told reply (λ clash. absurd (unblocked clash)) (λ b before s v r bars. absurd (off before s v r x so bars)) (λ b before s v r. inl stays_under))
           (λ b before s v r. wants_here (settled b r.now.log) v.walk (Evicted d b r.base r.now old.disk new.writer new.disk) old.stepped (locks_of old.locks) t key reply not (keeps b before s v r) (λ is. absurd (no_more is)))
 
@@ -169,7 +170,7 @@ module _ {D : Type 0} (d : Ghosts D) (t : ℕ) (key : Key) (old new : Engine D d
       -- the structure change of another stands in its way
       pub made_hidden : o ≡ Hidden → new.txns ≡ old.txns → IsMade d (Do t a) (replies.Blocked blockers.Tree) old new
       made_hidden so table =
-          exit_made d t a old new checked beside told works fixed (replies.Blocked blockers.Tree) (record { stays = λ k. refl; late = refl; answered = refl; number = tt; suits = refl; at_once = λ _. refl; grouped = tt }) (ap besides_rows table) (ap (λ (z : Numbered). length z.rows) table)
+          exit_made d t a old new works fixed (replies.Blocked blockers.Tree) (record { stays = λ k. refl; late = refl; answered = refl; number = tt; suits = refl; at_once = λ _. refl; grouped = tt }) (ap besides_rows table) (ap (λ (z : Numbered). length z.rows) table)
           works_on one.ends.alive one.frames
           (λ before s v life.
           let r = (life.running works).1 in
@@ -185,7 +186,7 @@ module _ {D : Type 0} (d : Ghosts D) (t : ℕ) (key : Key) (old new : Engine D d
     pub made_begun : (stepped : old.stepped ≡ true) (begun : BegunChange) → o ≡ Seen (Granted (Dropping begun)) → new.under ≡ Some (record { begun = begun; aim = Drops key })
         → new.txns ≡ record old.txns { rows = map (changed t (with_record begun.change.last begun.change.last)) old.txns.rows } → IsMade d (Do t a) replies.More old new
     made_begun stepped begun so under table =
-        exit_made d t a old new checked beside told works fixed replies.More
+        exit_made d t a old new works fixed replies.More
         (record { stays = λ k. refl; late = refl; answered = refl; number = tt; suits = refl; at_once = λ plain. absurd (let clash : true ≡ false = sym stepped ∙ plain in cc clash); grouped = tt }) (ap besides_rows table)
         (ap (λ (z : Numbered). length z.rows) table ∙ length-map old.txns.rows (changed t (with_record begun.change.last begun.change.last))) works_on one.ends.alive one.frames
         (λ before s v life.

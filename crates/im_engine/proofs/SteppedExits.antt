@@ -1,5 +1,5 @@
 -- The exits of an access that may change a key, beside a structure change.
-use Rattle.std.proofs.Common.{◌≡◌, ◌≢◌, ◌⊎◌, inl, inr, ⊎_elim, ℕ, List, [], true, false, length, Option, None, Some, Ok, refl, sym, ap, subst, ◌∙◌}
+use Rattle.std.proofs.Common.{◌≡◌, ◌≢◌, ◌⊎◌, inl, inr, ⊎_elim, ℕ, List, [], true, Option, None, Some, Ok, refl, sym, ap, subst, ◌∙◌}
 use Rattle.std.specs.Prelude.{is_some, ◌==◌}
 use Rattle.std.specs.List.{list_any}
 use Rattle.im_base_types.specs.Answers as answers
@@ -13,7 +13,6 @@ use Rattle.im_base_disk.specs.declared.disk.Disk.{Ghosts}
 use Rattle.im_base_steps.specs.declared.reply.Reply.{Reply}
 use Rattle.im_base_steps.specs.declared.reply.Reply.TheVariants as replies
 use Rattle.im_base_steps.specs.Calls.{told_by}
-use Rattle.im_base_steps.specs.Replies.{Suits, SuitsAtOnce}
 use Rattle.im_theory_log.specs.Histories.{Base, History}
 use Rattle.im_theory_log.specs.Structure.{settled}
 use Rattle.im_theory_machine.specs.View.{View, owns_in}
@@ -31,14 +30,11 @@ use Rattle.im_engine_index.proofs.NoneBeside.{cause_none}
 use Rattle.im_engine.specs.declared.engine.Engine.{Engine}
 use Rattle.im_engine.specs.declared.stepped.Under.{Under}
 use Rattle.im_engine.specs.Aims.{IsBesideOf, IsSameUnder, IsToldTo, under_of}
-use Rattle.im_engine.specs.Kept.{StepKept}
-use Rattle.im_engine.specs.Numbered.{besides_rows}
-use Rattle.im_engine.specs.Running.{IsLife, IsRunning}
-use Rattle.im_engine.specs.Told.{HasNext, IsAnswered, IsBlockedBy, IsMade, IsPaced, Known, SuitsGroup, WantsHere, after, fixed_of, is_early}
+use Rattle.im_engine.specs.Running.{IsRunning}
+use Rattle.im_engine.specs.Told.{IsBlockedBy, IsPaced}
 use Rattle.im_engine.specs.Paces.{BarsAccess, IsInTheWay, TreeCause}
 use Rattle.im_engine.proofs.SteppedPaces.{blocked_by}
 use Rattle.im_engine.proofs.SteppedTold.{none_under}
-use Rattle.im_engine.proofs.Telling.{is_refused, told_answered}
 
 -- ---- in the words of the calls below
 
@@ -99,31 +95,4 @@ module _ {D : Type 0} (d : Ghosts D) (t : ℕ) (a : Access) (old new : Engine D 
     told = λ none u under clash. absurd (let never : Do t a ≡ Continue u.begun.change.transaction = clash in cc never);
     own = λ none b before s v r u under clash. absurd (let never : Do t a ≡ Continue u.begun.change.transaction = clash in cc never);
     others = λ b before s v r not. others b before s v r;
-  }
-
-  -- it was answered
-  pub record IsPlain (reply : Reply) : Type 0 where
-    pub stays : (k : Known) → after (Do t a) reply k ≡ k
-    pub late : is_early reply ≡ false
-    pub answered : is_refused reply ≡ false
-    pub number : HasNext reply old.txns.next
-    pub suits : Suits (Do t a) (told_by reply)
-    pub at_once : old.stepped ≡ false → SuitsAtOnce (Do t a) (told_by reply)
-    pub grouped : SuitsGroup (Do t a) reply old.txns
-
-  pub exit_made : (works : old.failed ≡ false) (fixed : fixed_of d new ≡ fixed_of d old) (reply : Reply) → IsPlain reply → besides_rows new.txns ≡ besides_rows old.txns → length new.txns.rows ≡ length old.txns.rows → new.failed ≡ false → d.failed new.disk ≡ false → new.writer.pool.frames ≡ old.writer.pool.frames
-      → ((before : List Effect) (s : Shown) (v : View) → IsLife d before s v old → StepKept d before s v (Do t a) (told_by reply) old new) → IsAnswered d (Do t a) reply old new → IsPaced d (Do t a) reply old new
-      → ((b : Base) (before : List Effect) (s : Shown) (v : View) (r : IsRunning d b before s v old) → WantsHere d b before s v r (Do t a) reply new) → IsMade d (Do t a) reply old new
-  exit_made works fixed reply plain rest rows works_on alive frames kept answered paced wants = record {
-    kept = kept;
-    told = told_answered d old new works rest fixed reply plain.stays plain.late plain.answered plain.number works_on rows alive;
-    answered = answered;
-    suits = plain.suits;
-    at_once = plain.at_once;
-    paced = paced;
-    grouped = plain.grouped;
-    frames = frames;
-    wants = wants;
-    quiet = λ none. absurd (none tt);
-    costs = tt;
   }

@@ -64,11 +64,12 @@ use Rattle.im_engine.specs.Numbered.{Numbered, besides_rows}
 use Rattle.im_engine.specs.Running.{IsLife, IsRunning}
 use Rattle.im_engine.specs.Stands.{Allowed}
 use Rattle.im_engine.specs.Told.{AsksChange, InsertWants, IsMade, fixed_of, wants_memory, wants_numbers, wants_pages}
+use Rattle.im_engine.proofs.Answered.{IsPlain, exit_made}
 use Rattle.im_engine.proofs.Causes.{insert_cause, refused_inj}
 use Rattle.im_engine.proofs.Edited.{blocked, died, unchanged}
 use Rattle.im_engine.proofs.Inserting.{failed_is, full_is, insert_answered, insert_not_answered, insert_stopped, used_up_is}
 use Rattle.im_engine.proofs.SteppedEdits.{by_itself, its_mark, walk_of}
-use Rattle.im_engine.proofs.SteppedExits.{IsPlain, barred_seen, exit_made, hides, paced_by}
+use Rattle.im_engine.proofs.SteppedExits.{barred_seen, hides, paced_by}
 use Rattle.im_engine.proofs.SteppedInserting.{Below, Here, begun_made, fits, kept_here, put_made, room_is_had, stopped}
 use Rattle.im_engine.proofs.SteppedMade.{tree_made}
 use Rattle.im_engine.proofs.SteppedPaces.{same_under}
@@ -149,11 +150,11 @@ module _ {D : Type 0} (d : Ghosts D) (t : ℕ) (key : Key) (rid : ℕ) (old new 
       stays_under : IsSameUnder old.under new.under
       stays_under = subst (λ (x : Option Under). IsSameUnder old.under x) (sym same) (same_under old.under)
 
-      seen_made : (x : LockAnswer Inserting) → o ≡ Seen x → (reply : Reply) → IsPlain d t a old new checked beside told reply → besides_rows new.txns ≡ besides_rows old.txns → length new.txns.rows ≡ length old.txns.rows → ((y : Fault) → reply ≢ replies.Refused y) → (told_by reply ≢ answers.BlockedTree)
+      seen_made : (x : LockAnswer Inserting) → o ≡ Seen x → (reply : Reply) → IsPlain d t a old new reply → besides_rows new.txns ≡ besides_rows old.txns → length new.txns.rows ≡ length old.txns.rows → ((y : Fault) → reply ≢ replies.Refused y) → (told_by reply ≢ answers.BlockedTree)
           → (reply ≢ replies.More) → ((b : Base) (before : List Effect) (s : Shown) (v : View) (r : IsRunning d b before s v old) → reply ≡ replies.Inserted → LacksRoomFor (settled b r.now.log) key → ⊥)
           → ((before : List Effect) (s : Shown) (v : View) → IsLife d before s v old → StepKept d before s v (Do t a) (told_by reply) old new) → IsMade d (Do t a) reply old new
       seen_made x so reply plain rest rows not unblocked no_more fits_in kept_as =
-          exit_made d t a old new checked beside told works fixed reply plain rest rows works_on one.ends.alive one.frames kept_as
+          exit_made d t a old new works fixed reply plain rest rows works_on one.ends.alive one.frames kept_as
           (insert_answered d old new.writer.log new.disk works t key rid checked reply not)
           (paced_by d t a old new checked beside told reply (λ clash. absurd (unblocked clash)) (λ b before s v r bars. absurd (off before s v r x so bars)) (λ b before s v r. inl stays_under))
           (λ b before s v r. wants_here (settled b r.now.log) v.walk (Evicted d b r.base r.now old.disk new.writer new.disk) old.stepped (locks_of old.locks) old.max_pages t key rid reply not (λ other. within before s v r x so) (fits_in b before s v r) (λ is. absurd (no_more is)))
@@ -205,7 +206,7 @@ module _ {D : Type 0} (d : Ghosts D) (t : ℕ) (key : Key) (rid : ℕ) (old new 
       -- the structure change of another stands in its way
       pub made_hidden : o ≡ Hidden → new.txns ≡ old.txns → IsMade d (Do t a) (replies.Blocked blockers.Tree) old new
       made_hidden so table =
-          exit_made d t a old new checked beside told works fixed (replies.Blocked blockers.Tree) (record { stays = λ k. refl; late = refl; answered = refl; number = tt; suits = refl; at_once = λ _. refl; grouped = tt }) (ap besides_rows table) (ap (λ (z : Numbered). length z.rows) table)
+          exit_made d t a old new works fixed (replies.Blocked blockers.Tree) (record { stays = λ k. refl; late = refl; answered = refl; number = tt; suits = refl; at_once = λ _. refl; grouped = tt }) (ap besides_rows table) (ap (λ (z : Numbered). length z.rows) table)
           works_on one.ends.alive one.frames
           (λ before s v life.
           let r = (life.running works).1 in
@@ -224,7 +225,7 @@ module _ {D : Type 0} (d : Ghosts D) (t : ℕ) (key : Key) (rid : ℕ) (old new 
     pub made_begun : (stepped : old.stepped ≡ true) (begun : BegunChange) (leaf : ℕ) → o ≡ Seen (Granted (Split begun leaf)) → new.under ≡ Some (record { begun = begun; aim = Puts key rid leaf })
         → new.txns ≡ record old.txns { rows = map (changed t (with_record begun.change.last begun.change.last)) old.txns.rows } → IsMade d (Do t a) replies.More old new
     made_begun stepped begun leaf so under table =
-        exit_made d t a old new checked beside told works fixed replies.More
+        exit_made d t a old new works fixed replies.More
         (record { stays = λ k. refl; late = refl; answered = refl; number = tt; suits = refl; at_once = λ plain. absurd (let clash : true ≡ false = sym stepped ∙ plain in cc clash); grouped = tt }) (ap besides_rows table)
         (ap (λ (z : Numbered). length z.rows) table ∙ length-map old.txns.rows (changed t (with_record begun.change.last begun.change.last))) works_on one.ends.alive one.frames
         (λ before s v life.

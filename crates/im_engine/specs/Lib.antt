@@ -11,6 +11,7 @@ pub mod Copied
 pub mod Costs
 pub mod Paces
 pub mod Told
+pub mod Accesses
 pub mod Looking
 pub mod Counted
 pub mod Turns

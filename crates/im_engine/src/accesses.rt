@@ -1,7 +1,9 @@
-//! Accesses that change nothing, beside a structure change that goes on or beside none, and what a refusal of the calls below becomes.
+//! Accesses that change nothing, beside a structure change that goes on or beside none, and what a step makes of the calls below.
 
-ghost use Rattle.std.specs.Prelude.{◌≡◌, None, false};
+ghost use Rattle.std.specs.Prelude.{◌≡◌, find, None, false};
+ghost use Rattle.im_base_txn.specs.Rows.{is_of, waits_at};
 ghost use Rattle.im_engine.specs.Faults.{told_as, told_look, ends_engine};
+ghost use Rattle.im_engine.specs.Accesses.{answer_in, as_seen, failed_in, rest_of, rows_in};
 
 use crate::engine::Engine;
 use crate::stepped::beside_of;
@@ -44,6 +46,16 @@ pub(crate) fn breaks(fault: Fault) -> bool
     !matches!(fault, Fault::PagesFull | Fault::Memory)
 }
 
+// What a call came to that goes on beside no structure change: from it nothing is hidden.
+pub(crate) fn as_seen<T: Drop>(came: Result<T, Fault>) -> Result<Sight<T>, Fault>
+    ensures { result ≡ as_seen came }
+{
+    match came {
+        Ok(answer) => Ok(Sight::Seen(answer)),
+        Err(fault) => Err(fault),
+    }
+}
+
 impl<D: Disk> Engine<D> {
     ghost use Rattle.im_base_types.specs.Answers as answers;
     ghost use Rattle.im_engine_index.specs.LockAnswers.{seek_at};
@@ -51,6 +63,39 @@ impl<D: Disk> Engine<D> {
     ghost use Rattle.im_theory_steps.specs.Checks.{checked_by};
     ghost use Rattle.im_engine.specs.Aims.{under_of};
     ghost use Rattle.im_engine.specs.Told.{IsMade};
+
+    // What a step makes of the call below it, which asks its locks: it has the value that was granted, or it is answered. Where it must die,
+    // its transaction is marked. The engine works on, unless a refusal of the call breaks it; of all else nothing is changed.
+    pub(crate) fn answered<T: Drop>(
+        &mut self,
+        t: TxnId,
+        came: Result<Sight<LockAnswer<T>>, Fault>,
+    ) -> Result<T, Reply>
+        requires working { failed_in came ≡ false → self.old.writer.failed ≡ false }
+        requires free { waits_at (find (is_of t) self.old.txns.rows) ≡ false }
+        ensures answer { result ≡ answer_in came }
+        ensures failed { self.new.failed ≡ failed_in came }
+        ensures table { self.new.txns ≡ record self.old.txns { rows = rows_in t came self.old.txns.rows } }
+        ensures under { self.new.under ≡ self.old.under }
+        ensures rest { rest_of D.Disk self.new ≡ rest_of D.Disk self.old }
+    {
+        self.failed = false;
+        match came {
+            Ok(Sight::Seen(LockAnswer::Granted(value))) => Ok(value),
+            Ok(Sight::Seen(LockAnswer::Wait(holder))) => {
+                Err(Reply::Blocked(Blocker::Lock(holder)))
+            }
+            Ok(Sight::Seen(LockAnswer::Die)) => {
+                self.txns.set_mark(t, Mark::MustRollBack);
+                Err(Reply::Die)
+            }
+            Ok(Sight::Hidden) => Err(Reply::Blocked(Blocker::Tree)),
+            Err(fault) => {
+                self.failed = breaks(fault);
+                Err(Reply::Refused(told(fault)))
+            }
+        }
+    }
 
     // The row id of a key. The law of its answer is `reads_are_served`, of one that waits, dies or finds the tree blocked `waits_are_served`,
     // `dies_are_served` and `trees_block`, and of a refusal `lacks_are_served` or, where it broke the engine, `lives_go_on`.
@@ -60,38 +105,18 @@ impl<D: Disk> Engine<D> {
         ensures { IsMade D.Disk (answers.Do t (answers.Fetch key.now)) result self.old self.new }
     {
         self.failed = true;
-        match fetch_beside(
+        let came = fetch_beside(
             &mut self.writer,
             &mut self.disk,
             &mut self.locks,
             t,
             key,
             beside_of(&self.under),
-        ) {
-            Ok(Sight::Seen(LockAnswer::Granted(found))) => {
-                self.failed = false;
-                match found {
-                    Some(rid) => Reply::Found(rid),
-                    None => Reply::Absent,
-                }
-            }
-            Ok(Sight::Seen(LockAnswer::Wait(holder))) => {
-                self.failed = false;
-                Reply::Blocked(Blocker::Lock(holder))
-            }
-            Ok(Sight::Seen(LockAnswer::Die)) => {
-                self.failed = false;
-                self.txns.set_mark(t, Mark::MustRollBack);
-                Reply::Die
-            }
-            Ok(Sight::Hidden) => {
-                self.failed = false;
-                Reply::Blocked(Blocker::Tree)
-            }
-            Err(fault) => {
-                self.failed = breaks(fault);
-                Reply::Refused(told(fault))
-            }
+        );
+        match self.answered(t, came) {
+            Ok(Some(rid)) => Reply::Found(rid),
+            Ok(None) => Reply::Absent,
+            Err(reply) => reply,
         }
     }
 
@@ -102,7 +127,7 @@ impl<D: Disk> Engine<D> {
         ensures { IsMade D.Disk (answers.Do t (seek_at inclusive key.now)) result self.old self.new }
     {
         self.failed = true;
-        match seek_beside(
+        let came = seek_beside(
             &mut self.writer,
             &mut self.disk,
             &mut self.locks,
@@ -110,31 +135,11 @@ impl<D: Disk> Engine<D> {
             key,
             inclusive,
             beside_of(&self.under),
-        ) {
-            Ok(Sight::Seen(LockAnswer::Granted(found))) => {
-                self.failed = false;
-                match found {
-                    Some((key, rid)) => Reply::Entry(key, rid),
-                    None => Reply::End,
-                }
-            }
-            Ok(Sight::Seen(LockAnswer::Wait(holder))) => {
-                self.failed = false;
-                Reply::Blocked(Blocker::Lock(holder))
-            }
-            Ok(Sight::Seen(LockAnswer::Die)) => {
-                self.failed = false;
-                self.txns.set_mark(t, Mark::MustRollBack);
-                Reply::Die
-            }
-            Ok(Sight::Hidden) => {
-                self.failed = false;
-                Reply::Blocked(Blocker::Tree)
-            }
-            Err(fault) => {
-                self.failed = breaks(fault);
-                Reply::Refused(told(fault))
-            }
+        );
+        match self.answered(t, came) {
+            Ok(Some((key, rid))) => Reply::Entry(key, rid),
+            Ok(None) => Reply::End,
+            Err(reply) => reply,
         }
     }
 
@@ -145,38 +150,18 @@ impl<D: Disk> Engine<D> {
         ensures { IsMade D.Disk (answers.Do t (answers.Prev key.now)) result self.old self.new }
     {
         self.failed = true;
-        match prev_beside(
+        let came = prev_beside(
             &mut self.writer,
             &mut self.disk,
             &mut self.locks,
             t,
             key,
             beside_of(&self.under),
-        ) {
-            Ok(Sight::Seen(LockAnswer::Granted(found))) => {
-                self.failed = false;
-                match found {
-                    Some((key, rid)) => Reply::Entry(key, rid),
-                    None => Reply::End,
-                }
-            }
-            Ok(Sight::Seen(LockAnswer::Wait(holder))) => {
-                self.failed = false;
-                Reply::Blocked(Blocker::Lock(holder))
-            }
-            Ok(Sight::Seen(LockAnswer::Die)) => {
-                self.failed = false;
-                self.txns.set_mark(t, Mark::MustRollBack);
-                Reply::Die
-            }
-            Ok(Sight::Hidden) => {
-                self.failed = false;
-                Reply::Blocked(Blocker::Tree)
-            }
-            Err(fault) => {
-                self.failed = breaks(fault);
-                Reply::Refused(told(fault))
-            }
+        );
+        match self.answered(t, came) {
+            Ok(Some((key, rid))) => Reply::Entry(key, rid),
+            Ok(None) => Reply::End,
+            Err(reply) => reply,
         }
     }
 
@@ -187,7 +172,7 @@ impl<D: Disk> Engine<D> {
         ensures { IsMade D.Disk (answers.Do t (answers.Scan lo.now hi.now limit)) result self.old self.new }
     {
         self.failed = true;
-        match scan_beside(
+        let came = scan_beside(
             self.alloc,
             &mut self.writer,
             &mut self.disk,
@@ -197,28 +182,10 @@ impl<D: Disk> Engine<D> {
             hi,
             limit as usize,
             beside_of(&self.under),
-        ) {
-            Ok(Sight::Seen(LockAnswer::Granted(list))) => {
-                self.failed = false;
-                Reply::Entries(list)
-            }
-            Ok(Sight::Seen(LockAnswer::Wait(holder))) => {
-                self.failed = false;
-                Reply::Blocked(Blocker::Lock(holder))
-            }
-            Ok(Sight::Seen(LockAnswer::Die)) => {
-                self.failed = false;
-                self.txns.set_mark(t, Mark::MustRollBack);
-                Reply::Die
-            }
-            Ok(Sight::Hidden) => {
-                self.failed = false;
-                Reply::Blocked(Blocker::Tree)
-            }
-            Err(fault) => {
-                self.failed = breaks(fault);
-                Reply::Refused(told(fault))
-            }
+        );
+        match self.answered(t, came) {
+            Ok(list) => Reply::Entries(list),
+            Err(reply) => reply,
         }
     }
 }

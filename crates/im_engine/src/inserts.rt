@@ -2,13 +2,11 @@
 
 ghost use Rattle.std.specs.Prelude.{◌≡◌, None, false};
 
-use crate::accesses::{breaks, told};
+use crate::accesses::as_seen;
 use crate::engine::Engine;
 use im_base_disk::Disk;
-use im_base_steps::{Blocker, Reply};
-use im_base_txn::Mark;
+use im_base_steps::Reply;
 use im_base_types::{Fault, Rid, TxnId};
-use im_engine_index::LockAnswer;
 
 impl<D: Disk> Engine<D> {
     ghost use Rattle.im_base_types.specs.Answers as answers;
@@ -42,7 +40,7 @@ impl<D: Disk> Engine<D> {
             return Reply::Refused(Fault::NoTransaction);
         };
         self.failed = true;
-        match im_engine_index::insert(
+        let came = im_engine_index::insert(
             self.alloc,
             &mut self.writer,
             &mut self.disk,
@@ -51,30 +49,14 @@ impl<D: Disk> Engine<D> {
             key,
             rid,
             self.max_pages,
-        ) {
-            Ok(LockAnswer::Granted(found)) => {
-                self.failed = false;
-                match found {
-                    Some(noted) => {
-                        self.txns.note_record(t, noted.last, noted.undo_next);
-                        Reply::Inserted
-                    }
-                    None => Reply::Duplicate,
-                }
+        );
+        match self.answered(t, as_seen(came)) {
+            Ok(Some(noted)) => {
+                self.txns.note_record(t, noted.last, noted.undo_next);
+                Reply::Inserted
             }
-            Ok(LockAnswer::Wait(holder)) => {
-                self.failed = false;
-                Reply::Blocked(Blocker::Lock(holder))
-            }
-            Ok(LockAnswer::Die) => {
-                self.failed = false;
-                self.txns.set_mark(t, Mark::MustRollBack);
-                Reply::Die
-            }
-            Err(fault) => {
-                self.failed = breaks(fault);
-                Reply::Refused(told(fault))
-            }
+            Ok(None) => Reply::Duplicate,
+            Err(reply) => reply,
         }
     }
 }

@@ -2,13 +2,11 @@
 
 ghost use Rattle.std.specs.Prelude.{◌≡◌, None, false};
 
-use crate::accesses::{breaks, told};
+use crate::accesses::as_seen;
 use crate::engine::Engine;
 use im_base_disk::Disk;
-use im_base_steps::{Blocker, Reply};
-use im_base_txn::Mark;
+use im_base_steps::Reply;
 use im_base_types::{Fault, TxnId};
-use im_engine_index::LockAnswer;
 
 impl<D: Disk> Engine<D> {
     ghost use Rattle.im_base_types.specs.Answers as answers;
@@ -42,37 +40,21 @@ impl<D: Disk> Engine<D> {
             return Reply::Refused(Fault::NoTransaction);
         };
         self.failed = true;
-        match im_engine_index::delete(
+        let came = im_engine_index::delete(
             self.alloc,
             &mut self.writer,
             &mut self.disk,
             &mut self.locks,
             &row,
             key,
-        ) {
-            Ok(LockAnswer::Granted(found)) => {
-                self.failed = false;
-                match found {
-                    Some(taken) => {
-                        self.txns.note_record(t, taken.last, taken.undo_next);
-                        Reply::Deleted
-                    }
-                    None => Reply::Absent,
-                }
+        );
+        match self.answered(t, as_seen(came)) {
+            Ok(Some(taken)) => {
+                self.txns.note_record(t, taken.last, taken.undo_next);
+                Reply::Deleted
             }
-            Ok(LockAnswer::Wait(holder)) => {
-                self.failed = false;
-                Reply::Blocked(Blocker::Lock(holder))
-            }
-            Ok(LockAnswer::Die) => {
-                self.failed = false;
-                self.txns.set_mark(t, Mark::MustRollBack);
-                Reply::Die
-            }
-            Err(fault) => {
-                self.failed = breaks(fault);
-                Reply::Refused(told(fault))
-            }
+            Ok(None) => Reply::Absent,
+            Err(reply) => reply,
         }
     }
 }

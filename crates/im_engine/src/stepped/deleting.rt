@@ -2,15 +2,12 @@
 
 ghost use Rattle.std.specs.Prelude.{◌≡◌, None, false, true};
 
-use crate::accesses::{breaks, told};
 use crate::engine::Engine;
 use crate::stepped::{Aim, Under, beside_of};
 use im_base_disk::Disk;
-use im_base_steps::{Blocker, Reply};
-use im_base_txn::Mark;
+use im_base_steps::Reply;
 use im_base_types::{Fault, Key, TxnId};
-use im_engine_index::{Deleting, LockAnswer, delete_beside};
-use im_tree_search::Sight;
+use im_engine_index::{Deleting, delete_beside};
 
 impl<D: Disk> Engine<D> {
     ghost use Rattle.im_base_types.specs.Answers as answers;
@@ -32,7 +29,7 @@ impl<D: Disk> Engine<D> {
             return Reply::Refused(Fault::NoTransaction);
         };
         self.failed = true;
-        match delete_beside(
+        let came = delete_beside(
             self.alloc,
             &mut self.writer,
             &mut self.disk,
@@ -40,44 +37,25 @@ impl<D: Disk> Engine<D> {
             &row,
             key,
             beside_of(&self.under),
-        ) {
-            Ok(Sight::Seen(LockAnswer::Granted(Deleting::Gone))) => {
-                self.failed = false;
-                Reply::Absent
-            }
-            Ok(Sight::Seen(LockAnswer::Granted(Deleting::Taken(lsn)))) => {
-                self.failed = false;
+        );
+        match self.answered(t, came) {
+            Ok(Deleting::Gone) => Reply::Absent,
+            Ok(Deleting::Taken(lsn)) => {
                 self.txns.note_record(t, lsn, lsn);
                 Reply::Deleted
             }
-            Ok(Sight::Seen(LockAnswer::Granted(Deleting::Dropping(begun)))) => {
+            Ok(Deleting::Dropping(begun)) => {
                 let Ok(key) = Key::new(key) else {
+                    self.failed = true;
                     return Reply::Refused(Fault::Failed);
                 };
-                self.failed = false;
                 let last = begun.change().last();
                 self.txns.note_record(t, last, last);
                 let aim = Aim::Drops(key);
                 self.under = Some(Under { begun, aim });
                 Reply::More
             }
-            Ok(Sight::Seen(LockAnswer::Wait(holder))) => {
-                self.failed = false;
-                Reply::Blocked(Blocker::Lock(holder))
-            }
-            Ok(Sight::Seen(LockAnswer::Die)) => {
-                self.failed = false;
-                self.txns.set_mark(t, Mark::MustRollBack);
-                Reply::Die
-            }
-            Ok(Sight::Hidden) => {
-                self.failed = false;
-                Reply::Blocked(Blocker::Tree)
-            }
-            Err(fault) => {
-                self.failed = breaks(fault);
-                Reply::Refused(told(fault))
-            }
+            Err(reply) => reply,
         }
     }
 }

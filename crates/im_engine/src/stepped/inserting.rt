@@ -2,15 +2,12 @@
 
 ghost use Rattle.std.specs.Prelude.{◌≡◌, None, false, true};
 
-use crate::accesses::{breaks, told};
 use crate::engine::Engine;
 use crate::stepped::{Aim, Under, beside_of};
 use im_base_disk::Disk;
-use im_base_steps::{Blocker, Reply};
-use im_base_txn::Mark;
+use im_base_steps::Reply;
 use im_base_types::{Fault, Key, Rid, TxnId};
-use im_engine_index::{Inserting, LockAnswer, insert_beside};
-use im_tree_search::Sight;
+use im_engine_index::{Inserting, insert_beside};
 
 impl<D: Disk> Engine<D> {
     ghost use Rattle.im_base_types.specs.Answers as answers;
@@ -32,7 +29,7 @@ impl<D: Disk> Engine<D> {
             return Reply::Refused(Fault::NoTransaction);
         };
         self.failed = true;
-        match insert_beside(
+        let came = insert_beside(
             self.alloc,
             &mut self.writer,
             &mut self.disk,
@@ -42,44 +39,25 @@ impl<D: Disk> Engine<D> {
             rid,
             self.max_pages,
             beside_of(&self.under),
-        ) {
-            Ok(Sight::Seen(LockAnswer::Granted(Inserting::There))) => {
-                self.failed = false;
-                Reply::Duplicate
-            }
-            Ok(Sight::Seen(LockAnswer::Granted(Inserting::Put(lsn)))) => {
-                self.failed = false;
+        );
+        match self.answered(t, came) {
+            Ok(Inserting::There) => Reply::Duplicate,
+            Ok(Inserting::Put(lsn)) => {
                 self.txns.note_record(t, lsn, lsn);
                 Reply::Inserted
             }
-            Ok(Sight::Seen(LockAnswer::Granted(Inserting::Split(begun, leaf)))) => {
+            Ok(Inserting::Split(begun, leaf)) => {
                 let Ok(key) = Key::new(key) else {
+                    self.failed = true;
                     return Reply::Refused(Fault::Failed);
                 };
-                self.failed = false;
                 let last = begun.change().last();
                 self.txns.note_record(t, last, last);
                 let aim = Aim::Puts(key, rid, leaf);
                 self.under = Some(Under { begun, aim });
                 Reply::More
             }
-            Ok(Sight::Seen(LockAnswer::Wait(holder))) => {
-                self.failed = false;
-                Reply::Blocked(Blocker::Lock(holder))
-            }
-            Ok(Sight::Seen(LockAnswer::Die)) => {
-                self.failed = false;
-                self.txns.set_mark(t, Mark::MustRollBack);
-                Reply::Die
-            }
-            Ok(Sight::Hidden) => {
-                self.failed = false;
-                Reply::Blocked(Blocker::Tree)
-            }
-            Err(fault) => {
-                self.failed = breaks(fault);
-                Reply::Refused(told(fault))
-            }
+            Err(reply) => reply,
         }
     }
 }

@@ -1,65 +1,54 @@
-use Rattle.std.proofs.Common.{◌≡◌, ℕ, ◌≤◌, List, Some, map, refl, sym, subst, ap, ◌∙◌}
+use Rattle.std.proofs.Common.{◌≡◌, ℕ, ◌≤◌, List, Some, map, sym, subst, ap, ◌∙◌}
 use Rattle.im_base_types.specs.Answers as answers
 use Rattle.im_base_txn.specs.Rows.{changed, with_record}
 use Rattle.im_base_txn.proofs.LookUps.{look_ups_follow}
 use Rattle.im_smo_log.specs.declared.change.Change.{Change}
-use Rattle.im_tree_search.specs.declared.sight.Sight.TheVariants.{Seen}
-use Rattle.im_engine_index.specs.declared.lock_answer.LockAnswer.TheVariants.{Granted}
 use Rattle.im_engine.specs.declared.stepped.Aim.TheVariants.{Puts}
 use Rattle.im_engine.proofs.Checked.{access_fits, access_free}
 use Rattle.im_engine.proofs.SteppedEdits.{key_short, key_some, never_refused_key}
-use Rattle.im_engine.proofs.SteppedInserts.{made_begun, made_dies, made_hidden, made_refused, made_there, made_put, made_waits}
+use Rattle.im_engine.proofs.SteppedAnswered.{insert_begins, insert_granted, insert_needless, insert_otherwise}
 use Rattle.im_engine.proofs.engine.Engine.insert_stepped.Goals as goal
 
-pub insert_beside-requires-clause-owner : goal.insert_beside-requires-clause-owner
-insert_beside-requires-clause-owner g c = subst (λ (n : ℕ). 1 ≤ n) (sym (look_ups_follow.found c.args.t c.args.self.now.txns.rows c.in-Some.row (sym c.in-Some.ensures.found))) c.in-Some.ensures.owned
+pub insert_beside-came-requires-clause-owner : goal.insert_beside-came-requires-clause-owner
+insert_beside-came-requires-clause-owner g c = subst (λ (n : ℕ). 1 ≤ n) (sym (look_ups_follow.found c.args.t c.args.self.now.txns.rows c.in-Some.row (sym c.in-Some.ensures.found))) c.in-Some.ensures.owned
 
-pub insert_beside-requires-clause-keyed : goal.insert_beside-requires-clause-keyed
-insert_beside-requires-clause-keyed g c = key_some c.args.key.now (access_fits c.args.self.now.txns.rows _ c.args.t (answers.Insert c.args.key.now c.args.rid) c.requires.checked)
+pub insert_beside-came-requires-clause-keyed : goal.insert_beside-came-requires-clause-keyed
+insert_beside-came-requires-clause-keyed g c = key_some c.args.key.now (access_fits c.args.self.now.txns.rows _ c.args.t (answers.Insert c.args.key.now c.args.rid) c.requires.checked)
 
-pub insert_beside-requires-clause-short : goal.insert_beside-requires-clause-short
-insert_beside-requires-clause-short g c = key_short c.args.key.now (access_fits c.args.self.now.txns.rows _ c.args.t (answers.Insert c.args.key.now c.args.rid) c.requires.checked)
+pub insert_beside-came-requires-clause-short : goal.insert_beside-came-requires-clause-short
+insert_beside-came-requires-clause-short g c = key_short c.args.key.now (access_fits c.args.self.now.txns.rows _ c.args.t (answers.Insert c.args.key.now c.args.rid) c.requires.checked)
 
-pub set_mark-requires-clause-before : goal.set_mark-requires-clause-before
-set_mark-requires-clause-before g c = access_free c.args.self.now.txns.rows _ c.args.t (answers.Insert c.args.key.now c.args.rid) c.requires.checked
+pub answered-requires-clause-free : goal.answered-requires-clause-free
+answered-requires-clause-free g c = access_free c.args.self.now.txns.rows _ c.args.t (answers.Insert c.args.key.now c.args.rid) c.requires.checked
 
-pub returns-in-Ok-Seen-Granted-There : goal.returns-in-Ok-Seen-Granted-There
-returns-in-Ok-Seen-Granted-There g c =
-    made_there g.D.Disk c.args.t c.args.key.now c.args.rid c.args.self.now _ c.requires.works c.in-Some.row (sym c.in-Some.ensures.found) c.requires.checked c.beside_of.result c.beside_of.ensures refl
-    c.in-Ok-Seen-Granted-There.field-0 c.in-Ok-Seen-Granted-There.ensures.kept c.in-Ok-Seen-Granted-There.ensures.outcome refl refl (c.in-Ok-Seen-Granted-There.field-0-is ∙ ap Seen (c.in-Ok-Seen-Granted-There.field-0-0-is ∙ ap Granted c.in-Ok-Seen-Granted-There.field-0-0-0-is)) refl
+pub returns-in-Ok-There : goal.returns-in-Ok-There
+returns-in-Ok-There g c =
+    let below = c.insert_beside-came in
+    insert_needless g.D.Disk c.args.t c.args.key.now c.args.rid c.args.self.now c.in-Some.row (sym c.in-Some.ensures.found) c.requires.checked c.beside_of.result c.beside_of.ensures _ c.requires.works below.new.writer below.new.disk below.new.locks c.in-Ok-There.ensures.rest below.result
+    (record { outcome = below.ensures.outcome; kept = below.ensures.kept; table = below.ensures.table; lasting = below.ensures.lasting }) c.in-Ok-There.ensures.failed c.in-Ok-There.field-0 c.in-Ok-There.ensures.answer c.in-Ok-There.field-0-is c.in-Ok-There.ensures.under c.in-Ok-There.ensures.table
 
-pub returns-in-Ok-Seen-Granted-Put : goal.returns-in-Ok-Seen-Granted-Put
-returns-in-Ok-Seen-Granted-Put g c =
-    made_put g.D.Disk c.args.t c.args.key.now c.args.rid c.args.self.now _ c.requires.works c.in-Some.row (sym c.in-Some.ensures.found) c.requires.checked c.beside_of.result c.beside_of.ensures refl
-    c.in-Ok-Seen-Granted-Put.field-0 c.in-Ok-Seen-Granted-Put.ensures.kept c.in-Ok-Seen-Granted-Put.ensures.outcome refl refl c.in-Ok-Seen-Granted-Put.lsn (c.in-Ok-Seen-Granted-Put.field-0-is ∙ ap Seen (c.in-Ok-Seen-Granted-Put.field-0-0-is ∙ ap Granted c.in-Ok-Seen-Granted-Put.field-0-0-0-is)) c.note_record.ensures
-
-pub returns-in-Ok-Seen-Wait : goal.returns-in-Ok-Seen-Wait
-returns-in-Ok-Seen-Wait g c =
-    made_waits g.D.Disk c.args.t c.args.key.now c.args.rid c.args.self.now _ c.requires.works c.in-Some.row (sym c.in-Some.ensures.found) c.requires.checked c.beside_of.result c.beside_of.ensures refl
-    c.in-Ok-Seen-Wait.field-0 c.in-Ok-Seen-Wait.ensures.kept c.in-Ok-Seen-Wait.ensures.outcome refl refl c.in-Ok-Seen-Wait.holder (c.in-Ok-Seen-Wait.field-0-is ∙ ap Seen c.in-Ok-Seen-Wait.field-0-0-is) refl
-
-pub returns-in-Ok-Seen-Die : goal.returns-in-Ok-Seen-Die
-returns-in-Ok-Seen-Die g c =
-    made_dies g.D.Disk c.args.t c.args.key.now c.args.rid c.args.self.now _ c.requires.works c.in-Some.row (sym c.in-Some.ensures.found) c.requires.checked c.beside_of.result c.beside_of.ensures refl
-    c.in-Ok-Seen-Die.field-0 c.in-Ok-Seen-Die.ensures.kept c.in-Ok-Seen-Die.ensures.outcome refl refl (c.in-Ok-Seen-Die.field-0-is ∙ ap Seen c.in-Ok-Seen-Die.field-0-0-is) c.set_mark.ensures
-
-pub returns-in-Ok-Hidden : goal.returns-in-Ok-Hidden
-returns-in-Ok-Hidden g c =
-    made_hidden g.D.Disk c.args.t c.args.key.now c.args.rid c.args.self.now _ c.requires.works c.in-Some.row (sym c.in-Some.ensures.found) c.requires.checked c.beside_of.result c.beside_of.ensures refl
-    c.in-Ok-Hidden.field-0 c.in-Ok-Hidden.ensures.kept c.in-Ok-Hidden.ensures.outcome refl refl c.in-Ok-Hidden.field-0-is refl
+pub returns-in-Ok-Put : goal.returns-in-Ok-Put
+returns-in-Ok-Put g c =
+    let below = c.insert_beside-came in
+    insert_granted g.D.Disk c.args.t c.args.key.now c.args.rid c.args.self.now c.in-Some.row (sym c.in-Some.ensures.found) c.requires.checked c.beside_of.result c.beside_of.ensures _ c.requires.works below.new.writer below.new.disk below.new.locks c.in-Ok-Put.ensures.rest below.result
+    (record { outcome = below.ensures.outcome; kept = below.ensures.kept; table = below.ensures.table; lasting = below.ensures.lasting }) c.in-Ok-Put.ensures.failed c.in-Ok-Put.field-0 c.in-Ok-Put.ensures.answer c.in-Ok-Put.lsn c.in-Ok-Put.field-0-is c.in-Ok-Put.ensures.under
+    c.answered.new.self.txns c.in-Ok-Put.ensures.table c.note_record.ensures
 
 pub returns-in-Err : goal.returns-in-Err
 returns-in-Err g c =
-    made_refused g.D.Disk c.args.t c.args.key.now c.args.rid c.args.self.now _ c.requires.works c.in-Some.row (sym c.in-Some.ensures.found) c.requires.checked c.beside_of.result c.beside_of.ensures refl
-    c.in-Err.fault c.in-Err.ensures.kept c.in-Err.ensures.outcome refl refl (λ u f le left. g.met.D.Disk.counts_now c.insert_beside.new.disk u f le left) c.breaks-self.ensures c.in-Err.ensures.table c.in-Err.ensures.lasting c.told.result c.told.ensures
+    let below = c.insert_beside-came in
+    insert_otherwise g.D.Disk c.args.t c.args.key.now c.args.rid c.args.self.now c.in-Some.row (sym c.in-Some.ensures.found) c.requires.checked c.beside_of.result c.beside_of.ensures _ c.requires.works below.new.writer below.new.disk below.new.locks c.in-Err.ensures.rest below.result
+    (record { outcome = below.ensures.outcome; kept = below.ensures.kept; table = below.ensures.table; lasting = below.ensures.lasting }) c.in-Err.ensures.failed c.in-Err.ensures.under c.in-Err.ensures.table
+    (λ u f le left. g.met.D.Disk.counts_now c.answered.new.self.disk u f le left) c.in-Err.reply c.in-Err.ensures.answer
 
 pub returns-in_default-new : goal.returns-in_default-new
 returns-in_default-new g c = absurd (never_refused_key c.args.key.now c.new.result (access_fits c.args.self.now.txns.rows _ c.args.t (answers.Insert c.args.key.now c.args.rid) c.requires.checked) c.new.ensures.taken c.in_default-new.not-Ok)
 
 pub returns-in-Ok : goal.returns-in-Ok
 returns-in-Ok g c =
-    let last : c.last-last.result ≡ c.in-Ok-Seen-Granted-Split.begun.change.last = c.last-last.ensures ∙ ap (λ (y : Change). y.last) c.change.ensures in
-    made_begun g.D.Disk c.args.t c.args.key.now c.args.rid c.args.self.now _ c.requires.works c.in-Some.row (sym c.in-Some.ensures.found) c.requires.checked c.beside_of.result c.beside_of.ensures refl
-    c.in-Ok-Seen-Granted-Split.field-0 c.in-Ok-Seen-Granted-Split.ensures.kept c.in-Ok-Seen-Granted-Split.ensures.outcome refl c.requires.stepped c.in-Ok-Seen-Granted-Split.begun c.in-Ok-Seen-Granted-Split.leaf (c.in-Ok-Seen-Granted-Split.field-0-is ∙ ap Seen (c.in-Ok-Seen-Granted-Split.field-0-0-is ∙ ap Granted c.in-Ok-Seen-Granted-Split.field-0-0-0-is))
-    (ap (λ (k : List ℕ). Some (record { begun = c.in-Ok-Seen-Granted-Split.begun; aim = Puts k c.args.rid c.in-Ok-Seen-Granted-Split.leaf })) c.in-Ok.ensures.key)
-    (c.note_record-in-Ok-Seen-Granted-Split.ensures ∙ ap (λ (n : ℕ). record c.args.self.now.txns { rows = map (changed c.args.t (with_record n n)) c.args.self.now.txns.rows }) last)
+    let last : c.last-last.result ≡ c.in-Ok-Split.begun.change.last = c.last-last.ensures ∙ ap (λ (y : Change). y.last) c.change.ensures in
+    let below = c.insert_beside-came in
+    insert_begins g.D.Disk c.args.t c.args.key.now c.args.rid c.args.self.now c.in-Some.row (sym c.in-Some.ensures.found) c.requires.checked c.beside_of.result c.beside_of.ensures _ c.requires.works below.new.writer below.new.disk below.new.locks c.in-Ok-Split.ensures.rest below.result
+    (record { outcome = below.ensures.outcome; kept = below.ensures.kept; table = below.ensures.table; lasting = below.ensures.lasting }) c.in-Ok-Split.ensures.failed c.requires.stepped c.in-Ok-Split.field-0 c.in-Ok-Split.ensures.answer c.in-Ok-Split.begun c.in-Ok-Split.leaf c.in-Ok-Split.field-0-is
+    (ap (λ (k : List ℕ). Some (record { begun = c.in-Ok-Split.begun; aim = Puts k c.args.rid c.in-Ok-Split.leaf })) c.in-Ok.ensures.key) c.answered.new.self.txns c.in-Ok-Split.ensures.table
+    (c.note_record-in-Ok-Split.ensures ∙ ap (λ (n : ℕ). record c.answered.new.self.txns { rows = map (changed c.args.t (with_record n n)) c.answered.new.self.txns.rows }) last)

@@ -2,46 +2,29 @@ use Rattle.std.proofs.Common.{refl, ap}
 use Rattle.im_base_types.specs.Answers as answers
 use Rattle.im_base_steps.specs.declared.reply.Reply.TheVariants as replies
 use Rattle.im_engine.proofs.Checked.{access_free}
-use Rattle.im_engine.proofs.SteppedReading.{made_granted, made_waits, made_dies, made_hidden, made_refused}
-use Rattle.im_engine.proofs.SteppedTold.{tree_here, walk_here}
+use Rattle.im_engine.proofs.SteppedReading.{made_answered, made_otherwise}
 use Rattle.im_engine.proofs.engine.Engine.prev.Goals as goal
 
-pub set_mark-requires-clause-before : goal.set_mark-requires-clause-before
-set_mark-requires-clause-before g c = access_free c.args.self.now.txns.rows _ c.args.t (answers.Prev c.args.key.now) c.requires.checked
+pub answered-requires-clause-free : goal.answered-requires-clause-free
+answered-requires-clause-free g c = access_free c.args.self.now.txns.rows _ c.args.t (answers.Prev c.args.key.now) c.requires.checked
 
-pub returns-in-Some : goal.returns-in-Some
-returns-in-Some g c =
-    made_granted g.D.Disk c.args.t (answers.Prev c.args.key.now) refl c.args.self.now _ c.requires.works c.requires.checked refl refl c.beside_of.result c.beside_of.ensures
-    c.in-Ok-Seen-Granted.ensures.outcome refl answers.entry c.in-Ok-Seen-Granted.field-0 c.in-Ok-Seen-Granted.ensures.kept c.in-Ok-Seen-Granted.field-0-0 c.in-Ok-Seen-Granted.field-0-is c.in-Ok-Seen-Granted.found c.in-Ok-Seen-Granted.field-0-0-is (replies.Entry c.in-Some.key c.in-Some.rid)
-    (record { stays = λ k. refl; late = refl; answered = refl; number = tt; suits = refl; at_once = refl; grouped = tt }) (ap answers.entry c.in-Some.is) refl refl
+pub returns-in-Ok-Some : goal.returns-in-Ok-Some
+returns-in-Ok-Some g c =
+    let below = c.prev_beside-came in
+    made_answered g.D.Disk c.args.t (answers.Prev c.args.key.now) refl c.args.self.now _ c.requires.works c.requires.checked c.beside_of.result c.beside_of.ensures c.in-Ok-Some.ensures.under below.new.writer below.new.disk below.new.locks c.in-Ok-Some.ensures.rest answers.entry below.result
+    (record { outcome = below.ensures.outcome; kept = below.ensures.kept; table = below.ensures.table; lasting = below.ensures.lasting }) c.in-Ok-Some.ensures.failed c.in-Ok-Some.ensures.table
+    c.in-Ok-Some.field-0 c.in-Ok-Some.ensures.answer (replies.Entry c.in-Ok-Some.key c.in-Ok-Some.rid) (record { stays = λ k. refl; late = refl; answered = refl; number = tt; suits = refl; at_once = λ _. refl; grouped = tt }) (ap answers.entry c.in-Ok-Some.field-0-is) refl
 
-pub returns-in-None : goal.returns-in-None
-returns-in-None g c =
-    made_granted g.D.Disk c.args.t (answers.Prev c.args.key.now) refl c.args.self.now _ c.requires.works c.requires.checked refl refl c.beside_of.result c.beside_of.ensures
-    c.in-Ok-Seen-Granted.ensures.outcome refl answers.entry c.in-Ok-Seen-Granted.field-0 c.in-Ok-Seen-Granted.ensures.kept c.in-Ok-Seen-Granted.field-0-0 c.in-Ok-Seen-Granted.field-0-is c.in-Ok-Seen-Granted.found c.in-Ok-Seen-Granted.field-0-0-is replies.End
-    (record { stays = λ k. refl; late = refl; answered = refl; number = tt; suits = refl; at_once = refl; grouped = tt }) (ap answers.entry c.in-None.is) refl refl
-
-pub returns-in-Ok-Seen-Wait : goal.returns-in-Ok-Seen-Wait
-returns-in-Ok-Seen-Wait g c =
-    made_waits g.D.Disk c.args.t (answers.Prev c.args.key.now) refl c.args.self.now _ c.requires.works c.requires.checked refl refl c.beside_of.result c.beside_of.ensures
-    c.in-Ok-Seen-Wait.ensures.outcome refl answers.entry c.in-Ok-Seen-Wait.field-0 c.in-Ok-Seen-Wait.ensures.kept c.in-Ok-Seen-Wait.field-0-0 c.in-Ok-Seen-Wait.field-0-is c.in-Ok-Seen-Wait.holder c.in-Ok-Seen-Wait.field-0-0-is refl
-
-pub returns-in-Ok-Seen-Die : goal.returns-in-Ok-Seen-Die
-returns-in-Ok-Seen-Die g c =
-    made_dies g.D.Disk c.args.t (answers.Prev c.args.key.now) refl c.args.self.now _ c.requires.works c.requires.checked refl refl c.beside_of.result c.beside_of.ensures
-    c.in-Ok-Seen-Die.ensures.outcome refl answers.entry c.in-Ok-Seen-Die.field-0 c.in-Ok-Seen-Die.ensures.kept c.in-Ok-Seen-Die.field-0-0 c.in-Ok-Seen-Die.field-0-is c.in-Ok-Seen-Die.field-0-0-is c.set_mark.ensures
-
-pub returns-in-Ok-Hidden : goal.returns-in-Ok-Hidden
-returns-in-Ok-Hidden g c =
-    made_hidden g.D.Disk c.args.t (answers.Prev c.args.key.now) refl c.args.self.now _ c.requires.works c.requires.checked refl refl c.beside_of.result c.beside_of.ensures
-    c.in-Ok-Hidden.ensures.outcome refl answers.entry c.in-Ok-Hidden.field-0 c.in-Ok-Hidden.ensures.kept c.in-Ok-Hidden.field-0-is refl
+pub returns-in-Ok-None : goal.returns-in-Ok-None
+returns-in-Ok-None g c =
+    let below = c.prev_beside-came in
+    made_answered g.D.Disk c.args.t (answers.Prev c.args.key.now) refl c.args.self.now _ c.requires.works c.requires.checked c.beside_of.result c.beside_of.ensures c.in-Ok-None.ensures.under below.new.writer below.new.disk below.new.locks c.in-Ok-None.ensures.rest answers.entry below.result
+    (record { outcome = below.ensures.outcome; kept = below.ensures.kept; table = below.ensures.table; lasting = below.ensures.lasting }) c.in-Ok-None.ensures.failed c.in-Ok-None.ensures.table
+    c.in-Ok-None.field-0 c.in-Ok-None.ensures.answer replies.End (record { stays = λ k. refl; late = refl; answered = refl; number = tt; suits = refl; at_once = λ _. refl; grouped = tt }) (ap answers.entry c.in-Ok-None.field-0-is) refl
 
 pub returns-in-Err : goal.returns-in-Err
 returns-in-Err g c =
-    let old = c.args.self.now in
-    made_refused g.D.Disk c.args.t (answers.Prev c.args.key.now) refl c.args.self.now _ c.requires.works c.requires.checked refl refl c.beside_of.result c.beside_of.ensures
-    (λ t f le left. g.met.D.Disk.counts_now c.prev_beside.new.disk t f le left) c.in-Err.fault c.in-Err.ensures.outcome
-    (λ before s v life.
-    let r = (life.running c.requires.works).1 in
-    c.in-Err.ensures.kept _ v.walk (tree_here g.D.Disk before s v old r c.beside_of.result c.beside_of.ensures).tree (walk_here g.D.Disk before s v old r c.beside_of.result c.beside_of.ensures))
-    c.breaks-self.ensures refl c.in-Err.ensures.table c.in-Err.ensures.lasting c.told.result c.told.ensures
+    let below = c.prev_beside-came in
+    made_otherwise g.D.Disk c.args.t (answers.Prev c.args.key.now) refl c.args.self.now _ c.requires.works c.requires.checked c.beside_of.result c.beside_of.ensures c.in-Err.ensures.under below.new.writer below.new.disk below.new.locks c.in-Err.ensures.rest answers.entry below.result
+    (record { outcome = below.ensures.outcome; kept = below.ensures.kept; table = below.ensures.table; lasting = below.ensures.lasting }) c.in-Err.ensures.failed c.in-Err.ensures.table
+    (λ u f le left. g.met.D.Disk.counts_now c.answered.new.self.disk u f le left) c.in-Err.reply c.in-Err.ensures.answer
