@@ -1,7 +1,8 @@
 //! The steps of which the protocols above are made. No other function of the store calls a disk to write.
 ghost use Rattle.std.specs.Prelude.{◌≡◌, ◌+◌, ◌^◌, ◌≤◌, ◌<◌, ◌⊎◌, ◌↔◌, true, false, length, take, drop, IfOk, IfErr, OnOk};
 ghost use Rattle.im_base_disk.specs.Disk.{Files, Only, Stepped, Follows, InFile, Holds, Torn, Answers};
-ghost use Rattle.im_base_disk.specs.Runs.{LeavesOnly, ChangesOnly, Reads, Costs, CostsAtMost};
+ghost use Rattle.im_base_disk.specs.Runs.{LeavesOnly, ChangesOnly, Reads, Costs};
+ghost use Rattle.im_base_disk.specs.Ends.{CostsUpTo, WritesIn};
 ghost use Rattle.im_base_types.specs.declared.fault.Fault.TheVariants.{Device, Memory};
 
 use crate::Disk;
@@ -14,11 +15,8 @@ pub fn write_synced<D: Disk>(disk: &mut D, file: FileId, at: u64, bytes: &[u8]) 
     requires place { D.tells → at ≤ length (D.seen disk.old file) }
     ensures written { OnOk result (D.tells → Holds at bytes.now (D.seen disk.old file) (D.seen disk.new file)) }
     ensures durable { OnOk result (Only file (D.seen disk.new) (D.may_leave disk.new)) }
-    ensures crash { Follows (InFile file (Torn at (length bytes.now))) (D.may_leave disk.old) (D.may_leave disk.new) }
-    ensures changes { ChangesOnly D.Disk file disk.old disk.new }
-    ensures any_moment { LeavesOnly D.Disk disk.old disk.new (Stepped (InFile file (Torn at (length bytes.now))) (D.may_leave disk.old)) }
-    ensures costs { OnOk result (Costs D.Disk 1 1 disk.old disk.new) }
-    ensures few { CostsAtMost D.Disk 1 1 disk.old disk.new }
+    ensures writes { WritesIn D.Disk file (Torn at (length bytes.now)) disk.old disk.new }
+    ensures costs { CostsUpTo D.Disk 1 1 disk.old disk.new result }
     ensures answers { Answers (D.failed disk.new) result }
 {
     disk.write_at(file, at, bytes)?;

@@ -1,5 +1,5 @@
 -- How a log goes on in the other file.
-use Rattle.std.proofs.Common.{◌≡◌, ◌≢◌, ◌⊎◌, inl, inr, ⊎_elim, ℕ, ◌+◌, ◌^◌, ◌<◌, ◌≤◌, Bool, true, false, List, [], Some, refl, sym, ◌∙◌, ap, subst, arith}
+use Rattle.std.proofs.Common.{◌≡◌, ◌⊎◌, inl, inr, ⊎_elim, ℕ, ◌+◌, ◌^◌, ◌<◌, Bool, true, false, List, [], Some, refl, sym, ◌∙◌, ap, subst, arith}
 use Rattle.im_base_types.specs.declared.file_id.FileId.{FileId}
 use Rattle.im_base_types.specs.declared.file_id.FileId.TheVariants.{Log, Pages, Log2}
 use Rattle.im_base_types.specs.Records.{Logged}
@@ -11,13 +11,12 @@ use Rattle.im_base_two_logs.specs.Runs.{LeavesNamed}
 use Rattle.im_log_header.specs.declared.header.Header.{Header}
 use Rattle.im_log_header.specs.Header.{IsBeingMade, IsEmptyLog}
 use Rattle.im_log_choice.specs.Current.{HasCurrent, IsCurrent}
-use Rattle.im_log_choice.specs.Laws.{HasOneOf}
 use Rattle.im_log_choice.specs.Switching.{IsSwitching}
 use Rattle.im_log_choice.proofs.SwitchedFiles.{stops}
 use Rattle.im_log_choice.proofs.SwitchStops.{log_not_other}
 use Rattle.im_log_gate.specs.declared.gate.Gate.{Gate}
 use Rattle.im_log_gate.specs.Batches.{batches}
-use Rattle.im_log_gate.specs.Gate.{file_of, base_at, generation_at, place_of, logged, InOneFile, StartsAs}
+use Rattle.im_log_gate.specs.Gate.{file_of, base_at, place_of, logged, InOneFile, StartsAs}
 use Rattle.im_log_gate.specs.Switching.{IsFirstOf, IsNextOf}
 use Rattle.im_log_gate.specs.Header.{base_of, first_gate, generation_of, IsMade}
 use Rattle.im_log_gate.proofs.Switching as made_logs

@@ -1,5 +1,5 @@
 -- The batches that wait in the buffer are those that its bytes say: what is known of them has no data of its own, so that a type may keep it.
-use Rattle.std.proofs.Common.{◌≡◌, ℕ, List, [], ◌∷◌, ◌++◌, Some, Option, append-nil, take, sym, ◌∙◌, ap}
+use Rattle.std.proofs.Common.{◌≡◌, ℕ, List, [], ◌∷◌, ◌++◌, Some, append-nil, take, sym, ◌∙◌, ap}
 use Rattle.std.specs.Prelude.{All}
 use Rattle.std.proofs.Props.{props}
 use Rattle.std.proofs.lemmas.List.{append_cancel_right}

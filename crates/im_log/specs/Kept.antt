@@ -7,7 +7,7 @@ use Rattle.im_base_types.specs.Records.{Logged}
 use Rattle.im_theory_log.specs.Histories.{Base, IsFront, end_of}
 use Rattle.im_base_disk.specs.declared.disk.Disk.{Ghosts}
 use Rattle.im_base_disk.specs.Disk.{Files}
-use Rattle.im_base_disk.specs.Runs.{LeavesIn, ChangesOnly}
+use Rattle.im_base_disk.specs.Runs.{LeavesIn}
 use Rattle.im_log_gate.specs.Batches.{batches}
 use Rattle.im_log_gate.specs.Header.{base_of, first_gate, generation_of, IsMade, IsUnmade}
 use Rattle.im_log_record.specs.Entry.{Entry}
@@ -80,10 +80,3 @@ pub record OpenKept {D : Type 0} (d : Ghosts D) (base : ℕ) (all : List Logged)
   pub ok : IfOk result (λ log. IsLog d base all all log new_disk)
   pub stops : LeavesIn d Log old_disk new_disk (IsLogOf base all)
   pub cause : IfErr result (λ e. e ≢ NotAStore)
-
--- Calls of the log in a row, of which each so far succeeded: what the log is now, and what a stop since the first has left.
-pub record Run {D : Type 0} (d : Ghosts D) (base : ℕ) (low all durable : List Logged) (old : D) (file : LogFile) (disk : D) : Type 0 where
-  pub log : IsLog d base all durable file disk
-  pub stops : LeavesIn d Log old disk (SpellsBetween base low all)
-  pub changes : ChangesOnly d Log old disk
-  pub longer : IsFront low durable

@@ -1,5 +1,5 @@
 -- What a log file knows of its disk.
-use Rattle.std.specs.Prelude.{drop, ◌≡◌, ℕ, ◌+◌, ◌^◌, ◌<◌, ◌≤◌, nat_le, if◌then◌else◌, false, List, length, take, Some}
+use Rattle.std.specs.Prelude.{drop, ◌≡◌, ◌⊎◌, ℕ, ◌+◌, ◌^◌, ◌<◌, ◌≤◌, nat_le, if◌then◌else◌, false, List, length, take, Some}
 use Rattle.im_base_types.specs.declared.file_id.FileId.TheVariants.{Log}
 use Rattle.im_base_types.specs.Records.{Logged}
 use Rattle.im_theory_log.specs.Histories.{IsFront}
@@ -31,6 +31,10 @@ batch_lsn log = log.base + (place_of log.gate + log.start + 5)
 abbrev pub next_lsn : LogFile → ℕ
 next_lsn log = batch_lsn log + log.used
 
+-- Where no record can be: below the log, at its gate, and at its end or above.
+abbrev pub LiesOutside : LogFile → ℕ → Type 0
+LiesOutside log lsn = (lsn < log.base) ⊎ ((log.base + place_of log.gate ≤ lsn) × (lsn < first_lsn log)) ⊎ (next_lsn log ≤ lsn)
+
 -- Where a record of this length would end, as an LSN.
 abbrev pub end_with : LogFile → ℕ → ℕ
 end_with log size = if nat_le (log.used + size) 16384 then next_lsn log + size else next_lsn log + 5 + size
@@ -42,6 +46,17 @@ IsAhead log = log.base + (place_of log.gate + 1) + (length log.buffer.items + 16
 -- Behind the batch that is being filled a whole one more finds room in the buffer, and its records below LSN 2^62.
 abbrev pub HasNextRoom : LogFile → Type 0
 HasNextRoom log = (log.start + log.used + 16394 ≤ length log.buffer.items) × IsAhead log
+
+-- The log stands behind the same gate.
+pub record SameGate (old new : LogFile) : Type 0 where
+  pub base : new.base ≡ old.base
+  pub gate : new.gate ≡ old.gate
+  pub failed : new.failed ≡ old.failed
+
+-- A record of this length joined what waits: in the batch that is being filled where it fits there.
+pub record HasTakenIn (size : ℕ) (old new : LogFile) : Type 0 where
+  pub end : next_lsn new ≡ end_with old size
+  pub used : old.used + size ≤ 16384 → new.used ≡ old.used + size
 
 -- A record of some length would end above LSN 2^62; the gate works still, and at most one batch waits.
 pub record HasNoRoom (log : LogFile) : Type 0 where

@@ -1,13 +1,15 @@
 -- A log that is being opened.
-use Rattle.std.specs.Prelude.{◌≡◌, ℕ, ◌+◌, ◌-◌, ◌^◌, ◌≤◌, ◌<◌, false, List, ◌∷◌, length, take, drop, Option, Some, Result, IfOk, IfErr, MatchOption}
+use Rattle.std.specs.Prelude.{◌≡◌, ℕ, ◌+◌, ◌-◌, ◌^◌, ◌≤◌, ◌<◌, false, not, is_ok, List, [], ◌∷◌, length, take, drop, Option, Some, Result, IfOk, IfErr, MatchOption}
 use Rattle.im_base_types.specs.declared.fault.Fault.{Fault}
 use Rattle.im_base_types.specs.declared.fault.Fault.TheVariants.{Device}
 use Rattle.im_base_types.specs.declared.file_id.FileId.TheVariants.{Log}
 use Rattle.im_base_types.specs.Records.{Logged}
 use Rattle.im_theory_log.specs.Histories.{IsFront}
 use Rattle.im_base_disk.specs.declared.disk.Disk.{Ghosts}
+use Rattle.im_base_disk.specs.Ends.{Refusals}
+use Rattle.im_base_disk.specs.Runs.{Reads}
 use Rattle.im_log_gate.specs.Batches.{size_of}
-use Rattle.im_log_gate.specs.Gate.{IsReading, StartsAs, has_failed, place_of, unread}
+use Rattle.im_log_gate.specs.Gate.{IsReading, IsReady, StartsAs, has_failed, place_of, unread}
 use Rattle.im_log_gate.specs.Header.{base_of, IsMade}
 use Rattle.im_log_record.specs.Entry.{Entry}
 use Rattle.im_log_record.specs.Reading.{entry_of}
@@ -44,6 +46,11 @@ pub record Stepped (old : Opening) (lsn : ℕ) (new : Opening) : Type 0 where
   pub rest : rest_of new ≡ drop (record_size (rest_of old)) (rest_of old)
   pub position : position_of new ≡ position_of old + record_size (rest_of old)
 
+-- It reads the same log, and goes on where this call was not refused.
+pub record KeepsLog {A : Type 0} (old new : Opening) (result : Result A Fault) : Type 0 where
+  pub base : new.base ≡ old.base
+  pub failed : new.failed ≡ not (is_ok result)
+
 -- The batches from a place on are refused, or the first ends above LSN 2^62.
 pub record RefusedBatch (base place : ℕ) (unread : Option (List (List ℕ))) : Type 0 where
   pub refused : (ahead : List (List ℕ)) → unread ≡ Some ahead → 2 ^ 62 < base + (place + size_of ahead)
@@ -56,6 +63,19 @@ module _ {D : Type 0} (d : Ghosts D) where
     pub working : opening.failed ≡ false → has_failed opening.gate ≡ false
     pub behind : opening.failed ≡ false → opening.behind ≡ place_of opening.gate
     pub ahead : opening.failed ≡ false → d.tells → ahead_of opening ≡ take (length (ahead_of opening)) (drop (place_of opening.gate) (d.seen disk Log))
+
+  -- The outcome of a call that reads on. `own` are the refusals of its own.
+  pub record OpeningRead {A : Type 0} (own : Fault → Type 0) (old : Opening) (old_disk : D) (new : Opening) (disk : D) (result : Result A Fault) : Type 0 where
+    pub begun : IsBegun new disk
+    pub reads : Reads d old_disk disk
+    pub base : new.base ≡ old.base
+    pub failed : new.failed ≡ not (is_ok result)
+    pub refusals : Refusals own old.failed (d.failed disk) result
+
+  -- There is no batch more: its gate is closed.
+  pub record AtEnd (old : Opening) (old_disk : D) (new : Opening) (disk : D) : Type 0 where
+    pub closed : IsReady d new.gate disk
+    pub none : d.tells → unread d old.gate old_disk ≡ Some []
 
   -- The disk tells its bytes, the made file spells all these records, and what was read of them are the older ones.
   pub record IsOpening (base : ℕ) (all older : List Logged) (opening : Opening) (disk : D) : Type 0 where

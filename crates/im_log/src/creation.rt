@@ -1,10 +1,11 @@
 //! A log is made where there is none yet.
 
-ghost use Rattle.std.specs.Prelude.{◌≤◌, ◌≡◌, ◌⊎◌, ◌↔◌, true, false, length, IfErr, IfOk, List, ℕ};
-ghost use Rattle.im_base_types.specs.declared.fault.Fault.TheVariants.{Device, Memory, NotAStore};
+ghost use Rattle.std.specs.Prelude.{◌≤◌, ◌≡◌, ◌⊎◌, false, length, IfOk, List, ℕ};
+ghost use Rattle.im_base_types.specs.declared.fault.Fault.TheVariants.{Memory, NotAStore};
 ghost use Rattle.im_base_types.specs.declared.file_id.FileId.TheVariants.{Log, Pages};
 ghost use Rattle.im_base_types.specs.Records.{Logged};
 ghost use Rattle.im_base_disk.specs.Disk.{Only};
+ghost use Rattle.im_base_disk.specs.Ends.{AnswersOr};
 ghost use Rattle.im_base_disk.specs.Runs.{ChangesOnly};
 ghost use Rattle.im_log_gate.specs.Header.{base_of, IsUnmade};
 ghost use Rattle.im_log.specs.LogFile.{IsOpen, IsLog};
@@ -28,15 +29,13 @@ pub fn open_or_create<D: Disk>(
     requires few { (1 ≤ batches) × (batches ≤ 64) }
     requires working { D.failed disk.old ≡ false }
     requires durable { Only Log (D.seen disk.old) (D.may_leave disk.old) }
-    ensures ready { IfOk result (λ log. IsOpen D.Disk log disk.new) }
+    ensures ready { IfOk result (λ log. IsOpen D.Disk log disk.new × (log.failed ≡ false)) }
     ensures kept { (base : ℕ) (all : List Logged) → D.tells → IsLogOf base all (D.seen disk.old Log) → (IsUnmade (D.seen disk.old Log) → length (D.seen disk.old Pages) ≡ 0)
         → OpenKept D.Disk base all disk.old disk.new result }
     ensures store { IfOk result (λ log. D.tells → (store : IsStore (D.seen disk.old)) × IsLog D.Disk (base_of (D.seen disk.old Log)) store.all store.all log disk.new) }
     ensures refused { result ≡ Err NotAStore → D.tells → ¬ (IsStore (D.seen disk.old)) }
     ensures changes { ChangesOnly D.Disk Log disk.old disk.new }
-    ensures working { IfOk result (λ log. log.failed ≡ false) }
-    ensures causes { IfErr result (λ e. (e ≡ Memory) ⊎ (e ≡ Device) ⊎ (e ≡ NotAStore)) }
-    ensures device { result ≡ Err Device ↔ (D.failed disk.new ≡ true) }
+    ensures answers { AnswersOr (λ e. (e ≡ Memory) ⊎ (e ≡ NotAStore)) (D.failed disk.new) result }
 {
     match Gate::open(alloc, disk, FileId::Log)? {
         Some(gate) => open_log(alloc, disk, gate, batches),

@@ -42,10 +42,10 @@ impl LogFile {
     ghost use Rattle.im_theory_log.specs.Histories.{IsRecordOf};
     ghost use Rattle.im_log_record.specs.Entry.{view};
     ghost use Rattle.im_log_record.specs.Spelling.{IsEntry, size_of, spelling};
-    ghost use Rattle.im_log.specs.LogFile.{buffered, first_lsn, batch_lsn, next_lsn, end_with, HasNoRoom, IsAhead, HasNextRoom, IsOpen, IsLog, Sealed};
+    ghost use Rattle.im_log.specs.LogFile.{buffered, first_lsn, batch_lsn, next_lsn, end_with, HasTakenIn, HasNoRoom, IsAhead, HasNextRoom, IsOpen, IsLog, LiesOutside, SameGate};
     ghost use Rattle.im_log_gate.specs.Batches.{IsFilled};
     ghost use Rattle.im_log.specs.Kept.{AppendKept, ForceKept};
-    ghost use Rattle.im_log.specs.Outcome.{LacksRoom, LogOutcome};
+    ghost use Rattle.im_log.specs.Outcome.{LacksRoom, LogOutcome, LogRead};
     ghost use Rattle.im_base_types.specs.Outcomes.{fault_of, none_own};
     ghost use Rattle.im_log.specs.Reading.{FoundKept};
 
@@ -140,9 +140,7 @@ impl LogFile {
         ensures buffered { buffered self.new ≡ buffered self.old ++ spelling (view record.now) }
         ensures used { self.new.used ≡ self.old.used + size_of (view record.now) }
         ensures sealed { (self.new.start ≡ self.old.start) × (take self.old.start self.new.buffer.items ≡ take self.old.start self.old.buffer.items) }
-        ensures base { self.new.base ≡ self.old.base }
-        ensures gate { self.new.gate ≡ self.old.gate }
-        ensures failed { self.new.failed ≡ self.old.failed }
+        ensures same { SameGate self.old self.new }
     {
         let at = self.start + 4 + self.used;
         let lsn = self.base + (self.gate.place() + 1) + at as u64;
@@ -159,9 +157,7 @@ impl LogFile {
         ensures start { self.new.start ≡ self.old.start + (self.old.used + 5) }
         ensures used { self.new.used ≡ 0 }
         ensures room { length self.new.buffer.items ≡ length self.old.buffer.items }
-        ensures base { self.new.base ≡ self.old.base }
-        ensures gate { self.new.gate ≡ self.old.gate }
-        ensures failed { self.new.failed ≡ self.old.failed }
+        ensures same { SameGate self.old self.new }
     {
         let end = self.start + 4 + self.used;
         seal(&mut self.buffer, self.start, end, true);
@@ -178,8 +174,7 @@ impl LogFile {
         ensures kept { (base : ℕ) (all durable : List Logged) → IsLog D.Disk base all durable self.old disk.old
             → ForceKept D.Disk base all durable disk.old self.new disk.new result }
         ensures costs { OnOk result (1 ≤ self.old.used → Costs D.Disk 2 2 disk.old disk.new) }
-        ensures none { self.old.used ≡ 0 → disk.new ≡ disk.old }
-        ensures same { self.old.failed ≡ false → self.old.used ≡ 0 → (result ≡ Ok tt) × (self.new ≡ self.old) }
+        ensures none { self.old.used ≡ 0 → (disk.new ≡ disk.old) × (self.old.failed ≡ false → (result ≡ Ok tt) × (self.new ≡ self.old)) }
         ensures place { OnOk result (1 ≤ self.old.used → next_lsn self.new ≡ next_lsn self.old + 5) }
         ensures empty { OnOk result (self.new.used ≡ 0) }
     {
@@ -217,10 +212,8 @@ impl LogFile {
         ensures kept { (base : ℕ) (all durable : List Logged) → IsLog D.Disk base all durable self.old disk.old
             → AppendKept D.Disk base all durable (view record.now) disk.old self.new disk.new result }
         ensures full { result ≡ Err LogFull ↔ ((self.old.failed ≡ false) × (2 ^ 62 < end_with self.old (size_of (view record.now)))) }
-        ensures end { OnOk result (next_lsn self.new ≡ end_with self.old (size_of (view record.now))) }
-        ensures used { IfOk result (λ lsn. self.old.used + size_of (view record.now) ≤ 16384 → self.new.used ≡ self.old.used + size_of (view record.now)) }
-        ensures fits { self.old.used + size_of (view record.now) ≤ 16384 → disk.new ≡ disk.old }
-        ensures later { HasNextRoom self.old → disk.new ≡ disk.old }
+        ensures grows { OnOk result (HasTakenIn (size_of (view record.now)) self.old self.new) }
+        ensures fits { (self.old.used + size_of (view record.now) ≤ 16384) ⊎ HasNextRoom self.old → disk.new ≡ disk.old }
         ensures forces { OnOk result (Forces D.Disk 1 disk.old disk.new) }
     {
         if self.failed {
@@ -251,20 +244,13 @@ impl LogFile {
     pub fn read_at<D: Disk>(&self, disk: &mut D, lsn: Lsn, room: &mut [u8]) -> Result<usize, Fault>
         requires room { 16384 ≤ length room.old }
         requires ready { IsOpen D.Disk self.now disk.old }
-        ensures ready { D.failed disk.new ≡ false → IsOpen D.Disk self.now disk.new }
-        ensures kept { (base : ℕ) (all durable : List Logged) → IsLog D.Disk base all durable self.now disk.old → IsLog D.Disk base all durable self.now disk.new }
+        ensures outcome { LogRead D.Disk (λ e. e ≡ NotAStore) self.now disk.old disk.new result }
         ensures found { (base : ℕ) (all durable : List Logged) (r : Logged) → IsLog D.Disk base all durable self.now disk.old
             → IsRecordOf r all → lsn ≡ r.lsn → FoundKept r room.new result }
-        ensures reads { Reads D.Disk disk.old disk.new }
         ensures room { length room.new ≡ length room.old }
         ensures size { IfOk result (λ size. (4 ≤ size) × (size ≤ 16384)) }
         ensures buffered { first_lsn self.now ≤ lsn → disk.new ≡ disk.old }
-        ensures below { self.now.failed ≡ false → lsn < self.now.base → result ≡ Err NotAStore }
-        ensures gate { self.now.failed ≡ false → self.now.base + place_of self.now.gate ≤ lsn → lsn < first_lsn self.now → result ≡ Err NotAStore }
-        ensures above { self.now.failed ≡ false → next_lsn self.now ≤ lsn → result ≡ Err NotAStore }
-        ensures causes { IfErr result (λ e. (e ≡ Failed) ⊎ (e ≡ NotAStore) ⊎ (e ≡ Device)) }
-        ensures already { result ≡ Err Failed ↔ (self.now.failed ≡ true) }
-        ensures device { self.now.failed ≡ false → result ≡ Err Device ↔ (D.failed disk.new ≡ true) }
+        ensures outside { self.now.failed ≡ false → LiesOutside self.now lsn → result ≡ Err NotAStore }
     {
         if self.failed {
             return Err(Fault::Failed);

@@ -1,11 +1,11 @@
 //! A log is opened after the last batch of its file, which is read once, several batches at a time.
 
-ghost use Rattle.std.specs.Prelude.{◌*◌, ◌≡◌, ◌+◌, ◌-◌, ◌^◌, ◌<◌, ◌≤◌, ◌⊎◌, ◌↔◌, true, false, not, is_ok, length, IfErr, IfOk, OnOk, List, ℕ, Some};
+ghost use Rattle.std.specs.Prelude.{◌*◌, ◌≡◌, ◌+◌, ◌-◌, ◌^◌, ◌<◌, ◌≤◌, ◌⊎◌, true, false, length, IfErr, IfOk, OnOk, List, ℕ, Some};
 ghost use Rattle.im_log.specs.Gates.{IsOfLog};
-ghost use Rattle.im_base_types.specs.declared.fault.Fault.TheVariants.{Device, Memory, NotAStore};
+ghost use Rattle.im_base_types.specs.declared.fault.Fault.TheVariants.{Memory, NotAStore};
 ghost use Rattle.im_base_types.specs.declared.file_id.FileId.TheVariants.{Log};
 ghost use Rattle.im_base_types.specs.Records.{Logged};
-ghost use Rattle.im_base_disk.specs.Runs.{Reads};
+ghost use Rattle.im_base_disk.specs.Ends.{ReadsOr};
 ghost use Rattle.im_log_gate.specs.Gate.{base_at, first_of, place_of, has_failed, StartsAs, IsReading};
 ghost use Rattle.im_log_gate.specs.Header.{base_of, IsMade};
 ghost use Rattle.im_log.specs.LogFile.{IsOpen, IsLog};
@@ -60,16 +60,16 @@ fn make_room(alloc: Global, batches: usize) -> Result<Vec<u8>, Fault>
 
 impl Opening {
     ghost use Rattle.std.specs.Prelude.{MatchOption, None, [], ◌∷◌};
-    ghost use Rattle.im_base_types.specs.declared.fault.Fault.TheVariants.{Device, Failed, Memory, NotAStore};
+    ghost use Rattle.im_base_types.specs.declared.fault.Fault.TheVariants.{Memory, NotAStore};
+    ghost use Rattle.im_base_types.specs.Outcomes.{none_own};
     ghost use Rattle.im_base_types.specs.Records.{Logged};
-    ghost use Rattle.im_base_disk.specs.Runs.{Reads};
     ghost use Rattle.im_log_gate.specs.Gate.{place_of, has_failed, unread, IsReading, IsReady, InOneFile};
     ghost use Rattle.im_log_gate.specs.Batches.{in_front};
     ghost use Rattle.im_log_record.specs.Entry.{view};
     ghost use Rattle.im_log_record.specs.Reading.{entry_of, Gives};
     ghost use Rattle.im_log.specs.LogFile.{IsOpen, IsLog};
     ghost use Rattle.im_log.specs.Spelled.{first_record};
-    ghost use Rattle.im_log.specs.Opening.{ahead_of, current_of, rest_of, position_of, IsBegun, IsOpening, NextKept, HasNext, HasRead, ReadOn, Stepped, RefusedBatch, Ended};
+    ghost use Rattle.im_log.specs.Opening.{ahead_of, current_of, rest_of, position_of, AtEnd, IsBegun, IsOpening, KeepsLog, OpeningRead, NextKept, HasNext, HasRead, ReadOn, Stepped, RefusedBatch, Ended};
 
     /// Begins to read a log at its first gate. It takes the room for so many batches, into which the file is read, and in which the log's records will wait.
     ///
@@ -100,18 +100,12 @@ impl Opening {
     fn read_alone<D: Disk>(&mut self, disk: &mut D) -> Result<bool, Fault>
         requires begun { IsBegun D.Disk self.old disk.old }
         requires working { self.old.failed ≡ false }
-        ensures begun { IsBegun D.Disk self.new disk.new }
-        ensures reads { Reads D.Disk disk.old disk.new }
-        ensures closed { result ≡ Ok false → IsReady D.Disk self.new.gate disk.new }
-        ensures none { result ≡ Ok false → D.tells → unread D.Disk self.old.gate disk.old ≡ Some [] }
+        ensures outcome { OpeningRead D.Disk (λ e. e ≡ NotAStore) self.old disk.old self.new disk.new result }
+        ensures ended { result ≡ Ok false → AtEnd D.Disk self.old disk.old self.new disk.new }
         ensures stays { result ≡ Ok false → self.new.behind ≡ self.old.behind }
         ensures one { result ≡ Ok true → D.tells → unread D.Disk self.old.gate disk.old ≡ in_front (rest_of self.new ∷ []) (unread D.Disk self.new.gate disk.new) }
         ensures read { result ≡ Ok true → HasNext self.old self.new }
         ensures refused { result ≡ Err NotAStore → D.tells → RefusedBatch self.old.base (place_of self.old.gate) (unread D.Disk self.old.gate disk.old) }
-        ensures base { self.new.base ≡ self.old.base }
-        ensures failed { self.new.failed ≡ not (is_ok result) }
-        ensures causes { IfErr result (λ e. (e ≡ NotAStore) ⊎ (e ≡ Device)) }
-        ensures device { result ≡ Err Device ↔ (D.failed disk.new ≡ true) }
     {
         self.failed = true;
         self.from = 0;
@@ -136,14 +130,9 @@ impl Opening {
     fn read_ahead<D: Disk>(&mut self, disk: &mut D) -> Result<(), Fault>
         requires begun { IsBegun D.Disk self.old disk.old }
         requires working { self.old.failed ≡ false }
-        ensures begun { IsBegun D.Disk self.new disk.new }
-        ensures reads { Reads D.Disk disk.old disk.new }
+        ensures outcome { OpeningRead D.Disk none_own self.old disk.old self.new disk.new result }
         ensures unread { unread D.Disk self.new.gate disk.new ≡ unread D.Disk self.old.gate disk.old }
         ensures place { (place_of self.new.gate ≡ place_of self.old.gate) × (self.new.behind ≡ self.old.behind) }
-        ensures base { self.new.base ≡ self.old.base }
-        ensures failed { self.new.failed ≡ not (is_ok result) }
-        ensures causes { IfErr result (λ e. e ≡ Device) }
-        ensures device { result ≡ Err Device ↔ (D.failed disk.new ≡ true) }
     {
         self.failed = true;
         self.from = 0;
@@ -164,8 +153,7 @@ impl Opening {
         ensures one { result ≡ Ok true → D.tells → unread D.Disk self.old.gate disk.now ≡ in_front (rest_of self.new ∷ []) (unread D.Disk self.new.gate disk.now) }
         ensures read { result ≡ Ok true → HasNext self.old self.new }
         ensures refused { IfErr result (λ e. (e ≡ NotAStore) × (D.tells → RefusedBatch self.old.base (place_of self.old.gate) (unread D.Disk self.old.gate disk.now))) }
-        ensures base { self.new.base ≡ self.old.base }
-        ensures failed { self.new.failed ≡ not (is_ok result) }
+        ensures same { KeepsLog self.old self.new result }
     {
         let Some(size) = self.gate.pass(disk, &self.bytes[self.end..self.held]) else {
             return Ok(false);
@@ -197,17 +185,11 @@ impl Opening {
     fn fill<D: Disk>(&mut self, disk: &mut D) -> Result<bool, Fault>
         requires begun { IsBegun D.Disk self.old disk.old }
         requires working { self.old.failed ≡ false }
-        ensures begun { IsBegun D.Disk self.new disk.new }
-        ensures reads { Reads D.Disk disk.old disk.new }
-        ensures closed { result ≡ Ok false → IsReady D.Disk self.new.gate disk.new }
-        ensures none { result ≡ Ok false → D.tells → unread D.Disk self.old.gate disk.old ≡ Some [] }
+        ensures outcome { OpeningRead D.Disk (λ e. e ≡ NotAStore) self.old disk.old self.new disk.new result }
+        ensures ended { result ≡ Ok false → AtEnd D.Disk self.old disk.old self.new disk.new }
         ensures one { result ≡ Ok true → D.tells → unread D.Disk self.old.gate disk.old ≡ in_front (rest_of self.new ∷ []) (unread D.Disk self.new.gate disk.new) }
         ensures read { result ≡ Ok true → HasNext self.old self.new }
         ensures refused { result ≡ Err NotAStore → D.tells → RefusedBatch self.old.base (place_of self.old.gate) (unread D.Disk self.old.gate disk.old) }
-        ensures base { self.new.base ≡ self.old.base }
-        ensures failed { self.new.failed ≡ not (is_ok result) }
-        ensures causes { IfErr result (λ e. (e ≡ NotAStore) ⊎ (e ≡ Device)) }
-        ensures device { result ≡ Err Device ↔ (D.failed disk.new ≡ true) }
     {
         if self.pass(disk)? {
             return Ok(true);
@@ -233,8 +215,7 @@ impl Opening {
         ensures gate { self.new.gate ≡ self.old.gate }
         ensures behind { self.new.behind ≡ self.old.behind }
         ensures ahead { ahead_of self.new ≡ ahead_of self.old }
-        ensures base { self.new.base ≡ self.old.base }
-        ensures failed { self.new.failed ≡ not (is_ok result) }
+        ensures same { KeepsLog self.old self.new result }
     {
         self.failed = true;
         let size = front_size(&self.bytes[self.at..self.end])?;
@@ -250,17 +231,11 @@ impl Opening {
     /// Refused `NotAStore` where the bytes are no log; `Device`. After a refusal every later call answers `Failed`.
     pub fn next<D: Disk>(&mut self, disk: &mut D) -> Result<Option<Lsn>, Fault>
         requires begun { IsBegun D.Disk self.old disk.old }
-        ensures begun { IsBegun D.Disk self.new disk.new }
-        ensures reads { Reads D.Disk disk.old disk.new }
+        ensures outcome { OpeningRead D.Disk (λ e. e ≡ NotAStore) self.old disk.old self.new disk.new result }
         ensures kept { (base : ℕ) (all older : List Logged) → IsOpening D.Disk base all older self.old disk.old → NextKept D.Disk base all older self.new disk.new result }
         ensures reads_on { (base : ℕ) (older : List Logged) → HasRead D.Disk base older self.old disk.old → ReadOn D.Disk base older self.new disk.new result }
         ensures ended { result ≡ Ok None → IsReady D.Disk self.new.gate disk.new }
         ensures moves { IfOk result (λ next. MatchOption next (Unit {0}) (λ lsn. position_of self.old < position_of self.new)) }
-        ensures base { self.new.base ≡ self.old.base }
-        ensures failed { self.new.failed ≡ not (is_ok result) }
-        ensures causes { IfErr result (λ e. (e ≡ Failed) ⊎ (e ≡ NotAStore) ⊎ (e ≡ Device)) }
-        ensures already { result ≡ Err Failed ↔ (self.old.failed ≡ true) }
-        ensures device { self.old.failed ≡ false → result ≡ Err Device ↔ (D.failed disk.new ≡ true) }
     {
         if self.failed {
             return Err(Fault::Failed);
@@ -315,14 +290,12 @@ pub fn open_log<D: Disk>(
     requires starts { D.tells → StartsAs gate (D.seen disk.old Log) }
     requires usable { has_failed gate ≡ false }
     requires reading { IsReading D.Disk gate disk.old }
-    ensures reads { Reads D.Disk disk.old disk.new }
+    ensures outcome { ReadsOr D.Disk (λ e. (e ≡ Memory) ⊎ (e ≡ NotAStore)) disk.old disk.new result }
     ensures ready { IfOk result (λ log. IsOpen D.Disk log disk.new) }
     ensures kept { (base : ℕ) (all : List Logged) → D.tells → HasLog base all (D.seen disk.old Log) → ReadKept D.Disk base all disk.new result }
     ensures spelled { IfOk result (λ log. D.tells → IsMade (D.seen disk.old Log) → (all : List Logged) × HasLog (base_of (D.seen disk.old Log)) all (D.seen disk.old Log)
         × IsLog D.Disk (base_of (D.seen disk.old Log)) all all log disk.new) }
     ensures working { IfOk result (λ log. (log.failed ≡ false) × (log.base ≡ base_at gate)) }
-    ensures causes { IfErr result (λ e. (e ≡ Memory) ⊎ (e ≡ Device) ⊎ (e ≡ NotAStore)) }
-    ensures device { result ≡ Err Device ↔ (D.failed disk.new ≡ true) }
 {
     let mut opening = Opening::start(alloc, gate, batches)?;
     loop {

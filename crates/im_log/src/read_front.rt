@@ -1,9 +1,9 @@
 //! A record of the file or of the buffer is brought to the front of a room.
 
-ghost use Rattle.std.specs.Prelude.{◌≡◌, ◌⊎◌, ◌↔◌, ◌≤◌, true, false, length, take, drop, IfErr, IfOk, None};
-ghost use Rattle.im_base_types.specs.declared.fault.Fault.TheVariants.{Device, NotAStore};
+ghost use Rattle.std.specs.Prelude.{◌≡◌, ◌≤◌, false, length, take, drop, IfErr, IfOk, None};
+ghost use Rattle.im_base_types.specs.declared.fault.Fault.TheVariants.{NotAStore};
 ghost use Rattle.im_base_types.specs.declared.file_id.FileId.TheVariants.{Log};
-ghost use Rattle.im_base_disk.specs.Runs.{Reads};
+ghost use Rattle.im_base_disk.specs.Ends.{ReadsOr};
 ghost use Rattle.im_log.specs.Reading.{FitsFront, IsFrontOf};
 ghost use Rattle.im_log.specs.Spelled.{first_record};
 
@@ -25,9 +25,7 @@ pub(crate) fn read_front<D: Disk>(disk: &mut D, place: u64, room: &mut [u8]) -> 
     ensures bounds { IfOk result (λ size. (4 ≤ size) × (size ≤ 16384)) }
     ensures refused { result ≡ Err NotAStore → D.tells → ¬ (FitsFront (drop place (D.seen disk.old Log))) }
     ensures room { length room.new ≡ length room.old }
-    ensures reads { Reads D.Disk disk.old disk.new }
-    ensures causes { IfErr result (λ e. (e ≡ NotAStore) ⊎ (e ≡ Device)) }
-    ensures device { result ≡ Err Device ↔ (D.failed disk.new ≡ true) }
+    ensures outcome { ReadsOr D.Disk (λ e. e ≡ NotAStore) disk.old disk.new result }
 {
     let end = disk.len(FileId::Log)?;
     if place > end || end - place < 4 {

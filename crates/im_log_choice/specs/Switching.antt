@@ -1,10 +1,13 @@
 -- Files while a log goes on in the other one.
-use Rattle.std.specs.Prelude.{◌≡◌, ◌↔◌, ℕ, ◌≤◌, Bool}
+use Rattle.std.specs.Prelude.{◌≡◌, ◌↔◌, ℕ, ◌+◌, ◌≤◌, Bool}
 use Rattle.im_base_types.specs.declared.file_id.FileId.TheVariants.{Log, Pages, Log2}
 use Rattle.im_base_disk.specs.declared.disk.Disk.{Ghosts}
-use Rattle.im_base_disk.specs.Disk.{Files}
+use Rattle.im_base_disk.specs.Disk.{Files, Only}
+use Rattle.im_base_disk.specs.Runs.{IsSynced}
 use Rattle.im_base_two_logs.specs.Renamed.{named}
-use Rattle.im_log_header.specs.Header.{IsBeingMade}
+use Rattle.im_log_header.specs.declared.header.Header.{Header}
+use Rattle.im_log_header.specs.Header.{IsBeingMade, IsEmptyLog}
+use Rattle.im_log_header.specs.Start.{IsHeader}
 
 -- A run that reads, and gives the two logs names: those from before, or each that of the other.
 pub record ReadsNamed {D : Type 0} (d : Ghosts D) (old new : D) : Type 0 where
@@ -22,3 +25,18 @@ pub record IsSwitching (old : Files) (generation base next : ℕ) (files : Files
   pub log : named swapped files Log ≡ old Log
   pub pages : named swapped files Pages ≡ old Pages
   pub other : IsBeingMade (old Log2) generation base next (named swapped files Log2)
+
+-- The header of the log of the next generation, whose first byte has the LSN `end`, with transactions from this number on.
+pub record IsNextHeader (header : Header) (end next : ℕ) (after : Header) : Type 0 where
+  pub ranged : IsHeader after
+  pub generation : after.generation ≡ header.generation + 1
+  pub base : after.base ≡ end
+  pub number : after.next ≡ next
+
+-- The two logs have changed names: `Log` has this header and no batch and is on the disk, `Log2` is the log from before, and the pages are as they were.
+pub record LogsTurned {D : Type 0} (d : Ghosts D) (header : Header) (old new : D) : Type 0 where
+  pub made : d.tells → IsEmptyLog header.generation header.base header.next (d.seen new Log)
+  pub before : d.seen new Log2 ≡ d.seen old Log
+  pub pages : d.seen new Pages ≡ d.seen old Pages
+  pub log : Only Log (d.seen new) (d.may_leave new)
+  pub durable : IsSynced d old → IsSynced d new

@@ -7,6 +7,7 @@ ghost use Rattle.im_log_header.specs.Header.{generation_of, IsUnmade, IsMade};
 ghost use Rattle.im_log_choice.specs.Current.{IsCurrent, HasCurrent};
 ghost use Rattle.im_log_choice.specs.Switching.{ReadsNamed};
 ghost use Rattle.im_base_disk.specs.Runs.{Reads};
+ghost use Rattle.im_base_disk.specs.Ends.{AnswersOr, ReadsOr};
 
 use im_base_disk::Disk;
 use im_base_two_logs::TwoLogs;
@@ -20,9 +21,7 @@ fn generation<D: Disk>(disk: &mut D, file: FileId) -> Result<u64, Fault>
     ensures known { OnOk result (D.tells → IsUnmade (D.seen disk.old file) ⊎ IsMade (D.seen disk.old file)) }
     ensures none { result ≡ Ok 0 → D.tells → IsUnmade (D.seen disk.old file) }
     ensures refused { result ≡ Err NotAStore → D.tells → ¬ (IsUnmade (D.seen disk.old file)) × ¬ (IsMade (D.seen disk.old file)) }
-    ensures reads { Reads D.Disk disk.old disk.new }
-    ensures causes { IfErr result (λ e. (e ≡ NotAStore) ⊎ (e ≡ Device)) }
-    ensures device { result ≡ Err Device ↔ (D.failed disk.new ≡ true) }
+    ensures outcome { ReadsOr D.Disk (λ e. e ≡ NotAStore) disk.old disk.new result }
 {
     match read_header(disk, file)? {
         Some(start) => Ok(start.header.generation),
@@ -75,14 +74,12 @@ fn is_other_current<D: Disk>(disk: &mut D) -> Result<bool, Fault>
 /// Refused `NotAStore` where a made file is of neither format, or both are of one generation, and the names stay; `Device`.
 pub fn choose<D: TwoLogs>(disk: &mut D) -> Result<(), Fault>
     requires working { D.failed disk.old ≡ false }
-    ensures current { OnOk result (D.tells → IsCurrent false (D.seen disk.new)) }
-    ensures has { OnOk result (D.tells → HasCurrent (D.seen disk.new)) }
+    ensures current { OnOk result (D.tells → IsCurrent false (D.seen disk.new) × HasCurrent (D.seen disk.new)) }
     ensures refused { result ≡ Err NotAStore → D.tells → ¬ (HasCurrent (D.seen disk.old)) }
     ensures reads { ReadsNamed D.Disk disk.old disk.new }
     ensures stays { OnErr result (Reads D.Disk disk.old disk.new) }
     ensures unmade { D.tells → IsUnmade (D.seen disk.old Log) → IsUnmade (D.seen disk.old Log2) → Reads D.Disk disk.old disk.new }
-    ensures causes { IfErr result (λ e. (e ≡ NotAStore) ⊎ (e ≡ Device)) }
-    ensures device { result ≡ Err Device ↔ (D.failed disk.new ≡ true) }
+    ensures answers { AnswersOr (λ e. e ≡ NotAStore) (D.failed disk.new) result }
 {
     let other = is_other_current(disk)?;
     if !other {

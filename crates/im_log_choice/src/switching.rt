@@ -1,14 +1,12 @@
 //! How a log goes on in the other file.
 
-ghost use Rattle.std.specs.Prelude.{◌≡◌, ◌⊎◌, ◌↔◌, ◌+◌, ◌^◌, ◌<◌, ◌≤◌, true, false, IfErr, IfOk, OnErr, OnOk};
-ghost use Rattle.im_base_types.specs.declared.file_id.FileId.TheVariants.{Log, Pages, Log2};
-ghost use Rattle.im_base_types.specs.declared.fault.Fault.TheVariants.{Capacity, Device, LogFull};
-ghost use Rattle.im_base_disk.specs.Disk.{Answers, Only};
+ghost use Rattle.std.specs.Prelude.{◌≡◌, ◌⊎◌, ◌↔◌, ◌+◌, ◌^◌, ◌<◌, ◌≤◌, false, IfErr, IfOk, OnErr, OnOk};
+ghost use Rattle.im_base_types.specs.declared.file_id.FileId.TheVariants.{Log2};
+ghost use Rattle.im_base_types.specs.declared.fault.Fault.TheVariants.{Capacity, LogFull};
+ghost use Rattle.im_base_disk.specs.Disk.{Answers};
 ghost use Rattle.im_base_disk.specs.Runs.{IsSynced, ChangesOnly, CostsAtMost};
 ghost use Rattle.im_base_two_logs.specs.Runs.{LeavesNamed};
-ghost use Rattle.im_log_header.specs.Header.{IsEmptyLog};
-ghost use Rattle.im_log_header.specs.Start.{IsHeader};
-ghost use Rattle.im_log_choice.specs.Switching.{IsSwitching};
+ghost use Rattle.im_log_choice.specs.Switching.{LogsTurned, IsNextHeader, IsSwitching};
 
 use im_base_two_logs::TwoLogs;
 use im_base_types::{Fault, FileId, LAST_LSN, TxnId};
@@ -22,10 +20,7 @@ const GENERATIONS: u64 = 1 << 62;
 /// Refused `LogFull` where `end` is above 2^62, and then `Capacity` where there is no next generation.
 pub fn next_header(header: &Header, end: u64, next: TxnId) -> Result<Header, Fault>
     requires numbered { 1 ≤ next }
-    ensures header { IfOk result (λ after. IsHeader after) }
-    ensures generation { IfOk result (λ after. after.generation ≡ header.now.generation + 1) }
-    ensures base { IfOk result (λ after. after.base ≡ end) }
-    ensures number { IfOk result (λ after. after.next ≡ next) }
+    ensures header { IfOk result (λ after. IsNextHeader header.now end next after) }
     ensures full { result ≡ Err LogFull ↔ (2 ^ 62 < end) }
     ensures capacity { result ≡ Err Capacity ↔ (end ≤ 2 ^ 62) × (2 ^ 62 ≤ header.now.generation + 1) }
     ensures causes { IfErr result (λ e. (e ≡ LogFull) ⊎ (e ≡ Capacity)) }
@@ -49,11 +44,7 @@ pub fn next_header(header: &Header, end: u64, next: TxnId) -> Result<Header, Fau
 /// Refused `Device`, and the names stay.
 pub fn switch_log<D: TwoLogs>(disk: &mut D, header: &Header) -> Result<(), Fault>
     requires working { D.failed disk.old ≡ false }
-    ensures made { OnOk result (D.tells → IsEmptyLog header.now.generation header.now.base header.now.next (D.seen disk.new Log)) }
-    ensures before { OnOk result (D.seen disk.new Log2 ≡ D.seen disk.old Log) }
-    ensures pages { OnOk result (D.seen disk.new Pages ≡ D.seen disk.old Pages) }
-    ensures log { OnOk result (Only Log (D.seen disk.new) (D.may_leave disk.new)) }
-    ensures durable { OnOk result (IsSynced D.Disk disk.old → IsSynced D.Disk disk.new) }
+    ensures turned { OnOk result (LogsTurned D.Disk header.now disk.old disk.new) }
     ensures any_moment { IsSynced D.Disk disk.old → LeavesNamed D.Disk disk.old disk.new (IsSwitching (D.seen disk.old) header.now.generation header.now.base header.now.next) }
     ensures stays { OnErr result (ChangesOnly D.Disk Log2 disk.old disk.new) }
     ensures few { CostsAtMost D.Disk 3 3 disk.old disk.new }

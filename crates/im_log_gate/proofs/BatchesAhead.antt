@@ -1,5 +1,5 @@
 -- What bytes say that were read from a gate on.
-use Rattle.std.proofs.Common.{◌≡◌, ◌≢◌, ◌-◌, ◌+◌, ◌<◌, ◌≤◌, ℕ, true, List, [], ◌∷◌, length, take, drop, get_or, min, refl, ◌∙◌, ap, arith, length-drop, length-take}
+use Rattle.std.proofs.Common.{◌≡◌, ◌≢◌, ◌-◌, ◌+◌, ◌≤◌, ℕ, true, List, [], ◌∷◌, length, take, drop, get_or, min, refl, ◌∙◌, ap, arith, length-drop, length-take}
 use Rattle.std.proofs.lemmas.List.{drop-drop, drop-take, get_or-drop, get_or-take, take-take}
 use Rattle.byteorder.specs.Endian.{big_number}
 use Rattle.im_log_gate.specs.Batches.{batch_length, batches_from, in_front, is_whole, BeginsWhole, Reaches}

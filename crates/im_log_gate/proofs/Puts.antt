@@ -1,5 +1,5 @@
 -- What a put leaves, from what its two writes leave.
-use Rattle.std.proofs.Common.{◌≡◌, ◌≢◌, inl, inr, ⊎_elim, ℕ, ◌+◌, ◌≤◌, List, [], ◌∷◌, ◌++◌, length, take, drop, get_or, Option, refl, sym, ◌∙◌, ap, subst, arith, take-append-drop}
+use Rattle.std.proofs.Common.{◌≡◌, ◌≢◌, inl, inr, ⊎_elim, ℕ, false, ◌+◌, ◌≤◌, List, [], ◌∷◌, ◌++◌, length, take, drop, get_or, Option, refl, sym, ◌∙◌, ap, subst, arith, take-append-drop}
 use Rattle.std.proofs.lemmas.List.{take-take, length-take-le}
 use Rattle.std.proofs.lemmas.List.Elements.{All-cons, All-nil}
 use Rattle.im_base_types.specs.declared.file_id.FileId.{FileId}
@@ -7,7 +7,9 @@ use Rattle.im_base_disk.specs.declared.disk.Disk.{Ghosts}
 use Rattle.im_base_disk.specs.Disk.{Only, Stepped, InFile, Holds, Torn}
 use Rattle.im_base_disk.specs.Runs.{LeavesOnly, LeavesIn, ChangesOnly}
 use Rattle.im_base_disk.proofs.Runs.{step_in, in_then, in_weakened}
-use Rattle.im_log_gate.specs.Batches.{batches, with_batches, IsBeforeOrWith, IsBeforeOrWithAll, spelled, size_of, Reaches, Fits, IsLaid, Lays}
+use Rattle.im_log_gate.specs.declared.gate.Gate.{Gate}
+use Rattle.im_log_gate.specs.Batches.{batches, HasPut, IsBeforeOrWith, IsBeforeOrWithAll, spelled, size_of, Reaches, Fits, IsLaid, Lays}
+use Rattle.im_log_gate.specs.Gate.{file_of, first_of, place_of, IsReady}
 use Rattle.im_log_gate.proofs.Several.{torn_behind, torn_gate, written_behind, written_gate, staged, adds, moves, next_closed, laid_one, laid_long, with_one}
 
 -- one batch is laid out in the room, whatever the room has behind it
@@ -69,11 +71,24 @@ module _ {D : Type 0} (d : Ghosts D) (file : FileId) (first : ℕ) (old mid : D)
           written_gate first (d.seen old file) place (reaches told) (closed told) bs content l (get_or (d.seen old file) place 0) (d.seen new file)
           (subst (λ (k : List ℕ). Holds place (1 ∷ []) k (d.seen new file)) (is_staged told) (second_holds told))
 
-      pub put_adds : d.tells → batches first (d.seen new file) ≡ with_batches bs (batches first (d.seen old file))
-      put_adds told = ap (batches first) (is_put told) ∙ adds first (d.seen old file) place (reaches told) (closed told) bs content l
+      -- they stand behind the gate
+      pub has_put : d.tells → HasPut first bs place (d.seen old file) (d.seen new file)
+      has_put told = record {
+        added = ap (batches first) (is_put told) ∙ adds first (d.seen old file) place (reaches told) (closed told) bs content l;
+        reaches = subst (λ (k : List ℕ). Reaches first k (place + size_of bs)) (sym (is_put told)) (moves first (d.seen old file) place (reaches told) (closed told) bs content l (place + size_of bs) refl);
+        closed = subst (λ (k : List ℕ). get_or k (place + size_of bs) 0 ≢ 1) (sym (is_put told)) (next_closed first (d.seen old file) place (reaches told) (closed told) bs content l (place + size_of bs) refl);
+      }
 
-      pub put_moves : d.tells → Reaches first (d.seen new file) (place + size_of bs)
-      put_moves told = subst (λ (k : List ℕ). Reaches first k (place + size_of bs)) (sym (is_put told)) (moves first (d.seen old file) place (reaches told) (closed told) bs content l (place + size_of bs) refl)
-
-      pub put_closed : d.tells → get_or (d.seen new file) (place + size_of bs) 0 ≢ 1
-      put_closed told = subst (λ (k : List ℕ). get_or k (place + size_of bs) 0 ≢ 1) (sym (is_put told)) (next_closed first (d.seen old file) place (reaches told) (closed told) bs content l (place + size_of bs) refl)
+-- the gate behind batches that were put
+pub ready_behind : {D : Type 0} (d : Ghosts D) (gate : Gate) (disk : D) (first place : ℕ) (bs : List (List ℕ)) (was : List ℕ) → first_of gate ≡ first → place_of gate ≡ place + size_of bs → d.failed disk ≡ false
+    → (d.tells → HasPut first bs place was (d.seen disk (file_of gate))) → Only (file_of gate) (d.seen disk) (d.may_leave disk) → IsReady d gate disk
+ready_behind d gate disk first place bs was at moved works put durable = record {
+  reading = record {
+    working = λ usable. works;
+    reaches = λ usable told.
+        subst (λ (n : ℕ). Reaches n (d.seen disk (file_of gate)) (place_of gate)) (sym at)
+        (subst (λ (k : ℕ). Reaches first (d.seen disk (file_of gate)) k) (sym moved) (put told).reaches);
+    durable = λ usable. durable;
+  };
+  closed = λ usable told. subst (λ (k : ℕ). get_or (d.seen disk (file_of gate)) k 0 ≢ 1) (sym moved) (put told).closed;
+}

@@ -1,11 +1,16 @@
 -- What a log file says of where its log starts.
-use Rattle.std.proofs.Common.{◌≡◌, ◌⊎◌, inl, inr, ℕ, ◌+◌, ◌^◌, ◌<◌, ◌≤◌, List, length, take, drop, get_or, sym, ◌∙◌, ap, subst, arith}
+use Rattle.std.proofs.Common.{◌≡◌, ◌≢◌, ◌⊎◌, inl, inr, ℕ, ◌+◌, ◌^◌, ◌<◌, ◌≤◌, false, List, [], length, take, drop, get_or, Some, sym, ◌∙◌, ap, subst, arith}
 use Rattle.std.proofs.lemmas.List.{get_or-take, drop-take, take-take}
 use Rattle.im_log_header.proofs.Fronts.{first_says, front_second}
 use Rattle.im_log_header.proofs.Saying.{fronts, gate_second, least_gate, says_its_own, unmade}
 use Rattle.im_log_header.specs.Header.{second_header}
-use Rattle.im_log_gate.specs.Batches.{Reaches}
-use Rattle.im_log_gate.specs.Header.{first_gate, base_of, generation_of, first_header, StartsAlike, Says, IsMade, IsSecond, IsUnmade, IsBlank}
+use Rattle.im_base_types.specs.declared.file_id.FileId.{FileId}
+use Rattle.im_base_disk.specs.declared.disk.Disk.{Ghosts}
+use Rattle.im_base_disk.specs.Disk.{Only}
+use Rattle.im_log_gate.specs.declared.gate.Gate.{Gate}
+use Rattle.im_log_gate.specs.Batches.{batches, Reaches}
+use Rattle.im_log_gate.specs.Gate.{file_of, first_of, place_of, has_failed, StartsAs, IsNewGate}
+use Rattle.im_log_gate.specs.Header.{first_gate, base_of, generation_of, first_header, StartsAlike, IsMade, IsSecond, IsUnmade, IsBlank, IsNewLog}
 use Rattle.im_log_gate.proofs.Making.{first_reaches}
 
 -- A file that keeps what stands in front of its first gate says the same, and is of the same generation.
@@ -82,3 +87,26 @@ made_some file made =
 pub start_reaches : (first place : ℕ) (bytes : List ℕ) → first ≡ first_gate bytes → place ≡ first → first_gate bytes < length bytes → Reaches first bytes place
 start_reaches first place bytes is at within =
     subst (λ (n : ℕ). Reaches first bytes n) (sym at) (subst (λ (n : ℕ). Reaches n bytes n) (sym is) (first_reaches (first_gate bytes) bytes within))
+
+-- the gate of a log that was just made
+pub new_gate : {D : Type 0} (d : Ghosts D) (log : FileId) (gate : Gate) (disk : D) → (file_of gate ≡ log) × (place_of gate ≡ first_of gate) × (has_failed gate ≡ false) → (d.tells → StartsAs gate (d.seen disk log))
+    → (d.tells → IsNewLog (d.seen disk log)) → d.failed disk ≡ false → Only log (d.seen disk) (d.may_leave disk) → IsNewGate d log gate disk
+new_gate d log gate disk at starts new works durable = record {
+  first = record { usable = at.2; of_file = at.0; place = at.1; starts = starts; made = λ told. (new told).made };
+  ready = record {
+    reading = record {
+      working = λ usable. works;
+      reaches = λ usable told.
+          subst (λ (f : FileId). Reaches (first_of gate) (d.seen disk f) (place_of gate)) (sym at.0)
+          (start_reaches (first_of gate) (place_of gate) (d.seen disk log) (starts told).first at.1 (new told).made.within);
+      durable = λ usable. subst (λ (f : FileId). Only f (d.seen disk) (d.may_leave disk)) (sym at.0) durable;
+    };
+    closed = λ usable told.
+        subst (λ (f : FileId). get_or (d.seen disk f) (place_of gate) 0 ≢ 1) (sym at.0)
+        (subst (λ (k : ℕ). get_or (d.seen disk log) k 0 ≢ 1) (sym (at.1 ∙ (starts told).first)) (new told).closed);
+  };
+  blank = λ told. inr ((new told).made, (new told).empty, (new told).says);
+  empty = λ told.
+      subst (λ (f : FileId). batches (first_of gate) (d.seen disk f) ≡ Some []) (sym at.0)
+      (subst (λ (n : ℕ). batches n (d.seen disk log) ≡ Some []) (sym (starts told).first) (new told).empty);
+}

@@ -1,6 +1,6 @@
 -- What the bytes of a log file stand for. A gate is a byte; behind it stand four bytes of length, the records of its batch
 -- and the next gate.
-use Rattle.std.specs.Prelude.{All, ◌≤◌, ◌≡◌, ◌⊎◌, ℕ, zero, suc, ◌+◌, ◌<◌, ◌==◌, nat_le, nat_lt, Bool, ◌&&◌, if◌then◌else◌, List, [], ◌∷◌, ◌++◌, length, take, drop, slice_index, Option, Some, None}
+use Rattle.std.specs.Prelude.{All, ◌≤◌, ◌≡◌, ◌≢◌, ◌⊎◌, ℕ, zero, suc, ◌+◌, ◌<◌, ◌==◌, nat_le, nat_lt, Bool, ◌&&◌, if◌then◌else◌, List, [], ◌∷◌, ◌++◌, length, take, drop, slice_index, Option, Some, None}
 use Rattle.std.specs.Int.{w32, from_be_bytes, to_be_bytes}
 
 -- The length that the four bytes behind a gate give. Here and below, `behind` is all that stands behind the gate.
@@ -116,3 +116,9 @@ with_batches more (Some before) = Some (before ++ more)
 -- A file has the batches from before, with all of these or without any.
 abbrev pub IsBeforeOrWithAll : ℕ → List (List ℕ) → Option (List (List ℕ)) → List ℕ → Type 0
 IsBeforeOrWithAll first more before file = (batches first file ≡ before) ⊎ (batches first file ≡ with_batches more before)
+
+-- These batches came to stand behind the gate at this place, and a closed gate behind them.
+pub record HasPut (first : ℕ) (bs : List (List ℕ)) (place : ℕ) (was file : List ℕ) : Type 0 where
+  pub added : batches first file ≡ with_batches bs (batches first was)
+  pub reaches : Reaches first file (place + size_of bs)
+  pub closed : slice_index file (place + size_of bs) ≢ 1

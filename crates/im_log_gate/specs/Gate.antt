@@ -1,11 +1,11 @@
 -- What a gate knows of the log file that it stands in.
-use Rattle.std.specs.Prelude.{◌≡◌, ◌≢◌, ℕ, Bool, false, List, length, take, drop, slice_index, Option}
+use Rattle.std.specs.Prelude.{◌≡◌, ◌≢◌, ℕ, Bool, false, List, [], length, take, drop, slice_index, Option, Some}
 use Rattle.im_base_types.specs.declared.file_id.FileId.{FileId}
 use Rattle.im_base_disk.specs.declared.disk.Disk.{Ghosts}
 use Rattle.im_base_disk.specs.Disk.{Only}
 use Rattle.im_log_gate.specs.declared.gate.Gate.{Gate}
 use Rattle.im_log_gate.specs.Batches.{batches, batches_from, Reaches}
-use Rattle.im_log_gate.specs.Header.{first_gate, base_of, least_number, generation_of}
+use Rattle.im_log_gate.specs.Header.{first_gate, base_of, least_number, generation_of, IsMade, IsBlank}
 
 -- The file that the gate stands in.
 abbrev pub file_of : Gate → FileId
@@ -73,3 +73,18 @@ module _ {D : Type 0} (d : Ghosts D) where
   pub record IsReady (gate : Gate) (disk : D) : Type 0 where
     pub reading : IsReading gate disk
     pub closed : has_failed gate ≡ false → d.tells → slice_index (d.seen disk (file_of gate)) (place_of gate) ≢ 1
+
+  -- It works, and stands at the first gate of this file, which is a made log; it says where that log starts.
+  pub record IsFirstGate (log : FileId) (gate : Gate) (disk : D) : Type 0 where
+    pub usable : has_failed gate ≡ false
+    pub of_file : file_of gate ≡ log
+    pub place : place_of gate ≡ first_of gate
+    pub starts : d.tells → StartsAs gate (d.seen disk log)
+    pub made : d.tells → IsMade (d.seen disk log)
+
+  -- The same of a log that was just made: the gate is closed, and no batch stands before it.
+  pub record IsNewGate (log : FileId) (gate : Gate) (disk : D) : Type 0 where
+    pub first : IsFirstGate log gate disk
+    pub ready : IsReady gate disk
+    pub blank : d.tells → IsBlank (d.seen disk log)
+    pub empty : d.tells → logged gate disk ≡ Some []

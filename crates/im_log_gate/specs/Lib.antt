@@ -2,3 +2,4 @@ pub mod Batches
 pub mod Gate
 pub mod Switching
 pub mod Header
+pub mod Outcome

@@ -1,10 +1,9 @@
 //! How a new log file is made, of the second format.
 
-ghost use Rattle.std.specs.Prelude.{◌≡◌, ◌≢◌, [], Some, false, slice_index, OnOk};
+ghost use Rattle.std.specs.Prelude.{◌≡◌, false, OnOk};
 ghost use Rattle.im_base_disk.specs.Disk.{Only, Answers};
 ghost use Rattle.im_base_disk.specs.Runs.{LeavesIn, ChangesOnly};
-ghost use Rattle.im_log_gate.specs.Batches.{batches, Reaches};
-ghost use Rattle.im_log_gate.specs.Header.{first_gate, IsUnmade, IsMade, IsBlank, Says};
+ghost use Rattle.im_log_gate.specs.Header.{IsUnmade, IsBlank, IsNewLog};
 
 use im_base_disk::Disk;
 use im_base_types::{Fault, FileId};
@@ -25,11 +24,7 @@ pub(crate) fn make_new<D: Disk>(disk: &mut D, file: FileId) -> Result<(), Fault>
     requires working { D.failed disk.old ≡ false }
     requires unmade { D.tells → IsUnmade (D.seen disk.old file) }
     requires durable { Only file (D.seen disk.old) (D.may_leave disk.old) }
-    ensures made { OnOk result (D.tells → IsMade (D.seen disk.new file)) }
-    ensures empty { OnOk result (D.tells → batches (first_gate (D.seen disk.new file)) (D.seen disk.new file) ≡ Some []) }
-    ensures says { OnOk result (D.tells → Says 47 1 0 1 (D.seen disk.new file)) }
-    ensures reaches { OnOk result (D.tells → Reaches (first_gate (D.seen disk.new file)) (D.seen disk.new file) (first_gate (D.seen disk.new file))) }
-    ensures gate { OnOk result (D.tells → slice_index (D.seen disk.new file) (first_gate (D.seen disk.new file)) ≢ 1) }
+    ensures made { OnOk result (D.tells → IsNewLog (D.seen disk.new file)) }
     ensures durable { OnOk result (Only file (D.seen disk.new) (D.may_leave disk.new)) }
     ensures any_moment { LeavesIn D.Disk file disk.old disk.new IsBlank }
     ensures changes { ChangesOnly D.Disk file disk.old disk.new }

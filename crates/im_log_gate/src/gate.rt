@@ -45,13 +45,15 @@ fn make_room(alloc: Global) -> Result<Vec<u8>, Fault>
 }
 
 impl Gate {
-    ghost use Rattle.im_base_disk.specs.Runs.{LeavesIn, ChangesOnly, Reads, Costs, CostsAtMost};
+    ghost use Rattle.im_base_disk.specs.Runs.{LeavesIn, ChangesOnly};
     ghost use Rattle.im_base_disk.specs.Disk.{Only};
     ghost use Rattle.im_base_types.specs.declared.file_id.FileId.TheVariants.{Pages};
-    ghost use Rattle.im_base_types.specs.declared.fault.Fault.TheVariants.{Device, Failed, LogFull, Memory, NotAStore};
+    ghost use Rattle.im_base_types.specs.declared.fault.Fault.TheVariants.{Memory, NotAStore};
     ghost use Rattle.im_log_gate.specs.Batches.{with_batch, with_batches, in_front, IsBeforeOrWith, IsBeforeOrWithAll, IsLaid};
     ghost use Rattle.im_log_gate.specs.Header.{IsUnmade, IsMade, IsBlank, Says};
-    ghost use Rattle.im_log_gate.specs.Gate.{file_of, first_of, base_at, least_at, generation_at, place_of, has_failed, InOneFile, StartsAs, logged, unread, IsReading, IsReady};
+    ghost use Rattle.im_base_disk.specs.Ends.{AnswersOr, CostsUpTo, ReadsOr};
+    ghost use Rattle.im_log_gate.specs.Gate.{file_of, first_of, base_at, least_at, generation_at, place_of, has_failed, StartsAs, logged, unread, IsFirstGate, IsNewGate, IsReading, IsReady};
+    ghost use Rattle.im_log_gate.specs.Outcome.{BatchRead, MovesBy, PassesBatch, PutOutcome};
 
     // The first gate of a file that says this, with this room.
     fn at_start(file: FileId, room: Vec<u8>, start: LogStart) -> Gate
@@ -82,18 +84,11 @@ impl Gate {
         requires working { D.failed disk.old ≡ false }
         requires unmade { D.tells → IsUnmade (D.seen disk.old file) }
         requires durable { Only file (D.seen disk.old) (D.may_leave disk.old) }
-        ensures ready { IfOk result (λ gate. IsReady D.Disk gate disk.new) }
-        ensures usable { IfOk result (λ gate. has_failed gate ≡ false) }
-        ensures first { IfOk result (λ gate. (file_of gate ≡ file) × (place_of gate ≡ first_of gate)) }
-        ensures starts { IfOk result (λ gate. D.tells → StartsAs gate (D.seen disk.new file)) }
-        ensures made { OnOk result (D.tells → IsMade (D.seen disk.new file)) }
-        ensures blank { OnOk result (D.tells → IsBlank (D.seen disk.new file)) }
-        ensures empty { IfOk result (λ gate. D.tells → logged D.Disk gate disk.new ≡ Some []) }
+        ensures gate { IfOk result (λ gate. IsNewGate D.Disk file gate disk.new) }
         ensures any_moment { LeavesIn D.Disk file disk.old disk.new IsBlank }
         ensures changes { ChangesOnly D.Disk file disk.old disk.new }
-        ensures causes { IfErr result (λ e. (e ≡ Memory) ⊎ (e ≡ Device)) }
         ensures memory { result ≡ Err Memory → disk.new ≡ disk.old }
-        ensures device { result ≡ Err Device ↔ (D.failed disk.new ≡ true) }
+        ensures answers { AnswersOr (λ e. e ≡ Memory) (D.failed disk.new) result }
     {
         let room = make_room(alloc)?;
         make_new(disk, file)?;
@@ -108,18 +103,13 @@ impl Gate {
     pub fn open<D: Disk>(alloc: Global, disk: &mut D, file: FileId) -> Result<Option<Gate>, Fault>
         requires working { D.failed disk.old ≡ false }
         requires durable { Only file (D.seen disk.old) (D.may_leave disk.old) }
-        ensures reads { Reads D.Disk disk.old disk.new }
+        ensures outcome { ReadsOr D.Disk (λ e. (e ≡ Memory) ⊎ (e ≡ NotAStore)) disk.old disk.new result }
         ensures reading { IfOk result (λ opened. IfSome opened (λ gate. IsReading D.Disk gate disk.new)) }
-        ensures usable { IfOk result (λ opened. IfSome opened (λ gate. has_failed gate ≡ false)) }
-        ensures first { IfOk result (λ opened. IfSome opened (λ gate. (file_of gate ≡ file) × (place_of gate ≡ first_of gate))) }
-        ensures starts { IfOk result (λ opened. IfSome opened (λ gate. D.tells → StartsAs gate (D.seen disk.old file))) }
+        ensures first { IfOk result (λ opened. IfSome opened (λ gate. IsFirstGate D.Disk file gate disk.old)) }
         ensures all { IfOk result (λ opened. IfSome opened (λ gate. unread D.Disk gate disk.new ≡ logged D.Disk gate disk.new)) }
-        ensures made { IfOk result (λ opened. IfSome opened (λ _. D.tells → IsMade (D.seen disk.old file))) }
         ensures unmade { result ≡ Ok None → D.tells → IsUnmade (D.seen disk.old file) × (length (D.seen disk.old Pages) ≡ 0) }
         ensures refused { result ≡ Err NotAStore → D.tells → ¬ (IsMade (D.seen disk.old file))
             × ¬ (IsUnmade (D.seen disk.old file) × (length (D.seen disk.old Pages) ≡ 0)) }
-        ensures causes { IfErr result (λ e. (e ≡ Memory) ⊎ (e ≡ Device) ⊎ (e ≡ NotAStore)) }
-        ensures device { result ≡ Err Device ↔ (D.failed disk.new ≡ true) }
     {
         let room = make_room(alloc)?;
         let Some(start) = read_start(disk, file)? else {
@@ -186,18 +176,12 @@ impl Gate {
         disk: &mut D,
     ) -> Result<Option<Vec<u8>>, Fault>
         requires reading { IsReading D.Disk self.old disk.old }
-        ensures reading { IsReading D.Disk self.new disk.new }
-        ensures same { InOneFile self.old self.new }
-        ensures reads { Reads D.Disk disk.old disk.new }
+        ensures outcome { BatchRead D.Disk (λ e. (e ≡ NotAStore) ⊎ (e ≡ Memory)) self.old disk.old self.new disk.new result }
         ensures next { IfOk result (λ next. D.tells → MatchOption next (unread D.Disk self.old disk.old ≡ Some [])
             (λ records. unread D.Disk self.old disk.old ≡ in_front (records.items ∷ []) (unread D.Disk self.new disk.new))) }
         ensures end { result ≡ Ok None → IsReady D.Disk self.new disk.new }
-        ensures usable { OnOk result (has_failed self.new ≡ false) }
         ensures refused { result ≡ Err NotAStore → D.tells → unread D.Disk self.old disk.old ≡ None }
-        ensures causes { IfErr result (λ e. (e ≡ Failed) ⊎ (e ≡ NotAStore) ⊎ (e ≡ Device) ⊎ (e ≡ Memory)) }
-        ensures already { result ≡ Err Failed ↔ (has_failed self.old ≡ true) }
         ensures memory { result ≡ Err Memory → self.new ≡ self.old }
-        ensures device { has_failed self.old ≡ false → result ≡ Err Device ↔ (D.failed disk.new ≡ true) }
     {
         if self.failed {
             return Err(Fault::Failed);
@@ -234,20 +218,13 @@ impl Gate {
     ) -> Result<Option<usize>, Fault>
         requires room { 16384 ≤ length buffer.old }
         requires reading { IsReading D.Disk self.old disk.old }
-        ensures reading { IsReading D.Disk self.new disk.new }
-        ensures same { InOneFile self.old self.new }
-        ensures reads { Reads D.Disk disk.old disk.new }
+        ensures outcome { BatchRead D.Disk (λ e. e ≡ NotAStore) self.old disk.old self.new disk.new result }
         ensures next { IfOk result (λ next. D.tells → MatchOption next (unread D.Disk self.old disk.old ≡ Some [])
             (λ size. unread D.Disk self.old disk.old ≡ in_front (take size buffer.new ∷ []) (unread D.Disk self.new disk.new))) }
-        ensures size { IfOk result (λ next. IfSome next (λ size. (1 ≤ size) × (size ≤ 16384))) }
-        ensures place { IfOk result (λ next. MatchOption next (place_of self.new ≡ place_of self.old) (λ size. place_of self.new ≡ place_of self.old + (size + 5))) }
+        ensures passes { IfOk result (λ next. PassesBatch self.old next self.new) }
         ensures buffer { length buffer.new ≡ length buffer.old }
         ensures end { result ≡ Ok None → IsReady D.Disk self.new disk.new }
-        ensures usable { OnOk result (has_failed self.new ≡ false) }
         ensures refused { result ≡ Err NotAStore → D.tells → unread D.Disk self.old disk.old ≡ None }
-        ensures causes { IfErr result (λ e. (e ≡ Failed) ⊎ (e ≡ NotAStore) ⊎ (e ≡ Device)) }
-        ensures already { result ≡ Err Failed ↔ (has_failed self.old ≡ true) }
-        ensures device { has_failed self.old ≡ false → result ≡ Err Device ↔ (D.failed disk.new ≡ true) }
     {
         if self.failed {
             return Err(Fault::Failed);
@@ -281,23 +258,12 @@ impl Gate {
     pub fn put_batch<D: Disk>(&mut self, disk: &mut D, records: &[u8]) -> Result<(), Fault>
         requires length { (1 ≤ length records.now) × (length records.now ≤ 16384) }
         requires ready { IsReady D.Disk self.old disk.old }
-        ensures ready { IsReady D.Disk self.new disk.new }
-        ensures same { InOneFile self.old self.new }
+        ensures outcome { PutOutcome D.Disk self.old disk.old self.new disk.new result }
         ensures put { OnOk result (D.tells → logged D.Disk self.new disk.new ≡ with_batch records.now (logged D.Disk self.old disk.old)) }
         ensures any_moment { has_failed self.old ≡ false
             → LeavesIn D.Disk (file_of self.old) disk.old disk.new (IsBeforeOrWith (first_of self.old) records.now (logged D.Disk self.old disk.old)) }
-        ensures front { has_failed self.old ≡ false
-            → LeavesIn D.Disk (file_of self.old) disk.old disk.new (λ c. take (first_of self.old) c ≡ take (first_of self.old) (D.seen disk.old (file_of self.old))) }
-        ensures untouched { result ≡ Err Failed → disk.new ≡ disk.old }
-        ensures changes { ChangesOnly D.Disk (file_of self.old) disk.old disk.new }
-        ensures costs { OnOk result (Costs D.Disk 2 2 disk.old disk.new) }
-        ensures few { CostsAtMost D.Disk 2 2 disk.old disk.new }
-        ensures place { OnOk result (place_of self.new ≡ place_of self.old + (length records.now + 5)) }
-        ensures failed { has_failed self.new ≡ not (is_ok result) }
-        ensures causes { IfErr result (λ e. (e ≡ Failed) ⊎ (e ≡ LogFull) ⊎ (e ≡ Device)) }
-        ensures already { result ≡ Err Failed ↔ (has_failed self.old ≡ true) }
-        ensures full { result ≡ Err LogFull ↔ ((has_failed self.old ≡ false) × (2 ^ 62 < place_of self.old + 5 + length records.now)) }
-        ensures device { has_failed self.old ≡ false → result ≡ Err Device ↔ (D.failed disk.new ≡ true) }
+        ensures moves { MovesBy (length records.now + 5) self.old self.new result }
+        ensures costs { CostsUpTo D.Disk 2 2 disk.old disk.new result }
     {
         if self.failed {
             return Err(Fault::Failed);
@@ -347,25 +313,14 @@ impl Gate {
         requires most { most ≤ length room.old }
         requires laid { (bs : List (List ℕ)) × IsLaid bs (take used room.old) }
         requires ready { IsReady D.Disk self.old disk.old }
-        ensures ready { IsReady D.Disk self.new disk.new }
-        ensures same { InOneFile self.old self.new }
+        ensures outcome { PutOutcome D.Disk self.old disk.old self.new disk.new result }
         ensures put { OnOk result ((bs : List (List ℕ)) → IsLaid bs (take used room.old)
             → D.tells → logged D.Disk self.new disk.new ≡ with_batches bs (logged D.Disk self.old disk.old)) }
         ensures any_moment { has_failed self.old ≡ false → (bs : List (List ℕ)) → IsLaid bs (take used room.old)
             → LeavesIn D.Disk (file_of self.old) disk.old disk.new (IsBeforeOrWithAll (first_of self.old) bs (logged D.Disk self.old disk.old)) }
-        ensures front { has_failed self.old ≡ false
-            → LeavesIn D.Disk (file_of self.old) disk.old disk.new (λ c. take (first_of self.old) c ≡ take (first_of self.old) (D.seen disk.old (file_of self.old))) }
         ensures room { (length room.new ≡ length room.old) × (take used room.new ≡ take used room.old) }
-        ensures untouched { result ≡ Err Failed → disk.new ≡ disk.old }
-        ensures changes { ChangesOnly D.Disk (file_of self.old) disk.old disk.new }
-        ensures costs { OnOk result (Costs D.Disk 2 2 disk.old disk.new) }
-        ensures few { CostsAtMost D.Disk 2 2 disk.old disk.new }
-        ensures place { OnOk result (place_of self.new ≡ place_of self.old + used) }
-        ensures failed { has_failed self.new ≡ not (is_ok result) }
-        ensures causes { IfErr result (λ e. (e ≡ Failed) ⊎ (e ≡ LogFull) ⊎ (e ≡ Device)) }
-        ensures already { result ≡ Err Failed ↔ (has_failed self.old ≡ true) }
-        ensures full { result ≡ Err LogFull ↔ ((has_failed self.old ≡ false) × (2 ^ 62 < place_of self.old + used)) }
-        ensures device { has_failed self.old ≡ false → result ≡ Err Device ↔ (D.failed disk.new ≡ true) }
+        ensures moves { MovesBy used self.old self.new result }
+        ensures costs { CostsUpTo D.Disk 2 2 disk.old disk.new result }
     {
         if self.failed {
             return Err(Fault::Failed);

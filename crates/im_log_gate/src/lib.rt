@@ -46,7 +46,8 @@
 //! It stands on the trait `Disk`, on headers and on how a log goes on in the other file (`im_log_choice`), and makes each change by a write and a sync of one range (`write_synced`). The invariant of a gate
 //! is `IsReady`: the gate stands behind whole batches and is closed, and all of its file is on the disk. While the
 //! batches are read it is `IsReading`, which leaves the gate open. Both hold of a failed gate, and outlive calls on the other files
-//! (`ready_spared`, `reading_spared` in the proofs). What is said of bytes is said of a disk that tells them.
+//! (`ready_spared`, `reading_spared` in the proofs). What is said of bytes is said of a disk that tells them. How a put ends is one fact
+//! (`PutOutcome`), and how the next batch is read another (`BatchRead`).
 #![tactic(auto)]
 
 mod ahead;

@@ -3,8 +3,10 @@
 ghost use Rattle.std.specs.Prelude.{◌≡◌, ◌≢◌, ℕ, List, ◌+◌, ◌*◌, ◌^◌, ◌<◌, ◌≤◌, ◌++◌, true, false, [], ◌∷◌, length, take, drop, slice_index, OnOk};
 ghost use Rattle.std.specs.Int.{w32, to_be_bytes};
 ghost use Rattle.im_base_disk.specs.Disk.{Only, Answers};
-ghost use Rattle.im_base_disk.specs.Runs.{LeavesIn, ChangesOnly, Costs, CostsAtMost};
-ghost use Rattle.im_log_gate.specs.Batches.{batches, size_of, spelled, with_batch, with_batches, IsBeforeOrWith, IsBeforeOrWithAll, IsFilled, IsLaid, Lays, Reaches};
+ghost use Rattle.im_base_disk.specs.Runs.{LeavesIn};
+ghost use Rattle.im_log_gate.specs.Batches.{batches, spelled, HasPut, IsBeforeOrWith, IsBeforeOrWithAll, IsFilled, IsLaid, Lays, Reaches};
+ghost use Rattle.im_base_disk.specs.Ends.{CostsUpTo};
+ghost use Rattle.im_log_gate.specs.Outcome.{ChangesFrom};
 
 use byteorder::{BigEndian, ByteOrder};
 use im_base_disk::{Disk, write_synced};
@@ -45,18 +47,12 @@ pub(crate) fn put_laid<D: Disk>(
     requires closed { D.tells → slice_index (D.seen disk.old file) place ≢ 1 }
     requires durable { Only file (D.seen disk.old) (D.may_leave disk.old) }
     ensures put { OnOk result ((first : ℕ) (bs : List (List ℕ)) → Lays bs bytes.now → (D.tells → Reaches first (D.seen disk.old file) place) → D.tells
-        → batches first (D.seen disk.new file) ≡ with_batches bs (batches first (D.seen disk.old file))) }
-    ensures reaches { OnOk result ((first : ℕ) (bs : List (List ℕ)) → Lays bs bytes.now → (D.tells → Reaches first (D.seen disk.old file) place) → D.tells
-        → Reaches first (D.seen disk.new file) (place + size_of bs)) }
-    ensures closed { OnOk result ((first : ℕ) (bs : List (List ℕ)) → Lays bs bytes.now → (D.tells → Reaches first (D.seen disk.old file) place) → D.tells
-        → slice_index (D.seen disk.new file) (place + size_of bs) ≢ 1) }
+        → HasPut first bs place (D.seen disk.old file) (D.seen disk.new file)) }
     ensures durable { OnOk result (Only file (D.seen disk.new) (D.may_leave disk.new)) }
     ensures any_moment { (first : ℕ) (bs : List (List ℕ)) → Lays bs bytes.now → (D.tells → Reaches first (D.seen disk.old file) place)
         → LeavesIn D.Disk file disk.old disk.new (IsBeforeOrWithAll first bs (batches first (D.seen disk.old file))) }
-    ensures front { (n : ℕ) → (D.tells → n ≤ place) → LeavesIn D.Disk file disk.old disk.new (λ c. take n c ≡ take n (D.seen disk.old file)) }
-    ensures changes { ChangesOnly D.Disk file disk.old disk.new }
-    ensures costs { OnOk result (Costs D.Disk 2 2 disk.old disk.new) }
-    ensures few { CostsAtMost D.Disk 2 2 disk.old disk.new }
+    ensures changes { ChangesFrom D.Disk file place disk.old disk.new }
+    ensures costs { CostsUpTo D.Disk 2 2 disk.old disk.new result }
     ensures answers { Answers (D.failed disk.new) result }
 {
     write_synced(disk, file, place + 1, bytes)?;
@@ -84,18 +80,12 @@ pub(crate) fn put_behind<D: Disk>(
     requires closed { D.tells → slice_index (D.seen disk.old file) place ≢ 1 }
     requires durable { Only file (D.seen disk.old) (D.may_leave disk.old) }
     ensures put { OnOk result ((first : ℕ) → (D.tells → Reaches first (D.seen disk.old file) place) → D.tells
-        → batches first (D.seen disk.new file) ≡ with_batch records.now (batches first (D.seen disk.old file))) }
-    ensures reaches { OnOk result ((first : ℕ) → (D.tells → Reaches first (D.seen disk.old file) place) → D.tells
-        → Reaches first (D.seen disk.new file) (place + (length records.now + 5))) }
-    ensures closed { OnOk result ((first : ℕ) → (D.tells → Reaches first (D.seen disk.old file) place) → D.tells
-        → slice_index (D.seen disk.new file) (place + (length records.now + 5)) ≢ 1) }
+        → HasPut first (records.now ∷ []) place (D.seen disk.old file) (D.seen disk.new file)) }
     ensures durable { OnOk result (Only file (D.seen disk.new) (D.may_leave disk.new)) }
     ensures any_moment { (first : ℕ) → (D.tells → Reaches first (D.seen disk.old file) place)
         → LeavesIn D.Disk file disk.old disk.new (IsBeforeOrWith first records.now (batches first (D.seen disk.old file))) }
-    ensures front { (n : ℕ) → (D.tells → n ≤ place) → LeavesIn D.Disk file disk.old disk.new (λ c. take n c ≡ take n (D.seen disk.old file)) }
-    ensures changes { ChangesOnly D.Disk file disk.old disk.new }
-    ensures costs { OnOk result (Costs D.Disk 2 2 disk.old disk.new) }
-    ensures few { CostsAtMost D.Disk 2 2 disk.old disk.new }
+    ensures changes { ChangesFrom D.Disk file place disk.old disk.new }
+    ensures costs { CostsUpTo D.Disk 2 2 disk.old disk.new result }
     ensures answers { Answers (D.failed disk.new) result }
 {
     spell(room, records);

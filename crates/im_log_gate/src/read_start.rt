@@ -1,8 +1,8 @@
 //! Where the log of a file starts.
 
-ghost use Rattle.std.specs.Prelude.{◌≡◌, ◌⊎◌, ◌↔◌, ◌+◌, ◌^◌, ◌≤◌, true, false, IfOk, IfErr, IfSome};
-ghost use Rattle.im_base_types.specs.declared.fault.Fault.TheVariants.{Device, NotAStore};
-ghost use Rattle.im_base_disk.specs.Runs.{Reads};
+ghost use Rattle.std.specs.Prelude.{◌≡◌, ◌↔◌, ◌+◌, ◌^◌, ◌≤◌, true, false, IfOk, IfSome};
+ghost use Rattle.im_base_types.specs.declared.fault.Fault.TheVariants.{NotAStore};
+ghost use Rattle.im_base_disk.specs.Ends.{ReadsOr};
 ghost use Rattle.im_log_gate.specs.Header.{IsMade, IsUnmade, Says};
 
 use im_base_disk::Disk;
@@ -23,12 +23,9 @@ pub(crate) fn read_start<D: Disk>(disk: &mut D, file: FileId) -> Result<Option<L
     ensures unmade { result ≡ Ok None → D.tells → IsUnmade (D.seen disk.old file) }
     ensures made { IfOk result (λ found. IfSome found (λ start. D.tells → IsMade (D.seen disk.old file))) }
     ensures says { IfOk result (λ found. IfSome found (λ start. D.tells → Says start.first_gate start.header.generation start.header.base start.header.next (D.seen disk.old file))) }
-    ensures low { IfOk result (λ found. IfSome found (λ start. start.header.base + start.first_gate ≤ 2 ^ 62)) }
-    ensures numbered { IfOk result (λ found. IfSome found (λ start. 1 ≤ start.header.next)) }
+    ensures ranged { IfOk result (λ found. IfSome found (λ start. (start.header.base + start.first_gate ≤ 2 ^ 62) × (1 ≤ start.header.next))) }
     ensures refused { result ≡ Err NotAStore → D.tells → ¬ (IsUnmade (D.seen disk.old file)) × ¬ (IsMade (D.seen disk.old file)) }
-    ensures reads { Reads D.Disk disk.old disk.new }
-    ensures causes { IfErr result (λ e. (e ≡ NotAStore) ⊎ (e ≡ Device)) }
-    ensures device { result ≡ Err Device ↔ (D.failed disk.new ≡ true) }
+    ensures outcome { ReadsOr D.Disk (λ e. e ≡ NotAStore) disk.old disk.new result }
 {
     let Some(start) = read_header(disk, file)? else {
         return Ok(None);

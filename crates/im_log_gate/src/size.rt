@@ -1,8 +1,8 @@
 //! What stands behind a gate.
 
-ghost use Rattle.std.specs.Prelude.{◌≡◌, ◌≢◌, ◌⊎◌, ◌↔◌, ◌+◌, ◌*◌, ◌^◌, ◌<◌, ◌≤◌, true, false, length, drop, slice_index, IfOk, IfErr, MatchOption};
-ghost use Rattle.im_base_types.specs.declared.fault.Fault.TheVariants.{Device, NotAStore};
-ghost use Rattle.im_base_disk.specs.Runs.{Reads};
+ghost use Rattle.std.specs.Prelude.{◌≡◌, ◌≢◌, ◌+◌, ◌*◌, ◌^◌, ◌<◌, ◌≤◌, true, false, length, drop, slice_index, IfOk, MatchOption};
+ghost use Rattle.im_base_types.specs.declared.fault.Fault.TheVariants.{NotAStore};
+ghost use Rattle.im_base_disk.specs.Ends.{ReadsOr};
 ghost use Rattle.im_log_gate.specs.Batches.{batch_length, is_whole, batches_from};
 
 use byteorder::{BigEndian, ByteOrder};
@@ -18,14 +18,12 @@ pub(crate) fn batch_size<D: Disk>(
     place: u64,
 ) -> Result<Option<u64>, Fault>
     requires { D.failed disk.old ≡ false }
-    ensures reads { Reads D.Disk disk.old disk.new }
+    ensures outcome { ReadsOr D.Disk (λ e. e ≡ NotAStore) disk.old disk.new result }
     ensures closed { result ≡ Ok None → D.tells → slice_index (D.seen disk.old file) place ≢ 1 }
     ensures bounds { IfOk result (λ size. MatchOption size (Unit {0}) (λ n. (1 ≤ n) × (n ≤ 16384) × (place + 5 + n < 2 ^ 64))) }
     ensures whole { IfOk result (λ size. D.tells → MatchOption size (Unit {0}) (λ n. (slice_index (D.seen disk.old file) place ≡ 1)
         × (is_whole (drop (place + 1) (D.seen disk.old file)) ≡ true) × (batch_length (drop (place + 1) (D.seen disk.old file)) ≡ n))) }
     ensures refused { result ≡ Err NotAStore → D.tells → batches_from place (D.seen disk.old file) ≡ None }
-    ensures causes { IfErr result (λ e. (e ≡ NotAStore) ⊎ (e ≡ Device)) }
-    ensures device { result ≡ Err Device ↔ (D.failed disk.new ≡ true) }
 {
     let end = disk.len(file)?;
     if place >= end {

@@ -6,6 +6,11 @@ use Rattle.std.specs.Int.{w64, from_be_bytes, to_be_bytes}
 abbrev pub IsUnmade : List ℕ → Type 0
 IsUnmade file = (length file ≤ 1) ⊎ (slice_index file 0 ≢ 1)
 
+-- It has a byte 0, which is not 1: on the disk, it is not made whatever comes after.
+pub record IsClosed (file : List ℕ) : Type 0 where
+  pub begun : 1 ≤ length file
+  pub closed : slice_index file 0 ≢ 1
+
 -- ---- by the first 47 bytes
 
 abbrev pub says_made : List ℕ → Bool

@@ -1,8 +1,9 @@
 //! What the front of a log file says.
 
-ghost use Rattle.std.specs.Prelude.{◌≡◌, ◌≢◌, ◌⊎◌, ◌↔◌, ◌<◌, true, false, length, take, drop, slice_index, IfOk, IfErr, IfSome};
+ghost use Rattle.std.specs.Prelude.{◌≡◌, ◌≢◌, ◌↔◌, ◌<◌, true, false, length, take, drop, slice_index, IfOk, IfErr, IfSome};
 ghost use Rattle.im_base_types.specs.declared.fault.Fault.TheVariants.{Device, NotAStore};
 ghost use Rattle.im_base_disk.specs.Runs.{Reads};
+ghost use Rattle.im_base_disk.specs.Ends.{ReadsOr};
 ghost use Rattle.im_log_header.specs.Header.{IsUnmade, IsMade, IsSecond, first_header};
 ghost use Rattle.im_log_header.specs.Start.{IsHeader, IsSpelled, StartsAs};
 
@@ -73,9 +74,7 @@ pub fn read_header<D: Disk>(disk: &mut D, file: FileId) -> Result<Option<LogStar
     ensures starts { IfOk result (λ found. IfSome found (λ start. D.tells → StartsAs start (D.seen disk.old file))) }
     ensures ranged { IfOk result (λ found. IfSome found (λ start. IsHeader start.header)) }
     ensures refused { result ≡ Err NotAStore → D.tells → ¬ (IsUnmade (D.seen disk.old file)) × ¬ (IsMade (D.seen disk.old file)) }
-    ensures reads { Reads D.Disk disk.old disk.new }
-    ensures causes { IfErr result (λ e. (e ≡ NotAStore) ⊎ (e ≡ Device)) }
-    ensures device { result ≡ Err Device ↔ (D.failed disk.new ≡ true) }
+    ensures outcome { ReadsOr D.Disk (λ e. e ≡ NotAStore) disk.old disk.new result }
 {
     let made = is_made(disk, file)?;
     if !made {

@@ -4,7 +4,7 @@
 ghost use Rattle.std.specs.Prelude.{◌≡◌, ◌≢◌, ◌≤◌, ◌⊎◌, ◌++◌, [], ◌∷◌, true, false, length, slice_index, OnOk};
 ghost use Rattle.im_base_disk.specs.Disk.{Only, Answers};
 ghost use Rattle.im_base_disk.specs.Runs.{LeavesIn, ChangesOnly, Reads, CostsAtMost};
-ghost use Rattle.im_log_header.specs.Header.{IsUnmade, IsEmptyLog, IsBeingMade, second_header};
+ghost use Rattle.im_log_header.specs.Header.{IsClosed, IsUnmade, IsEmptyLog, IsBeingMade, second_header};
 
 use crate::header::Header;
 use crate::spelling::spell;
@@ -31,8 +31,7 @@ fn is_closed<D: Disk>(disk: &mut D, file: FileId) -> Result<bool, Fault>
 // Writes byte 0 as 0, where the file has at most one byte or byte 0 is 1. Any other file is closed already.
 fn close<D: Disk>(disk: &mut D, file: FileId) -> Result<(), Fault>
     requires working { D.failed disk.old ≡ false }
-    ensures begun { OnOk result (D.tells → 1 ≤ length (D.seen disk.new file)) }
-    ensures closed { OnOk result (D.tells → slice_index (D.seen disk.new file) 0 ≢ 1) }
+    ensures closed { OnOk result (D.tells → IsClosed (D.seen disk.new file)) }
     ensures durable { OnOk result (Only file (D.seen disk.old) (D.may_leave disk.old) → Only file (D.seen disk.new) (D.may_leave disk.new)) }
     ensures any_moment { Only file (D.seen disk.old) (D.may_leave disk.old) → LeavesIn D.Disk file disk.old disk.new (λ c. (c ≡ D.seen disk.old file) ⊎ IsUnmade c) }
     ensures changes { ChangesOnly D.Disk file disk.old disk.new }

@@ -1,9 +1,9 @@
 //! Bytes of the file of pages, read into a page's own.
 
-ghost use Rattle.std.specs.Prelude.{◌≡◌, ◌↔◌, ◌⊎◌, ◌+◌, ◌≤◌, true, false, length, take, drop, Some, None, Err, OnOk, IfErr};
-ghost use Rattle.im_base_types.specs.declared.fault.Fault.TheVariants.{Device, NotAStore};
+ghost use Rattle.std.specs.Prelude.{◌≡◌, ◌+◌, ◌≤◌, false, length, take, drop, Some, None, Err, OnOk};
+ghost use Rattle.im_base_types.specs.declared.fault.Fault.TheVariants.{NotAStore};
 ghost use Rattle.im_base_types.specs.declared.file_id.FileId.TheVariants.{Pages};
-ghost use Rattle.im_base_disk.specs.Runs.{Reads};
+ghost use Rattle.im_base_disk.specs.Ends.{ReadsOr};
 ghost use Rattle.im_theory_page.specs.Page.{IsForm, page_of, said_by};
 
 use crate::form::is_form;
@@ -18,9 +18,7 @@ pub fn read_form<D: Disk>(disk: &mut D, at: u64, bytes: &mut [u8]) -> Result<(),
     ensures form { OnOk result (IsForm bytes.new) }
     ensures page { OnOk result (D.tells → page_of (take 4096 (drop at (D.seen disk.old Pages))) ≡ Some (said_by bytes.new)) }
     ensures none { result ≡ Err NotAStore → D.tells → page_of (take 4096 (drop at (D.seen disk.old Pages))) ≡ None }
-    ensures causes { IfErr result (λ e. (e ≡ Device) ⊎ (e ≡ NotAStore)) }
-    ensures device { result ≡ Err Device ↔ (D.failed disk.new ≡ true) }
-    ensures reads { Reads D.Disk disk.old disk.new }
+    ensures outcome { ReadsOr D.Disk (λ e. e ≡ NotAStore) disk.old disk.new result }
     ensures len { length bytes.new ≡ 4096 }
 {
     disk.read(FileId::Pages, at, bytes)?;

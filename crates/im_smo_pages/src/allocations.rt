@@ -37,7 +37,6 @@ pub fn take_free(meta: &mut Page, page: &Page) -> Result<PageNo, Fault>
 /// taken first; else `Capacity` where the page count is 2^32 - 1.
 pub fn take_count(meta: &mut Page) -> Result<PageNo, Fault>
     ensures number { IfOk result (λ q. q ≡ meta.old.body.leftmost) }
-    ensures none_free { IfOk result (λ _. meta.old.body.prev ≡ 0) }
     ensures new { IfOk result (λ _. meta.new ≡ says meta.old (meta_with_count meta.old.body)) }
     ensures same { OnErr result (meta.new ≡ meta.old) }
     ensures refused { IfErr result (λ e. (e ≡ NotAStore) ⊎ ((e ≡ Capacity) × (meta.old.body.leftmost + 1 ≡ 2 ^ 32))) }

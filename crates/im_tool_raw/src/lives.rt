@@ -1,12 +1,13 @@
 //! Lives over the gate alone, on the model disk.
 
-ghost use Rattle.std.specs.Prelude.{◌≡◌, ◌≢◌, ◌++◌, ◌∷◌, ◌⊎◌, ◌↔◌, ◌+◌, ◌<◌, ◌^◌, [], ℕ, List, true, false, not, is_ok, length, if◌then◌else◌, IfOk, IfErr, OnOk, Err};
+ghost use Rattle.std.specs.Prelude.{◌≡◌, ◌≢◌, ◌++◌, ◌∷◌, ◌⊎◌, ◌+◌, [], ℕ, List, false, is_ok, length, if◌then◌else◌, IfOk, OnOk};
 ghost use Rattle.im_base_disk.specs.Disk.{Files};
 ghost use Rattle.im_base_disk.specs.Runs.{IsSynced};
-ghost use Rattle.im_base_types.specs.declared.fault.Fault.TheVariants.{Device, Failed, LogFull, NotAStore};
+ghost use Rattle.im_base_types.specs.declared.fault.Fault.TheVariants.{NotAStore};
 ghost use Rattle.im_log_gate.specs.declared.gate.Gate.{Gate};
 ghost use Rattle.im_log_gate.specs.Batches.{with_batch};
-ghost use Rattle.im_log_gate.specs.Gate.{IsReady, logged, place_of, has_failed};
+ghost use Rattle.im_log_gate.specs.Gate.{IsReady, logged};
+ghost use Rattle.im_log_gate.specs.Outcome.{MovesBy, PutOutcome};
 ghost use Rattle.im_tool_raw.specs.Lives.{StandsFor, Survives, asked_of, acked_of};
 ghost use Rattle.im_tool_raw.specs.Living.{IsLiving};
 ghost use Rattle.im_tool_raw.specs.Stops.{HasCome};
@@ -103,13 +104,9 @@ fn run_line(disk: &mut ModelDisk, gate: &mut Gate, line: &RawLine, stop: &Option
 // Puts one batch: it was asked, and acknowledged where the answer is `Ok`.
 fn put<D: Disk>(disk: &mut D, gate: &mut Gate, batch: &Batch) -> Result<(), Fault>
     requires { IsReady D.Disk gate.old disk.old }
-    ensures ready { IsReady D.Disk gate.new disk.new }
+    ensures outcome { PutOutcome D.Disk gate.old disk.old gate.new disk.new result }
     ensures put { OnOk result (D.tells → logged D.Disk gate.new disk.new ≡ with_batch batch.now.records.items (logged D.Disk gate.old disk.old)) }
-    ensures failed { has_failed gate.new ≡ not (is_ok result) }
-    ensures already { result ≡ Err Failed ↔ (has_failed gate.old ≡ true) }
-    ensures causes { IfErr result (λ e. (e ≡ Failed) ⊎ (e ≡ LogFull) ⊎ (e ≡ Device)) }
-    ensures full { result ≡ Err LogFull ↔ ((has_failed gate.old ≡ false) × (2 ^ 62 < place_of gate.old + 5 + length batch.now.records.items)) }
-    ensures device { has_failed gate.old ≡ false → result ≡ Err Device ↔ (D.failed disk.new ≡ true) }
+    ensures moves { MovesBy (length batch.now.records.items + 5) gate.old gate.new result }
     ensures living { (before asked acked : List (List ℕ)) → IsLiving D.Disk before asked acked gate.old disk.old
         → IsLiving D.Disk before (asked ++ batch.now.records.items ∷ []) (if is_ok result then acked ++ batch.now.records.items ∷ [] else acked) gate.new disk.new }
 {

@@ -4,7 +4,8 @@ ghost use Rattle.std.specs.Prelude.{◌≡◌, ◌≢◌, ◌⊎◌, ◌↔◌, 
 ghost use Rattle.im_base_types.specs.declared.file_id.FileId.TheVariants.{Log};
 ghost use Rattle.im_base_types.specs.declared.fault.Fault.TheVariants.{Device, Memory, NotAStore};
 ghost use Rattle.im_base_disk.specs.Disk.{Files};
-ghost use Rattle.im_base_disk.specs.Runs.{IsSynced, Reads};
+ghost use Rattle.im_base_disk.specs.Ends.{ReadsOr};
+ghost use Rattle.im_base_disk.specs.Runs.{IsSynced};
 ghost use Rattle.im_log_gate.specs.Gate.{IsReading, IsReady, InOneFile, unread, has_failed};
 ghost use Rattle.im_tool_raw.specs.Lives.{StandsFor};
 ghost use Rattle.im_tool_raw.specs.Living.{IsLiving};
@@ -61,13 +62,11 @@ fn read_batches<D: Disk>(
 ) -> Result<(Gate, Vec<Vec<u8>>), Fault>
     requires usable { has_failed gate ≡ false }
     requires reading { IsReading D.Disk gate disk.old }
-    ensures reads { Reads D.Disk disk.old disk.new }
+    ensures outcome { ReadsOr D.Disk (λ e. (e ≡ Memory) ⊎ (e ≡ NotAStore)) disk.old disk.new result }
     ensures ready { IfOk result (λ opened. IsReady D.Disk opened.0 disk.new) }
     ensures same { IfOk result (λ opened. InOneFile gate opened.0) }
     ensures found { IfOk result (λ opened. D.tells → unread D.Disk gate disk.old ≡ Some (map (λ batch. batch.items) opened.1.items)) }
     ensures refused { result ≡ Err NotAStore → D.tells → unread D.Disk gate disk.old ≡ None }
-    ensures causes { IfErr result (λ e. (e ≡ Memory) ⊎ (e ≡ Device) ⊎ (e ≡ NotAStore)) }
-    ensures device { result ≡ Err Device ↔ (D.failed disk.new ≡ true) }
 {
     let mut gate = gate;
     let mut batches = Vec::new(alloc);

@@ -14,13 +14,13 @@ const SECOND_GATE: u64 = 47;
 const GENERATIONS: u64 = 1 << 62;
 
 impl LogFile {
-    ghost use Rattle.im_base_types.specs.declared.fault.Fault.TheVariants.{Capacity, Device, Failed, LogFull};
+    ghost use Rattle.im_base_types.specs.declared.fault.Fault.TheVariants.{Capacity, Failed, LogFull};
     ghost use Rattle.im_base_types.specs.Records.{Logged};
     ghost use Rattle.im_base_types.specs.declared.file_id.FileId.TheVariants.{Log2, Pages};
     ghost use Rattle.im_base_disk.specs.Disk.{Only};
-    ghost use Rattle.im_base_disk.specs.Runs.{CostsAtMost};
     ghost use Rattle.im_log_gate.specs.Gate.{base_at, generation_at, place_of};
     ghost use Rattle.im_log.specs.LogFile.{IsOpen, IsLog};
+    ghost use Rattle.im_log.specs.Outcome.{SwitchOutcome};
     ghost use Rattle.im_log.specs.Switching.{next_gate, LogSwitchKept};
 
     /// What the header of the log says.
@@ -72,21 +72,13 @@ impl LogFile {
         requires numbered { 1 ≤ next }
         requires empty { self.old.used ≡ 0 }
         requires ready { IsOpen D.Disk self.old disk.old }
-        ensures ready { IsOpen D.Disk self.new disk.new }
+        ensures outcome { SwitchOutcome D.Disk self.old disk.old self.new disk.new result }
         ensures kept { (base : ℕ) (all durable : List Logged) → IsLog D.Disk base all durable self.old disk.old → Only Pages (D.seen disk.old) (D.may_leave disk.old) → Only Log2 (D.seen disk.old) (D.may_leave disk.old)
             → LogSwitchKept D.Disk base all next self.old disk.old self.new disk.new result }
-        ensures empty { self.new.used ≡ 0 }
-        ensures room { length self.new.buffer.items ≡ length self.old.buffer.items }
         ensures base { OnOk result (self.new.base ≡ self.old.base + place_of self.old.gate) }
-        ensures few { CostsAtMost D.Disk 3 3 disk.old disk.new }
         ensures full { result ≡ Err LogFull ↔ ((self.old.failed ≡ false) × (2 ^ 62 < self.old.base + place_of self.old.gate + 47)) }
         ensures capacity { result ≡ Err Capacity ↔ ((self.old.failed ≡ false) × (self.old.base + place_of self.old.gate + 47 ≤ 2 ^ 62) × (2 ^ 62 ≤ generation_at self.old.gate + 1)) }
         ensures nothing { IfErr result (λ e. (e ≡ LogFull) ⊎ (e ≡ Capacity) ⊎ (e ≡ Failed) → (disk.new ≡ disk.old) × (self.new ≡ self.old)) }
-        ensures failed { IfErr result (λ e. e ≡ Device → self.new.failed ≡ true) }
-        ensures works { OnOk result (self.new.failed ≡ false) }
-        ensures causes { IfErr result (λ e. (e ≡ Failed) ⊎ (e ≡ LogFull) ⊎ (e ≡ Capacity) ⊎ (e ≡ Device)) }
-        ensures already { result ≡ Err Failed ↔ (self.old.failed ≡ true) }
-        ensures device { self.old.failed ≡ false → result ≡ Err Device ↔ (D.failed disk.new ≡ true) }
     {
         if self.failed {
             return Err(Fault::Failed);

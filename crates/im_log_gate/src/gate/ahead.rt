@@ -1,6 +1,6 @@
 //! The file is read several batches at once, and the gate goes past one after another in what was read.
 
-ghost use Rattle.std.specs.Prelude.{◌≡◌, ◌≢◌, ◌+◌, ◌-◌, ◌^◌, ◌<◌, ◌≤◌, ◌↔◌, ◌⊎◌, false, true, min, length, take, drop, slice_index, IfErr, IfOk, IfSome, OnOk, MatchOption, None, Some, [], ◌∷◌};
+ghost use Rattle.std.specs.Prelude.{◌≡◌, ◌≢◌, ◌+◌, ◌-◌, ◌^◌, ◌<◌, ◌≤◌, ◌↔◌, false, true, min, length, take, drop, slice_index, IfOk, IfSome, None, Some, [], ◌∷◌};
 
 use crate::ahead::{begins_closed, whole_batch};
 use crate::gate::Gate;
@@ -8,10 +8,10 @@ use im_base_disk::Disk;
 use im_base_types::Fault;
 
 impl Gate {
-    ghost use Rattle.im_base_types.specs.declared.fault.Fault.TheVariants.{Device, Failed};
-    ghost use Rattle.im_base_disk.specs.Runs.{Reads};
+    ghost use Rattle.im_base_types.specs.Outcomes.{none_own};
     ghost use Rattle.im_log_gate.specs.Batches.{in_front, BeginsWhole};
     ghost use Rattle.im_log_gate.specs.Gate.{file_of, place_of, has_failed, InOneFile, unread, IsFromGate, IsReading, IsReady};
+    ghost use Rattle.im_log_gate.specs.Outcome.{BatchRead, PassesIn};
 
     /// Reads the file from the gate on to the front of `room`, as much as there is or as the room takes, and answers how many bytes: by one
     /// length call and one read. The gate stays where it is, and no memory is taken.
@@ -19,18 +19,12 @@ impl Gate {
     /// Refused `Device`. After a refusal every later call answers `Failed` until the file is opened again, and what the room holds is not said.
     pub fn read_ahead<D: Disk>(&mut self, disk: &mut D, room: &mut [u8]) -> Result<usize, Fault>
         requires reading { IsReading D.Disk self.old disk.old }
-        ensures reading { IsReading D.Disk self.new disk.new }
-        ensures same { InOneFile self.old self.new }
+        ensures outcome { BatchRead D.Disk none_own self.old disk.old self.new disk.new result }
         ensures place { place_of self.new ≡ place_of self.old }
-        ensures reads { Reads D.Disk disk.old disk.new }
         ensures ahead { IfOk result (λ size. D.tells → take size room.new ≡ take size (drop (place_of self.old) (D.seen disk.old (file_of self.old)))) }
         ensures all { IfOk result (λ size. D.tells → size ≡ min (length room.old) (length (D.seen disk.old (file_of self.old)) - place_of self.old)) }
         ensures within { IfOk result (λ size. size ≤ length room.new) }
         ensures room { length room.new ≡ length room.old }
-        ensures usable { OnOk result (has_failed self.new ≡ false) }
-        ensures causes { IfErr result (λ e. (e ≡ Failed) ⊎ (e ≡ Device)) }
-        ensures already { result ≡ Err Failed ↔ (has_failed self.old ≡ true) }
-        ensures device { has_failed self.old ≡ false → result ≡ Err Device ↔ (D.failed disk.new ≡ true) }
     {
         if self.failed {
             return Err(Fault::Failed);
@@ -54,8 +48,7 @@ impl Gate {
         ensures reading { IsReading D.Disk self.new disk.now }
         ensures same { InOneFile self.old self.new }
         ensures next { IfSome result (λ size. D.tells → unread D.Disk self.old disk.now ≡ in_front (take size (drop 5 ahead.now) ∷ []) (unread D.Disk self.new disk.now)) }
-        ensures size { IfSome result (λ size. (1 ≤ size) × (size ≤ 16384) × (size + 5 < length ahead.now)) }
-        ensures place { MatchOption result (self.new ≡ self.old) (λ size. place_of self.new ≡ place_of self.old + (size + 5)) }
+        ensures moves { PassesIn ahead.now self.old result self.new }
         ensures none { result ≡ None → has_failed self.old ≡ false → place_of self.old + length ahead.now < 2 ^ 64 → ¬ (BeginsWhole ahead.now) }
         ensures failed { has_failed self.new ≡ has_failed self.old }
     {

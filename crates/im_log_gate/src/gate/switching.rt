@@ -1,6 +1,6 @@
 //! The log goes on in the other file.
 
-ghost use Rattle.std.specs.Prelude.{◌≡◌, ◌+◌, ◌^◌, ◌<◌, ◌≤◌, ◌↔◌, ◌⊎◌, [], false, true, not, is_ok, IfErr, IfOk, OnErr, OnOk, Some};
+ghost use Rattle.std.specs.Prelude.{◌≡◌, ◌+◌, ◌^◌, ◌<◌, ◌≤◌, ◌↔◌, ◌⊎◌, false, IfErr, IfOk, OnErr, OnOk};
 
 use super::Gate;
 use im_base_two_logs::TwoLogs;
@@ -13,15 +13,14 @@ const SECOND_GATE: u64 = 47;
 
 impl Gate {
     ghost use Rattle.im_base_types.specs.declared.fault.Fault.TheVariants.{Capacity, LogFull};
-    ghost use Rattle.im_base_types.specs.declared.file_id.FileId.TheVariants.{Log, Log2, Pages};
+    ghost use Rattle.im_base_types.specs.declared.file_id.FileId.TheVariants.{Log};
     ghost use Rattle.im_base_disk.specs.Disk.{Answers};
-    ghost use Rattle.im_base_disk.specs.Runs.{IsSynced, ChangesOnly, CostsAtMost};
+    ghost use Rattle.im_base_disk.specs.Runs.{IsSynced, CostsAtMost};
     ghost use Rattle.im_base_two_logs.specs.Runs.{LeavesNamed};
     ghost use Rattle.im_log_header.specs.Start.{IsHeader};
     ghost use Rattle.im_log_choice.specs.Switching.{IsSwitching};
-    ghost use Rattle.im_log_gate.specs.Header.{IsMade};
-    ghost use Rattle.im_log_gate.specs.Gate.{file_of, base_at, generation_at, place_of, has_failed, InOneFile, StartsAs, logged, IsReady};
-    ghost use Rattle.im_log_gate.specs.Switching.{IsNextOf, IsFirstOf};
+    ghost use Rattle.im_log_gate.specs.Gate.{file_of, base_at, generation_at, place_of, has_failed, IsReady};
+    ghost use Rattle.im_log_gate.specs.Switching.{HasNotSwitched, HasSwitched, IsNextOf};
 
     /// The header of the log that goes on where this gate stands: its first byte has the LSN of the gate, and a transaction of it the number `next` or
     /// a greater one.
@@ -53,20 +52,11 @@ impl Gate {
         requires fits { header.now.next < 2 ^ 64 }
         requires later { base_at self.old ≤ header.now.base }
         requires working { D.failed disk.old ≡ false }
-        ensures ready { IsReady D.Disk self.new disk.new }
-        ensures file { file_of self.new ≡ Log }
-        ensures first { OnOk result (IsFirstOf header.now self.new) }
-        ensures starts { OnOk result (D.tells → StartsAs self.new (D.seen disk.new Log)) }
-        ensures made { OnOk result (D.tells → IsMade (D.seen disk.new Log)) }
-        ensures empty { OnOk result (D.tells → logged D.Disk self.new disk.new ≡ Some []) }
-        ensures before { OnOk result (D.seen disk.new Log2 ≡ D.seen disk.old Log) }
-        ensures pages { OnOk result (D.seen disk.new Pages ≡ D.seen disk.old Pages) }
-        ensures durable { OnOk result (IsSynced D.Disk disk.old → IsSynced D.Disk disk.new) }
+        ensures ready { IsReady D.Disk self.new disk.new × (file_of self.new ≡ Log) }
+        ensures switched { OnOk result (HasSwitched D.Disk header.now self.new disk.old disk.new) }
+        ensures stays { OnErr result (HasNotSwitched D.Disk self.old self.new disk.old disk.new) }
         ensures any_moment { IsSynced D.Disk disk.old → LeavesNamed D.Disk disk.old disk.new (IsSwitching (D.seen disk.old) header.now.generation header.now.base header.now.next) }
-        ensures same { OnErr result (InOneFile self.old self.new × (place_of self.new ≡ place_of self.old)) }
-        ensures stays { OnErr result (ChangesOnly D.Disk Log2 disk.old disk.new) }
         ensures few { CostsAtMost D.Disk 3 3 disk.old disk.new }
-        ensures failed { has_failed self.new ≡ not (is_ok result) }
         ensures answers { Answers (D.failed disk.new) result }
     {
         self.failed = true;

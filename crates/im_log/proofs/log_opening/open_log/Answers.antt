@@ -42,10 +42,10 @@ returns-in_err-record-in-Some-clause-kept g c base all told has =
 
 pub loop-opening-preserved : goal.loop-opening-preserved
 loop-opening-preserved g c = record {
-  begun = c.next.ensures.begun;
-  reads = reads_then g.D.Disk c.args.disk.now c.loop-opening.disk c.next.new.disk c.loop-opening.invariant.reads c.next.ensures.reads;
-  working = c.in_ok-next.ensures.failed;
-  based = c.next.ensures.base ∙ c.loop-opening.invariant.based;
+  begun = c.next.ensures.outcome.begun;
+  reads = reads_then g.D.Disk c.args.disk.now c.loop-opening.disk c.next.new.disk c.loop-opening.invariant.reads c.next.ensures.outcome.reads;
+  working = c.in_ok-next.ensures.outcome.failed;
+  based = c.next.ensures.outcome.base ∙ c.loop-opening.invariant.based;
   reading = λ base all told has.
       let h = c.loop-opening.invariant.reading base all told has in
       let n = some_kept g.D.Disk base all h.0 c.next.new.self c.next.new.disk c.in_ok-next.field-0 c.in-Some.field-0 c.in-Some.is (c.in_ok-next.ensures.kept base all h.0 h.1) in
@@ -60,5 +60,5 @@ pub returns-in-None-clause-spelled : goal.returns-in-None-clause-spelled
 returns-in-None-clause-spelled g c told made =
     let h = c.loop-opening.invariant.back told made in
     let e = none_read g.D.Disk (base_of (g.D.Disk.seen c.args.disk.now Log)) h.0 c.next.new.self c.next.new.disk c.in_ok-next.field-0 c.in-None.is (c.in_ok-next.ensures.reads_on (base_of (g.D.Disk.seen c.args.disk.now Log)) h.0 h.1) in
-    let seen = c.next.ensures.reads.seen ∙ c.loop-opening.invariant.reads.seen in
+    let seen = c.next.ensures.outcome.reads.seen ∙ c.loop-opening.invariant.reads.seen in
     (h.0, has_read g.D.Disk (base_of (g.D.Disk.seen c.args.disk.now Log)) h.0 c.next.new.self c.args.disk.now c.next.new.disk seen e, c.finish.ensures.kept (base_of (g.D.Disk.seen c.args.disk.now Log)) h.0 h.0 e)

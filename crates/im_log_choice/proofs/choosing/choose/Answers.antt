@@ -10,11 +10,10 @@ pub returns-then-not-other-clause-reads : goal.returns-then-not-other-clause-rea
 returns-then-not-other-clause-reads g c = reads_kept g.D.Disk c.args.disk.now c.is_other_current.new.disk c.in_ok-other.ensures.reads
 
 pub returns-then-not-other-clause-current : goal.returns-then-not-other-clause-current
-returns-then-not-other-clause-current g c told =
-    current_kept g.D.Disk c.args.disk.now c.is_other_current.new.disk c.in_ok-other.ensures.reads (subst (λ (s : Bool). IsCurrent s (g.D.Disk.seen c.args.disk.now)) c.if-not-other.true (c.in_ok-other.ensures.current told))
-
-pub returns-then-not-other-clause-has : goal.returns-then-not-other-clause-has
-returns-then-not-other-clause-has g c told = has_kept g.D.Disk c.args.disk.now c.is_other_current.new.disk c.in_ok-other.ensures.reads (c.in_ok-other.ensures.has told)
+returns-then-not-other-clause-current g c told = (
+  current_kept g.D.Disk c.args.disk.now c.is_other_current.new.disk c.in_ok-other.ensures.reads (subst (λ (s : Bool). IsCurrent s (g.D.Disk.seen c.args.disk.now)) c.if-not-other.true (c.in_ok-other.ensures.current told)),
+  has_kept g.D.Disk c.args.disk.now c.is_other_current.new.disk c.in_ok-other.ensures.reads (c.in_ok-other.ensures.has told),
+)
 
 pub returns-clause-reads : goal.returns-clause-reads
 returns-clause-reads g c =
@@ -22,12 +21,11 @@ returns-clause-reads g c =
     c.swap_logs.ensures.writes c.swap_logs.ensures.syncs
 
 pub returns-clause-current : goal.returns-clause-current
-returns-clause-current g c told =
-    current_turned g.D.Disk c.args.disk.now c.is_other_current.new.disk c.in_ok-other.ensures.reads c.swap_logs.new.self c.swap_logs.ensures.seen
-    (subst (λ (s : Bool). IsCurrent s (g.D.Disk.seen c.args.disk.now)) c.if-not-other.false (c.in_ok-other.ensures.current told))
-
-pub returns-clause-has : goal.returns-clause-has
-returns-clause-has g c told = has_turned g.D.Disk c.args.disk.now c.is_other_current.new.disk c.in_ok-other.ensures.reads c.swap_logs.new.self c.swap_logs.ensures.seen (c.in_ok-other.ensures.has told)
+returns-clause-current g c told = (
+  current_turned g.D.Disk c.args.disk.now c.is_other_current.new.disk c.in_ok-other.ensures.reads c.swap_logs.new.self c.swap_logs.ensures.seen
+      (subst (λ (s : Bool). IsCurrent s (g.D.Disk.seen c.args.disk.now)) c.if-not-other.false (c.in_ok-other.ensures.current told)),
+  has_turned g.D.Disk c.args.disk.now c.is_other_current.new.disk c.in_ok-other.ensures.reads c.swap_logs.new.self c.swap_logs.ensures.seen (c.in_ok-other.ensures.has told),
+)
 
 pub returns-clause-unmade : goal.returns-clause-unmade
 returns-clause-unmade g c told log other =

@@ -1,7 +1,6 @@
-use Rattle.std.proofs.Common.{arith, ◌≡◌, ◌≢◌, ◌+◌, ◌∙◌, ℕ, [], ◌∷◌, length, get_or, subst}
-use Rattle.im_log_gate.specs.Batches.{batches, Reaches}
+use Rattle.std.proofs.Common.{◌∙◌, [], ◌∷◌}
+use Rattle.im_log_gate.specs.Batches.{batches}
 use Rattle.im_log_gate.proofs.Puts.{lays_one, leaves_one}
-use Rattle.im_log_gate.proofs.Several.{with_one}
 use Rattle.im_log_gate.proofs.put.put_behind.Goals as goal
 
 pub returns-in_err-put_laid-clause-any_moment : goal.returns-in_err-put_laid-clause-any_moment
@@ -15,16 +14,5 @@ returns-clause-any_moment g c first reaches =
     (c.put_laid.ensures.any_moment first (c.args.records.now ∷ []) (lays_one c.args.records.now c.clear.new.room c.args.size c.requires.some c.requires.most c.requires.least (c.clear.ensures.front ∙ c.spell.ensures.spelled)) reaches)
 
 pub returns-clause-put : goal.returns-clause-put
-returns-clause-put g c first reaches told =
-    c.in_ok-put_laid.ensures.put first (c.args.records.now ∷ []) (lays_one c.args.records.now c.clear.new.room c.args.size c.requires.some c.requires.most c.requires.least (c.clear.ensures.front ∙ c.spell.ensures.spelled)) reaches told
-    ∙ with_one c.args.records.now (batches first (g.D.Disk.seen c.args.disk.now c.args.file))
-
-pub returns-clause-reaches : goal.returns-clause-reaches
-returns-clause-reaches g c first reaches told =
-    subst (λ (k : ℕ). Reaches first (g.D.Disk.seen c.put_laid.new.disk c.args.file) k) (let e : c.args.place + (5 + length c.args.records.now + 0) ≡ c.args.place + (length c.args.records.now + 5) = omega arith in e)
-    (c.in_ok-put_laid.ensures.reaches first (c.args.records.now ∷ []) (lays_one c.args.records.now c.clear.new.room c.args.size c.requires.some c.requires.most c.requires.least (c.clear.ensures.front ∙ c.spell.ensures.spelled)) reaches told)
-
-pub returns-clause-closed : goal.returns-clause-closed
-returns-clause-closed g c first reaches told =
-    subst (λ (k : ℕ). get_or (g.D.Disk.seen c.put_laid.new.disk c.args.file) k 0 ≢ 1) (let e : c.args.place + (5 + length c.args.records.now + 0) ≡ c.args.place + (length c.args.records.now + 5) = omega arith in e)
-    (c.in_ok-put_laid.ensures.closed first (c.args.records.now ∷ []) (lays_one c.args.records.now c.clear.new.room c.args.size c.requires.some c.requires.most c.requires.least (c.clear.ensures.front ∙ c.spell.ensures.spelled)) reaches told)
+returns-clause-put g c first reaches =
+    c.in_ok-put_laid.ensures.put first (c.args.records.now ∷ []) (lays_one c.args.records.now c.clear.new.room c.args.size c.requires.some c.requires.most c.requires.least (c.clear.ensures.front ∙ c.spell.ensures.spelled)) reaches

@@ -14,12 +14,12 @@ returns-then-closed-clause-any_moment g c synced =
 pub returns-in_err-write_synced-clause-any_moment : goal.returns-in_err-write_synced-clause-any_moment
 returns-in_err-write_synced-clause-any_moment g c synced =
     close_run g.D.Disk c.args.file c.args.disk.now c.is_closed.new.disk c.write_synced.new.disk (g.met.D.Disk.only_now c.args.disk.now) synced c.in_ok-closed.ensures.reads
-    (c.in_ok-closed.ensures.other (ap Ok c.if-closed.false)) c.write_synced.ensures.any_moment
+    (c.in_ok-closed.ensures.other (ap Ok c.if-closed.false)) c.write_synced.ensures.writes.any_moment
 
 pub returns-clause-any_moment : goal.returns-clause-any_moment
 returns-clause-any_moment g c synced =
     close_run g.D.Disk c.args.file c.args.disk.now c.is_closed.new.disk c.write_synced.new.disk (g.met.D.Disk.only_now c.args.disk.now) synced c.in_ok-closed.ensures.reads
-    (c.in_ok-closed.ensures.other (ap Ok c.if-closed.false)) c.write_synced.ensures.any_moment
+    (c.in_ok-closed.ensures.other (ap Ok c.if-closed.false)) c.write_synced.ensures.writes.any_moment
 
 pub returns-then-closed-clause-durable : goal.returns-then-closed-clause-durable
 returns-then-closed-clause-durable g c synced = only_reads g.D.Disk c.args.file c.args.disk.now c.is_closed.new.disk c.in_ok-closed.ensures.reads synced

@@ -25,15 +25,15 @@ returns-clause-living g c before asked acked living =
     subst (λ (l : List ℕ). IsLiving d before (asked ++ l ∷ []) (if is_ok result then acked ++ l ∷ [] else acked) next new) c.deref.ensures.value
     (elim (either_way gate.failed) [
       | inl was ↦
-          let refused : is_ok result ≡ false = ap is_ok (e.already.1 was) in
+          let refused : is_ok result ≡ false = ap is_ok (e.outcome.refusals.already.1 was) in
           subst (λ (b : Bool). IsLiving d before (asked ++ r ∷ []) (if b then acked ++ r ∷ [] else acked) next new) (sym refused)
-          (still_failed d g.met.D.Disk.counts_now g.met.D.Disk.seen_may_stay before asked acked r gate next old new living e.ready e.same was (e.failed ∙ ap not refused) (e.untouched (e.already.1 was)))
+          (still_failed d g.met.D.Disk.counts_now g.met.D.Disk.seen_may_stay before asked acked r gate next old new living e.outcome.ready e.outcome.same was (e.outcome.failed ∙ ap not refused) (e.outcome.untouched (e.outcome.refusals.already.1 was)))
       | inr works ↦ elim (either_way (is_ok result)) [
         | inl ok ↦
             subst (λ (b : Bool). IsLiving d before (asked ++ r ∷ []) (if b then acked ++ r ∷ [] else acked) next new) (sym ok)
-            (acknowledged d g.met.D.Disk.counts_now g.met.D.Disk.seen_may_stay before asked acked r gate next old new living e.ready e.same works (e.any_moment works) (e.front works) (e.failed ∙ ap not ok) (on_ok result _ e.put ok))
+            (acknowledged d g.met.D.Disk.counts_now g.met.D.Disk.seen_may_stay before asked acked r gate next old new living e.outcome.ready e.outcome.same works (e.any_moment works) (e.outcome.front works) (e.outcome.failed ∙ ap not ok) (on_ok result _ e.put ok))
         | inr refused ↦
             subst (λ (b : Bool). IsLiving d before (asked ++ r ∷ []) (if b then acked ++ r ∷ [] else acked) next new) (sym refused)
-            (refused_put d g.met.D.Disk.counts_now g.met.D.Disk.seen_may_stay before asked acked r gate next old new living e.ready e.same works (e.any_moment works) (e.front works) (e.failed ∙ ap not refused))
+            (refused_put d g.met.D.Disk.counts_now g.met.D.Disk.seen_may_stay before asked acked r gate next old new living e.outcome.ready e.outcome.same works (e.any_moment works) (e.outcome.front works) (e.outcome.failed ∙ ap not refused))
       ]
     ])

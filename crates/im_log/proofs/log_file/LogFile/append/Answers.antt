@@ -35,7 +35,7 @@ returns-then-self-size-le-LONGEST_BATCH-clause-kept g c base all durable h =
       ok = appended g.D.Disk base all durable durable (record { newer = []; is = refl }) c.args.self.now c.put_in.new.self c.args.disk.now c.args.disk.now (no_more (g.D.Disk.seen c.args.disk.now Log)) (spelling entry) entry c.put_in.result h
           (laws.read entry (spelling entry) (record { fits = c.requires.entry; spelled = refl }))
           (whole (spelling entry) (omega (arith, size, laws.least entry)) (ap (λ (l : List ℕ). from_be_bytes w32 (take 4 l)) (sym (append-nil (spelling entry))) ∙ laws.length_first entry [] c.requires.entry ∙ sym size))
-          put.lsn put.buffered (omega (arith, put.used, size)) put.sealed put.base put.gate put.failed;
+          put.lsn put.buffered (omega (arith, put.used, size)) put.sealed put.same.base put.same.gate put.same.failed;
       stops = unmoved g.D.Disk base all durable c.args.self.now c.args.disk.now (g.met.D.Disk.only_now c.args.disk.now) c.requires.ready h;
     }
 
@@ -46,12 +46,12 @@ returns-then-begins_next-clause-kept g c base all durable h =
     let laws = c.spellings.ensures in
     let entry = view c.args.record.now in
     let size = laws.size entry in
-    let begun = batch_begun g.D.Disk base all durable c.args.self.now c.begin_batch.new.self c.args.disk.now h (new.sealed h.sealed.batches h.sealed.filled) new.start new.used new.base new.gate new.failed in
+    let begun = batch_begun g.D.Disk base all durable c.args.self.now c.begin_batch.new.self c.args.disk.now h (new.sealed h.sealed.batches h.sealed.filled) new.start new.used new.same.base new.same.gate new.same.failed in
     record {
       ok = appended g.D.Disk base all durable durable (record { newer = []; is = refl }) c.begin_batch.new.self c.put_in-then-begins_next.new.self c.args.disk.now c.args.disk.now (no_more (g.D.Disk.seen c.args.disk.now Log)) (spelling entry) entry c.put_in-then-begins_next.result begun
           (laws.read entry (spelling entry) (record { fits = c.requires.entry; spelled = refl }))
           (whole (spelling entry) (omega (arith, size, laws.least entry)) (ap (λ (l : List ℕ). from_be_bytes w32 (take 4 l)) (sym (append-nil (spelling entry))) ∙ laws.length_first entry [] c.requires.entry ∙ sym size))
-          put.lsn put.buffered (omega (arith, put.used, size)) put.sealed put.base put.gate put.failed;
+          put.lsn put.buffered (omega (arith, put.used, size)) put.sealed put.same.base put.same.gate put.same.failed;
       stops = unmoved g.D.Disk base all durable c.args.self.now c.args.disk.now (g.met.D.Disk.only_now c.args.disk.now) c.requires.ready h;
     }
 
@@ -66,7 +66,7 @@ returns-clause-kept g c base all durable h =
       ok = appended g.D.Disk base all all durable h.front c.force.new.self c.put_in-2.new.self c.args.disk.now c.force.new.disk forced.ok.file (spelling entry) entry c.put_in-2.result forced.ok.log
           (laws.read entry (spelling entry) (record { fits = c.requires.entry; spelled = refl }))
           (whole (spelling entry) (omega (arith, size, laws.least entry)) (ap (λ (l : List ℕ). from_be_bytes w32 (take 4 l)) (sym (append-nil (spelling entry))) ∙ laws.length_first entry [] c.requires.entry ∙ sym size))
-          put.lsn put.buffered (omega (arith, put.used, size)) put.sealed put.base put.gate put.failed;
+          put.lsn put.buffered (omega (arith, put.used, size)) put.sealed put.same.base put.same.gate put.same.failed;
       stops = forced.stops;
     }
 
@@ -74,7 +74,7 @@ pub returns-then-self-size-le-LONGEST_BATCH-clause-forces : goal.returns-then-se
 returns-then-self-size-le-LONGEST_BATCH-clause-forces g c = forces_none g.D.Disk 1 c.args.disk.now
 
 pub returns-clause-forces : goal.returns-clause-forces
-returns-clause-forces g c = forces_by g.D.Disk c.args.self.now.used c.args.disk.now c.force.new.disk c.in_ok-force.ensures.costs c.force.ensures.none
+returns-clause-forces g c = forces_by g.D.Disk c.args.self.now.used c.args.disk.now c.force.new.disk c.in_ok-force.ensures.costs (λ nothing. (c.force.ensures.none nothing).0)
 
 pub returns-then-begins_next-clause-forces : goal.returns-then-begins_next-clause-forces
 returns-then-begins_next-clause-forces g c = forces_none g.D.Disk 1 c.args.disk.now

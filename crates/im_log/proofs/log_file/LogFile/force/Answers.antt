@@ -24,7 +24,7 @@ returns-in_err-put_batches-clause-kept g c base all durable h =
       stops = force_stops g.D.Disk base all durable c.args.self.now c.args.disk.now c.put_batches.new.disk (omega arith) c.requires.ready h
           (c.put_batches.ensures.any_moment works (waits c.args.self.now h.sealed) (laid_all c.args.self.now c.deref_mut.result.now c.seal.new.room c.deref_mut-2.result.now c.deref_mut.ensures.value
           (c.deref_mut-2.ensures.value ∙ written_back c.args.self.now.buffer.items c.seal.new.room c.args.self.now.buffer.len (omega (arith, c.seal.ensures.room, c.deref_mut.ensures.len)))
-          (c.seal.ensures.closed refl) h.sealed)) (c.put_batches.ensures.front works);
+          (c.seal.ensures.closed refl) h.sealed)) (c.put_batches.ensures.outcome.front works);
     }
 
 pub returns-clause-kept : goal.returns-clause-kept
@@ -35,13 +35,13 @@ returns-clause-kept g c base all durable h =
     (c.deref_mut-2.ensures.value ∙ written_back c.args.self.now.buffer.items c.seal.new.room c.args.self.now.buffer.len (omega (arith, c.seal.ensures.room, c.deref_mut.ensures.len)))
     (c.seal.ensures.closed refl) h.sealed in
     let stops = force_stops g.D.Disk base all durable c.args.self.now c.args.disk.now disk (omega arith) c.requires.ready h
-    (c.put_batches.ensures.any_moment works (waits c.args.self.now h.sealed) laid) (c.put_batches.ensures.front works) in
+    (c.put_batches.ensures.any_moment works (waits c.args.self.now h.sealed) laid) (c.put_batches.ensures.outcome.front works) in
     let made = either_made base durable all (g.D.Disk.seen c.args.disk.now Log) (g.D.Disk.seen disk Log) (seen_now g.D.Disk Log c.args.disk.now disk (SpellsEither base durable all (g.D.Disk.seen c.args.disk.now Log)) (g.met.D.Disk.counts_now disk) (g.met.D.Disk.seen_may_stay disk) stops h.tells) in
-    let alike = alike_now g.D.Disk c.args.self.now.gate c.args.disk.now disk c.args.self.now.of_log (c.requires.ready.starts h.tells) (g.met.D.Disk.counts_now disk) (g.met.D.Disk.seen_may_stay disk) (c.put_batches.ensures.front works) h.tells in
-    let as_before = generation_now g.D.Disk c.args.self.now.gate c.args.disk.now disk c.args.self.now.of_log (c.requires.ready.starts h.tells) (g.met.D.Disk.counts_now disk) (g.met.D.Disk.seen_may_stay disk) (c.put_batches.ensures.front works) h.tells in
+    let alike = alike_now g.D.Disk c.args.self.now.gate c.args.disk.now disk c.args.self.now.of_log (c.requires.ready.starts h.tells) (g.met.D.Disk.counts_now disk) (g.met.D.Disk.seen_may_stay disk) (c.put_batches.ensures.outcome.front works) h.tells in
+    let as_before = generation_now g.D.Disk c.args.self.now.gate c.args.disk.now disk c.args.self.now.of_log (c.requires.ready.starts h.tells) (g.met.D.Disk.counts_now disk) (g.met.D.Disk.seen_may_stay disk) (c.put_batches.ensures.outcome.front works) h.tells in
     record {
       ok = forced g.D.Disk base all durable c.args.self.now _ c.args.disk.now disk (omega arith)
-          c.requires.ready h (c.in_ok-put_batches.ensures.put (waits c.args.self.now h.sealed) laid) c.put_batches.ensures.same.first alike as_before made refl refl refl refl c.in_ok-put_batches.ensures.place;
+          c.requires.ready h (c.in_ok-put_batches.ensures.put (waits c.args.self.now h.sealed) laid) c.put_batches.ensures.outcome.same.first alike as_before made refl refl refl refl c.in_ok-put_batches.ensures.moves.place;
       stops = stops;
     }
 
@@ -72,11 +72,11 @@ returns-in_err-put_batches-clause-outcome g c =
     let works = c.requires.ready.working c.if-self.false in
     record {
       ready = record {
-        ready = c.put_batches.ensures.ready;
+        ready = c.put_batches.ensures.outcome.ready;
         starts = λ told.
-            starts_kept c.args.self.now.gate c.put_batches.new.self (g.D.Disk.seen old Log) (g.D.Disk.seen new Log) (c.requires.ready.starts told) c.put_batches.ensures.same
-            (alike_now g.D.Disk c.args.self.now.gate old new c.args.self.now.of_log (c.requires.ready.starts told) (g.met.D.Disk.counts_now new) (g.met.D.Disk.seen_may_stay new) (c.put_batches.ensures.front works) told)
-            (generation_now g.D.Disk c.args.self.now.gate old new c.args.self.now.of_log (c.requires.ready.starts told) (g.met.D.Disk.counts_now new) (g.met.D.Disk.seen_may_stay new) (c.put_batches.ensures.front works) told);
+            starts_kept c.args.self.now.gate c.put_batches.new.self (g.D.Disk.seen old Log) (g.D.Disk.seen new Log) (c.requires.ready.starts told) c.put_batches.ensures.outcome.same
+            (alike_now g.D.Disk c.args.self.now.gate old new c.args.self.now.of_log (c.requires.ready.starts told) (g.met.D.Disk.counts_now new) (g.met.D.Disk.seen_may_stay new) (c.put_batches.ensures.outcome.front works) told)
+            (generation_now g.D.Disk c.args.self.now.gate old new c.args.self.now.of_log (c.requires.ready.starts told) (g.met.D.Disk.counts_now new) (g.met.D.Disk.seen_may_stay new) (c.put_batches.ensures.outcome.front works) told);
         working = search rules;
         placed = search rules;
         room = search rules;
@@ -84,9 +84,9 @@ returns-in_err-put_batches-clause-outcome g c =
         filling = search rules;
       };
       changes = search rules;
-      few = search rules;
+      few = c.put_batches.ensures.costs.most;
       base = search rules;
-      generation = c.put_batches.ensures.same.generation;
+      generation = c.put_batches.ensures.outcome.same.generation;
       ends = end_told none_own c.args.self.now.failed true (g.D.Disk.failed new) c.from_residual.result (search rules) (search rules) (search rules) (search rules);
     }
 
@@ -96,15 +96,15 @@ returns-clause-outcome g c =
     let new = c.put_batches.new.disk in
     let works = c.requires.ready.working c.if-self.false in
     let some : 1 ≤ c.args.self.now.used = omega (arith, c.if-self-eq0.false) in
-    let at = c.in_ok-put_batches.ensures.place in
+    let at = c.in_ok-put_batches.ensures.moves.place in
     let room = c.requires.ready.room c.if-self.false some in
     record {
       ready = record {
-        ready = c.put_batches.ensures.ready;
+        ready = c.put_batches.ensures.outcome.ready;
         starts = λ told.
-            starts_kept c.args.self.now.gate c.put_batches.new.self (g.D.Disk.seen old Log) (g.D.Disk.seen new Log) (c.requires.ready.starts told) c.put_batches.ensures.same
-            (alike_now g.D.Disk c.args.self.now.gate old new c.args.self.now.of_log (c.requires.ready.starts told) (g.met.D.Disk.counts_now new) (g.met.D.Disk.seen_may_stay new) (c.put_batches.ensures.front works) told)
-            (generation_now g.D.Disk c.args.self.now.gate old new c.args.self.now.of_log (c.requires.ready.starts told) (g.met.D.Disk.counts_now new) (g.met.D.Disk.seen_may_stay new) (c.put_batches.ensures.front works) told);
+            starts_kept c.args.self.now.gate c.put_batches.new.self (g.D.Disk.seen old Log) (g.D.Disk.seen new Log) (c.requires.ready.starts told) c.put_batches.ensures.outcome.same
+            (alike_now g.D.Disk c.args.self.now.gate old new c.args.self.now.of_log (c.requires.ready.starts told) (g.met.D.Disk.counts_now new) (g.met.D.Disk.seen_may_stay new) (c.put_batches.ensures.outcome.front works) told)
+            (generation_now g.D.Disk c.args.self.now.gate old new c.args.self.now.of_log (c.requires.ready.starts told) (g.met.D.Disk.counts_now new) (g.met.D.Disk.seen_may_stay new) (c.put_batches.ensures.outcome.front works) told);
         working = search rules;
         placed = search (rules, at, room);
         room = search rules;
@@ -112,8 +112,8 @@ returns-clause-outcome g c =
         filling = search rules;
       };
       changes = search rules;
-      few = search rules;
+      few = c.put_batches.ensures.costs.most;
       base = search rules;
-      generation = c.put_batches.ensures.same.generation;
+      generation = c.put_batches.ensures.outcome.same.generation;
       ends = (c.if-self.false, refl, search rules);
     }

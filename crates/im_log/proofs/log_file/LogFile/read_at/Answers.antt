@@ -1,10 +1,11 @@
-use Rattle.std.proofs.Common.{◌≡◌, ℕ, List, ◌-◌, Some, None, take, drop, ap, sym, ◌∙◌, ◌+◌, rules, arith, subst, length-drop}
+use Rattle.std.proofs.Common.{◌≡◌, refl, ℕ, List, ◌-◌, Some, None, take, drop, ap, sym, ◌∙◌, ◌+◌, rules, arith, subst, length-drop}
+use Rattle.im_base_types.specs.declared.fault.Fault.TheVariants.{NotAStore}
 use Rattle.im_base_types.specs.declared.file_id.FileId.TheVariants.{Log}
 use Rattle.im_log.specs.Spelled.{first_record}
 use Rattle.im_log.specs.Reading.{IsFrontOf}
 use Rattle.im_log.proofs.Spells.{first_is}
 use Rattle.im_log.proofs.Places.{none_below, buffer_bounds, there_in_file, there_in_buffer, brought, cut_first, shown, shown_long}
-use Rattle.im_log.proofs.Runs.{log_read}
+use Rattle.im_log.proofs.Outcomes.{was_read, lies_in_file, lies_in_buffer}
 use Rattle.im_log.proofs.log_file.LogFile.read_at.Goals as goal
 
 pub returns-then-lsn-self-clause-found : goal.returns-then-lsn-self-clause-found
@@ -58,8 +59,25 @@ returns-clause-found g c base all durable r h has same =
     let copied = subst (λ (l : List ℕ). IsFrontOf c.in_ok-size-2.size l c.copy_front.new.room) are c.in_ok-size-2.ensures.copied in
     record { ok = brought (take (end - at) (drop at log.buffer.items)) c.copy_front.new.room c.in_ok-size-2.size t.entry r cut copied t.is; cause = search rules }
 
-pub returns-in_err-size-clause-kept : goal.returns-in_err-size-clause-kept
-returns-in_err-size-clause-kept g c base all durable h = log_read g.D.Disk base all durable c.args.self.now c.args.disk.now c.read_front.new.disk c.read_front.ensures.reads.seen h
+pub returns-in_err-size-clause-outcome : goal.returns-in_err-size-clause-outcome
+returns-in_err-size-clause-outcome g c =
+    was_read g.D.Disk (λ e. e ≡ NotAStore) c.args.self.now c.args.disk.now c.read_front.new.disk c.from_residual.result c.requires.ready c.read_front.ensures.outcome.reads (search rules)
 
-pub returns-then-at-place-clause-kept : goal.returns-then-at-place-clause-kept
-returns-then-at-place-clause-kept g c base all durable h = log_read g.D.Disk base all durable c.args.self.now c.args.disk.now c.read_front.new.disk c.read_front.ensures.reads.seen h
+pub returns-then-at-place-clause-outcome : goal.returns-then-at-place-clause-outcome
+returns-then-at-place-clause-outcome g c =
+    was_read g.D.Disk (λ e. e ≡ NotAStore) c.args.self.now c.args.disk.now c.read_front.new.disk _ c.requires.ready c.read_front.ensures.outcome.reads (search rules)
+
+pub returns-then-lsn-self-clause-outside : goal.returns-then-lsn-self-clause-outside
+returns-then-lsn-self-clause-outside g c works out = refl
+
+pub returns-in_err-size-clause-outside : goal.returns-in_err-size-clause-outside
+returns-in_err-size-clause-outside g c works out = absurd (lies_in_file c.args.self.now c.args.lsn (omega arith) (omega arith) out)
+
+pub returns-then-at-place-clause-outside : goal.returns-then-at-place-clause-outside
+returns-then-at-place-clause-outside g c works out = absurd (lies_in_file c.args.self.now c.args.lsn (omega arith) (omega arith) out)
+
+pub returns-in_err-size-2-clause-outside : goal.returns-in_err-size-2-clause-outside
+returns-in_err-size-2-clause-outside g c works out = absurd (lies_in_buffer c.args.self.now c.args.lsn (omega arith) (omega arith) out)
+
+pub returns-clause-outside : goal.returns-clause-outside
+returns-clause-outside g c works out = absurd (lies_in_buffer c.args.self.now c.args.lsn (omega arith) (omega arith) out)

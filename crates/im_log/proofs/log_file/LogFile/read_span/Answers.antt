@@ -1,10 +1,11 @@
-use Rattle.std.proofs.Common.{◌≡◌, ℕ, ◌-◌, ◌<◌, List, ◌++◌, length, take, drop, refl, sym, ◌∙◌, ap, subst, arith}
+use Rattle.std.proofs.Common.{◌≡◌, ℕ, ◌-◌, ◌<◌, List, ◌++◌, length, take, drop, refl, sym, ◌∙◌, ap, subst, rules, arith}
 use Rattle.std.proofs.lemmas.List.{length-take-le, take_at}
+use Rattle.im_base_types.specs.Outcomes.{none_own}
 use Rattle.im_base_types.specs.declared.file_id.FileId.{FileId}
 use Rattle.im_base_types.specs.declared.file_id.FileId.TheVariants.{Log}
 use Rattle.im_log_gate.specs.Gate.{place_of}
 use Rattle.im_log.specs.Span.{IsSpanOf}
-use Rattle.im_log.proofs.Runs.{log_read}
+use Rattle.im_log.proofs.Outcomes.{was_read}
 use Rattle.im_log.proofs.Spans.{nothing_spans, spans}
 use Rattle.im_log.proofs.log_file.LogFile.read_span.Goals as goal
 
@@ -24,11 +25,12 @@ read-requires-clause-within g c told =
     let cut : length (take n c.args.room.now) ≡ n = length-take-le n c.args.room.now (omega (arith, c.min-size.ensures)) in
     omega (arith, in_log, cut, c.min-size.ensures)
 
-pub returns-in_err-read-clause-kept : goal.returns-in_err-read-clause-kept
-returns-in_err-read-clause-kept g c base all durable h = log_read g.D.Disk base all durable c.args.self.now c.args.disk.now c.read.new.self c.read.ensures.reads.seen h
+pub returns-in_err-read-clause-outcome : goal.returns-in_err-read-clause-outcome
+returns-in_err-read-clause-outcome g c =
+    was_read g.D.Disk none_own c.args.self.now c.args.disk.now c.read.new.self c.from_residual.result c.requires.ready c.read.ensures.reads (search rules)
 
-pub returns-clause-kept : goal.returns-clause-kept
-returns-clause-kept g c base all durable h = log_read g.D.Disk base all durable c.args.self.now c.args.disk.now c.read.new.self c.read.ensures.reads.seen h
+pub returns-clause-outcome : goal.returns-clause-outcome
+returns-clause-outcome g c = was_read g.D.Disk none_own c.args.self.now c.args.disk.now c.read.new.self _ c.requires.ready c.read.ensures.reads (search rules)
 
 pub returns-clause-span : goal.returns-clause-span
 returns-clause-span g c base all durable h =

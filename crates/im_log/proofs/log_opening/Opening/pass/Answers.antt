@@ -12,7 +12,7 @@ returns-clause-begun g c =
     let same = c.pass.ensures.same in
     let size = c.in-Some.size in
     let file : List ℕ = g.D.Disk.seen c.args.disk.now Log in
-    let fits = subst (λ (l : List ℕ). size + 5 < length (take (old.held - old.end) (drop old.end l))) c.deref.ensures.value c.in-Some.ensures.size.2 in
+    let fits = subst (λ (l : List ℕ). size + 5 < length (take (old.held - old.end) (drop old.end l))) c.deref.ensures.value c.in-Some.ensures.moves.2 in
     record {
       reading = c.in-Some.ensures.reading;
       starts = λ told. let starts = begun.starts told in record { first = same.first ∙ starts.first; base = same.base ∙ starts.base; least = same.least ∙ starts.least; generation = same.generation ∙ starts.generation };
@@ -20,14 +20,14 @@ returns-clause-begun g c =
       behind = λ works. c.place-behind.ensures;
       ahead = λ works told.
           ahead_on old.bytes.items old.end old.held size fits file old.gate.place (begun.ahead works told)
-          ∙ ap (λ (k : ℕ). take (length (take (old.held - (old.end + 5 + size)) (drop (old.end + 5 + size) old.bytes.items))) (drop k file)) (sym c.in-Some.ensures.place);
+          ∙ ap (λ (k : ℕ). take (length (take (old.held - (old.end + 5 + size)) (drop (old.end + 5 + size) old.bytes.items))) (drop k file)) (sym c.in-Some.ensures.moves.3);
     }
 
 pub returns-clause-one : goal.returns-clause-one
 returns-clause-one g c so told =
     let old = c.args.self.now in
     let size = c.in-Some.size in
-    let fits = subst (λ (l : List ℕ). size + 5 < length (take (old.held - old.end) (drop old.end l))) c.deref.ensures.value c.in-Some.ensures.size.2 in
+    let fits = subst (λ (l : List ℕ). size + 5 < length (take (old.held - old.end) (drop old.end l))) c.deref.ensures.value c.in-Some.ensures.moves.2 in
     c.in-Some.ensures.next told
     ∙ ap (λ (l : List ℕ). in_front (l ∷ []) (unread g.D.Disk c.pass.new.self c.args.disk.now))
     (ap (λ (l : List ℕ). take size (drop 5 (take (old.held - old.end) (drop old.end l)))) c.deref.ensures.value ∙ batch_is old.bytes.items old.end old.held size fits)

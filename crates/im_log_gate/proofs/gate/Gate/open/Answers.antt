@@ -19,9 +19,9 @@ returns-clause-reading g c =
     let new = c.read_start.new.disk in
     let gate = c.at_start.result in
     let file = g.D.Disk.seen old c.args.file in
-    let reads = c.in_ok-start.ensures.reads in
+    let reads = c.in_ok-start.ensures.outcome.reads in
     record {
-      working = λ works. not_true (g.D.Disk.failed new) (λ failed. let clash = c.in_ok-start.ensures.device.1 failed in cc (clash));
+      working = λ works. not_true (g.D.Disk.failed new) (λ failed. let clash = c.in_ok-start.ensures.outcome.answers.device.1 failed in cc (clash));
       reaches = λ works told.
           let says = subst (λ (o : Option LogStart). IfSome o (λ start. g.D.Disk.tells → Says start.first_gate start.header.generation start.header.base start.header.next file)) c.in-Some.is c.in_ok-start.ensures.says told in
           let made : IsMade file = subst (λ (o : Option LogStart). IfSome o (λ start. g.D.Disk.tells → IsMade file)) c.in-Some.is c.in_ok-start.ensures.made told in

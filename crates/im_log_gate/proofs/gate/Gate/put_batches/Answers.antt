@@ -1,7 +1,9 @@
-use Rattle.std.proofs.Common.{arith, rules, ◌≡◌, ◌≢◌, ◌+◌, ℕ, get_or, subst}
+use Rattle.std.proofs.Common.{◌≡◌, refl, rules, arith}
+use Rattle.im_base_types.specs.declared.fault.Fault.TheVariants.{LogFull}
 use Rattle.im_base_disk.proofs.Costs.{most_none}
-use Rattle.im_log_gate.specs.Batches.{size_of, Reaches}
-use Rattle.im_log_gate.proofs.Puts.{lays_all, used_is}
+use Rattle.im_log_gate.specs.Batches.{size_of}
+use Rattle.im_base_disk.proofs.Ends.{not_failed, device_refused}
+use Rattle.im_log_gate.proofs.Puts.{lays_all, ready_behind, used_is}
 use Rattle.im_log_gate.proofs.gate.Gate.put_batches.Goals as goal
 use Rattle.im_log_gate.proofs.gate.Gate.put_batches.Goals.{then-is_within, else-is_within}
 
@@ -14,9 +16,6 @@ returns-in_err-put_laid-clause-any_moment g c works bs l =
     ]))
     (c.requires.ready.reading.reaches works)
 
-pub returns-in_err-put_laid-clause-front : goal.returns-in_err-put_laid-clause-front
-returns-in_err-put_laid-clause-front g c works = c.put_laid.ensures.front c.args.self.now.first (λ told. let r = c.requires.ready.reading.reaches works told in omega (arith, r.placed))
-
 pub returns-clause-any_moment : goal.returns-clause-any_moment
 returns-clause-any_moment g c works bs l =
     c.put_laid.ensures.any_moment c.args.self.now.first bs (lays_all bs c.args.room.now c.clear.new.room c.args.used c.if-is_within.written l c.clear.ensures.front
@@ -26,40 +25,47 @@ returns-clause-any_moment g c works bs l =
     ]))
     (c.requires.ready.reading.reaches works)
 
-pub returns-clause-front : goal.returns-clause-front
-returns-clause-front g c works = c.put_laid.ensures.front c.args.self.now.first (λ told. let r = c.requires.ready.reading.reaches works told in omega (arith, r.placed))
-
 pub returns-clause-put : goal.returns-clause-put
 returns-clause-put g c bs l told =
-    c.in_ok-put_laid.ensures.put c.args.self.now.first bs (lays_all bs c.args.room.now c.clear.new.room c.args.used c.if-is_within.written l c.clear.ensures.front
+    (c.in_ok-put_laid.ensures.put c.args.self.now.first bs (lays_all bs c.args.room.now c.clear.new.room c.args.used c.if-is_within.written l c.clear.ensures.front
     (elim c.if-is_within.branch [
       | then-is_within w ↦ omega (arith, w.written-is)
       | else-is_within w ↦ omega (arith, w.written-is, c.requires.used)
     ]))
-    (c.requires.ready.reading.reaches c.if-self.false) told
+    (c.requires.ready.reading.reaches c.if-self.false) told).added
 
-pub returns-clause-ready : goal.returns-clause-ready
-returns-clause-ready g c =
-    let file = c.args.self.now.file in
-    let first = c.args.self.now.first in
-    let new = c.put_laid.new.disk in
+pub returns-in_err-put_laid-clause-outcome : goal.returns-in_err-put_laid-clause-outcome
+returns-in_err-put_laid-clause-outcome g c = record {
+  ready = search rules;
+  same = search rules;
+  changes = c.put_laid.ensures.changes.only;
+  front = λ works. c.put_laid.ensures.changes.front c.args.self.now.first (λ told. let r = c.requires.ready.reading.reaches works told in omega (arith, r.placed));
+  untouched = λ same. absurd (not_failed c.in_err-put_laid.field-0.0 c.from_residual.result c.from_residual.ensures.1 c.in_err-put_laid.ensures.answers.device same);
+  failed = search rules;
+  refusals = device_refused (λ e. e ≡ LogFull) c.args.self.now.failed (g.D.Disk.failed c.put_laid.new.disk) c.in_err-put_laid.field-0.0 c.from_residual.result c.from_residual.ensures.1 c.in_err-put_laid.ensures.answers.device c.if-self.false c.in_err-put_laid.ensures.answers.noted;
+}
+
+pub returns-clause-outcome : goal.returns-clause-outcome
+returns-clause-outcome g c =
+    let gate = c.args.self.now in
     let bs = c.requires.laid.0 in
     let l = c.requires.laid.1 in
-    let lays = (lays_all bs c.args.room.now c.clear.new.room c.args.used c.if-is_within.written l c.clear.ensures.front
+    let size : size_of bs ≡ c.args.used = used_is bs c.args.room.now c.args.used (omega (arith, c.requires.used, c.requires.most)) l in
+    let put = c.in_ok-put_laid.ensures.put gate.first bs (lays_all bs c.args.room.now c.clear.new.room c.args.used c.if-is_within.written l c.clear.ensures.front
     (elim c.if-is_within.branch [
       | then-is_within w ↦ omega (arith, w.written-is)
       | else-is_within w ↦ omega (arith, w.written-is, c.requires.used)
-    ])) in
-    let reaches = c.requires.ready.reading.reaches c.if-self.false in
-    let size : size_of bs ≡ c.args.used = used_is bs c.args.room.now c.args.used (omega (arith, c.requires.used, c.requires.most)) l in
+    ]))
+    (c.requires.ready.reading.reaches c.if-self.false) in
     record {
-      reading = record {
-        working = search rules;
-        reaches = λ usable told. subst (λ (k : ℕ). Reaches first (g.D.Disk.seen new file) (c.args.self.now.place + k)) size (c.in_ok-put_laid.ensures.reaches first bs lays reaches told);
-        durable = λ usable. c.in_ok-put_laid.ensures.durable;
-      };
-      closed = λ usable told. subst (λ (k : ℕ). get_or (g.D.Disk.seen new file) (c.args.self.now.place + k) 0 ≢ 1) size (c.in_ok-put_laid.ensures.closed first bs lays reaches told);
+      ready = ready_behind g.D.Disk _ c.put_laid.new.disk gate.first gate.place bs (g.D.Disk.seen c.args.disk.now gate.file) refl (omega (arith, size)) c.in_ok-put_laid.ensures.answers.noted put c.in_ok-put_laid.ensures.durable;
+      same = search rules;
+      changes = c.put_laid.ensures.changes.only;
+      front = λ works. c.put_laid.ensures.changes.front c.args.self.now.first (λ told. let r = c.requires.ready.reading.reaches works told in omega (arith, r.placed));
+      untouched = search rules;
+      failed = search rules;
+      refusals = search rules;
     }
 
-pub returns-then-self-clause-few : goal.returns-then-self-clause-few
-returns-then-self-clause-few g c = most_none g.D.Disk 2 2 c.args.disk.now
+pub returns-then-self-clause-costs : goal.returns-then-self-clause-costs
+returns-then-self-clause-costs g c = record { ok = search rules; most = most_none g.D.Disk 2 2 c.args.disk.now }

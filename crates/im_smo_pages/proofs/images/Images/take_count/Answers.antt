@@ -1,4 +1,4 @@
-use Rattle.std.proofs.Common.{sym, ◌∙◌, ap, ◌≡◌, ◌+◌, Some, inl, inr}
+use Rattle.std.proofs.Common.{refl, sym, ◌∙◌, ap, ◌≡◌, ◌+◌, Some, inl, inr}
 use Rattle.std.proofs.lemmas.Result.{err_from_is_err_and}
 use Rattle.im_base_types.specs.declared.fault.Fault.TheVariants.{Capacity, NotAStore}
 use Rattle.im_base_types.specs.Pages.{Body, Page}
@@ -29,4 +29,4 @@ returns-clause-taken c =
     takes_next c.args.self.now c.put.new.self c.deref_mut.result.now c.take_count.new.meta c.in_ok-number.number c.rise.ensures
     (c.in-Some.ensures.page ∙ ap Some (sym c.deref_mut.ensures.value))
     (one_put c.args.self.now c.take.new.self c.put.new.self 0 _ c.rise.ensures c.take.ensures.new c.in_ok-put.ensures.new)
-    c.in_ok-number.ensures.number c.in_ok-number.ensures.none_free (ap (λ (p : Page). p.body) c.in_ok-number.ensures.new)
+    c.in_ok-number.ensures.number (c.in_ok-number.ensures.ok.0 refl).1 (ap (λ (p : Page). p.body) c.in_ok-number.ensures.new)
