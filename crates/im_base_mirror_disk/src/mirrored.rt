@@ -1,10 +1,10 @@
 //! The disk, and its copy.
-ghost use Rattle.std.specs.Prelude.{◌≡◌, ◌≢◌, ◌↔◌, ◌⊎◌, ◌<◌, ◌≤◌, ◌+◌, [], true, false, length, min, IfSome, IfOk, IfErr, OnOk, Ok, Err, Some, None};
+ghost use Rattle.std.specs.Prelude.{◌≡◌, ◌↔◌, ◌⊎◌, ◌<◌, ◌≤◌, ◌+◌, [], true, false, length, IfSome, IfOk, IfErr, OnOk, Ok, Err, Some, None};
 ghost use Rattle.std.specs.Option.{ForSome};
 ghost use Rattle.im_base_types.specs.declared.fault.Fault.TheVariants.{Device};
 ghost use Rattle.im_base_types.specs.declared.file_id.FileId.{FileId};
 ghost use Rattle.im_base_disk.specs.Disk.{Answers};
-ghost use Rattle.im_base_disk.specs.Runs.{IsSynced, Reads};
+ghost use Rattle.im_base_disk.specs.Runs.{IsSynced};
 ghost use Rattle.im_base_mirror_disk.specs.Marks.{mark_of};
 ghost use Rattle.im_base_mirror_disk.specs.Copies.{HasFailed, HasLengths, IsFront, IsFurther, IsLeft, IsWhole};
 
@@ -35,6 +35,8 @@ pub struct Mirrored<D: Disk, T: Disk + Drop> {
 }
 
 impl<D: Disk, T: Disk + Drop> Mirrored<D, T> {
+    ghost use Rattle.im_base_mirror_disk.specs.Pieces.{IsHandedOut, IsPieceOf, ReadsStore, StaysOrEnds};
+
     /// A disk of which no copy is under way.
     pub fn new(disk: D) -> Mirrored<D, T>
         requires working { D.failed disk ≡ false }
@@ -102,16 +104,8 @@ impl<D: Disk, T: Disk + Drop> Mirrored<D, T> {
     ///
     /// Refused `Device` where a call of the disk itself failed, this one or an earlier one. Whoever works with this disk is told by its next call.
     pub fn piece(&mut self, file: FileId, room: &mut [u8]) -> Result<Piece, Fault>
-        ensures reads { Reads D.Disk self.old.disk self.new.disk }
-        ensures failed { self.new.has_failed ≡ self.old.has_failed }
-        ensures counts { (self.new.writes ≡ self.old.writes) × (self.new.syncs ≡ self.old.syncs) }
-        ensures none { result ≡ Ok Piece.None → self.old.copy ≡ None }
-        ensures same { result ≢ Ok Piece.More → (self.new.copy ≡ self.old.copy) × (self.new.marks ≡ self.old.marks) }
-        ensures last { result ≡ Ok Piece.Last → D.tells → length (D.seen self.new.disk file) ≤ mark_of self.new.marks file }
-        ensures left { result ≡ Ok Piece.More → D.tells → mark_of self.old.marks file < length (D.seen self.old.disk file) }
-        ensures more { result ≡ Ok Piece.More → ForSome self.new.copy (λ t. D.tells → mark_of self.new.marks file ≡ min (mark_of self.old.marks file + length room.old) (length (D.seen self.old.disk file))) }
-        ensures gone { result ≡ Ok Piece.More → self.new.copy ≡ None → HasFailed T.Disk }
-        ensures others { (other : FileId) → other ≢ file → mark_of self.new.marks other ≡ mark_of self.old.marks other }
+        ensures store { ReadsStore D.Disk T.Disk self.old self.new }
+        ensures piece { IsPieceOf D.Disk T.Disk self.old self.new file (length room.old) result }
         ensures device { IfErr result (λ e. (e ≡ Device) × (D.failed self.new.disk ≡ true)) }
     {
         let Mirrored {
@@ -147,12 +141,9 @@ impl<D: Disk, T: Disk + Drop> Mirrored<D, T> {
 
     /// Copies the next bytes of the first file of which some are left, as `piece` does: of the pages, then of the logs. `Last` where nothing of any file is left.
     pub fn next_piece(&mut self, room: &mut [u8]) -> Result<Piece, Fault>
-        ensures reads { Reads D.Disk self.old.disk self.new.disk }
-        ensures failed { self.new.has_failed ≡ self.old.has_failed }
-        ensures counts { (self.new.writes ≡ self.old.writes) × (self.new.syncs ≡ self.old.syncs) }
+        ensures store { ReadsStore D.Disk T.Disk self.old self.new }
         ensures none { result ≡ Ok Piece.None → self.old.copy ≡ None }
-        ensures same { result ≢ Ok Piece.More → (self.new.copy ≡ self.old.copy) × (self.new.marks ≡ self.old.marks) }
-        ensures last { result ≡ Ok Piece.Last → D.tells → (file : FileId) → length (D.seen self.new.disk file) ≤ mark_of self.new.marks file }
+        ensures ends { StaysOrEnds D.Disk T.Disk self.old self.new result }
         ensures more { result ≡ Ok Piece.More → ForSome self.new.copy (λ t. D.tells → IsFurther (length room.old) (D.seen self.old.disk) self.old.marks self.new.marks) }
         ensures gone { result ≡ Ok Piece.More → self.new.copy ≡ None → HasFailed T.Disk }
         ensures device { IfErr result (λ e. (e ≡ Device) × (D.failed self.new.disk ≡ true)) }
@@ -170,9 +161,7 @@ impl<D: Disk, T: Disk + Drop> Mirrored<D, T> {
 
     // Whether all of a file is copied.
     fn is_whole(&mut self, file: FileId) -> Result<bool, Fault>
-        ensures reads { Reads D.Disk self.old.disk self.new.disk }
-        ensures failed { self.new.has_failed ≡ self.old.has_failed }
-        ensures counts { (self.new.writes ≡ self.old.writes) × (self.new.syncs ≡ self.old.syncs) }
+        ensures store { ReadsStore D.Disk T.Disk self.old self.new }
         ensures whole { IfOk result (λ is. D.tells → (is ≡ true ↔ mark_of self.old.marks file ≡ length (D.seen self.old.disk file))) }
         ensures same { (self.new.copy ≡ self.old.copy) × (self.new.marks ≡ self.old.marks) }
         ensures device { IfErr result (λ e. (e ≡ Device) × (D.failed self.new.disk ≡ true)) }
@@ -195,9 +184,7 @@ impl<D: Disk, T: Disk + Drop> Mirrored<D, T> {
 
     // Whether all of each file is copied.
     fn is_all(&mut self) -> Result<bool, Fault>
-        ensures reads { Reads D.Disk self.old.disk self.new.disk }
-        ensures failed { self.new.has_failed ≡ self.old.has_failed }
-        ensures counts { (self.new.writes ≡ self.old.writes) × (self.new.syncs ≡ self.old.syncs) }
+        ensures store { ReadsStore D.Disk T.Disk self.old self.new }
         ensures whole { IfOk result (λ is. D.tells → (is ≡ true ↔ IsWhole self.old.marks (D.seen self.old.disk))) }
         ensures same { (self.new.copy ≡ self.old.copy) × (self.new.marks ≡ self.old.marks) }
         ensures device { IfErr result (λ e. (e ≡ Device) × (D.failed self.new.disk ≡ true)) }
@@ -214,14 +201,10 @@ impl<D: Disk, T: Disk + Drop> Mirrored<D, T> {
     ///
     /// Refused `Device` where a call of the disk itself failed, this one or an earlier one. Whoever works with this disk is told by its next call.
     pub fn finish(&mut self) -> Result<Option<T>, Fault>
-        ensures reads { Reads D.Disk self.old.disk self.new.disk }
-        ensures failed { self.new.has_failed ≡ self.old.has_failed }
-        ensures counts { (self.new.writes ≡ self.old.writes) × (self.new.syncs ≡ self.old.syncs) }
+        ensures store { ReadsStore D.Disk T.Disk self.old self.new }
         ensures copied { IfOk result (λ o. IfSome o (λ t. T.tells → D.tells → (file : FileId) → T.seen t file ≡ D.seen self.new.disk file)) }
-        ensures left { IfOk result (λ o. IfSome o (λ t. T.tells → D.tells → D.may_leave self.new.disk (T.seen t))) }
         ensures synced { IfOk result (λ o. IfSome o (λ t. IsSynced T.Disk t)) }
-        ensures working { IfOk result (λ o. IfSome o (λ t. T.failed t ≡ false)) }
-        ensures taken { IfOk result (λ o. IfSome o (λ t. self.new.copy ≡ None)) }
+        ensures handed { IfOk result (λ o. IfSome o (λ t. IsHandedOut D.Disk T.Disk self.old self.new t)) }
         ensures none { result ≡ Ok None → (self.old.copy ≡ None) ⊎ ((self.new.copy ≡ self.old.copy) × (D.tells → IsLeft self.old.marks (D.seen self.old.disk))) ⊎ ((self.new.copy ≡ None) × HasFailed T.Disk) }
         ensures device { IfErr result (λ e. (e ≡ Device) × (D.failed self.new.disk ≡ true)) }
     {

@@ -1,5 +1,5 @@
 -- The two lists of an owner's locks beside the index of names.
-use Rattle.std.specs.Prelude.{◌≡◌, ℕ, ◌&&◌, ◌||◌, nat_eq, List, ◌++◌, [], ◌∷◌}
+use Rattle.std.specs.Prelude.{◌≡◌, ℕ, ◌&&◌, ◌||◌, nat_eq, List, ◌++◌, [], ◌∷◌, length, take}
 use Rattle.im_theory_machine.specs.Locks.{Name, Lock}
 use Rattle.im_theory_machine.specs.Table.{Held, all_of}
 use Rattle.im_engine_locks.specs.Index.{Agrees, IsOnce, is_held, same_lock, same_name, same_mode, holds_by_name, seen_all}
@@ -17,6 +17,16 @@ all_in own = all_of (held_in own)
 -- both lists are as they were
 pub record SameOwn (old new : OwnLocks) : Type 0 where
   pub lasting : new.lasting.items ≡ old.lasting.items
+  pub falling : new.falling.items ≡ old.falling.items
+
+-- each list has what it had as its front
+pub record KeepsFront (old new : OwnLocks) : Type 0 where
+  pub lasting : take (length old.lasting.items) new.lasting.items ≡ old.lasting.items
+  pub falling : take (length old.falling.items) new.falling.items ≡ old.falling.items
+
+-- locks may have been added behind those that last; those that fall are as they were
+pub record GrowsLasting (old new : OwnLocks) : Type 0 where
+  pub front : take (length old.lasting.items) new.lasting.items ≡ old.lasting.items
   pub falling : new.falling.items ≡ old.falling.items
 
 -- the index of names and what t holds say the same, and each list has each lock once

@@ -4,7 +4,7 @@ ghost use Rattle.std.specs.Prelude.{◌≡◌, ◌≢◌, ℕ, ◌<◌, ◌-◌,
 ghost use Rattle.im_theory_machine.specs.Locks.{Name as LockName};
 ghost use Rattle.im_engine_locks.specs.Requests.{row, requested, named};
 ghost use Rattle.im_engine_locks.specs.Index.{OthersHold, is_held, keeps, lasts, seen, seen_all, same_lock, holds_by_name};
-ghost use Rattle.im_engine_locks.specs.Owned.{held_in, all_in, IsKnown, IsKnownBeside, IsAdded, IsPushed, SameHolders, SameOwn};
+ghost use Rattle.im_engine_locks.specs.Owned.{held_in, all_in, GrowsLasting, IsKnown, IsKnownBeside, IsAdded, IsPushed, KeepsFront, SameHolders, SameOwn};
 ghost use Rattle.im_theory_machine.specs.declared.lock_kind.Mode.{Mode as LockMode};
 
 use crate::holder::Holder;
@@ -113,8 +113,7 @@ fn keep(
     ensures others { OthersHold names.old t names.new }
     ensures held { OnOk result ((n : LockName) (m : LockMode) → is_held (all_in locks.new) n m ≡ (is_held (all_in locks.old) n m || keeps (requested request.now ∷ []) n m)) }
     ensures lasting { OnOk result ((n : LockName) (m : LockMode) → is_held (seen_all locks.new.lasting) n m ≡ (is_held (seen_all locks.old.lasting) n m || lasts (requested request.now ∷ []) n m)) }
-    ensures front { take (length locks.old.lasting.items) locks.new.lasting.items ≡ locks.old.lasting.items }
-    ensures front_falling { take (length locks.old.falling.items) locks.new.falling.items ≡ locks.old.falling.items }
+    ensures front { KeepsFront locks.old locks.new }
     ensures err { OnErr result (SameOwn locks.old locks.new) }
 {
     match request.duration {
@@ -157,8 +156,7 @@ fn keep_lasting(
     ensures others { OthersHold names.old t names.new }
     ensures held { OnOk result ((n : LockName) (m : LockMode) → is_held (all_in locks.new) n m ≡ (is_held (all_in locks.old) n m || same_lock (record { name = named name.entry; mode = mode }) n m)) }
     ensures lasting { OnOk result ((n : LockName) (m : LockMode) → is_held (seen_all locks.new.lasting) n m ≡ (is_held (seen_all locks.old.lasting) n m || same_lock (record { name = named name.entry; mode = mode }) n m)) }
-    ensures front { take (length locks.old.lasting.items) locks.new.lasting.items ≡ locks.old.lasting.items }
-    ensures falling { locks.new.falling.items ≡ locks.old.falling.items }
+    ensures beside { GrowsLasting locks.old locks.new }
     ensures err { OnErr result (SameOwn locks.old locks.new) }
 {
     if add(names, t, &mut locks.lasting, name, mode)? {

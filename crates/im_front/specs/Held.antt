@@ -8,7 +8,7 @@ use Rattle.im_base_types.specs.Changes.{Effect, apply_all}
 use Rattle.im_base_types.specs.Lives.{Shown, Survives, effects, nothing_shown, shown_by}
 use Rattle.im_theory_machine.specs.View.{View}
 use Rattle.im_theory_machine.specs.Machine.{Run, start}
-use Rattle.im_front_stats.specs.Counts.{started, committed, rolled_back}
+use Rattle.im_front_stats.specs.Counts.{started, committed, rolled_back, IsSound}
 use Rattle.im_base_types.specs.declared.fault.Fault.{Fault}
 use Rattle.im_base_types.specs.declared.fault.Fault.TheVariants.{Failed, Busy, TraceFull}
 use Rattle.im_front.specs.declared.recorded.Recorded.{Recorded}
@@ -94,6 +94,13 @@ pub record IsTallied (trace : List (Step × Reply)) (active waiting cut : ℕ) (
   pub long : length counts ≡ 3
   pub cut_small : cut ≤ 2 ^ 62
   pub counts_small : (started counts ≤ cut + length trace) × (committed counts + waiting ≤ cut + length trace) × (rolled_back counts ≤ cut + length trace)
+  pub balanced : started counts ≡ committed counts + rolled_back counts + active
+
+-- What the trace tells: each reply suits its step; the counts that were written last are those of its steps, after those of the steps cut, and are sound; and what was started has ended or is active.
+pub record IsCounted (trace : List (Step × Reply)) (active : ℕ) (kept counts : List ℕ) : Type 0 where
+  pub replies : All (λ e. IsReply e.0 e.1) trace
+  pub counts_are : counts ≡ after_trace 0 kept trace
+  pub sound : IsSound counts
   pub balanced : started counts ≡ committed counts + rolled_back counts + active
 
 module _ {E : Type 0} (life : List Effect → Shown → View → E → Type 0) where

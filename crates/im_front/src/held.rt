@@ -8,14 +8,14 @@ ghost use Rattle.crossbeam_utils.specs.Seq.{cell_view};
 ghost use Rattle.im_base_types.specs.Changes.{Effect};
 ghost use Rattle.im_base_types.specs.Lives.{Shown};
 ghost use Rattle.im_theory_machine.specs.View.{View};
-ghost use Rattle.im_front_stats.specs.Counts.{nothing, writer, started, committed, rolled_back, IsSound, NoLess};
+ghost use Rattle.im_front_stats.specs.Counts.{nothing, writer, started, committed, IsSound, NoLess};
 ghost use Rattle.im_base_types.specs.declared.fault.Fault.TheVariants.{Failed, Busy, TooMany, TraceFull, Memory};
 ghost use Rattle.im_base_steps.specs.Calls.{asked_by, told_by, is_blocked, may_end, most_entries, most_key};
 ghost use Rattle.im_front.specs.Traces.{trace_of};
 ghost use Rattle.im_base_steps.specs.Replies.{is_full, lacks_memory, IsReply};
 ghost use Rattle.im_theory_store.specs.Store.{LookKept};
 ghost use Rattle.im_front.specs.Cuts.{ComesFirst};
-ghost use Rattle.im_front.specs.Held.{IsResting, Records, IsRun, StopKeeps, IsCut, WhyNotCut, after_reply, after_trace, waits_in, force_of, forces_in};
+ghost use Rattle.im_front.specs.Held.{IsCounted, IsResting, Records, IsRun, StopKeeps, IsCut, WhyNotCut, after_reply, waits_in, force_of, forces_in};
 
 use crate::callers::{Behind, Pace};
 use crate::recorded::Recorded;
@@ -145,12 +145,9 @@ impl<E: Store, L: Ledger> Held<E, L> {
     pub fn holds_always(&self)
         ensures run { E.tells → IsRun E.life self.now.base (trace_of self.now.trace) self.now.engine }
         ensures stops { E.tells → StopKeeps E.leaves self.now.base (trace_of self.now.trace) self.now.engine }
-        ensures replies { All (λ e. IsReply e.0 e.1) (trace_of self.now.trace) }
-        ensures counts { self.now.counts ≡ after_trace 0 self.now.kept (trace_of self.now.trace) }
         ensures waiting { (self.now.waiting ≡ waits_in 0 (trace_of self.now.trace)) × (self.now.waiting ≡ E.waiting self.now.engine) }
         ensures forces { self.now.forces ≡ self.now.forced + forces_in (trace_of self.now.trace) }
-        ensures active { started self.now.counts ≡ committed self.now.counts + rolled_back self.now.counts + E.actives self.now.engine }
-        ensures sound { IsSound self.now.counts }
+        ensures counted { IsCounted (trace_of self.now.trace) (E.actives self.now.engine) self.now.kept self.now.counts }
         ensures handed { self.now.handed ≤ 1024 }
     {
         let _handed = self.handed;

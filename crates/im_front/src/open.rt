@@ -5,12 +5,12 @@ ghost use Rattle.std.specs.List.{sum_by, All};
 ghost use Rattle.std.specs.Arc.{arc_value};
 ghost use Rattle.crossbeam_utils.specs.Seq.{cell_view};
 ghost use Rattle.im_base_types.specs.Pages.{Entry};
-ghost use Rattle.im_front_stats.specs.Counts.{writer, started, committed, rolled_back, IsSound, NoLess};
+ghost use Rattle.im_front_stats.specs.Counts.{writer, committed, NoLess};
 ghost use Rattle.im_base_types.specs.declared.fault.Fault.TheVariants.{TooMany, Memory};
 ghost use Rattle.im_base_steps.specs.Calls.{told_by, is_blocked};
 ghost use Rattle.im_front.specs.Traces.{counts_of};
 ghost use Rattle.im_base_steps.specs.Replies.{is_full, IsReply};
-ghost use Rattle.im_front.specs.Held.{IsResting, Stands, after_trace, waits_in, forces_in};
+ghost use Rattle.im_front.specs.Held.{IsCounted, IsResting, Stands, waits_in, forces_in};
 ghost use Rattle.im_front.specs.Plain.{none, seen_of, Notes, GoesOn, IsKeptFrom};
 ghost use Rattle.im_front.specs.Acknowledged.{IsAcknowledged, IsForced, IsNotAcknowledged, IsNotForced, IsSettled, IsStepOf};
 
@@ -106,12 +106,9 @@ impl<E: Store> Kept<E> {
     /// What always holds of the value behind the lock. It does nothing: its contract says so.
     pub fn holds_always(&self)
         ensures kept { E.tells → IsKeptFrom E.life E.leaves self.now.trace self.now.engine }
-        ensures replies { All (λ e. IsReply e.0 e.1) (seen_of self.now.trace) }
-        ensures counts { self.now.counts ≡ after_trace 0 none (seen_of self.now.trace) }
         ensures waiting { (self.now.waiting ≡ waits_in 0 (seen_of self.now.trace)) × (self.now.waiting ≡ E.waiting self.now.engine) }
         ensures forces { self.now.forces ≡ forces_in (seen_of self.now.trace) }
-        ensures active { started self.now.counts ≡ committed self.now.counts + rolled_back self.now.counts + E.actives self.now.engine }
-        ensures sound { IsSound self.now.counts }
+        ensures counted { IsCounted (seen_of self.now.trace) (E.actives self.now.engine) none self.now.counts }
     {
         let _made = self.made;
     }

@@ -4,6 +4,9 @@ use Rattle.im_base_types.specs.Keys.{Key}
 use Rattle.im_theory_page.specs.Split.{HasRoom}
 use Rattle.im_theory_tree.specs.Levels.{Pages}
 use Rattle.im_theory_tree.specs.Search.{IsOnWay}
+use Rattle.im_page_pool.specs.Pool.{PoolView, page_at, IsAt}
+use Rattle.im_tree_search.specs.Levels.{HasLevel}
+use Rattle.im_smo_split.specs.declared.top.Place.{Place}
 use Rattle.im_smo_split.specs.declared.top.Top.{Top}
 use Rattle.im_smo_split.specs.PendingSplits.{SplitsDown, IsPending, IsRootPending}
 use Rattle.im_smo_split.specs.Paths.{OnPath, IsPath, pages_taken, new_pages}
@@ -17,6 +20,12 @@ pub record IsTop (pages : Pages) (key : Key) (top : Top) : Type 0 where
 pub record IsCounted (level : ℕ) (top : Top) : Type 0 where
   pub root : top.root ≡ true → top.pages + level ≡ top.level + 2
   pub under : top.root ≡ false → top.pages + level ≡ top.level + 1
+
+-- A page of this level is held at a place, and so many pages are counted there.
+pub record StandsAt (pool : PoolView) (place : Place) : Type 0 where
+  pub at : IsAt pool place.frame
+  pub page : HasLevel place.level (page_at pool place.frame.number).body
+  pub counted : IsCounted place.level place.top
 
 -- A page on the key's way, with the highest page that splits where this one does.
 pub record IsPlaced (pages : Pages) (key : Key) (level number : ℕ) (top : Top) : Type 0 where

@@ -8,7 +8,7 @@ ghost use Rattle.im_theory_tree.specs.Good.{IsGoodTree};
 ghost use Rattle.im_theory_tree.specs.Levels.{height};
 ghost use Rattle.im_tree_search.specs.Levels.{HasLevel};
 ghost use Rattle.im_smo_alloc.specs.Seen.{bodies};
-ghost use Rattle.im_smo_split.specs.Tops.{IsCounted, IsPlaced, IsFound};
+ghost use Rattle.im_smo_split.specs.Tops.{IsCounted, IsPlaced, IsFound, StandsAt};
 
 use crate::split_room::{child_at, fits_in, key_room, room_in, up_in};
 use im_base_disk::Disk;
@@ -52,9 +52,7 @@ fn step_down<D: Disk>(
     ensures outcome { Reads D.Disk writer.old disk.old writer.new disk.new (fault_of result) }
     ensures kept { (store : AllPages) → HasPages D.Disk AreLoaded store writer.old disk.old → IsGoodTree (bodies store) [] → IsPlaced (bodies store) key.now place.level place.frame.number place.top
         → IsSound result (λ next. IsPlaced (bodies store) key.now next.level next.frame.number next.top) }
-    ensures at { IfOk result (λ next. IsAt writer.new.pool next.frame) }
-    ensures page { IfOk result (λ next. HasLevel next.level (page_at writer.new.pool next.frame.number).body) }
-    ensures counted { IfOk result (λ next. IsCounted next.level next.top) }
+    ensures stands { IfOk result (StandsAt writer.new.pool) }
     ensures level { IfOk result (λ next. next.level + 1 ≡ place.level) }
     ensures gets { OnOk result (writer.new.pool.gets ≡ writer.old.pool.gets + 1) }
 {

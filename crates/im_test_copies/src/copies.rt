@@ -11,7 +11,7 @@ use im_base_mirror_disk::{Mirrored, Piece};
 use im_base_model_disk::ModelDisk;
 use im_base_two_logs::{Renamed, TwoLogs};
 use im_base_types::{Fault, Key, Rid};
-use im_engine::{BufferSize, Config, Engine};
+use im_engine::{BufferSize, Config, Engine, MoreFrames};
 use std::alloc::Global;
 use std::test::Fail;
 use std::thread::Threads;
@@ -41,6 +41,7 @@ fn empty(alloc: Global, swapped: bool) -> Renamed<ModelDisk>
 fn config(seed: u64) -> Config {
     Config {
         frames: 8 + (seed % 13) as usize,
+        more: MoreFrames::NONE,
         max_pages: 1_000_000,
         buffer: BufferSize::ONE,
         stepped: seed % 3 == 0,
@@ -97,7 +98,10 @@ fn finish<D: TwoLogs, T: TwoLogs + Drop>(
             Err(fault) => return Err(fault),
         }
     }
-    engine.end_copy()
+    let Some(copy) = engine.end_copy()? else {
+        return Ok(None);
+    };
+    Ok(Some(copy))
 }
 
 // Copies a store between its steps.

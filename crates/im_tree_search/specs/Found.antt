@@ -6,6 +6,7 @@ use Rattle.im_base_types.specs.Pages.{Entry}
 use Rattle.im_base_types.specs.Maps.{Start, first_in}
 use Rattle.im_base_disk.specs.declared.disk.Disk.{Ghosts}
 use Rattle.im_theory_page.specs.Entry.{entry_at}
+use Rattle.im_page_pool.specs.declared.frame.Frame.{Frame}
 use Rattle.im_page_pool.specs.Pool.{PoolView, page_at, IsAt}
 use Rattle.im_page_writer.specs.declared.page_writer.PageWriter.{PageWriter}
 use Rattle.im_page_writer.specs.Outcome.{AllPages, AreLoaded, HasPages}
@@ -14,7 +15,7 @@ use Rattle.im_theory_tree.specs.Good.{first_page, IsGoodTree}
 use Rattle.im_theory_tree.specs.Search.{IsOnWay}
 use Rattle.im_theory_tree.specs.Lookups.{IsAhead}
 use Rattle.im_tree_search.specs.declared.entry_place.EntryPlace.{EntryPlace}
-use Rattle.im_tree_search.specs.Levels.{bodies_of}
+use Rattle.im_tree_search.specs.Levels.{HasLevel, bodies_of}
 
 -- ---- entries where they stand
 
@@ -25,6 +26,11 @@ entries_of pool p = (page_at pool p).body.entries
 -- the entry at a place
 abbrev pub entry_of : PoolView → EntryPlace → Entry
 entry_of pool place = entry_at (entries_of pool place.frame.number) place.at
+
+-- The page is held in that frame, and is one of the tree, of this level.
+pub record IsTreePage (h : ℕ) (p : ℕ) (pool : PoolView) (frame : Frame) : Type 0 where
+  pub at : IsAt pool frame
+  pub level : HasLevel h (page_at pool p).body
 
 -- The page is held in that frame, and of its entries the one at the place is the first past the start.
 pub record IsFirstOf (start : Start) (pool : PoolView) (place : EntryPlace) : Type 0 where

@@ -4,12 +4,13 @@ use Rattle.im_base_types.specs.Keys.{Key}
 use Rattle.im_base_types.specs.Pages.{Entry}
 use Rattle.im_base_types.specs.Maps.{Above, first_in}
 use Rattle.im_theory_page.specs.Entry.{entry_at}
-use Rattle.im_page_pool.specs.Pool.{PoolView}
+use Rattle.im_page_pool.specs.declared.frame.Frame.{Frame}
+use Rattle.im_page_pool.specs.Pool.{PoolView, page_at}
 use Rattle.im_page_writer.specs.Outcome.{AllPages}
 use Rattle.im_theory_tree.specs.Levels.{Pages, height, walk}
 use Rattle.im_tree_search.specs.declared.next_key.NextKey.{NextKey}
 use Rattle.im_tree_search.specs.declared.next_key.NextKey.TheVariants.{Here, There, End}
-use Rattle.im_tree_search.specs.Levels.{bodies_of}
+use Rattle.im_tree_search.specs.Levels.{HasLevel, bodies_of}
 use Rattle.im_tree_search.specs.Found.{IsReached, entries_of}
 
 -- the first key of the walk above a key
@@ -39,6 +40,11 @@ abbrev pub IsWithin : List Entry → NextKey → Type 0
 IsWithin es (Here i) = i < length es
 IsWithin es (There key) = Unit {0}
 IsWithin es End = Unit {0}
+
+-- A leaf has this number, and the place that is answered beside it is one of its entries.
+pub record IsWithinLeaf (pool : PoolView) (x : Frame × NextKey) : Type 0 where
+  pub level : HasLevel 0 (page_at pool x.0.number).body
+  pub within : IsWithin (entries_of pool x.0.number) x.1
 
 -- it does not
 abbrev pub IsFar : NextKey → Type 0

@@ -10,7 +10,7 @@ ghost use Rattle.im_page_writer.specs.Outcome.{fault_of, AllPages, AreLoaded, Ha
 ghost use Rattle.im_theory_tree.specs.Levels.{height};
 ghost use Rattle.im_theory_tree.specs.Search.{IsOnWay};
 ghost use Rattle.im_tree_search.specs.Levels.{HasLevel, bodies_of};
-ghost use Rattle.im_tree_search.specs.Found.{HasTree, IsReached, IsLeafFor};
+ghost use Rattle.im_tree_search.specs.Found.{HasTree, IsReached, IsLeafFor, IsTreePage};
 ghost use Rattle.im_tree_search.specs.HeldPages.{HoldsWay, IsQuiet};
 ghost use Rattle.im_tree_search.specs.Sights.{HasTreeBut, IfSeen, IsSettled, IsWayMade, is_done};
 
@@ -63,8 +63,7 @@ fn root_page<D: Disk>(writer: &mut PageWriter, disk: &mut D) -> Result<Frame, Fa
     ensures outcome { Reads D.Disk writer.old disk.old writer.new disk.new (fault_of result) }
     ensures kept { (pages : AllPages) → HasPages D.Disk AreLoaded pages writer.old disk.old → HasLevel (pages 1).body.level (pages 1).body
         → IsSound result (λ frame. page_at writer.new.pool frame.number ≡ pages 1) }
-    ensures at { IfOk result (IsAt writer.new.pool) }
-    ensures page { IfOk result (λ frame. HasLevel (page_at writer.new.pool frame.number).body.level (page_at writer.new.pool frame.number).body) }
+    ensures held { IfOk result (λ frame. IsTreePage (page_at writer.new.pool frame.number).body.level frame.number writer.new.pool frame) }
     ensures root { IfOk result (λ frame. frame.number ≡ 1) }
     ensures gets { OnOk result (writer.new.pool.gets ≡ writer.old.pool.gets + 1) }
     ensures quiet { writer.old.failed ≡ false → Holds writer.old.pool 1 → IsQuiet writer.old disk.old writer.new disk.new }
@@ -83,8 +82,7 @@ pub fn root<D: Disk>(writer: &mut PageWriter, disk: &mut D) -> Result<Frame, Fau
     ensures outcome { Reads D.Disk writer.old disk.old writer.new disk.new (fault_of result) }
     ensures kept { (pages : AllPages) (key : Key) → HasTree D.Disk pages writer.old disk.old
         → IsSound result (λ frame. IsReached pages key (height (bodies_of pages)) frame.number writer.new.pool) }
-    ensures at { IfOk result (IsAt writer.new.pool) }
-    ensures page { IfOk result (λ frame. HasLevel (page_at writer.new.pool frame.number).body.level (page_at writer.new.pool frame.number).body) }
+    ensures held { IfOk result (λ frame. IsTreePage (page_at writer.new.pool frame.number).body.level frame.number writer.new.pool frame) }
     ensures root { IfOk result (λ frame. frame.number ≡ 1) }
     ensures gets { OnOk result (writer.new.pool.gets ≡ writer.old.pool.gets + 1) }
     ensures quiet { writer.old.failed ≡ false → Holds writer.old.pool 1 → IsQuiet writer.old disk.old writer.new disk.new }

@@ -1,9 +1,10 @@
 //! A page of the tree, from its number and its level.
 
 ghost use Rattle.std.specs.Prelude.{◌≡◌, ◌↔◌, ◌+◌, ◌≤◌, ℕ, true, false, IfOk, OnOk, IsTrue};
-ghost use Rattle.im_page_pool.specs.Pool.{page_at, Holds, IsAt};
+ghost use Rattle.im_page_pool.specs.Pool.{page_at, Holds};
 ghost use Rattle.im_page_writer.specs.PageWriter.{IsReadyWriter};
 ghost use Rattle.im_page_writer.specs.Outcome.{fault_of, AllPages, AreLoaded, HasPages, IsSound, Reads};
+ghost use Rattle.im_tree_search.specs.Found.{IsTreePage};
 ghost use Rattle.im_tree_search.specs.HeldPages.{IsQuiet};
 ghost use Rattle.im_tree_search.specs.Levels.{HasLevel};
 ghost use Rattle.im_tree_search.specs.Sights.{HasTreeBut, IfSeen, IsSettled, is_done};
@@ -41,9 +42,8 @@ pub fn tree_page<D: Disk>(
     ensures outcome { Reads D.Disk writer.old disk.old writer.new disk.new (fault_of result) }
     ensures kept { (pages : AllPages) → HasPages D.Disk AreLoaded pages writer.old disk.old → HasLevel level (pages number).body
         → IsSound result (λ _. page_at writer.new.pool number ≡ pages number) }
-    ensures at { IfOk result (IsAt writer.new.pool) }
+    ensures held { IfOk result (IsTreePage level number writer.new.pool) }
     ensures frame { IfOk result (λ frame. frame.number ≡ number) }
-    ensures page { OnOk result (HasLevel level (page_at writer.new.pool number).body) }
     ensures gets { OnOk result (writer.new.pool.gets ≡ writer.old.pool.gets + 1) }
     ensures quiet { writer.old.failed ≡ false → Holds writer.old.pool number → IsQuiet writer.old disk.old writer.new disk.new }
 {

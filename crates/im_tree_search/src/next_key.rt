@@ -8,9 +8,9 @@ ghost use Rattle.im_page_writer.specs.PageWriter.{IsReadyWriter};
 ghost use Rattle.im_page_writer.specs.Outcome.{fault_of, AllPages, IsSound, Reads};
 ghost use Rattle.im_theory_tree.specs.Lookups.{IsAhead};
 ghost use Rattle.im_tree_search.specs.Levels.{HasLevel, bodies_of};
-ghost use Rattle.im_tree_search.specs.Found.{HasTree, IsReached, entries_of};
+ghost use Rattle.im_tree_search.specs.Found.{HasTree, IsReached};
 ghost use Rattle.im_tree_search.specs.HeldPages.{HoldsOn, IsQuiet};
-ghost use Rattle.im_tree_search.specs.NextKeys.{far_name, name_above, IsFar, IsWithin, IsNextInLeaf, IsLeafAndNext};
+ghost use Rattle.im_tree_search.specs.NextKeys.{far_name, name_above, IsFar, IsWithinLeaf, IsNextInLeaf, IsLeafAndNext};
 ghost use Rattle.im_tree_search.specs.declared.next_key.NextKey.TheVariants.{There};
 ghost use Rattle.im_tree_search.specs.Beside.{Comes, MeetsDone};
 ghost use Rattle.im_tree_search.specs.Sights.{HasTreeBut, IfSeen, IsSettled, is_done};
@@ -92,8 +92,7 @@ pub fn next_in_leaf_beside<D: Disk>(
         → IsSound result (IfSeen (λ x. IsNextInLeaf pages key.now x.0.number x.1 writer.old.pool.gets writer.new.pool) (MeetsDone (bodies_of pages) (is_done beside.entry) (Above key.now))) }
     ensures at { IfOk result (IfSeen (λ x. IsAt writer.new.pool x.0) (1 ≤ beside.entry.done)) }
     ensures number { IfOk result (IfSeen (λ x. x.0.number ≡ leaf.number) Unit) }
-    ensures leaf { IfOk result (IfSeen (λ x. HasLevel 0 (page_at writer.new.pool x.0.number).body) Unit) }
-    ensures within { IfOk result (IfSeen (λ x. IsWithin (entries_of writer.new.pool x.0.number) x.1) Unit) }
+    ensures leaf { IfOk result (IfSeen (IsWithinLeaf writer.new.pool) Unit) }
     ensures quiet { (set : ℕ → Bool) → HoldsOn key.now writer.old.pool set → set leaf.number ≡ true → IsQuiet writer.old disk.old writer.new disk.new }
 {
     let page = writer.page(leaf);
@@ -129,8 +128,7 @@ pub fn next_in_leaf<D: Disk>(
         → IsSound result (λ x. IsNextInLeaf pages key.now x.0.number x.1 writer.old.pool.gets writer.new.pool) }
     ensures at { IfOk result (λ x. IsAt writer.new.pool x.0) }
     ensures number { IfOk result (λ x. x.0.number ≡ leaf.number) }
-    ensures leaf { IfOk result (λ x. HasLevel 0 (page_at writer.new.pool x.0.number).body) }
-    ensures within { IfOk result (λ x. IsWithin (entries_of writer.new.pool x.0.number) x.1) }
+    ensures leaf { IfOk result (IsWithinLeaf writer.new.pool) }
     ensures quiet { (set : ℕ → Bool) → HoldsOn key.now writer.old.pool set → set leaf.number ≡ true → IsQuiet writer.old disk.old writer.new disk.new }
 {
     seen(next_in_leaf_beside(writer, disk, leaf, key, Beside::none()))
@@ -152,8 +150,7 @@ pub fn leaf_and_next_beside<D: Disk>(
     ensures kept { (pages : AllPages) → HasTreeBut D.Disk pages beside.entry writer.old disk.old
         → IsSound result (IfSeen (λ x. IsLeafAndNext pages key.now x.0.number x.1 writer.old.pool.gets writer.new.pool) (MeetsDone (bodies_of pages) (is_done beside.entry) (Above key.now))) }
     ensures at { IfOk result (IfSeen (λ x. IsAt writer.new.pool x.0) (1 ≤ beside.entry.done)) }
-    ensures leaf { IfOk result (IfSeen (λ x. HasLevel 0 (page_at writer.new.pool x.0.number).body) Unit) }
-    ensures within { IfOk result (IfSeen (λ x. IsWithin (entries_of writer.new.pool x.0.number) x.1) Unit) }
+    ensures leaf { IfOk result (IfSeen (IsWithinLeaf writer.new.pool) Unit) }
     ensures quiet { (set : ℕ → Bool) → writer.old.failed ≡ false → HoldsOn key.now writer.old.pool set → IsQuiet writer.old disk.old writer.new disk.new }
 {
     let Sight::Seen(leaf) = leaf_beside(writer, disk, key, beside)? else {
@@ -176,8 +173,7 @@ pub fn leaf_and_next<D: Disk>(
     ensures kept { (pages : AllPages) → HasTree D.Disk pages writer.old disk.old
         → IsSound result (λ x. IsLeafAndNext pages key.now x.0.number x.1 writer.old.pool.gets writer.new.pool) }
     ensures at { IfOk result (λ x. IsAt writer.new.pool x.0) }
-    ensures leaf { IfOk result (λ x. HasLevel 0 (page_at writer.new.pool x.0.number).body) }
-    ensures within { IfOk result (λ x. IsWithin (entries_of writer.new.pool x.0.number) x.1) }
+    ensures leaf { IfOk result (IsWithinLeaf writer.new.pool) }
     ensures quiet { (set : ℕ → Bool) → writer.old.failed ≡ false → HoldsOn key.now writer.old.pool set → IsQuiet writer.old disk.old writer.new disk.new }
 {
     seen(leaf_and_next_beside(writer, disk, key, Beside::none()))

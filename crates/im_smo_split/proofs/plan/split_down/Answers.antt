@@ -1,5 +1,5 @@
 use Rattle.std.proofs.Common.{◌≡◌, ℕ, subst, arith}
-use Rattle.im_page_writer.proofs.Outcomes.{pages_still, sound_also, sound_on, then}
+use Rattle.im_page_writer.proofs.Outcomes.{pages_still, refused, sound_also, sound_on, then}
 use Rattle.im_smo_alloc.specs.Seen.{seen}
 use Rattle.im_smo_split.specs.Pages.{newest_first}
 use Rattle.im_smo_split.specs.PendingSplits.{IsPending, IsRootPending}
@@ -23,6 +23,10 @@ returns-in_err-pending-2-clause-kept g c store has root under =
     let so = l.invariant.kept store has root under in
     sound_on c.from_residual-in_err-pending-2.result _ _ c.from_residual-in_err-pending-2.ensures.1
     (c.in_err-pending-2.ensures.kept store (has_split store c.args.key.now c.args.images.now l.pending l.images l.numbers.items so g.D.Disk (pages_still g.D.Disk has.has l.invariant.outcome)) so.pending_is so.parent)
+
+pub returns-in_err-pending-2-clause-outcome : goal.returns-in_err-pending-2-clause-outcome
+returns-in_err-pending-2-clause-outcome g c =
+    refused g.D.Disk c.from_residual-in_err-pending-2.result c.from_residual-in_err-pending-2.ensures.1 (then g.D.Disk c.loop-pending.invariant.outcome c.in_err-pending-2.ensures.outcome)
 
 pub loop-pending-preserved : goal.loop-pending-preserved
 loop-pending-preserved g c =

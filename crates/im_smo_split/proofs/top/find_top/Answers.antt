@@ -19,8 +19,8 @@ loop-place-init g c =
     let e = c.in_ok-frame.ensures in
     record {
       outcome = e.outcome;
-      at = e.at;
-      page = rw (c.level-level.ensures, c.page.ensures.page) e.page;
+      at = e.held.at;
+      page = rw (c.level-level.ensures, c.page.ensures.page) e.held.level;
       counted = record { root = λ is. omega arith; under = λ clash. absurd (cc clash) };
       kept = λ store has good.
           let r = e.kept store c.args.key.now (record { has = has; spare = []; good = good }) in
@@ -47,9 +47,9 @@ loop-place-preserved g c =
     let e = c.in_ok-place.ensures in
     record {
       outcome = then g.D.Disk l.invariant.outcome e.outcome;
-      at = e.at;
-      page = e.page;
-      counted = e.counted;
+      at = e.stands.at;
+      page = e.stands.page;
+      counted = e.stands.counted;
       kept = λ store has good. e.kept store (pages_still g.D.Disk has l.invariant.outcome) good (l.invariant.kept store has good);
       gets = λ store has good. omega (arith, e.gets, e.level, l.invariant.gets store has good);
     }

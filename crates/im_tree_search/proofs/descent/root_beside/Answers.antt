@@ -40,7 +40,7 @@ returns-clause-kept g c pages key tree =
 pub returns-clause-settled : goal.returns-clause-settled
 returns-clause-settled g c =
     let e = c.in_ok-frame.ensures in
-    record { at = e.at; level = e.page; clear = ap (is_done c.args.beside) e.root ∙ sym c.is_done.ensures ∙ c.if-is_done.false }
+    record { at = e.held.at; level = e.held.level; clear = ap (is_done c.args.beside) e.root ∙ sym c.is_done.ensures ∙ c.if-is_done.false }
 
 pub returns-in_err-frame-clause-quiet : goal.returns-in_err-frame-clause-quiet
 returns-in_err-frame-clause-quiet g c working holds = c.in_err-frame.ensures.quiet working holds

@@ -36,8 +36,8 @@ pub returns-clause-settled : goal.returns-clause-settled
 returns-clause-settled g c =
     let e = c.in_ok-frame.ensures in
     record {
-      at = e.at;
-      level = subst (λ (n : ℕ). HasLevel c.args.level (page_at c.tree_page.new.writer.pool n).body) (sym e.frame) e.page;
+      at = e.held.at;
+      level = subst (λ (n : ℕ). HasLevel c.args.level (page_at c.tree_page.new.writer.pool n).body) (sym e.frame) e.held.level;
       clear = ap (is_done c.args.beside) e.frame ∙ sym c.is_done.ensures ∙ c.if-is_done.false;
     }
 

@@ -16,8 +16,5 @@ returns-clause-at g c = seen_ok c.leaf_and_next_beside.result c.seen.result _ _ 
 pub returns-clause-leaf : goal.returns-clause-leaf
 returns-clause-leaf g c = seen_ok c.leaf_and_next_beside.result c.seen.result _ _ _ c.seen.ensures c.leaf_and_next_beside.ensures.leaf (λ x is. is)
 
-pub returns-clause-within : goal.returns-clause-within
-returns-clause-within g c = seen_ok c.leaf_and_next_beside.result c.seen.result _ _ _ c.seen.ensures c.leaf_and_next_beside.ensures.within (λ x is. is)
-
 pub returns-clause-quiet : goal.returns-clause-quiet
 returns-clause-quiet g c set working on = c.leaf_and_next_beside.ensures.quiet set working on

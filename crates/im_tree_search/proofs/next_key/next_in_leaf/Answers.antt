@@ -19,8 +19,5 @@ returns-clause-number g c = seen_ok c.next_in_leaf_beside.result c.seen.result _
 pub returns-clause-leaf : goal.returns-clause-leaf
 returns-clause-leaf g c = seen_ok c.next_in_leaf_beside.result c.seen.result _ _ _ c.seen.ensures c.next_in_leaf_beside.ensures.leaf (λ x is. is)
 
-pub returns-clause-within : goal.returns-clause-within
-returns-clause-within g c = seen_ok c.next_in_leaf_beside.result c.seen.result _ _ _ c.seen.ensures c.next_in_leaf_beside.ensures.within (λ x is. is)
-
 pub returns-clause-quiet : goal.returns-clause-quiet
 returns-clause-quiet g c set on in_set = c.next_in_leaf_beside.ensures.quiet set on in_set

@@ -97,14 +97,14 @@ returns-clause-at g c = (at_seen c.in_ok-frame.field-0 c.in-Seen-2.frame _ _ c.i
 pub returns-clause-number : goal.returns-clause-number
 returns-clause-number g c = at_seen c.in_ok-frame.field-0 c.in-Seen-2.frame _ _ c.in-Seen-2.is c.in_ok-frame.ensures.frame
 
+pub returns-in-Some-clause-leaf : goal.returns-in-Some-clause-leaf
+returns-in-Some-clause-leaf g c = record { level = c.requires.page; within = subst (λ (x : Page). c.in-Some.at < length x.body.entries) c.page-page.ensures.page c.in-Some.ensures.some.0 }
+
 pub returns-clause-leaf : goal.returns-clause-leaf
-returns-clause-leaf g c = (at_seen c.in_ok-frame.field-0 c.in-Seen-2.frame _ _ c.in-Seen-2.is c.in_ok-frame.ensures.settled).level
-
-pub returns-in-Some-clause-within : goal.returns-in-Some-clause-within
-returns-in-Some-clause-within g c = subst (λ (x : Page). c.in-Some.at < length x.body.entries) c.page-page.ensures.page c.in-Some.ensures.some.0
-
-pub returns-clause-within : goal.returns-clause-within
-returns-clause-within g c = far_within (entries_of c.page_beside.new.writer.pool c.in-Seen-2.frame.number) c.in-Seen.name (at_seen c.in_ok-name.field-0 c.in-Seen.name _ _ c.in-Seen.is c.in_ok-name.ensures.far)
+returns-clause-leaf g c = record {
+  level = (at_seen c.in_ok-frame.field-0 c.in-Seen-2.frame _ _ c.in-Seen-2.is c.in_ok-frame.ensures.settled).level;
+  within = far_within (entries_of c.page_beside.new.writer.pool c.in-Seen-2.frame.number) c.in-Seen.name (at_seen c.in_ok-name.field-0 c.in-Seen.name _ _ c.in-Seen.is c.in_ok-name.ensures.far);
+}
 
 pub returns-in-Some-clause-quiet : goal.returns-in-Some-clause-quiet
 returns-in-Some-clause-quiet g c set on in_set = quiet_start c.args.writer.now c.args.disk.now
