@@ -1,16 +1,16 @@
 -- Calls that add Images to a log, in a row, and how they end together.
-use Rattle.std.proofs.Common.{◌≡◌, ◌⊎◌, inl, inr, ◌<◌, ◌^◌, false, true, Option, None, Some, refl, sym, ◌∙◌, ap, subst}
-use Rattle.std.specs.Prelude.{◌↔◌, Result, Ok, Err, not, is_ok, IsErrAnd, IfErr, OnOk}
+use Rattle.std.proofs.Common.{◌≡◌, false, true, Option, None, Some, refl, sym, ◌∙◌, subst}
+use Rattle.std.specs.Prelude.{Result, Ok, Err, IsErrAnd, OnOk}
 use Rattle.im_base_types.specs.declared.fault.Fault.{Fault}
 use Rattle.im_base_types.specs.declared.fault.Fault.TheVariants.{Device, Failed, LogFull}
 use Rattle.im_base_disk.specs.declared.disk.Disk.{Ghosts}
 use Rattle.im_log.specs.declared.log_file.LogFile.{LogFile}
-use Rattle.im_log.specs.LogFile.{HasNoRoom, IsOpen, end_with}
+use Rattle.im_log.specs.LogFile.{IsOpen}
 use Rattle.im_base_types.specs.Outcomes.{CallEnds, none_own}
 use Rattle.im_log.specs.Outcome.{LacksRoom, LogOutcome}
 use Rattle.im_page_file.specs.Imaging.{ImagingEnds, Imaging}
 use Rattle.im_page_file.specs.LogEnds.{EndsNoSooner, fault_of}
-use Rattle.im_page_file.proofs.LogEnds.{ends_same, ends_then, still_working}
+use Rattle.im_page_file.proofs.LogEnds.{ends_same, ends_then}
 
 module _ {D : Type 0} (d : Ghosts D) where
   imaging_behind : (old mid new : LogFile) → EndsNoSooner old mid → (disk : D) (why : Option Fault) → ImagingEnds d mid new disk why → ImagingEnds d old new disk why

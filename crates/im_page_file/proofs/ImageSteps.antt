@@ -26,8 +26,7 @@ use Rattle.im_log.specs.Spelled.{logged_at}
 use Rattle.im_log.specs.Kept.{Appended, AppendKept}
 use Rattle.im_log.specs.Whats.{image_of}
 use Rattle.im_theory_page.specs.Page.{page_of}
-use Rattle.im_page_table.specs.declared.table_entry.TableEntry.{TableEntry}
-use Rattle.im_page_table.specs.DirtyTable.{entry_in, IsTied}
+use Rattle.im_page_table.specs.DirtyTable.{TableView, entry_in, IsTied}
 use Rattle.im_page_file.specs.PageFile.{IsPageFile}
 use Rattle.im_page_file.specs.Stands.{Stands}
 use Rattle.im_page_table.specs.Growth.{image_at, image_pages, with_image}
@@ -80,7 +79,7 @@ file_imaged : {D : Type 0} (d : Ghosts D) (o : Option ℕ) (lsn : ℕ) (pages : 
 file_imaged d None lsn pages disk is = is
 file_imaged d (Some e) lsn pages disk is = record { reads = is.reads; leaves = is.leaves }
 
-tied_imaged : (o : Option ℕ) (lsn : ℕ) (pages : ℕ → PageState) (table : List TableEntry) → ((p : ℕ) → IsTied (entry_in table p) (pages p).entry) → (p : ℕ) → IsTied (entry_in table p) (image_pages o lsn pages p).entry
+tied_imaged : (o : Option ℕ) (lsn : ℕ) (pages : ℕ → PageState) (table : TableView) → ((p : ℕ) → IsTied (entry_in table p) (pages p).entry) → (p : ℕ) → IsTied (entry_in table p) (image_pages o lsn pages p).entry
 tied_imaged None lsn pages table tied p = tied p
 tied_imaged (Some e) lsn pages table tied p = tied p
 
@@ -91,7 +90,7 @@ knows_imaged b s lsn p more kept k last below = by s.redo_end refl
     by None going = knows_redoing (record s { log = image_at lsn p (s.pages p).page ∷ s.log; durable = more }) going
     by (Some e) over = knows_grown (appended (image_at lsn p (s.pages p).page) s) more below (knows_joined b s (image_at lsn p (s.pages p).page) kept k last (λ q. passed lsn (s.pages q)) (λ q none. (none, refl)))
 
-module _ {D : Type 0} (d : Ghosts D) (b : Base) (base : ℕ) (s : Writer) (log : LogFile) (table : List TableEntry) (old : D) (st : Stands d b base s log table old) where
+module _ {D : Type 0} (d : Ghosts D) (b : Base) (base : ℕ) (s : Writer) (log : LogFile) (table : TableView) (old : D) (st : Stands d b base s log table old) where
   -- how it stands behind an append of the Image
   pub stands_imaged : (p lsn : ℕ) (bytes : List ℕ) (new_log : LogFile) (new : D) → b.start ≤ base → MayImage s p bytes → Appended d base s.log s.durable (entries.Image p bytes) lsn old new_log new
       → IsOpen d new_log new → ChangesOnly d Log old new → Imaged d b base s p lsn new_log table new

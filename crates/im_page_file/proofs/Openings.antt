@@ -11,6 +11,8 @@ use Rattle.im_base_disk.specs.Disk.{Only}
 use Rattle.im_log.specs.declared.log_file.LogFile.{LogFile}
 use Rattle.im_log.specs.LogFile.{IsOpen, IsLog}
 use Rattle.im_theory_page.specs.PageFile.{file_page}
+use Rattle.im_page_table.specs.declared.table_entry.TableEntry.{TableEntry}
+use Rattle.im_page_table.specs.DirtyTable.{TableView, entry_among}
 use Rattle.im_page_file.specs.OtherLog.{IsOlder}
 use Rattle.im_page_file.specs.PageFile.{IsPageFile}
 use Rattle.im_page_file.specs.Stands.{Stands}
@@ -31,14 +33,14 @@ module _ {D : Type 0} (d : Ghosts D) where
   }
 
   -- an opening: a log, all of it durable, and a file of pages that it covers, all on the disk
-  pub stands_opened : (b : Base) (base : ℕ) (all : History) (log : LogFile) (disk : D) → Rises b all → Covers b all (file_page (d.seen disk Pages)) → IsOpen d log disk → IsLog d base all all log disk
-      → Only Pages (d.seen disk) (d.may_leave disk) → Only Log2 (d.seen disk) (d.may_leave disk) → IsOlder b (d.seen disk) → Stands d b base (opened b all (file_page (d.seen disk Pages))) log [] disk
-  stands_opened b base all log disk up covered ready log_is synced other older = record {
+  pub stands_opened : (b : Base) (base : ℕ) (all : History) (log : LogFile) (table : TableView) (disk : D) → table.entries ≡ [] → Rises b all → Covers b all (file_page (d.seen disk Pages)) → IsOpen d log disk → IsLog d base all all log disk
+      → Only Pages (d.seen disk) (d.may_leave disk) → Only Log2 (d.seen disk) (d.may_leave disk) → IsOlder b (d.seen disk) → Stands d b base (opened b all (file_page (d.seen disk Pages))) log table disk
+  stands_opened b base all log table disk none up covered ready log_is synced other older = record {
     kept = opened_kept b all (file_page (d.seen disk Pages)) up covered;
     ready = ready;
     log_is = log_is;
     file = record { reads = λ p. refl; leaves = λ c left p still. ap (λ (bytes : List ℕ). file_page bytes p) (synced c left) };
-    tied = λ p. inl refl;
+    tied = λ p. inl (ap (λ (xs : List TableEntry). entry_among xs p) none);
     copies = knows_redoing (opened b all (file_page (d.seen disk Pages))) refl;
     other = other;
     older = older;

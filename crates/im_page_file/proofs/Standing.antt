@@ -19,8 +19,7 @@ use Rattle.im_log.specs.Spelled.{log_of}
 use Rattle.im_log.specs.Kept.{HasLog, SpellsEither}
 use Rattle.im_log.proofs.Above.{front_then, log_spared, open_spared}
 use Rattle.im_theory_page.specs.PageFile.{file_page}
-use Rattle.im_page_table.specs.declared.table_entry.TableEntry.{TableEntry}
-use Rattle.im_page_table.specs.DirtyTable.{entry_in, has_room, written_in, ChangesEntry}
+use Rattle.im_page_table.specs.DirtyTable.{TableView, entry_in, has_room, written_in, ChangesEntry}
 use Rattle.im_page_file.specs.OtherLog.{IsOlder}
 use Rattle.im_page_file.specs.PageFile.{KeepsSynced}
 use Rattle.im_page_file.specs.Stands.{IsCovered, LeavesCovered, Stands, MayWritePage, Synced, Run}
@@ -67,7 +66,7 @@ module _ {D : Type 0} (d : Ghosts D) (b : Base) (base : ℕ) where
   covered_wider low high above old new stops on =
       weakened d old new (IsCovered b base low high) (IsCovered b base low above) stops (λ told c is. wider_covered low low high above c (front_self low) on is)
 
-  module _ (s : Writer) (log : LogFile) (table : List TableEntry) (old : D) (st : Stands d b base s log table old) where
+  module _ (s : Writer) (log : LogFile) (table : TableView) (old : D) (st : Stands d b base s log table old) where
     -- the log's file is all on the disk
     log_durable : Only Log (d.seen old) (d.may_leave old)
     log_durable = subst (λ (f : FileId). Only f (d.seen old) (d.may_leave old)) log.of_log.file (st.ready.ready.reading.durable (st.ready.working st.log_is.working))
@@ -113,7 +112,7 @@ module _ {D : Type 0} (d : Ghosts D) (b : Base) (base : ℕ) where
 
     -- ---- how it stands then
 
-    pub stands_written : (p l : ℕ) (bytes : List ℕ) (new_table : List TableEntry) (new : D) → MayWritePage d b base s table p l bytes → p * 4096 ≤ length (d.seen old Pages) → length bytes ≡ 4096
+    pub stands_written : (p l : ℕ) (bytes : List ℕ) (new_table : TableView) (new : D) → MayWritePage d b base s table p l bytes → p * 4096 ≤ length (d.seen old Pages) → length bytes ≡ 4096
         → Holds (p * 4096) bytes (d.seen old Pages) (d.seen new Pages) → Follows (InFile Pages (Torn (p * 4096) (length bytes))) (d.may_leave old) (d.may_leave new) → ChangesOnly d Pages old new → d.failed new ≡ false
         → new_table ≡ written_in p l table → (has_room p table ≡ true → ChangesEntry p (written_entry l) table new_table) → Stands d b base (written p l s) log new_table new
     stands_written p l bytes new_table new may place whole holds crash changes works is enters =
@@ -129,7 +128,7 @@ module _ {D : Type 0} (d : Ghosts D) (b : Base) (base : ℕ) where
           older = older_as (d.seen old) (d.seen new) (ap generation_of spares.seen) (changes.seen Log2 (λ same. cc)) st.older;
         }
 
-    pub stands_synced : (new_table : List TableEntry) (new : D) → d.seen new ≡ d.seen old → ((c : Files) → d.may_leave new c → d.may_leave old c) → Only Pages (d.seen new) (d.may_leave new) → d.failed new ≡ false
+    pub stands_synced : (new_table : TableView) (new : D) → d.seen new ≡ d.seen old → ((c : Files) → d.may_leave new c → d.may_leave old c) → Only Pages (d.seen new) (d.may_leave new) → d.failed new ≡ false
         → ((p : ℕ) → entry_in new_table p ≡ synced_entry (entry_in table p)) → Synced d b base s log new_table new
     stands_synced new_table new seen outcomes durable works is =
         let spares : Spares d Log old new = record { seen = ap (λ (files : Files). files Log) seen; outcomes = λ c left. (c, outcomes c left, refl) } in
@@ -182,7 +181,7 @@ module _ {D : Type 0} (d : Ghosts D) (b : Base) (base : ℕ) where
       longer = front_self s.durable;
     }
 
-  module _ (low : History) (old : D) (s : Writer) (log : LogFile) (table : List TableEntry) (mid : D) (run : Run d b base low old s log table mid) where
+  module _ (low : History) (old : D) (s : Writer) (log : LogFile) (table : TableView) (mid : D) (run : Run d b base low old s log table mid) where
     -- the last call of a run, whatever it answers
     pub run_stops : (new : D) → LeavesCovered d b base s.durable s.log mid new → LeavesCovered d b base low s.log old new
     run_stops new stops =
@@ -198,7 +197,7 @@ module _ {D : Type 0} (d : Ghosts D) (b : Base) (base : ℕ) where
     }
 
     -- one call more that succeeded: a write, a sync, or a call of the log
-    pub run_then : (t : Writer) (new_log : LogFile) (new_table : List TableEntry) (new : D) → Stands d b base t new_log new_table new → LeavesCovered d b base s.durable s.log mid new
+    pub run_then : (t : Writer) (new_log : LogFile) (new_table : TableView) (new : D) → Stands d b base t new_log new_table new → LeavesCovered d b base s.durable s.log mid new
         → IsFront s.durable t.durable → IsFront s.log t.log → Run d b base low old t new_log new_table new
     run_then t new_log new_table new stands stops below above = record {
       stands = stands;

@@ -14,8 +14,7 @@ use Rattle.im_log.specs.LogFile.{IsOpen, IsLog}
 use Rattle.im_log.specs.Kept.{SpellsBetween}
 use Rattle.im_theory_page.specs.Page.{page_of}
 use Rattle.im_theory_page.specs.PageFile.{file_page}
-use Rattle.im_page_table.specs.declared.table_entry.TableEntry.{TableEntry}
-use Rattle.im_page_table.specs.DirtyTable.{entry_in, HasEntries, IsTied}
+use Rattle.im_page_table.specs.DirtyTable.{TableView, entry_in, HasEntries, IsTied}
 use Rattle.im_page_file.specs.OtherLog.{IsOlder}
 use Rattle.im_page_file.specs.PageFile.{IsPageFile}
 use Rattle.im_page_table.specs.KnownCopies.{KnowsCopies}
@@ -29,14 +28,21 @@ pub record IsCovered (b : Base) (base : ℕ) (low high : History) (c : Files) : 
   pub older : IsOlder b c
 
 module _ {D : Type 0} (d : Ghosts D) (b : Base) (base : ℕ) where
-  -- What a writer keeps is kept, and its log, its file of pages and its table are as it says; the other log is older, and on the disk.
-  pub record Stands (s : Writer) (log : LogFile) (table : List TableEntry) (disk : D) : Type 0 where
+  -- What a writer keeps is kept, and its log, its file of pages and its table are as it says; the other log is older, and on the disk. The
+  -- numbers are those of im_page_writer's invariants.
+  pub record Stands (s : Writer) (log : LogFile) (table : TableView) (disk : D) : Type 0 where
+    -- 5
     pub kept : WriterKept b s
+    -- 1
     pub ready : IsOpen d log disk
     pub log_is : IsLog d base s.log s.durable log disk
+    -- 2
     pub file : IsPageFile d s.pages disk
+    -- 3
     pub tied : (p : ℕ) → IsTied (entry_in table p) (s.pages p).entry
+    -- 6
     pub copies : KnowsCopies s
+    -- 7
     pub other : Only Log2 (d.seen disk) (d.may_leave disk)
     pub older : IsOlder b (d.seen disk)
 
@@ -45,29 +51,29 @@ module _ {D : Type 0} (d : Ghosts D) (b : Base) (base : ℕ) where
   LeavesCovered low high old new = LeavesOnly d old new (IsCovered b base low high)
 
   -- What the write of a page asks: that the writer may write it, that the table has its entry, and that these are its bytes.
-  pub record MayWritePage (s : Writer) (table : List TableEntry) (p lsn : ℕ) (bytes : List ℕ) : Type 0 where
+  pub record MayWritePage (s : Writer) (table : TableView) (p lsn : ℕ) (bytes : List ℕ) : Type 0 where
     pub may : MayWrite b s p lsn
     pub entry : entry_in table p ≡ (s.pages p).entry
     pub page : page_of bytes ≡ Some (s.pages p).page
 
   -- What the write of a page keeps. It answers whether the table has the page's entry.
-  pub record WriteKept (s : Writer) (p lsn : ℕ) (log : LogFile) (old : List TableEntry) (old_disk : D) (new : List TableEntry) (new_disk : D) (result : Result Bool Fault) : Type 0 where
+  pub record WriteKept (s : Writer) (p lsn : ℕ) (log : LogFile) (old : TableView) (old_disk : D) (new : TableView) (new_disk : D) (result : Result Bool Fault) : Type 0 where
     pub ok : OnOk result (Stands (written p lsn s) log new new_disk)
     pub entries : IfOk result (λ entered. entered ≡ true → HasEntries old s.pages → HasEntries new (written p lsn s).pages)
     pub stops : LeavesCovered s.durable s.log old_disk new_disk
 
   -- The file of pages has been synced: the table has the entries.
-  pub record Synced (s : Writer) (log : LogFile) (table : List TableEntry) (disk : D) : Type 0 where
+  pub record Synced (s : Writer) (log : LogFile) (table : TableView) (disk : D) : Type 0 where
     pub stands : Stands (synced s) log table disk
     pub entries : HasEntries table (synced s).pages
 
   -- what a sync of the file of pages keeps
-  pub record SyncKept (s : Writer) (log : LogFile) (old_disk : D) (new : List TableEntry) (new_disk : D) (result : Result Unit Fault) : Type 0 where
+  pub record SyncKept (s : Writer) (log : LogFile) (old_disk : D) (new : TableView) (new_disk : D) (result : Result Unit Fault) : Type 0 where
     pub ok : OnOk result (Synced s log new new_disk)
     pub stops : LeavesCovered s.durable s.log old_disk new_disk
 
   -- Calls of a writer in a row, of which each so far succeeded: how it stands now, and what a stop since the first has left.
-  pub record Run (low : History) (old : D) (s : Writer) (log : LogFile) (table : List TableEntry) (disk : D) : Type 0 where
+  pub record Run (low : History) (old : D) (s : Writer) (log : LogFile) (table : TableView) (disk : D) : Type 0 where
     pub stands : Stands s log table disk
     pub stops : LeavesCovered low s.log old disk
     pub longer : IsFront low s.durable

@@ -48,6 +48,7 @@ pub fn write_page<D: Disk>(
     ensures ready { (log : LogFile) → IsOpen D.Disk log disk.old → D.failed disk.new ≡ false → IsOpen D.Disk log disk.new }
     ensures entered { IfOk result (λ entered. entered ≡ has_room page table.old) }
     ensures table { table.new ≡ written_in page lsn table.old }
+    ensures most { table.new.most ≡ table.old.most }
     ensures changes { ChangesOnly D.Disk Pages disk.old disk.new }
     ensures costs { Costs D.Disk 1 0 disk.old disk.new }
     ensures answers { Answers (D.failed disk.new) result }
@@ -66,6 +67,7 @@ pub fn sync_pages<D: Disk>(disk: &mut D, table: &mut DirtyTable) -> Result<(), F
     ensures ready { (log : LogFile) → IsOpen D.Disk log disk.old → D.failed disk.new ≡ false → IsOpen D.Disk log disk.new }
     ensures table { OnOk result (table.new ≡ synced_entries table.old) }
     ensures same { OnErr result (table.new ≡ table.old) }
+    ensures most { table.new.most ≡ table.old.most }
     ensures durable { OnOk result (Only Pages (D.seen disk.new) (D.may_leave disk.new)) }
     ensures seen { D.seen disk.new ≡ D.seen disk.old }
     ensures outcomes { (c : Files) → D.may_leave disk.new c → D.may_leave disk.old c }

@@ -1,4 +1,5 @@
 pub mod Tables
+mod Places
 pub mod Lists
 pub mod OnePage
 pub mod TableSteps

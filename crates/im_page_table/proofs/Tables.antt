@@ -1,379 +1,348 @@
 -- The list of the dirty table stands for a function of the page.
-use Rattle.std.proofs.Common.{◌≡◌, inl, inr, ℕ, zero, suc, ◌+◌, ◌<◌, ◌≤◌, List, [], ◌∷◌, length, get_or, Bool, true, false, refl, sym, ◌∙◌, ap, subst, arith, Option, None, Some}
-use Rattle.std.specs.Prelude.{if◌then◌else◌, ◌==◌, nat_lt, ◌||◌}
-use Rattle.std.specs.List.{insert}
+use Rattle.std.proofs.Common.{◌≡◌, ◌≢◌, inl, inr, ℕ, zero, suc, ◌+◌, ◌<◌, ◌≤◌, List, [], ◌∷◌, ◌++◌, length, map, take, get_or, Bool, true, false, refl, sym, ◌∙◌, ap, subst, arith, Option, None, Some, option_map}
+use Rattle.std.specs.Prelude.{if◌then◌else◌, ◌==◌, nat_eq, nat_lt, ◌||◌, Contains}
 use Rattle.std.specs.Option.{is_some}
 use Rattle.std.proofs.Math.ListN.{set}
-use Rattle.std.proofs.lemmas.Bool.{cases_eq, cases_order, cond-true, cond-false, eq-eqb, ne_eqb, lt-ltb, le-ltb}
+use Rattle.std.proofs.lemmas.Bool.{cases_eq, cond-true, cond-false, eq-eqb, ne_eqb, lt-ltb, le-ltb}
 use Rattle.im_theory_log.specs.Writer.{DirtyEntry}
-use Rattle.im_base_types.specs.declared.sizes.TheConstants.{MOST_DIRTY}
 use Rattle.im_page_table.specs.declared.table_entry.TableEntry.{TableEntry}
-use Rattle.im_page_table.specs.DirtyTable.{table_entry, dirty_entry, entry_in, has_room, written_in, ChangesEntry, IsFound, IsAbsent, IsAbove, IsRising, put, synced_onto, synced_entries, forgotten_entries}
+use Rattle.im_page_table.specs.DirtyTable.{TableView, table_entry, dirty_entry, entry_among, entry_in, has_room, place_among, written_in, ChangesEntry, AreApart, Finds, IsFound, put, put_among, synced_onto, synced_among, synced_entries, uncopied, with_written}
 use Rattle.im_theory_log.specs.WriterSteps.{forgotten_entry, synced_entry, entry_since, written_entry}
 
-above_all : (n : ℕ) (xs : List TableEntry) (k : ℕ) (d : TableEntry) → IsAbove n xs → k < length xs → n < (get_or xs k d).page
-above_all n [] k d up within = absurd (omega arith)
-above_all n (x ∷ xs) zero d up within = up.0
-above_all n (x ∷ xs) (suc k) d up within =
-    let rest : x.page < (get_or xs k d).page = above_all x.page xs k d up.1 (omega arith) in
-    let here : n < x.page = up.0 in
-    omega (arith, rest, here)
+-- ---- one entry in front
 
-pub rising_le : (xs : List TableEntry) (i j : ℕ) (d e : TableEntry) → IsRising xs → i ≤ j → j < length xs → (get_or xs i d).page ≤ (get_or xs j e).page
-rising_le [] i j d e up le within = absurd (omega arith)
-rising_le (x ∷ xs) zero zero d e up le within = omega arith
-rising_le (x ∷ xs) zero (suc j) d e up le within = let rest : x.page < (get_or xs j e).page = above_all x.page xs j e up (omega arith) in omega (arith, rest)
-rising_le (x ∷ xs) (suc i) zero d e up le within = absurd (omega arith)
-rising_le (x ∷ xs) (suc i) (suc j) d e up le within = rising_le xs i j d e (tail x xs up) (omega arith) (omega arith)
+pub first_is : (x : TableEntry) (xs : List TableEntry) (p : ℕ) → x.page ≡ p → entry_among (x ∷ xs) p ≡ Some (dirty_entry x)
+first_is x xs p here = cond-true (x.page == p) (Some (dirty_entry x)) (entry_among xs p) (eq-eqb x.page p here)
+
+pub first_not : (x : TableEntry) (xs : List TableEntry) (p : ℕ) → x.page ≢ p → entry_among (x ∷ xs) p ≡ entry_among xs p
+first_not x xs p other = cond-false (x.page == p) (Some (dirty_entry x)) (entry_among xs p) (ne_eqb x.page p other)
+
+-- a page that has no entry is not that of the first, and has none among the others
+pub not_first : (x : TableEntry) (xs : List TableEntry) (p : ℕ) → entry_among (x ∷ xs) p ≡ None → x.page ≢ p
+not_first x xs p none here = let clash : Some (dirty_entry x) ≡ None = sym (first_is x xs p here) ∙ none in cc clash
+
+pub not_later : (x : TableEntry) (xs : List TableEntry) (p : ℕ) → entry_among (x ∷ xs) p ≡ None → entry_among xs p ≡ None
+not_later x xs p none = sym (first_not x xs p (not_first x xs p none)) ∙ none
+
+-- ---- a page that is put
+
+put_first : (f : Option DirtyEntry → DirtyEntry) (p : ℕ) (x : TableEntry) (xs : List TableEntry) → x.page ≡ p → put_among p f (x ∷ xs) ≡ table_entry p (f (Some (dirty_entry x))) ∷ xs
+put_first f p x xs here = cond-true (x.page == p) (table_entry p (f (Some (dirty_entry x))) ∷ xs) (x ∷ put_among p f xs) (eq-eqb x.page p here)
+
+put_later : (f : Option DirtyEntry → DirtyEntry) (p : ℕ) (x : TableEntry) (xs : List TableEntry) → x.page ≢ p → put_among p f (x ∷ xs) ≡ x ∷ put_among p f xs
+put_later f p x xs other = cond-false (x.page == p) (table_entry p (f (Some (dirty_entry x))) ∷ xs) (x ∷ put_among p f xs) (ne_eqb x.page p other)
+
+-- it has its new entry
+pub held_put : (f : Option DirtyEntry → DirtyEntry) (p : ℕ) (xs : List TableEntry) → entry_among (put_among p f xs) p ≡ Some (f (entry_among xs p))
+held_put f p [] = cond-true (p == p) (Some (f None)) None (eq-eqb p p refl)
+held_put f p (x ∷ xs) = elim (cases_eq x.page p) [
+  | inl here ↦
+      ap (λ (l : List TableEntry). entry_among l p) (put_first f p x xs here)
+      ∙ cond-true (p == p) (Some (f (Some (dirty_entry x)))) (entry_among xs p) (eq-eqb p p refl)
+      ∙ ap (λ (o : Option DirtyEntry). Some (f o)) (sym (first_is x xs p here))
+  | inr other ↦
+      ap (λ (l : List TableEntry). entry_among l p) (put_later f p x xs other)
+      ∙ first_not x (put_among p f xs) p other ∙ held_put f p xs
+      ∙ ap (λ (o : Option DirtyEntry). Some (f o)) (sym (first_not x xs p other))
+]
+
+-- the others keep theirs
+pub held_put_other : (f : Option DirtyEntry → DirtyEntry) (p q : ℕ) (xs : List TableEntry) → p ≢ q → entry_among (put_among p f xs) q ≡ entry_among xs q
+held_put_other f p q [] other = cond-false (p == q) (Some (f None)) None (ne_eqb p q other)
+held_put_other f p q (x ∷ xs) other = elim (cases_eq x.page p) [
+  | inl here ↦
+      ap (λ (l : List TableEntry). entry_among l q) (put_first f p x xs here)
+      ∙ cond-false (p == q) (Some (f (Some (dirty_entry x)))) (entry_among xs q) (ne_eqb p q other)
+      ∙ sym (first_not x xs q (λ same. other (sym here ∙ same)))
+  | inr later ↦
+      ap (λ (l : List TableEntry). entry_among l q) (put_later f p x xs later)
+      ∙ ap (λ (o : Option DirtyEntry). if x.page == q then Some (dirty_entry x) else o) (held_put_other f p q xs other)
+]
+
+-- each page still comes once
+pub put_apart : (f : Option DirtyEntry → DirtyEntry) (p : ℕ) (xs : List TableEntry) → AreApart xs → AreApart (put_among p f xs)
+put_apart f p [] up = (refl, tt)
+put_apart f p (x ∷ xs) up = elim (cases_eq x.page p) [
+  | inl here ↦ subst (λ (l : List TableEntry). AreApart l) (sym (put_first f p x xs here)) (subst (λ (n : ℕ). entry_among xs n ≡ None) here up.0, up.1)
+  | inr other ↦ subst (λ (l : List TableEntry). AreApart l) (sym (put_later f p x xs other)) (held_put_other f p x.page xs (λ same. other (sym same)) ∙ up.0, put_apart f p xs up.1)
+]
+
+-- a page that is put has an entry
+pub put_some : (f : Option DirtyEntry → DirtyEntry) (p : ℕ) (xs : List TableEntry) → is_some (entry_among (put_among p f xs) p) ≡ true
+put_some f p xs = ap (λ (o : Option DirtyEntry). is_some o) (held_put f p xs)
+
+-- what a put leaves, page by page
+pub changes_entry : (f : Option DirtyEntry → DirtyEntry) (p : ℕ) (old new : TableView) → new ≡ put p f old → ChangesEntry p f old new
+changes_entry f p old new is = record {
+  entry = ap (λ (t : TableView). entry_in t p) is ∙ held_put f p old.entries;
+  others = λ q ne. ap (λ (t : TableView). entry_in t q) is ∙ held_put_other f p q old.entries (λ same. ne (sym same));
+}
+
+-- ---- where an entry is
+
+pub place_none : (xs : List TableEntry) (p : ℕ) → place_among p xs ≡ None → entry_among xs p ≡ None
+place_none [] p is = refl
+place_none (x ∷ xs) p is = elim (cases_eq x.page p) [
+  | inl here ↦ absurd (let clash : Some 0 ≡ None = sym (cond-true (x.page == p) (Some 0) (option_map suc (place_among p xs)) (eq-eqb x.page p here)) ∙ is in cc clash)
+  | inr other ↦ first_not x xs p other ∙ place_none xs p (by (place_among p xs) (sym (cond-false (x.page == p) (Some 0) (option_map suc (place_among p xs)) (ne_eqb x.page p other)) ∙ is))
+]
   where
-    tail : (x : TableEntry) (xs : List TableEntry) → IsAbove x.page xs → IsRising xs
-    tail x [] up = tt
-    tail x (y ∷ xs) up = up.1
+    by : (o : Option ℕ) → option_map suc o ≡ None → o ≡ None
+    by None none = refl
+    by (Some i) some = absurd (cc some)
 
--- ---- as a function of the page
+pub none_place : (xs : List TableEntry) (p : ℕ) → entry_among xs p ≡ None → place_among p xs ≡ None
+none_place [] p none = refl
+none_place (x ∷ xs) p none =
+    cond-false (x.page == p) (Some 0) (option_map suc (place_among p xs)) (ne_eqb x.page p (not_first x xs p none))
+    ∙ ap (λ (o : Option ℕ). option_map suc o) (none_place xs p (not_later x xs p none))
 
-pub not_below : (n : ℕ) (xs : List TableEntry) (p : ℕ) → IsAbove n xs → p ≤ n → entry_in xs p ≡ None
-not_below n [] p up le = refl
-not_below n (x ∷ xs) p up le =
-    let here : n < x.page = up.0 in
-    cond-false (x.page == p) (Some (dirty_entry x)) (entry_in xs p) (ne_eqb x.page p (λ e. absurd (omega (arith, e, here, le)))) ∙ not_below x.page xs p up.1 (omega (arith, here, le))
-
--- the page that is put has its new entry, the others keep theirs
-put_at_head : (f : Option DirtyEntry → DirtyEntry) (p : ℕ) (x : TableEntry) (xs : List TableEntry) → IsAbove x.page xs → entry_in (put p f xs) p ≡ Some (f (entry_in xs p)) → entry_in (put p f (x ∷ xs)) p ≡ Some (f (entry_in (x ∷ xs) p))
-put_at_head f p x xs up rest = elim (cases_order x.page p) [
+pub place_found : (xs : List TableEntry) (p i : ℕ) → place_among p xs ≡ Some i → IsFound xs p i
+place_found [] p i is = absurd (cc is)
+place_found (x ∷ xs) p i is = elim (cases_eq x.page p) [
   | inl here ↦
-      let one : put p f (x ∷ xs) ≡ table_entry p (f (Some (dirty_entry x))) ∷ xs =
-      cond-false (nat_lt x.page p) (x ∷ put p f xs) (if x.page == p then table_entry p (f (Some (dirty_entry x))) ∷ xs else table_entry p (f None) ∷ x ∷ xs) (le-ltb x.page p (omega (arith, here)))
-      ∙ cond-true (x.page == p) (table_entry p (f (Some (dirty_entry x))) ∷ xs) (table_entry p (f None) ∷ x ∷ xs) (eq-eqb x.page p here) in
-      ap (λ (l : List TableEntry). entry_in l p) one
-      ∙ cond-true (p == p) (Some (f (Some (dirty_entry x)))) (entry_in xs p) (eq-eqb p p refl)
-      ∙ ap (λ (o : Option DirtyEntry). Some (f o)) (sym (cond-true (x.page == p) (Some (dirty_entry x)) (entry_in xs p) (eq-eqb x.page p here)))
-  | inr (inl less) ↦
-      let one : put p f (x ∷ xs) ≡ x ∷ put p f xs = cond-true (nat_lt x.page p) (x ∷ put p f xs) (if x.page == p then table_entry p (f (Some (dirty_entry x))) ∷ xs else table_entry p (f None) ∷ x ∷ xs) (lt-ltb x.page p less) in
-      let skip : (o : Option DirtyEntry) → (if x.page == p then Some (dirty_entry x) else o) ≡ o = λ o. cond-false (x.page == p) (Some (dirty_entry x)) o (ne_eqb x.page p (λ e. absurd (omega (arith, e, less)))) in
-      ap (λ (l : List TableEntry). entry_in l p) one
-      ∙ skip (entry_in (put p f xs) p) ∙ rest
-      ∙ ap (λ (o : Option DirtyEntry). Some (f o)) (sym (skip (entry_in xs p)))
-  | inr (inr more) ↦
-      let one : put p f (x ∷ xs) ≡ table_entry p (f None) ∷ x ∷ xs =
-      cond-false (nat_lt x.page p) (x ∷ put p f xs) (if x.page == p then table_entry p (f (Some (dirty_entry x))) ∷ xs else table_entry p (f None) ∷ x ∷ xs) (le-ltb x.page p (omega (arith, more)))
-      ∙ cond-false (x.page == p) (table_entry p (f (Some (dirty_entry x))) ∷ xs) (table_entry p (f None) ∷ x ∷ xs) (ne_eqb x.page p (λ e. absurd (omega (arith, e, more)))) in
-      let none : entry_in (x ∷ xs) p ≡ None =
-      cond-false (x.page == p) (Some (dirty_entry x)) (entry_in xs p) (ne_eqb x.page p (λ e. absurd (omega (arith, e, more)))) ∙ not_below x.page xs p up (omega (arith, more)) in
-      ap (λ (l : List TableEntry). entry_in l p) one
-      ∙ cond-true (p == p) (Some (f None)) (entry_in (x ∷ xs) p) (eq-eqb p p refl)
-      ∙ ap (λ (o : Option DirtyEntry). Some (f o)) (sym none)
+      let zeroth : Some 0 ≡ Some i = sym (cond-true (x.page == p) (Some 0) (option_map suc (place_among p xs)) (eq-eqb x.page p here)) ∙ is in
+      let at : 0 ≡ i = cc zeroth in
+      subst (λ (n : ℕ). IsFound (x ∷ xs) p n) at (record { within = omega arith; before = λ k d less. absurd (omega (arith, less)); here = λ d. here })
+  | inr other ↦ by other (λ j. place_found xs p j) (place_among p xs) refl (sym (cond-false (x.page == p) (Some 0) (option_map suc (place_among p xs)) (ne_eqb x.page p other)) ∙ is)
 ]
+  where
+    before : x.page ≢ p → (j : ℕ) → IsFound xs p j → (k : ℕ) (d : TableEntry) → k < suc j → (get_or (x ∷ xs) k d).page ≢ p
+    before other j found zero d less = other
+    before other j found (suc k) d less = found.before k d (omega (arith, less))
 
-held_put_above : (f : Option DirtyEntry → DirtyEntry) (p n : ℕ) (xs : List TableEntry) → IsAbove n xs → entry_in (put p f xs) p ≡ Some (f (entry_in xs p))
-held_put_above f p n [] up = cond-true (p == p) (Some (f None)) None (eq-eqb p p refl)
-held_put_above f p n (x ∷ xs) up = put_at_head f p x xs up.1 (held_put_above f p x.page xs up.1)
+    by : x.page ≢ p → ((j : ℕ) → place_among p xs ≡ Some j → IsFound xs p j) → (o : Option ℕ) → place_among p xs ≡ o → option_map suc o ≡ Some i → IsFound (x ∷ xs) p i
+    by other later None none some = absurd (cc some)
+    by other later (Some j) there some =
+        let at : suc j ≡ i = cc some in
+        let found = later j there in
+        let within : j < length xs = found.within in
+        subst (λ (n : ℕ). IsFound (x ∷ xs) p n) at (record { within = omega (arith, within); before = before other j found; here = λ d. found.here d })
 
--- the page that is put has its new entry
-pub held_put : (f : Option DirtyEntry → DirtyEntry) (p : ℕ) (xs : List TableEntry) → IsRising xs → entry_in (put p f xs) p ≡ Some (f (entry_in xs p))
-held_put f p [] up = cond-true (p == p) (Some (f None)) None (eq-eqb p p refl)
-held_put f p (x ∷ xs) up = put_at_head f p x xs up (held_put_above f p x.page xs up)
+-- one place further on in a shorter list
+behind : (x : TableEntry) (xs : List TableEntry) (p i : ℕ) → IsFound (x ∷ xs) p (suc i) → IsFound xs p i
+behind x xs p i is =
+    let within : suc i < length (x ∷ xs) = is.within in
+    record { within = omega (arith, within); before = λ k d less. is.before (suc k) d (omega (arith, less)); here = λ d. is.here d }
 
--- a sync, page by page
-synced_at_head : (x : TableEntry) (xs : List TableEntry) (p : ℕ) → IsAbove x.page xs → (t : Option ℕ) → x.since ≡ t → entry_in (synced_entries xs) p ≡ synced_entry (entry_in xs p) → entry_in (synced_onto x x.since (synced_entries xs)) p ≡ synced_entry (if x.page == p then Some (dirty_entry x) else entry_in xs p)
-synced_at_head x xs p up None none rest = elim (cases_eq x.page p) [
-  | inl here ↦
-      ap (λ (t : Option ℕ). entry_in (synced_onto x t (synced_entries xs)) p) none ∙ rest
-      ∙ ap (λ (o : Option DirtyEntry). synced_entry o) (not_below x.page xs p up (omega (arith, here)))
-      ∙ sym (ap (λ (t : Option ℕ). entry_since x.copied t) none)
-      ∙ sym (ap (λ (o : Option DirtyEntry). synced_entry o) (cond-true (x.page == p) (Some (dirty_entry x)) (entry_in xs p) (eq-eqb x.page p here)))
+-- the entry that is found
+pub found_entry : (xs : List TableEntry) (i p : ℕ) (d : TableEntry) → IsFound xs p i → entry_among xs p ≡ Some (dirty_entry (get_or xs i d))
+found_entry [] i p d is = absurd (let within : i < length {A = TableEntry} [] = is.within in omega (arith, within))
+found_entry (x ∷ xs) zero p d is = first_is x xs p (is.here d)
+found_entry (x ∷ xs) (suc i) p d is = first_not x xs p (is.before zero x (omega arith)) ∙ found_entry xs i p d (behind x xs p i is)
+
+-- its number is among those of the entries
+pub has_number : (xs : List TableEntry) (p : ℕ) → is_some (entry_among xs p) ≡ true → Contains (map (λ (x : TableEntry). x.page) xs) p
+has_number [] p some = absurd (cc some)
+has_number (x ∷ xs) p some = elim (cases_eq x.page p) [
+  | inl here ↦ (0, omega arith, here)
   | inr other ↦
-      ap (λ (t : Option ℕ). entry_in (synced_onto x t (synced_entries xs)) p) none ∙ rest
-      ∙ sym (ap (λ (o : Option DirtyEntry). synced_entry o) (cond-false (x.page == p) (Some (dirty_entry x)) (entry_in xs p) (ne_eqb x.page p other)))
+      let rest = has_number xs p (ap (λ (o : Option DirtyEntry). is_some o) (sym (first_not x xs p other)) ∙ some) in
+      (suc rest.0, omega (arith, rest.1), rest.2)
 ]
-synced_at_head x xs p up (Some t) some rest = elim (cases_eq x.page p) [
-  | inl here ↦
-      ap (λ (t : Option ℕ). entry_in (synced_onto x t (synced_entries xs)) p) some
-      ∙ cond-true (x.page == p) (Some (record { rec_lsn = t; since = Some t; copied = x.copied })) (entry_in (synced_entries xs) p) (eq-eqb x.page p here)
-      ∙ sym (ap (λ (t : Option ℕ). entry_since x.copied t) some)
-      ∙ sym (ap (λ (o : Option DirtyEntry). synced_entry o) (cond-true (x.page == p) (Some (dirty_entry x)) (entry_in xs p) (eq-eqb x.page p here)))
-  | inr other ↦
-      ap (λ (t : Option ℕ). entry_in (synced_onto x t (synced_entries xs)) p) some
-      ∙ cond-false (x.page == p) (Some (record { rec_lsn = t; since = Some t; copied = x.copied })) (entry_in (synced_entries xs) p) (ne_eqb x.page p other)
-      ∙ rest
-      ∙ sym (ap (λ (o : Option DirtyEntry). synced_entry o) (cond-false (x.page == p) (Some (dirty_entry x)) (entry_in xs p) (ne_eqb x.page p other)))
-]
-
-held_synced_above : (n : ℕ) (xs : List TableEntry) (p : ℕ) → IsAbove n xs → entry_in (synced_entries xs) p ≡ synced_entry (entry_in xs p)
-held_synced_above n [] p up = refl
-held_synced_above n (x ∷ xs) p up = synced_at_head x xs p up.1 x.since refl (held_synced_above x.page xs p up.1)
-
--- a sync, page by page
-pub held_synced : (xs : List TableEntry) (p : ℕ) → IsRising xs → entry_in (synced_entries xs) p ≡ synced_entry (entry_in xs p)
-held_synced [] p up = refl
-held_synced (x ∷ xs) p up = synced_at_head x xs p up x.since refl (held_synced_above x.page xs p up)
-
--- ---- the search
-
-pub search_below : (xs : List TableEntry) (m p : ℕ) (e : TableEntry) → IsRising xs → e ≡ get_or xs m e → m < length xs → e.page < p → (k : ℕ) (d : TableEntry) → k < m + 1 → (get_or xs k d).page < p
-search_below xs m p e up is within less k d le =
-    let low : (get_or xs k d).page ≤ (get_or xs m e).page = rising_le xs k m d e up (omega arith) within in
-    let same : e.page ≡ (get_or xs m e).page = ap (λ (x : TableEntry). x.page) is in
-    omega (arith, low, same, less)
-
-pub search_above : (xs : List TableEntry) (m p : ℕ) (e : TableEntry) → IsRising xs → e ≡ get_or xs m e → p ≤ e.page → (k : ℕ) (d : TableEntry) → m ≤ k → k < length xs → p ≤ (get_or xs k d).page
-search_above xs m p e up is more k d le within =
-    let high : (get_or xs m e).page ≤ (get_or xs k d).page = rising_le xs m k e d up le within in
-    let same : e.page ≡ (get_or xs m e).page = ap (λ (x : TableEntry). x.page) is in
-    omega (arith, high, same, more)
 
 -- ---- what the code does at the place that it found
 
-pub put_here : (f : Option DirtyEntry → DirtyEntry) (xs : List TableEntry) (i p : ℕ) (e : TableEntry) → i < length xs → ((k : ℕ) (d : TableEntry) → k < i → (get_or xs k d).page < p) → e ≡ get_or xs i e → e.page ≡ p
-    → put p f xs ≡ set xs i (table_entry p (f (Some (dirty_entry e))))
-put_here f [] i p e within low is here = absurd (omega arith)
-put_here f (x ∷ xs) zero p e within low is here =
-    let at : x.page ≡ p = ap (λ (y : TableEntry). y.page) (sym is) ∙ here in
-    cond-false (nat_lt x.page p) (x ∷ put p f xs) (if x.page == p then table_entry p (f (Some (dirty_entry x))) ∷ xs else table_entry p (f None) ∷ x ∷ xs) (le-ltb x.page p (omega (arith, at)))
-    ∙ cond-true (x.page == p) (table_entry p (f (Some (dirty_entry x))) ∷ xs) (table_entry p (f None) ∷ x ∷ xs) (eq-eqb x.page p at)
-    ∙ ap (λ (y : TableEntry). table_entry p (f (Some (dirty_entry y))) ∷ xs) (sym is)
-put_here f (x ∷ xs) (suc i) p e within low is here =
-    let less : x.page < p = low zero x (omega arith) in
-    cond-true (nat_lt x.page p) (x ∷ put p f xs) (if x.page == p then table_entry p (f (Some (dirty_entry x))) ∷ xs else table_entry p (f None) ∷ x ∷ xs) (lt-ltb x.page p less)
-    ∙ ap (λ (l : List TableEntry). x ∷ l) (put_here f xs i p e (omega arith) (λ k d lt. low (suc k) d (omega arith)) is here)
+put_here : (f : Option DirtyEntry → DirtyEntry) (xs : List TableEntry) (i p : ℕ) (e : TableEntry) → IsFound xs p i → e ≡ get_or xs i e → put_among p f xs ≡ set xs i (table_entry p (f (Some (dirty_entry e))))
+put_here f [] i p e found is = absurd (let within : i < length {A = TableEntry} [] = found.within in omega (arith, within))
+put_here f (x ∷ xs) zero p e found is = put_first f p x xs (found.here x) ∙ ap (λ (y : TableEntry). table_entry p (f (Some (dirty_entry y))) ∷ xs) (sym is)
+put_here f (x ∷ xs) (suc i) p e found is = put_later f p x xs (found.before zero x (omega arith)) ∙ ap (λ (l : List TableEntry). x ∷ l) (put_here f xs i p e (behind x xs p i found) is)
 
-pub put_new : (f : Option DirtyEntry → DirtyEntry) (xs : List TableEntry) (i p : ℕ) → i ≤ length xs → ((k : ℕ) (d : TableEntry) → k < i → (get_or xs k d).page < p) → ((d : TableEntry) → i < length xs → p < (get_or xs i d).page)
-    → put p f xs ≡ insert xs i (table_entry p (f None))
-put_new f [] zero p within low high = refl
-put_new f [] (suc i) p within low high = absurd (omega arith)
-put_new f (x ∷ xs) zero p within low high =
-    let more : p < x.page = high x (omega arith) in
-    cond-false (nat_lt x.page p) (x ∷ put p f xs) (if x.page == p then table_entry p (f (Some (dirty_entry x))) ∷ xs else table_entry p (f None) ∷ x ∷ xs) (le-ltb x.page p (omega (arith, more)))
-    ∙ cond-false (x.page == p) (table_entry p (f (Some (dirty_entry x))) ∷ xs) (table_entry p (f None) ∷ x ∷ xs) (ne_eqb x.page p (λ e. absurd (omega (arith, e, more))))
-put_new f (x ∷ xs) (suc i) p within low high =
-    let less : x.page < p = low zero x (omega arith) in
-    cond-true (nat_lt x.page p) (x ∷ put p f xs) (if x.page == p then table_entry p (f (Some (dirty_entry x))) ∷ xs else table_entry p (f None) ∷ x ∷ xs) (lt-ltb x.page p less)
-    ∙ ap (λ (l : List TableEntry). x ∷ l) (put_new f xs i p (omega arith) (λ k d lt. low (suc k) d (omega arith)) (λ d lt. high d (omega arith)))
-
--- ---- rising is kept
-
-above_less : (m n : ℕ) (xs : List TableEntry) → m ≤ n → IsAbove n xs → IsAbove m xs
-above_less m n [] le up = tt
-above_less m n (x ∷ xs) le up = (let here : n < x.page = up.0 in omega (arith, here, le), up.1)
-
-put_above : (f : Option DirtyEntry → DirtyEntry) (p n : ℕ) (xs : List TableEntry) → n < p → IsAbove n xs → IsAbove n (put p f xs)
-put_above f p n [] low up = (low, tt)
-put_above f p n (x ∷ xs) low up = elim (cases_order x.page p) [
-  | inl here ↦
-      let one : put p f (x ∷ xs) ≡ table_entry p (f (Some (dirty_entry x))) ∷ xs =
-      cond-false (nat_lt x.page p) (x ∷ put p f xs) (if x.page == p then table_entry p (f (Some (dirty_entry x))) ∷ xs else table_entry p (f None) ∷ x ∷ xs) (le-ltb x.page p (omega (arith, here)))
-      ∙ cond-true (x.page == p) (table_entry p (f (Some (dirty_entry x))) ∷ xs) (table_entry p (f None) ∷ x ∷ xs) (eq-eqb x.page p here) in
-      subst (λ (l : List TableEntry). IsAbove n l) (sym one) (low, subst (λ (q : ℕ). IsAbove q xs) here up.1)
-  | inr (inl less) ↦
-      let one : put p f (x ∷ xs) ≡ x ∷ put p f xs = cond-true (nat_lt x.page p) (x ∷ put p f xs) (if x.page == p then table_entry p (f (Some (dirty_entry x))) ∷ xs else table_entry p (f None) ∷ x ∷ xs) (lt-ltb x.page p less) in
-      subst (λ (l : List TableEntry). IsAbove n l) (sym one) (up.0, put_above f p x.page xs less up.1)
-  | inr (inr more) ↦
-      let one : put p f (x ∷ xs) ≡ table_entry p (f None) ∷ x ∷ xs =
-      cond-false (nat_lt x.page p) (x ∷ put p f xs) (if x.page == p then table_entry p (f (Some (dirty_entry x))) ∷ xs else table_entry p (f None) ∷ x ∷ xs) (le-ltb x.page p (omega (arith, more)))
-      ∙ cond-false (x.page == p) (table_entry p (f (Some (dirty_entry x))) ∷ xs) (table_entry p (f None) ∷ x ∷ xs) (ne_eqb x.page p (λ e. absurd (omega (arith, e, more)))) in
-      subst (λ (l : List TableEntry). IsAbove n l) (sym one) (low, (more, up.1))
-]
-
-pub put_rising : (f : Option DirtyEntry → DirtyEntry) (p : ℕ) (xs : List TableEntry) → IsRising xs → IsRising (put p f xs)
-put_rising f p [] up = tt
-put_rising f p (x ∷ xs) up = elim (cases_order x.page p) [
-  | inl here ↦
-      let one : put p f (x ∷ xs) ≡ table_entry p (f (Some (dirty_entry x))) ∷ xs =
-      cond-false (nat_lt x.page p) (x ∷ put p f xs) (if x.page == p then table_entry p (f (Some (dirty_entry x))) ∷ xs else table_entry p (f None) ∷ x ∷ xs) (le-ltb x.page p (omega (arith, here)))
-      ∙ cond-true (x.page == p) (table_entry p (f (Some (dirty_entry x))) ∷ xs) (table_entry p (f None) ∷ x ∷ xs) (eq-eqb x.page p here) in
-      subst (λ (l : List TableEntry). IsRising l) (sym one) (subst (λ (q : ℕ). IsAbove q xs) here up)
-  | inr (inl less) ↦
-      let one : put p f (x ∷ xs) ≡ x ∷ put p f xs = cond-true (nat_lt x.page p) (x ∷ put p f xs) (if x.page == p then table_entry p (f (Some (dirty_entry x))) ∷ xs else table_entry p (f None) ∷ x ∷ xs) (lt-ltb x.page p less) in
-      subst (λ (l : List TableEntry). IsRising l) (sym one) (put_above f p x.page xs less up)
-  | inr (inr more) ↦
-      let one : put p f (x ∷ xs) ≡ table_entry p (f None) ∷ x ∷ xs =
-      cond-false (nat_lt x.page p) (x ∷ put p f xs) (if x.page == p then table_entry p (f (Some (dirty_entry x))) ∷ xs else table_entry p (f None) ∷ x ∷ xs) (le-ltb x.page p (omega (arith, more)))
-      ∙ cond-false (x.page == p) (table_entry p (f (Some (dirty_entry x))) ∷ xs) (table_entry p (f None) ∷ x ∷ xs) (ne_eqb x.page p (λ e. absurd (omega (arith, e, more)))) in
-      subst (λ (l : List TableEntry). IsRising l) (sym one) (more, up)
-]
-
--- a page that is put where its entry is, or where there is none
-pub put_found : (f : Option DirtyEntry → DirtyEntry) (xs : List TableEntry) (i p : ℕ) (d : TableEntry) → IsFound xs p i → put p f xs ≡ set xs i (table_entry p (f (Some (dirty_entry (get_or xs i d)))))
-put_found f xs i p d is =
-    put_here f xs i p (get_or xs i d) is.within is.below (get_or-any xs i d (get_or xs i d) is.within) (is.here d)
-  where
-    get_or-any : (xs : List TableEntry) (i : ℕ) (d e : TableEntry) → i < length xs → get_or xs i d ≡ get_or xs i e
-    get_or-any [] i d e within = absurd (omega arith)
-    get_or-any (x ∷ xs) zero d e within = refl
-    get_or-any (x ∷ xs) (suc i) d e within = get_or-any xs i d e (omega arith)
-
-pub put_absent : (f : Option DirtyEntry → DirtyEntry) (xs : List TableEntry) (i p : ℕ) → IsAbsent xs p i → put p f xs ≡ insert xs i (table_entry p (f None))
-put_absent f xs i p is = put_new f xs i p is.within is.below is.above
-
--- the search says whether there is an entry
-pub absent_none : (xs : List TableEntry) (i p : ℕ) → IsRising xs → IsAbsent xs p i → entry_in xs p ≡ None
-absent_none [] i p up is = refl
-absent_none (x ∷ xs) zero p up is =
-    let more : p < x.page = is.above x (omega arith) in
-    cond-false (x.page == p) (Some (dirty_entry x)) (entry_in xs p) (ne_eqb x.page p (λ e. absurd (omega (arith, e, more)))) ∙ not_below x.page xs p up (omega (arith, more))
-absent_none (x ∷ xs) (suc i) p up is =
-    let less : x.page < p = is.below zero x (omega arith) in
-    let within : suc i ≤ length (x ∷ xs) = is.within in
-    cond-false (x.page == p) (Some (dirty_entry x)) (entry_in xs p) (ne_eqb x.page p (λ e. absurd (omega (arith, e, less))))
-    ∙ absent_none xs i p (tail x xs up) (record { within = omega (arith, within); below = λ k d lt. is.below (suc k) d (omega arith); above = λ d lt. is.above d (omega arith) })
-  where
-    tail : (x : TableEntry) (xs : List TableEntry) → IsAbove x.page xs → IsRising xs
-    tail x [] up = tt
-    tail x (y ∷ xs) up = up.1
-
-pub rising_set : (f : Option DirtyEntry → DirtyEntry) (xs : List TableEntry) (i p : ℕ) (d : TableEntry) → IsRising xs → IsFound xs p i → IsRising (set xs i (table_entry p (f (Some (dirty_entry (get_or xs i d))))))
-rising_set f xs i p d up is = subst (λ (l : List TableEntry). IsRising l) (put_found f xs i p d is) (put_rising f p xs up)
-
-pub rising_insert : (f : Option DirtyEntry → DirtyEntry) (xs : List TableEntry) (i p : ℕ) → IsRising xs → IsAbsent xs p i → IsRising (insert xs i (table_entry p (f None)))
-rising_insert f xs i p up is = subst (λ (l : List TableEntry). IsRising l) (put_absent f xs i p is) (put_rising f p xs up)
-
--- ---- an entry that is there, as the code reads it and then writes it
-
-pub put_set : (f : Option DirtyEntry → DirtyEntry) (xs : List TableEntry) (i p : ℕ) (e new : TableEntry) → IsFound xs p i → e ≡ get_or xs i e → new ≡ table_entry e.page (f (Some (dirty_entry e))) → set xs i new ≡ put p f xs
-put_set f xs i p e new is at made =
-    let page : e.page ≡ p = ap (λ (y : TableEntry). y.page) at ∙ is.here e in
+-- an entry that is there, as the code reads it and then writes it
+pub put_set : (f : Option DirtyEntry → DirtyEntry) (xs : List TableEntry) (i p : ℕ) (e new : TableEntry) → IsFound xs p i → e ≡ get_or xs i e → new ≡ table_entry e.page (f (Some (dirty_entry e))) → set xs i new ≡ put_among p f xs
+put_set f xs i p e new found at made =
+    let page : e.page ≡ p = ap (λ (y : TableEntry). y.page) at ∙ found.here e in
     ap (λ (y : TableEntry). set xs i y) made
     ∙ ap (λ (q : ℕ). set xs i (table_entry q (f (Some (dirty_entry e))))) page
-    ∙ ap (λ (y : TableEntry). set xs i (table_entry p (f (Some (dirty_entry y))))) at
-    ∙ sym (put_found f xs i p e is)
+    ∙ sym (put_here f xs i p e found at)
 
-pub found_entry : (xs : List TableEntry) (i p : ℕ) (d : TableEntry) → IsRising xs → IsFound xs p i → entry_in xs p ≡ Some (dirty_entry (get_or xs i d))
-found_entry [] i p d up is = absurd (let within : i < length {A = TableEntry} [] = is.within in omega (arith, within))
-found_entry (x ∷ xs) zero p d up is = cond-true (x.page == p) (Some (dirty_entry x)) (entry_in xs p) (eq-eqb x.page p (is.here d))
-found_entry (x ∷ xs) (suc i) p d up is =
-    let less : x.page < p = is.below zero x (omega arith) in
-    let within : suc i < length (x ∷ xs) = is.within in
-    cond-false (x.page == p) (Some (dirty_entry x)) (entry_in xs p) (ne_eqb x.page p (λ e. absurd (omega (arith, e, less))))
-    ∙ found_entry xs i p d (tail x xs up) (record { within = omega (arith, within); below = λ k d lt. is.below (suc k) d (omega arith); here = is.here })
+-- what it writes is of the page that was found
+pub found_made : (xs : List TableEntry) (i p : ℕ) (e new : TableEntry) → IsFound xs p i → e ≡ get_or xs i e → new.page ≡ e.page → IsFound xs new.page i
+found_made xs i p e new found at made = subst (λ (n : ℕ). IsFound xs n i) (sym (made ∙ ap (λ (y : TableEntry). y.page) at ∙ found.here e)) found
+
+-- an entry that comes in
+pub put_absent : (f : Option DirtyEntry → DirtyEntry) (xs : List TableEntry) (p : ℕ) → entry_among xs p ≡ None → put_among p f xs ≡ xs ++ table_entry p (f None) ∷ []
+put_absent f [] p none = refl
+put_absent f (x ∷ xs) p none = put_later f p x xs (not_first x xs p none) ∙ ap (λ (l : List TableEntry). x ∷ l) (put_absent f xs p (not_later x xs p none))
+
+-- ---- the places behind that
+
+pub place_set : (xs : List TableEntry) (i p : ℕ) (new : TableEntry) → IsFound xs p i → new.page ≡ p → (q : ℕ) → place_among q (set xs i new) ≡ place_among q xs
+place_set [] i p new found page q = refl
+place_set (x ∷ xs) zero p new found page q = ap (λ (n : ℕ). if n == q then Some 0 else option_map suc (place_among q xs)) (page ∙ sym (found.here x))
+place_set (x ∷ xs) (suc i) p new found page q = ap (λ (o : Option ℕ). if x.page == q then Some 0 else option_map suc o) (place_set xs i p new (behind x xs p i found) page q)
+
+entry_set : (xs : List TableEntry) (i p : ℕ) (new : TableEntry) → IsFound xs p i → new.page ≡ p → (q : ℕ) → entry_among xs q ≡ None → entry_among (set xs i new) q ≡ None
+entry_set xs i p new found page q none = place_none (set xs i new) q (place_set xs i p new found page q ∙ none_place xs q none)
+
+pub apart_set : (xs : List TableEntry) (i p : ℕ) (new : TableEntry) → AreApart xs → IsFound xs p i → new.page ≡ p → AreApart (set xs i new)
+apart_set [] i p new up found page = tt
+apart_set (x ∷ xs) zero p new up found page = (subst (λ (n : ℕ). entry_among xs n ≡ None) (found.here x ∙ sym page) up.0, up.1)
+apart_set (x ∷ xs) (suc i) p new up found page = (entry_set xs i p new (behind x xs p i found) page x.page up.0, apart_set xs i p new up.1 (behind x xs p i found) page)
+
+one_further : (t : Bool) (n : ℕ) (o : Option ℕ) → option_map suc (if t then Some n else o) ≡ (if t then Some (suc n) else option_map suc o)
+one_further true n o = refl
+one_further false n o = refl
+
+place_push : (xs : List TableEntry) (y : TableEntry) (q : ℕ) → entry_among xs y.page ≡ None → place_among q (xs ++ y ∷ []) ≡ (if nat_eq y.page q then Some (length xs) else place_among q xs)
+place_push [] y q none = refl
+place_push (x ∷ xs) y q none = elim (cases_eq x.page q) [
+  | inl here ↦
+      cond-true (x.page == q) (Some 0) (option_map suc (place_among q (xs ++ y ∷ []))) (eq-eqb x.page q here)
+      ∙ sym (cond-true (x.page == q) (Some 0) (option_map suc (place_among q xs)) (eq-eqb x.page q here))
+      ∙ sym (cond-false (nat_eq y.page q) (Some (length (x ∷ xs))) (place_among q (x ∷ xs)) (ne_eqb y.page q (λ same. not_first x xs y.page none (here ∙ sym same))))
+  | inr other ↦
+      cond-false (x.page == q) (Some 0) (option_map suc (place_among q (xs ++ y ∷ []))) (ne_eqb x.page q other)
+      ∙ ap (λ (o : Option ℕ). option_map suc o) (place_push xs y q (not_later x xs y.page none))
+      ∙ one_further (nat_eq y.page q) (length xs) (place_among q xs)
+      ∙ ap (λ (o : Option ℕ). if nat_eq y.page q then Some (suc (length xs)) else o) (sym (cond-false (x.page == q) (Some 0) (option_map suc (place_among q xs)) (ne_eqb x.page q other)))
+]
+
+pub finds_push : (at now : ℕ → Option ℕ) (xs : List TableEntry) (y : TableEntry) → Finds at xs → entry_among xs y.page ≡ None → ((q : ℕ) → now q ≡ (if nat_eq y.page q then Some (length xs) else at q)) → Finds now (xs ++ y ∷ [])
+finds_push at now xs y finds none is q = is q ∙ ap (λ (o : Option ℕ). if nat_eq y.page q then Some (length xs) else o) (finds q) ∙ sym (place_push xs y q none)
+
+entry_push : (xs : List TableEntry) (y : TableEntry) (q : ℕ) → entry_among xs q ≡ None → y.page ≢ q → entry_among (xs ++ y ∷ []) q ≡ None
+entry_push [] y q none other = first_not y [] q other
+entry_push (x ∷ xs) y q none other = first_not x (xs ++ y ∷ []) q (not_first x xs q none) ∙ entry_push xs y q (not_later x xs q none) other
+
+pub apart_push : (xs : List TableEntry) (y : TableEntry) → AreApart xs → entry_among xs y.page ≡ None → AreApart (xs ++ y ∷ [])
+apart_push [] y up none = (refl, tt)
+apart_push (x ∷ xs) y up none = (entry_push xs y x.page up.0 (λ same. not_first x xs y.page none (sym same)), apart_push xs y up.1 (not_later x xs y.page none))
+
+-- the front of a list, with the entry behind it
+pub apart_next : (xs : List TableEntry) (i : ℕ) (d : TableEntry) → AreApart xs → i < length xs → entry_among (take i xs) (get_or xs i d).page ≡ None
+apart_next [] i d up within = absurd (omega (arith, within))
+apart_next (x ∷ xs) zero d up within = refl
+apart_next (x ∷ xs) (suc i) d up within =
+    let rest = apart_next xs i d up.1 (omega (arith, within)) in
+    first_not x (take i xs) (get_or xs i d).page (λ same. entry_there xs i d (omega (arith, within)) (subst (λ (n : ℕ). entry_among xs n ≡ None) same up.0)) ∙ rest
   where
-    tail : (x : TableEntry) (xs : List TableEntry) → IsAbove x.page xs → IsRising xs
-    tail x [] up = tt
-    tail x (y ∷ xs) up = up.1
+    entry_there : (xs : List TableEntry) (i : ℕ) (d : TableEntry) → i < length xs → entry_among xs (get_or xs i d).page ≡ None → ⊥
+    entry_there [] i d within none = omega (arith, within)
+    entry_there (x ∷ xs) zero d within none = not_first x xs x.page none refl
+    entry_there (x ∷ xs) (suc i) d within none = entry_there xs i d (omega (arith, within)) (not_later x xs (get_or xs i d).page none)
 
--- ---- the other pages; a sync
-
-pub held_put_other : (f : Option DirtyEntry → DirtyEntry) (p q : ℕ) (xs : List TableEntry) → (p ≡ q → ⊥) → entry_in (put p f xs) q ≡ entry_in xs q
-held_put_other f p q [] other = cond-false (p == q) (Some (f None)) None (ne_eqb p q other)
-held_put_other f p q (x ∷ xs) other =
-    let rest : entry_in (put p f xs) q ≡ entry_in xs q = held_put_other f p q xs other in
-    elim (cases_order x.page p) [
-      | inl here ↦
-          let one : put p f (x ∷ xs) ≡ table_entry p (f (Some (dirty_entry x))) ∷ xs =
-          cond-false (nat_lt x.page p) (x ∷ put p f xs) (if x.page == p then table_entry p (f (Some (dirty_entry x))) ∷ xs else table_entry p (f None) ∷ x ∷ xs) (le-ltb x.page p (omega (arith, here)))
-          ∙ cond-true (x.page == p) (table_entry p (f (Some (dirty_entry x))) ∷ xs) (table_entry p (f None) ∷ x ∷ xs) (eq-eqb x.page p here) in
-          ap (λ (l : List TableEntry). entry_in l q) one
-          ∙ cond-false (p == q) (Some (f (Some (dirty_entry x)))) (entry_in xs q) (ne_eqb p q other)
-          ∙ sym (cond-false (x.page == q) (Some (dirty_entry x)) (entry_in xs q) (ne_eqb x.page q (λ e. other (sym here ∙ e))))
-      | inr (inl less) ↦
-          let one : put p f (x ∷ xs) ≡ x ∷ put p f xs = cond-true (nat_lt x.page p) (x ∷ put p f xs) (if x.page == p then table_entry p (f (Some (dirty_entry x))) ∷ xs else table_entry p (f None) ∷ x ∷ xs) (lt-ltb x.page p less) in
-          ap (λ (l : List TableEntry). entry_in l q) one ∙ ap (λ (o : Option DirtyEntry). if x.page == q then Some (dirty_entry x) else o) rest
-      | inr (inr more) ↦
-          let one : put p f (x ∷ xs) ≡ table_entry p (f None) ∷ x ∷ xs =
-          cond-false (nat_lt x.page p) (x ∷ put p f xs) (if x.page == p then table_entry p (f (Some (dirty_entry x))) ∷ xs else table_entry p (f None) ∷ x ∷ xs) (le-ltb x.page p (omega (arith, more)))
-          ∙ cond-false (x.page == p) (table_entry p (f (Some (dirty_entry x))) ∷ xs) (table_entry p (f None) ∷ x ∷ xs) (ne_eqb x.page p (λ e. absurd (omega (arith, e, more)))) in
-          ap (λ (l : List TableEntry). entry_in l q) one ∙ cond-false (p == q) (Some (f None)) (entry_in (x ∷ xs) q) (ne_eqb p q other)
-    ]
-
-synced_above : (n : ℕ) (xs : List TableEntry) → IsAbove n xs → IsAbove n (synced_entries xs)
-synced_above n [] up = tt
-synced_above n (x ∷ xs) up = by x.since (synced_above x.page xs up.1)
+-- a front of the list
+pub apart_take : (n : ℕ) (xs : List TableEntry) → AreApart xs → AreApart (take n xs)
+apart_take zero xs up = tt
+apart_take (suc n) [] up = tt
+apart_take (suc n) (x ∷ xs) up = (none_before n xs x.page up.0, apart_take n xs up.1)
   where
-    by : (t : Option ℕ) → IsAbove x.page (synced_entries xs) → IsAbove n (synced_onto x t (synced_entries xs))
-    by None rest = above_less n x.page (synced_entries xs) (let here : n < x.page = up.0 in omega (arith, here)) rest
-    by (Some t) rest = (up.0, rest)
+    none_before : (n : ℕ) (xs : List TableEntry) (p : ℕ) → entry_among xs p ≡ None → entry_among (take n xs) p ≡ None
+    none_before zero xs p none = refl
+    none_before (suc n) [] p none = refl
+    none_before (suc n) (x ∷ xs) p none = first_not x (take n xs) p (not_first x xs p none) ∙ none_before n xs p (not_later x xs p none)
 
-pub above_rising : (n : ℕ) (xs : List TableEntry) → IsAbove n xs → IsRising xs
-above_rising n [] up = tt
-above_rising n (x ∷ xs) up = up.1
+-- ---- a sync
 
-pub synced_rising : (xs : List TableEntry) → IsRising xs → IsRising (synced_entries xs)
-synced_rising [] up = tt
-synced_rising (x ∷ xs) up = by x.since (synced_above x.page xs up)
+synced_at_head : (x : TableEntry) (xs : List TableEntry) (p : ℕ) → entry_among xs x.page ≡ None → (t : Option ℕ) → x.since ≡ t → entry_among (synced_among xs) p ≡ synced_entry (entry_among xs p)
+    → entry_among (synced_onto x x.since (synced_among xs)) p ≡ synced_entry (entry_among (x ∷ xs) p)
+synced_at_head x xs p alone None none rest = elim (cases_eq x.page p) [
+  | inl here ↦
+      ap (λ (t : Option ℕ). entry_among (synced_onto x t (synced_among xs)) p) none ∙ rest
+      ∙ ap (λ (o : Option DirtyEntry). synced_entry o) (subst (λ (n : ℕ). entry_among xs n ≡ None) here alone)
+      ∙ sym (ap (λ (t : Option ℕ). entry_since x.copied t) none)
+      ∙ sym (ap (λ (o : Option DirtyEntry). synced_entry o) (first_is x xs p here))
+  | inr other ↦
+      ap (λ (t : Option ℕ). entry_among (synced_onto x t (synced_among xs)) p) none ∙ rest
+      ∙ sym (ap (λ (o : Option DirtyEntry). synced_entry o) (first_not x xs p other))
+]
+synced_at_head x xs p alone (Some t) some rest = elim (cases_eq x.page p) [
+  | inl here ↦
+      ap (λ (t : Option ℕ). entry_among (synced_onto x t (synced_among xs)) p) some
+      ∙ cond-true (x.page == p) (Some (record { rec_lsn = t; since = Some t; copied = x.copied })) (entry_among (synced_among xs) p) (eq-eqb x.page p here)
+      ∙ sym (ap (λ (t : Option ℕ). entry_since x.copied t) some)
+      ∙ sym (ap (λ (o : Option DirtyEntry). synced_entry o) (first_is x xs p here))
+  | inr other ↦
+      ap (λ (t : Option ℕ). entry_among (synced_onto x t (synced_among xs)) p) some
+      ∙ cond-false (x.page == p) (Some (record { rec_lsn = t; since = Some t; copied = x.copied })) (entry_among (synced_among xs) p) (ne_eqb x.page p other)
+      ∙ rest
+      ∙ sym (ap (λ (o : Option DirtyEntry). synced_entry o) (first_not x xs p other))
+]
+
+-- page by page
+pub held_synced : (xs : List TableEntry) (p : ℕ) → AreApart xs → entry_among (synced_among xs) p ≡ synced_entry (entry_among xs p)
+held_synced [] p up = refl
+held_synced (x ∷ xs) p up = synced_at_head x xs p up.0 x.since refl (held_synced xs p up.1)
+
+pub synced_apart : (xs : List TableEntry) → AreApart xs → AreApart (synced_among xs)
+synced_apart [] up = tt
+synced_apart (x ∷ xs) up = by x.since (synced_apart xs up.1)
   where
-    by : (t : Option ℕ) → IsAbove x.page (synced_entries xs) → IsRising (synced_onto x t (synced_entries xs))
-    by None rest = above_rising x.page (synced_entries xs) rest
-    by (Some t) rest = rest
+    by : (t : Option ℕ) → AreApart (synced_among xs) → AreApart (synced_onto x t (synced_among xs))
+    by None rest = rest
+    by (Some t) rest = (held_synced xs x.page up.1 ∙ ap (λ (o : Option DirtyEntry). synced_entry o) up.0, rest)
 
--- what a put leaves, page by page
-pub changes_entry : (f : Option DirtyEntry → DirtyEntry) (p : ℕ) (old new : List TableEntry) → IsRising old → new ≡ put p f old → ChangesEntry p f old new
-changes_entry f p old new up is = record {
-  entry = ap (λ (l : List TableEntry). entry_in l p) is ∙ held_put f p old up;
-  others = λ q ne. ap (λ (l : List TableEntry). entry_in l q) is ∙ held_put_other f p q old (λ e. ne (sym e));
-}
+pub synced_fewer : (xs : List TableEntry) → length (synced_among xs) ≤ length xs
+synced_fewer [] = omega arith
+synced_fewer (x ∷ xs) = by x.since (synced_fewer xs)
+  where
+    by : (t : Option ℕ) → length (synced_among xs) ≤ length xs → length (synced_onto x t (synced_among xs)) ≤ length (x ∷ xs)
+    by None rest = omega (arith, rest)
+    by (Some t) rest = omega (arith, rest)
+
+-- those that it takes out have not changed since their last write
+pub synced_left : (n : ℕ) (xs : List TableEntry) → length (synced_among xs) + with_written n xs ≡ length xs + n
+synced_left n [] = omega arith
+synced_left n (x ∷ xs) = by x.since (synced_left n xs) (synced_left (n + 1) xs)
+  where
+    by : (t : Option ℕ) → length (synced_among xs) + with_written n xs ≡ length xs + n → length (synced_among xs) + with_written (n + 1) xs ≡ length xs + (n + 1)
+        → length (synced_onto x t (synced_among xs)) + with_written (if is_some t then n else n + 1) xs ≡ length (x ∷ xs) + n
+    by None kept gone = omega (arith, gone)
+    by (Some t) kept gone = omega (arith, kept)
+
+pub syncs_entries : (old new : TableView) → AreApart old.entries → new ≡ synced_entries old → (p : ℕ) → entry_in new p ≡ synced_entry (entry_in old p)
+syncs_entries old new up is p = ap (λ (t : TableView). entry_in t p) is ∙ held_synced old.entries p up
+
+-- ---- copies are forgotten
+
+pub forgets_entries : (xs : List TableEntry) (p : ℕ) → entry_among (map uncopied xs) p ≡ forgotten_entry (entry_among xs p)
+forgets_entries [] p = refl
+forgets_entries (x ∷ xs) p = elim (cases_eq x.page p) [
+  | inl here ↦
+      cond-true (x.page == p) (Some (record (dirty_entry x) { copied = false })) (entry_among (map uncopied xs) p) (eq-eqb x.page p here)
+      ∙ ap (λ (o : Option DirtyEntry). forgotten_entry o) (sym (first_is x xs p here))
+  | inr other ↦
+      cond-false (x.page == p) (Some (record (dirty_entry x) { copied = false })) (entry_among (map uncopied xs) p) (ne_eqb x.page p other) ∙ forgets_entries xs p
+      ∙ ap (λ (o : Option DirtyEntry). forgotten_entry o) (sym (first_not x xs p other))
+]
+
+pub forgotten_apart : (xs : List TableEntry) → AreApart xs → AreApart (map uncopied xs)
+forgotten_apart [] up = tt
+forgotten_apart (x ∷ xs) up = (forgets_entries xs x.page ∙ ap (λ (o : Option DirtyEntry). forgotten_entry o) up.0, forgotten_apart xs up.1)
+
+pub place_forgotten : (xs : List TableEntry) (q : ℕ) → place_among q (map uncopied xs) ≡ place_among q xs
+place_forgotten [] q = refl
+place_forgotten (x ∷ xs) q = ap (λ (o : Option ℕ). if x.page == q then Some 0 else option_map suc o) (place_forgotten xs q)
+
+-- ---- room
+
+-- a page that has its entry has room, and keeps an entry when it is written
+pub room_there : (p : ℕ) (t : TableView) → is_some (entry_in t p) ≡ true → has_room p t ≡ true
+room_there p t some = ap (λ (y : Bool). y || nat_lt (length t.entries) t.most) some
+
+pub written_stays : (p l : ℕ) (old new : TableView) → new ≡ written_in p l old → is_some (entry_in old p) ≡ true → is_some (entry_in new p) ≡ true
+written_stays p l old new is some =
+    ap (λ (t : TableView). is_some (entry_in t p)) (is ∙ cond-true (has_room p old) (put p (written_entry l) old) old (room_there p old some)) ∙ put_some (written_entry l) p old.entries
+
+-- whether there is room
+pub room_found : (t : TableView) (p : ℕ) (e : DirtyEntry) → entry_in t p ≡ Some e → has_room p t ≡ true
+room_found t p e is = ap (λ (o : Option DirtyEntry). is_some o || nat_lt (length t.entries) t.most) is
+
+pub room_free : (t : TableView) (p : ℕ) → entry_in t p ≡ None → length t.entries < t.most → has_room p t ≡ true
+room_free t p none less = ap (λ (o : Option DirtyEntry). is_some o || nat_lt (length t.entries) t.most) none ∙ lt-ltb (length t.entries) t.most less
+
+pub room_none : (t : TableView) (p : ℕ) → entry_in t p ≡ None → length t.entries ≡ t.most → has_room p t ≡ false
+room_none t p none full = ap (λ (o : Option DirtyEntry). is_some o || nat_lt (length t.entries) t.most) none ∙ le-ltb (length t.entries) t.most (omega (arith, full))
+
+-- what a write leaves
+pub written_with : (l p : ℕ) (old new : TableView) → has_room p old ≡ true → new ≡ put p (written_entry l) old → new ≡ written_in p l old
+written_with l p old new room is = is ∙ sym (cond-true (has_room p old) (put p (written_entry l) old) old room)
+
+pub written_not : (l p : ℕ) (old : TableView) → has_room p old ≡ false → old ≡ written_in p l old
+written_not l p old full = sym (cond-false (has_room p old) (put p (written_entry l) old) old full)
 
 -- an entry that is not there knows of no copy
 pub or_none : (k : Bool) → (k || false) ≡ k
 or_none true = refl
 or_none false = refl
-
--- a page that is put has an entry, whatever the list is
-pub put_some : (f : Option DirtyEntry → DirtyEntry) (p : ℕ) (xs : List TableEntry) → is_some (entry_in (put p f xs) p) ≡ true
-put_some f p [] = ap (λ (o : Option DirtyEntry). is_some o) (cond-true (p == p) (Some (f None)) None (eq-eqb p p refl))
-put_some f p (x ∷ xs) = elim (cases_order x.page p) [
-  | inl here ↦
-      ap (λ (l : List TableEntry). is_some (entry_in l p))
-      (cond-false (nat_lt x.page p) (x ∷ put p f xs) (if x.page == p then table_entry p (f (Some (dirty_entry x))) ∷ xs else table_entry p (f None) ∷ x ∷ xs) (le-ltb x.page p (omega (arith, here)))
-      ∙ cond-true (x.page == p) (table_entry p (f (Some (dirty_entry x))) ∷ xs) (table_entry p (f None) ∷ x ∷ xs) (eq-eqb x.page p here))
-      ∙ ap (λ (o : Option DirtyEntry). is_some o) (cond-true (p == p) (Some (f (Some (dirty_entry x)))) (entry_in xs p) (eq-eqb p p refl))
-  | inr (inl less) ↦
-      ap (λ (l : List TableEntry). is_some (entry_in l p))
-      (cond-true (nat_lt x.page p) (x ∷ put p f xs) (if x.page == p then table_entry p (f (Some (dirty_entry x))) ∷ xs else table_entry p (f None) ∷ x ∷ xs) (lt-ltb x.page p less))
-      ∙ ap (λ (o : Option DirtyEntry). is_some o) (cond-false (x.page == p) (Some (dirty_entry x)) (entry_in (put p f xs) p) (ne_eqb x.page p (λ e. absurd (omega (arith, e, less)))))
-      ∙ put_some f p xs
-  | inr (inr more) ↦
-      ap (λ (l : List TableEntry). is_some (entry_in l p))
-      (cond-false (nat_lt x.page p) (x ∷ put p f xs) (if x.page == p then table_entry p (f (Some (dirty_entry x))) ∷ xs else table_entry p (f None) ∷ x ∷ xs) (le-ltb x.page p (omega (arith, more)))
-      ∙ cond-false (x.page == p) (table_entry p (f (Some (dirty_entry x))) ∷ xs) (table_entry p (f None) ∷ x ∷ xs) (ne_eqb x.page p (λ e. absurd (omega (arith, e, more)))))
-      ∙ ap (λ (o : Option DirtyEntry). is_some o) (cond-true (p == p) (Some (f None)) (entry_in (x ∷ xs) p) (eq-eqb p p refl))
-]
-
--- a page that has its entry has room, and keeps an entry when it is written
-pub room_there : (p : ℕ) (xs : List TableEntry) → is_some (entry_in xs p) ≡ true → has_room p xs ≡ true
-room_there p xs some = ap (λ (t : Bool). t || nat_lt (length xs) MOST_DIRTY) some
-
-pub written_stays : (p l : ℕ) (old new : List TableEntry) → new ≡ written_in p l old → is_some (entry_in old p) ≡ true → is_some (entry_in new p) ≡ true
-written_stays p l old new is some =
-    ap (λ (t : List TableEntry). is_some (entry_in t p)) (is ∙ cond-true (has_room p old) (put p (written_entry l) old) old (room_there p old some)) ∙ put_some (written_entry l) p old
-
--- whether there is room
-pub room_found : (xs : List TableEntry) (p : ℕ) (e : DirtyEntry) → entry_in xs p ≡ Some e → has_room p xs ≡ true
-room_found xs p e is = ap (λ (o : Option DirtyEntry). is_some o || nat_lt (length xs) MOST_DIRTY) is
-
-pub room_free : (xs : List TableEntry) (p : ℕ) → entry_in xs p ≡ None → length xs < MOST_DIRTY → has_room p xs ≡ true
-room_free xs p none less = ap (λ (o : Option DirtyEntry). is_some o || nat_lt (length xs) MOST_DIRTY) none ∙ lt-ltb (length xs) MOST_DIRTY less
-
-pub room_none : (xs : List TableEntry) (p : ℕ) → entry_in xs p ≡ None → length xs ≡ MOST_DIRTY → has_room p xs ≡ false
-room_none xs p none full = ap (λ (o : Option DirtyEntry). is_some o || nat_lt (length xs) MOST_DIRTY) none ∙ le-ltb (length xs) MOST_DIRTY (omega (arith, full))
-
--- what a write leaves
-pub written_with : (l p : ℕ) (old new : List TableEntry) → has_room p old ≡ true → new ≡ put p (written_entry l) old → new ≡ written_in p l old
-written_with l p old new room is = is ∙ sym (cond-true (has_room p old) (put p (written_entry l) old) old room)
-
-pub written_not : (l p : ℕ) (old : List TableEntry) → has_room p old ≡ false → old ≡ written_in p l old
-written_not l p old full = sym (cond-false (has_room p old) (put p (written_entry l) old) old full)
-
--- what a sync leaves, page by page
-pub syncs_entries : (old new : List TableEntry) → IsRising old → new ≡ synced_entries old → (p : ℕ) → entry_in new p ≡ synced_entry (entry_in old p)
-syncs_entries old new up is p = ap (λ (l : List TableEntry). entry_in l p) is ∙ held_synced old p up
-
--- ---- copies are forgotten
-
-forgotten_above : (n : ℕ) (xs : List TableEntry) → IsAbove n xs → IsAbove n (forgotten_entries xs)
-forgotten_above n [] up = tt
-forgotten_above n (x ∷ xs) up = (up.0, forgotten_above x.page xs up.1)
-
-pub forgotten_rising : (xs : List TableEntry) → IsRising xs → IsRising (forgotten_entries xs)
-forgotten_rising [] up = tt
-forgotten_rising (x ∷ xs) up = forgotten_above x.page xs up
-
--- what that leaves, page by page
-pub forgets_entries : (xs : List TableEntry) (p : ℕ) → entry_in (forgotten_entries xs) p ≡ forgotten_entry (entry_in xs p)
-forgets_entries [] p = refl
-forgets_entries (x ∷ xs) p = elim (cases_eq x.page p) [
-  | inl here ↦
-      cond-true (x.page == p) (Some (record (dirty_entry x) { copied = false })) (entry_in (forgotten_entries xs) p) (eq-eqb x.page p here)
-      ∙ ap (λ (o : Option DirtyEntry). forgotten_entry o) (sym (cond-true (x.page == p) (Some (dirty_entry x)) (entry_in xs p) (eq-eqb x.page p here)))
-  | inr other ↦
-      cond-false (x.page == p) (Some (record (dirty_entry x) { copied = false })) (entry_in (forgotten_entries xs) p) (ne_eqb x.page p other) ∙ forgets_entries xs p
-      ∙ ap (λ (o : Option DirtyEntry). forgotten_entry o) (sym (cond-false (x.page == p) (Some (dirty_entry x)) (entry_in xs p) (ne_eqb x.page p other)))
-]

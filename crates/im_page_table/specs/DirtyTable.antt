@@ -1,11 +1,19 @@
--- The dirty table as a list in rising page order, and the function of the page for which it stands.
-use Rattle.std.specs.Prelude.{◌≡◌, ◌≢◌, ◌⊎◌, ◌<◌, ◌≤◌, ◌+◌, ℕ, List, [], ◌∷◌, length, map, slice_index_or, if◌then◌else◌, ◌==◌, nat_lt, Bool, false, true, ◌||◌, Option, None, Some, option_map}
+-- The dirty table as a list of entries, each page once, and the function of the page for which it stands.
+use Rattle.std.specs.Prelude.{◌≡◌, ◌≢◌, ◌⊎◌, ◌<◌, ◌≤◌, ◌+◌, ℕ, min, max, suc, List, [], ◌∷◌, length, map, slice_index_or, if◌then◌else◌, ◌==◌, nat_lt, Bool, false, true, ◌||◌, ◌&&◌, Option, None, Some, option_map}
 use Rattle.std.specs.Option.{is_some}
 use Rattle.im_theory_log.specs.Writer.{DirtyEntry, IsWritten, PageState}
 use Rattle.im_base_types.specs.declared.tables.DirtyPage.{DirtyPage}
 use Rattle.im_theory_log.specs.WriterSteps.{written_entry}
-use Rattle.im_base_types.specs.declared.sizes.TheConstants.{MOST_DIRTY}
 use Rattle.im_page_table.specs.declared.table_entry.TableEntry.{TableEntry}
+
+-- the entries, in the order in which they came in, and how many there may be
+pub record TableView : Type 0 where
+  pub entries : List TableEntry
+  pub most : ℕ
+
+-- how many there may be beside a pool of so many frames
+abbrev pub most_entries : ℕ → ℕ
+most_entries frames = min (max frames 1024) 65536
 
 -- the entry of a page
 abbrev pub table_entry : ℕ → DirtyEntry → TableEntry
@@ -15,33 +23,35 @@ table_entry p e = record { page = p; rec_lsn = e.rec_lsn; since = e.since; copie
 abbrev pub dirty_entry : TableEntry → DirtyEntry
 dirty_entry x = record { rec_lsn = x.rec_lsn; since = x.since; copied = x.copied }
 
--- what the table has of a page
-abbrev pub entry_in : List TableEntry → ℕ → Option DirtyEntry
-entry_in [] p = None
-entry_in (x ∷ xs) p = if x.page == p then Some (dirty_entry x) else entry_in xs p
+-- what these have of a page
+abbrev pub entry_among : List TableEntry → ℕ → Option DirtyEntry
+entry_among [] p = None
+entry_among (x ∷ xs) p = if x.page == p then Some (dirty_entry x) else entry_among xs p
 
--- the pages rise, from above a number on
-abbrev pub IsAbove : ℕ → List TableEntry → Type 0
-IsAbove n [] = Unit {0}
-IsAbove n (x ∷ xs) = (n < x.page) × IsAbove x.page xs
+-- what the table has of it
+abbrev pub entry_in : TableView → ℕ → Option DirtyEntry
+entry_in t p = entry_among t.entries p
 
--- the pages strictly rise
-abbrev pub IsRising : List TableEntry → Type 0
-IsRising [] = Unit {0}
-IsRising (x ∷ xs) = IsAbove x.page xs
+-- each page comes once
+abbrev pub AreApart : List TableEntry → Type 0
+AreApart [] = Unit {0}
+AreApart (x ∷ xs) = (entry_among xs x.page ≡ None) × AreApart xs
 
--- the page's entry becomes what the function makes of it, or comes in at its place
-abbrev pub put : ℕ → (Option DirtyEntry → DirtyEntry) → List TableEntry → List TableEntry
-put p f [] = table_entry p (f None) ∷ []
-put p f (x ∷ xs) = if nat_lt x.page p then x ∷ put p f xs else (if x.page == p then table_entry p (f (Some (dirty_entry x))) ∷ xs else table_entry p (f None) ∷ x ∷ xs)
+-- the page's entry becomes what the function makes of it, or comes in as the last
+abbrev pub put_among : ℕ → (Option DirtyEntry → DirtyEntry) → List TableEntry → List TableEntry
+put_among p f [] = table_entry p (f None) ∷ []
+put_among p f (x ∷ xs) = if x.page == p then table_entry p (f (Some (dirty_entry x))) ∷ xs else x ∷ put_among p f xs
+
+abbrev pub put : ℕ → (Option DirtyEntry → DirtyEntry) → TableView → TableView
+put p f t = record t { entries = put_among p f t.entries }
 
 -- the page has its entry, or there is room for it
-abbrev pub has_room : ℕ → List TableEntry → Bool
-has_room p xs = is_some (entry_in xs p) || nat_lt (length xs) MOST_DIRTY
+abbrev pub has_room : ℕ → TableView → Bool
+has_room p t = is_some (entry_in t p) || nat_lt (length t.entries) t.most
 
 -- the page is written: where it has no room, the table stays as it was
-abbrev pub written_in : ℕ → ℕ → List TableEntry → List TableEntry
-written_in p l xs = if has_room p xs then put p (written_entry l) xs else xs
+abbrev pub written_in : ℕ → ℕ → TableView → TableView
+written_in p l t = if has_room p t then put p (written_entry l) t else t
 
 -- an entry with this change since its last write, after a sync: without one it is gone
 abbrev pub synced_onto : TableEntry → Option ℕ → List TableEntry → List TableEntry
@@ -49,33 +59,45 @@ synced_onto x None rest = rest
 synced_onto x (Some l) rest = record { page = x.page; rec_lsn = l; since = Some l; copied = x.copied } ∷ rest
 
 -- the entries that a sync leaves: those changed since their last write, each counting from its first change since then
-abbrev pub synced_entries : List TableEntry → List TableEntry
-synced_entries [] = []
-synced_entries (x ∷ xs) = synced_onto x x.since (synced_entries xs)
+abbrev pub synced_among : List TableEntry → List TableEntry
+synced_among [] = []
+synced_among (x ∷ xs) = synced_onto x x.since (synced_among xs)
+
+abbrev pub synced_entries : TableView → TableView
+synced_entries t = record t { entries = synced_among t.entries }
+
+-- what a sync leaves finds room in one Checkpoint's record
+abbrev pub FitsRecord : TableView → Type 0
+FitsRecord t = length (synced_entries t).entries ≤ 1024
 
 -- one page's entry becomes what the function makes of it, and each other page's stays
-pub record ChangesEntry (p : ℕ) (f : Option DirtyEntry → DirtyEntry) (old new : List TableEntry) : Type 0 where
+pub record ChangesEntry (p : ℕ) (f : Option DirtyEntry → DirtyEntry) (old new : TableView) : Type 0 where
   pub entry : entry_in new p ≡ Some (f (entry_in old p))
   pub others : (q : ℕ) → q ≢ p → entry_in new q ≡ entry_in old q
 
 -- the log is known to have a full copy of the page, whose entry has this rec_lsn
-pub record IsCopied (xs : List TableEntry) (p l : ℕ) : Type 0 where
+pub record IsCopied (t : TableView) (p l : ℕ) : Type 0 where
   pub entry : DirtyEntry
-  pub is : entry_in xs p ≡ Some entry
+  pub is : entry_in t p ≡ Some entry
   pub copied : entry.copied ≡ true
   pub rec_lsn : entry.rec_lsn ≡ l
 
 -- the page's entry is at this place
 pub record IsFound (xs : List TableEntry) (p i : ℕ) : Type 0 where
   pub within : i < length xs
-  pub below : (k : ℕ) (d : TableEntry) → k < i → (slice_index_or xs k d).page < p
+  pub before : (k : ℕ) (d : TableEntry) → k < i → (slice_index_or xs k d).page ≢ p
   pub here : (d : TableEntry) → (slice_index_or xs i d).page ≡ p
 
--- the page has no entry, and one would come in at this place
-pub record IsAbsent (xs : List TableEntry) (p i : ℕ) : Type 0 where
-  pub within : i ≤ length xs
-  pub below : (k : ℕ) (d : TableEntry) → k < i → (slice_index_or xs k d).page < p
-  pub above : (d : TableEntry) → i < length xs → p < (slice_index_or xs i d).page
+-- ---- where an entry is found
+
+-- the place of a page's entry
+abbrev pub place_among : ℕ → List TableEntry → Option ℕ
+place_among p [] = None
+place_among p (x ∷ xs) = if x.page == p then Some 0 else option_map suc (place_among p xs)
+
+-- a map has the place of each entry, and no other
+abbrev pub Finds : (ℕ → Option ℕ) → List TableEntry → Type 0
+Finds at xs = (p : ℕ) → at p ≡ place_among p xs
 
 -- ---- as a Checkpoint has it
 
@@ -84,16 +106,31 @@ abbrev pub uncopied : TableEntry → TableEntry
 uncopied x = record x { copied = false }
 
 -- the entries, none of which counts a copy as known
-abbrev pub forgotten_entries : List TableEntry → List TableEntry
-forgotten_entries xs = map uncopied xs
+abbrev pub forgotten_entries : TableView → TableView
+forgotten_entries t = record t { entries = map uncopied t.entries }
 
 -- a row of the Checkpoint's list
 abbrev pub dirty_page : TableEntry → DirtyPage
 dirty_page x = record { page = x.page; rec_lsn = x.rec_lsn }
 
--- the Checkpoint's list
-abbrev pub dirty_pages : List TableEntry → List DirtyPage
-dirty_pages xs = map dirty_page xs
+-- a row comes in at its place among rows that rise by page
+abbrev pub by_page : DirtyPage → List DirtyPage → List DirtyPage
+by_page x [] = x ∷ []
+by_page x (y ∷ ys) = if nat_lt y.page x.page then y ∷ by_page x ys else x ∷ y ∷ ys
+
+-- the first place among rows whose page is no less
+pub record IsRowPlace (rows : List DirtyPage) (p i : ℕ) : Type 0 where
+  pub below : (k : ℕ) (d : DirtyPage) → k < i → (slice_index_or rows k d).page < p
+  pub above : (d : DirtyPage) → i < length rows → p ≤ (slice_index_or rows i d).page
+
+-- the rows of these entries come in among rows
+abbrev pub with_rows : List DirtyPage → List TableEntry → List DirtyPage
+with_rows rows [] = rows
+with_rows rows (x ∷ xs) = with_rows (by_page (dirty_page x) rows) xs
+
+-- the Checkpoint's list, in rising page order
+abbrev pub dirty_pages : TableView → List DirtyPage
+dirty_pages t = with_rows [] t.entries
 
 -- ---- the oldest change
 
@@ -101,16 +138,23 @@ dirty_pages xs = map dirty_page xs
 abbrev pub changed_page : TableEntry → Option DirtyPage
 changed_page x = option_map (λ l. record { page = x.page; rec_lsn = l }) x.since
 
--- the older of two, and the first of two at one LSN
+-- the one change is older than the other: of two at one LSN that of the lesser page
+abbrev pub is_before : DirtyPage → DirtyPage → Bool
+is_before a b = nat_lt a.rec_lsn b.rec_lsn || (a.rec_lsn == b.rec_lsn && nat_lt a.page b.page)
+
+-- the older of two
 abbrev pub older : Option DirtyPage → Option DirtyPage → Option DirtyPage
 older None b = b
 older (Some a) None = Some a
-older (Some a) (Some b) = if nat_lt b.rec_lsn a.rec_lsn then Some b else Some a
+older (Some a) (Some b) = if is_before b a then Some b else Some a
 
 -- the oldest of them all
-abbrev pub oldest : Option DirtyPage → List TableEntry → Option DirtyPage
-oldest o [] = o
-oldest o (x ∷ xs) = oldest (older o (changed_page x)) xs
+abbrev pub oldest_among : Option DirtyPage → List TableEntry → Option DirtyPage
+oldest_among o [] = o
+oldest_among o (x ∷ xs) = oldest_among (older o (changed_page x)) xs
+
+abbrev pub oldest : TableView → Option DirtyPage
+oldest t = oldest_among None t.entries
 
 -- ---- written pages
 
@@ -130,7 +174,7 @@ abbrev pub IsTied : Option DirtyEntry → Option DirtyEntry → Type 0
 IsTied has entry = (has ≡ entry) ⊎ ((has ≡ None) × IsWritten entry)
 
 -- the table has the entry of each page
-abbrev pub HasEntries : List TableEntry → (ℕ → PageState) → Type 0
+abbrev pub HasEntries : TableView → (ℕ → PageState) → Type 0
 HasEntries table pages = (p : ℕ) → entry_in table p ≡ (pages p).entry
 
 -- the page was changed since its last write

@@ -1,96 +1,112 @@
 //! The dirty table.
-ghost use Rattle.std.specs.Prelude.{◌≡◌, ℕ, ◌+◌, ◌<◌, ◌≤◌, ◌↔◌, ◌||◌, true, false, List, [], ◌∷◌, length, vec_len, vec_capacity, slice_index_or, IsTrue, IfOk, IfErr, IfSome, IsNone, Option, Some, None};
+ghost use Rattle.std.specs.Prelude.{◌≡◌, ℕ, ◌+◌, ◌∷◌, ◌++◌, ◌<◌, ◌≤◌, ◌↔◌, ◌||◌, true, false, [], length, nat_eq, slice_index_or, vec_capacity, IsTrue, IfOk, IfSome, IsNone, Option, Some, None, is_some, map, slice_set, Contains, IsPermutation};
+ghost use Rattle.std.specs.List.Sorted.{IsNonDecreasing};
+ghost use Rattle.std.specs.HashMap.{get, hash_map_len, spare};
 ghost use Rattle.im_theory_log.specs.Writer.{PageState};
 ghost use Rattle.im_log_record.specs.Spelling.{Rise};
 ghost use Rattle.im_theory_log.specs.WriterSteps.{changed_entry, written_entry, synced_entry, forgotten_entry, at_point, is_copied, Lists};
 ghost use Rattle.im_page_table.specs.declared.table_entry.TableEntry.{TableEntry};
 ghost use Rattle.im_base_types.specs.declared.sizes.TheConstants.{MOST_DIRTY};
-ghost use Rattle.im_page_table.specs.DirtyTable.{entry_in, table_entry, dirty_entry, dirty_pages, put, has_room, written_in, synced_entries, forgotten_entries, changed_page, older, oldest, and_written, with_written, ChangesEntry, IsRising, IsCopied, IsFound, IsAbsent};
+ghost use Rattle.im_page_table.specs.DirtyTable.{entry_in, most_entries, table_entry, dirty_entry, dirty_pages, put, has_room, written_in, synced_among, synced_entries, forgotten_entries, uncopied, changed_page, is_before, older, oldest, and_written, with_written, AreApart, ChangesEntry, Finds, IsCopied, IsFound};
 
 use crate::TableEntry;
+use crate::rows::make_rows;
 use im_base_types::{DirtyPage, Lsn, MOST_DIRTY, PageNo};
 use std::alloc::{AllocError, Global};
+use std::collections::HashMap;
 use std::marker::Model;
 
-/// The pages that may lack changes in their file, each once, in rising order. Contracts see the list of the entries. With room
-/// for all of them made once, no later call takes memory, and none is refused.
+/// How many entries a table has room for at most.
+const MOST_ROOM: usize = 65_536;
+
+/// How many entries there may be beside a pool of so many frames: as many, but no fewer than 1,024, and no more than 65,536.
+pub fn entries_for(frames: usize) -> usize
+    ensures entries { result ≡ most_entries frames }
+    ensures least { 1024 ≤ result }
+    ensures most { result ≤ 65536 }
+{
+    frames.max(MOST_DIRTY).min(MOST_ROOM)
+}
+
+/// The pages that may lack changes in their file, each once. Contracts see the list of the entries, in the order in which they came in,
+/// and how many there may be. With room for all of them made once, no later call takes memory, and none is refused.
 #[derive(Drop)]
 pub struct DirtyTable {
     entries: Vec<TableEntry>,
+    /// Where each page's entry stands. It loses none but when it is emptied, since a map does not promise that what is taken out gives its
+    /// room back.
+    places: HashMap<PageNo, u32>,
+    most: usize,
 }
 
 impl Model for DirtyTable {
-    ghost Value = { List TableEntry };
+    ghost use Rattle.std.specs.Prelude.{◌≡◌, ◌+◌, ◌≤◌, length, nat_eq, vec_capacity};
+    ghost use Rattle.std.specs.HashMap.{get, hash_map_len, spare};
+    ghost use Rattle.im_page_table.specs.DirtyTable.{TableView, AreApart, Finds};
 
-    ghost view = { λ t. t.entries.items };
+    ghost Value = { TableView };
 
-    ghost invariant = { λ t. IsRising t.entries.items × (vec_len t.entries ≤ MOST_DIRTY) × (MOST_DIRTY ≤ vec_capacity t.entries) };
+    ghost view = { λ t. record { entries = t.entries.items; most = t.most } };
+
+    ghost invariant = { λ t. AreApart t.entries.items × Finds (get nat_eq t.places) t.entries.items × (length t.entries.items ≤ t.most) × (t.most ≤ vec_capacity t.entries) × (hash_map_len t.places ≡ length t.entries.items) × (t.most ≤ hash_map_len t.places + spare t.places) × (1024 ≤ t.most) × (t.most ≤ 65536) };
 }
 
 impl DirtyTable {
-    /// With no entry, and room for `MOST_DIRTY`.
-    pub fn new(alloc: Global) -> Result<Self, AllocError>
-        ensures { IfOk result (λ t. t ≡ []) }
+    /// With no entry, and room for so many, 1,024 to 65,536.
+    pub fn new(alloc: Global, most: usize) -> Result<Self, AllocError>
+        requires least { 1024 ≤ most }
+        requires most { most ≤ 65536 }
+        ensures { IfOk result (λ t. t ≡ record { entries = []; most = most }) }
     {
+        let entries = Vec::with_capacity(alloc, most)?;
+        let places = HashMap::with_capacity(alloc, most)?;
         Ok(DirtyTable {
-            entries: Vec::with_capacity(alloc, MOST_DIRTY)?,
+            entries,
+            places,
+            most,
         })
     }
 
     /// The number of entries.
     pub fn len(&self) -> usize
-        ensures { result ≡ length self.now }
+        ensures len { result ≡ length self.now.entries }
+        ensures within { length self.now.entries ≤ self.now.most }
     {
         self.entries.len()
     }
 
-    /// Whether no further page can come in.
-    pub fn is_full(&self) -> bool
-        ensures full { IsTrue result ↔ (length self.now ≡ MOST_DIRTY) }
-        ensures within { length self.now ≤ MOST_DIRTY }
+    /// How many there may be.
+    pub fn most(&self) -> usize
+        ensures most { result ≡ self.now.most }
+        ensures least { 1024 ≤ self.now.most }
+        ensures within { length self.now.entries ≤ self.now.most }
     {
-        self.entries.len() == MOST_DIRTY
+        self.most
     }
 
-    /// The pages rise: a law, and nothing that runs.
-    pub fn pages_rise(&self)
-        ensures { IsRising self.now }
+    /// Whether no further page can come in.
+    pub fn is_full(&self) -> bool
+        ensures full { IsTrue result ↔ (length self.now.entries ≡ self.now.most) }
+        ensures within { length self.now.entries ≤ self.now.most }
+    {
+        self.entries.len() == self.most
+    }
+
+    /// Each page comes once: a law, and nothing that runs.
+    pub fn pages_differ(&self)
+        ensures { AreApart self.now.entries }
     {
         self.entries.len();
     }
 
-    // The first place whose page is no less.
-    fn place(&self, page: PageNo) -> usize
-        ensures within { result ≤ length self.now }
-        ensures below { (k : ℕ) (d : TableEntry) → k < result → (slice_index_or self.now k d).page < page }
-        ensures above { (d : TableEntry) → result < length self.now → page ≤ (slice_index_or self.now result d).page }
+    // The place of the page's entry.
+    fn search(&self, page: PageNo) -> Option<usize>
+        ensures found { IfSome result (IsFound self.now.entries page) }
+        ensures absent { result ≡ None → entry_in self.now page ≡ None }
     {
-        let mut low = 0;
-        let mut high = self.entries.len();
-        while low < high {
-            let middle = low + (high - low) / 2;
-            if self.entries[middle].page < page {
-                low = middle + 1;
-            } else {
-                high = middle;
-            }
-        }
-        low
-    }
-
-    // The place of the page's entry, or where one would come in.
-    fn search(&self, page: PageNo) -> Result<usize, usize>
-        ensures found { IfOk result (λ i. IsFound self.now page i) }
-        ensures absent { IfErr result (λ i. IsAbsent self.now page i) }
-    {
-        let at = self.place(page);
-        if at == self.entries.len() {
-            return Err(at);
-        }
-        if self.entries[at].page == page {
-            Ok(at)
-        } else {
-            Err(at)
+        match self.places.get(&page).copied() {
+            Some(place) => Some(place as usize),
+            None => None,
         }
     }
 
@@ -101,8 +117,8 @@ impl DirtyTable {
         ensures none { IsNone result → entry_in self.now page ≡ None }
     {
         match self.search(page) {
-            Ok(at) => Some(self.entries[at]),
-            Err(_) => None,
+            Some(at) => Some(self.entries[at]),
+            None => None,
         }
     }
 
@@ -123,26 +139,45 @@ impl DirtyTable {
         }
     }
 
+    // An entry comes in as the last, of a page that has none.
+    fn add(&mut self, entry: TableEntry)
+        requires absent { entry_in self.old entry.page ≡ None }
+        requires room { length self.old.entries < self.old.most }
+        ensures { self.new ≡ record self.old { entries = self.old.entries ++ entry ∷ [] } }
+    {
+        let place = self.entries.len() as u32;
+        let _ = self.places.insert(entry.page, place);
+        self.entries.push_reserved(entry);
+    }
+
+    // The entry at a place becomes another one of its page.
+    fn set(&mut self, at: usize, entry: TableEntry)
+        requires { IsFound self.old.entries entry.page at }
+        ensures { self.new ≡ record self.old { entries = slice_set self.old.entries at entry } }
+    {
+        self.entries[at] = entry;
+    }
+
     /// The page is changed by the record at an LSN, which holds a full copy of it or does not. An entry that is there keeps its rec_lsn,
     /// and a copy that is known.
     pub fn enter(&mut self, page: PageNo, lsn: Lsn, copied: bool)
-        requires room { entry_in self.old page ≡ None → length self.old < MOST_DIRTY }
+        requires room { entry_in self.old page ≡ None → length self.old.entries < self.old.most }
         ensures table { self.new ≡ put page (changed_entry copied lsn) self.old }
         ensures entry { ChangesEntry page (changed_entry copied lsn) self.old self.new }
     {
         match self.search(page) {
-            Ok(at) => {
+            Some(at) => {
                 let entry = self.entries[at];
-                self.entries[at] = changed(entry, lsn, copied);
+                self.set(at, changed(entry, lsn, copied));
             },
-            Err(at) => {
+            None => {
                 let entry = TableEntry {
                     page,
                     rec_lsn: lsn,
                     since: Some(lsn),
                     copied,
                 };
-                self.entries.insert(at, entry).unwrap();
+                self.add(entry);
             },
         }
     }
@@ -155,13 +190,13 @@ impl DirtyTable {
         ensures entry { result ≡ true → ChangesEntry page (written_entry lsn) self.old self.new }
     {
         match self.search(page) {
-            Ok(at) => {
+            Some(at) => {
                 let entry = self.entries[at];
-                self.entries[at] = written(entry);
+                self.set(at, written(entry));
                 true
             },
-            Err(at) => {
-                if self.entries.len() == MOST_DIRTY {
+            None => {
+                if self.is_full() {
                     return false;
                 }
                 let entry = TableEntry {
@@ -170,7 +205,7 @@ impl DirtyTable {
                     since: None,
                     copied: true,
                 };
-                self.entries.insert(at, entry).unwrap();
+                self.add(entry);
                 true
             },
         }
@@ -179,23 +214,23 @@ impl DirtyTable {
     /// The page is changed by redo, or loaded from its copy, which then is known: it counts as changed since the redo point, whatever its
     /// entry was. A copy that was known stays so.
     pub fn enter_at_point(&mut self, page: PageNo, point: Lsn, copied: bool)
-        requires room { entry_in self.old page ≡ None → length self.old < MOST_DIRTY }
+        requires room { entry_in self.old page ≡ None → length self.old.entries < self.old.most }
         ensures table { self.new ≡ put page (λ o. at_point (copied || is_copied o) point) self.old }
         ensures entry { ChangesEntry page (λ o. at_point (copied || is_copied o) point) self.old self.new }
     {
         match self.search(page) {
-            Ok(at) => {
+            Some(at) => {
                 let entry = self.entries[at];
-                self.entries[at] = entered_at(entry, point, copied);
+                self.set(at, entered_at(entry, point, copied));
             },
-            Err(at) => {
+            None => {
                 let entry = TableEntry {
                     page,
                     rec_lsn: point,
                     since: Some(point),
                     copied,
                 };
-                self.entries.insert(at, entry).unwrap();
+                self.add(entry);
             },
         }
     }
@@ -206,20 +241,8 @@ impl DirtyTable {
         ensures table { self.new ≡ synced_entries self.old }
         ensures entry { (p : ℕ) → entry_in self.new p ≡ synced_entry (entry_in self.old p) }
     {
-        let mut kept = 0;
-        for at in 0..self.entries.len() {
-            let entry = self.entries[at];
-            if let Some(since) = entry.since {
-                self.entries[kept] = TableEntry {
-                    page: entry.page,
-                    rec_lsn: since,
-                    since: Some(since),
-                    copied: entry.copied,
-                };
-                kept += 1;
-            }
-        }
-        self.entries.truncate(kept);
+        keep_changed(&mut self.entries);
+        note_places(&mut self.places, self.entries.as_slice());
     }
 
     /// No copy counts as known any more.
@@ -227,20 +250,13 @@ impl DirtyTable {
         ensures table { self.new ≡ forgotten_entries self.old }
         ensures entry { (p : ℕ) → entry_in self.new p ≡ forgotten_entry (entry_in self.old p) }
     {
-        for at in 0..self.entries.len() {
-            let entry = self.entries[at];
-            self.entries[at] = TableEntry {
-                page: entry.page,
-                rec_lsn: entry.rec_lsn,
-                since: entry.since,
-                copied: false,
-            };
-        }
+        forget_copies(&mut self.entries);
     }
 
     /// How many of the pages have not changed since their last write: a sync of their file takes them out.
     pub fn written_count(&self) -> usize
-        ensures { result ≡ with_written 0 self.now }
+        ensures count { result ≡ with_written 0 self.now.entries }
+        ensures left { length (synced_entries self.now).entries + result ≡ length self.now.entries }
     {
         let mut count = 0;
         for at in 0..self.entries.len() {
@@ -249,10 +265,10 @@ impl DirtyTable {
         count
     }
 
-    /// The entries, each page once, in rising order.
+    /// The entries, each page once, in the order in which they came in.
     pub fn entries(&self) -> &[TableEntry]
-        ensures same { result.now ≡ self.now }
-        ensures rising { IsRising result.now }
+        ensures same { result.now ≡ self.now.entries }
+        ensures apart { AreApart result.now }
     {
         self.entries.as_slice()
     }
@@ -260,7 +276,7 @@ impl DirtyTable {
     /// The page whose first change since its last write is the oldest, with the LSN of that change; none where each page is written. A
     /// Checkpoint that comes now lists no LSN below it.
     pub fn oldest_change(&self) -> Option<DirtyPage>
-        ensures oldest { result ≡ oldest None self.now }
+        ensures oldest { result ≡ oldest self.now }
     {
         let mut found = None;
         for at in 0..self.entries.len() {
@@ -269,30 +285,101 @@ impl DirtyTable {
         found
     }
 
-    /// Makes `rows`, which has room for `MOST_DIRTY`, a Checkpoint's list: each page with its rec_lsn, in rising order.
+    /// Makes `rows`, which has room for 1,024, a Checkpoint's list: each page with its rec_lsn, in rising order. A record has no room for more:
+    /// of a table with more entries it has those that came in first.
     pub fn copy_rows(&self, rows: &mut Vec<DirtyPage>)
         requires room { MOST_DIRTY ≤ vec_capacity rows.old }
-        ensures rows { rows.new.items ≡ dirty_pages self.now }
-        ensures lists { (pages : ℕ → PageState) → ((p : ℕ) → entry_in self.now p ≡ (pages p).entry) → Lists pages rows.new.items }
+        ensures rows { length self.now.entries ≤ MOST_DIRTY → rows.new.items ≡ dirty_pages self.now }
+        ensures lists { length self.now.entries ≤ MOST_DIRTY → (pages : ℕ → PageState) → ((p : ℕ) → entry_in self.now p ≡ (pages p).entry) → Lists pages rows.new.items }
         ensures room { MOST_DIRTY ≤ vec_capacity rows.new }
         ensures few { length rows.new.items ≤ MOST_DIRTY }
         ensures rise { Rise (λ r. r.page) None rows.new.items }
     {
-        rows.clear();
+        let count = self.entries.len().min(MOST_DIRTY);
+        make_rows(&self.entries[..count], rows);
+    }
+
+    /// Makes `numbers`, which has room for them, the numbers of the pages, in rising order.
+    pub fn copy_numbers(&self, numbers: &mut Vec<PageNo>)
+        requires room { length self.now.entries ≤ vec_capacity numbers.old }
+        ensures all { (p : ℕ) → is_some (entry_in self.now p) ≡ true → Contains numbers.new.items p }
+        ensures same { IsPermutation (map (λ e. e.page) self.now.entries) numbers.new.items }
+        ensures sorted { IsNonDecreasing numbers.new.items }
+        ensures none { self.now.entries ≡ [] → numbers.new.items ≡ [] }
+        ensures room { vec_capacity numbers.new ≡ vec_capacity numbers.old }
+    {
+        numbers.clear();
         for at in 0..self.entries.len() {
-            let entry = self.entries[at];
-            let row = DirtyPage {
+            numbers.push_reserved(self.entries[at].page);
+        }
+        numbers.sort_unstable();
+    }
+}
+
+// Leaves the entries of pages that were changed since their last write, each counting from its first change since then.
+fn keep_changed(entries: &mut Vec<TableEntry>)
+    ensures items { entries.new.items ≡ synced_among entries.old.items }
+    ensures room { vec_capacity entries.new ≡ vec_capacity entries.old }
+{
+    let mut kept = 0;
+    for at in 0..entries.len() {
+        let entry = entries[at];
+        if let Some(since) = entry.since {
+            entries[kept] = TableEntry {
                 page: entry.page,
-                rec_lsn: entry.rec_lsn,
+                rec_lsn: since,
+                since: Some(since),
+                copied: entry.copied,
             };
-            rows.push(row).unwrap();
+            kept += 1;
         }
     }
+    entries.truncate(kept);
+}
+
+// Leaves of no entry a copy that counts as known.
+fn forget_copies(entries: &mut Vec<TableEntry>)
+    ensures items { entries.new.items ≡ map uncopied entries.old.items }
+    ensures room { vec_capacity entries.new ≡ vec_capacity entries.old }
+{
+    for at in 0..entries.len() {
+        let entry = entries[at];
+        entries[at] = TableEntry {
+            page: entry.page,
+            rec_lsn: entry.rec_lsn,
+            since: entry.since,
+            copied: false,
+        };
+    }
+}
+
+// Has a map find each of these entries, and no other.
+fn note_places(places: &mut HashMap<PageNo, u32>, entries: &[TableEntry])
+    requires apart { AreApart entries.now }
+    requires few { length entries.now ≤ 65536 }
+    requires room { length entries.now ≤ hash_map_len places.old + spare places.old }
+    ensures found { Finds (get nat_eq places.new) entries.now }
+    ensures len { hash_map_len places.new ≡ length entries.now }
+    ensures room { hash_map_len places.old + spare places.old ≤ hash_map_len places.new + spare places.new }
+{
+    places.clear();
+    for at in 0..entries.len() {
+        let page = page_at(entries, at);
+        let _ = places.insert(page, at as u32);
+    }
+}
+
+// The page of one of the entries.
+fn page_at(entries: &[TableEntry], at: usize) -> PageNo
+    requires within { at < length entries.now }
+    ensures { (else : TableEntry) → result ≡ (slice_index_or entries.now at else).page }
+{
+    entries[at].page
 }
 
 // One page more, where it has not changed since its last write.
 fn and_written(count: usize, entry: TableEntry) -> usize
-    requires few { count < MOST_DIRTY }
+    requires few { count < 65536 }
     ensures value { result ≡ and_written count entry }
     ensures few { result ≤ count + 1 }
 {
@@ -302,6 +389,13 @@ fn and_written(count: usize, entry: TableEntry) -> usize
     }
 }
 
+// Whether the one change is older than the other.
+fn is_before(one: DirtyPage, other: DirtyPage) -> bool
+    ensures { result ≡ is_before one other }
+{
+    one.rec_lsn < other.rec_lsn || one.rec_lsn == other.rec_lsn && one.page < other.page
+}
+
 // The older of a change and the first one of a page since its last write.
 fn older(found: Option<DirtyPage>, entry: TableEntry) -> Option<DirtyPage>
     ensures { result ≡ older found (changed_page entry) }
@@ -309,15 +403,18 @@ fn older(found: Option<DirtyPage>, entry: TableEntry) -> Option<DirtyPage>
     let Some(since) = entry.since else {
         return found;
     };
-    if let Some(first) = found {
-        if first.rec_lsn <= since {
-            return found;
-        }
-    }
-    Some(DirtyPage {
+    let change = DirtyPage {
         page: entry.page,
         rec_lsn: since,
-    })
+    };
+    let Some(first) = found else {
+        return Some(change);
+    };
+    if is_before(change, first) {
+        Some(change)
+    } else {
+        found
+    }
 }
 
 // The entry of a page that is changed by the record at an LSN, which holds a full copy of it or does not.

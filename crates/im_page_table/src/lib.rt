@@ -7,12 +7,15 @@
 //!
 //! `DirtyTable` has each page that may lack changes in the file of pages: with its `rec_lsn`, the LSN from which on it may lack
 //! them, with `since`, the LSN of its first change after its last write, and with `copied`, whether the log is known to have a full
-//! copy of it at or after its redo point. There are at most 1,024 entries, in rising page order. Room for them is made once: no call
-//! after `new` takes memory, and none is refused.
+//! copy of it at or after its redo point. There are as many entries at most as the pool has frames, but no fewer than 1,024 and no more than
+//! 65,536 (`entries_for`). Room for them is made once: no call after `new` takes memory, and none is refused.
+//!
+//! The entries stand in the order in which they came in, and a map has the place of each: so no list is moved where one comes in, and a
+//! look-up goes to one place, however many there are. A sync goes over them all: what stays moves up, and the map is made anew.
 //!
 //! Contracts see a table as the list of its entries. Each call says what it makes of the list (`table`), and of each page's entry
 //! (`entry`): that is what a step of im_theory_log's `Writer` makes of it, as `changed_entry`, `written_entry`, `synced_entry`,
-//! `at_point` and `forgotten_entry`. `copy_rows` gives the list that a Checkpoint has (`lists`), and `oldest_change` the page whose
+//! `at_point` and `forgotten_entry`. `copy_rows` gives the list that a Checkpoint has, in rising page order (`lists`), and `oldest_change` the page whose
 //! first change since its last write is the oldest.
 //!
 //! # Beside it
@@ -27,7 +30,8 @@
 #![tactic(auto)]
 
 mod dirty_table;
+mod rows;
 mod table_entry;
 
-pub use dirty_table::DirtyTable;
+pub use dirty_table::{DirtyTable, entries_for};
 pub use table_entry::TableEntry;

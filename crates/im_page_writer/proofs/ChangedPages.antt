@@ -1,10 +1,10 @@
 -- What a page is once a record of the log has changed it: its LSN is no less than the record's; and where it is the record's, the page is what the record left.
-use Rattle.std.proofs.Common.{◌≡◌, ◌⊎◌, inl, inr, ℕ, ◌<◌, ◌≤◌, [], ◌∷◌, ◌++◌, Bool, true, false, refl, sym, ◌∙◌, ap, subst, arith, Some}
+use Rattle.std.proofs.Common.{◌≡◌, inl, inr, ℕ, ◌<◌, ◌≤◌, [], ◌∷◌, true, refl, sym, ◌∙◌, ap, subst, arith, Some}
 use Rattle.std.proofs.lemmas.Bool.{cases_Bool, cases_eq, cases_lt}
 use Rattle.im_base_types.specs.Pages.{Body, Page}
 use Rattle.im_base_types.specs.Records.{What, InsertKey, DeleteKey, UndoInsert, UndoDelete, Smo, UndoSmo, DummyClr, Commit, End, Image, Checkpoint, Unreadable, Logged}
 use Rattle.im_theory_log.specs.Histories.{Base, History, IsRecordOf, Rises, below, changes_page, end_of, page_after, page_at}
-use Rattle.im_theory_log.proofs.Histories.{below_newest, below_older, no_change, page_here, page_lsn_le, page_lsn_up, page_other}
+use Rattle.im_theory_log.proofs.Histories.{below_newest, below_older, no_change, page_here, page_lsn_up, page_other}
 use Rattle.im_page_file.specs.PageCopy.{after_in}
 
 -- a kind that changes its page gives it its own LSN

@@ -1,5 +1,5 @@
 -- A record that changes its page joins the log, after redo: the page is changed by it, and enters the dirty table.
-use Rattle.std.proofs.Common.{◌≡◌, inl, inr, ℕ, ◌∷◌, true, false, Bool, List, Option, None, Some, refl, sym, ◌∙◌, ap, subst, arith}
+use Rattle.std.proofs.Common.{◌≡◌, inl, inr, ℕ, ◌∷◌, true, false, Bool, Option, None, Some, refl, sym, ◌∙◌, ap, subst, arith}
 use Rattle.std.specs.Prelude.{is_some}
 use Rattle.std.proofs.lemmas.Bool.{cases_eq}
 use Rattle.im_base_types.specs.declared.file_id.FileId.TheVariants.{Log, Pages, Log2}
@@ -26,8 +26,7 @@ use Rattle.im_log.specs.Whats.{what_of}
 use Rattle.im_log.specs.Kept.{Appended}
 use Rattle.im_page_pool.specs.declared.frame.Frame.{Frame}
 use Rattle.im_page_pool.specs.Pool.{Held, PoolView, held_of, Sets}
-use Rattle.im_page_table.specs.declared.table_entry.TableEntry.{TableEntry}
-use Rattle.im_page_table.specs.DirtyTable.{ChangesEntry, HasEntries, is_changed}
+use Rattle.im_page_table.specs.DirtyTable.{TableView, ChangesEntry, HasEntries, is_changed}
 use Rattle.im_page_file.proofs.OtherLog.{older_as, only_spared}
 use Rattle.im_page_file.specs.PageFile.{IsPageFile}
 use Rattle.im_page_writer.specs.Writing.{IsShown, IsPooled, IsWriting}
@@ -104,7 +103,7 @@ pooled_set pool new pages f frame page mark is sets held shown marked waits = re
 
 -- ---- the whole
 
-module _ {D : Type 0} (d : Ghosts D) (b : Base) (base : ℕ) (s : Writer) (log new_log : LogFile) (table new_table : List TableEntry) (pool new_pool : PoolView) (old new : D) (entry : Entry) (lsn : ℕ) (frame : Frame)
+module _ {D : Type 0} (d : Ghosts D) (b : Base) (base : ℕ) (s : Writer) (log new_log : LogFile) (table new_table : TableView) (pool new_pool : PoolView) (old new : D) (entry : Entry) (lsn : ℕ) (frame : Frame)
     (w : IsWriting d b base s log table pool old) (may : MayAppend b s (logged_at lsn entry)) (done : Appended d base s.log s.durable entry lsn old new_log new) (here : (logged_at lsn entry).page ≡ frame.number) where
   -- An append with what the record makes of its page, and the page's entry, is one step of the writer.
   pub step_by : (known : Bool) → WriterKept b (changed_as known (logged_at lsn entry) s) → IsOpen d new_log new → ChangesOnly d Log old new → is_some (held_of pool frame.number) ≡ true
@@ -152,7 +151,7 @@ like_names w v gives like = by w (λ is. (let given : (initial 0).lsn ≡ 1 = ap
     by (Checkpoint n a dirty) other = absurd (other refl)
     by Unreadable other = absurd (other refl)
 
-module _ {D : Type 0} (d : Ghosts D) (b : Base) (base : ℕ) (s : Writer) (e : ℕ) (log new_log : LogFile) (table new_table : List TableEntry) (pool new_pool : PoolView) (old new : D) (entry : Entry) (lsn : ℕ) (frame : Frame)
+module _ {D : Type 0} (d : Ghosts D) (b : Base) (base : ℕ) (s : Writer) (e : ℕ) (log new_log : LogFile) (table new_table : TableView) (pool new_pool : PoolView) (old new : D) (entry : Entry) (lsn : ℕ) (frame : Frame)
     (w : IsWriting d b base s log table pool old) (over : s.redo_end ≡ Some e) (copy_none : copy_in lsn (what_of entry) ≡ None) (point : is_checkpoint (what_of entry) ≡ false)
     (names : names_page (what_of entry) ≡ true) (done : Appended d base s.log s.durable entry lsn old new_log new) (here : (logged_at lsn entry).page ≡ frame.number) where
   change_may : MayAppend b s (logged_at lsn entry)

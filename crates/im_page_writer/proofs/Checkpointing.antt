@@ -1,11 +1,12 @@
 -- A Checkpoint: copies are forgotten, its record joins the log, and the three calls in a row.
-use Rattle.std.proofs.Common.{◌≡◌, inl, inr, ℕ, ◌<◌, Bool, false, true, List, [], ◌∷◌, Option, None, Some, refl, sym, ◌∙◌, ap, subst}
+use Rattle.std.proofs.Common.{◌≡◌, ◌⊎◌, inl, inr, ℕ, ◌<◌, ◌≤◌, Bool, false, true, List, [], ◌∷◌, length, Option, None, Some, refl, sym, ◌∙◌, ap, subst, arith}
 use Rattle.im_base_types.specs.declared.fault.Fault.{Fault}
 use Rattle.im_base_types.specs.declared.fault.Fault.TheVariants.{Device, Failed, LogFull, NotAStore}
 use Rattle.im_base_types.specs.declared.file_id.FileId.TheVariants.{Log, Pages, Log2}
 use Rattle.im_base_types.specs.declared.tables.ActiveTransaction.{ActiveTransaction}
 use Rattle.im_base_types.specs.declared.tables.DirtyPage.{DirtyPage}
-use Rattle.im_theory_log.specs.Histories.{Base, end_of}
+use Rattle.im_theory_log.specs.Histories.{Base, History, IsFront, end_of}
+use Rattle.im_theory_log.proofs.Histories.{front_self}
 use Rattle.im_theory_log.specs.Writer.{DirtyEntry, IsWritten, PageState, Writer}
 use Rattle.im_theory_log.specs.WriterSteps.{IsIn, Lists, appended, forced, forgotten, forgotten_entry, forgotten_page, is_copied, passed, synced}
 use Rattle.im_theory_log.proofs.WriterCheckpoints.{checkpoint_kept}
@@ -20,19 +21,20 @@ use Rattle.im_log.specs.LogFile.{IsOpen}
 use Rattle.im_log.specs.Kept.{Appended}
 use Rattle.im_page_pool.specs.Pool.{Held, PoolView, held_of}
 use Rattle.im_page_writer.specs.declared.page_writer.PageWriter.{PageWriter}
-use Rattle.im_page_table.specs.declared.table_entry.TableEntry.{TableEntry}
-use Rattle.im_page_table.specs.DirtyTable.{entry_in, HasEntries, is_changed}
+use Rattle.im_page_table.specs.DirtyTable.{TableView, dirty_pages, entry_in, AreApart, FitsRecord, HasEntries, is_changed, synced_entries}
 use Rattle.im_page_table.specs.KnownCopies.{KnowsCopies}
 use Rattle.im_page_file.proofs.OtherLog.{older_as, only_spared}
 use Rattle.im_page_file.specs.Stands.{LeavesCovered}
-use Rattle.im_page_writer.specs.Writing.{IsPooled, IsShown, IsWriting}
+use Rattle.im_page_writer.specs.Writing.{IsPooled, IsShown, IsWriting, LeavesGrown}
 use Rattle.im_page_writer.specs.PageWriter.{GoesOn}
-use Rattle.im_page_writer.specs.Checkpoints.{checkpoint_at, Checkpointed, LeavesCheckpointed, TablesLogged}
-use Rattle.im_page_writer.specs.Outcome.{none_mild, LogEnds, Logs}
+use Rattle.im_page_writer.specs.Checkpoints.{checkpoint_at, Checkpointed, CheckpointedFrom, HasCheckpoint, LeavesCheckpointed, LeavesCheckpointedFrom, RowsFit, TablesLogged}
+use Rattle.im_page_writer.specs.Outcome.{none_mild, Flushes, LogEnds, Logs}
 use Rattle.im_page_writer.proofs.Goings.{covered_last, pooled_same}
 use Rattle.im_page_file.proofs.Standing.{covered_then}
 use Rattle.im_page_table.proofs.KnownCopies.{knows_grown, knows_joined}
-use Rattle.im_page_writer.proofs.Outcomes.{stands_on}
+use Rattle.im_page_table.proofs.Lists.{rows_count}
+use Rattle.im_page_writer.proofs.Outcomes.{changed_none, flush_asks, stands_on}
+use Rattle.im_page_writer.proofs.TableRoom.{none_stay}
 use Rattle.im_page_file.proofs.PageFiles.{page_file_spared}
 
 -- ---- copies are forgotten
@@ -78,7 +80,7 @@ lists_forgotten pages rows lists = record {
         let lsn : x.rec_lsn ≡ e.rec_lsn = ap (λ (y : DirtyEntry). y.rec_lsn) entry in
         subst (λ (l : ℕ). IsIn (record { page = p; rec_lsn = l }) rows) lsn (lists.all p x some)
 
-module _ {D : Type 0} (d : Ghosts D) (b : Base) (base : ℕ) (s : Writer) (log : LogFile) (table new : List TableEntry) (pool : PoolView) (disk : D) (w : IsWriting d b base s log table pool disk)
+module _ {D : Type 0} (d : Ghosts D) (b : Base) (base : ℕ) (s : Writer) (log : LogFile) (table new : TableView) (pool : PoolView) (disk : D) (w : IsWriting d b base s log table pool disk)
     (is : (p : ℕ) → entry_in new p ≡ forgotten_entry (entry_in table p)) where
   entries : HasEntries new (forgotten s).pages
   entries p = is p ∙ ap forgotten_entry (w.entries p)
@@ -103,7 +105,7 @@ module _ {D : Type 0} (d : Ghosts D) (b : Base) (base : ℕ) (s : Writer) (log :
 
 -- ---- the record
 
-module _ {D : Type 0} (d : Ghosts D) (b : Base) (base : ℕ) (s : Writer) (e next : ℕ) (active : List ActiveTransaction) (dirty : List DirtyPage) (lsn : ℕ) (log new_log : LogFile) (table : List TableEntry) (pool : PoolView) (old new : D)
+module _ {D : Type 0} (d : Ghosts D) (b : Base) (base : ℕ) (s : Writer) (e next : ℕ) (active : List ActiveTransaction) (dirty : List DirtyPage) (lsn : ℕ) (log new_log : LogFile) (table : TableView) (pool : PoolView) (old new : D)
     (w : IsWriting d b base (forgotten s) log table pool old) (over : s.redo_end ≡ Some e) (done : Appended d base s.log s.durable (Checkpoint next active dirty) lsn old new_log new) (lists : Lists s.pages dirty)
     (synced : (p : ℕ) → (s.pages p).unsynced ≡ false) where
   -- It is a step of the writer.
@@ -159,7 +161,55 @@ module _ {D : Type 0} (d : Ghosts D) (b : Base) (base : ℕ) (s : Writer) (next 
       pub checkpointed : (y : PageWriter) (new : D) → GoesOn d b base listed behind (forced listed) y new → Checkpointed d b base s next active dirty lsn y new
       checkpointed y new three = record { lists = two.lists; high = two.high; stands = stands_on d b base listed behind (forced listed) y new three }
 
+-- ---- pages that are written first
+
+-- what the sync leaves is no more than its record has room for
+pub fits_synced : (old new : TableView) → FitsRecord old → new ≡ synced_entries old → length new.entries ≤ 1024
+fits_synced old new fits is = subst (λ (t : TableView). length t.entries ≤ 1024) (sym is) fits
+
+-- where each page is written it leaves nothing
+pub all_fit : (table : TableView) (pages : ℕ → PageState) → AreApart table.entries → HasEntries table pages → ((p : ℕ) → IsWritten (pages p).entry) → FitsRecord table
+all_fit table pages up has all = let none = none_stay table pages up has all in omega (arith, none)
+
+module _ {D : Type 0} (d : Ghosts D) (b : Base) (base : ℕ) (s : Writer) (next : ℕ) (active : List ActiveTransaction) (old : D) where
+  -- the first write was refused, or a later one
+  pub left_first : (new : D) → LeavesGrown d b base s old new → LeavesCheckpointedFrom d b base s next active old new
+  left_first new left = record { grown = left.high; grows = left.grows; dirty = []; high = left.high; is = inl refl; stops = left.stops }
+
+  module _ (w : PageWriter) (mid : D) (one : RowsFit d b base s old w mid) where
+    -- none is below
+    above : (high : History) → (high ≡ one.now.log) ⊎ HasCheckpoint b next active (dirty_pages (synced_entries w.table)) one.now.log high → IsFront one.now.log high
+    above high (inl same) = subst (λ (l : History). IsFront one.now.log l) (sym same) (front_self one.now.log)
+    above high (inr has) = record { newer = checkpoint_at has.lsn next active (dirty_pages (synced_entries w.table)) ∷ []; is = sym has.is }
+
+    pub left_behind : (new : D) → LeavesCheckpointed d b base one.now next active (dirty_pages (synced_entries w.table)) mid new → LeavesCheckpointedFrom d b base s next active old new
+    left_behind new two = record {
+      grown = one.now.log;
+      grows = one.on.goes.keeps.log;
+      dirty = dirty_pages (synced_entries w.table);
+      high = two.high;
+      is = two.is;
+      stops = covered_then d b base s.durable one.now.log one.now.durable two.high old mid new one.on.goes.stops two.stops one.on.goes.keeps.durable (above two.high two.is);
+    }
+
+    pub checkpoint_behind : (lsn : ℕ) (x : PageWriter) (new : D) → Checkpointed d b base one.now next active (dirty_pages (synced_entries w.table)) lsn x new → CheckpointedFrom d b base s next active lsn x new
+    checkpoint_behind lsn x new taken = record {
+      before = one.now;
+      keeps = one.on.goes.keeps;
+      dirty = dirty_pages (synced_entries w.table);
+      few = let count = rows_count (synced_entries w.table) in let fits = one.fits in omega (arith, count, fits);
+      taken = taken;
+    }
+
 -- ---- how such calls end
+
+-- one that writes pages ends as one that logs nothing
+pub flush_logs : {D : Type 0} (d : Ghosts D) {v : PageWriter} {old : D} {w : PageWriter} {new : D} {why : Option Fault} → Flushes d v old w new why → Logs d false none_mild v old w new why
+flush_logs {D} d {v} {old} {w} {new} {why} one = changed_none d {n = none_mild} (λ e is. is) (flush_asks d one)
+
+-- where it is refused for want of room in the log the writer had worked
+pub full_began : {D : Type 0} (d : Ghosts D) {v : PageWriter} {old : D} {w : PageWriter} {new : D} (f : Fault) → Flushes d v old w new (Some f) → f ≡ LogFull → v.failed ≡ false
+full_began {D} d {v} {old} {w} {new} f one is = (subst (λ (x : Fault). Flushes d v old w new (Some x)) is one).ends.0.began
 
 module _ {D : Type 0} (d : Ghosts D) where
   on_ends : (late : Bool) (m : Fault → Bool) (v : PageWriter) (old : D) (w : PageWriter) (mid : D) → LogEnds d late m v old w mid None → (x : PageWriter) (new : D) (why : Option Fault) → LogEnds d false none_mild w mid x new why → LogEnds d false none_mild v old x new why

@@ -1,5 +1,5 @@
 -- A page is written with no force where its last change and a full copy of it are durable, as the writer knows.
-use Rattle.std.proofs.Common.{◌≡◌, ◌<◌, ◌≤◌, ◌+◌, ◌-◌, ◌^◌, min, ℕ, false, true, Option, None, Some, refl, sym, ◌∙◌, ap, subst, arith}
+use Rattle.std.proofs.Common.{◌≡◌, ◌<◌, ◌+◌, ◌-◌, ◌^◌, min, ℕ, false, true, Option, None, Some, sym, ◌∙◌, ap, subst, arith}
 use Rattle.std.specs.Option.{option_map_or}
 use Rattle.im_base_types.specs.Pages.{Page}
 use Rattle.im_theory_log.specs.Histories.{Base}

@@ -13,8 +13,7 @@ use Rattle.im_log.specs.declared.log_file.LogFile.{LogFile}
 use Rattle.im_theory_page.specs.PageFile.{page_count}
 use Rattle.im_page_pool.specs.Pool.{Held, PoolView, held_of}
 use Rattle.im_page_pool.specs.Pool as pools
-use Rattle.im_page_table.specs.declared.table_entry.TableEntry.{TableEntry}
-use Rattle.im_page_table.specs.DirtyTable.{is_changed}
+use Rattle.im_page_table.specs.DirtyTable.{TableView, is_changed}
 use Rattle.im_page_file.specs.Stands.{IsCovered, LeavesCovered}
 use Rattle.im_page_writer.specs.Writing.{lsn_for, IsShown, MayCopy, MayWriteHere, IsWriting, Goes, LeavesGrown, ImagesDurable, Flushed}
 use Rattle.im_page_file.proofs.Standing.{stands_read}
@@ -54,7 +53,7 @@ unchanged_here (Some h) x same is = by x.entry refl
 module _ {D : Type 0} (d : Ghosts D) (b : Base) (base : ℕ) where
   -- ---- reads
 
-  module _ (s : Writer) (log : LogFile) (table : List TableEntry) (pool : PoolView) (old new : D) (only_now : (c : Files) → d.left_since old (d.moment old) c → d.may_leave old c) (w : IsWriting d b base s log table pool old) (reads : Reads d old new) where
+  module _ (s : Writer) (log : LogFile) (table : TableView) (pool : PoolView) (old new : D) (only_now : (c : Files) → d.left_since old (d.moment old) c → d.may_leave old c) (w : IsWriting d b base s log table pool old) (reads : Reads d old new) where
     pub covered_read : LeavesCovered d b base s.durable s.log old new
     covered_read = reads_on d old old new (IsCovered b base s.durable s.log) (goes_start d b base s log table pool old only_now w).stops reads
 
@@ -71,13 +70,13 @@ module _ {D : Type 0} (d : Ghosts D) (b : Base) (base : ℕ) where
   -- ---- the parts
 
   -- each page whose Image is durable may be written
-  pub may_write : (s : Writer) (first last : ℕ) (lsns : List ℕ) (old : D) (log : LogFile) (table : List TableEntry) (pool : PoolView) (disk : D) (so : ImagesDurable d b base s first last lsns old log table pool disk)
+  pub may_write : (s : Writer) (first last : ℕ) (lsns : List ℕ) (old : D) (log : LogFile) (table : TableView) (pool : PoolView) (disk : D) (so : ImagesDurable d b base s first last lsns old log table pool disk)
       → ((q : ℕ) → first ≤ q → q ≤ last → MayCopy s pool q) → (q : ℕ) → first ≤ q → q ≤ last → MayWriteHere b so.now table pool q (lsn_for lsns (q - first))
   may_write s first last lsns old log table pool disk so all q low high =
       record { may = so.may q low high; entry = so.goes.writing.entries q; past = λ none. (so.goes.keeps.pages q).page ∙ (all q low high).past none }
 
   -- a flush behind other calls
-  pub flushed_then : (s t : Writer) (first last : ℕ) (old mid new : D) (log new_log : LogFile) (table new_table : List TableEntry) (pool new_pool : PoolView) → Goes d b base s old t log table pool mid
+  pub flushed_then : (s t : Writer) (first last : ℕ) (old mid new : D) (log new_log : LogFile) (table new_table : TableView) (pool new_pool : PoolView) → Goes d b base s old t log table pool mid
       → Flushed d b base t first last mid new_log new_table new_pool new → Flushed d b base s first last old new_log new_table new_pool new
   flushed_then s t first last old mid new log new_log table new_table pool new_pool goes done = record {
     now = done.now;
@@ -87,11 +86,11 @@ module _ {D : Type 0} (d : Ghosts D) (b : Base) (base : ℕ) where
   }
 
   -- the last page of a flush
-  pub flushed_last : (s : Writer) (first last : ℕ) (old : D) (log : LogFile) (table : List TableEntry) (pool : PoolView) (new : D) → first ≤ last → Flushed d b base s first last old log table pool new → Flushed d b base s last last old log table pool new
+  pub flushed_last : (s : Writer) (first last : ℕ) (old : D) (log : LogFile) (table : TableView) (pool : PoolView) (new : D) → first ≤ last → Flushed d b base s first last old log table pool new → Flushed d b base s last last old log table pool new
   flushed_last s first last old log table pool new order done = record { now = done.now; goes = done.goes; known = done.known; written = λ q low high. done.written q (omega (arith, order, low)) high }
 
   -- what a flush of a changed page asks holds: from it alone, or from the file's end up to it
-  pub may_flush : (s : Writer) (log : LogFile) (table : List TableEntry) (pool : PoolView) (disk : D) (first p : ℕ) → IsWriting d b base s log table pool disk → pools.is_changed pool p ≡ true
+  pub may_flush : (s : Writer) (log : LogFile) (table : TableView) (pool : PoolView) (disk : D) (first p : ℕ) → IsWriting d b base s log table pool disk → pools.is_changed pool p ≡ true
       → (first ≡ p) ⊎ (page_count (d.seen disk Pages) ≤ first) → (q : ℕ) → first ≤ q → q ≤ p → MayCopy s pool q
   may_flush s log table pool disk first p w changed place q low high =
       let is = changed_here (held_of pool p) (s.pages p) changed (w.pooled.shows p) in

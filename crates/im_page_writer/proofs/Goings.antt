@@ -13,8 +13,7 @@ use Rattle.im_theory_page.specs.Header.{initial}
 use Rattle.im_theory_page.specs.Page.{page_of}
 use Rattle.im_page_pool.specs.declared.frame.Frame.{Frame}
 use Rattle.im_page_pool.specs.Pool.{Held, PoolView, held_of, frame_of, page_at}
-use Rattle.im_page_table.specs.declared.table_entry.TableEntry.{TableEntry}
-use Rattle.im_page_table.specs.DirtyTable.{is_changed}
+use Rattle.im_page_table.specs.DirtyTable.{TableView, is_changed}
 use Rattle.im_page_file.specs.Stands.{LeavesCovered}
 use Rattle.im_page_table.specs.Growth.{with_image}
 use Rattle.im_page_file.specs.Images.{MayImage, Imaged}
@@ -70,13 +69,13 @@ found_page pool p frame x found is =
 
 module _ {D : Type 0} (d : Ghosts D) (b : Base) (base : ℕ) where
   -- before the first call
-  pub goes_start : (s : Writer) (log : LogFile) (table : List TableEntry) (pool : PoolView) (disk : D) → ((c : Files) → d.left_since disk (d.moment disk) c → d.may_leave disk c) → IsWriting d b base s log table pool disk
+  pub goes_start : (s : Writer) (log : LogFile) (table : TableView) (pool : PoolView) (disk : D) → ((c : Files) → d.left_since disk (d.moment disk) c → d.may_leave disk c) → IsWriting d b base s log table pool disk
       → Goes d b base s disk s log table pool disk
   goes_start s log table pool disk only_now w = record { writing = w; stops = (run_start d b base s log table disk w.stands only_now).stops; keeps = keeps_none b s }
 
-  module _ (s : Writer) (old : D) (t : Writer) (log : LogFile) (table : List TableEntry) (pool : PoolView) (mid : D) (one : Goes d b base s old t log table pool mid) where
+  module _ (s : Writer) (old : D) (t : Writer) (log : LogFile) (table : TableView) (pool : PoolView) (mid : D) (one : Goes d b base s old t log table pool mid) where
     -- a run after a run
-    pub goes_then : (u : Writer) (new_log : LogFile) (new_table : List TableEntry) (new_pool : PoolView) (new : D) → Goes d b base t mid u new_log new_table new_pool new → Goes d b base s old u new_log new_table new_pool new
+    pub goes_then : (u : Writer) (new_log : LogFile) (new_table : TableView) (new_pool : PoolView) (new : D) → Goes d b base t mid u new_log new_table new_pool new → Goes d b base s old u new_log new_table new_pool new
     goes_then u new_log new_table new_pool new two = record {
       writing = two.writing;
       stops = covered_then d b base s.durable t.log t.durable u.log old mid new one.stops two.stops one.keeps.durable (grown_front b t.log u.log two.keeps.log);
@@ -105,7 +104,7 @@ module _ {D : Type 0} (d : Ghosts D) (b : Base) (base : ℕ) where
 
   -- ---- an Image
 
-  module _ (s : Writer) (log : LogFile) (table : List TableEntry) (pool : PoolView) (old : D) (w : IsWriting d b base s log table pool old) (p : ℕ) (may : MayCopy s pool p) where
+  module _ (s : Writer) (log : LogFile) (table : TableView) (pool : PoolView) (old : D) (w : IsWriting d b base s log table pool old) (p : ℕ) (may : MayCopy s pool p) where
     pub may_image : (bytes : List ℕ) (page : Page) → page_of bytes ≡ Some page → page ≡ (s.pages p).page → MayImage s p bytes
     may_image bytes page is shown = record { ready = may.ready; page = is ∙ ap (λ (g : Page). Some g) shown; begun = λ going. may.begun }
 

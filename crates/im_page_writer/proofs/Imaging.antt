@@ -22,8 +22,7 @@ use Rattle.im_log.specs.LogFile.{IsLog, IsOpen}
 use Rattle.im_log_gate.specs.Header.{generation_of}
 use Rattle.im_log.specs.Kept.{SpellsEither}
 use Rattle.im_page_pool.specs.Pool.{PoolView}
-use Rattle.im_page_table.specs.declared.table_entry.TableEntry.{TableEntry}
-use Rattle.im_page_table.specs.DirtyTable.{IsCopied}
+use Rattle.im_page_table.specs.DirtyTable.{TableView, IsCopied}
 use Rattle.im_page_table.specs.Growth.{image_at, with_image, Keeps}
 use Rattle.im_page_writer.specs.Writing.{lsn_for, with_lsn, MayCopy, IsWriting, Goes, PageImaged, CopyDone, ImagesTo, ImagesDurable}
 use Rattle.im_page_file.proofs.Standing.{log_stops, stands_forced}
@@ -65,7 +64,7 @@ module _ (b : Base) (s : Writer) (p l : ℕ) (kept : WriterKept b s) (begun : s.
 
 -- ---- a page's full copy
 
-module _ {D : Type 0} (d : Ghosts D) (b : Base) (base : ℕ) (s : Writer) (p : ℕ) (table : List TableEntry) (pool : PoolView) (old : D) where
+module _ {D : Type 0} (d : Ghosts D) (b : Base) (base : ℕ) (s : Writer) (p : ℕ) (table : TableView) (pool : PoolView) (old : D) where
   -- an Image is one
   pub image_copies : (lsn : ℕ) (log : LogFile) (new : D) → WriterKept b s → MayCopy s pool p → PageImaged d b base s p lsn old log table pool new → CopyDone d b base s p lsn old log table pool new
   image_copies lsn log new kept asked done =
@@ -134,7 +133,7 @@ pub image_still : (b : Base) (s t : Writer) (pool : PoolView) (p : ℕ) → Keep
 image_still b s t pool p keeps may = record { ready = (keeps.pages p).waits ∙ may.ready; begun = begun_still b s t keeps may.begun; named = named_in p s.log t.log (grown_front b s.log t.log keeps.log) may.named; past = λ none. (keeps.pages p).page ∙ may.past none }
 
 module _ {D : Type 0} (d : Ghosts D) (b : Base) (base : ℕ) (s : Writer) (first : ℕ) (old : D) where
-  pub images_start : (log : LogFile) (table : List TableEntry) (pool : PoolView) → ((c : Files) → d.left_since old (d.moment old) c → d.may_leave old c) → IsWriting d b base s log table pool old
+  pub images_start : (log : LogFile) (table : TableView) (pool : PoolView) → ((c : Files) → d.left_since old (d.moment old) c → d.may_leave old c) → IsWriting d b base s log table pool old
       → ImagesTo d b base s first first [] old log table pool old
   images_start log table pool only_now w = record {
     now = s;
@@ -143,7 +142,7 @@ module _ {D : Type 0} (d : Ghosts D) (b : Base) (base : ℕ) (s : Writer) (first
     may = λ q low high. absurd (omega (arith, low, high));
   }
 
-  module _ (p : ℕ) (lsns : List ℕ) (log : LogFile) (table : List TableEntry) (pool : PoolView) (mid : D) (order : first ≤ p) (so : ImagesTo d b base s first p lsns old log table pool mid)
+  module _ (p : ℕ) (lsns : List ℕ) (log : LogFile) (table : TableView) (pool : PoolView) (mid : D) (order : first ≤ p) (so : ImagesTo d b base s first p lsns old log table pool mid)
       (lsn : ℕ) (new_log : LogFile) (new : D) (done : CopyDone d b base so.now p lsn mid new_log table pool new) (asked : MayCopy so.now pool p) where
     kept_now : WriterKept b done.now
     kept_now = done.goes.writing.stands.kept
@@ -186,7 +185,7 @@ module _ {D : Type 0} (d : Ghosts D) (b : Base) (base : ℕ) (s : Writer) (first
 
 -- ---- the force
 
-module _ {D : Type 0} (d : Ghosts D) (b : Base) (base : ℕ) (s : Writer) (log new_log : LogFile) (table : List TableEntry) (pool : PoolView) (old new : D) (w : IsWriting d b base s log table pool old) where
+module _ {D : Type 0} (d : Ghosts D) (b : Base) (base : ℕ) (s : Writer) (log new_log : LogFile) (table : TableView) (pool : PoolView) (old new : D) (w : IsWriting d b base s log table pool old) where
   -- The log is forced.
   pub goes_forced : IsLog d base s.log s.log new_log new → IsOpen d new_log new → ChangesOnly d Log old new → LeavesIn d Log old new (SpellsEither base s.durable s.log (d.seen old Log)) → generation_of (d.seen new Log) ≡ generation_of (d.seen old Log) → Goes d b base s old (forced s) new_log table pool new
   goes_forced log_is opened changes stops same = record {
@@ -196,7 +195,7 @@ module _ {D : Type 0} (d : Ghosts D) (b : Base) (base : ℕ) (s : Writer) (log n
   }
 
 -- Behind it each page of the range may be written.
-pub images_durable : {D : Type 0} (d : Ghosts D) (b : Base) (base : ℕ) (s : Writer) (first last : ℕ) (lsns : List ℕ) (old : D) (log new_log : LogFile) (table : List TableEntry) (pool : PoolView) (mid new : D)
+pub images_durable : {D : Type 0} (d : Ghosts D) (b : Base) (base : ℕ) (s : Writer) (first last : ℕ) (lsns : List ℕ) (old : D) (log new_log : LogFile) (table : TableView) (pool : PoolView) (mid new : D)
     → (so : ImagesTo d b base s first (last + 1) lsns old log table pool mid) → Goes d b base so.now mid (forced so.now) new_log table pool new → ImagesDurable d b base s first last lsns old new_log table pool new
 images_durable d b base s first last lsns old log new_log table pool mid new so goes = record {
   now = forced so.now;

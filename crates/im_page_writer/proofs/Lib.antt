@@ -24,6 +24,7 @@ pub mod Outcomes
 pub mod Checkpointing
 pub mod EarlyWrites
 pub mod FlushedRows
+pub mod Sized
 pub mod Switching
 mod Loans
 mod SameWriter

@@ -1,6 +1,6 @@
 -- Pages are lent, one after another, and taken back.
-use Rattle.std.proofs.Common.{◌≡◌, ◌≢◌, ◌⊎◌, inl, inr, ⊎_elim, ℕ, ◌+◌, ◌<◌, ◌≤◌, List, [], ◌∷◌, length, Bool, true, false, refl, sym, ◌∙◌, ap, subst, arith, Option, Some, None}
-use Rattle.std.specs.Prelude.{slice_index_or, option_map, is_some, nat_lt, ◌==◌, if◌then◌else◌, ◌||◌}
+use Rattle.std.proofs.Common.{◌≡◌, ◌≢◌, inl, inr, ℕ, ◌+◌, ◌<◌, ◌≤◌, List, [], ◌∷◌, length, Bool, true, false, refl, sym, ◌∙◌, ap, subst, arith, Option, Some, None}
+use Rattle.std.specs.Prelude.{slice_index_or, option_map, is_some, ◌==◌, if◌then◌else◌, ◌||◌}
 use Rattle.std.specs.Option.{option_map_or}
 use Rattle.std.proofs.lemmas.Bool.{cases_eq, cases_lt}
 use Rattle.im_base_types.specs.Pages.{Page}
@@ -11,7 +11,7 @@ use Rattle.im_theory_page.specs.Header.{initial}
 use Rattle.im_page_pool.specs.declared.frame.Frame.{Frame}
 use Rattle.im_page_pool.specs.Pool.{Held, Holds, PoolView, Sets, frame_of, held_of, is_changed, page_at}
 use Rattle.im_page_table.specs.declared.table_entry.TableEntry.{TableEntry}
-use Rattle.im_page_table.specs.DirtyTable.{dirty_entry, entry_in, put, table_entry}
+use Rattle.im_page_table.specs.DirtyTable.{TableView, dirty_entry, entry_in, put, put_among, table_entry}
 use Rattle.im_page_rounds.specs.declared.round_page.RoundPage.{RoundPage}
 use Rattle.im_page_rounds.specs.declared.worker.Worker.{Worker}
 use Rattle.im_page_rounds.specs.Hand.{AreRising, is_applied}
@@ -122,28 +122,27 @@ lent_held numbers page old new so i lt = ap (λ (o : Option Held). is_some o) (s
 
 -- ---- pages that come back
 
-put_most : (p : ℕ) (f : Option DirtyEntry → DirtyEntry) (xs : List TableEntry) → length (put p f xs) ≤ length xs + 1
+put_most : (p : ℕ) (f : Option DirtyEntry → DirtyEntry) (xs : List TableEntry) → length (put_among p f xs) ≤ length xs + 1
 put_most p f [] = omega arith
-put_most p f (x ∷ xs) = by (nat_lt x.page p) (x.page == p) (put_most p f xs)
+put_most p f (x ∷ xs) = by (x.page == p) (put_most p f xs)
   where
-    by : (low here : Bool) → length (put p f xs) ≤ length xs + 1 → length (if low then x ∷ put p f xs else (if here then table_entry p (f (Some (dirty_entry x))) ∷ xs else table_entry p (f None) ∷ x ∷ xs)) ≤ length (x ∷ xs) + 1
-    by true here le = omega (arith, le)
-    by false true le = omega arith
-    by false false le = omega arith
+    by : (here : Bool) → length (put_among p f xs) ≤ length xs + 1 → length (if here then table_entry p (f (Some (dirty_entry x))) ∷ xs else x ∷ put_among p f xs) ≤ length (x ∷ xs) + 1
+    by true le = omega arith
+    by false le = omega (arith, le)
 
 -- the table has one entry more at most
-pub entries_most : (p : ℕ) (f : Option DirtyEntry → DirtyEntry) (old new : List TableEntry) → new ≡ put p f old → length new ≤ length old + 1
-entries_most p f old new is = subst (λ (t : List TableEntry). length t ≤ length old + 1) (sym is) (put_most p f old)
+pub entries_most : (p : ℕ) (f : Option DirtyEntry → DirtyEntry) (old new : TableView) → new ≡ put p f old → length new.entries ≤ length old.entries + 1
+entries_most p f old new is = subst (λ (t : TableView). length t.entries ≤ length old.entries + 1) (sym is) (put_most p f old.entries)
 
 -- a page that is still to be taken back is held
-pub back_next : (numbers : List ℕ) (n point : ℕ) (known : ℕ → Bool) (page : ℕ → RoundPage) (old new : PoolView) (one two : List TableEntry) → AreRising numbers → n < length numbers → AreHeld numbers old → TakesBack numbers n point known page old new one two
+pub back_next : (numbers : List ℕ) (n point : ℕ) (known : ℕ → Bool) (page : ℕ → RoundPage) (old new : PoolView) (one two : TableView) → AreRising numbers → n < length numbers → AreHeld numbers old → TakesBack numbers n point known page old new one two
     → Holds new (slice_index_or numbers n 0)
 back_next numbers n point known page old new one two rising within held so = ap (λ (o : Option Held). is_some o) (so.others (slice_index_or numbers n 0) (other_before numbers n rising within)) ∙ held n within
 
-pub back_none : (numbers : List ℕ) (point : ℕ) (known : ℕ → Bool) (page : ℕ → RoundPage) (pool : PoolView) (table : List TableEntry) → TakesBack numbers 0 point known page pool pool table table
+pub back_none : (numbers : List ℕ) (point : ℕ) (known : ℕ → Bool) (page : ℕ → RoundPage) (pool : PoolView) (table : TableView) → TakesBack numbers 0 point known page pool pool table table
 back_none numbers point known page pool table = record { these = λ i was lt. absurd (omega (arith, lt)); others = λ q other. refl; entries = λ i lt. absurd (omega (arith, lt)); other_entries = λ q other. refl; frames = refl }
 
-module _ (numbers : List ℕ) (n point : ℕ) (known : ℕ → Bool) (page : ℕ → RoundPage) (x : RoundPage) (old mid new : PoolView) (one two three : List TableEntry) (rising : AreRising numbers) (within : n < length numbers)
+module _ (numbers : List ℕ) (n point : ℕ) (known : ℕ → Bool) (page : ℕ → RoundPage) (x : RoundPage) (old mid new : PoolView) (one two three : TableView) (rising : AreRising numbers) (within : n < length numbers)
     (so : TakesBack numbers n point known page old mid one two) (is : page n ≡ x)
     (back : (was : Held) → held_of mid (slice_index_or numbers n 0) ≡ Some was → IsBack was x new (slice_index_or numbers n 0))
     (others : (q : ℕ) → q ≢ slice_index_or numbers n 0 → held_of new q ≡ held_of mid q)
@@ -178,7 +177,7 @@ pub shown_here : (numbers : List ℕ) (pool : PoolView) → AreShown numbers poo
 shown_here numbers pool i h lt held = sym (held_page pool (slice_index_or numbers i 0) h held)
 
 -- lent, redone, and taken back
-pub round_back : (numbers : List ℕ) (point : ℕ) (known : ℕ → Bool) (rs : List Logged) (old new : PageWriter) (mid : PoolView) (table : List TableEntry) (lent redone : List Worker) (count : ℕ) → 0 < length lent
+pub round_back : (numbers : List ℕ) (point : ℕ) (known : ℕ → Bool) (rs : List Logged) (old new : PageWriter) (mid : PoolView) (table : TableView) (lent redone : List Worker) (count : ℕ) → 0 < length lent
     → ((w : Worker) (d : RoundPage) → LendsAll numbers (length numbers) (λ i. page_in lent i w d) old.pool mid) → AreRedone numbers rs (page_at old.pool) (λ q. false) count redone → table ≡ old.table
     → ((w : Worker) (d : RoundPage) → TakesBack numbers (length numbers) point known (λ i. page_in redone i w d) mid new.pool table new.table) → RoundHere numbers point known rs old new
 round_back numbers point known rs old new mid table lent redone count some lends done same back = record {
@@ -197,8 +196,8 @@ round_back numbers point known rs old new mid table lent redone count some lends
         now = (back w d).these i (record l.was { page = l.spare }) lt l.now
             ∙ ap (λ (g : Page). Some (record l.was { page = g; changed = l.was.changed || (page_in redone i w d).changed })) page
             ∙ ap (λ (c : Bool). Some (record l.was { page = redo_all rs p l.was.page; changed = l.was.changed || c })) changed;
-        entry = (back w d).entries i lt ∙ ap (λ (c : Bool). entry_after c (known p) point (entry_in table p)) changed ∙ ap (λ (t : List TableEntry). entry_after (is_applied rs p l.was.page) (known p) point (entry_in t p)) same;
+        entry = (back w d).entries i lt ∙ ap (λ (c : Bool). entry_after c (known p) point (entry_in table p)) changed ∙ ap (λ (t : TableView). entry_after (is_applied rs p l.was.page) (known p) point (entry_in t p)) same;
       };
   others = λ q other. let w : Worker = item_at lent 0 some in (back w (page_of w)).others q other ∙ (lends w (page_of w)).others q other;
-  other_entries = λ q other. let w : Worker = item_at lent 0 some in (back w (page_of w)).other_entries q other ∙ ap (λ (t : List TableEntry). entry_in t q) same;
+  other_entries = λ q other. let w : Worker = item_at lent 0 some in (back w (page_of w)).other_entries q other ∙ ap (λ (t : TableView). entry_in t q) same;
 }

@@ -51,9 +51,9 @@ again_here (Ok a) W P is = tt
 again_here (Err e) W P is = λ why. is
 
 -- a page that is held, and has room for its entry, is found
-pub found_room : {A : Type 0} (r : Result A Fault) (table : ℕ) (o : Option Held) → IfErr r (λ e. (e ≡ NotAStore) × ((table ≡ 1024) ⊎ (o ≡ None))) → table < 1024 → is_some o ≡ true → IfErr r (λ e. e ≢ NotAStore)
-found_room (Ok a) table o is room held = tt
-found_room (Err e) table o is room held = λ same. elim (is.1) [
+pub found_room : {A : Type 0} (r : Result A Fault) (table most : ℕ) (o : Option Held) → IfErr r (λ e. (e ≡ NotAStore) × ((table ≡ most) ⊎ (o ≡ None))) → table < most → is_some o ≡ true → IfErr r (λ e. e ≢ NotAStore)
+found_room (Ok a) table most o is room held = tt
+found_room (Err e) table most o is room held = λ same. elim (is.1) [
   | inl full ↦ omega (arith, full, room)
   | inr none ↦ let clash : false ≡ true = ap (λ (x : Option Held). is_some x) (sym none) ∙ held in cc clash
 ]

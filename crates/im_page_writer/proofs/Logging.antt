@@ -1,5 +1,5 @@
 -- A record that changes no page joins the log, after redo.
-use Rattle.std.proofs.Common.{◌≡◌, ℕ, ◌<◌, List, ◌∷◌, None, Some, refl, sym, ◌∙◌}
+use Rattle.std.proofs.Common.{◌≡◌, ℕ, ◌<◌, ◌∷◌, None, Some, refl, sym, ◌∙◌}
 use Rattle.im_base_types.specs.declared.file_id.FileId.TheVariants.{Log, Pages, Log2}
 use Rattle.im_theory_log.specs.Histories.{Base, end_of, page_at}
 use Rattle.im_theory_log.specs.Writer.{Writer}
@@ -18,7 +18,7 @@ use Rattle.im_log.specs.Spelled.{logged_at}
 use Rattle.im_log.specs.Whats.{what_of}
 use Rattle.im_log.specs.Kept.{Appended}
 use Rattle.im_page_pool.specs.Pool.{PoolView}
-use Rattle.im_page_table.specs.declared.table_entry.TableEntry.{TableEntry}
+use Rattle.im_page_table.specs.DirtyTable.{TableView}
 use Rattle.im_page_writer.specs.Writing.{IsWriting}
 use Rattle.im_page_writer.specs.PageWriter.{IsPlain}
 use Rattle.im_page_table.proofs.KnownCopies.{knows_grown, knows_joined}
@@ -26,7 +26,7 @@ use Rattle.im_page_file.proofs.OtherLog.{older_as, only_spared}
 use Rattle.im_page_file.proofs.PageFiles.{page_file_spared}
 use Rattle.im_page_writer.proofs.Goings.{pooled_same}
 
-module _ {D : Type 0} (d : Ghosts D) (b : Base) (base : ℕ) (s : Writer) (e : ℕ) (log new_log : LogFile) (table : List TableEntry) (pool : PoolView) (old new : D) (entry : Entry) (lsn : ℕ)
+module _ {D : Type 0} (d : Ghosts D) (b : Base) (base : ℕ) (s : Writer) (e : ℕ) (log new_log : LogFile) (table : TableView) (pool : PoolView) (old new : D) (entry : Entry) (lsn : ℕ)
     (w : IsWriting d b base s log table pool old) (over : s.redo_end ≡ Some e) (plain : IsPlain (what_of entry)) (done : Appended d base s.log s.durable entry lsn old new_log new) where
   pub logged_high : end_of b s.log < lsn
   logged_high = done.rises b w.based

@@ -1,5 +1,5 @@
 -- A full copy that the log has of a page is known from now on.
-use Rattle.std.proofs.Common.{◌≡◌, inl, inr, ℕ, ◌<◌, false, true, List, Option, None, Some, refl, sym, ◌∙◌, ap, subst, arith}
+use Rattle.std.proofs.Common.{◌≡◌, inl, inr, ℕ, ◌<◌, false, true, Option, None, Some, refl, sym, ◌∙◌, ap, subst, arith}
 use Rattle.std.specs.Prelude.{is_some, option_map}
 use Rattle.std.proofs.lemmas.Bool.{cases_eq}
 use Rattle.im_theory_log.specs.Histories.{Base, History}
@@ -11,8 +11,7 @@ use Rattle.im_theory_log.proofs.Histories.{front_self}
 use Rattle.im_base_disk.specs.declared.disk.Disk.{Ghosts}
 use Rattle.im_log.specs.declared.log_file.LogFile.{LogFile}
 use Rattle.im_page_pool.specs.Pool.{Held, PoolView, held_of}
-use Rattle.im_page_table.specs.declared.table_entry.TableEntry.{TableEntry}
-use Rattle.im_page_table.specs.DirtyTable.{entry_in, ChangesEntry, is_changed, HasEntries}
+use Rattle.im_page_table.specs.DirtyTable.{TableView, entry_in, ChangesEntry, is_changed, HasEntries}
 use Rattle.im_page_table.specs.Growth.{SamePage}
 use Rattle.im_page_table.specs.KnownCopies.{checkpoint_lsn, KnowsCopies}
 use Rattle.im_page_file.specs.PageFile.{IsPageFile}
@@ -69,7 +68,7 @@ noted_entry e lsn l since = ap (λ (o : Option ℕ). with_since o) (ap (first_si
     with_since : Option ℕ → DirtyEntry
     with_since o = record { rec_lsn = e.rec_lsn; since = o; copied = true }
 
-module _ (pages : ℕ → PageState) (p lsn l : ℕ) (e : DirtyEntry) (old new : List TableEntry) (has : HasEntries old pages) (is : entry_in old p ≡ Some e) (since : e.since ≡ Some l) (changes : ChangesEntry p (changed_entry true lsn) old new) where
+module _ (pages : ℕ → PageState) (p lsn l : ℕ) (e : DirtyEntry) (old new : TableView) (has : HasEntries old pages) (is : entry_in old p ≡ Some e) (since : e.since ≡ Some l) (changes : ChangesEntry p (changed_entry true lsn) old new) where
   pub entries_told : HasEntries new (only p told_state pages)
   entries_told q = elim (cases_eq p q) [
     | inl here ↦
@@ -144,7 +143,7 @@ module _ {D : Type 0} (d : Ghosts D) (b : Base) (base : ℕ) where
   }
 
   -- The copy that the log has of a changed page is known from now on.
-  pub goes_told : (s : Writer) (p lsn l : ℕ) (e : DirtyEntry) (old new_disk : D) (log : LogFile) (table new : List TableEntry) (pool : PoolView) → (done : CopyDone d b base s p lsn old log table pool new_disk)
+  pub goes_told : (s : Writer) (p lsn l : ℕ) (e : DirtyEntry) (old new_disk : D) (log : LogFile) (table new : TableView) (pool : PoolView) → (done : CopyDone d b base s p lsn old log table pool new_disk)
       → entry_in table p ≡ Some e → e.since ≡ Some l → ChangesEntry p (changed_entry true lsn) table new → Goes d b base s old (told_of p done.now) log new pool new_disk
   goes_told s p lsn l e old new_disk log table new pool done is since changes =
       let w = done.goes.writing in
@@ -172,7 +171,7 @@ module _ {D : Type 0} (d : Ghosts D) (b : Base) (base : ℕ) where
       }
 
   -- a page that the table says was changed may be copied
-  pub may_note : (s : Writer) (log : LogFile) (table : List TableEntry) (pool : PoolView) (disk : D) (p l : ℕ) (e : DirtyEntry) → IsWriting d b base s log table pool disk → entry_in table p ≡ Some e → e.since ≡ Some l → MayCopy s pool p
+  pub may_note : (s : Writer) (log : LogFile) (table : TableView) (pool : PoolView) (disk : D) (p l : ℕ) (e : DirtyEntry) → IsWriting d b base s log table pool disk → entry_in table p ≡ Some e → e.since ≡ Some l → MayCopy s pool p
   may_note s log table pool disk p l e w is since =
       let at = sym (w.entries p) ∙ is in
       let held = held_then (held_of pool p) (s.pages p) e l at since (w.pooled.shows p) in

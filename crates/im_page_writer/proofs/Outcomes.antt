@@ -1,5 +1,5 @@
 -- Calls over the writer of pages in a row, and how they end together.
-use Rattle.std.proofs.Common.{List, ◌≡◌, ◌≢◌, ◌⊎◌, inl, inr, ◌<◌, ◌^◌, ℕ, Bool, false, true, Option, None, Some, refl, sym, ◌∙◌, ap, subst, arith}
+use Rattle.std.proofs.Common.{◌≡◌, ◌≢◌, ◌⊎◌, inl, inr, ◌<◌, ◌^◌, ℕ, Bool, false, true, Option, None, Some, refl, sym, ◌∙◌, ap, subst, arith}
 use Rattle.std.specs.Prelude.{◌↔◌, Result, Ok, Err, MatchBool, not, is_ok, IsErrAnd, IfErr, IfOk, OnOk}
 use Rattle.im_base_types.specs.declared.fault.Fault.{Fault}
 use Rattle.im_base_types.specs.declared.fault.Fault.TheVariants.{Device, Failed, LogFull, Memory, NotAStore}
@@ -12,7 +12,7 @@ use Rattle.im_page_pool.specs.declared.frame.Frame.{Frame}
 use Rattle.im_page_pool.specs.Pool.{PoolView, held_of, page_at, IsAt}
 use Rattle.im_log.specs.declared.log_file.LogFile.{LogFile}
 use Rattle.im_log.specs.LogFile.{HasNoRoom, end_with}
-use Rattle.im_page_table.specs.declared.table_entry.TableEntry.{TableEntry}
+use Rattle.im_page_table.specs.DirtyTable.{TableView}
 use Rattle.im_page_writer.specs.declared.page_writer.PageWriter.{PageWriter}
 use Rattle.im_page_table.specs.Growth.{Keeps}
 use Rattle.im_page_writer.specs.Synced.{IsKnown}
@@ -543,7 +543,7 @@ module _ {D : Type 0} (d : Ghosts D) (only_now : (disk : D) (c : Files) → d.le
             known = subst (λ (known : Known). IsKnown s known) (sym known) is.known;
             goes = subst (λ (x : D). Goes d b base s old s w.log w.table w.pool x) (sym disk)
                 (subst (λ (x : PoolView). Goes d b base s old s w.log w.table x old) (sym pool)
-                (subst (λ (x : List TableEntry). Goes d b base s old s w.log x v.pool old) (sym table) (subst (λ (x : LogFile). Goes d b base s old s x v.table v.pool old) (sym log) start)));
+                (subst (λ (x : TableView). Goes d b base s old s w.log x v.pool old) (sym table) (subst (λ (x : LogFile). Goes d b base s old s x v.table v.pool old) (sym log) start)));
           };
         };
   }

@@ -20,8 +20,7 @@ use Rattle.im_theory_page.specs.PageFile.{file_page, page_count}
 use Rattle.im_theory_page.proofs.PageFileLemmas.{page_past}
 use Rattle.im_page_pool.specs.Pool.{Held, PoolView, held_of}
 use Rattle.im_page_pool.specs.Writes.{TearsPage, WritesPage}
-use Rattle.im_page_table.specs.declared.table_entry.TableEntry.{TableEntry}
-use Rattle.im_page_table.specs.DirtyTable.{entry_in, has_room, put, written_in, ChangesEntry, is_changed}
+use Rattle.im_page_table.specs.DirtyTable.{TableView, entry_in, has_room, put, written_in, ChangesEntry, is_changed}
 use Rattle.im_log_gate.specs.Header.{generation_of}
 use Rattle.im_page_file.proofs.OtherLog.{older_as, only_spared}
 use Rattle.im_page_file.specs.Stands.{LeavesCovered, Stands, Synced}
@@ -40,9 +39,9 @@ use Rattle.im_page_writer.proofs.Goings.{pool_shows}
 -- ---- the table
 
 -- the entries of the other pages stay
-pub others_written : (p l q : ℕ) (old new : List TableEntry) → new ≡ written_in p l old → (p ≡ q → ⊥) → entry_in new q ≡ entry_in old q
-others_written p l q old new is other = ap (λ (t : List TableEntry). entry_in t q) is ∙ elim (cases_Bool (has_room p old)) [
-  | inl room ↦ ap (λ (t : Bool). entry_in (if t then put p (written_entry l) old else old) q) room ∙ held_put_other (written_entry l) p q old other
+pub others_written : (p l q : ℕ) (old new : TableView) → new ≡ written_in p l old → (p ≡ q → ⊥) → entry_in new q ≡ entry_in old q
+others_written p l q old new is other = ap (λ (t : TableView). entry_in t q) is ∙ elim (cases_Bool (has_room p old)) [
+  | inl room ↦ ap (λ (t : Bool). entry_in (if t then put p (written_entry l) old else old) q) room ∙ held_put_other (written_entry l) p q old.entries other
   | inr full ↦ ap (λ (t : Bool). entry_in (if t then put p (written_entry l) old else old) q) full
 ]
 
@@ -123,7 +122,7 @@ synced_keeps b s = record { log = grows_none b s.log; durable = front_self s.dur
 
 -- ---- a write
 
-module _ {D : Type 0} (d : Ghosts D) (b : Base) (base : ℕ) (s : Writer) (log : LogFile) (table : List TableEntry) (pool : PoolView) (old : D) (st : Stands d b base s log table old) (pooled : IsPooled pool s.pages)
+module _ {D : Type 0} (d : Ghosts D) (b : Base) (base : ℕ) (s : Writer) (log : LogFile) (table : TableView) (pool : PoolView) (old : D) (st : Stands d b base s log table old) (pooled : IsPooled pool s.pages)
     (p l : ℕ) (may : MayPlace b s table pool p l) where
   page_is : pool_page pool p ≡ (s.pages p).page
   page_is = pool_shows (held_of pool p) p (s.pages p) (pooled.shows p) may.past
@@ -145,7 +144,7 @@ module _ {D : Type 0} (d : Ghosts D) (b : Base) (base : ℕ) (s : Writer) (log :
   ]
 
   -- behind it
-  pub placed : (new_table : List TableEntry) (new_pool : PoolView) (new : D) (entered : Bool) → WritesPage p (pool_page pool p) (d.seen old Pages) (d.seen new Pages)
+  pub placed : (new_table : TableView) (new_pool : PoolView) (new : D) (entered : Bool) → WritesPage p (pool_page pool p) (d.seen old Pages) (d.seen new Pages)
       → Follows (InFile Pages (TearsPage p)) (d.may_leave old) (d.may_leave new) → ChangesOnly d Pages old new → d.failed new ≡ false → Unmarks p pool new_pool
       → new_table ≡ written_in p l table → entered ≡ has_room p table → (entered ≡ true → ChangesEntry p (written_entry l) table new_table) → WrittenHere d b base s p l log table new_table new_pool new entered
   placed new_table new_pool new entered writes crash changes works un is room enters =
@@ -169,7 +168,7 @@ module _ {D : Type 0} (d : Ghosts D) (b : Base) (base : ℕ) (s : Writer) (log :
 -- ---- the range
 
 module _ {D : Type 0} (d : Ghosts D) (b : Base) (base : ℕ) (s : Writer) (first last : ℕ) (lsns : List ℕ) (old : D) (log : LogFile) where
-  pub writes_start : (table : List TableEntry) (pool : PoolView) → ((c : Files) → d.left_since old (d.moment old) c → d.may_leave old c) → IsWriting d b base s log table pool old → s.durable ≡ s.log
+  pub writes_start : (table : TableView) (pool : PoolView) → ((c : Files) → d.left_since old (d.moment old) c → d.may_leave old c) → IsWriting d b base s log table pool old → s.durable ≡ s.log
       → ((q : ℕ) → first ≤ q → q ≤ last → MayWriteHere b s table pool q (lsn_for lsns (q - first))) → WritesTo d b base s first first last lsns old log table pool old true
   writes_start table pool only_now w all may = record {
     now = s;
@@ -184,14 +183,14 @@ module _ {D : Type 0} (d : Ghosts D) (b : Base) (base : ℕ) (s : Writer) (first
   }
 
   -- a stop within the next call
-  pub writes_stop : (p : ℕ) (table : List TableEntry) (pool : PoolView) (mid : D) (entered : Bool) (so : WritesTo d b base s first p last lsns old log table pool mid entered) (new : D)
+  pub writes_stop : (p : ℕ) (table : TableView) (pool : PoolView) (mid : D) (entered : Bool) (so : WritesTo d b base s first p last lsns old log table pool mid entered) (new : D)
       → LeavesCovered d b base so.now.durable so.now.log mid new → LeavesCovered d b base s.durable s.log old new
   writes_stop p table pool mid entered so new stops = subst (λ (h : History). LeavesCovered d b base s.durable h old new) so.logs (run_stops d b base s.durable old so.now log table mid so.run new stops)
 
-  pub writes_left : (p : ℕ) (table : List TableEntry) (pool : PoolView) (mid : D) (entered : Bool) → WritesTo d b base s first p last lsns old log table pool mid entered → LeavesCovered d b base s.durable s.log old mid
+  pub writes_left : (p : ℕ) (table : TableView) (pool : PoolView) (mid : D) (entered : Bool) → WritesTo d b base s first p last lsns old log table pool mid entered → LeavesCovered d b base s.durable s.log old mid
   writes_left p table pool mid entered so = subst (λ (h : History). LeavesCovered d b base s.durable h old mid) so.logs so.run.stops
 
-  module _ (p : ℕ) (table : List TableEntry) (pool : PoolView) (mid : D) (so_entered : Bool) (within : p ≤ last) (order : first ≤ p) (so : WritesTo d b base s first p last lsns old log table pool mid so_entered) where
+  module _ (p : ℕ) (table : TableView) (pool : PoolView) (mid : D) (so_entered : Bool) (within : p ≤ last) (order : first ≤ p) (so : WritesTo d b base s first p last lsns old log table pool mid so_entered) where
     asked_here : MayWriteHere b so.now table pool p (lsn_for lsns (p - first))
     asked_here = so.may p (omega arith) within
 
@@ -199,7 +198,7 @@ module _ {D : Type 0} (d : Ghosts D) (b : Base) (base : ℕ) (s : Writer) (first
     asked = record { kept = written_kept b so.now p (lsn_for lsns (p - first)) so.run.stands.kept asked_here.may; ready = asked_here.may.ready; entry = asked_here.entry; past = asked_here.past }
 
     -- one page more
-    pub writes_more : (new_table : List TableEntry) (new_pool : PoolView) (new : D) (entered now_entered : Bool) → LeavesCovered d b base so.now.durable so.now.log mid new
+    pub writes_more : (new_table : TableView) (new_pool : PoolView) (new : D) (entered now_entered : Bool) → LeavesCovered d b base so.now.durable so.now.log mid new
         → WrittenHere d b base so.now p (lsn_for lsns (p - first)) log table new_table new_pool new entered → Unmarks p pool new_pool → new_table ≡ written_in p (lsn_for lsns (p - first)) table
         → (now_entered ≡ true → (so_entered ≡ true) × (entered ≡ true)) → WritesTo d b base s first (p + 1) last lsns old log new_table new_pool new now_entered
     writes_more new_table new_pool new entered now_entered stops done un is both = record {
@@ -235,7 +234,7 @@ module _ {D : Type 0} (d : Ghosts D) (b : Base) (base : ℕ) (s : Writer) (first
   -- ---- the end
 
   -- each page has its entry
-  pub writes_end : (table : List TableEntry) (pool : PoolView) (new : D) → b.start ≤ base → WritesTo d b base s first (last + 1) last lsns old log table pool new true → Flushed d b base s first last old log table pool new
+  pub writes_end : (table : TableView) (pool : PoolView) (new : D) → b.start ≤ base → WritesTo d b base s first (last + 1) last lsns old log table pool new true → Flushed d b base s first last old log table pool new
   writes_end table pool new based so = record {
     now = so.now;
     goes = record { writing = record { stands = so.run.stands; entries = so.entries refl; pooled = so.pooled; based = based }; stops = so.run.stops; keeps = so.keeps };
@@ -244,7 +243,7 @@ module _ {D : Type 0} (d : Ghosts D) (b : Base) (base : ℕ) (s : Writer) (first
   }
 
   -- one has none, and the file is synced
-  pub writes_sync : (table new_table : List TableEntry) (pool : PoolView) (mid new : D) (entered : Bool) → b.start ≤ base → (so : WritesTo d b base s first (last + 1) last lsns old log table pool mid entered)
+  pub writes_sync : (table new_table : TableView) (pool : PoolView) (mid new : D) (entered : Bool) → b.start ≤ base → (so : WritesTo d b base s first (last + 1) last lsns old log table pool mid entered)
       → Synced d b base so.now log new_table new → LeavesCovered d b base so.now.durable so.now.log mid new → Flushed d b base s first last old log new_table pool new
   writes_sync table new_table pool mid new entered based so done stops =
       let run = run_then d b base s.durable old so.now log table mid so.run (synced so.now) log new_table new done.stands stops (front_self so.now.durable) (front_self so.now.log) in
@@ -264,7 +263,7 @@ module _ {D : Type 0} (d : Ghosts D) (b : Base) (base : ℕ) (s : Writer) (first
 
 -- ---- a page alone, with no force
 
-module _ {D : Type 0} (d : Ghosts D) (b : Base) (base : ℕ) (s : Writer) (log : LogFile) (table new_table : List TableEntry) (pool new_pool : PoolView) (old new : D) (p : ℕ) where
+module _ {D : Type 0} (d : Ghosts D) (b : Base) (base : ℕ) (s : Writer) (log : LogFile) (table new_table : TableView) (pool new_pool : PoolView) (old new : D) (p : ℕ) where
   pub early_written : IsWriting d b base s log table pool old → MayPlaceEarly b s table pool p → LeavesCovered d b base s.durable s.log old new → (entered : Bool) → entered ≡ true
       → WrittenHere d b base s p 0 log table new_table new_pool new entered → Flushed d b base s p p old log new_table new_pool new
   early_written w may stops entered is done = record {
@@ -279,7 +278,7 @@ module _ {D : Type 0} (d : Ghosts D) (b : Base) (base : ℕ) (s : Writer) (log :
 -- ---- what a flush asks
 
 -- a page past the file's end that is not held is as before anything was put
-pub past_end : {D : Type 0} (d : Ghosts D) (b : Base) (base : ℕ) (s : Writer) (log : LogFile) (table : List TableEntry) (pool : PoolView) (disk : D) (q : ℕ) → IsWriting d b base s log table pool disk
+pub past_end : {D : Type 0} (d : Ghosts D) (b : Base) (base : ℕ) (s : Writer) (log : LogFile) (table : TableView) (pool : PoolView) (disk : D) (q : ℕ) → IsWriting d b base s log table pool disk
     → page_count (d.seen disk Pages) ≤ q → (s.pages q).waits ≡ false → held_of pool q ≡ None → (s.pages q).page ≡ initial q
 past_end d b base s log table pool disk q w past ready none =
     let still : IsWritten (s.pages q).entry = subst (λ (o : Option Held). IsShown o (s.pages q)) none (w.pooled.shows q) in

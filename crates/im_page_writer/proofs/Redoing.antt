@@ -1,5 +1,5 @@
 -- The steps of redo on a page: a noted copy loaded, and a record applied, each with its entry in the dirty table.
-use Rattle.std.proofs.Common.{◌≡◌, inl, inr, ◌⊎◌, ⊎_elim, length, ℕ, ◌<◌, ◌≤◌, true, false, List, Option, None, Some, refl, sym, ◌∙◌, ap, subst, arith}
+use Rattle.std.proofs.Common.{◌≡◌, inl, inr, ◌⊎◌, ⊎_elim, length, ℕ, ◌<◌, ◌≤◌, true, false, Option, None, Some, refl, sym, ◌∙◌, ap, subst, arith}
 use Rattle.std.specs.Prelude.{◌≢◌, is_some, Result, Ok, Err, IfErr}
 use Rattle.std.proofs.lemmas.Bool.{cases_eq}
 use Rattle.std.proofs.lemmas.Map.Entries.{length-keys_of}
@@ -16,8 +16,7 @@ use Rattle.im_base_disk.specs.declared.disk.Disk.{Ghosts}
 use Rattle.im_log.specs.declared.log_file.LogFile.{LogFile}
 use Rattle.im_page_pool.specs.declared.frame.Frame.{Frame}
 use Rattle.im_page_pool.specs.Pool.{Held, Holds, PoolView, held_of, page_at, Takes}
-use Rattle.im_page_table.specs.declared.table_entry.TableEntry.{TableEntry}
-use Rattle.im_page_table.specs.DirtyTable.{ChangesEntry, HasEntries}
+use Rattle.im_page_table.specs.DirtyTable.{TableView, ChangesEntry, HasEntries}
 use Rattle.im_page_writer.specs.Writing.{IsShown, IsPooled, IsWriting, SameHeld}
 use Rattle.im_page_writer.specs.declared.page_writer.PageWriter.{PageWriter}
 use Rattle.im_page_writer.specs.Redoing.{HasRooms, LoadedHere}
@@ -35,23 +34,23 @@ not_no_store (Ok a) Cause never is = tt
 not_no_store (Err e) Cause never (same, cause) = absurd (never cause)
 
 -- nor does want of room, where there is some
-pub has_rooms : (number : ℕ) (pool : PoolView) (table : List TableEntry) (C : Type 0) → HasRooms number pool table → (Holds pool number ⊎ C → ⊥) → Holds pool number ⊎ C ⊎ (length pool.held ≡ pool.frames) ⊎ (length table ≡ 1024) → ⊥
+pub has_rooms : (number : ℕ) (pool : PoolView) (table : TableView) (C : Type 0) → HasRooms number pool table → (Holds pool number ⊎ C → ⊥) → Holds pool number ⊎ C ⊎ (length pool.held ≡ pool.frames) ⊎ (length table.entries ≡ table.most) → ⊥
 has_rooms number pool table C rooms never (inl held) = never (inl held)
 has_rooms number pool table C rooms never (inr (inl none)) = never (inr none)
 has_rooms number pool table C rooms never (inr (inr (inl full))) = ⊎_elim (λ held. never (inl held)) (λ free. omega (arith, free, full)) rooms.frame
 has_rooms number pool table C rooms never (inr (inr (inr full))) = let entry = rooms.entry in omega (arith, entry, full)
 
-pub rooms_still : (number : ℕ) (old new : PoolView) (table : List TableEntry) → SameHeld old new → Holds old number ⊎ (length old.held < old.frames) → length table < 1024 → HasRooms number new table
+pub rooms_still : (number : ℕ) (old new : PoolView) (table : TableView) → SameHeld old new → Holds old number ⊎ (length old.held < old.frames) → length table.entries < table.most → HasRooms number new table
 rooms_still number old new table same room entry = record {
   frame = ⊎_elim (λ held. inl (same.held number ∙ held))
       (λ free. inr (let count : length new.held ≡ length old.held = sym (length-keys_of new.held) ∙ ap length same.order ∙ length-keys_of old.held in let frames = same.frames in omega (arith, free, count, frames))) room;
   entry = entry;
 }
 
-pub has_taker : (X : Type 0) (table : ℕ) (o : Option Held) → (X → ⊥) → table < 1024 → is_some o ≡ true → X ⊎ (table ≡ 1024) ⊎ (o ≡ None) → ⊥
-has_taker X table o never room held (inl lacks) = never lacks
-has_taker X table o never room held (inr (inl full)) = omega (arith, full, room)
-has_taker X table o never room held (inr (inr none)) = let clash : false ≡ true = ap (λ (x : Option Held). is_some x) (sym none) ∙ held in cc clash
+pub has_taker : (X : Type 0) (table most : ℕ) (o : Option Held) → (X → ⊥) → table < most → is_some o ≡ true → X ⊎ (table ≡ most) ⊎ (o ≡ None) → ⊥
+has_taker X table most o never room held (inl lacks) = never lacks
+has_taker X table most o never room held (inr (inl full)) = omega (arith, full, room)
+has_taker X table most o never room held (inr (inr none)) = let clash : false ≡ true = ap (λ (x : Option Held). is_some x) (sym none) ∙ held in cc clash
 
 -- one that fails the writer does not leave it working
 pub none_again : {A : Type 0} (r : Result A Fault) (P : Type 0) → IfErr r (λ e. (e ≡ Failed) ⊎ (e ≡ LogFull) ⊎ (e ≡ Device)) → IfErr r (λ e. (e ≡ Memory) ⊎ (e ≡ NotAStore) → P)
@@ -96,9 +95,9 @@ pooled_loaded pool new pages point p c frame is number takes low = record {
     under : (q : ℕ) → q ≤ p → (only p (loaded_page point c) pages q).waits ≡ false
     under q le = still q (λ ne. low q (omega (arith, le, ne)))
 
-module _ {D : Type 0} (d : Ghosts D) (b : Base) (base : ℕ) (s : Writer) (log : LogFile) (table : List TableEntry) (pool : PoolView) (disk : D) (w : IsWriting d b base s log table pool disk) (going : s.redo_end ≡ None) where
+module _ {D : Type 0} (d : Ghosts D) (b : Base) (base : ℕ) (s : Writer) (log : LogFile) (table : TableView) (pool : PoolView) (disk : D) (w : IsWriting d b base s log table pool disk) (going : s.redo_end ≡ None) where
   -- A noted copy is loaded, in place of the file's page.
-  pub loaded_by : (p l : ℕ) (c : Page) (frame : Frame) (new_table : List TableEntry) (new_pool : PoolView) → (s.pages p).waits ≡ true → (s.pages p).found ≡ Some (l, c) → ((q : ℕ) → q < p → (s.pages q).waits ≡ false)
+  pub loaded_by : (p l : ℕ) (c : Page) (frame : Frame) (new_table : TableView) (new_pool : PoolView) → (s.pages p).waits ≡ true → (s.pages p).found ≡ Some (l, c) → ((q : ℕ) → q < p → (s.pages q).waits ≡ false)
       → frame.number ≡ p → Takes frame c true pool new_pool → ChangesEntry p (λ o. at_point true s.point) table new_table → IsWriting d b base (loaded p c s) log new_table new_pool disk
   loaded_by p l c frame new_table new_pool waits found low number takes enters =
       let entries : HasEntries new_table (only p (loaded_page s.point c) s.pages) = entries_put (loaded_page s.point c) (λ o. at_point true s.point) s.pages p table new_table (λ x. refl) w.entries enters in
@@ -127,7 +126,7 @@ module _ {D : Type 0} (d : Ghosts D) (b : Base) (base : ℕ) (s : Writer) (log :
       subst (λ (x : LogFile). IsWriting d b base (loaded p c s) x new.table new.pool disk) (sym (same ∙ old_log))
       (loaded_by p l c here.frame new.table new.pool waits found low here.here
       (subst (λ (x : PoolView). Takes here.frame c true x new.pool) old_pool (subst (λ (g : Page). Takes here.frame g true old.pool new.pool) is here.takes))
-      (subst (λ (x : List TableEntry). ChangesEntry p (λ o. at_point true s.point) x new.table) old_table (subst (λ (n : ℕ). ChangesEntry p (λ o. at_point true n) old.table new.table) (sym at) here.entered)))
+      (subst (λ (x : TableView). ChangesEntry p (λ o. at_point true s.point) x new.table) old_table (subst (λ (n : ℕ). ChangesEntry p (λ o. at_point true n) old.table new.table) (sym at) here.entered)))
 
   -- a page that waits is not held, so the load is not refused as no store
   pub load_taken : (p l n : ℕ) (c : Page) (what : What) → copy_in l what ≡ Some c → (s.pages p).waits ≡ true → n ≡ p → Holds pool n ⊎ (copy_in l what ≡ None) → ⊥

@@ -1,5 +1,5 @@
 -- Redo goes past a record: it changes its page, or every page stays.
-use Rattle.std.proofs.Common.{◌≡◌, ◌≢◌, ◌||◌, inl, inr, ℕ, ◌<◌, ◌≤◌, true, false, Bool, List, ◌∷◌, ◌++◌, Option, None, Some, refl, sym, ◌∙◌, ap, subst, append_assoc, arith}
+use Rattle.std.proofs.Common.{◌≡◌, ◌≢◌, ◌||◌, inl, inr, ℕ, ◌<◌, ◌≤◌, true, false, Bool, ◌∷◌, ◌++◌, Option, None, Some, refl, sym, ◌∙◌, ap, subst, append_assoc, arith}
 use Rattle.std.specs.Prelude.{IsSome, is_some, Result, Ok, Err, IfErr, IfOk, OnOk, if◌then◌else◌, ◌==◌, nat_le}
 use Rattle.std.specs.Option.{option_map_or}
 use Rattle.std.proofs.lemmas.Bool.{cases_Bool, cases_eq, cond-true, cond-false, eq-eqb, ne_eqb, lt-leb, le-leb}
@@ -19,9 +19,8 @@ use Rattle.im_log.specs.declared.log_file.LogFile.{LogFile}
 use Rattle.im_theory_page.specs.Header.{initial}
 use Rattle.im_page_pool.specs.declared.frame.Frame.{Frame}
 use Rattle.im_page_pool.specs.Pool.{Held, PoolView, held_of, page_at, Sets}
-use Rattle.im_page_table.specs.declared.table_entry.TableEntry.{TableEntry}
 use Rattle.im_page_writer.specs.declared.page_writer.PageWriter.{PageWriter}
-use Rattle.im_page_table.specs.DirtyTable.{ChangesEntry, HasEntries}
+use Rattle.im_page_table.specs.DirtyTable.{TableView, ChangesEntry, HasEntries}
 use Rattle.im_page_table.specs.Growth.{Keeps}
 use Rattle.im_page_writer.specs.Writing.{IsShown, IsPooled, IsWriting, Goes}
 use Rattle.im_page_table.specs.KnownCopies.{every_page, redone_as, redone_page_as}
@@ -120,9 +119,9 @@ module _ (known : Bool) (point : ℕ) (r : Logged) (pages : ℕ → PageState) (
 
 -- ---- the whole
 
-module _ {D : Type 0} (d : Ghosts D) (b : Base) (base : ℕ) (s : Writer) (log : LogFile) (table : List TableEntry) (pool : PoolView) (disk : D) (w : IsWriting d b base s log table pool disk) (going : s.redo_end ≡ None)
+module _ {D : Type 0} (d : Ghosts D) (b : Base) (base : ℕ) (s : Writer) (log : LogFile) (table : TableView) (pool : PoolView) (disk : D) (w : IsWriting d b base s log table pool disk) (going : s.redo_end ≡ None)
     (r : Logged) (newer older : History) (at : newer ++ r ∷ older ≡ s.durable) (from : s.point ≤ r.lsn) (ready : (p : ℕ) → ((s.pages p).waits ≡ false) × (end_of b older < (s.pages p).upto)) where
-  writing_redone : (known : Bool) → (known ≡ true → HasCopy s.durable r.page s.point) → (new_table : List TableEntry) (new_pool : PoolView) → HasEntries new_table (redone_as known r s).pages → IsPooled new_pool (redone_as known r s).pages
+  writing_redone : (known : Bool) → (known ≡ true → HasCopy s.durable r.page s.point) → (new_table : TableView) (new_pool : PoolView) → HasEntries new_table (redone_as known r s).pages → IsPooled new_pool (redone_as known r s).pages
       → IsWriting d b base (redone_as known r s) log new_table new_pool disk
   writing_redone known has new_table new_pool entries pooled = record {
     stands = record {
@@ -155,7 +154,7 @@ module _ {D : Type 0} (d : Ghosts D) (b : Base) (base : ℕ) (s : Writer) (log :
       writing_redone known has table pool (λ q. w.entries q ∙ sym (entry q))
       (pooled_same pool s.pages (redone_as known r s).pages (λ q. page_stays r q (s.pages q).page (none q)) entry (λ q. refl) w.pooled)
 
-  pub redone_by : (known : Bool) → (known ≡ true → HasCopy s.durable r.page s.point) → (frame : Frame) (new_table : List TableEntry) (new_pool : PoolView) → frame.number ≡ r.page → is_some (held_of pool frame.number) ≡ true → (s.pages r.page).page.lsn < r.lsn → changes_page r.what ≡ true
+  pub redone_by : (known : Bool) → (known ≡ true → HasCopy s.durable r.page s.point) → (frame : Frame) (new_table : TableView) (new_pool : PoolView) → frame.number ≡ r.page → is_some (held_of pool frame.number) ≡ true → (s.pages r.page).page.lsn < r.lsn → changes_page r.what ≡ true
       → Sets frame (page_after r.lsn r.what (s.pages frame.number).page) true pool new_pool → ChangesEntry r.page (λ o. at_point (known || is_copied o) s.point) table new_table → IsWriting d b base (redone_as known r s) log new_table new_pool disk
   redone_by known has frame new_table new_pool here held lt changes sets enters =
       let f = applied_page known s.point r in
@@ -177,12 +176,12 @@ module _ {D : Type 0} (d : Ghosts D) (b : Base) (base : ℕ) (s : Writer) (log :
       subst (λ (x : PoolView). Sets here.frame (page_after r.lsn r.what (s.pages here.frame.number).page) true x new.pool) same_pool
       (subst (λ (g : Page). Sets here.frame (page_after r.lsn r.what g) true old.pool new.pool) shows (here.applied.set refl)) in
       let enters : ChangesEntry r.page (λ o. at_point (known || is_copied o) s.point) table new.table =
-      subst (λ (x : List TableEntry). ChangesEntry r.page (λ o. at_point (known || is_copied o) s.point) x new.table) same_table
+      subst (λ (x : TableView). ChangesEntry r.page (λ o. at_point (known || is_copied o) s.point) x new.table) same_table
       (subst (λ (k : ℕ). ChangesEntry r.page (λ o. at_point (known || is_copied o) k) old.table new.table) (sym same_point) (subst (λ (k : ℕ). ChangesEntry k (λ o. at_point (known || is_copied o) point) old.table new.table) number (here.entered refl))) in
       subst (λ (x : LogFile). IsWriting d b base (redone_as known r s) x new.table new.pool disk) (sym same_log) (redone_by known has here.frame new.table new.pool at_r held lt (sym here.applied.changes) sets enters)
   redone_here known has point n false new_log old new same_table same_pool same_point number lt same_log here =
       subst (λ (x : LogFile). IsWriting d b base (redone_as known r s) x new.table new.pool disk) (sym same_log)
-      (subst (λ (x : List TableEntry). IsWriting d b base (redone_as known r s) log x new.pool disk) (sym (here.same refl ∙ same_table))
+      (subst (λ (x : TableView). IsWriting d b base (redone_as known r s) log x new.pool disk) (sym (here.same refl ∙ same_table))
       (subst (λ (x : PoolView). IsWriting d b base (redone_as known r s) log table x disk) (sym (here.applied.same refl ∙ same_pool)) (unchanged_as known has (λ q. applies_none r q (s.pages q).page (sym here.applied.changes)))))
 
 -- ---- what a call answers
@@ -205,7 +204,7 @@ taker_there r pool n x number shown lt takes lacks = lacks.lacks (subst (λ (g :
 
 -- ---- behind other calls
 
-module _ {D : Type 0} (d : Ghosts D) (b : Base) (base : ℕ) (s : Writer) (r : Logged) (old : D) (t : Writer) (log : LogFile) (table : List TableEntry) (pool : PoolView) (mid : D) (goes : Goes d b base s old t log table pool mid) where
+module _ {D : Type 0} (d : Ghosts D) (b : Base) (base : ℕ) (s : Writer) (r : Logged) (old : D) (t : Writer) (log : LogFile) (table : TableView) (pool : PoolView) (mid : D) (goes : Goes d b base s old t log table pool mid) where
   pub redo_kept_then : (w : PageWriter) (disk : D) (result : Result Bool Fault) → RedoKept d b base t r mid w disk result → RedoKept d b base s r old w disk result
   redo_kept_then w disk result kept =
       let same : (t.pages r.page).page ≡ (s.pages r.page).page = (goes.keeps.pages r.page).page in

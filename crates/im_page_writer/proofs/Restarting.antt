@@ -14,6 +14,7 @@ use Rattle.im_log.specs.LogFile.{IsOpen, IsLog}
 use Rattle.im_theory_page.specs.PageFile.{file_page}
 use Rattle.im_page_pool.specs.Pool.{PoolView}
 use Rattle.im_page_table.specs.declared.table_entry.TableEntry.{TableEntry}
+use Rattle.im_page_table.specs.DirtyTable.{entry_among}
 use Rattle.im_page_writer.specs.declared.page_writer.PageWriter.{PageWriter}
 use Rattle.im_page_writer.specs.Writing.{IsPooled, IsWriting}
 use Rattle.im_page_writer.specs.PageWriter.{StandsAs}
@@ -41,17 +42,16 @@ pooled_none frames gets pages none = record {
 module _ {D : Type 0} (d : Ghosts D) (b : Base) (base : ℕ) where
   -- A new writer over an opened log, on a disk that is synced, whose file of pages the log covers.
   pub writer_opens : (all : History) (w : PageWriter) (frames : ℕ) (disk : D) → b.start ≤ base → Rises b all → Covers b all (file_page (d.seen disk Pages)) → IsOpen d w.log disk → IsLog d base all all w.log disk
-      → Only Pages (d.seen disk) (d.may_leave disk) → Only Log2 (d.seen disk) (d.may_leave disk) → IsOlder b (d.seen disk) → w.pool ≡ record { held = []; frames = frames; gets = 0 } → w.table ≡ [] → w.failed ≡ false → w.known.from ≡ None → AreSyncedWith all (redo_point all) w.known.synced → StandsAs d b base (opened b all (file_page (d.seen disk Pages))) w disk
+      → Only Pages (d.seen disk) (d.may_leave disk) → Only Log2 (d.seen disk) (d.may_leave disk) → IsOlder b (d.seen disk) → w.pool ≡ record { held = []; frames = frames; gets = 0 } → w.table.entries ≡ [] → w.failed ≡ false → w.known.from ≡ None → AreSyncedWith all (redo_point all) w.known.synced → StandsAs d b base (opened b all (file_page (d.seen disk Pages))) w disk
   writer_opens all w frames disk based up covered ready log_is synced other older pool table working unknown expected = record {
     working = working;
     known = record { from = subst (λ (from : Option ℕ). IsKnownFrom (opened b all (file_page (d.seen disk Pages))) from) (sym unknown) tt; synced = expected; copies = λ none. durable_redoing (opened b all (file_page (d.seen disk Pages))) refl };
-    writing = subst (λ (x : PoolView). IsWriting d b base (opened b all (file_page (d.seen disk Pages))) w.log w.table x disk) (sym pool)
-        (subst (λ (x : List TableEntry). IsWriting d b base (opened b all (file_page (d.seen disk Pages))) w.log x (record { held = []; frames = frames; gets = 0 }) disk) (sym table) (record {
-          stands = stands_opened d b base all w.log disk up covered ready log_is synced other older;
-          entries = λ p. refl;
-          pooled = pooled_none frames 0 (opened b all (file_page (d.seen disk Pages))).pages (λ p. refl);
-          based = based;
-        }));
+    writing = subst (λ (x : PoolView). IsWriting d b base (opened b all (file_page (d.seen disk Pages))) w.log w.table x disk) (sym pool) (record {
+      stands = stands_opened d b base all w.log w.table disk table up covered ready log_is synced other older;
+      entries = λ p. ap (λ (xs : List TableEntry). entry_among xs p) table;
+      pooled = pooled_none frames 0 (opened b all (file_page (d.seen disk Pages))).pages (λ p. refl);
+      based = based;
+    });
   }
 
   module _ (s : Writer) (w : PageWriter) (disk : D) (is : StandsAs d b base s w disk) (going : s.redo_end ≡ None) where

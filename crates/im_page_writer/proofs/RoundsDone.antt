@@ -1,6 +1,6 @@
 -- A round is done: the writer stands as its records in turn make it.
-use Rattle.std.proofs.Common.{◌≡◌, ◌≢◌, ◌⊎◌, inl, inr, ⊎_elim, ℕ, suc, zero, ◌+◌, ◌<◌, ◌≤◌, List, [], ◌∷◌, ◌++◌, length, Bool, true, false, not, refl, sym, ◌∙◌, ap, subst, arith, Option, None, Some, append_assoc}
-use Rattle.std.specs.Prelude.{slice_index_or, if◌then◌else◌, ◌==◌, ◌||◌, is_some}
+use Rattle.std.proofs.Common.{◌≡◌, ◌≢◌, ◌⊎◌, inl, inr, ℕ, suc, zero, ◌<◌, ◌≤◌, List, [], ◌∷◌, ◌++◌, length, Bool, true, false, not, refl, sym, ◌∙◌, ap, subst, arith, Option, None, Some, append_assoc}
+use Rattle.std.specs.Prelude.{slice_index_or, if◌then◌else◌, ◌==◌, ◌||◌}
 use Rattle.std.proofs.Math.Bool.{or-false}
 use Rattle.std.proofs.lemmas.Bool.{cases_eq, ne_eqb}
 use Rattle.im_base_types.specs.Pages.{Page}
@@ -10,10 +10,8 @@ use Rattle.im_theory_log.specs.Copies.{HasCopy, onto, redo_all, redo_one}
 use Rattle.im_theory_log.specs.Writer.{DirtyEntry, PageKept, PageState, Writer, WriterKept}
 use Rattle.im_theory_log.specs.WriterSteps.{at_point, is_copied}
 use Rattle.im_base_disk.specs.declared.disk.Disk.{Ghosts}
-use Rattle.im_log.specs.declared.log_file.LogFile.{LogFile}
 use Rattle.im_page_pool.specs.Pool.{Held, PoolView, held_of}
-use Rattle.im_page_table.specs.declared.table_entry.TableEntry.{TableEntry}
-use Rattle.im_page_table.specs.DirtyTable.{HasEntries, entry_in, is_changed}
+use Rattle.im_page_table.specs.DirtyTable.{TableView, HasEntries, entry_in, is_changed}
 use Rattle.im_page_table.specs.Growth.{Keeps}
 use Rattle.im_page_table.specs.KnownCopies.{redone_as, redone_page_as}
 use Rattle.im_page_table.proofs.KnownCopies.{knows_redoing, redo_copy}
@@ -150,7 +148,7 @@ module _ {D : Type 0} (d : Ghosts D) (b : Base) (base : ℕ) (s : Writer) (old :
           ∙ ap (λ (n : ℕ). if n == 0 then (s.pages p).entry else Some (at_point (known p || is_copied (s.pages p).entry) s.point)) (part_count who rs own are p (s.pages p).page is)
       by false is = sym (zero_same (applied_to own p (s.pages p).page) (s.pages p).entry _ (own_records.none own p (s.pages p).page (are.others p is)).1)
 
-  writing_round : (table : List TableEntry) (pool : PoolView) → HasEntries table t.pages → IsPooled pool t.pages → IsWriting d b base t old.log table pool disk
+  writing_round : (table : TableView) (pool : PoolView) → HasEntries table t.pages → IsPooled pool t.pages → IsWriting d b base t old.log table pool disk
   writing_round table pool entries pooled =
       let leaves = round_leaves known rs s in
       let all : WriterKept b (record s { pages = (redone_all known rs s).pages }) = subst (λ (x : Writer). WriterKept b x) (pages_alone known rs s) (rounds_kept b s newer front rs known w.stands.kept going at from had (λ p yes. redo_copy b s p w.stands.kept going (has p yes))).kept in

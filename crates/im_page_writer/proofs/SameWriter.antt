@@ -1,14 +1,14 @@
 -- A writer that differs from another only in what its pages are not read from.
-use Rattle.std.proofs.Common.{◌≡◌, ℕ, List, Bool, Option, None, Some, sym, ◌∙◌, ap, subst}
+use Rattle.std.proofs.Common.{◌≡◌, ℕ, Bool, Option, None, Some, sym, ◌∙◌, ap, subst}
 use Rattle.im_base_types.specs.declared.fault.Fault.{Fault}
 use Rattle.im_base_types.specs.declared.fault.Fault.TheVariants.{Device, Failed, LogFull}
 use Rattle.im_theory_log.specs.Histories.{Base}
 use Rattle.im_theory_log.specs.Writer.{Writer}
 use Rattle.im_base_disk.specs.declared.disk.Disk.{Ghosts}
 use Rattle.im_log.specs.declared.log_file.LogFile.{LogFile}
+use Rattle.im_page_table.specs.DirtyTable.{TableView}
 use Rattle.im_page_file.specs.LogEnds.{EndsNoSooner}
 use Rattle.im_page_pool.specs.Pool.{PoolView}
-use Rattle.im_page_table.specs.declared.table_entry.TableEntry.{TableEntry}
 use Rattle.im_page_writer.specs.declared.page_writer.PageWriter.{PageWriter}
 use Rattle.im_page_writer.specs.declared.known.Known.{Known}
 use Rattle.im_page_writer.specs.Outcome.{Breaks, Ends, Outcome, Stays}
@@ -22,7 +22,7 @@ module _ {D : Type 0} (d : Ghosts D) (v u : PageWriter) (old : D) (failed : u.fa
     working = failed ∙ is.working;
     known = subst (λ (x : Known). IsKnown s x) (sym known) is.known;
     writing = subst (λ (x : PoolView). IsWriting d b base s u.log u.table x old) (sym pool)
-        (subst (λ (x : List TableEntry). IsWriting d b base s u.log x v.pool old) (sym table) (subst (λ (x : LogFile). IsWriting d b base s x v.table v.pool old) (sym log) is.writing));
+        (subst (λ (x : TableView). IsWriting d b base s u.log x v.pool old) (sym table) (subst (λ (x : LogFile). IsWriting d b base s x v.table v.pool old) (sym log) is.writing));
   }
 
   module _ (asks : Writer → Type 0) (m : Fault → Bool) (w : PageWriter) (new : D) where

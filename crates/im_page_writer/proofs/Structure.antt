@@ -1,9 +1,9 @@
 -- A structure change joins the log, after redo: its page is the one after, and enters the dirty table.
-use Rattle.std.proofs.Common.{◌≡◌, Bor, ◌⊎◌, inr, ℕ, true, false, List, ◌∷◌, Option, None, Some, refl, sym, ◌∙◌, ap, subst, Bool}
+use Rattle.std.proofs.Common.{◌≡◌, Bor, ℕ, true, false, List, ◌∷◌, Option, None, Some, refl, sym, ◌∙◌, ap, subst, Bool}
 use Rattle.std.specs.Prelude.{is_some, Result, Ok, Err, IfErr, ◌≢◌, ◌==◌}
 use Rattle.std.proofs.lemmas.Bool.{cond-true, eq-eqb}
 use Rattle.im_base_types.specs.declared.fault.Fault.{Fault}
-use Rattle.im_base_types.specs.declared.fault.Fault.TheVariants.{Device, Failed, LogFull, NotAStore}
+use Rattle.im_base_types.specs.declared.fault.Fault.TheVariants.{NotAStore}
 use Rattle.im_base_types.specs.declared.file_id.FileId.TheVariants.{Log}
 use Rattle.im_base_types.specs.Pages.{Body, Page}
 use Rattle.im_base_types.specs.Records.{What, InsertKey, DeleteKey, UndoInsert, UndoDelete, Smo, UndoSmo, DummyClr, Commit, End, Image, Checkpoint, Unreadable}
@@ -28,10 +28,9 @@ use Rattle.im_log.specs.Whats.{image_of, what_of}
 use Rattle.im_log.specs.Kept.{Appended}
 use Rattle.im_page_pool.specs.declared.frame.Frame.{Frame}
 use Rattle.im_page_pool.specs.Pool.{PoolView, held_of, Sets}
-use Rattle.im_page_table.specs.declared.table_entry.TableEntry.{TableEntry}
 use Rattle.im_page_writer.specs.declared.page_writer.PageWriter.{PageWriter}
 use Rattle.im_page_writer.specs.PageWriter.{StandsAs, GoesOn, Evicted}
-use Rattle.im_page_table.specs.DirtyTable.{ChangesEntry}
+use Rattle.im_page_table.specs.DirtyTable.{TableView, ChangesEntry}
 use Rattle.im_page_file.specs.PageCopy.{after_in}
 use Rattle.im_page_file.specs.Stands.{LeavesCovered}
 use Rattle.im_page_writer.specs.Writing.{IsWriting}
@@ -96,7 +95,7 @@ module _ {D : Type 0} (d : Ghosts D) (b : Base) (base : ℕ) where
 
 -- ---- the step
 
-module _ {D : Type 0} (d : Ghosts D) (b : Base) (base : ℕ) (s : Writer) (e : ℕ) (log new_log : LogFile) (table new_table : List TableEntry) (pool new_pool : PoolView) (old new : D) (entry : Entry) (lsn : ℕ) (frame : Frame)
+module _ {D : Type 0} (d : Ghosts D) (b : Base) (base : ℕ) (s : Writer) (e : ℕ) (log new_log : LogFile) (table new_table : TableView) (pool new_pool : PoolView) (old new : D) (entry : Entry) (lsn : ℕ) (frame : Frame)
     (w : IsWriting d b base s log table pool old) (over : s.redo_end ≡ Some e) (body : Body) (after : after_in (what_of entry) ≡ Some body) (done : Appended d base s.log s.durable entry lsn old new_log new) (here : page_of entry ≡ frame.number) where
   leaves : LeavesBody lsn (what_of entry) body
   leaves = leaves_body lsn (what_of entry) body after

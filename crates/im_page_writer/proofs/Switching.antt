@@ -41,8 +41,7 @@ use Rattle.im_log.specs.Switching.{LogSwitchKept, HasEither, IsKeptOrUnmade, Wen
 use Rattle.im_log.proofs.Above.{front_then}
 use Rattle.im_log.proofs.Switching.{named_weakened}
 use Rattle.im_theory_page.specs.PageFile.{file_page}
-use Rattle.im_page_table.specs.declared.table_entry.TableEntry.{TableEntry}
-use Rattle.im_page_table.specs.DirtyTable.{entry_in, HasEntries, IsTied}
+use Rattle.im_page_table.specs.DirtyTable.{TableView, entry_in, HasEntries, IsTied}
 use Rattle.im_page_table.proofs.Growing.{grows_none, grows_then, keeps_none, keeps_then, on_ok}
 use Rattle.im_page_file.specs.OtherLog.{IsOlder, LeftSays}
 use Rattle.im_page_file.specs.PageFile.{KeepsSynced}
@@ -286,7 +285,7 @@ module _ {D : Type 0} (d : Ghosts D) (b : Base) (base : ℕ) where
               reads = λ p. ap (λ (bytes : List ℕ). file_page bytes p) went.pages ∙ st.file.reads p;
               leaves = λ c left p still. ap (λ (bytes : List ℕ). file_page bytes p) (went.durable Pages c left ∙ went.pages) ∙ keeps_synced p still;
             };
-            tied = subst (λ (t : List TableEntry). (p : ℕ) → IsTied (entry_in t p) (s.pages p).entry) (sym table) st.tied;
+            tied = subst (λ (t : TableView). (p : ℕ) → IsTied (entry_in t p) (s.pages p).entry) (sym table) st.tied;
             copies = record {
               copies = λ q ended p fresh past. absurd (
                   let low : (page_at b s.log p).lsn ≤ start = lsns_low b s.log start st.kept.rises end_under p in
@@ -302,7 +301,7 @@ module _ {D : Type 0} (d : Ghosts D) (b : Base) (base : ℕ) where
               left = subst (LeftSays (base_after b s.log start)) (sym went.before) left_log;
             };
           };
-          entries = subst (λ (t : List TableEntry). HasEntries t s.pages) (sym table) is.writing.entries;
+          entries = subst (λ (t : TableView). HasEntries t s.pages) (sym table) is.writing.entries;
           pooled = subst (λ (v : PoolView). IsPooled v (switched start s).pages) (sym pool) (pooled_same w.pool s.pages (switched start s).pages (λ q. refl) (λ q. refl) (λ q. refl) is.writing.pooled);
           based = omega arith;
         };
@@ -366,7 +365,7 @@ module _ {D : Type 0} (d : Ghosts D) where
       refused_from (Err e) last works is = refuses_from e (subst (λ (x : Bool). RefusesSwitch d x log new e) works is)
 
   -- the other log is not made
-  pub turn_refuses : (broken : Bool) (log now : LogFile) (new : D) (f : Fault) → log.used ≡ 0 → log.failed ≡ false → (f ≡ Failed) ⊎ (f ≡ LogFull) ⊎ (f ≡ Capacity) ⊎ (f ≡ Device)
+  pub turn_refuses : (broken : Bool) (log now : LogFile) (new : D) (f : Fault) → log.used ≡ 0 → log.failed ≡ false → (f ≡ Failed) ⊎ ((f ≡ LogFull) ⊎ (f ≡ Capacity)) ⊎ (f ≡ Device)
       → (refusal f ≡ Err LogFull) ↔ ((log.failed ≡ false) × (2 ^ 62 < log.base + place_of log.gate + 47))
       → (refusal f ≡ Err Capacity) ↔ ((log.failed ≡ false) × (log.base + place_of log.gate + 47 ≤ 2 ^ 62) × (2 ^ 62 ≤ generation_at log.gate + 1))
       → (refusal f ≡ Err Failed) ↔ (log.failed ≡ true) → (log.failed ≡ false → (refusal f ≡ Err Device) ↔ (d.failed new ≡ true)) → ((f ≡ LogFull) ⊎ (f ≡ Capacity) → now ≡ log) → RefusesSwitch d broken now new f
@@ -378,13 +377,13 @@ module _ {D : Type 0} (d : Ghosts D) where
       to : (e : Fault) → f ≡ e → RefusesSwitch d broken now new e → RefusesSwitch d broken now new f
       to e is has = subst (λ (x : Fault). RefusesSwitch d broken now new x) (sym is) has
 
-      by : (f ≡ Failed) ⊎ (f ≡ LogFull) ⊎ (f ≡ Capacity) ⊎ (f ≡ Device) → RefusesSwitch d broken now new f
+      by : (f ≡ Failed) ⊎ ((f ≡ LogFull) ⊎ (f ≡ Capacity)) ⊎ (f ≡ Device) → RefusesSwitch d broken now new f
       by (inl is) = absurd (let clash : false ≡ true = sym works ∙ already.0 (ap refusal is) in cc clash)
-      by (inr (inl is)) =
+      by (inr (inl (inl is))) =
           let above = (full.0 (ap refusal is)).1 in
           to LogFull is (inl (subst (λ (l : LogFile). 2 ^ 62 < next_gate l + 47) (sym (same (inl is))) (omega (arith, above, gate))))
-      by (inr (inr (inl is))) = to Capacity is (subst (λ (l : LogFile). 2 ^ 62 ≤ generation_at l.gate + 1) (sym (same (inr is))) (last.0 (ap refusal is)).2)
-      by (inr (inr (inr is))) = to Device is ((device works).0 (ap refusal is))
+      by (inr (inl (inr is))) = to Capacity is (subst (λ (l : LogFile). 2 ^ 62 ≤ generation_at l.gate + 1) (sym (same (inr is))) (last.0 (ap refusal is)).2)
+      by (inr (inr is)) = to Device is ((device works).0 (ap refusal is))
 
 -- ---- refusals
 

@@ -1,12 +1,9 @@
 -- What is known of pages that are not held, through the steps of a writer; and that each page of the file is one that was written under the log.
-use Rattle.std.proofs.Common.{◌≡◌, inl, inr, ℕ, ◌<◌, ◌≤◌, [], ◌∷◌, ◌++◌, Bool, true, false, refl, sym, ◌∙◌, ap, subst, arith, List, Option, None, Some, ◌==◌, if◌then◌else◌, nat_lt}
-use Rattle.std.specs.Prelude.{is_some, min, ◌+◌, ◌-◌, ◌^◌}
+use Rattle.std.proofs.Common.{◌≡◌, inr, ℕ, ◌<◌, [], ◌∷◌, ◌++◌, Bool, false, refl, sym, ◌∙◌, subst, arith, None, Some}
 use Rattle.std.specs.Ordering.{nat_cmp}
 use Rattle.std.specs.BTreeMap.{BTreeMap, get}
-use Rattle.std.proofs.lemmas.Bool.{cases_eq}
-use Rattle.im_base_types.specs.Pages.{Page}
-use Rattle.im_base_types.specs.Records.{Logged, What}
-use Rattle.im_theory_log.specs.Histories.{Base, History, IsFront, IsRecordOf, Rises, end_of}
+use Rattle.im_base_types.specs.Records.{Logged}
+use Rattle.im_theory_log.specs.Histories.{Base, History, IsRecordOf, end_of}
 use Rattle.im_theory_log.specs.Copies.{GrowsByImages}
 use Rattle.im_theory_log.specs.RedoPoints.{is_checkpoint}
 use Rattle.im_theory_log.specs.Writer.{Writer, WriterKept}
@@ -15,7 +12,7 @@ use Rattle.im_page_table.proofs.DurableCopies.{durable_redoing}
 use Rattle.im_page_table.proofs.KnownCopies as from_lsn
 use Rattle.im_page_writer.specs.declared.known.Synced.{Synced}
 use Rattle.im_page_writer.specs.declared.known.Known.{Known}
-use Rattle.im_page_writer.specs.Synced.{AreSyncedWith, IsChangedBelow, IsKnown}
+use Rattle.im_page_writer.specs.Synced.{AreSyncedWith, IsKnown}
 
 -- ---- what the file was synced with stays so
 

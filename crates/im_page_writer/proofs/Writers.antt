@@ -19,9 +19,8 @@ use Rattle.im_theory_page.specs.PageFile.{file_page}
 use Rattle.im_page_pool.specs.declared.frame.Frame.{Frame}
 use Rattle.im_page_pool.specs.Pool.{Held, PoolView, held_of, page_at, page_seen, Evicts, MovesFirst, Takes}
 use Rattle.im_page_pool.specs.Pool as pools
-use Rattle.im_page_table.specs.declared.table_entry.TableEntry.{TableEntry}
 use Rattle.im_page_writer.specs.declared.page_writer.PageWriter.{PageWriter}
-use Rattle.im_page_table.specs.DirtyTable.{is_changed}
+use Rattle.im_page_table.specs.DirtyTable.{TableView, is_changed}
 use Rattle.im_page_writer.specs.Writing.{IsShown, IsPooled, IsWriting, Goes, SameHeld}
 use Rattle.im_page_writer.specs.PageWriter.{StandsAs, GoesOn, FlushedOne}
 use Rattle.im_page_writer.proofs.Goings.{goes_start, goes_then}
@@ -95,7 +94,7 @@ seen_none (Some h) f none = absurd (let clash : Some h.page ≡ None = none in c
 module _ {D : Type 0} (d : Ghosts D) (b : Base) (base : ℕ) where
   -- ---- an eviction
 
-  pub goes_evicted : (s : Writer) (old : D) (t : Writer) (log : LogFile) (table : List TableEntry) (pool new : PoolView) (disk : D) (p : ℕ) → Goes d b base s old t log table pool disk → IsWritten (t.pages p).entry → Evicts p pool new
+  pub goes_evicted : (s : Writer) (old : D) (t : Writer) (log : LogFile) (table : TableView) (pool new : PoolView) (disk : D) (p : ℕ) → Goes d b base s old t log table pool disk → IsWritten (t.pages p).entry → Evicts p pool new
       → Goes d b base s old t log table new disk
   goes_evicted s old t log table pool new disk p goes done gone = record {
     writing = record { stands = goes.writing.stands; entries = goes.writing.entries; pooled = pooled_evicted pool new t.pages p goes.writing.pooled done gone; based = goes.writing.based };
@@ -105,7 +104,7 @@ module _ {D : Type 0} (d : Ghosts D) (b : Base) (base : ℕ) where
 
   -- ---- a get
 
-  module _ (s : Writer) (log : LogFile) (table : List TableEntry) (pool : PoolView) (old : D) (w : IsWriting d b base s log table pool old) (p : ℕ) (ready : (q : ℕ) → q ≤ p → (s.pages q).waits ≡ false) where
+  module _ (s : Writer) (log : LogFile) (table : TableView) (pool : PoolView) (old : D) (w : IsWriting d b base s log table pool old) (p : ℕ) (ready : (q : ℕ) → q ≤ p → (s.pages q).waits ≡ false) where
     -- of a page that is not held nothing is left to be written
     left_none : held_of pool p ≡ None → IsWritten (s.pages p).entry
     left_none none = subst (λ (o : Option Held). IsShown o (s.pages p)) none (w.pooled.shows p)

@@ -35,9 +35,9 @@ pub record IsUnforced (w : PageWriter) (p : ℕ) : Type 0 where
   pub late : IsAtOrAfter w.known.from (page_at w.pool p).lsn
   pub below : (page_at w.pool p).lsn < end_of_log w.log
 
--- the page that is written next: the least recently used one that was changed; where the pool has more frames than the dirty table has entries, the one whose first change since its last write is the oldest
+-- the page that is written next: the least recently used one that was changed; in a pool of more than 1,024 frames the one whose first change since its last write is the oldest
 abbrev pub next_written : PageWriter → Option ℕ
-next_written w = if nat_lt 1024 w.pool.frames then option_map (λ r. r.page) (oldest None w.table) else option_map (λ e. e.0) (last_changed w.pool.held)
+next_written w = if nat_lt 1024 w.pool.frames then option_map (λ r. r.page) (oldest w.table) else option_map (λ e. e.0) (last_changed w.pool.held)
 
 -- of this page nothing is left to be written; where there is none, of no page
 abbrev pub IsNextWritten : Option ℕ → (ℕ → PageState) → Type 0
@@ -45,7 +45,7 @@ IsNextWritten None pages = (p : ℕ) → IsWritten (pages p).entry
 IsNextWritten (Some p) pages = IsWritten (pages p).entry
 
 module _ {D : Type 0} (d : Ghosts D) where
-  -- On any bytes: the log is open, and works, and the pool has at most 262,144 frames. After a failure it says only that the log's last gate
+  -- 8 of what a writer keeps. On any bytes: the log is open, and works, and the pool has at most 262,144 frames. After a failure it says only that the log's last gate
   -- stands in its file, unless the disk has failed.
   pub record IsReadyWriter (w : PageWriter) (disk : D) : Type 0 where
     pub opened : w.failed ≡ false → IsOpen d w.log disk
@@ -54,7 +54,7 @@ module _ {D : Type 0} (d : Ghosts D) where
     pub still : d.failed disk ≡ false → IsOpen d w.log disk
 
   module _ (b : Base) (base : ℕ) where
-    -- No call has failed, and it stands as this writer.
+    -- No call has failed, and it stands as this writer: 1 to 7 of what it keeps.
     pub record StandsAs (s : Writer) (w : PageWriter) (disk : D) : Type 0 where
       pub working : w.failed ≡ false
       pub writing : IsWriting d b base s w.log w.table w.pool disk
@@ -125,9 +125,9 @@ module _ {D : Type 0} (d : Ghosts D) where
     pub record HasRoom (s : Writer) (old : D) (v w : PageWriter) (disk : D) : Type 0 where
       pub now : Writer
       pub on : GoesOn s old now w disk
-      pub room : length w.table < 1024
-      pub synced : length v.table ≡ 1024 → (p : ℕ) → (now.pages p).unsynced ≡ false
-      pub next : length v.table ≡ 1024 → IsNextWritten (next_written v) now.pages
+      pub room : length w.table.entries < w.table.most
+      pub synced : length v.table.entries ≡ v.table.most → (p : ℕ) → (now.pages p).unsynced ≡ false
+      pub next : length v.table.entries ≡ v.table.most → IsNextWritten (next_written v) now.pages
 
     -- what room in the table keeps
     pub record RoomKept (s : Writer) (old : D) (v w : PageWriter) (disk : D) (result : Result Unit Fault) : Type 0 where

@@ -1,5 +1,5 @@
 -- What the calls of redo keep: a noted copy loaded, a record applied, a record read again.
-use Rattle.std.specs.Prelude.{◌≡◌, ◌≢◌, ◌<◌, ◌⊎◌, ◌||◌, ℕ, List, length, Bool, true, false, Some, Result, IfErr, IfOk, OnOk}
+use Rattle.std.specs.Prelude.{◌≡◌, ◌≢◌, ◌<◌, ◌⊎◌, ◌||◌, ℕ, length, Bool, true, false, Some, Result, IfErr, IfOk, OnOk}
 use Rattle.im_base_types.specs.declared.fault.Fault.{Fault}
 use Rattle.im_base_types.specs.declared.fault.Fault.TheVariants.{NotAStore}
 use Rattle.im_base_types.specs.Pages.{Page}
@@ -11,8 +11,7 @@ use Rattle.im_theory_log.specs.WriterSteps.{applies, at_point, is_copied, loaded
 use Rattle.im_base_disk.specs.declared.disk.Disk.{Ghosts}
 use Rattle.im_page_pool.specs.declared.frame.Frame.{Frame}
 use Rattle.im_page_pool.specs.Pool.{PoolView, Holds, IsAt, Sets, Takes, page_at}
-use Rattle.im_page_table.specs.declared.table_entry.TableEntry.{TableEntry}
-use Rattle.im_page_table.specs.DirtyTable.{ChangesEntry}
+use Rattle.im_page_table.specs.DirtyTable.{TableView, ChangesEntry}
 use Rattle.im_page_writer.specs.declared.page_writer.PageWriter.{PageWriter}
 use Rattle.im_page_file.specs.Stands.{LeavesCovered}
 use Rattle.im_page_table.specs.KnownCopies.{redone_as}
@@ -54,9 +53,9 @@ pub record RedoneHere (known : Bool) (point lsn : ℕ) (what : What) (number : �
   pub same : done ≡ false → new.table ≡ old.table
 
 -- A page is held or may be, and the dirty table takes its entry.
-pub record HasRooms (number : ℕ) (pool : PoolView) (table : List TableEntry) : Type 0 where
+pub record HasRooms (number : ℕ) (pool : PoolView) (table : TableView) : Type 0 where
   pub frame : Holds pool number ⊎ (length pool.held < pool.frames)
-  pub entry : length table < 1024
+  pub entry : length table.entries < table.most
 
 -- A held page does not take the record.
 pub record LacksTaker (what : What) (number : ℕ) (pool : PoolView) : Type 0 where

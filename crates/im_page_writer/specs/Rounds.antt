@@ -1,6 +1,5 @@
 -- What a round of redo keeps: its pages lent, changed by its records, and taken back.
-use Rattle.std.specs.Prelude.{◌≡◌, ◌≢◌, ◌<◌, ◌≤◌, ◌+◌, ◌||◌, ℕ, List, [], length, slice_index_or, Bool, true, false, if◌then◌else◌, Some, Option, Result, IfErr, IfOk, IfSome}
-use Rattle.std.specs.Map.{keys_of}
+use Rattle.std.specs.Prelude.{◌≡◌, ◌≢◌, ◌<◌, ◌||◌, ℕ, List, [], length, slice_index_or, Bool, true, false, if◌then◌else◌, Some, Option, Result, IfErr, IfOk, IfSome}
 use Rattle.im_base_types.specs.declared.fault.Fault.{Fault}
 use Rattle.im_base_types.specs.declared.fault.Fault.TheVariants.{NotAStore}
 use Rattle.im_base_types.specs.Pages.{Page}
@@ -10,9 +9,8 @@ use Rattle.im_theory_log.specs.Copies.{redo_all}
 use Rattle.im_theory_log.specs.Writer.{DirtyEntry, Writer}
 use Rattle.im_theory_log.specs.WriterSteps.{at_point, is_copied}
 use Rattle.im_base_disk.specs.declared.disk.Disk.{Ghosts}
-use Rattle.im_page_pool.specs.Pool.{Held, Holds, PoolView, held_of, page_at}
-use Rattle.im_page_table.specs.declared.table_entry.TableEntry.{TableEntry}
-use Rattle.im_page_table.specs.DirtyTable.{entry_in}
+use Rattle.im_page_pool.specs.Pool.{Held, Holds, PoolView, held_of}
+use Rattle.im_page_table.specs.DirtyTable.{TableView, entry_in}
 use Rattle.im_page_table.specs.Growth.{Keeps}
 use Rattle.im_page_rounds.specs.declared.round_page.RoundPage.{RoundPage}
 use Rattle.im_page_rounds.specs.Hand.{AllTaken, AreAmong, is_applied}
@@ -58,7 +56,7 @@ abbrev pub entry_after : Bool → Bool → ℕ → Option DirtyEntry → Option 
 entry_after changed known point e = if changed then Some (at_point (known || is_copied e) point) else e
 
 -- The first so many of these pages are taken back, and each other is as it was.
-pub record TakesBack (numbers : List ℕ) (n point : ℕ) (known : ℕ → Bool) (page : ℕ → RoundPage) (old new : PoolView) (old_table new_table : List TableEntry) : Type 0 where
+pub record TakesBack (numbers : List ℕ) (n point : ℕ) (known : ℕ → Bool) (page : ℕ → RoundPage) (old new : PoolView) (old_table new_table : TableView) : Type 0 where
   pub these : (i : ℕ) (was : Held) → i < n → held_of old (slice_index_or numbers i 0) ≡ Some was → IsBack was (page i) new (slice_index_or numbers i 0)
   pub others : (q : ℕ) → IsOther numbers n q → held_of new q ≡ held_of old q
   pub entries : (i : ℕ) → i < n → entry_in new_table (slice_index_or numbers i 0) ≡ entry_after (page i).changed (known (slice_index_or numbers i 0)) point (entry_in old_table (slice_index_or numbers i 0))

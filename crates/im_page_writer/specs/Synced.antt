@@ -33,7 +33,7 @@ pub record IsChangedBelow (log : History) (point : ℕ) (count : Option ℕ) (p 
 abbrev pub AreSyncedWith : History → ℕ → Synced → Type 0
 AreSyncedWith log point synced = (p l : ℕ) → get nat_cmp synced.lsns p ≡ Some l → IsChangedBelow log point synced.count p l
 
--- what a writer knows of pages that it does not hold
+-- what a writer knows of pages that it does not hold: 6 of what it keeps
 pub record IsKnown (s : Writer) (known : Known) : Type 0 where
   pub from : IsKnownFrom s known.from
   pub synced : AreSyncedWith s.log s.point known.synced

@@ -46,6 +46,7 @@ fn write_out<D: Disk>(
     ensures stays { first ≡ last → is_some (entry_in table.old first) ≡ true → OnOk result (is_some (entry_in table.new first) ≡ true) }
     ensures held { OnOk result (SameHeld pool.old pool.new) }
     ensures frames { pool.new.frames ≡ pool.old.frames }
+    ensures most { table.new.most ≡ table.old.most }
     ensures costs { OnOk result (WriteCosts D.Disk (last + 1 - first) ((first ≡ last) × (has_room first table.old ≡ true)) disk.old disk.new) }
     ensures answers { Answers (D.failed disk.new) result }
 {
@@ -73,6 +74,7 @@ fn write_early<D: Disk>(
     ensures stays { OnOk result (is_some (entry_in table.new number) ≡ true) }
     ensures held { OnOk result (SameHeld pool.old pool.new) }
     ensures frames { pool.new.frames ≡ pool.old.frames }
+    ensures most { table.new.most ≡ table.old.most }
     ensures costs { OnOk result (Costs D.Disk 1 0 disk.old disk.new) }
     ensures answers { Answers (D.failed disk.new) result }
 {
@@ -104,6 +106,7 @@ fn flush_range<D: Disk>(
     ensures stays { first ≡ last → is_some (entry_in table.old first) ≡ true → OnOk result (is_some (entry_in table.new first) ≡ true) }
     ensures held { OnOk result (SameHeld pool.old pool.new) }
     ensures frames { pool.new.frames ≡ pool.old.frames }
+    ensures most { table.new.most ≡ table.old.most }
     ensures costs { OnOk result (FlushCosts D.Disk (last + 1 - first) ((first ≡ last) × (has_room first table.old ≡ true)) disk.old disk.new) }
 {
     log_images(disk, log, table, pool, spare, lsns, first, last)?;
@@ -136,6 +139,7 @@ fn flush_in_file<D: Disk>(
     ensures stays { is_some (entry_in table.old number) ≡ true → OnOk result (is_some (entry_in table.new number) ≡ true) }
     ensures held { OnOk result (SameHeld pool.old pool.new) }
     ensures frames { pool.new.frames ≡ pool.old.frames }
+    ensures most { table.new.most ≡ table.old.most }
     ensures costs { OnOk result (FlushCosts D.Disk (number + 1 - number) ((number ≡ number) × (has_room number table.old ≡ true)) disk.old disk.new) }
     ensures unforced { durable ≡ true → OnOk result (Costs D.Disk 1 0 disk.old disk.new) }
 {
@@ -173,6 +177,7 @@ pub(crate) fn flush_page<D: Disk>(
     ensures stays { D.tells → number ≤ page_count (D.seen disk.old Pages) → is_some (entry_in table.old number) ≡ true → OnOk result (is_some (entry_in table.new number) ≡ true) }
     ensures held { OnOk result (SameHeld pool.old pool.new) }
     ensures frames { pool.new.frames ≡ pool.old.frames }
+    ensures most { table.new.most ≡ table.old.most }
     ensures costs { OnOk result (PageCosts D.Disk number (page_count (D.seen disk.old Pages)) (has_room number table.old) disk.old disk.new) }
     ensures unforced { D.tells → number < page_count (D.seen disk.old Pages) → durable ≡ true → OnOk result (Costs D.Disk 1 0 disk.old disk.new) }
 {

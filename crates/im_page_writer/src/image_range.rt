@@ -1,14 +1,13 @@
 //! The full copies of a flush: Images of the pages of which the log is known to have none, in rising page number.
-ghost use Rattle.std.specs.Prelude.{◌≡◌, ◌≢◌, ◌≤◌, ◌<◌, ◌+◌, ◌-◌, ◌^◌, ◌⊎◌, ◌↔◌, ℕ, List, [], false, true, not, is_ok, length, min, vec_capacity, slice_index_or, IsOk, IfErr, OnOk};
+ghost use Rattle.std.specs.Prelude.{◌≡◌, ◌≢◌, ◌≤◌, ◌<◌, ◌+◌, ◌-◌, ◌^◌, ◌⊎◌, ◌↔◌, ℕ, [], false, true, not, is_ok, length, min, vec_capacity, slice_index_or, IsOk, IfErr, OnOk};
 ghost use Rattle.im_base_types.specs.declared.fault.Fault.TheVariants.{Device, Failed, LogFull};
 ghost use Rattle.im_base_types.specs.declared.file_id.FileId.TheVariants.{Log};
 ghost use Rattle.im_theory_log.specs.Histories.{Base};
 ghost use Rattle.im_theory_log.specs.Writer.{Writer};
 ghost use Rattle.im_base_disk.specs.Runs.{ChangesOnly, Forces, Reads};
 ghost use Rattle.im_log.specs.LogFile.{HasNoRoom, end_with, IsOpen};
-ghost use Rattle.im_page_table.specs.declared.table_entry.TableEntry.{TableEntry};
 ghost use Rattle.im_theory_log.specs.WriterSteps.{is_copied};
-ghost use Rattle.im_page_table.specs.DirtyTable.{entry_in};
+ghost use Rattle.im_page_table.specs.DirtyTable.{TableView, entry_in};
 ghost use Rattle.im_page_file.specs.Imaging.{Imaging};
 ghost use Rattle.im_page_file.specs.Takes.{TakesImage};
 ghost use Rattle.im_page_writer.specs.Outcome.{fault_of};
@@ -57,7 +56,7 @@ fn append_page<D: Disk>(
     requires ready { IsOpen D.Disk log.old disk.old }
     requires working { log.old.failed ≡ false }
     ensures outcome { Imaging D.Disk log.old log.new disk.new (fault_of result) }
-    ensures kept { (b : Base) (base : ℕ) (s : Writer) (table : List TableEntry) → IsWriting D.Disk b base s log.old table pool.now disk.old
+    ensures kept { (b : Base) (base : ℕ) (s : Writer) (table : TableView) → IsWriting D.Disk b base s log.old table pool.now disk.old
         → MayCopy s pool.now number → PageImageKept D.Disk b base s number disk.old log.new table pool.now disk.new result }
     ensures changes { ChangesOnly D.Disk Log disk.old disk.new }
     ensures forces { OnOk result (Forces D.Disk 1 disk.old disk.new) }
@@ -112,6 +111,7 @@ fn note_copy<D: Disk>(
     ensures kept { (b : Base) (base : ℕ) (s : Writer) → IsWriting D.Disk b base s log.old table.old pool.now disk.old → GrownKept D.Disk b base s disk.old log.new table.new pool.now disk.new result }
     ensures quiet { TakesImage log.old → disk.new ≡ disk.old }
     ensures room { KeepsRoom table.old table.new }
+    ensures most { table.new.most ≡ table.old.most }
 {
     let Some(entry) = table.get(number) else {
         return Ok(());
@@ -120,7 +120,6 @@ fn note_copy<D: Disk>(
         return Ok(());
     }
     let lsn = append_page(disk, log, pool, spare, number)?;
-    table.pages_rise();
     table.enter(number, lsn, true);
     Ok(())
 }
@@ -143,6 +142,7 @@ pub(crate) fn note_in_file<D: Disk>(
     ensures kept { (b : Base) (base : ℕ) (s : Writer) → IsWriting D.Disk b base s log.old table.old pool.now disk.old → GrownKept D.Disk b base s disk.old log.new table.new pool.now disk.new result }
     ensures reads { TakesImage log.old → Reads D.Disk disk.old disk.new }
     ensures room { KeepsRoom table.old table.new }
+    ensures most { table.new.most ≡ table.old.most }
 {
     let count = count_pages(disk)?;
     if number as u64 >= count {

@@ -67,6 +67,7 @@ pub(crate) fn write_one<D: Disk>(
     ensures entered { IfOk result (λ entered. entered ≡ has_room number table.old) }
     ensures pool { OnOk result (Unmarks number pool.old pool.new) }
     ensures frames { pool.new.frames ≡ pool.old.frames }
+    ensures most { table.new.most ≡ table.old.most }
     ensures count { OnOk result (D.tells → number + 1 ≤ page_count (D.seen disk.new Pages)) }
     ensures changes { ChangesOnly D.Disk Pages disk.old disk.new }
     ensures costs { Costs D.Disk 1 0 disk.old disk.new }
@@ -107,6 +108,7 @@ pub(crate) fn write_pages<D: Disk>(
     ensures one { first ≡ last → IfOk result (λ entered. (table.new ≡ written_in first (lsn_for lsns.now 0) table.old) × (entered ≡ has_room first table.old)) }
     ensures held { OnOk result (SameHeld pool.old pool.new) }
     ensures frames { pool.new.frames ≡ pool.old.frames }
+    ensures most { table.new.most ≡ table.old.most }
     ensures changes { ChangesOnly D.Disk Pages disk.old disk.new }
     ensures costs { OnOk result (Costs D.Disk (last + 1 - first) 0 disk.old disk.new) }
     ensures answers { Answers (D.failed disk.new) result }

@@ -5,12 +5,12 @@ ghost use Rattle.im_base_types.specs.declared.file_id.FileId.TheVariants.{Pages}
 ghost use Rattle.im_theory_log.specs.Histories.{Base};
 ghost use Rattle.im_theory_log.specs.Writer.{Writer};
 ghost use Rattle.im_log.specs.LogFile.{end_with};
+ghost use Rattle.im_page_table.specs.DirtyTable.{most_entries};
 ghost use Rattle.im_page_table.specs.KnownCopies.{IsAtOrAfter};
 
 use crate::flush::flush_page;
 use crate::image_range::NOTED;
 use crate::known::{Known, Synced};
-use crate::page_writer::least_used::HALF;
 use im_base_disk::Disk;
 use im_base_types::{DirtyPage, Fault, Lsn, MOST_DIRTY, PageNo};
 use im_log::LogFile;
@@ -18,7 +18,7 @@ use im_log_record::Record;
 use im_page::Page;
 use im_page_file::sync_pages;
 use im_page_pool::{Frame, Pool};
-use im_page_table::DirtyTable;
+use im_page_table::{DirtyTable, entries_for};
 use std::alloc::Global;
 
 mod by_age;
@@ -43,20 +43,24 @@ pub struct PageWriter {
     lsns: Vec<Lsn>,
     /// The rows of the dirty table, as a Checkpoint has them.
     rows: Vec<DirtyPage>,
+    /// The numbers of its pages, as a Switch writes them.
+    numbers: Vec<PageNo>,
     /// A page past the file's end that is written along.
     spare: Box<Page>,
     known: Known,
     failed: bool,
     ghost noted: { 1024 ≤ vec_capacity lsns },
     ghost listed: { 1024 ≤ vec_capacity rows },
+    ghost numbered: { table.most ≤ vec_capacity numbers },
+    ghost sized: { table.most ≡ most_entries pool.frames },
 }
 
-// The dirty table, with no entry.
-fn table_room(alloc: Global) -> Result<DirtyTable, Fault>
-    ensures empty { IfOk result (λ table. table ≡ []) }
+// The dirty table beside a pool of so many frames, with no entry.
+fn table_room(alloc: Global, frames: usize) -> Result<DirtyTable, Fault>
+    ensures empty { IfOk result (λ table. table ≡ record { entries = []; most = most_entries frames }) }
     ensures refused { IfErr result (λ e. e ≡ Memory) }
 {
-    DirtyTable::new(alloc).map_err(|_| Fault::Memory)
+    DirtyTable::new(alloc, entries_for(frames)).map_err(|_| Fault::Memory)
 }
 
 // Room for an LSN of each page of a flush.
@@ -73,6 +77,14 @@ fn row_room(alloc: Global) -> Result<Vec<DirtyPage>, Fault>
     ensures refused { IfErr result (λ e. e ≡ Memory) }
 {
     Vec::with_capacity(alloc, MOST_DIRTY).map_err(|_| Fault::Memory)
+}
+
+// Room for the numbers of its pages.
+fn number_room(alloc: Global, frames: usize) -> Result<Vec<PageNo>, Fault>
+    ensures room { IfOk result (λ numbers. most_entries frames ≤ vec_capacity numbers) }
+    ensures refused { IfErr result (λ e. e ≡ Memory) }
+{
+    Vec::with_capacity(alloc, entries_for(frames)).map_err(|_| Fault::Memory)
 }
 
 // Whether an LSN is at or after another, if that is known, and below an end.
@@ -124,7 +136,7 @@ impl PageWriter {
         ensures unchanged { self.old.failed ≡ false → is_changed self.old.pool number ≡ false → (result ≡ Ok tt) × (self.new ≡ self.old) × (disk.new ≡ disk.old) }
         ensures stays { D.tells → number ≤ page_count (D.seen disk.old Pages) → is_some (entry_in self.old.table number) ≡ true → OnOk result (is_some (entry_in self.new.table number) ≡ true) }
         ensures held { OnOk result (SameHeld self.old.pool self.new.pool) }
-        ensures rows { self.new.rows ≡ self.old.rows }
+        ensures numbers { self.new.numbers ≡ self.old.numbers }
         ensures costs { is_changed self.old.pool number ≡ true → OnOk result (PageCosts D.Disk number (page_count (D.seen disk.old Pages)) (has_room number self.old.table) disk.old disk.new) }
         ensures unforced { D.tells → number < page_count (D.seen disk.old Pages) → is_changed self.old.pool number ≡ true → IsUnforced self.old number → OnOk result (Costs D.Disk 1 0 disk.old disk.new) }
     {
@@ -169,7 +181,7 @@ impl PageWriter {
         ensures kept { (b : Base) (base : ℕ) (s : Writer) → StandsAs D.Disk b base s self.old disk.old → OnOk result (FlushedOne D.Disk b base s number disk.old self.new disk.new) }
         ensures stays { D.tells → number ≤ page_count (D.seen disk.old Pages) → is_some (entry_in self.old.table number) ≡ true → OnOk result (is_some (entry_in self.new.table number) ≡ true) }
         ensures held { OnOk result (SameHeld self.old.pool self.new.pool) }
-        ensures rows { self.new.rows ≡ self.old.rows }
+        ensures numbers { self.new.numbers ≡ self.old.numbers }
         ensures costs { OnOk result (PageCosts D.Disk number (page_count (D.seen disk.old Pages)) (has_room number self.old.table) disk.old disk.new) }
         ensures unforced { D.tells → number < page_count (D.seen disk.old Pages) → durable ≡ true → OnOk result (Costs D.Disk 1 0 disk.old disk.new) }
     {
@@ -357,16 +369,17 @@ impl PageWriter {
         requires usable { log.failed ≡ false }
         ensures log { IfOk result (λ w. w.log ≡ log) }
         ensures pool { IfOk result (λ w. w.pool ≡ record { held = []; frames = frames; gets = 0 }) }
-        ensures table { IfOk result (λ w. w.table ≡ []) }
+        ensures table { IfOk result (λ w. w.table.entries ≡ []) }
         ensures failed { IfOk result (λ w. w.failed ≡ false) }
         ensures known { IfOk result (λ w. w.known.from ≡ None) }
         ensures none { IfOk result (λ w. w.known.synced.lsns.entries ≡ []) }
         ensures refused { IfErr result (λ e. e ≡ Memory) }
     {
         let pool = Pool::new(alloc, frames)?;
-        let table = table_room(alloc)?;
+        let table = table_room(alloc, frames)?;
         let lsns = lsn_room(alloc)?;
         let rows = row_room(alloc)?;
+        let numbers = number_room(alloc, frames)?;
         let spare = spare_page(alloc)?;
         Ok(PageWriter {
             log,
@@ -374,6 +387,7 @@ impl PageWriter {
             table,
             lsns,
             rows,
+            numbers,
             spare,
             known: Known::new(alloc),
             failed: false,
@@ -458,9 +472,10 @@ impl PageWriter {
         self.failed
     }
 
-    /// How many pages may lack changes in their file, or have a write that is not synced: at most 1,024.
+    /// How many pages may lack changes in their file, or have a write that is not synced: at most as many as the pool has frames, or 1,024 where
+    /// those are more, and never more than 65,536.
     pub fn dirty_count(&self) -> usize
-        ensures { result ≡ length self.now.table }
+        ensures { result ≡ length self.now.table.entries }
     {
         self.table.len()
     }
@@ -468,7 +483,7 @@ impl PageWriter {
     /// The page whose first change since its last write is the oldest, with the LSN of that change; none where each page is written. A
     /// Checkpoint that comes now has its redo point no earlier.
     pub fn oldest_change(&self) -> Option<DirtyPage>
-        ensures { result ≡ oldest None self.now.table }
+        ensures { result ≡ oldest self.now.table }
     {
         self.table.oldest_change()
     }
@@ -497,7 +512,7 @@ impl PageWriter {
         ensures kept { (b : Base) (base : ℕ) (s : Writer) → StandsAs D.Disk b base s self.old disk.old → OnOk result (FlushedOne D.Disk b base s frame.number disk.old self.new disk.new) }
         ensures held { OnOk result (SameHeld self.old.pool self.new.pool) }
     {
-        if self.table.written_count() >= HALF {
+        if self.table.written_count() >= self.half() {
             return self.flush_with_others(disk, frame);
         }
         self.flush_half(disk)?;
@@ -516,7 +531,7 @@ impl PageWriter {
         ensures outcome { Flushes D.Disk self.old disk.old self.new disk.new (fault_of result) }
         ensures kept { (b : Base) (base : ℕ) (s : Writer) → StandsAs D.Disk b base s self.old disk.old → OnOk result (HasRoom D.Disk b base s disk.old self.old self.new disk.new) }
         ensures held { OnOk result (SameHeld self.old.pool self.new.pool) }
-        ensures unchanged { self.old.failed ≡ false → length self.old.table < 1024 → (result ≡ Ok tt) × (self.new ≡ self.old) × (disk.new ≡ disk.old) }
+        ensures unchanged { self.old.failed ≡ false → length self.old.table.entries < self.old.table.most → (result ≡ Ok tt) × (self.new ≡ self.old) × (disk.new ≡ disk.old) }
     {
         if self.failed {
             return Err(Fault::Failed);
@@ -525,7 +540,7 @@ impl PageWriter {
             return Ok(());
         }
         self.flush_first(disk)?;
-        self.table.pages_rise();
+        self.table.pages_differ();
         let _held = self.pool.len();
         self.sync_pages(disk)
     }

@@ -143,16 +143,49 @@ fn a_full_table_is_synced_in_a_large_pool(rt: HostRuntime) -> Result<(), Fail> {
 fn fill_large(rt: &impl Abort, writer: &mut PageWriter, disk: &mut ModelDisk) -> Result<(), Fail>
     requires { IsReadyWriter ⟦<ModelDisk as Disk>⟧ writer.old disk.old }
 {
-    change_each(writer, disk, 1, 1_025)?;
+    change_each(writer, disk, 0, 1_030)?;
     let full = (writer.dirty_count(), disk.end(FileId::Pages));
-    let is_changed = change(writer, disk, 0)?;
+    let is_changed = change(writer, disk, 1_030)?;
     // At least half of the entries left at the sync, and the page that was changed last has its own.
     let left = writer.dirty_count();
     let first = got(writer, disk, 1)?;
-    let last = got(writer, disk, 1_024)?;
-    assert!(rt; full == (1_024, 0));
-    assert!(rt; is_changed && 1 <= left && left <= 513);
+    let last = got(writer, disk, 1_030)?;
+    assert!(rt; full == (1_030, 0));
+    assert!(rt; is_changed && 1 <= left && left <= 516);
     assert!(rt; (first, last) == ((400, 0), (400, 0)));
+    Ok(())
+}
+
+#[test]
+fn pages_are_written_first_where_a_checkpoint_can_not_list_them(
+    rt: HostRuntime,
+) -> Result<(), Fail> {
+    let alloc = rt.alloc();
+    let mut disk = new_disk(alloc);
+    let mut writer = open_large(alloc, &mut disk, 1_200)?;
+    let told = checkpoint_many(&rt, &mut writer, &mut disk);
+    end(writer, disk);
+    told
+}
+
+fn checkpoint_many(
+    rt: &impl Abort,
+    writer: &mut PageWriter,
+    disk: &mut ModelDisk,
+) -> Result<(), Fail>
+    requires { IsReadyWriter ⟦<ModelDisk as Disk>⟧ writer.old disk.old }
+{
+    change_each(writer, disk, 1, 1_101)?;
+    let changed = (writer.dirty_count(), disk.end(FileId::Pages));
+    writer.log_checkpoint(disk, 2, &[])?;
+    let listed = writer.dirty_count();
+    let written = disk.end(FileId::Pages);
+    // One that need not write pages makes one sync and one force.
+    let calls = disk.calls();
+    writer.log_checkpoint(disk, 2, &[])?;
+    assert!(rt; changed == (1_100, 0));
+    assert!(rt; (listed, written) == (1_024, 77 * 4_096));
+    assert!(rt; (since(disk, calls), disk.end(FileId::Pages)) == (5, written));
     Ok(())
 }
 

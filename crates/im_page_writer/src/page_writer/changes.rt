@@ -28,8 +28,8 @@ impl PageWriter {
 
     // Whether the dirty table can't take the page's entry.
     pub(super) fn lacks_room(&self, number: PageNo) -> bool
-        ensures room { result ≡ false → entry_in self.now.table number ≡ None → length self.now.table < 1024 }
-        ensures full { result ≡ true → length self.now.table ≡ 1024 }
+        ensures room { result ≡ false → entry_in self.now.table number ≡ None → length self.now.table.entries < self.now.table.most }
+        ensures full { result ≡ true → length self.now.table.entries ≡ self.now.table.most }
     {
         self.table.is_full() && self.table.get(number).is_none()
     }
@@ -38,8 +38,8 @@ impl PageWriter {
     pub(super) fn find_with_room(&self, number: PageNo) -> Result<Frame, Fault>
         ensures at { IfOk result (IsAt self.now.pool) }
         ensures frame { IfOk result (λ f. f.number ≡ number) }
-        ensures room { OnOk result (entry_in self.now.table number ≡ None → length self.now.table < 1024) }
-        ensures refused { IfErr result (λ e. (e ≡ NotAStore) × ((length self.now.table ≡ 1024) ⊎ (held_of self.now.pool number ≡ None))) }
+        ensures room { OnOk result (entry_in self.now.table number ≡ None → length self.now.table.entries < self.now.table.most) }
+        ensures refused { IfErr result (λ e. (e ≡ NotAStore) × ((length self.now.table.entries ≡ self.now.table.most) ⊎ (held_of self.now.pool number ≡ None))) }
     {
         if self.lacks_room(number) {
             return Err(Fault::NotAStore);
@@ -61,7 +61,7 @@ impl PageWriter {
         ensures sound { (b : Base) (base : ℕ) (s : Writer) → StandsAs D.Disk b base s self.old disk.old → AreLoadedTo number s → IfErr result (λ e. e ≢ NotAStore) }
         ensures at { IfOk result (IsAt self.new.pool) }
         ensures frame { IfOk result (λ f. f.number ≡ number) }
-        ensures room { OnOk result (entry_in self.new.table number ≡ None → length self.new.table < 1024) }
+        ensures room { OnOk result (entry_in self.new.table number ≡ None → length self.new.table.entries < self.new.table.most) }
     {
         self.get(disk, number)?;
         self.make_entry_room(disk)?;
@@ -100,7 +100,7 @@ impl PageWriter {
         requires working { self.old.failed ≡ false }
         requires at { IsAt self.old.pool frame }
         requires place { HasPlace edit (page_at self.old.pool frame.number) key.now i }
-        requires room { entry_in self.old.table frame.number ≡ None → length self.old.table < 1024 }
+        requires room { entry_in self.old.table frame.number ≡ None → length self.old.table.entries < self.old.table.most }
         ensures outcome { Logs D.Disk false no_page self.old disk.old self.new disk.new (fault_of result) }
         ensures kept { (b : Base) (base : ℕ) (s : Writer) (e : ℕ) → StandsAs D.Disk b base s self.old disk.old → s.redo_end ≡ Some e
             → LoggedKept D.Disk b base s (view record.now) disk.old self.new disk.new result }

@@ -1,5 +1,5 @@
 //! Checkpoints: the rows of both tables in a record of the log, after a sync of the file of pages.
-ghost use Rattle.std.specs.Prelude.{◌≡◌, ◌≤◌, ◌<◌, ◌^◌, ◌↔◌, ℕ, List, None, Some, Err, false, length, OnOk};
+ghost use Rattle.std.specs.Prelude.{◌≡◌, ◌≤◌, ◌<◌, ◌^◌, ◌↔◌, ℕ, List, None, Some, Ok, Err, false, true, length, OnOk};
 ghost use Rattle.im_base_types.specs.declared.fault.Fault.TheVariants.{LogFull};
 ghost use Rattle.im_base_types.specs.declared.file_id.FileId.TheVariants.{Log};
 ghost use Rattle.im_theory_log.specs.Histories.{Base};
@@ -15,15 +15,16 @@ ghost use Rattle.im_page_writer.specs.Outcome.{fault_of};
 
 use crate::PageWriter;
 use im_base_disk::Disk;
-use im_base_types::{ActiveTransaction, DirtyPage, Fault, Lsn, TxnId};
+use im_base_types::{ActiveTransaction, DirtyPage, Fault, Lsn, MOST_DIRTY, TxnId};
 use im_log::LogFile;
 use im_log_record::Record;
 
 impl PageWriter {
-    ghost use Rattle.im_page_table.specs.DirtyTable.{dirty_pages, forgotten_entries, synced_entries};
-    ghost use Rattle.im_page_writer.specs.Outcome.{none_mild, Logs};
+    ghost use Rattle.im_page_table.specs.DirtyTable.{dirty_pages, forgotten_entries, synced_entries, FitsRecord};
+    ghost use Rattle.im_page_writer.specs.Outcome.{none_mild, Flushes, Logs};
     ghost use Rattle.im_page_writer.specs.PageWriter.{IsReadyWriter, StandsAs};
-    ghost use Rattle.im_page_writer.specs.Checkpoints.{TablesKept, CheckpointKept};
+    ghost use Rattle.im_page_writer.specs.Writing.{SameHeld};
+    ghost use Rattle.im_page_writer.specs.Checkpoints.{TablesKept, CheckpointCosts, CheckpointKept, CheckpointFromKept, RowsFit};
 
     // Adds the record of a Checkpoint with the rows of the dirty table, of which no copy counts as known then.
     fn log_tables<D: Disk>(
@@ -37,9 +38,9 @@ impl PageWriter {
         requires ready { IsReadyWriter D.Disk self.old disk.old }
         requires working { self.old.failed ≡ false }
         ensures outcome { Logs D.Disk false none_mild self.old disk.old self.new disk.new (fault_of result) }
-        ensures kept { (b : Base) (base : ℕ) (s : Writer) (e : ℕ) → StandsAs D.Disk b base s self.old disk.old → s.redo_end ≡ Some e → ((p : ℕ) → (s.pages p).unsynced ≡ false)
+        ensures kept { length self.old.table.entries ≤ 1024 → (b : Base) (base : ℕ) (s : Writer) (e : ℕ) → StandsAs D.Disk b base s self.old disk.old → s.redo_end ≡ Some e → ((p : ℕ) → (s.pages p).unsynced ≡ false)
             → TablesKept D.Disk b base s next active.now (dirty_pages self.old.table) disk.old self.new disk.new result }
-        ensures full { result ≡ Err LogFull ↔ (2 ^ 62 < end_with self.old.log (size_of (Checkpoint next active.now (dirty_pages self.old.table)))) }
+        ensures full { length self.old.table.entries ≤ 1024 → result ≡ Err LogFull ↔ (2 ^ 62 < end_with self.old.log (size_of (Checkpoint next active.now (dirty_pages self.old.table)))) }
         ensures table { OnOk result (self.new.table ≡ forgotten_entries self.old.table) }
         ensures pool { self.new.pool ≡ self.old.pool }
         ensures few { CostsAtMost D.Disk 2 2 disk.old disk.new }
@@ -53,13 +54,91 @@ impl PageWriter {
         Ok(lsn)
     }
 
+    // Whether a Checkpoint's record has room for the rows that a sync leaves.
+    fn fits_record(&self) -> bool
+        ensures { (result ≡ true) ↔ FitsRecord self.now.table }
+    {
+        self.table.len() - self.table.written_count() <= MOST_DIRTY
+    }
+
+    // Flushes the page that is written next, with others that go next, until a Checkpoint's record has room for the rows that a sync leaves, or
+    // no page is left.
+    fn flush_few<D: Disk>(&mut self, disk: &mut D) -> Result<(), Fault>
+        requires ready { IsReadyWriter D.Disk self.old disk.old }
+        requires working { self.old.failed ≡ false }
+        ensures outcome { Flushes D.Disk self.old disk.old self.new disk.new (fault_of result) }
+        ensures held { OnOk result (SameHeld self.old.pool self.new.pool) }
+    {
+        for _company in 0..self.table.most() {
+            if self.fits_record() {
+                break;
+            }
+            self.flush_next(disk)?;
+        }
+        Ok(())
+    }
+
+    // Writes pages, in the order in which `make_entry_room` does, where a Checkpoint's record has no room for the rows that a sync leaves: until it
+    // has, and every page where that is not enough.
+    fn fit_record<D: Disk>(&mut self, disk: &mut D) -> Result<(), Fault>
+        requires ready { IsReadyWriter D.Disk self.old disk.old }
+        ensures outcome { Flushes D.Disk self.old disk.old self.new disk.new (fault_of result) }
+        ensures kept { (b : Base) (base : ℕ) (s : Writer) → StandsAs D.Disk b base s self.old disk.old → OnOk result (RowsFit D.Disk b base s disk.old self.new disk.new) }
+        ensures held { OnOk result (SameHeld self.old.pool self.new.pool) }
+        ensures unchanged { FitsRecord self.old.table → (self.new ≡ self.old) × (disk.new ≡ disk.old) }
+        ensures done { self.old.failed ≡ false → FitsRecord self.old.table → result ≡ Ok tt }
+    {
+        if self.failed {
+            return Err(Fault::Failed);
+        }
+        if self.fits_record() {
+            return Ok(());
+        }
+        self.flush_few(disk)?;
+        if self.fits_record() {
+            return Ok(());
+        }
+        self.flush_every(disk)?;
+        self.table.pages_differ();
+        Ok(())
+    }
+
+    // The Checkpoint, where its record has room for the rows that the sync leaves.
+    fn take_checkpoint<D: Disk>(
+        &mut self,
+        disk: &mut D,
+        next: TxnId,
+        active: &[ActiveTransaction],
+    ) -> Result<Lsn, Fault>
+        requires few { length active.now ≤ 64 }
+        requires rise { Rise (λ a. a.transaction) None active.now }
+        requires ready { IsReadyWriter D.Disk self.old disk.old }
+        ensures outcome { Logs D.Disk false none_mild self.old disk.old self.new disk.new (fault_of result) }
+        ensures kept { FitsRecord self.old.table → (b : Base) (base : ℕ) (s : Writer) (e : ℕ) → StandsAs D.Disk b base s self.old disk.old → s.redo_end ≡ Some e
+            → CheckpointKept D.Disk b base s next active.now (dirty_pages (synced_entries self.old.table)) disk.old self.new disk.new result }
+        ensures full { FitsRecord self.old.table → result ≡ Err LogFull → 2 ^ 62 < end_with self.old.log (size_of (Checkpoint next active.now (dirty_pages (synced_entries self.old.table)))) }
+        ensures fits { FitsRecord self.old.table → OnOk result (end_with self.old.log (size_of (Checkpoint next active.now (dirty_pages (synced_entries self.old.table)))) ≤ 2 ^ 62) }
+        ensures table { OnOk result (self.new.table ≡ forgotten_entries (synced_entries self.old.table)) }
+        ensures pool { self.new.pool ≡ self.old.pool }
+        ensures few { CostsAtMost D.Disk 4 5 disk.old disk.new }
+    {
+        self.sync_pages(disk)?;
+        let lsn = self.log_tables(disk, next, active)?;
+        self.force(disk)?;
+        Ok(lsn)
+    }
+
     /// Takes a Checkpoint, and answers its LSN: the file of pages is synced, then the record joins the log, with the next transaction
     /// number, these rows of active transactions and the rows of the dirty table as the sync has left it, and then the log is forced, as
     /// it is first where the record does not fit into its buffer. That is one sync and one force or two; no page is read, copied or
     /// written, and no memory is taken. The redo point of the log is then the least of the Checkpoint's LSN and the rec_lsns of its rows,
     /// and no page counts as having a full copy at or after it: the next write of each adds its Image.
     ///
-    /// Refused `LogFull`, after the sync, exactly where the record would end above LSN 2^62, `Device`, or `Failed` after a call that failed.
+    /// The record has room for 1,024 rows. Where the sync would leave more (`FitsRecord`), which only a pool of more than 1,024 frames can
+    /// bring, pages are written first, in the order in which `make_entry_room` writes them, until it would not.
+    ///
+    /// Refused `LogFull`, after the sync, exactly where the record would end above LSN 2^62, or where an Image before it would, `Device`, or `Failed`
+    /// after a call that failed.
     pub fn log_checkpoint<D: Disk>(
         &mut self,
         disk: &mut D,
@@ -70,18 +149,19 @@ impl PageWriter {
         requires rise { Rise (λ a. a.transaction) None active.now }
         requires ready { IsReadyWriter D.Disk self.old disk.old }
         ensures outcome { Logs D.Disk false none_mild self.old disk.old self.new disk.new (fault_of result) }
-        ensures kept { (b : Base) (base : ℕ) (s : Writer) (e : ℕ) → StandsAs D.Disk b base s self.old disk.old → s.redo_end ≡ Some e
+        ensures kept { FitsRecord self.old.table → (b : Base) (base : ℕ) (s : Writer) (e : ℕ) → StandsAs D.Disk b base s self.old disk.old → s.redo_end ≡ Some e
             → CheckpointKept D.Disk b base s next active.now (dirty_pages (synced_entries self.old.table)) disk.old self.new disk.new result }
-        ensures full { result ≡ Err LogFull → 2 ^ 62 < end_with self.old.log (size_of (Checkpoint next active.now (dirty_pages (synced_entries self.old.table)))) }
-        ensures fits { OnOk result (end_with self.old.log (size_of (Checkpoint next active.now (dirty_pages (synced_entries self.old.table)))) ≤ 2 ^ 62) }
-        ensures table { OnOk result (self.new.table ≡ forgotten_entries (synced_entries self.old.table)) }
-        ensures pool { self.new.pool ≡ self.old.pool }
-        ensures few { CostsAtMost D.Disk 4 5 disk.old disk.new }
+        ensures always { (b : Base) (base : ℕ) (s : Writer) (e : ℕ) → StandsAs D.Disk b base s self.old disk.old → s.redo_end ≡ Some e → CheckpointFromKept D.Disk b base s next active.now disk.old self.new disk.new result }
+        ensures full { FitsRecord self.old.table → result ≡ Err LogFull → 2 ^ 62 < end_with self.old.log (size_of (Checkpoint next active.now (dirty_pages (synced_entries self.old.table)))) }
+        ensures fits { FitsRecord self.old.table → OnOk result (end_with self.old.log (size_of (Checkpoint next active.now (dirty_pages (synced_entries self.old.table)))) ≤ 2 ^ 62) }
+        ensures table { FitsRecord self.old.table → OnOk result (self.new.table ≡ forgotten_entries (synced_entries self.old.table)) }
+        ensures pool { FitsRecord self.old.table → self.new.pool ≡ self.old.pool }
+        ensures held { OnOk result (SameHeld self.old.pool self.new.pool) }
+        ensures few { FitsRecord self.old.table → CostsAtMost D.Disk 4 5 disk.old disk.new }
+        ensures costs { OnOk result (CheckpointCosts D.Disk self.old disk.old disk.new) }
     {
-        self.sync_pages(disk)?;
-        let lsn = self.log_tables(disk, next, active)?;
-        self.force(disk)?;
-        Ok(lsn)
+        self.fit_record(disk)?;
+        self.take_checkpoint(disk, next, active)
     }
 }
 

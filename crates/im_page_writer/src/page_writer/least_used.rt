@@ -16,9 +16,6 @@ const AT_ONCE: usize = 8;
 /// The same where it holds several.
 const MOST_AT_ONCE: usize = 64;
 
-/// Half of the dirty table's entries.
-pub(super) const HALF: usize = MOST_DIRTY / 2;
-
 impl PageWriter {
     ghost use Rattle.im_base_disk.specs.Runs.{Reads};
     ghost use Rattle.im_page_file.specs.Takes.{TakesImage};
@@ -67,18 +64,25 @@ impl PageWriter {
             return Ok(());
         }
         let among = self.pool.frames() / 2;
-        self.flush_company(disk, among)
+        self.flush_company(disk, among, AT_ONCE)
     }
 
-    // Flushes changed pages that are written next, in rising number: where their use decides, among so many that were used least recently.
-    fn flush_company<D: Disk>(&mut self, disk: &mut D, among: usize) -> Result<(), Fault>
+    // Flushes changed pages that are written next, in rising number, so many at most where no other batch finds room in the log's buffer: where their
+    // use decides, among so many that were used least recently.
+    fn flush_company<D: Disk>(
+        &mut self,
+        disk: &mut D,
+        among: usize,
+        at_once: usize,
+    ) -> Result<(), Fault>
         requires ready { IsReadyWriter D.Disk self.old disk.old }
         requires working { self.old.failed ≡ false }
+        requires within { at_once ≤ 64 }
         ensures outcome { Flushes D.Disk self.old disk.old self.new disk.new (fault_of result) }
         ensures held { OnOk result (SameHeld self.old.pool self.new.pool) }
     {
         let mut numbers = [0; MOST_AT_ONCE];
-        let first = self.next_changes(among, &mut numbers[..AT_ONCE]);
+        let first = self.next_changes(among, &mut numbers[..at_once]);
         self.note_copies(disk, &numbers[..first])?;
         let count = self.more_of(among, first, &mut numbers);
         self.note_copies(disk, &numbers[..count])?;
@@ -86,7 +90,12 @@ impl PageWriter {
         self.flush_copied(disk, &numbers[..count])
     }
 
-    // Whether the pool has more frames than the dirty table has entries. The changed pages are found by that then, as most frames may hold pages
+    // Half of the dirty table's entries.
+    pub(super) fn half(&self) -> usize {
+        self.table.most() / 2
+    }
+
+    // Whether the pool has more than 1,024 frames. The changed pages are found by the dirty table then, as most frames may hold pages
     // without a change, over which a walk by their use would go each time.
     pub(super) fn is_large(&self) -> bool
         ensures { result ≡ nat_lt 1024 self.now.pool.frames }
@@ -110,8 +119,8 @@ impl PageWriter {
     // Where the page is held whose first change since its last write is the oldest, if it is held.
     fn find_oldest_change(&self) -> Option<Frame>
         ensures at { IfSome result (IsAt self.now.pool) }
-        ensures next { IfSome result (λ frame. option_map (λ r. r.page) (oldest None self.now.table) ≡ Some frame.number) }
-        ensures none { (p : ℕ) → result ≡ None → option_map (λ r. r.page) (oldest None self.now.table) ≡ Some p → held_of self.now.pool p ≡ None }
+        ensures next { IfSome result (λ frame. option_map (λ r. r.page) (oldest self.now.table) ≡ Some frame.number) }
+        ensures none { (p : ℕ) → result ≡ None → option_map (λ r. r.page) (oldest self.now.table) ≡ Some p → held_of self.now.pool p ≡ None }
     {
         match self.table.oldest_change() {
             Some(row) => self.pool.find(row.page),
@@ -160,17 +169,32 @@ impl PageWriter {
         }
     }
 
-    // Flushes the page that is written next, if there is one, with others that go next.
+    // Flushes the page that is written next, if there is one, with others that go next. In a pool of more than 1,024 frames the pages of the 64
+    // oldest changes go before it, whether its flush forces the log or not: each walk over the dirty table is long there.
     pub(super) fn flush_next<D: Disk>(&mut self, disk: &mut D) -> Result<(), Fault>
         requires ready { IsReadyWriter D.Disk self.old disk.old }
         requires working { self.old.failed ≡ false }
         ensures outcome { Flushes D.Disk self.old disk.old self.new disk.new (fault_of result) }
         ensures held { OnOk result (SameHeld self.old.pool self.new.pool) }
     {
+        self.flush_far(disk)?;
         match self.first_changed() {
             None => Ok(()),
             Some(frame) => self.flush_with_others(disk, frame),
         }
+    }
+
+    // Flushes the pages of the 64 oldest changes, in a pool of more than 1,024 frames.
+    fn flush_far<D: Disk>(&mut self, disk: &mut D) -> Result<(), Fault>
+        requires ready { IsReadyWriter D.Disk self.old disk.old }
+        requires working { self.old.failed ≡ false }
+        ensures outcome { Flushes D.Disk self.old disk.old self.new disk.new (fault_of result) }
+        ensures held { OnOk result (SameHeld self.old.pool self.new.pool) }
+    {
+        if !self.is_large() {
+            return Ok(());
+        }
+        self.flush_company(disk, 0, MOST_AT_ONCE)
     }
 
     // The same until half of the dirty table's entries are of pages that are written.
@@ -180,8 +204,9 @@ impl PageWriter {
         ensures outcome { Flushes D.Disk self.old disk.old self.new disk.new (fault_of result) }
         ensures held { OnOk result (SameHeld self.old.pool self.new.pool) }
     {
-        for _company in 0..HALF {
-            if self.table.written_count() >= HALF {
+        let half = self.half();
+        for _company in 0..half {
+            if self.table.written_count() >= half {
                 break;
             }
             self.flush_next(disk)?;
@@ -214,7 +239,7 @@ impl PageWriter {
         ensures pool { self.new.pool ≡ self.old.pool }
         ensures reads { Reads D.Disk disk.old disk.new }
         ensures room { KeepsRoom self.old.table self.new.table }
-        ensures rows { self.new.rows ≡ self.old.rows }
+        ensures numbers { self.new.numbers ≡ self.old.numbers }
     {
         if !self.log.takes(IMAGE_SIZE) {
             return Ok(());
@@ -233,7 +258,7 @@ impl PageWriter {
         ensures pool { self.new.pool ≡ self.old.pool }
         ensures reads { TakesImage self.old.log → Reads D.Disk disk.old disk.new }
         ensures room { KeepsRoom self.old.table self.new.table }
-        ensures rows { self.new.rows ≡ self.old.rows }
+        ensures numbers { self.new.numbers ≡ self.old.numbers }
     {
         self.failed = true;
         note_in_file(

@@ -90,7 +90,7 @@ impl PageWriter {
         ensures known { self.new.known ≡ self.old.known }
         ensures frames { self.new.pool.frames ≡ self.old.pool.frames }
         ensures failed { self.new.failed ≡ self.old.failed }
-        ensures refused { IfErr result (λ e. (e ≡ NotAStore) × (Holds self.old.pool number ⊎ (copy_in lsn (what_of (view record.now)) ≡ None) ⊎ (length self.old.pool.held ≡ self.old.pool.frames) ⊎ (length self.old.table ≡ 1024))) }
+        ensures refused { IfErr result (λ e. (e ≡ NotAStore) × (Holds self.old.pool number ⊎ (copy_in lsn (what_of (view record.now)) ≡ None) ⊎ (length self.old.pool.held ≡ self.old.pool.frames) ⊎ (length self.old.table.entries ≡ self.old.table.most))) }
     {
         if self.pool.holds(number) {
             return Err(Fault::NotAStore);
@@ -149,7 +149,7 @@ impl PageWriter {
         ensures known { self.new.known ≡ self.old.known }
         ensures frames { self.new.pool.frames ≡ self.old.pool.frames }
         ensures failed { self.new.failed ≡ self.old.failed }
-        ensures refused { IfErr result (λ e. (e ≡ NotAStore) × (LacksTaker (what_of (view record.now)) number self.old.pool ⊎ (length self.old.table ≡ 1024) ⊎ (held_of self.old.pool number ≡ None))) }
+        ensures refused { IfErr result (λ e. (e ≡ NotAStore) × (LacksTaker (what_of (view record.now)) number self.old.pool ⊎ (length self.old.table.entries ≡ self.old.table.most) ⊎ (held_of self.old.pool number ≡ None))) }
     {
         let frame = self.find_with_room(number)?;
         if !redo_record(&mut self.pool, &mut self.spare, frame, lsn, record)? {

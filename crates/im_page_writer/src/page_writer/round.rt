@@ -11,7 +11,7 @@ ghost use Rattle.im_theory_log.specs.WriterSteps.{synced};
 
 use crate::PageWriter;
 use im_base_disk::Disk;
-use im_base_types::{Fault, Lsn, MOST_DIRTY, PageNo, WorkerStart};
+use im_base_types::{Fault, Lsn, PageNo, WorkerStart};
 use im_page_rounds::{RoundPage, Worker, redo_records};
 use std::collections::BTreeMap;
 use std::thread::Threads;
@@ -50,7 +50,7 @@ impl PageWriter {
         requires working { self.old.failed ≡ false }
         ensures outcome { Flushes D.Disk self.old disk.old self.new disk.new (fault_of result) }
     {
-        for _company in 0..MOST_DIRTY {
+        for _company in 0..self.table.most() {
             if self.first_changed().is_none() {
                 break;
             }
@@ -70,13 +70,13 @@ impl PageWriter {
 
     // Whether the dirty table has room for so many entries more.
     fn has_entries_room(&self, count: usize) -> bool
-        ensures room { length self.now.table + count ≤ 1024 → result ≡ true }
-        ensures full { result ≡ true → length self.now.table + count ≤ 1024 }
+        ensures room { length self.now.table.entries + count ≤ self.now.table.most → result ≡ true }
+        ensures full { result ≡ true → length self.now.table.entries + count ≤ self.now.table.most }
     {
         if self.table.is_full() {
             return count == 0;
         }
-        count <= MOST_DIRTY - self.table.len()
+        count <= self.table.most() - self.table.len()
     }
 
     // Flushes each page that was changed, and syncs the file of pages: the dirty table has no entry then. Pages that go next are flushed together first, so that they
@@ -85,7 +85,7 @@ impl PageWriter {
         requires ready { IsReadyWriter D.Disk self.old disk.old }
         requires working { self.old.failed ≡ false }
         ensures outcome { Flushes D.Disk self.old disk.old self.new disk.new (fault_of result) }
-        ensures empty { (b : Base) (base : ℕ) (s : Writer) → StandsAs D.Disk b base s self.old disk.old → OnOk result (length self.new.table ≡ 0) }
+        ensures empty { (b : Base) (base : ℕ) (s : Writer) → StandsAs D.Disk b base s self.old disk.old → OnOk result (length self.new.table.entries ≡ 0) }
     {
         self.flush_all(disk)?;
         self.flush_every(disk)?;
@@ -97,7 +97,7 @@ impl PageWriter {
         requires ready { IsReadyWriter D.Disk self.old disk.old }
         requires working { self.old.failed ≡ false }
         ensures outcome { Flushes D.Disk self.old disk.old self.new disk.new (fault_of result) }
-        ensures room { (b : Base) (base : ℕ) (s : Writer) → StandsAs D.Disk b base s self.old disk.old → count ≤ 1024 → OnOk result (length self.new.table + count ≤ 1024) }
+        ensures room { (b : Base) (base : ℕ) (s : Writer) → StandsAs D.Disk b base s self.old disk.old → count ≤ 1024 → OnOk result (length self.new.table.entries + count ≤ self.new.table.most) }
     {
         if self.has_entries_room(count) {
             return Ok(());
@@ -112,8 +112,8 @@ impl PageWriter {
     pub fn make_entries_room<D: Disk>(&mut self, disk: &mut D, count: usize) -> Result<(), Fault>
         requires ready { IsReadyWriter D.Disk self.old disk.old }
         ensures outcome { Flushes D.Disk self.old disk.old self.new disk.new (fault_of result) }
-        ensures unchanged { self.old.failed ≡ false → length self.old.table + count ≤ 1024 → (result ≡ Ok tt) × (self.new ≡ self.old) × (disk.new ≡ disk.old) }
-        ensures room { (b : Base) (base : ℕ) (s : Writer) → StandsAs D.Disk b base s self.old disk.old → count ≤ 1024 → OnOk result (length self.new.table + count ≤ 1024) }
+        ensures unchanged { self.old.failed ≡ false → length self.old.table.entries + count ≤ self.old.table.most → (result ≡ Ok tt) × (self.new ≡ self.old) × (disk.new ≡ disk.old) }
+        ensures room { (b : Base) (base : ℕ) (s : Writer) → StandsAs D.Disk b base s self.old disk.old → count ≤ 1024 → OnOk result (length self.new.table.entries + count ≤ self.new.table.most) }
     {
         if self.failed {
             return Err(Fault::Failed);
@@ -171,10 +171,10 @@ impl PageWriter {
 
     // Enters a page as changed from the redo point on, where it was changed.
     fn enter_changed(&mut self, point: Lsn, number: PageNo, copied: bool, changed: bool)
-        requires room { entry_in self.old.table number ≡ None → length self.old.table < 1024 }
+        requires room { entry_in self.old.table number ≡ None → length self.old.table.entries < self.old.table.most }
         ensures entry { entry_in self.new.table number ≡ entry_after changed copied point (entry_in self.old.table number) }
         ensures other_entries { (q : ℕ) → q ≢ number → entry_in self.new.table q ≡ entry_in self.old.table q }
-        ensures most { length self.new.table ≤ length self.old.table + 1 }
+        ensures most { length self.new.table.entries ≤ length self.old.table.entries + 1 }
         ensures pool { self.new.pool ≡ self.old.pool }
         ensures log { self.new.log ≡ self.old.log }
         ensures known { self.new.known ≡ self.old.known }
@@ -189,12 +189,12 @@ impl PageWriter {
     // Takes a lent page back. Where a record was applied to it, it counts as changed, from the redo point on.
     fn take_back(&mut self, point: Lsn, number: PageNo, copied: bool, out: &mut RoundPage)
         requires held { Holds self.old.pool number }
-        requires room { length self.old.table < 1024 }
+        requires room { length self.old.table.entries < self.old.table.most }
         ensures back { (was : Held) → held_of self.old.pool number ≡ Some was → IsBack was out.old self.new.pool number }
         ensures others { (q : ℕ) → q ≢ number → held_of self.new.pool q ≡ held_of self.old.pool q }
         ensures entry { entry_in self.new.table number ≡ entry_after out.old.changed copied point (entry_in self.old.table number) }
         ensures other_entries { (q : ℕ) → q ≢ number → entry_in self.new.table q ≡ entry_in self.old.table q }
-        ensures most { length self.new.table ≤ length self.old.table + 1 }
+        ensures most { length self.new.table.entries ≤ length self.old.table.entries + 1 }
         ensures frames { self.new.pool.frames ≡ self.old.pool.frames }
         ensures log { self.new.log ≡ self.old.log }
         ensures known { self.new.known ≡ self.old.known }
@@ -239,7 +239,7 @@ impl PageWriter {
         i: usize,
     )
         requires held { Holds self.old.pool number }
-        requires entry { length self.old.table < 1024 }
+        requires entry { length self.old.table.entries < self.old.table.most }
         requires some { 0 < length workers.old }
         requires room { (w : Worker) → i / length workers.old < vec_len (get_or workers.old (i % length workers.old) w).pages }
         ensures back { (was : Held) (w : Worker) (d : RoundPage) → held_of self.old.pool number ≡ Some was → IsBack was (page_in workers.old i w d) self.new.pool number }
@@ -248,7 +248,7 @@ impl PageWriter {
         ensures others { (q : ℕ) → q ≢ number → held_of self.new.pool q ≡ held_of self.old.pool q }
         ensures entry { (w : Worker) (d : RoundPage) → entry_in self.new.table number ≡ entry_after (page_in workers.old i w d).changed copied point (entry_in self.old.table number) }
         ensures other_entries { (q : ℕ) → q ≢ number → entry_in self.new.table q ≡ entry_in self.old.table q }
-        ensures most { length self.new.table ≤ length self.old.table + 1 }
+        ensures most { length self.new.table.entries ≤ length self.old.table.entries + 1 }
         ensures frames { self.new.pool.frames ≡ self.old.pool.frames }
         ensures log { self.new.log ≡ self.old.log }
         ensures known { self.new.known ≡ self.old.known }
@@ -291,7 +291,7 @@ impl PageWriter {
         workers: &mut [Worker],
     )
         requires held { AreHeld numbers.now self.old.pool }
-        requires entries { length self.old.table + length numbers.now ≤ 1024 }
+        requires entries { length self.old.table.entries + length numbers.now ≤ self.old.table.most }
         requires some { 0 < length workers.old }
         requires room { HaveRoom (length numbers.now) workers.old }
         requires rising { AreRising numbers.now }
@@ -311,8 +311,8 @@ impl PageWriter {
     // Whether each of these pages is held, and the dirty table has room for an entry of each.
     fn holds_all(&self, numbers: &[PageNo]) -> bool
         ensures held { result ≡ true → AreHeld numbers.now self.now.pool }
-        ensures entries { result ≡ true → length self.now.table + length numbers.now ≤ 1024 }
-        ensures all { AreHeld numbers.now self.now.pool → length self.now.table + length numbers.now ≤ 1024 → result ≡ true }
+        ensures entries { result ≡ true → length self.now.table.entries + length numbers.now ≤ self.now.table.most }
+        ensures all { AreHeld numbers.now self.now.pool → length self.now.table.entries + length numbers.now ≤ self.now.table.most → result ≡ true }
     {
         for i in 0..numbers.len() {
             if !self.pool.holds(numbers[i]) {
@@ -329,7 +329,7 @@ impl PageWriter {
         ensures outcome { Reads D.Disk self.old disk.old self.new disk.new (fault_of result) }
         ensures kept { (pages : AllPages) → HasPages D.Disk AreLoaded pages self.old disk.old → IfErr result (λ e. e ≢ NotAStore) }
         ensures held { IfOk result (λ held. held ≡ true → AreHeld numbers.now self.new.pool) }
-        ensures entries { IfOk result (λ held. held ≡ true → length self.new.table + length numbers.now ≤ 1024) }
+        ensures entries { IfOk result (λ held. held ≡ true → length self.new.table.entries + length numbers.now ≤ self.new.table.most) }
         ensures one { (pages : AllPages) → HasPages D.Disk AreLoaded pages self.old disk.old → length numbers.now ≡ 1 → IfOk result (λ held. held ≡ true) }
     {
         self.make_entries_room(disk, numbers.len())?;
@@ -355,7 +355,7 @@ impl PageWriter {
         requires room { HaveRoom (length numbers.now) workers.old }
         requires rising { AreRising numbers.now }
         requires held { AreHeld numbers.now self.old.pool }
-        requires entries { length self.old.table + length numbers.now ≤ 1024 }
+        requires entries { length self.old.table.entries + length numbers.now ≤ self.old.table.most }
         ensures here { (rs : List Logged) → StandIn from span.now lsns.now rs → OnOk result (RoundHere numbers.now point (λ q. is_some (get nat_cmp copies.now q)) rs self.old self.new) }
         ensures count { (rs : List Logged) (g : ℕ → Page) → StandIn from span.now lsns.now rs → AreShown numbers.now self.old.pool g → IfOk result (λ n. n ≡ applied_of_all rs g) }
         ensures taken { (rs : List Logged) (g : ℕ → Page) → StandIn from span.now lsns.now rs → AreShown numbers.now self.old.pool g → AreAmong numbers.now rs → AllTaken rs g → IfErr result (λ e. ⊥) }

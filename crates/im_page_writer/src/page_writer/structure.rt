@@ -36,7 +36,7 @@ impl PageWriter {
         requires ready { IsReadyWriter D.Disk self.old disk.old }
         requires working { self.old.failed ≡ false }
         requires at { IsAt self.old.pool frame }
-        requires room { entry_in self.old.table frame.number ≡ None → length self.old.table < 1024 }
+        requires room { entry_in self.old.table frame.number ≡ None → length self.old.table.entries < self.old.table.most }
         ensures outcome { Logs D.Disk false no_page self.old disk.old self.new disk.new (fault_of result) }
         ensures kept { (b : Base) (base : ℕ) (s : Writer) (e : ℕ) → StandsAs D.Disk b base s self.old disk.old → s.redo_end ≡ Some e
             → LeftHere D.Disk b base s (view record.now) disk.old self.new disk.new result }

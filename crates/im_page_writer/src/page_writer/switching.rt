@@ -66,7 +66,7 @@ impl PageWriter {
         ensures fails { IfErr result (λ e. MayNotSwitch self.old.log e ⊎ (self.new.failed ≡ true)) }
         ensures works { OnOk result (self.new.failed ≡ false) }
         ensures frames { self.new.pool.frames ≡ self.old.pool.frames }
-        ensures few { self.old.table ≡ [] → CostsAtMost D.Disk 5 6 disk.old disk.new }
+        ensures few { self.old.table.entries ≡ [] → CostsAtMost D.Disk 5 6 disk.old disk.new }
         ensures already { self.old.failed ≡ true → result ≡ Err Failed }
     {
         if self.failed {

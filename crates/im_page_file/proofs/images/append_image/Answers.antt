@@ -18,6 +18,6 @@ returns-clause-outcome g c works =
 
 pub returns-clause-quiet : goal.returns-clause-quiet
 returns-clause-quiet g c takes = elim takes [
-  | inl fits ↦ let small : c.args.log.now.used + (33 + length c.args.bytes.now) ≤ 16384 = omega (arith, c.requires.whole, fits) in c.append.ensures.fits small
-  | inr room ↦ c.append.ensures.later room
+  | inl fits ↦ let small : c.args.log.now.used + (33 + length c.args.bytes.now) ≤ 16384 = omega (arith, c.requires.whole, fits) in c.append.ensures.fits (inl small)
+  | inr room ↦ c.append.ensures.fits (inr room)
 ]

@@ -1,7 +1,5 @@
-use Rattle.std.proofs.Common.{◌≡◌, ◌+◌, ◌-◌, ◌*◌, true, false, refl, sym, ◌∙◌, rules, arith}
+use Rattle.std.proofs.Common.{◌≡◌, true, false, sym, ◌∙◌, rules}
 use Rattle.im_page_file.proofs.LogEnds.{ends_same}
-use Rattle.im_page_table.proofs.Growing.{grows_none, on_ok}
-use Rattle.im_base_disk.proofs.Costs.{costs_as}
 use Rattle.im_page_writer.proofs.Goings.{leaves_of}
 use Rattle.im_page_file.proofs.ImageCalls.{imaging_lost}
 use Rattle.im_page_writer.proofs.Costs.{costs_early}

@@ -23,7 +23,7 @@ returns-clause-outcome g c =
     let works = one.ends.0 in
     imaging_then g.D.Disk one (record {
       still = λ alive. e.outcome.ready;
-      ends = (e.outcome.ends.1, e.outcome.ends.2, ends_forced c.append_images.new.log c.force.new.self e.place (λ none. (e.same works none).1) e.outcome.generation);
+      ends = (e.outcome.ends.1, e.outcome.ends.2, ends_forced c.append_images.new.log c.force.new.self e.place (λ none. ((e.none none).1 works).1) e.outcome.generation);
     })
 
 pub returns-in_err-append_images-clause-kept : goal.returns-in_err-append_images-clause-kept
@@ -50,4 +50,4 @@ returns-clause-kept g c b base s w all =
 pub returns-clause-forces : goal.returns-clause-forces
 returns-clause-forces g c =
     forces_then g.D.Disk (c.args.last + 1 - c.args.first) 1 c.args.disk.now c.append_images.new.disk c.force.new.disk c.in_ok-append_images.ensures.forces
-    (forces_by g.D.Disk c.append_images.new.log.used c.append_images.new.disk c.force.new.disk c.in_ok-force.ensures.costs c.force.ensures.none)
+    (forces_by g.D.Disk c.append_images.new.log.used c.append_images.new.disk c.force.new.disk c.in_ok-force.ensures.costs (λ nothing. (c.force.ensures.none nothing).0))

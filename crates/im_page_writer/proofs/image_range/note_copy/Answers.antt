@@ -48,4 +48,4 @@ returns-clause-kept g c b base s w =
 
 pub returns-clause-room : goal.returns-clause-room
 returns-clause-room g c q has =
-    room_put (changed_entry true c.in_ok-lsn.lsn) c.args.number q c.args.table.now c.enter.new.self (dirty_entry c.in-Some.entry) c.pages_rise.ensures c.in-Some.ensures.some c.enter.ensures.table has
+    room_put (changed_entry true c.in_ok-lsn.lsn) c.args.number q c.args.table.now c.enter.new.self (dirty_entry c.in-Some.entry) c.in-Some.ensures.some c.enter.ensures.table has

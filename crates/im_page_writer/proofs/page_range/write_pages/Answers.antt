@@ -1,8 +1,7 @@
-use Rattle.std.proofs.Common.{◌≡◌, ℕ, ◌-◌, List, refl, sym, subst, arith, rules, ◌∙◌, ap, ◌+◌}
+use Rattle.std.proofs.Common.{◌≡◌, ℕ, ◌-◌, refl, sym, subst, arith, rules, ◌∙◌, ap, ◌+◌}
 use Rattle.im_base_types.specs.declared.file_id.FileId.TheVariants.{Pages}
 use Rattle.im_base_disk.proofs.Runs.{changes_reads, changes_then, reads_none}
-use Rattle.im_page_table.specs.declared.table_entry.TableEntry.{TableEntry}
-use Rattle.im_page_table.specs.DirtyTable.{has_room, written_in}
+use Rattle.im_page_table.specs.DirtyTable.{TableView, has_room, written_in}
 use Rattle.im_page_writer.specs.Writing.{lsn_for, MayPlace, WrittenHere, WritesTo}
 use Rattle.im_page_writer.proofs.Placing.{asked, held_none, held_then, held_unmarked, writes_left, writes_more, writes_start, writes_stop}
 use Rattle.im_base_disk.proofs.Costs.{costs_as, costs_none, costs_then}
@@ -16,6 +15,7 @@ loop-number-init g c = record {
   changes = changes_reads g.D.Disk Pages c.args.disk.now c.args.disk.now (reads_none g.D.Disk c.args.disk.now);
   costs = costs_as g.D.Disk 0 0 (c.args.first - c.args.first) 0 c.args.disk.now c.args.disk.now (omega arith) refl (costs_none g.D.Disk c.args.disk.now);
   held = held_none c.args.pool.now;
+  most = refl;
   start = λ e. (refl, refl);
   one = λ e. absurd (omega (arith, e));
   kept = λ b base s log w all may. writes_start g.D.Disk b base s c.args.first c.args.last c.args.lsns.now c.args.disk.now log c.args.table.now c.args.pool.now (g.met.D.Disk.only_now c.args.disk.now) w all may;
@@ -34,6 +34,7 @@ loop-number-preserved g c =
       costs = costs_as g.D.Disk (l.number - c.args.first + 1) (0 + 0) (l.number + 1 - c.args.first) 0 c.args.disk.now c.write_one.new.disk (omega (arith, l.invariant.low)) refl
           (costs_then g.D.Disk (l.number - c.args.first) 0 1 0 c.args.disk.now l.disk c.write_one.new.disk l.invariant.costs one.costs);
       held = held_then c.args.pool.now l.pool c.write_one.new.pool l.invariant.held (held_unmarked l.number l.pool c.write_one.new.pool one.pool);
+      most = one.most ∙ l.invariant.most;
       start = λ e. absurd (omega (arith, e, l.invariant.low));
       one = λ e.
           let at : l.number ≡ c.args.first = omega (arith, e) in
@@ -42,8 +43,8 @@ loop-number-preserved g c =
                 ∙ ap (λ (m : ℕ). written_in l.number m l.table) lsn
                 ∙ ap (λ (n : ℕ). written_in n (lsn_for c.args.lsns.now (n - c.args.first)) l.table) at
                 ∙ ap (λ (m : ℕ). written_in c.args.first (lsn_for c.args.lsns.now m) l.table) (let none : c.args.first - c.args.first ≡ 0 = omega arith in none)
-                ∙ ap (λ (t : List TableEntry). written_in c.args.first (lsn_for c.args.lsns.now 0) t) so.0,
-            c.both-entered.ensures.first so.1 ∙ one.entered ∙ ap (λ (n : ℕ). has_room n l.table) at ∙ ap (λ (t : List TableEntry). has_room c.args.first t) so.0,
+                ∙ ap (λ (t : TableView). written_in c.args.first (lsn_for c.args.lsns.now 0) t) so.0,
+            c.both-entered.ensures.first so.1 ∙ one.entered ∙ ap (λ (n : ℕ). has_room n l.table) at ∙ ap (λ (t : TableView). has_room c.args.first t) so.0,
           );
       kept = λ b base s log w all may.
           let so = l.invariant.kept b base s log w all may in
@@ -79,3 +80,9 @@ pub returns-clause-costs : goal.returns-clause-costs
 returns-clause-costs g c =
     let l = c.loop-number in
     costs_as g.D.Disk (l.number - c.args.first) 0 (c.args.last + 1 - c.args.first) 0 c.args.disk.now l.disk (omega (arith, c.loop-number-test.false, c.requires.order)) refl l.invariant.costs
+
+pub returns-in_err-has-clause-most : goal.returns-in_err-has-clause-most
+returns-in_err-has-clause-most g c = c.write_one.ensures.most ∙ c.loop-number.invariant.most
+
+pub returns-clause-most : goal.returns-clause-most
+returns-clause-most g c = c.loop-number.invariant.most

@@ -17,6 +17,7 @@ invariant-loop-number g l = record {
   changes : ChangesOnly g.D.Disk Pages l.fn.disk l.disk;
   costs : Costs g.D.Disk (l.number - l.fn.first) 0 l.fn.disk l.disk;
   held : SameHeld l.fn.pool l.pool;
+  most : l.table.most ≡ l.fn.table.most;
   start : l.number ≡ l.fn.first → (l.table ≡ l.fn.table) × (l.entered ≡ true);
   one : l.number ≡ l.fn.first + 1 → (l.table ≡ written_in l.fn.first (lsn_for l.fn.lsns 0) l.fn.table) × (l.entered ≡ has_room l.fn.first l.fn.table);
   kept : (b : Base) (base : ℕ) (s : Writer) (log : LogFile) → IsWriting g.D.Disk b base s log l.fn.table l.fn.pool l.fn.disk → s.durable ≡ s.log

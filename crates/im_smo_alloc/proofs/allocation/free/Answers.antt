@@ -3,7 +3,7 @@ use Rattle.im_base_types.specs.declared.page_kind.PageKind.TheVariants.{Free}
 use Rattle.im_base_types.specs.Pages.{Page}
 use Rattle.im_theory_page.specs.Header.{empty_body}
 use Rattle.im_page_writer.specs.Outcome.{mild}
-use Rattle.im_page_writer.proofs.Outcomes.{ends_own, pages_still, sound_done, sound_on, then}
+use Rattle.im_page_writer.proofs.Outcomes.{ends_own, pages_still, refused, sound_done, sound_on, then}
 use Rattle.im_smo_pages.specs.Bodies.{says, meta_with_first}
 use Rattle.im_smo_pages.specs.Images.{Numbered, put_image, without_image}
 use Rattle.im_smo_alloc.proofs.Taking.{given_fewer, given_kind, gives}
@@ -16,6 +16,10 @@ returns-in_err-meta-clause-kept g c pages spare tree = sound_on c.from_residual.
 pub returns-in_err-page-clause-kept : goal.returns-in_err-page-clause-kept
 returns-in_err-page-clause-kept g c pages spare tree =
     sound_on c.from_residual-in_err-page.result _ _ c.from_residual-in_err-page.ensures.1 (c.in_err-page.ensures.kept pages (pages_still g.D.Disk tree.has c.in_ok-meta.ensures.outcome))
+
+pub returns-in_err-page-clause-outcome : goal.returns-in_err-page-clause-outcome
+returns-in_err-page-clause-outcome g c =
+    refused g.D.Disk c.from_residual-in_err-page.result c.from_residual-in_err-page.ensures.1 (then g.D.Disk c.in_ok-meta.ensures.outcome c.in_err-page.ensures.outcome)
 
 pub returns-clause-outcome : goal.returns-clause-outcome
 returns-clause-outcome g c =

@@ -1,20 +1,27 @@
-use Rattle.std.proofs.Common.{arith, ◌≡◌, List, sym, subst, ap, ◌∙◌}
-use Rattle.std.proofs.lemmas.Grind.{common_steps}
+use Rattle.std.proofs.Common.{◌≡◌, List, length, nat_eq, map, sym, ap, subst, ◌∙◌, arith}
+use Rattle.std.proofs.lemmas.List.{length-map}
+use Rattle.std.specs.HashMap.{get}
 use Rattle.im_page_table.specs.declared.table_entry.TableEntry.{TableEntry}
-use Rattle.im_page_table.specs.DirtyTable.{entry_in, forgotten_entries, IsRising}
-use Rattle.im_page_table.proofs.Tables.{forgotten_rising, forgets_entries}
+use Rattle.im_page_table.specs.DirtyTable.{TableView, entry_among, uncopied, AreApart, Finds}
+use Rattle.im_page_table.proofs.Tables.{forgets_entries, forgotten_apart, place_forgotten}
 use Rattle.im_page_table.proofs.dirty_table.DirtyTable.forget.Goals as goal
 
 pub invariant_of-self : goal.invariant_of-self
 invariant_of-self c =
-    let v : c.self.inside.entries.items ≡ c.args.self.now = c.self.view_is in
-    let is : c.loop-at.self-inside.entries.items ≡ forgotten_entries c.args.self.now = grind (arith, common_steps) in (
-      subst (λ (l : List TableEntry). IsRising l) (sym is) (forgotten_rising c.args.self.now (subst (λ (l : List TableEntry). IsRising l) v c.self.invariant.0)),
-      c.loop-at.invariant.within,
-      c.loop-at.invariant.room,
+    let xs = c.self.inside.entries.items in
+    let i = c.self.invariant in
+    let is = c.forget_copies.ensures.items in
+    let long : length c.forget_copies.new.entries.items ≡ length xs = ap (λ (l : List TableEntry). length l) is ∙ length-map xs uncopied in (
+      subst (λ (l : List TableEntry). AreApart l) (sym is) (forgotten_apart xs i.0),
+      subst (λ (l : List TableEntry). Finds (get nat_eq c.self.inside.places) l) (sym is) (λ q. i.1 q ∙ sym (place_forgotten xs q)),
+      omega (arith, long, i.2),
+      omega (arith, i.3, c.forget_copies.ensures.room),
+      i.4 ∙ sym long,
+      i.5,
+      i.6,
+      i.7,
     )
 
 pub returns-clause-entry : goal.returns-clause-entry
 returns-clause-entry c p =
-    let is : c.loop-at.self-inside.entries.items ≡ forgotten_entries c.args.self.now = grind (arith, common_steps) in
-    ap (λ (l : List TableEntry). entry_in l p) is ∙ forgets_entries c.args.self.now p
+    ap (λ (l : List TableEntry). entry_among l p) (c.forget_copies.ensures.items ∙ ap (λ (t : TableView). map uncopied t.entries) c.self.view_is) ∙ forgets_entries c.args.self.now.entries p

@@ -1,84 +1,60 @@
-use Rattle.std.proofs.Common.{rules, arith, ◌≡◌, ◌<◌, List, length, ap, subst, sym, ◌∙◌, vec_len}
-use Rattle.im_page_table.specs.declared.table_entry.TableEntry.{TableEntry}
-use Rattle.im_page_table.specs.DirtyTable.{put, IsRising, IsFound, IsAbsent}
+use Rattle.std.proofs.Common.{◌≡◌, ◌<◌, List, length, get_or, refl, ap, subst, sym, ◌∙◌, rules, arith}
 use Rattle.im_theory_log.specs.WriterSteps.{written_entry}
-use Rattle.im_base_types.specs.declared.sizes.TheConstants.{MOST_DIRTY}
-use Rattle.im_page_table.proofs.Tables.{changes_entry, put_set, put_absent, put_rising, absent_none, found_entry, room_found, room_free, room_none, written_with, written_not}
+use Rattle.im_page_table.specs.declared.table_entry.TableEntry.{TableEntry}
+use Rattle.im_page_table.specs.DirtyTable.{TableView}
+use Rattle.im_page_table.proofs.Tables.{changes_entry, found_made, put_set, put_absent, found_entry, room_found, room_free, room_none, written_with, written_not}
 use Rattle.im_page_table.proofs.dirty_table.DirtyTable.write.Goals as goal
 
 -- ---- where the page has its entry
 
-pub invariant_of-self : goal.invariant_of-self
-invariant_of-self c =
-    let v : c.self.inside.entries.items ≡ c.args.self.now = c.self.view_is in
-    let found : IsFound c.self.inside.entries.items c.args.page c.in-Ok.at = subst (λ (l : List TableEntry). IsFound l c.args.page c.in-Ok.at) (sym v) c.in-Ok.ensures.found in
-    let is = put_set (written_entry c.args.lsn) c.self.inside.entries.items c.in-Ok.at c.args.page c.index-entry.result.now c.written.result found c.index-entry.ensures c.written.ensures in
-    (subst (λ (l : List TableEntry). IsRising l) (sym is) (put_rising (written_entry c.args.lsn) c.args.page c.self.inside.entries.items c.self.invariant.0), c.self.invariant.1, c.self.invariant.2)
+pub set-requires : goal.set-requires
+set-requires c =
+    let t = c.args.self.now in
+    let v : c.self.inside.entries.items ≡ t.entries = ap (λ (x : TableView). x.entries) c.self.view_is in
+    let at = subst (λ (l : List TableEntry). c.index-entry.result.now ≡ get_or l c.in-Some.at c.index-entry.result.now) v c.index-entry.ensures in
+    found_made t.entries c.in-Some.at c.args.page c.index-entry.result.now c.written.result c.in-Some.ensures.found at (ap (λ (y : TableEntry). y.page) c.written.ensures)
 
-pub returns-in-Ok-clause-entered : goal.returns-in-Ok-clause-entered
-returns-in-Ok-clause-entered c =
-    let rising : IsRising c.args.self.now = subst (λ (l : List TableEntry). IsRising l) c.self.view_is c.self.invariant.0 in
-    sym (room_found c.args.self.now c.args.page _ (found_entry c.args.self.now c.in-Ok.at c.args.page c.index-entry.result.now rising c.in-Ok.ensures.found))
+pub returns-in-Some-clause-entered : goal.returns-in-Some-clause-entered
+returns-in-Some-clause-entered c = sym (room_found c.args.self.now c.args.page _ (found_entry c.args.self.now.entries c.in-Some.at c.args.page c.index-entry.result.now c.in-Some.ensures.found))
 
-pub returns-in-Ok-clause-table : goal.returns-in-Ok-clause-table
-returns-in-Ok-clause-table c =
-    let v : c.self.inside.entries.items ≡ c.args.self.now = c.self.view_is in
-    let found : IsFound c.self.inside.entries.items c.args.page c.in-Ok.at = subst (λ (l : List TableEntry). IsFound l c.args.page c.in-Ok.at) (sym v) c.in-Ok.ensures.found in
-    written_with c.args.lsn c.args.page c.args.self.now _ (sym (returns-in-Ok-clause-entered c))
-    (put_set (written_entry c.args.lsn) c.self.inside.entries.items c.in-Ok.at c.args.page c.index-entry.result.now c.written.result found c.index-entry.ensures c.written.ensures ∙ ap (λ (l : List TableEntry). put c.args.page (written_entry c.args.lsn) l) v)
+pub returns-in-Some-clause-table : goal.returns-in-Some-clause-table
+returns-in-Some-clause-table c =
+    let t = c.args.self.now in
+    let v : c.self.inside.entries.items ≡ t.entries = ap (λ (x : TableView). x.entries) c.self.view_is in
+    let at = subst (λ (l : List TableEntry). c.index-entry.result.now ≡ get_or l c.in-Some.at c.index-entry.result.now) v c.index-entry.ensures in
+    written_with c.args.lsn c.args.page t _ (sym (returns-in-Some-clause-entered c))
+    (c.set.ensures ∙ ap (λ (l : List TableEntry). record t { entries = l })
+    (put_set (written_entry c.args.lsn) t.entries c.in-Some.at c.args.page c.index-entry.result.now c.written.result c.in-Some.ensures.found at c.written.ensures))
 
-pub returns-in-Ok-clause-entry : goal.returns-in-Ok-clause-entry
-returns-in-Ok-clause-entry c entered =
-    let v : c.self.inside.entries.items ≡ c.args.self.now = c.self.view_is in
-    let found : IsFound c.self.inside.entries.items c.args.page c.in-Ok.at = subst (λ (l : List TableEntry). IsFound l c.args.page c.in-Ok.at) (sym v) c.in-Ok.ensures.found in
-    changes_entry (written_entry c.args.lsn) c.args.page c.args.self.now _ (subst (λ (l : List TableEntry). IsRising l) c.self.view_is c.self.invariant.0)
-    (put_set (written_entry c.args.lsn) c.self.inside.entries.items c.in-Ok.at c.args.page c.index-entry.result.now c.written.result found c.index-entry.ensures c.written.ensures ∙ ap (λ (l : List TableEntry). put c.args.page (written_entry c.args.lsn) l) v)
+pub returns-in-Some-clause-entry : goal.returns-in-Some-clause-entry
+returns-in-Some-clause-entry c entered =
+    let t = c.args.self.now in
+    let v : c.self.inside.entries.items ≡ t.entries = ap (λ (x : TableView). x.entries) c.self.view_is in
+    let at = subst (λ (l : List TableEntry). c.index-entry.result.now ≡ get_or l c.in-Some.at c.index-entry.result.now) v c.index-entry.ensures in
+    changes_entry (written_entry c.args.lsn) c.args.page t _
+    (c.set.ensures ∙ ap (λ (l : List TableEntry). record t { entries = l })
+    (put_set (written_entry c.args.lsn) t.entries c.in-Some.at c.args.page c.index-entry.result.now c.written.result c.in-Some.ensures.found at c.written.ensures))
 
 -- ---- where it has none, and there is no room
 
-pub returns-then-len-eq-MOST_DIRTY-clause-entered : goal.returns-then-len-eq-MOST_DIRTY-clause-entered
-returns-then-len-eq-MOST_DIRTY-clause-entered c =
-    let rising : IsRising c.args.self.now = subst (λ (l : List TableEntry). IsRising l) c.self.view_is c.self.invariant.0 in
-    let full : length c.args.self.now ≡ MOST_DIRTY = search (rules, arith) in
-    sym (room_none c.args.self.now c.args.page (absent_none c.args.self.now c.in-Err.at c.args.page rising c.in-Err.ensures.absent) full)
+pub returns-then-is_full-clause-entered : goal.returns-then-is_full-clause-entered
+returns-then-is_full-clause-entered c = sym (room_none c.args.self.now c.args.page (c.in-None.ensures.absent refl) (c.is_full.ensures.full.0 c.if-is_full.true))
 
-pub returns-then-len-eq-MOST_DIRTY-clause-table : goal.returns-then-len-eq-MOST_DIRTY-clause-table
-returns-then-len-eq-MOST_DIRTY-clause-table c = written_not c.args.lsn c.args.page c.args.self.now (sym (returns-then-len-eq-MOST_DIRTY-clause-entered c))
+pub returns-then-is_full-clause-table : goal.returns-then-is_full-clause-table
+returns-then-is_full-clause-table c = written_not c.args.lsn c.args.page c.args.self.now (sym (returns-then-is_full-clause-entered c))
 
 -- ---- where it comes in
 
-pub invariant_of-self-in-Err : goal.invariant_of-self-in-Err
-invariant_of-self-in-Err c =
-    let v : c.self.inside.entries.items ≡ c.args.self.now = c.self.view_is in
-    let absent : IsAbsent c.args.self.now c.args.page c.in-Err.at = c.in-Err.ensures.absent in
-    let n : length c.self.inside.entries.items ≡ length c.args.self.now = ap (λ (l : List TableEntry). length l) v in
-    let k : vec_len c.self.inside.entries ≡ length c.self.inside.entries.items = search rules in
-    let room : length c.args.self.now < MOST_DIRTY = search (rules, arith) in
-    let new = rw c.unwrap.ensures at c.insert.ensures.items in
-    let len = rw c.unwrap.ensures at c.insert.ensures.len in
-    let is : put c.args.page (written_entry c.args.lsn) c.self.inside.entries.items ≡ c.insert.new.self.items =
-    put_absent (written_entry c.args.lsn) c.self.inside.entries.items c.in-Err.at c.args.page (subst (λ (l : List TableEntry). IsAbsent l c.args.page c.in-Err.at) (sym v) absent) ∙ sym new in (
-      subst (λ (l : List TableEntry). IsRising l) is (put_rising (written_entry c.args.lsn) c.args.page c.self.inside.entries.items c.self.invariant.0),
-      omega (arith, len, n, k, room),
-      omega (arith, c.insert.ensures.capacity, c.self.invariant),
-    )
+pub returns-else-is_full-clause-table : goal.returns-else-is_full-clause-table
+returns-else-is_full-clause-table c =
+    let t = c.args.self.now in
+    let absent = c.in-None.ensures.absent refl in
+    let room : length t.entries < t.most = search (rules, arith) in
+    written_with c.args.lsn c.args.page t _ (room_free t c.args.page absent room)
+    (c.add.ensures ∙ ap (λ (l : List TableEntry). record t { entries = l }) (sym (put_absent (written_entry c.args.lsn) t.entries c.args.page absent)))
 
-pub returns-else-len-eq-MOST_DIRTY-clause-table : goal.returns-else-len-eq-MOST_DIRTY-clause-table
-returns-else-len-eq-MOST_DIRTY-clause-table c =
-    let v : c.self.inside.entries.items ≡ c.args.self.now = c.self.view_is in
-    let rising : IsRising c.args.self.now = subst (λ (l : List TableEntry). IsRising l) v c.self.invariant.0 in
-    let n : length c.self.inside.entries.items ≡ length c.args.self.now = ap (λ (l : List TableEntry). length l) v in
-    let room : length c.args.self.now < MOST_DIRTY = search (rules, arith) in
-    let new = rw c.unwrap.ensures at c.insert.ensures.items in
-    written_with c.args.lsn c.args.page c.args.self.now _ (room_free c.args.self.now c.args.page (absent_none c.args.self.now c.in-Err.at c.args.page rising c.in-Err.ensures.absent) room)
-    (new ∙ sym (put_absent (written_entry c.args.lsn) c.self.inside.entries.items c.in-Err.at c.args.page (subst (λ (l : List TableEntry). IsAbsent l c.args.page c.in-Err.at) (sym v) c.in-Err.ensures.absent))
-    ∙ ap (λ (l : List TableEntry). put c.args.page (written_entry c.args.lsn) l) v)
-
-pub returns-else-len-eq-MOST_DIRTY-clause-entry : goal.returns-else-len-eq-MOST_DIRTY-clause-entry
-returns-else-len-eq-MOST_DIRTY-clause-entry c entered =
-    let v : c.self.inside.entries.items ≡ c.args.self.now = c.self.view_is in
-    let rising : IsRising c.args.self.now = subst (λ (l : List TableEntry). IsRising l) v c.self.invariant.0 in
-    let new = rw c.unwrap.ensures at c.insert.ensures.items in
-    changes_entry (written_entry c.args.lsn) c.args.page c.args.self.now _ rising
-    (new ∙ sym (put_absent (written_entry c.args.lsn) c.self.inside.entries.items c.in-Err.at c.args.page (subst (λ (l : List TableEntry). IsAbsent l c.args.page c.in-Err.at) (sym v) c.in-Err.ensures.absent))
-    ∙ ap (λ (l : List TableEntry). put c.args.page (written_entry c.args.lsn) l) v)
+pub returns-else-is_full-clause-entry : goal.returns-else-is_full-clause-entry
+returns-else-is_full-clause-entry c entered =
+    let t = c.args.self.now in
+    changes_entry (written_entry c.args.lsn) c.args.page t _
+    (c.add.ensures ∙ ap (λ (l : List TableEntry). record t { entries = l }) (sym (put_absent (written_entry c.args.lsn) t.entries c.args.page (c.in-None.ensures.absent refl))))

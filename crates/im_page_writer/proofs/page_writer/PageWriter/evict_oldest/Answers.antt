@@ -1,6 +1,6 @@
-use Rattle.std.proofs.Common.{◌≡◌, ℕ, List, Option, length, subst, sym, ◌∙◌, arith, rules}
+use Rattle.std.proofs.Common.{◌≡◌, length, subst, sym, ◌∙◌, arith, rules}
 use Rattle.im_log.specs.declared.log_file.LogFile.{LogFile}
-use Rattle.im_page_table.specs.declared.table_entry.TableEntry.{TableEntry}
+use Rattle.im_page_table.specs.DirtyTable.{TableView}
 use Rattle.im_page_writer.specs.Synced.{IsKnown}
 use Rattle.im_page_writer.specs.declared.known.Known.{Known}
 use Rattle.im_page_file.specs.LogEnds.{EndsNoSooner}
@@ -35,7 +35,7 @@ returns-clause-outcome g c =
                 working = c.drop_page.ensures.failed ∙ f.on.working;
                 known = subst (λ (known : Known). IsKnown f.now known) (sym c.drop_page.ensures.known) f.on.known;
                 goes = subst (λ (log : LogFile). Goes g.D.Disk b base s old f.now log new.table new.pool disk) (sym c.drop_page.ensures.log)
-                    (subst (λ (table : List TableEntry). Goes g.D.Disk b base s old f.now mid.log table new.pool disk) (sym c.drop_page.ensures.table) gone);
+                    (subst (λ (table : TableView). Goes g.D.Disk b base s old f.now mid.log table new.pool disk) (sym c.drop_page.ensures.table) gone);
               };
             };
       };

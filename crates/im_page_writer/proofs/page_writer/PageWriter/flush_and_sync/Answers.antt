@@ -1,4 +1,4 @@
-use Rattle.std.proofs.Common.{◌≡◌, ◌∙◌}
+use Rattle.std.proofs.Common.{◌∙◌}
 use Rattle.im_page_table.proofs.Growing.{on_ok}
 use Rattle.im_page_writer.specs.Outcome.{AsksNothing}
 use Rattle.im_page_writer.proofs.FlushedRows.{synced_clean}
@@ -27,4 +27,4 @@ returns-clause-empty g c b base s is =
     let one = c.in_ok-flush_all.ensures.outcome.ends.goes b base s is tt in
     let two = c.in_ok-flush_every.ensures.kept b base one.now (stands_on d b base s c.args.disk.now one.now w first one.on) in
     on_ok c.sync_written.result _ _ (c.sync_written.ensures.kept b base two.now (stands_on d b base one.now first two.now x second two.on))
-    (λ on. no_entries c.sync_written.new.self.table (λ p. on.goes.writing.entries p ∙ synced_clean (two.now.pages p).entry (two.written p)))
+    (λ on. no_entries c.sync_written.new.self.table.entries (λ p. on.goes.writing.entries p ∙ synced_clean (two.now.pages p).entry (two.written p)))

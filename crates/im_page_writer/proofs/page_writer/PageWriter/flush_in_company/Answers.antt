@@ -1,4 +1,4 @@
-use Rattle.std.proofs.Common.{◌≡◌, true, false, ap, subst, sym, ◌∙◌}
+use Rattle.std.proofs.Common.{◌≡◌, true, ap, subst, sym, ◌∙◌}
 use Rattle.im_base_types.specs.declared.file_id.FileId.TheVariants.{Pages}
 use Rattle.im_base_disk.specs.Disk.{Files}
 use Rattle.im_base_disk.proofs.Costs.{costs_reads}
@@ -43,5 +43,5 @@ returns-clause-costs g c changed =
     page_after g.D.Disk p (page_count (g.D.Disk.seen old Pages)) (page_count (g.D.Disk.seen mid Pages)) (has_room p c.args.self.now.table) (has_room p c.note_company.new.self.table) old mid c.flush_one.new.disk count
     (c.note_company.ensures.room p) (costs_reads g.D.Disk old mid c.note_company.ensures.reads) is)
 
-pub returns-clause-rows : goal.returns-clause-rows
-returns-clause-rows g c = c.flush_one.ensures.rows ∙ c.note_company.ensures.rows
+pub returns-clause-numbers : goal.returns-clause-numbers
+returns-clause-numbers g c = c.flush_one.ensures.numbers ∙ c.note_company.ensures.numbers

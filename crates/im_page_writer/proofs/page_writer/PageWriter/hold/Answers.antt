@@ -1,4 +1,4 @@
-use Rattle.std.proofs.Common.{◌≡◌, ℕ, List, refl, sym, ◌∙◌, ap, subst, Option, false, true, is_some, Err, None, rules, arith}
+use Rattle.std.proofs.Common.{◌≡◌, ℕ, refl, sym, ◌∙◌, ap, subst, Option, false, true, is_some, Err, None, rules, arith}
 use Rattle.im_base_types.specs.declared.fault.Fault.TheVariants.{Device, NotAStore}
 use Rattle.im_base_types.specs.declared.file_id.FileId.TheVariants.{Pages}
 use Rattle.im_base_disk.specs.Disk.{Files}
@@ -6,7 +6,8 @@ use Rattle.im_theory_page.specs.PageFile.{file_page}
 use Rattle.im_base_types.specs.Pages.{Page}
 use Rattle.im_theory_log.specs.Writer.{IsWritten}
 use Rattle.im_log.specs.declared.log_file.LogFile.{LogFile}
-use Rattle.im_page_table.specs.declared.table_entry.TableEntry.{TableEntry}
+use Rattle.im_log.specs.LogFile.{IsOpen}
+use Rattle.im_page_table.specs.DirtyTable.{TableView}
 use Rattle.im_page_file.specs.LogEnds.{EndsNoSooner}
 use Rattle.im_page_pool.specs.Pool.{Held, held_of, page_at}
 use Rattle.im_page_writer.specs.declared.known.Known.{Known}
@@ -106,9 +107,17 @@ returns-else-is_own-clause-outcome g c =
     let disk = c.get_absent.new.disk in
     let new = c.drop_page.new.self in
     let alive = still_working (g.D.Disk.failed disk) (λ failed. let clash = e.device.1 failed in let never : ⊥ = cc clash in never) in
+    let frames : new.pool.frames ≡ w.pool.frames = c.drop_page.ensures.evicts.frames ∙ e.frames in
+    let opened : IsOpen g.D.Disk w.log disk = search rules in
+    let here : IsOpen g.D.Disk new.log disk = subst (λ (log : LogFile). IsOpen g.D.Disk log disk) (sym c.drop_page.ensures.log) opened in
     record {
-      ready = search rules;
-      frames = c.drop_page.ensures.evicts.frames ∙ e.frames;
+      ready = record {
+        opened = λ _. here;
+        works = λ _. ap (λ (log : LogFile). log.failed) c.drop_page.ensures.log ∙ c.requires.ready.works c.requires.working;
+        few = λ _. (let few = c.requires.ready.few c.requires.working in omega (arith, few, frames));
+        still = λ _. here;
+      };
+      frames = frames;
       ends = (
         refl,
         record {
@@ -127,7 +136,7 @@ returns-else-is_own-clause-outcome g c =
                   working = c.drop_page.ensures.failed ∙ is.working;
                   known = subst (λ (known : Known). IsKnown s known) (sym c.drop_page.ensures.known) is.known;
                   goes = subst (λ (log : LogFile). Goes g.D.Disk b base s old s log new.table new.pool disk) (sym c.drop_page.ensures.log)
-                      (subst (λ (table : List TableEntry). Goes g.D.Disk b base s old s w.log table new.pool disk) (sym c.drop_page.ensures.table) gone);
+                      (subst (λ (table : TableView). Goes g.D.Disk b base s old s w.log table new.pool disk) (sym c.drop_page.ensures.table) gone);
                 };
               };
         },

@@ -47,5 +47,5 @@ returns-clause-one g c pages has single =
     let first : is_some (held_of mid.pool (slice_index_or numbers 0 0)) ≡ true = c.in_ok-get_all.ensures.last 0 (omega (arith, single)) in
     let here : is_some (held_of new.pool (slice_index_or numbers 0 0)) ≡ true = c.in_ok-make_entry_room.ensures.held.held (slice_index_or numbers 0 0) ∙ first in
     let held : AreHeld numbers new.pool = λ i lt. subst (λ (k : ℕ). is_some (held_of new.pool (slice_index_or numbers k 0)) ≡ true) (let e : 0 ≡ i = omega (arith, lt, single) in e) here in
-    let few : length new.table + length numbers ≤ 1024 = (let one : length new.table < 1024 = room.room in omega (arith, one, single)) in
+    let few : length new.table.entries + length numbers ≤ new.table.most = (let one : length new.table.entries < new.table.most = room.room in omega (arith, one, single)) in
     c.holds_all.ensures.all held few

@@ -31,4 +31,4 @@ returns-clause-sound g c b base s is ready =
     let p = c.args.number in
     let frame = c.in_ok-get.field-0 in
     let held : is_some (held_of mid.pool p) ≡ true = subst (λ (n : ℕ). is_some (held_of mid.pool n) ≡ true) c.in_ok-get.ensures.frame (at_held (held_of mid.pool frame.number) frame.place c.in_ok-get.ensures.at) in
-    found_room c.find_with_room.result _ (held_of c.make_entry_room.new.self.pool p) c.find_with_room.ensures.refused room.room (c.in_ok-make_entry_room.ensures.held.held p ∙ held)
+    found_room c.find_with_room.result _ _ (held_of c.make_entry_room.new.self.pool p) c.find_with_room.ensures.refused room.room (c.in_ok-make_entry_room.ensures.held.held p ∙ held)

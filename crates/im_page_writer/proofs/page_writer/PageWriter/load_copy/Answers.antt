@@ -1,4 +1,4 @@
-use Rattle.std.proofs.Common.{ℕ, Option, refl, sym, subst, ◌∙◌, rules}
+use Rattle.std.proofs.Common.{refl, sym, subst, ◌∙◌, rules}
 use Rattle.im_log_record.specs.Entry.{view, page_of}
 use Rattle.im_log.specs.Whats.{what_of}
 use Rattle.im_theory_log.specs.WriterSteps.{loaded}

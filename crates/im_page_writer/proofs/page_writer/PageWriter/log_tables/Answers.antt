@@ -13,7 +13,7 @@ use Rattle.im_page_writer.proofs.LogCalls.{append_only, log_broke}
 use Rattle.im_page_writer.proofs.page_writer.PageWriter.log_tables.Goals as goal
 
 pub returns-in_err-lsn-clause-kept : goal.returns-in_err-lsn-clause-kept
-returns-in_err-lsn-clause-kept g c b base s e is over synced =
+returns-in_err-lsn-clause-kept g c few b base s e is over synced =
     let w = c.args.self.now in
     let table = c.forget.new.self in
     let f = forgets g.D.Disk b base s w.log w.table table w.pool c.args.disk.now is.writing c.forget.ensures.entry in
@@ -21,7 +21,7 @@ returns-in_err-lsn-clause-kept g c b base s e is over synced =
     record { ok = search rules; stops = log_stops g.D.Disk b base (forgotten s) w.log table c.args.disk.now f.stands c.append_tables.new.disk k.stops }
 
 pub returns-clause-kept : goal.returns-clause-kept
-returns-clause-kept g c b base s e is over synced =
+returns-clause-kept g c few b base s e is over synced =
     let w = c.args.self.now in
     let table = c.forget.new.self in
     let old = c.args.disk.now in
@@ -30,9 +30,10 @@ returns-clause-kept g c b base s e is over synced =
     let dirty = dirty_pages w.table in
     let f = forgets g.D.Disk b base s w.log w.table table w.pool old is.writing c.forget.ensures.entry in
     let k = c.in_ok-lsn.ensures.kept base s.log s.durable is.writing.stands.log_is in
-    let same : c.as_slice.result.now ≡ dirty = search rules in
+    let rows = c.copy_rows.ensures.rows few in
+    let same : c.as_slice.result.now ≡ dirty = search (rules, rows) in
     let done = subst (λ (rows : List DirtyPage). Appended g.D.Disk base s.log s.durable (Checkpoint c.args.next c.args.active.now rows) lsn old c.append_tables.new.log new) same k.ok in
-    let lists = subst (λ (rows : List DirtyPage). Lists s.pages rows) c.copy_rows.ensures.rows (c.copy_rows.ensures.lists s.pages is.writing.entries) in
+    let lists = subst (λ (rows : List DirtyPage). Lists s.pages rows) rows (c.copy_rows.ensures.lists few s.pages is.writing.entries) in
     record {
       ok = record {
         durable = done.now_durable;

@@ -1,4 +1,4 @@
-use Rattle.std.proofs.Common.{◌≡◌, true, false, sym, ◌∙◌}
+use Rattle.std.proofs.Common.{◌∙◌}
 use Rattle.im_base_disk.proofs.Runs.{reads_none, reads_then}
 use Rattle.im_page_writer.specs.Outcome.{AsksNothing}
 use Rattle.im_page_writer.proofs.Outcomes.{behind, handed_on, idle_any, none_still}
@@ -25,5 +25,5 @@ returns-clause-reads g c = reads_then g.D.Disk c.args.disk.now c.note_with_room.
 pub returns-clause-room : goal.returns-clause-room
 returns-clause-room g c q has = c.note_oldest.ensures.room q (c.note_with_room.ensures.room q has)
 
-pub returns-clause-rows : goal.returns-clause-rows
-returns-clause-rows g c = c.note_oldest.ensures.rows ∙ c.note_with_room.ensures.rows
+pub returns-clause-numbers : goal.returns-clause-numbers
+returns-clause-numbers g c = c.note_oldest.ensures.numbers ∙ c.note_with_room.ensures.numbers

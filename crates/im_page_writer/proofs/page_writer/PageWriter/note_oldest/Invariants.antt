@@ -4,11 +4,11 @@ use Rattle.im_page_writer.specs.Outcome.{Flushes}
 use Rattle.im_page_writer.specs.Rooms.{KeepsRoom}
 use Rattle.im_page_writer.proofs.page_writer.PageWriter.note_oldest.Given as goal
 
-abbrev pub invariant-loop-noted : goal.invariant-loop-noted
-invariant-loop-noted g l = record {
+abbrev pub invariant-loop-walk : goal.invariant-loop-walk
+invariant-loop-walk g l = record {
   outcome : Flushes g.D.Disk l.fn.self l.fn.disk l.self l.disk None;
   pool : l.self.pool ≡ l.fn.self.pool;
   reads : Reads g.D.Disk l.fn.disk l.disk;
   room : KeepsRoom l.fn.self.table l.self.table;
-  rows : l.self.rows ≡ l.fn.self.rows;
+  numbers : l.self.numbers ≡ l.fn.self.numbers;
 }

@@ -1,9 +1,9 @@
-use Rattle.std.proofs.Common.{◌+◌, ◌≤◌, ℕ, List, false, length, subst, sym}
+use Rattle.std.proofs.Common.{◌+◌, ◌≤◌, ℕ, false, length, subst, sym}
 use Rattle.std.specs.Prelude.{is_some}
 use Rattle.std.specs.BTreeMap.{get}
 use Rattle.std.specs.Ordering.{nat_cmp}
 use Rattle.im_page_pool.specs.Pool.{page_at}
-use Rattle.im_page_table.specs.declared.table_entry.TableEntry.{TableEntry}
+use Rattle.im_page_table.specs.DirtyTable.{TableView}
 use Rattle.im_page_rounds.specs.declared.worker.Worker.{Worker}
 use Rattle.im_page_rounds.specs.Workers.{page_in}
 use Rattle.im_page_rounds.proofs.Places.{item_at, page_of, some_on}
@@ -19,7 +19,7 @@ take_all_back-requires-clause-held g c =
     lent_held c.args.numbers.now (λ k. page_in lent k w (page_of w)) c.args.self.now.pool c.lend_all.new.self.pool (c.lend_all.ensures.lends w (page_of w))
 
 pub take_all_back-requires-clause-entries : goal.take_all_back-requires-clause-entries
-take_all_back-requires-clause-entries g c = subst (λ (t : List TableEntry). length t + length c.args.numbers.now ≤ 1024) (sym c.lend_all.ensures.table) c.requires.entries
+take_all_back-requires-clause-entries g c = subst (λ (t : TableView). length t.entries + length c.args.numbers.now ≤ t.most) (sym c.lend_all.ensures.table) c.requires.entries
 
 pub returns-clause-here : goal.returns-clause-here
 returns-clause-here g c rs stand =

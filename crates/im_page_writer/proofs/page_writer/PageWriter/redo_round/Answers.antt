@@ -5,14 +5,14 @@ use Rattle.std.specs.Ordering.{nat_cmp}
 use Rattle.im_base_types.specs.declared.fault.Fault.{Fault}
 use Rattle.im_log.specs.declared.log_file.LogFile.{LogFile}
 use Rattle.im_page_rounds.specs.Rounds.{AreFrom}
-use Rattle.im_page_writer.specs.Outcome.{no_page, pages_of}
+use Rattle.im_page_writer.specs.Outcome.{pages_of}
 use Rattle.im_page_writer.specs.Rounds.{RoundHere, redone_of}
 use Rattle.im_page_writer.specs.Synced.{IsKnown}
 use Rattle.im_page_writer.specs.declared.known.Known.{Known}
 use Rattle.im_page_writer.specs.Writing.{IsWriting}
 use Rattle.im_page_writer.proofs.Goings.{leaves_so_far}
 use Rattle.im_page_writer.proofs.LoggedChanges.{err_on}
-use Rattle.im_page_writer.proofs.Outcomes.{leaves_of_end, no_page_for, pages_as, redo_of, redo_own, redo_refused, stands_on}
+use Rattle.im_page_writer.proofs.Outcomes.{leaves_of_end, no_page_for, pages_as, redo_of, redo_own, redo_refused}
 use Rattle.im_page_writer.proofs.RedoneRecords.{copy_still}
 use Rattle.im_page_writer.proofs.RoundsDone.{had_still, round_done, round_there, shown_still}
 use Rattle.im_page_writer.proofs.SyncedPages.{known_redone}

@@ -1,4 +1,4 @@
-use Rattle.std.proofs.Common.{◌≡◌, ◌<◌, ◌≤◌, ◌++◌, ℕ, length, Option, true, refl, sym, ◌∙◌, ap, subst, rules}
+use Rattle.std.proofs.Common.{◌≡◌, ◌<◌, ◌≤◌, ◌++◌, ℕ, length, true, refl, sym, ◌∙◌, ap, subst, rules}
 use Rattle.im_base_types.specs.Pages.{Page}
 use Rattle.im_page_pool.specs.Pool.{held_of}
 use Rattle.im_theory_log.specs.Copies.{HasCopy}
@@ -61,6 +61,6 @@ returns-clause-kept g c b base s newer older is over at there from ready below h
       applied = if_ok c.redo_held.result _ _ c.redo_held.ensures.ok (λ done here. here.applied.changes ∙ sym (applies_is r (s.pages r.page).page below_s));
       stops = leaves_so_far g.D.Disk b base s c.args.disk.now t mid.log mid.table mid.pool disk room.on.goes;
       cause = λ takes. not_no_store c.redo_held.result _
-          (has_taker _ (length mid.table) (held_of mid.pool n) (taker_there r mid.pool n (t.pages n) number (room.on.goes.writing.pooled.shows n) (subst (λ (g : Page). g.lsn < c.args.lsn) (sym page_is) below_s)
+          (has_taker _ (length mid.table.entries) mid.table.most (held_of mid.pool n) (taker_there r mid.pool n (t.pages n) number (room.on.goes.writing.pooled.shows n) (subst (λ (g : Page). g.lsn < c.args.lsn) (sym page_is) below_s)
           (subst (λ (g : Page). applies r r.page g ≡ true → TakesRecord r.what g) (sym page_is) takes)) room.room (c.in_ok-make_entry_room.ensures.held.held n ∙ c.requires.held)) c.redo_held.ensures.refused;
     }

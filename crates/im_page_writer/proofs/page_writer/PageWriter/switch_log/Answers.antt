@@ -20,7 +20,7 @@ returns-clause-kept g c b base s e is over durable clean readable pages =
     let opened = c.requires.ready.opened c.requires.working in
     let kept = c.in_ok-switch_log.ensures.kept base s.log s.durable is.writing.stands.log_is pages is.writing.stands.other in
     record {
-      ok = turned g.D.Disk b base s e w old is over durable clean opened readable c.args.next _ c.switch_log.new.disk refl c.switch_log.ensures.ready kept.ok refl refl c.forget.ensures.from c.forget.ensures.none;
+      ok = turned g.D.Disk b base s e w old is over durable clean opened readable c.args.next _ c.switch_log.new.disk refl c.switch_log.ensures.outcome.ready kept.ok refl refl c.forget.ensures.from c.forget.ensures.none;
       stops = turn_stops g.D.Disk b base s e w old is over durable clean opened readable c.args.next c.switch_log.new.self c.switch_log.new.disk _ kept;
     }
 
@@ -28,7 +28,7 @@ pub returns-in_err-switch_log-clause-causes : goal.returns-in_err-switch_log-cla
 returns-in_err-switch_log-clause-causes g c =
     let f = c.in_err-switch_log.field-0.0 in
     err_on c.from_residual.result f _ c.from_residual.ensures.1
-    (turn_refuses g.D.Disk c.args.self.now.failed c.args.self.now.log c.switch_log.new.self c.switch_log.new.disk f c.requires.empty (c.requires.ready.works c.requires.working) c.in_err-switch_log.ensures.causes c.in_err-switch_log.ensures.full c.in_err-switch_log.ensures.capacity c.in_err-switch_log.ensures.already c.in_err-switch_log.ensures.device (λ cause. (c.in_err-switch_log.ensures.nothing (⊎_elim (λ e. inl e) (λ e. inr (inl e)) cause)).1))
+    (turn_refuses g.D.Disk c.args.self.now.failed c.args.self.now.log c.switch_log.new.self c.switch_log.new.disk f c.requires.empty (c.requires.ready.works c.requires.working) c.in_err-switch_log.ensures.outcome.refusals.causes c.in_err-switch_log.ensures.full c.in_err-switch_log.ensures.capacity c.in_err-switch_log.ensures.outcome.refusals.already c.in_err-switch_log.ensures.outcome.refusals.device (λ cause. (c.in_err-switch_log.ensures.nothing (⊎_elim (λ e. inl e) (λ e. inr (inl e)) cause)).1))
 
 pub returns-in_err-switch_log-clause-full : goal.returns-in_err-switch_log-clause-full
 returns-in_err-switch_log-clause-full g c is =
@@ -46,8 +46,8 @@ returns-in_err-switch_log-clause-last g c is = (c.in_err-switch_log.ensures.capa
 
 pub returns-in_err-switch_log-clause-device : goal.returns-in_err-switch_log-clause-device
 returns-in_err-switch_log-clause-device g c =
-    let device = c.in_err-switch_log.ensures.device (c.requires.ready.works c.requires.working) in
+    let device = c.in_err-switch_log.ensures.outcome.refusals.device (c.requires.ready.works c.requires.working) in
     told_device c.from_residual.result c.in_err-switch_log.field-0.0 _ c.from_residual.ensures.1 (λ is. device.0 (ap Err is), λ failed. (let same = device.1 failed in cc same))
 
 pub returns-clause-device : goal.returns-clause-device
-returns-clause-device g c = c.in_ok-switch_log.ensures.device (c.requires.ready.works c.requires.working)
+returns-clause-device g c = c.in_ok-switch_log.ensures.outcome.refusals.device (c.requires.ready.works c.requires.working)

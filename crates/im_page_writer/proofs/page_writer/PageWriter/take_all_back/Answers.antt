@@ -1,4 +1,4 @@
-use Rattle.std.proofs.Common.{◌≡◌, ◌≢◌, ◌<◌, ◌≤◌, ◌+◌, ℕ, Bool, length, ◌∙◌, ap, arith, refl, rules, subst, sym}
+use Rattle.std.proofs.Common.{◌≡◌, ◌≢◌, ◌<◌, ℕ, Bool, length, ◌∙◌, ap, arith, refl, subst, sym}
 use Rattle.std.specs.Prelude.{is_some, slice_index_or}
 use Rattle.std.specs.BTreeMap.{get}
 use Rattle.std.specs.Ordering.{nat_cmp}
@@ -9,6 +9,7 @@ use Rattle.im_page_rounds.proofs.Places.{item_at, page_of, room_still, room_then
 use Rattle.im_page_table.specs.DirtyTable.{entry_in}
 use Rattle.im_page_writer.specs.Rounds.{TakesBack, entry_after}
 use Rattle.im_page_writer.proofs.Loans.{back_more, back_next, back_none}
+use Rattle.im_page_writer.proofs.Sized.{sized_as}
 use Rattle.im_page_writer.proofs.page_writer.PageWriter.take_all_back.Goals as goal
 
 pub loop-i-init : goal.loop-i-init
@@ -30,7 +31,9 @@ take_from-requires-clause-held c =
     back_next c.args.numbers.now l.i c.args.point (λ (q : ℕ). is_some (get nat_cmp c.args.copies.now q)) (λ k. page_in c.args.workers.now k w (page_of w)) c.args.self.now.pool l.self.pool c.args.self.now.table l.self.table c.requires.rising c.loop-i-test.true c.requires.held (l.invariant.takes w (page_of w))
 
 pub take_from-requires-clause-entry : goal.take_from-requires-clause-entry
-take_from-requires-clause-entry c = omega (arith, c.loop-i.invariant.most, c.requires.entries, c.loop-i-test.true)
+take_from-requires-clause-entry c =
+    let size = sized_as c.args.self.now c.loop-i.self c.loop-i.invariant.frames in
+    omega (arith, c.loop-i.invariant.most, c.requires.entries, c.loop-i-test.true, size)
 
 pub loop-i-preserved : goal.loop-i-preserved
 loop-i-preserved c =

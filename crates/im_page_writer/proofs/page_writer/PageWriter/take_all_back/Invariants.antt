@@ -12,7 +12,7 @@ abbrev pub invariant-loop-i : goal.invariant-loop-i
 invariant-loop-i l = record {
   takes : (w : Worker) (d : RoundPage) → TakesBack l.numbers l.i l.point (λ q. is_some (get nat_cmp l.copies q)) (λ k. page_in l.fn.workers k w d) l.fn.self.pool l.self.pool l.fn.self.table l.self.table;
   left : (k : ℕ) (w : Worker) (d : RoundPage) → l.i ≤ k → page_in l.workers k w d ≡ page_in l.fn.workers k w d;
-  most : length l.self.table ≤ length l.fn.self.table + l.i;
+  most : length l.self.table.entries ≤ length l.fn.self.table.entries + l.i;
   room : SameRoom l.fn.workers l.workers;
   frames : l.self.pool.frames ≡ l.fn.self.pool.frames;
   log : l.self.log ≡ l.fn.self.log;
