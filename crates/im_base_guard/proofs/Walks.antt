@@ -1,5 +1,5 @@
 -- A walk that is stuck stays where it is.
-use Rattle.std.proofs.Common.{◌≡◌, ℕ, zero, suc, ◌+◌, ◌-◌, ◌≤◌, List, drop, length, refl, sym, ◌∙◌, ap, subst, arith}
+use Rattle.std.proofs.Common.{◌≡◌, ℕ, zero, suc, ◌+◌, ◌-◌, ◌≤◌, List, drop, ◌∙◌, ap, arith}
 use Rattle.im_base_guard.specs.declared.left_log.LeftLog.{LeftLog}
 use Rattle.im_base_guard.specs.LeftLog.{step_of, walk}
 

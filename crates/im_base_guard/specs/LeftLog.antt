@@ -1,5 +1,5 @@
 -- What the log that was left says of the pages.
-use Rattle.std.specs.Prelude.{◌≡◌, ◌⊎◌, ◌≤◌, ◌<◌, ◌+◌, ◌-◌, ◌^◌, ◌==◌, ◌||◌, min, not, if◌then◌else◌, nat_lt, ℕ, zero, suc, Bool, true, false, List, length, take, drop, slice_index}
+use Rattle.std.specs.Prelude.{◌⊎◌, ◌<◌, ◌+◌, ◌-◌, ◌^◌, ◌==◌, ◌||◌, min, not, if◌then◌else◌, nat_lt, ℕ, zero, suc, Bool, true, false, List, length, take, drop, slice_index}
 use Rattle.std.specs.Int.{w32, from_be_bytes}
 use Rattle.im_base_guard.specs.declared.folder.Folder.{Folder}
 use Rattle.im_base_guard.specs.declared.folder.Front.{Front}

@@ -1,3 +1,4 @@
 pub mod Fronts
 pub mod Belonging
 pub mod LeftLog
+pub mod LogCuts

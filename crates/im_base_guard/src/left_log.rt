@@ -8,11 +8,11 @@ use crate::fronts::{base, is_made, is_second};
 use crate::pages::{current_of, has_current_other, left_of};
 use im_base_types::LONGEST_BATCH;
 
-// What stands in front of a batch's records: its gate and its length.
-const AHEAD: u64 = 5;
+/// What stands in front of a batch's records: its gate and its length.
+pub(crate) const AHEAD: u64 = 5;
 
-// What each record begins with, up to its page.
-const HEAD: u64 = 33;
+/// What each record begins with, up to its page.
+pub(crate) const HEAD: u64 = 33;
 
 /// A walk by the heads of batches and records, over the log that was left, and then over the current one. The first says which change was the newest before the current log
 /// began, and which page the greatest that had one; the second of which pages it has full copies.

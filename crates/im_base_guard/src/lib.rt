@@ -8,7 +8,8 @@
 //! numbers are those of the headers of logs (docs/FORMATS.md).
 //!
 //! After a switch the log that was left tells an older file of pages: `LeftLog` walks over it, a piece at a time, to its newest change, and over the current log for the
-//! copies that this has of pages; `is_older` asks whether the file has that change.
+//! copies that this has of pages; `is_older` asks whether the file has that change. `LogCuts` says what of the logs may go once the store was closed in order: of the one that
+//! was left all but its first batch, of the current one, where it has no record, all but its closed gate. No cut makes another verdict (`cuts_are_sound`).
 //!
 //! A refusal here is for ever, so what a stop may leave is never refused: `im_engine_guards` has that as a law. `may_lack_first_byte` is therefore
 //! no part of the decision: it tells a look at the files what they may have been.
@@ -19,6 +20,7 @@ mod deciding;
 mod folder;
 mod fronts;
 mod left_log;
+mod log_cuts;
 mod pages;
 
 pub use belonging::{Apart, Logs, belong};
@@ -26,3 +28,4 @@ pub use deciding::decide;
 pub use folder::{FIRST_BYTES, FRONT, Folder, Front, PagesFront};
 pub use fronts::may_lack_first_byte;
 pub use left_log::{LeftLog, is_older};
+pub use log_cuts::{LogCuts, cuts_are_sound};

@@ -1,13 +1,14 @@
 //! Which functions does C see?
 //!
-//! The store for C. C hands in memory: as many bytes as `im_size` says for a store, and a `Call` for each question. Beside it two decisions over what C
-//! has read or keeps itself: whether the files of a folder belong together (`im_base_guard`), and who may begin now (`im_base_turns`).
+//! The store for C. C hands in memory: as many bytes as `im_size` says for a store, and a `Call` for each question. Beside it decisions over what C
+//! has read or keeps itself: whether the files of a folder belong together, and what may be cut of them after a close (`im_base_guard`), and who may begin now (`im_base_turns`).
 #![tactic(auto)]
 
 ghost use Rattle.std.specs.Prelude.{◌≡◌, ◌≤◌, ◌+◌, ◌↔◌, true, length};
 ghost use Rattle.std.specs.Borrow.{sem};
 ghost use Rattle.im_capi.specs.Pointers.{bytes_of_store, room_for_store, blank_at, store_at, call_at, made_at, Question};
 ghost use Rattle.im_base_guard.specs.Belonging.{Decides};
+ghost use Rattle.im_base_guard.specs.LogCuts.{log_cuts_of};
 ghost use Rattle.im_base_guard.specs.LeftLog.{current_log_of, left_log_of, walk, IsOlder};
 ghost use Rattle.im_base_turns.specs.Turns.{IsAwaitedBy, IsLeastOf, IsPatient, MayBegin, Owns};
 
@@ -69,6 +70,14 @@ pub extern "C" fn im_is_older(left: &im_base_guard::LeftLog, pages: u64, lsn: u6
     ensures { (result ≡ true) ↔ IsOlder left.now pages lsn }
 {
     im_base_guard::is_older(left, pages, lsn)
+}
+
+/// What may be cut of the logs of a closed store.
+#[unsafe(no_mangle)]
+pub extern "C" fn im_log_cuts(folder: &im_base_guard::Folder, cuts: &mut im_base_guard::LogCuts)
+    ensures { cuts.new ≡ log_cuts_of folder.now }
+{
+    *cuts = im_base_guard::LogCuts::of(folder);
 }
 
 /// Makes a store that is not open in the room at a pointer.

@@ -5,3 +5,4 @@ mod Counts
 mod Older
 mod Sound
 mod Walks
+mod Cuts

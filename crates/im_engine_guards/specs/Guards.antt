@@ -1,5 +1,5 @@
 -- What the guard of a folder says of a store.
-use Rattle.std.specs.Prelude.{◌≡◌, ◌≤◌, ◌<◌, ◌+◌, ◌*◌, nat_lt, if◌then◌else◌, ℕ, false, true, List, [], ◌++◌, length, take, drop, replicate, Result, IfErr, IfOk}
+use Rattle.std.specs.Prelude.{◌≡◌, ◌≤◌, ◌<◌, ◌+◌, ◌*◌, ◌==◌, nat_lt, if◌then◌else◌, ℕ, false, true, List, [], ◌++◌, length, take, drop, replicate, Result, IfErr, IfOk}
 use Rattle.std.specs.Int.{w64, from_be_bytes}
 use Rattle.im_base_types.specs.Changes.{Effect}
 use Rattle.im_base_types.specs.declared.file_id.FileId.TheVariants.{Log, Pages as PagesFile, Log2}
@@ -11,6 +11,8 @@ use Rattle.im_base_guard.specs.declared.folder.Folder.{Folder}
 use Rattle.im_base_guard.specs.declared.left_log.LeftLog.{LeftLog}
 use Rattle.im_base_guard.specs.LeftLog.{IsOlder, current_log_of, left_log_of}
 use Rattle.im_base_guard.specs.Fronts.{BeginsWithChange}
+use Rattle.im_base_guard.specs.declared.log_cuts.LogCuts.{LogCuts}
+use Rattle.im_base_guard.specs.LogCuts.{log_cuts_of}
 use Rattle.im_base_guard.specs.Belonging.{left, IsVerdict, Decides}
 use Rattle.im_base_guard.specs.declared.belonging.Apart.{Apart}
 use Rattle.im_base_guard.specs.declared.belonging.Logs.{Logs}
@@ -88,6 +90,22 @@ pub record IsWalked (files : Files) (f : Folder) (l m : LeftLog) : Type 0 where
 abbrev pub NeverOlder : Type 0
 NeverOlder = (effects : List Effect) (files : Files) → StandsFor effects files → (f : Folder) → IsFolder files f → (l m : LeftLog) → IsWalked files f l m
     → IsOlder m (page_count (files PagesFile)) (lsn_in (files PagesFile) m.page) → ⊥
+
+-- ---- logs that are cut
+
+-- a log of which so much stays, where something goes
+abbrev pub shorter : ℕ → ℕ → List ℕ → List ℕ
+shorter kept gone file = if gone == 0 then file else take kept file
+
+-- the files with their logs cut so
+abbrev pub cut_files : LogCuts → Files → Files
+cut_files cuts files Log = if cuts.is_log2 then shorter cuts.end cuts.behind (files Log) else shorter cuts.kept cuts.gone (files Log)
+cut_files cuts files Log2 = if cuts.is_log2 then shorter cuts.kept cuts.gone (files Log2) else shorter cuts.end cuts.behind (files Log2)
+cut_files cuts files PagesFile = files PagesFile
+
+-- Files that stand for effects stand for the same once their logs are cut: no opening reads what goes.
+abbrev pub CutsKeep : Type 0
+CutsKeep = (effects : List Effect) (files : Files) → StandsFor effects files → (f : Folder) → IsFolder files f → StandsFor effects (cut_files (log_cuts_of f) files)
 
 -- ---- why page 0 counts no more
 

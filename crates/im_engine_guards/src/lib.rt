@@ -6,9 +6,11 @@
 //! `guards_never_refuse` is the law of every verdict, `verdict` the guard with the law as its contract. Two things are supposed, of which that word says nothing
 //! (`IsLeft`): where no log was made, neither is longer than a creation leaves it; and where the log that was left begins with a record that changes a page, the first two
 //! pages are in the file. Whether a file is there at all is no part of files as the theory has them.
+//!
+//! And `cuts_keep_stores`: what a close cuts of the logs takes nothing away, so that the next life begins with what this one left.
 #![tactic(auto)]
 
-ghost use Rattle.im_engine_guards.specs.Guards.{NeverOlder, NeverRefused, IsSparing, TakesCurrent};
+ghost use Rattle.im_engine_guards.specs.Guards.{CutsKeep, NeverOlder, NeverRefused, IsSparing, TakesCurrent};
 
 use im_base_guard::{Apart, Folder, Logs, belong};
 
@@ -17,6 +19,11 @@ use im_base_guard::{Apart, Folder, Logs, belong};
 pub fn guards_never_refuse()
     ensures refused { NeverRefused }
     ensures older { NeverOlder }
+{}
+
+/// Files that stand for effects stand for the same once their logs are cut as a close cuts them (`im_base_guard::LogCuts`). A law, and nothing that runs.
+pub fn cuts_keep_stores()
+    ensures { CutsKeep }
 {}
 
 /// What the guard says of a folder.

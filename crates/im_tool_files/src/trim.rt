@@ -10,7 +10,7 @@ use im_base_disk::Disk;
 use im_base_file_disk::FileDisk;
 use im_base_scratch_disk::ScratchDisk;
 use im_base_types::{Fault, FileId};
-use im_tool_look::{Files, LogDamage, first_batch_end, read_log};
+use im_tool_look::{Files, LogDamage, kept_of_left, read_log};
 use std::alloc::Global;
 use std::io;
 use std::io::{BufWriter, Write};
@@ -102,7 +102,7 @@ fn spare_of(alloc: Global, files: &mut ScratchFiles<FileDisk>) -> Result<Option<
     let said = read_log(alloc, files)?;
     let left = said.log.other_file();
     let current = other_log(left);
-    let kept = first_batch_end(alloc, files, &said)?;
+    let kept = kept_of_left(files).map_err(LogDamage::Unread)?;
     let bytes = files
         .length(left)
         .map_err(LogDamage::Unread)?

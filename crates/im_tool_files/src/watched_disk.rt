@@ -1,7 +1,8 @@
 //! The files of a folder, with a line that tells how far an opening has read the log.
 ghost use Rattle.std.specs.Prelude.{◌≡◌, [], false};
 
-use crate::causes::Cause;
+use crate::causes::{Cause, Causes};
+use crate::ending::{Ending, cut_logs};
 use crate::progress::{Progress, ProgressLine};
 use im_base_disk::Disk;
 use im_base_file_disk::{DiskError, FileDisk};
@@ -113,6 +114,13 @@ impl<W: Write> Opening for WatchedDisk<'_, W> {
 impl<W> Cause for WatchedDisk<'_, W> {
     fn cause(&self) -> Option<&DiskError> {
         self.files.last_error()
+    }
+}
+
+impl<W: Write + Drop> Ending for WatchedDisk<'_, W> {
+    fn give_back<E: Write>(self, causes: &mut Causes<E>) -> Result<(), Fault> {
+        let mut disk = self;
+        cut_logs(&mut disk.files, causes)
     }
 }
 

@@ -19,8 +19,8 @@ pub fn doubted_log<F: Files>(files: &mut F, log: &CurrentLog) -> Result<Option<F
     }
 }
 
-// The beginning of a log.
-fn front<F: Files>(files: &mut F, file: FileId) -> Result<Front, Fault> {
+/// The beginning of a log.
+pub(crate) fn front<F: Files>(files: &mut F, file: FileId) -> Result<Front, Fault> {
     let mut front = Front::NONE;
     front.is_there = true;
     front.long = files.length(file)?;

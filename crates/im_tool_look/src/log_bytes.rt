@@ -84,14 +84,9 @@ impl LogPiece {
         Ok(self.piece.held(gate, 1).first().copied() == Some(1))
     }
 
-    /// How long the records of the whole batch after the gate at a place are, whether that gate is open or not, with so many bytes after it. None where
-    /// they do not stand there.
-    fn batch_at<F: Files>(
-        &mut self,
-        files: &mut F,
-        gate: Lsn,
-        more: usize,
-    ) -> Result<Option<usize>, LogDamage> {
+    /// How long the records of the whole batch after the gate at a place are, whether that gate is open or not. None where they do not stand there, with the
+    /// next gate after them.
+    fn batch_at<F: Files>(&mut self, files: &mut F, gate: Lsn) -> Result<Option<usize>, LogDamage> {
         self.hold(files, gate, AHEAD)?;
         let [_, a, b, c, d] = self.piece.held(gate, AHEAD) else {
             return Ok(None);
@@ -100,7 +95,7 @@ impl LogPiece {
         if size == 0 || size > LONGEST_BATCH {
             return Ok(None);
         }
-        let whole = (AHEAD + size).saturating_add(more);
+        let whole = AHEAD + size + NEXT_GATE;
         self.hold(files, gate, whole)?;
         if self.piece.held(gate, whole).len() < whole {
             return Ok(None);
@@ -117,7 +112,7 @@ impl LogPiece {
         if !self.is_open(files, gate)? {
             return Ok(None);
         }
-        match self.batch_at(files, gate, NEXT_GATE)? {
+        match self.batch_at(files, gate)? {
             Some(size) => Ok(Some(size)),
             None => Err(LogDamage::BrokenBatch(self.name, gate)),
         }
@@ -129,7 +124,7 @@ impl LogPiece {
         files: &mut F,
         gate: Lsn,
     ) -> Result<Option<(usize, TxnId)>, LogDamage> {
-        let Some(size) = self.batch_at(files, gate, NEXT_GATE)? else {
+        let Some(size) = self.batch_at(files, gate)? else {
             return Ok(None);
         };
         match greatest_transaction(self.records(gate, size)) {
@@ -182,28 +177,6 @@ fn read_records<F: Files>(
         }
     }
     Ok((said, gate))
-}
-
-/// The end of the first batch of the log that was left for the current one; 0 where that batch is not there.
-pub fn first_batch_end<F: Files>(
-    alloc: Global,
-    files: &mut F,
-    said: &Survey,
-) -> Result<u64, LogDamage> {
-    let Some(before) = said.log.log_before() else {
-        return Ok(0);
-    };
-    let Some(gate) = before.first_gate() else {
-        return Ok(0);
-    };
-    let mut log = LogPiece::new(alloc, before.file);
-    if !log.is_open(files, gate)? {
-        return Ok(0);
-    }
-    match log.batch_at(files, gate, 0)? {
-        Some(size) => Ok(next_gate(gate, size)),
-        None => Ok(0),
-    }
 }
 
 // The last change of each page in the log that was left for this one.

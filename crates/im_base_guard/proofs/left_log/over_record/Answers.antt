@@ -1,4 +1,4 @@
-use Rattle.std.proofs.Common.{◌≡◌, ℕ, Bool, false, if◌then◌else◌, List, drop, slice_index, sym, ◌∙◌, ap, arith}
+use Rattle.std.proofs.Common.{◌≡◌, ℕ, false, if◌then◌else◌, List, drop, slice_index, sym, ◌∙◌, ap, arith}
 use Rattle.std.proofs.lemmas.Bool.{cond-false}
 use Rattle.std.proofs.lemmas.List.{take_rest}
 use Rattle.im_base_guard.specs.declared.left_log.LeftLog.{LeftLog}

@@ -1,4 +1,4 @@
-use Rattle.std.proofs.Common.{◌≡◌, ◌≤◌, ◌+◌, ◌-◌, ℕ, suc, List, drop, length, refl, sym, ◌∙◌, ap, subst, arith}
+use Rattle.std.proofs.Common.{◌≡◌, ◌+◌, ◌-◌, ℕ, suc, drop, length, refl, sym, ◌∙◌, ap, subst, arith}
 use Rattle.im_base_guard.specs.declared.left_log.LeftLog.{LeftLog}
 use Rattle.im_base_guard.specs.LeftLog.{step_of, walk}
 use Rattle.im_base_guard.proofs.Walks.{stays}
