@@ -16,7 +16,7 @@ import sys
 import tempfile
 
 LIBRARY = "im_capi"
-SEEN = {"im_size", "im_belong", "im_left_log", "im_left_go_on", "im_left_take", "im_is_older", "im_init", "im_step", "im_may_begin", "im_oldest", "im_earliest", "im_has_own", "im_is_left_alone"}
+SEEN = {"im_size", "im_belong", "im_left_log", "im_left_go_on", "im_left_take", "im_is_older", "im_log_cuts", "im_init", "im_step", "im_may_begin", "im_oldest", "im_earliest", "im_has_own", "im_is_left_alone"}
 MAIN = """
 fn main(rt: HostRuntime) {
     let _size = im_size();
@@ -28,6 +28,8 @@ fn main(rt: HostRuntime) {
     im_left_take(&mut left, &[0]);
     im_left_go_on(&folder, &mut left);
     let _older = im_is_older(&left, 0, 0);
+    let mut cuts = im_base_guard::LogCuts::of(&folder);
+    im_log_cuts(&folder, &mut cuts);
     let asker = Asker { ticket: 0, mine: 0, came: 0, thread: 0, tick: 0, patience: 0 };
     let going = [Going { number: 0, seen: 0, thread: 0, had: 0, agains: 0 }];
     let _may = im_may_begin(&going, 0, &asker) || im_has_own(&going, 0) || im_is_left_alone(0, 0, 0);

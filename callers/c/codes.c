@@ -35,7 +35,7 @@ const char *vah_strerror(int code)
 	case VAH_FAILED: return "the store has failed: close it, and open it again";
 	case VAH_NOT_A_STORE: return "the files hold no store";
 	case VAH_TOO_MANY: return "64 transactions are active, or 4,096 stores are open";
-	case VAH_POOL_SIZE: return "the pool has 8 to 1,024 frames";
+	case VAH_POOL_SIZE: return "frames are not 8 to 1,024, or cache_bytes more than 1,020 MiB";
 	case VAH_LOCKED: return "the store is open elsewhere";
 	case VAH_NOT_FOUND: return "the key is not there";
 	case VAH_EXISTS: return "the key is there already";

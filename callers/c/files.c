@@ -350,6 +350,11 @@ void im_left_go_on(const struct folder *folder, struct left_log *left);
 void im_left_take(struct left_log *left, const uint8_t *piece, size_t len);
 bool im_is_older(const struct left_log *left, uint64_t pages, uint64_t lsn);
 
+/* What may be cut of the logs of a closed store: how many bytes stay of the one that was left, and how many may go; the same of the current one; and in which file the first
+ * is (src/log_cuts.rt). */
+struct log_cuts { uint64_t kept, gone, end, behind; bool is_log2; };
+void im_log_cuts(const struct folder *folder, struct log_cuts *cuts);
+
 /* The number of a folder into which a copy was not finished. */
 enum { UNFINISHED = 9 };
 
@@ -365,15 +370,18 @@ static const char *const why_apart[] = {
 };
 
 /* Reads the beginning of a file: as many bytes as there is room for, and none where it has fewer than so many. */
-static int front_of(struct opening *o, int fd, uint64_t *len, uint8_t *bytes, size_t room, uint64_t least)
+static int read_front(int fd, uint64_t *len, uint8_t *bytes, size_t room, uint64_t least)
 {
 	struct stat st;
 	if (fstat(fd, &st))
-		return refuse_system(o);
+		return -1;
 	*len = (uint64_t)st.st_size;
-	if (*len < least)
-		return 0;
-	return whole_at(fd, 0, bytes, *len < room ? (size_t)*len : room, 0) ? refuse_system(o) : 0;
+	return *len < least ? 0 : whole_at(fd, 0, bytes, *len < room ? (size_t)*len : room, 0);
+}
+
+static int front_of(struct opening *o, int fd, uint64_t *len, uint8_t *bytes, size_t room, uint64_t least)
+{
+	return read_front(fd, len, bytes, room, least) ? refuse_system(o) : 0;
 }
 
 static int log_front_of(struct opening *o, int fd, struct log_front *front)
@@ -570,4 +578,61 @@ void vah_device_leave(struct device *device)
 	for (size_t i = 0; i < sizeof all / sizeof *all; i++)
 		if (all[i] >= 0)
 			close(all[i]);
+}
+
+uint64_t vah_device_pages(const struct device *device)
+{
+	struct stat st;
+	return device->files[PAGES] >= 0 && !fstat(device->files[PAGES], &st) ? (uint64_t)st.st_size / PAGE_SIZE : 0;
+}
+
+/* ---- the end: what stands for FileDisk's cut_logs ---- */
+
+/* In tests, whether a call of a cut is to fail. */
+static int is_cut_to_fail(struct device *device)
+{
+#ifdef VAH_TEST
+	return is_counted_out(&device->fail_at, &device->kill_at);
+#else
+	(void)device;
+	return 0;
+#endif
+}
+
+static int cut_to(int fd, uint64_t len)
+{
+	int failed;
+	do failed = ftruncate(fd, (off_t)len);
+	while (failed && errno == EINTR);
+	return failed;
+}
+
+/* Cuts a log to so many bytes, where any go. */
+static int cut_log(struct device *device, int fd, uint64_t kept, uint64_t gone)
+{
+	return gone && (is_cut_to_fail(device) || cut_to(fd, kept) || is_cut_to_fail(device) || fsync(fd));
+}
+
+int vah_device_cut_logs(struct device *device)
+{
+	struct folder folder = { 0 };
+	struct log_cuts cuts = { 0 };
+	const int *files = device->files;
+	struct log_front *log = &folder.log, *log2 = &folder.log2;
+	struct pages_front *pages = &folder.pages;
+	int none = 0;
+	log->is_there = log2->is_there = pages->is_there = true;
+	int failed = is_cut_to_fail(device) || read_front(files[LOG], &log->len, log->bytes, sizeof log->bytes, 0)
+		|| is_cut_to_fail(device) || read_front(files[LOG2], &log2->len, log2->bytes, sizeof log2->bytes, 0)
+		|| is_cut_to_fail(device) || read_front(files[PAGES], &pages->len, pages->bytes, sizeof pages->bytes, PAGE_SIZE);
+	if (!failed)
+		im_log_cuts(&folder, &cuts);
+	if (cuts.gone || cuts.behind) {
+		int left = files[cuts.is_log2 ? LOG2 : LOG], current = files[cuts.is_log2 ? LOG : LOG2];
+		/* The current one is brought to the disk before: a power cut must not leave none of the two. */
+		failed = is_cut_to_fail(device) || fsync(current) || cut_log(device, left, cuts.kept, cuts.gone) || cut_log(device, current, cuts.end, cuts.behind);
+	}
+	if (failed)
+		atomic_compare_exchange_strong(&device->why, &none, errno);
+	return failed ? VAH_DEVICE : VAH_OK;
 }

@@ -37,16 +37,17 @@ struct call {
 	uint32_t step, word, fault, limit;
 	uint64_t txn, number;
 	uint32_t key_len, hi_len;
-	uint64_t out_len;
+	uint64_t out_len, more;
 	uint8_t key[256], hi[256], out[67584];
 };
-_Static_assert(sizeof(struct call) == 68144 && offsetof(struct call, txn) == 16 && offsetof(struct call, key_len) == 32
-	&& offsetof(struct call, out_len) == 40 && offsetof(struct call, key) == 48 && offsetof(struct call, hi) == 304
-	&& offsetof(struct call, out) == 560, "the call is laid out as im_calls_form has it");
+_Static_assert(sizeof(struct call) == 68152 && offsetof(struct call, txn) == 16 && offsetof(struct call, key_len) == 32
+	&& offsetof(struct call, out_len) == 40 && offsetof(struct call, key) == 56 && offsetof(struct call, hi) == 312
+	&& offsetof(struct call, out) == 568, "the call is laid out as im_calls_form has it");
 _Static_assert(sizeof(vah_entry) == 264 && offsetof(vah_entry, key) == 9, "bindings know the entry by these");
 _Static_assert(sizeof(vah_ref) == 24 && offsetof(vah_ref, rid) == 16, "bindings know a place in an answer by these");
-_Static_assert(sizeof(vah_config) == 64 && offsetof(vah_config, redo_bytes) == 16 && offsetof(vah_config, log_bytes) == 24
-	&& offsetof(vah_config, wait_ms) == 32 && offsetof(vah_config, progress) == 40 && offsetof(vah_config, read_only) == 56, "bindings know the config by these");
+_Static_assert(sizeof(vah_config) == 72 && offsetof(vah_config, redo_bytes) == 16 && offsetof(vah_config, log_bytes) == 24
+	&& offsetof(vah_config, wait_ms) == 32 && offsetof(vah_config, progress) == 40 && offsetof(vah_config, read_only) == 56
+	&& offsetof(vah_config, cache_bytes) == 64, "bindings know the config by these");
 _Static_assert(sizeof(vah_info) == 104 && offsetof(vah_info, restarts) == 48, "bindings know the info by these");
 
 /* What is asked, and what is answered, by number: crates/im_calls_form; STAT, OPEN, CLOSE and those of a copy crates/im_calls. */
@@ -97,6 +98,9 @@ struct device {
 /* Opens the files of a folder, and locks them; where they are only read with others who only read. A code; `text` then says why. */
 int vah_device_open(struct device *device, const char *path, char *text, size_t size);
 
+/* How many pages the file of pages has; 0 where the system does not tell it. It is no call that the store asks for. */
+uint64_t vah_device_pages(const struct device *device);
+
 /* Of a copy, parts.c: makes the files in a folder that is empty, or that it makes, and does not lie in the store's; syncs them; gives them the names of a store, when
  * all of it is written; says why it was given up; and takes those away that it made. A code; `text` then says why. */
 int vah_device_make_copy(struct copy *copy, const struct stat *store, char *text, size_t size);
@@ -109,6 +113,10 @@ void vah_device_close_copy(struct copy *copy);
 /* Lets go of the files and of their lock; and, in a child, of the files alone, whose lock is the parent's. */
 void vah_device_close(struct device *device);
 void vah_device_leave(struct device *device);
+
+/* Cuts the logs of the store, which was closed in order: the one that it has left to its first batch, the current one, where it has no record, to its end. A code. Where that fails
+ * nothing is lost, and `why` says what failed. */
+int vah_device_cut_logs(struct device *device);
 
 /* Before a step: the device that this thread's next calls are for. The proved library asks, and is answered, by a pair of descriptors; whatever
  * their numbers are, these two stand for `write` and `read` in it (Makefile), and make the call that it asks for. */

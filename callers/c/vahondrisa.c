@@ -8,7 +8,8 @@
 /* Whether a config is of this size in some version: they grew at the end. */
 static int is_config_size(size_t size)
 {
-	return size == offsetof(vah_config, log_bytes) || size == offsetof(vah_config, wait_ms) || size == offsetof(vah_config, read_only) || size >= sizeof(vah_config);
+	return size == offsetof(vah_config, log_bytes) || size == offsetof(vah_config, wait_ms) || size == offsetof(vah_config, read_only)
+		|| size == offsetof(vah_config, cache_bytes) || size >= sizeof(vah_config);
 }
 
 /* The fields of a config that this version knows, over the defaults. */
@@ -63,6 +64,19 @@ static int fill_shell(struct store *s, const char *path, const vah_config *confi
 	return s->path && s->call && s->handle ? VAH_OK : fail(NULL, VAH_MEMORY);
 }
 
+/* How many bytes a frame takes, and over how many pages of the file the default is as much as 64 MiB. */
+enum { FRAME_BYTES = 4096, MOST_PAGES = 8192 };
+
+/* How many frames more the pool is to have: as many as take so many bytes, or by default twice as many as the file has pages, as imstore does it. The proved
+ * library refuses more than there may be. */
+static uint64_t more_frames(const struct store *s, const vah_config *config)
+{
+	if (config->cache_bytes != VAH_CACHE_FITS)
+		return config->cache_bytes / FRAME_BYTES;
+	uint64_t pages = vah_device_pages(&s->device);
+	return 2 * (pages < MOST_PAGES ? pages : MOST_PAGES);
+}
+
 /* Opens the store over the files that are open. */
 static int open_session(struct store *s, const vah_config *config)
 {
@@ -75,6 +89,7 @@ static int open_session(struct store *s, const vah_config *config)
 	call->txn = config->max_pages;
 	call->number = config->redo_bytes;
 	call->out_len = config->log_bytes;
+	call->more = more_frames(s, config);
 	call->key_len = call->hi_len = 0; /* descriptors: any, since vah_device_write and _read stand for them */
 	step(s, call);
 	s->device.progress = NULL;
@@ -133,6 +148,8 @@ static int close_session(struct store *s)
 	s->call->step = CLOSE;
 	step(s, s->call);
 	int code = s->call->word == REFUSED ? (int)s->call->fault : VAH_OK;
+	if (!code && !s->is_read_only)
+		code = vah_device_cut_logs(&s->device);
 	vah_device_close(&s->device);
 	fail(s, code);
 	int why = errno;

@@ -114,7 +114,8 @@ typedef struct vah_ref {
  *  versions have their defaults. */
 typedef struct vah_config {
 	size_t size;              /**< sizeof(vah_config) */
-	uint32_t frames;          /**< pages of 4 KiB kept in memory, 8 to 1024 */
+	uint32_t frames;          /**< pages of 4 KiB kept in memory, 8 to 1024, and more
+	                           *   as cache_bytes says */
 	uint32_t max_pages;       /**< the most pages of the store */
 	uint64_t redo_bytes;      /**< the most log that an opening has to redo; 0: any */
 	uint64_t log_bytes;       /**< the most log that an opening has to read, where
@@ -132,6 +133,9 @@ typedef struct vah_config {
 	                           *   is changed; what would change a key is refused
 	                           *   VAH_READ_ONLY. Any number may look at a store at a
 	                           *   time. It must be there. Or 0 */
+	uint64_t cache_bytes;     /**< memory for more pages, beside `frames`: whole frames
+	                           *   of 4 KiB, up to 1,020 MiB. All of it is taken when
+	                           *   the store is opened */
 } vah_config;
 
 /** For redo_bytes, and the default: 16 MiB, or 7 times the bytes of the file of
@@ -140,7 +144,10 @@ typedef struct vah_config {
 /** For log_bytes, and the default: 64 MiB, or 8 times the bytes of the file of
  *  pages, whichever is more. */
 #define VAH_LOG_GROWS UINT64_MAX
-#define VAH_CONFIG_INIT { sizeof(vah_config), 1024, 1000000, VAH_REDO_GROWS, VAH_LOG_GROWS, 0, NULL, NULL, 0 }
+/** For cache_bytes, and the default: twice the bytes that the file of pages has at the
+ *  opening, at most 64 MiB. */
+#define VAH_CACHE_FITS UINT64_MAX
+#define VAH_CONFIG_INIT { sizeof(vah_config), 1024, 1000000, VAH_REDO_GROWS, VAH_LOG_GROWS, 0, NULL, NULL, 0, VAH_CACHE_FITS }
 
 /** What vah_stat tells. The numbers from `restarts` on count from the opening. */
 typedef struct vah_info {
@@ -214,7 +221,8 @@ typedef struct vah_info {
 #define VAH_NOT_A_STORE 11     /**< the files are of no store, or are damaged */
 #define VAH_TOO_MANY 12        /**< 64 transactions are active, or 4,096 stores are
                                 *   open */
-#define VAH_POOL_SIZE 13       /**< frames are not 8 to 1024 */
+#define VAH_POOL_SIZE 13       /**< frames are not 8 to 1024, or cache_bytes above
+                                *   1,020 MiB */
 #define VAH_LOCKED 19          /**< the store is open elsewhere */
 /** @} */
 
@@ -244,9 +252,10 @@ const char *vah_build(void);
  *  VAH_STOPPED, VAH_TOO_MANY */
 int vah_open(const char *path, const vah_config *config, vah_store **store);
 
-/** Write all pages, leave a long log for an empty one or take a checkpoint, and
- *  end the store. What was committed is kept whatever this returns, and the
- *  store has ended on each code but VAH_ACTIVE. NULL is taken.
+/** Write all pages, leave a long log for an empty one or take a checkpoint, cut
+ *  what of the logs nothing reads any more, and end the store. What was committed
+ *  is kept whatever this returns, and the store has ended on each code but
+ *  VAH_ACTIVE. NULL is taken.
  *  On VAH_ACTIVE those that sleep in a call of the store, but for commits, are
  *  woken, and answered VAH_BUSY, and so is a vah_copy: so end the transactions, and
  *  close again.

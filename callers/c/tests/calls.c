@@ -1,5 +1,5 @@
-/* Bad input, the same calls on a table in memory, how much an opening redoes, threads that share a store, a thread that would wait for itself, and
- * signals. */
+/* Bad input, the same calls on a table in memory, how much an opening redoes, memory for more pages, threads that share a store, a thread that would wait for
+ * itself, and signals. */
 #define _GNU_SOURCE
 #include "test.h"
 #include <pthread.h>
@@ -49,10 +49,19 @@ static void refusals(const char *dir)
 	IS(vah_open(dir, &config, &store), VAH_POOL_SIZE);
 	config.frames = 1025;
 	IS(vah_open(dir, &config, &store), VAH_POOL_SIZE);
-	config = (vah_config)VAH_CONFIG_INIT;
-	config.size = offsetof(vah_config, log_bytes); /* a config of the first version */
-	OK(vah_open(dir, &config, &store));
-	OK(vah_close(store));
+	for (int i = 0; i < 2; i++) {
+		config = (vah_config)VAH_CONFIG_INIT;
+		config.cache_bytes = i ? VAH_CACHE_FITS - 1 : (UINT64_C(1020) << 20) + 4096;
+		IS(vah_open(dir, &config, &store), VAH_POOL_SIZE);
+		HOLDS(!store && strstr(vah_last_error(), "cache_bytes"));
+	}
+	for (int i = 0; i < 2; i++) { /* configs of the first version, and of the one before cache_bytes */
+		config = (vah_config)VAH_CONFIG_INIT;
+		config.size = i ? offsetof(vah_config, cache_bytes) : offsetof(vah_config, log_bytes);
+		config.cache_bytes = VAH_CACHE_FITS - 1; /* not read */
+		OK(vah_open(dir, &config, &store));
+		OK(vah_close(store));
+	}
 	store = NULL;
 	longer.known.size = sizeof longer;
 	longer.later = 1;
@@ -219,7 +228,11 @@ static void on_a_table(const char *dir, int steps)
 		switch (chance(12)) {
 		case 0: OK(vah_checkpoint(store)); break;
 		case 1: OK(vah_flush(store)); break;
-		case 2: OK(vah_close(store)); OK(vah_open(dir, &config, &store)); break;
+		case 2:
+			OK(vah_close(store));
+			config.cache_bytes = life % 2 ? 0 : VAH_CACHE_FITS;
+			OK(vah_open(dir, &config, &store));
+			break;
 		case 3: OK(vah_switch(store)); break;
 		}
 	}
@@ -286,6 +299,50 @@ static void bounds(const char *dir)
 	snprintf(at, sizeof at, "%.4000s/short", dir);
 	HOLDS(redone_of(at, 0, 4 << 20) <= 8 << 20);
 	HOLDS(length_of(at, "log") <= 8 << 20 && length_of(at, "log2") <= 8 << 20);
+}
+
+/* ---- memory for more pages ---- */
+
+/* Looks all keys up twice in a pool of 8 frames and so many bytes more: how many pages the second round reads. Without keys they are put in first. */
+static uint64_t read_again(const char *dir, uint64_t cache_bytes, int has_keys)
+{
+	vah_config config = VAH_CONFIG_INIT;
+	vah_info before = { 0 }, after = { 0 };
+	vah_store *store;
+	vah_txn *txn;
+	char key[200];
+	uint64_t n;
+	config.frames = 8;
+	config.cache_bytes = cache_bytes;
+	memset(key, 'k', sizeof key);
+	OK(vah_open(dir, &config, &store));
+	for (int round = has_keys ? 0 : -1; round < 2; round++) {
+		OK(vah_stat(store, &before));
+		OK(vah_begin(store, &txn));
+		for (unsigned i = 0; i < 1000; i++) {
+			snprintf(key, 5, "%04u", i);
+			if (round < 0) {
+				OK(vah_insert(txn, key, sizeof key, i));
+				continue;
+			}
+			OK(vah_fetch(txn, key, sizeof key, &n));
+			HOLDS(n == i);
+		}
+		OK(vah_commit(txn));
+		OK(vah_stat(store, &after));
+	}
+	OK(vah_close(store));
+	return after.page_reads - before.page_reads;
+}
+
+/* The keys take more than 50 pages. A file that has none yet has room for none more, and less than a page is no room for one. */
+static void cache(const char *dir)
+{
+	HOLDS(read_again(dir, VAH_CACHE_FITS, 0) > 50);
+	HOLDS(read_again(dir, VAH_CACHE_FITS, 1) == 0);
+	HOLDS(read_again(dir, 0, 1) > 50);
+	HOLDS(read_again(dir, 4095, 1) > 50);
+	HOLDS(read_again(dir, 1 << 20, 1) == 0);
 }
 
 /* ---- threads ---- */
@@ -370,6 +427,8 @@ int main(int argc, char **argv)
 	on_a_table(dir, argc > 2 ? atoi(argv[2]) : 20000);
 	snprintf(dir, sizeof dir, "%s/bounds", argv[1]);
 	bounds(dir);
+	snprintf(dir, sizeof dir, "%s/cache", argv[1]);
+	cache(dir);
 	snprintf(dir, sizeof dir, "%s/threads", argv[1]);
 	threads(dir);
 	return 0;

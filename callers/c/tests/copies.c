@@ -30,6 +30,7 @@ static vah_store *open_at(const char *dir)
 	vah_config config = VAH_CONFIG_INIT;
 	vah_store *store;
 	config.frames = 16;
+	config.cache_bytes = 0;
 	config.redo_bytes = config.log_bytes = 300000;
 	OK(vah_open(dir, &config, &store));
 	return store;

@@ -1,5 +1,6 @@
 /* Files that a stop leaves, which no guard refuses: page 0 whose write was cut so that its LSN is old and its count new; a log that was being made, whose bytes
- * are any. And a file of pages that was cut, or is older than its logs, is refused. What imstore guards too is in examples/imstore_guards_files. guards FOLDER */
+ * are any. And a file of pages that was cut, or is older than its logs, is refused; and a close cuts the logs. What imstore guards too is in
+ * examples/imstore_guards_files. guards FOLDER */
 #define _GNU_SOURCE
 #include "test.h"
 #include <fcntl.h>
@@ -26,14 +27,16 @@ static void write_at(const char *name, off_t at, const void *bytes, size_t len)
 	close(fd);
 }
 
-static long long pages_in_file(void)
+static long long length_of(const char *name)
 {
-	struct stat of_pages;
-	int fd = open_file("pages");
-	HOLDS(!fstat(fd, &of_pages));
+	struct stat of_file;
+	int fd = open_file(name);
+	HOLDS(!fstat(fd, &of_file));
 	close(fd);
-	return of_pages.st_size / PAGE;
+	return of_file.st_size;
 }
+
+static long long pages_in_file(void) { return length_of("pages") / PAGE; }
 
 static void put_keys(vah_store *store, int from, int to)
 {
@@ -134,6 +137,40 @@ static void older_pages(int logged)
 	has_keys(200 + logged);
 }
 
+/* The place after the first batch of a log. */
+static long long first_batch_end(const char *name)
+{
+	uint8_t size[4];
+	int fd = open_file(name);
+	HOLDS(pread(fd, size, sizeof size, GATE_AT + 1) == sizeof size);
+	close(fd);
+	return GATE_AT + 5 + ((long long)size[0] << 24 | size[1] << 16 | size[2] << 8 | size[3]);
+}
+
+/* A close cuts the log that was left to its first batch, and cuts it no further; and the current one to its gate, where it has no record. A program that was stopped leaves them whole,
+ * and so does one that only reads. */
+static void left_log(void)
+{
+	vah_config reads = VAH_CONFIG_INIT;
+	vah_store *store;
+	reads.read_only = 1;
+	leave_store(60, 3);
+	long long whole = length_of("log"), kept = first_batch_end("log");
+	HOLDS(kept + 1 < whole);
+	OK(vah_open(dir, &reads, &store));
+	OK(vah_close(store));
+	HOLDS(length_of("log") == whole);
+	has_keys(63);
+	HOLDS(length_of("log") == kept && length_of("log2") > first_batch_end("log2"));
+	has_keys(63);
+	HOLDS(length_of("log") == kept);
+	OK(vah_open(dir, NULL, &store));
+	OK(vah_switch(store));
+	OK(vah_close(store));
+	HOLDS(length_of("log2") == first_batch_end("log2") && length_of("log") == GATE_AT + 1);
+	has_keys(63);
+}
+
 /* A store without keys, whose other log was being made when it was stopped: where a record of a log before stood there are any bytes. */
 static void unmade_log(void)
 {
@@ -160,6 +197,8 @@ int main(int argc, char **argv)
 	older_pages(0);
 	snprintf(dir, sizeof dir, "%.4000s/older_logged", argv[1]);
 	older_pages(3);
+	snprintf(dir, sizeof dir, "%.4000s/left", argv[1]);
+	left_log();
 	snprintf(dir, sizeof dir, "%.4000s/unmade", argv[1]);
 	unmade_log();
 	return 0;

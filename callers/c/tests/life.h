@@ -10,6 +10,7 @@ static inline vah_config small_config(void)
 {
 	vah_config config = VAH_CONFIG_INIT;
 	config.frames = 8;
+	config.cache_bytes = 0;
 	config.redo_bytes = 200000;
 	return config;
 }

@@ -26,6 +26,7 @@ static vah_config to_read(void)
 {
 	vah_config config = VAH_CONFIG_INIT;
 	config.frames = 8;
+	config.cache_bytes = 0;
 	config.read_only = 1;
 	return config;
 }
@@ -43,6 +44,7 @@ static vah_store *open_to_write(const char *dir)
 	vah_config config = VAH_CONFIG_INIT;
 	vah_store *store;
 	config.frames = 8;
+	config.cache_bytes = 0;
 	config.redo_bytes = config.log_bytes = 100000;
 	OK(vah_open(dir, &config, &store));
 	return store;

@@ -15,6 +15,7 @@ static vah_store *open_named(const char *name)
 	vah_config config = VAH_CONFIG_INIT;
 	vah_store *store;
 	config.frames = 16;
+	config.cache_bytes = 0;
 	snprintf(dir, sizeof dir, "%.4000s/%s", folder, name);
 	OK(vah_open(dir, &config, &store));
 	return store;

@@ -70,6 +70,19 @@ for turn, call in enumerate((lambda body: store.write(body), within)):
 """
 
 
+# The pool finds no memory: the opening is refused, and the store is as it was.
+NARROW = """
+import resource, sys, vahondrisa
+resource.setrlimit(resource.RLIMIT_AS, (1 << 29, resource.RLIM_INFINITY))
+try:
+    vahondrisa.open(sys.argv[1], cache_bytes=1020 << 20)
+except MemoryError:
+    print("none")
+with vahondrisa.open(sys.argv[1], cache_bytes=0) as store:
+    print(store.get(b"a"))
+"""
+
+
 class Stores(Case):
     def test_keys_are_there_when_opened_again(self):
         with vahondrisa.open(self.dir) as store:
@@ -93,6 +106,26 @@ class Stores(Case):
             self.assertTrue(store.switch())
         with vahondrisa.open(self.dir) as store, store.begin() as txn:
             self.assertEqual(txn[b"a"], 1)
+
+    def test_a_larger_cache_reads_no_page_again(self):
+        with vahondrisa.open(self.dir, frames=8) as store, store.begin() as txn:
+            for i in range(1000):
+                txn[b"%0200d" % i] = i
+        for options, is_held in (({"cache_bytes": 0}, False), ({}, True), ({"cache_bytes": 1 << 20}, True)):
+            with self.subTest(**options), vahondrisa.open(self.dir, frames=8, **options) as store:
+                reads = []
+                for _ in range(2):
+                    with store.begin() as txn:
+                        self.assertEqual([txn[b"%0200d" % i] for i in range(1000)], list(range(1000)))
+                    reads.append(store.info()["page_reads"])
+                self.assertEqual(reads[0] == reads[1], is_held, reads)
+
+    def test_memory_for_a_cache_that_is_not_there(self):
+        with vahondrisa.open(self.dir) as store:
+            store.write(lambda txn: txn.put(b"a", 7))
+        child = self.run_on(NARROW)
+        self.assertEqual(child.communicate()[0].split(), [b"none", b"7"])
+        self.assertEqual(child.returncode, 0)
 
     def test_the_recipes_of_callers(self):
         with vahondrisa.open(self.dir) as store, store.begin() as txn:
@@ -151,6 +184,7 @@ class Stores(Case):
             self.assertRaises(ValueError, older.get, b"b")
         self.assertRaises(ValueError, store.begin)
         self.assertRaises(ValueError, vahondrisa.open, self.dir, frames=7)
+        self.assertRaisesRegex(ValueError, "cache_bytes", vahondrisa.open, self.dir, cache_bytes=1 << 30)
         self.assertRaises(ValueError, vahondrisa.open, "a\0b")
         with self.assertRaises(vahondrisa.Failed) as caught:
             vahondrisa.open("/proc/none/here")

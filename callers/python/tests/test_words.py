@@ -140,7 +140,7 @@ class Words(Case):
             txn[b"a"] = True
             self.assertEqual(txn[b"a"], 1)
         for named, words in (({"frames": "8"}, "^frames must be an int, not str$"), ({"timeout": "1"}, "^timeout must be a number of seconds"),
-                             ({"redo_bytes": None}, "^redo_bytes must be an int, not NoneType$")):
+                             ({"redo_bytes": None}, "^redo_bytes must be an int, not NoneType$"), ({"cache_bytes": 1.5}, "^cache_bytes must be an int, not float$")):
             self.assertRaisesRegex(TypeError, words, vahondrisa.open, self.dir + "2", **named)
         self.assertRaisesRegex(ValueError, "^frames must be a number of 32 bits, not 4294967304$", vahondrisa.open, self.dir, frames=2**32 + 8)
         self.assertRaisesRegex(ValueError, "^timeout must be 0 or more seconds, not -1$", self.store.begin, timeout=-1)

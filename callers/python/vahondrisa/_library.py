@@ -8,7 +8,7 @@ from ctypes import POINTER, c_char_p, c_int, c_size_t, c_uint, c_uint8, c_uint32
 KEY_MAX = 255
 SCAN_MAX = 256
 NO_WAIT = 1
-REDO_GROWS = LOG_GROWS = (1 << 64) - 1
+REDO_GROWS = LOG_GROWS = CACHE_FITS = (1 << 64) - 1
 NOT_FOUND, EXISTS, GIVE_WAY, BUSY, INVALID, ACTIVE, FORKED, DEADLOCK, STOPPED, CLOSED = 100, 101, 102, 103, 104, 105, 106, 107, 108, 109
 READ_ONLY, NOT_EMPTY, NOT_COPIED = 110, 111, 112
 NO_TRANSACTION, MUST_ROLL_BACK, KEY_LENGTH, ROLLING_BACK, CAPACITY, LOG_FULL, DEVICE, MEMORY = 1, 2, 3, 4, 6, 7, 8, 9
@@ -31,7 +31,7 @@ Progress = ctypes.CFUNCTYPE(c_int, c_void_p, c_uint64)
 class Config(ctypes.Structure):
     _fields_ = [
         ("size", c_size_t), ("frames", c_uint32), ("max_pages", c_uint32), ("redo_bytes", c_uint64), ("log_bytes", c_uint64),
-        ("wait_ms", c_uint64), ("progress", Progress), ("with_", c_void_p), ("read_only", c_uint64),
+        ("wait_ms", c_uint64), ("progress", Progress), ("with_", c_void_p), ("read_only", c_uint64), ("cache_bytes", c_uint64),
     ]
 
 
@@ -46,7 +46,7 @@ class Info(ctypes.Structure):
 
 
 # The library's own build tests these sizes too.
-assert (ctypes.sizeof(Entry), ctypes.sizeof(Config), ctypes.sizeof(Info)) == (264, 64, 104) and entries(1).size == 264
+assert (ctypes.sizeof(Entry), ctypes.sizeof(Config), ctypes.sizeof(Info)) == (264, 72, 104) and entries(1).size == 264
 
 
 def _load() -> ctypes.CDLL:

@@ -20,11 +20,12 @@ Path = Union[str, bytes, "os.PathLike[str]", "os.PathLike[bytes]"]
 
 def open(
     path: Path, *, frames: int = 1024, max_pages: int = 1_000_000, redo_bytes: int = c.REDO_GROWS, log_bytes: int = c.LOG_GROWS,
-    timeout: Optional[float] = None, progress: "Optional[Callable[[int], object]]" = None, read_only: bool = False,
+    timeout: Optional[float] = None, progress: "Optional[Callable[[int], object]]" = None, read_only: bool = False, cache_bytes: int = c.CACHE_FITS,
 ) -> "Store":
     """Opens the store in a folder, or makes one, with the folder and those above it.
 
-    `frames` are pages of 4 KiB kept in memory, 8 to 1,024; `max_pages` the most that the store may have; `redo_bytes` the most log that the next
+    `frames` are pages of 4 KiB kept in memory, 8 to 1,024, and `cache_bytes` memory for more of them, at most 1,020 MiB, which is taken at once, and by
+    default twice what the file of pages has, at most 64 MiB; `max_pages` the most that the store may have; `redo_bytes` the most log that the next
     opening has to redo, 0 for any, and by default 16 MiB, or 7 times the file of pages; `log_bytes` the most that it has to read, where now and then
     no transaction is active, 0 for any, and by default 64 MiB, or 8 times. `timeout` is how many seconds a call waits at most for other transactions
     before it raises Busy. `progress` is called now and then with the number of bytes read so far; an exception that it raises ends the opening, and
@@ -39,7 +40,7 @@ def open(
     config = c.Config(ctypes.sizeof(c.Config))
     config.frames, config.max_pages = number_of(frames, 32, "frames"), number_of(max_pages, 32, "max_pages")
     config.redo_bytes, config.log_bytes = number_of(redo_bytes, 64, "redo_bytes"), number_of(log_bytes, 64, "log_bytes")
-    config.read_only = bool(read_only)
+    config.read_only, config.cache_bytes = bool(read_only), number_of(cache_bytes, 64, "cache_bytes")
     timeout, raised = seconds_of(timeout, "timeout"), []
     if progress is not None:
         config.progress = c.Progress(_told(progress, raised))

@@ -1,7 +1,6 @@
 //! Real files. Nothing is told of their bytes.
-ghost use Rattle.std.specs.Prelude.{◌≡◌, ◌↔◌, [], true, false, IfOk, IfErr, IfSome, OnOk, Ok, Err, Some, is_err, option_map};
+ghost use Rattle.std.specs.Prelude.{◌≡◌, ◌↔◌, ◌<◌, ◌^◌, [], true, false, IfOk, IfErr, IfSome, OnOk, Ok, Err, Some, is_err, option_map};
 ghost use Rattle.im_base_types.specs.declared.fault.Fault.TheVariants.{Device};
-ghost use Rattle.im_base_disk.specs.Disk.{Answers};
 ghost use Rattle.im_base_file_disk.specs.RealFiles.{AreApart, IsApart, HasOwnDescriptors};
 
 use crate::folders::{make_folders, sync_folders};
@@ -128,18 +127,6 @@ impl FileDisk {
         open_files(rt, dir, &options, Sharing::Nobody)
     }
 
-    /// Takes all bytes of a file away that stand at a place or after it, and brings that to the disk. No step of a store does that: it is for a log of which
-    /// its store, which is closed, has no use.
-    ///
-    /// Refused `Device`.
-    pub fn cut(&mut self, file: FileId, end: u64) -> Result<(), Fault>
-        requires working { ⟦<FileDisk as Disk>⟧.failed self.old ≡ false }
-        ensures answers { Answers (⟦<FileDisk as Disk>⟧.failed self.new) result }
-    {
-        let outcome = self.shorten(file, end);
-        self.keep(DiskCall::Cut(end), file, outcome)
-    }
-
     /// The last call that failed: which it was, on which file and where, and what the system said. None where none has failed.
     pub fn last_error(&self) -> Option<&DiskError>
         ensures { option_map (λ e. e.now) result ≡ self.now.last_error }
@@ -157,8 +144,19 @@ impl FileDisk {
         self.has_failed
     }
 
+    /// How many pages the file of pages has, or 0 where the system does not tell it. That is no call of the disk, which goes on as it was: who opens a store
+    /// chooses by it how much memory the store takes. A file has fewer than 2^64 bytes.
+    pub fn page_count(&self) -> u64
+        ensures few { result < 2 ^ 52 }
+    {
+        match self.length(FileId::Pages) {
+            Ok(length) => length / PAGE_SIZE as u64,
+            Err(_) => 0,
+        }
+    }
+
     // What a call came to, which was this one: where it failed, it is the last error, with what the system said.
-    fn keep<T: Drop>(
+    pub(crate) fn keep<T: Drop>(
         &mut self,
         call: DiskCall,
         file: FileId,
@@ -191,7 +189,7 @@ impl FileDisk {
         Ok(())
     }
 
-    fn file(&self, file: FileId) -> io::Result<&File> {
+    pub(crate) fn file(&self, file: FileId) -> io::Result<&File> {
         match file {
             FileId::Log => Ok(&self.log),
             FileId::Pages => Ok(&self.pages),
@@ -219,12 +217,6 @@ impl FileDisk {
 
     fn bring(&self, file: FileId) -> io::Result<()> {
         self.file(file)?.sync_data()
-    }
-
-    fn shorten(&self, file: FileId, end: u64) -> io::Result<()> {
-        let file = self.file(file)?;
-        file.set_len(end)?;
-        file.sync_all()
     }
 }
 
@@ -458,7 +450,7 @@ fn lsn_of(pages: &File, long: u64, page: PageNo) -> Result<u64, OpenError> {
 }
 
 // The length of a log, and its first bytes.
-fn front_of(file: Option<&File>) -> Result<Front, OpenError> {
+pub(crate) fn front_of(file: Option<&File>) -> io::Result<Front> {
     let mut front = Front::NONE;
     if let Some(file) = file {
         front.is_there = true;
@@ -470,7 +462,7 @@ fn front_of(file: Option<&File>) -> Result<Front, OpenError> {
 }
 
 // The length of a file of pages, and the first bytes of page 0, where that is whole.
-fn pages_front_of(file: Option<&File>) -> Result<PagesFront, OpenError> {
+pub(crate) fn pages_front_of(file: Option<&File>) -> io::Result<PagesFront> {
     let mut front = PagesFront::NONE;
     if let Some(file) = file {
         front.is_there = true;

@@ -50,8 +50,8 @@ mod work;
 use anyhow::{Result, bail};
 use asked::{Asked, Mode, asked_by};
 use im_base_types::Fault;
-use im_engine::{BufferSize, Config, Engine};
-use im_front::{Left, Open};
+use im_engine::{BufferSize, Config, Engine, MoreFrames};
+use im_front::{Left, Open, Rested};
 use im_open::{Files, open};
 use im_theory_store::Store;
 use std::alloc::Global;
@@ -121,6 +121,7 @@ struct Done {
 fn config_of(mode: Mode) -> Config {
     Config {
         frames: 1_024,
+        more: MoreFrames::NONE,
         max_pages: 1_000_000,
         buffer: BufferSize::OVER_FILES,
         stepped: false,
@@ -128,6 +129,9 @@ fn config_of(mode: Mode) -> Config {
         workers: 1,
     }
 }
+
+// Lets a store go for which there is no front.
+fn let_go(_at_rest: Rested<Engine<Files>>) {}
 
 // Opens the store, and lets all threads commit. Threads are started, and waited for, by `threads` alone.
 fn measured<R: Threads + Wait + Clock + Sync>(
@@ -141,7 +145,10 @@ fn measured<R: Threads + Wait + Clock + Sync>(
         open(rt, threads, folder, config_of(asked.mode))?,
     ) {
         Ok(front) => front,
-        Err((fault, _at_rest)) => return Err(anyhow::Error::from(fault)),
+        Err((fault, at_rest)) => {
+            let_go(at_rest);
+            return Err(anyhow::Error::from(fault));
+        },
     };
     let told = measure_on(threads, rt.alloc(), &front, asked);
     let (made, entries) = close(rt.alloc(), front.close())?;

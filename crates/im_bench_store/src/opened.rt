@@ -6,7 +6,7 @@ ghost use Rattle.im_base_disk.specs.Runs.{IsSynced};
 use im_base_disk::Disk;
 use im_base_two_logs::Renamed;
 use im_base_types::Fault;
-use im_engine::{BufferSize, Config, Engine};
+use im_engine::{BufferSize, Config, Engine, MoreFrames};
 use std::alloc::Global;
 use std::thread::Threads;
 
@@ -22,6 +22,7 @@ pub fn opened<D: Disk + Drop, R: Threads + Sync>(
 {
     let config = Config {
         frames,
+        more: MoreFrames::NONE,
         max_pages: 1_000_000,
         buffer: BufferSize::ONE,
         stepped: false,

@@ -22,10 +22,10 @@ use Rattle.im_calls.specs.declared.opened.Opened.{Opened}
 abbrev pub IsForStep : ℕ → Type 0
 IsForStep step = (step ≢ 13) × (step ≢ 14) × (step ≢ 15) × (step ≢ 18) × (step ≢ 19) × (step ≢ 20)
 
--- Why no store is opened. `Capacity` where more pages are asked for than have numbers; and else `PoolSize` just where the frames are too few or too many. Beside these it is what the engine's opening is refused for.
+-- Why no store is opened. `Capacity` where more pages are asked for than have numbers; and else `PoolSize` just where the frames are too few or too many, or those that are asked more. Beside these it is what the engine's opening is refused for.
 pub record RefusesOpening (asked : Call) (fault : Fault) : Type 0 where
   pub pages : 2 ^ 32 ≤ asked.txn → fault ≡ Capacity
-  pub frames : asked.txn < 2 ^ 32 → ((fault ≡ PoolSize) ↔ ((asked.limit < 8) ⊎ (1024 < asked.limit)))
+  pub frames : asked.txn < 2 ^ 32 → ((fault ≡ PoolSize) ↔ ((asked.limit < 8) ⊎ (1024 < asked.limit) ⊎ (261120 < asked.more)))
   pub any : (fault ≡ PoolSize) ⊎ (fault ≡ Memory) ⊎ (fault ≡ Device) ⊎ (fault ≡ NotAStore) ⊎ (fault ≡ LogFull) ⊎ (fault ≡ Capacity)
 
 -- The bounds are those that an opening asks: so many bytes to redo, and to read. (The greatest number asks the usual ones, of which nothing is said.)
@@ -46,6 +46,7 @@ standing d e = active_of d e ∷ dirty_of d e ∷ durable_end_of d e ∷ e.repor
 pub record IsOpenedOn {D : Type 0} (d : Ghosts D) (asked : Call) (disk : D) (s : OpenStore D d) : Type 0 where
   pub config : Config
   pub frames : config.frames ≡ asked.limit
+  pub more : config.more.frames ≡ asked.more
   pub max_pages : config.max_pages ≡ asked.txn
   pub group : (config.group ≡ true) ↔ (asked.word ≡ 1)
   pub workers : config.workers ≡ 1

@@ -9,7 +9,7 @@ use im_base_disk::Disk;
 use im_base_two_logs::TwoLogs;
 use im_base_types::Fault;
 use im_calls_form::{Call, answer, refuse, step_of, tell, tell_numbers};
-use im_engine::{BufferSize, Config};
+use im_engine::{BufferSize, Config, MoreFrames};
 use im_engine_upkeep::{Bounds, LogBound, RedoBound};
 use im_store::OpenStore;
 use std::alloc::Global;
@@ -25,12 +25,12 @@ impl<D: TwoLogs + Drop> Opened<D> {
     ghost use Rattle.im_calls_form.specs.Calls.{IsAnswered, Says, Shows, numbers_bytes};
     ghost use Rattle.im_calls.specs.Sessions.{IsClosing, IsOpening, Serves, standing};
 
-    /// Opens the store of a disk as a call asks it: `limit` frames, `txn` pages at most, `number` bytes of log that the opening after this one
-    /// may have to redo, and `out_len` bytes that it may have to read, or with the greatest number the usual bounds, which grow with the file of pages; with 1 as
-    /// `word` a Commit waits for a Force. The log's buffer is of the size that programs take.
+    /// Opens the store of a disk as a call asks it: `limit` frames and `more` of them more, `txn` pages at most, `number` bytes of log that the opening after
+    /// this one may have to redo, and `out_len` bytes that it may have to read, or with the greatest number the usual bounds, which grow with the file of pages;
+    /// with 1 as `word` a Commit waits for a Force. The log's buffer is of the size that programs take.
     ///
-    /// Refused `Capacity` where more pages are asked for than have numbers, and else as `OpenStore::open_alone` is with one worker: a library that is
-    /// called from C can start no threads.
+    /// Refused, with no device call, `Capacity` where more pages are asked for than have numbers, and behind that `PoolSize` where the frames more are above
+    /// 261,120; and else as `OpenStore::open_alone` is with one worker: a library that is called from C can start no threads.
     pub fn open(alloc: Global, disk: D, call: &mut Call) -> Option<Opened<D>>
         requires working { D.failed disk ≡ false }
         requires synced { IsSynced D.Disk disk }
@@ -106,8 +106,12 @@ fn store_of<D: TwoLogs + Drop>(alloc: Global, disk: D, call: &Call) -> Result<Op
     let Ok(max_pages) = u32::try_from(call.txn) else {
         return Err(Fault::Capacity);
     };
+    let Some(more) = MoreFrames::new(call.more as usize) else {
+        return Err(Fault::PoolSize);
+    };
     let config = Config {
         frames: call.limit as usize,
+        more,
         max_pages,
         buffer: BufferSize::OVER_FILES,
         stepped: false,

@@ -22,6 +22,8 @@ pub struct Call {
     pub hi_len: u32,
     /// How many bytes of `out` were answered; at an opening, when it is asked, how much log the next one may have to read.
     pub out_len: u64,
+    /// At an opening, how many frames more.
+    pub more: u64,
     /// A key, or the lower bound of a scan. One byte more than a key may have, so that a longer one is refused.
     pub key: [u8; 256],
     /// The upper bound of a scan.

@@ -11,7 +11,8 @@ use Rattle.im_log_gate.specs.Gate.{generation_at}
 use Rattle.im_log_record.specs.Spelling.{size_of}
 use Rattle.im_log.specs.Switching.{next_gate}
 use Rattle.im_log.specs.declared.log_file.LogFile.{LogFile}
-use Rattle.im_log.specs.LogFile.{end_with}
+use Rattle.im_log.specs.LogFile.{end_with, HasNoRoom}
+use Rattle.im_page_table.specs.DirtyTable.{TableView, synced_entries, FitsRecord}
 use Rattle.im_page_writer.specs.declared.page_writer.PageWriter.{PageWriter}
 use Rattle.im_page_writer.specs.Outcome.{AreLoaded, AsksNothing, Ends, LogEnds, mild, none_mild}
 use Rattle.im_page_writer.specs.Switching.{MayNotSwitch, RefusesSwitch}
@@ -92,6 +93,14 @@ module _ {D : Type 0} (d : Ghosts D) (v : PageWriter) (old : D) (w : PageWriter)
   force_cause Failed x works room = absurd (not_true v.failed works x.0)
   force_cause NotAStore x works room = absurd (let never = x.0 in cc never)
   force_cause e x works room = absurd (let never = x.0 in cc never)
+
+  -- a Checkpoint
+  pub tables_cause : (f : Fault) → LogEnds d false none_mild v old w new (Some f) → v.failed ≡ false → ((f ≡ LogFull) × (d.failed new ≡ false) × HasNoRoom w.log) ⊎ ((f ≡ Device) × (d.failed new ≡ true))
+  tables_cause Device x works = inr (refl, x.1)
+  tables_cause LogFull x works = inl (refl, x.1, x.2)
+  tables_cause Failed x works = absurd (not_true v.failed works x.0)
+  tables_cause NotAStore x works = absurd (let never = x.0 in cc never)
+  tables_cause e x works = absurd (let never = x.0 in cc never)
 
   -- an append
   pub append_cause : (f : Fault) → LogEnds d false none_mild v old w new (Some f) → v.failed ≡ false → ((f ≡ LogFull) × (d.failed new ≡ false)) ⊎ ((f ≡ Device) × (d.failed new ≡ true))
@@ -201,6 +210,13 @@ module _ {D : Type 0} (d : Ghosts D) (old : Engine D d) (log : LogFile) (disk : 
 
 -- ---- a force, and a Checkpoint
 
+-- whether the record of a Checkpoint has room for each page that was changed
+pub few_or_many : (t : TableView) → FitsRecord t ⊎ (FitsRecord t → ⊥)
+few_or_many t = elim (cases_lt 1024 (length (synced_entries t).entries)) [
+  | inl more ↦ inr (λ few. omega (arith, few, more))
+  | inr few ↦ inl (omega (arith, few))
+]
+
 module _ {D : Type 0} (d : Ghosts D) (old : Engine D d) (log : LogFile) (disk : D) where
   pub force_made : (reply : Reply) → (d.failed disk ≡ true → ⊥) → ((x : Fault) → reply ≢ Refused x) → (fault : Fault) → ((reply ≡ Refused fault) ↔ OfForce d reply old log disk fault)
   force_made reply on not fault = past on (none (not fault))
@@ -209,14 +225,22 @@ module _ {D : Type 0} (d : Ghosts D) (old : Engine D d) (log : LogFile) (disk : 
   force_lost told is broken fault = here broken (named told fault faults.Device is)
 
   -- a Checkpoint that was taken
-  pub checkpoint_made : (reply : Reply) → (d.failed disk ≡ true → ⊥) → end_with old.writer.log (size_of (checkpoint_of d old)) ≤ 2 ^ 62 → ((x : Fault) → reply ≢ Refused x) → (fault : Fault)
+  pub checkpoint_made : (reply : Reply) → (d.failed disk ≡ true → ⊥) → (FitsRecord old.writer.table → end_with old.writer.log (size_of (checkpoint_of d old)) ≤ 2 ^ 62) → ((x : Fault) → reply ≢ Refused x) → (fault : Fault)
       → ((reply ≡ Refused fault) ↔ Refuses d reply old log disk fault answers.Checkpoint)
-  checkpoint_made reply on fits not fault = past on (past (λ over. omega (arith, fits, over)) (none (not fault)))
+  checkpoint_made reply on fits not fault = elim (few_or_many old.writer.table) [
+    | inl few ↦ past on (here few (past (λ over. (let under = fits few in omega (arith, under, over))) (none (not fault))))
+    | inr many ↦ past on (past many (λ e. absurd (not fault e), λ y. y.0))
+  ]
 
   -- one that was refused
-  pub checkpoint_lost : (f : Fault) (told : Fault) → told ≡ told_as f → ((f ≡ LogFull) × (d.failed disk ≡ false)) ⊎ ((f ≡ Device) × (d.failed disk ≡ true)) → (f ≡ LogFull → 2 ^ 62 < end_with old.writer.log (size_of (checkpoint_of d old))) → (fault : Fault)
+  pub checkpoint_lost : (f : Fault) (told : Fault) → told ≡ told_as f → ((f ≡ LogFull) × (d.failed disk ≡ false) × HasNoRoom log) ⊎ ((f ≡ Device) × (d.failed disk ≡ true)) → (f ≡ LogFull → FitsRecord old.writer.table → 2 ^ 62 < end_with old.writer.log (size_of (checkpoint_of d old))) → (fault : Fault)
       → ((Refused told ≡ Refused fault) ↔ Refuses d (Refused told) old log disk fault answers.Checkpoint)
-  checkpoint_lost f told is (inl full) over fault = past (not_true (d.failed disk) full.1) (here (over full.0) (named told fault faults.LogFull (is ∙ ap told_as full.0)))
+  checkpoint_lost f told is (inl full) over fault =
+      let same : told ≡ faults.LogFull = is ∙ ap told_as full.0 in
+      past (not_true (d.failed disk) full.1) (elim (few_or_many old.writer.table) [
+        | inl few ↦ here few (here (over full.0 few) (named told fault faults.LogFull same))
+        | inr many ↦ past many (λ e. (e, subst (FlushCause d log disk) (sym same ∙ refused_inj told fault e) full.2), λ y. y.0)
+      ])
   checkpoint_lost f told is (inr lost) over fault = here lost.1 (named told fault faults.Device (is ∙ ap told_as lost.0))
 
 -- ---- a Switch

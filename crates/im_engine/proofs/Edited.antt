@@ -23,6 +23,7 @@ use Rattle.im_base_disk.specs.declared.disk.Disk.{Ghosts}
 use Rattle.im_base_disk.specs.Disk.{Files}
 use Rattle.im_base_disk.specs.Runs.{LeavesOnly}
 use Rattle.im_base_disk.proofs.Runs.{weakened}
+use Rattle.im_page_table.specs.DirtyTable.{FitsRecord}
 use Rattle.im_page_writer.specs.declared.page_writer.PageWriter.{PageWriter}
 use Rattle.im_page_writer.specs.Outcome.{LogEnds, mild}
 use Rattle.im_page_writer.specs.PageWriter.{Evicted}
@@ -216,7 +217,7 @@ module _ {D : Type 0} (d : Ghosts D) {b : Base} (before : List Effect) (s : Show
           same = goes_on ∙ r.same ∙ ap under_of (sym stays);
         }
 
-    pub edited : LeavesEdit d b r.base r.now t old.disk new.disk → new.failed ≡ false → GrowsAs b (under_of old.under) (under_of new.under) (answer a v.walk) (Do t a) r.now.log now.log → StepKept d before s v (Do t a) (answer a v.walk) old new
+    pub edited : LeavesEdit d b r.base r.now t old.disk new.disk → new.failed ≡ false → GrowsAs b (FitsRecord old.writer.table) (under_of old.under) (under_of new.under) (answer a v.walk) (Do t a) r.now.log now.log → StepKept d before s v (Do t a) (answer a v.walk) old new
     unfolding edited_runs
     edited stops works adds = step_made d before s v (Do t a) (answer a v.walk) old new w served.0 edited_runs works (leaves_as d before s (shows s (Do t a) None) old.disk new.disk refl (edit_stops new.disk stops)) tt r adds
 
@@ -278,7 +279,7 @@ module _ {D : Type 0} (d : Ghosts D) {b : Base} (before : List Effect) (s : Show
         let rows = map (changed t (with_record taken.last taken.undo_next)) old.txns.rows in
         subst (λ (reply : Reply). StepKept d before s v (Do t (Delete key)) reply old new) says
         (edited (Delete key) new is.now r.redo_end taken.last taken.undo_next is.stands is.durable grown rows table w
-        (subst (λ (reply : Reply). IsServed b r.earlier before s v (Do t (Delete key)) reply w is.now.log rows old.txns.next new.locks) (sym says) (after_record.0, in_full)) refl plain stays stops works (subst (λ (reply : Reply). GrowsAs b (under_of old.under) (under_of new.under) reply (Do t (Delete key)) r.now.log is.now.log) (sym says) drops))
+        (subst (λ (reply : Reply). IsServed b r.earlier before s v (Do t (Delete key)) reply w is.now.log rows old.txns.next new.locks) (sym says) (after_record.0, in_full)) refl plain stays stops works (subst (λ (reply : Reply). GrowsAs b (FitsRecord old.writer.table) (under_of old.under) (under_of new.under) reply (Do t (Delete key)) r.now.log is.now.log) (sym says) drops))
 
   -- ---- a change that was not made
 
@@ -290,7 +291,7 @@ module _ {D : Type 0} (d : Ghosts D) {b : Base} (before : List Effect) (s : Show
         subst (λ (y : Reply). StepKept d before s v (Do t a) y old new) (ap (answer a) walk_of ∙ says)
         (grown_made d before s v (did v t a (lasting_of new.locks t)) (Do t a) (answer a v.walk) old new r old.txns refl ev
         (λ longer stays all. reads_served b r.earlier before s v r.now.log longer old.txns.rows old.txns.next old.locks new.locks t row a r.serving found mark free fits (ap (changes a) walk_of ∙ none) (decided_here a Granted new.locks decides) stays all)
-        (asks_nothing s t a v) refl table refl (edit_stops new.disk stops) works tt (λ longer images. read_grows (under_of old.under) (under_of new.under) b t r.now.log longer images a v.walk (ap (changes a) walk_of ∙ none)) stays)
+        (asks_nothing s t a v) refl table refl (edit_stops new.disk stops) works tt (λ longer images. read_grows (FitsRecord old.writer.table) (under_of old.under) (under_of new.under) b t r.now.log longer images a v.walk (ap (changes a) walk_of ∙ none)) stays)
 
     -- it has to wait
     pub blocked : (holder : ℕ) → Decides old.locks t (asked a (contents b r.now.log)) (Wait holder) new.locks → Evicted d b r.base r.now old.disk new.writer new.disk → new.txns ≡ old.txns → new.failed ≡ false → StepKept d before s v (Do t a) (Blocked holder) old new

@@ -22,6 +22,7 @@ use Rattle.im_base_disk.specs.declared.disk.Disk.{Ghosts}
 use Rattle.im_base_disk.specs.Disk.{Files}
 use Rattle.im_base_disk.specs.Runs.{LeavesOnly}
 use Rattle.im_log.specs.declared.log_file.LogFile.{LogFile}
+use Rattle.im_page_table.specs.DirtyTable.{FitsRecord}
 use Rattle.im_page_writer.specs.declared.page_writer.PageWriter.{PageWriter}
 use Rattle.im_page_writer.specs.Outcome.{LogEnds, pages_of}
 use Rattle.im_page_writer.specs.PageWriter.{Evicted}
@@ -141,7 +142,7 @@ module _ {D : Type 0} (d : Ghosts D) {b : Base} (before : List Effect) (s : Show
         let w = did v t (Insert key rid) (lasting_of new.locks t) in
         subst (λ (reply : Reply). StepKept d before s v (Do t (Insert key rid)) reply old new) says
         (edited d before s v old r t row found mark (nobody_owner d before s v old r plain t) (Insert key rid) new is.now r.redo_end noted.last noted.undo_next is.stands is.durable grown rows table w
-        (subst (λ (reply : Reply). IsServed b r.earlier before s v (Do t (Insert key rid)) reply w is.now.log rows old.txns.next new.locks) (sym says) after_record) refl plain stays stops works (subst (λ (reply : Reply). GrowsAs b (under_of old.under) (under_of new.under) reply (Do t (Insert key rid)) r.now.log is.now.log) (sym says) puts))
+        (subst (λ (reply : Reply). IsServed b r.earlier before s v (Do t (Insert key rid)) reply w is.now.log rows old.txns.next new.locks) (sym says) after_record) refl plain stays stops works (subst (λ (reply : Reply). GrowsAs b (FitsRecord old.writer.table) (under_of old.under) (under_of new.under) reply (Do t (Insert key rid)) r.now.log is.now.log) (sym says) puts))
 
 -- ---- refusals
 

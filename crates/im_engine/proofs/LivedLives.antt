@@ -1,5 +1,5 @@
 -- Lives one after another.
-use Rattle.std.proofs.Common.{inl, inr, ℕ, zero, suc, List, [], ◌∷◌, take, None, Some, Result, Ok, Err, IfOk, IfErr, OnErr, refl, sym, subst}
+use Rattle.std.proofs.Common.{inl, inr, ℕ, zero, suc, List, [], ◌∷◌, take, None, Some, Result, Ok, Err, IfOk, IfErr, refl, sym, subst}
 use Rattle.im_base_types.specs.Changes.{Effect}
 use Rattle.im_base_types.specs.Lives.{Asked, Shown, NoneAcked, StandsForMore, nothing_shown, shows, shown_by}
 use Rattle.im_base_steps.specs.Calls.{asked_by, told_by}
@@ -46,9 +46,9 @@ listed (Ok x) P Q h then = then x h
 listed (Err e) P Q h then = tt
 
 -- a fact of a refusal that follows from two of every refusal
-pub on_err : {A E : Type 0} (r : Result A E) (P : Type 0) (Q R : E → Type 0) → OnErr r P → IfErr r Q → (P → (e : E) → Q e → R e) → IfErr r R
-on_err (Ok x) P Q R h k then = tt
-on_err (Err e) P Q R h k then = then h e k
+pub on_err : {A E : Type 0} (r : Result A E) (P : Type 0) (Q R : E → Type 0) → IfErr r (λ e. Q e × P) → (P → (e : E) → Q e → R e) → IfErr r R
+on_err (Ok x) P Q R h then = tt
+on_err (Err e) P Q R h then = then h.1 e h.0
 
 -- what a life keeps that was cut off so; none that was acknowledged is lost
 pub kept_by : (life : Life Files) (before : List Effect) → IsCutOffBehind life.answered before nothing_shown life.steps life.replies life.left

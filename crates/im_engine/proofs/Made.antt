@@ -12,6 +12,7 @@ use Rattle.im_base_disk.specs.Runs.{LeavesOnly}
 use Rattle.im_base_disk.proofs.Runs.{weakened}
 use Rattle.im_base_two_logs.specs.Runs.{LeavesNamed}
 use Rattle.im_base_two_logs.proofs.Runs.{unnamed}
+use Rattle.im_page_table.specs.DirtyTable.{FitsRecord}
 use Rattle.im_page_writer.specs.PageWriter.{Evicted}
 use Rattle.im_theory_tree.specs.Theory.{page_tree}
 use Rattle.im_theory_machine.specs.Locks.{Lock}
@@ -41,7 +42,7 @@ module _ {D : Type 0} (d : Ghosts D) (before : List Effect) where
   module _ (s : Shown) (v : View) (step : Step) (reply : Reply) (old new : Engine D d) where
     -- a step behind which the engine works
     pub step_made : {b : Base} (w : View) → Moves v step reply w → (running : IsRunning d b before (shows s step (Some reply)) w new) → new.failed ≡ false → LeavesOnly d old.disk new.disk (Allowed before (shows s step None))
-        → IsDone d before (shows s step (Some reply)) w step reply new → (was : IsRunning d b before s v old) → GrowsAs b (under_of old.under) (under_of new.under) reply step was.now.log running.now.log → StepKept d before s v step reply old new
+        → IsDone d before (shows s step (Some reply)) w step reply new → (was : IsRunning d b before s v old) → GrowsAs b (FitsRecord old.writer.table) (under_of old.under) (under_of new.under) reply step was.now.log running.now.log → StepKept d before s v step reply old new
     step_made {b = b} w moves running works stops done was grows = record {
       next = w;
       moves = moves;
@@ -61,7 +62,7 @@ module _ {D : Type 0} (d : Ghosts D) (before : List Effect) where
     pub grown_made : Evicted d b r.base r.now old.disk new.writer new.disk
         → ((longer : History) → Stays b r.now.log longer → IsOfAll r.now.log longer → IsServed b r.earlier before s v step reply w longer txns.rows txns.next new.locks)
         → (shows s step (Some reply)).asked ≡ s.asked → (shows s step None).asked ≡ s.asked → new.txns ≡ txns → txns.next ≡ old.txns.next → LeavesOnly d old.disk new.disk (Allowed before s)
-        → new.failed ≡ false → IsDone d before (shows s step (Some reply)) w step reply new → ((longer : History) → copies.GrowsByImages b r.now.log longer → GrowsAs b (under_of old.under) (under_of new.under) reply step r.now.log longer) → new.under ≡ old.under → StepKept d before s v step reply old new
+        → new.failed ≡ false → IsDone d before (shows s step (Some reply)) w step reply new → ((longer : History) → copies.GrowsByImages b r.now.log longer → GrowsAs b (FitsRecord old.writer.table) (under_of old.under) (under_of new.under) reply step r.now.log longer) → new.under ≡ old.under → StepKept d before s v step reply old new
     unfolding runs_on
     grown_made is serves asks cut table next stops works done bare stays =
         let same = copies_are_images page_tree b r.now.log is.now.log is.on.goes.keeps.log in

@@ -21,6 +21,7 @@ use Rattle.im_base_types.specs.Keys.{Key}
 use Rattle.im_base_types.specs.Maps.{IndexMap}
 use Rattle.im_base_txn.specs.Rows.{changed, with_mark}
 use Rattle.im_base_txn.specs.declared.transaction.Mark.TheVariants.{Going, MustRollBack, RollingBack}
+use Rattle.im_page_table.specs.DirtyTable.{FitsRecord}
 use Rattle.im_theory_machine.specs.Rows.{asked}
 use Rattle.im_theory_machine.specs.Table.{Decides, lasting_of}
 use Rattle.im_theory_machine.specs.declared.verdict.Verdict.TheVariants.{Wait, Die as MustDie}
@@ -73,7 +74,7 @@ module _ {D : Type 0} (d : Ghosts D) (before : List Effect) (s : Shown) (v : Vie
       subst (λ (y : Reply). StepKept d before s v (Do t a) y old new) (sym now.says ∙ told)
       (grown_made d before s v (did v t a (lasting_of new.locks t)) (Do t a) (answer a v.walk) old new run.1 old.txns refl (read_on d before s v old run.1 new.writer new.disk one.ends)
       (λ longer stays all. reads_served run.0 run.1.earlier before s v run.1.now.log longer old.txns.rows old.txns.next old.locks new.locks t going.row a run.1.serving going.found going.mark free (access_fits old.txns.rows _ t a checked) none now.decides stays all)
-      (asks_nothing s t a v) refl table refl (read_stops d before s v old run.1 new.writer new.disk one) works_on tt (λ longer images. read_grows (under_of old.under) (under_of new.under) run.0 t run.1.now.log longer images a v.walk none) stays)
+      (asks_nothing s t a v) refl table refl (read_stops d before s v old run.1 new.writer new.disk one) works_on tt (λ longer images. read_grows (FitsRecord old.writer.table) (under_of old.under) (under_of new.under) run.0 t run.1.now.log longer images a v.walk none) stays)
 
   -- it has to wait
   pub waits : {X : Type 0} (says : X → Reply) (o : LockAnswer X) → IsRead says t a v.walk old.locks new.locks o → (holder : ℕ) → o ≡ AnswerWait holder → AsksLocks d old.writer old.disk new.writer new.disk None → new.txns ≡ old.txns → new.failed ≡ false → new.under ≡ old.under

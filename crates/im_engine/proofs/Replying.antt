@@ -26,7 +26,7 @@ use Rattle.im_engine.proofs.Paced.{owner_stays}
 use Rattle.im_engine.specs.declared.engine.Engine.{Engine}
 use Rattle.im_engine.specs.Looking.{Looks}
 use Rattle.im_engine.specs.Numbered.{Numbered}
-use Rattle.im_engine.specs.Told.{Known, Where, Checked, IsFor, Refuses, SwitchCause, after, check_of, known_of, IsStep}
+use Rattle.im_engine.specs.Told.{Known, Where, Checked, IsFor, Refuses, FlushCause, SwitchCause, after, check_of, known_of, IsStep}
 use Rattle.im_engine.proofs.Causes.{refused_inj}
 use Rattle.im_engine.proofs.Looked.{looks_txns}
 use Rattle.im_engine.proofs.Stepping.{by_check}
@@ -52,7 +52,7 @@ module _ {D : Type 0} (d : Ghosts D) (reply : Reply) (old : Engine D d) (log : L
   no_cause (answers.Continue t) is = is.1
   no_cause (answers.FlushPage p) is = is.1
   no_cause answers.Force is = no_where (λ e. cc e) (λ e. e) is
-  no_cause answers.Checkpoint is = no_where (λ e. cc e) (no_where (λ e. cc e) (λ e. e)) is
+  no_cause answers.Checkpoint is = no_where (λ e. cc e) (no_where (no_where (λ e. cc e) (λ e. e)) (λ (h : IsFor d reply old log disk faults.TraceFull (FlushCause d log disk)). h.1)) is
   no_cause answers.Switch is = no_where (λ e. cc e) (no_where (λ e. cc e) (λ (h : IsFor d reply old log disk faults.TraceFull (SwitchCause d log disk)). h.1)) is
 
 -- neither by a check nor after the checks

@@ -42,6 +42,7 @@ use Rattle.im_engine_index.specs.EditsBeside.{InsertEnded, InsertEndKept, MayEnd
 use Rattle.im_engine_index.specs.KeyLogs.{LeavesEdit}
 use Rattle.im_engine_index.proofs.KeyLogs.{grows_within}
 use Rattle.im_page_file.specs.Stands.{LeavesCovered}
+use Rattle.im_page_table.specs.DirtyTable.{FitsRecord}
 use Rattle.im_page_writer.specs.declared.page_writer.PageWriter.{PageWriter}
 use Rattle.im_page_writer.specs.Outcome.{LogEnds, Logs, none_mild}
 use Rattle.im_page_writer.specs.PageWriter.{StandsAs}
@@ -142,7 +143,7 @@ module _ {D : Type 0} (d : Ghosts D) (old new : Engine D d) (u : Under) (was : o
       grows : GrowsWithin t r.now.log is.now.log
       grows = let on = grows_within t r.now.log is.before change in record { more = newest ∷ on.more; is = ap (λ (l : History). newest ∷ l) on.is ∙ sym is.is; within = (inr (refl, refl), on.within) }
 
-      adds : GrowsAs b (under_of old.under) (under_of new.under) answers.Inserted (Continue t) r.now.log is.now.log
+      adds : GrowsAs b (FitsRecord old.writer.table) (under_of old.under) (under_of new.under) answers.Inserted (Continue t) r.now.log is.now.log
       adds = record {
         closed = closing ∷ r.now.log;
         closes = record { last = c.last; lsn = is.closing; undo_next = c.undo_next; is = refl };

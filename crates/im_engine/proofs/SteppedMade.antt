@@ -11,6 +11,7 @@ use Rattle.im_base_txn.specs.declared.transaction.Transaction.{Transaction}
 use Rattle.im_theory_log.specs.Histories.{Base, IsFront}
 use Rattle.im_theory_log.specs.Lawful.{IsLawful}
 use Rattle.im_theory_log.specs.Writer.{Writer}
+use Rattle.im_page_table.specs.DirtyTable.{FitsRecord}
 use Rattle.im_page_writer.specs.PageWriter.{Evicted, StandsAs}
 use Rattle.im_theory_tree.specs.Theory.{page_tree}
 use Rattle.im_theory_machine.specs.Table.{Table}
@@ -63,7 +64,7 @@ module _ {D : Type 0} (d : Ghosts D) (before : List Effect) {b : Base} (s : Show
       }
 
   pub logged_made : (shows s step None).asked ≡ s.asked → LeavesOnly d old.disk new.disk (Allowed before s) → new.failed ≡ false → IsDone d before (shows s step (Some reply)) w step reply new
-      → GrowsAs b (under_of old.under) (under_of new.under) reply step r.now.log now.log → StepKept d before s v step reply old new
+      → GrowsAs b (FitsRecord old.writer.table) (under_of old.under) (under_of new.under) reply step r.now.log now.log → StepKept d before s v step reply old new
   unfolding logged_runs
   logged_made cut stops works done adds = step_made d before s v step reply old new w served.0 logged_runs works (leaves_as d before s (shows s step None) old.disk new.disk cut stops) done r adds
 

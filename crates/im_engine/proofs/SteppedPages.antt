@@ -19,6 +19,7 @@ use Rattle.im_base_txn.specs.declared.transaction.Transaction.{Transaction}
 use Rattle.im_theory_log.specs.Histories.{Base, History}
 use Rattle.im_theory_log.specs.Transactions.{last_of, undo_next_of}
 use Rattle.im_theory_log.specs.Writer.{Writer}
+use Rattle.im_page_table.specs.DirtyTable.{FitsRecord}
 use Rattle.im_page_writer.specs.declared.page_writer.PageWriter.{PageWriter}
 use Rattle.im_page_writer.specs.Outcome.{LogEnds, Logs, mild}
 use Rattle.im_page_writer.specs.PageWriter.{Evicted, StandsAs}
@@ -147,7 +148,7 @@ module _ {D : Type 0} (d : Ghosts D) (t : ℕ) (old new : Engine D d) (works : o
           subst (λ (l : List Transaction). IsServed b r.earlier before s v (Continue t) answers.More v longer l old.txns.next old.locks) rows_noted
           (pages_served b r.earlier before s v r.now.log longer old.txns.rows old.txns.next old.locks t own.row r.serving own.found own.free (owns_it d before s v old r u was t owner) lets_pass (by_structure t r.now.log longer grows))
 
-      adds : GrowsAs b (under_of old.under) (under_of new.under) answers.More (Continue t) r.now.log longer
+      adds : GrowsAs b (FitsRecord old.writer.table) (under_of old.under) (under_of new.under) answers.More (Continue t) r.now.log longer
       adds = grows_pages (ap (λ (o : Option Under). owner_of (under_of o)) was ∙ ap (λ (n : ℕ). Some n) owner) same_view (record {
         between = is.logged.before.log;
         images = is.logged.keeps.log;

@@ -354,7 +354,7 @@ module _ {D : Type 0} (d : Ghosts D) (step : Asked) (e : Engine D d) (only_now :
   costs_none (Continue t) = tt
   costs_none (FlushPage p) = λ is. absurd (cc is)
   costs_none Force = record { most = most_none d 2 2 e.disk; one = λ is. absurd (cc is) }
-  costs_none Checkpoint = most_none d 4 5 e.disk
+  costs_none Checkpoint = (λ _. most_none d 4 5 e.disk, λ is. absurd (cc is))
   costs_none Switch = λ _. most_none d 5 6 e.disk
 
   -- and lets nobody wait

@@ -62,11 +62,14 @@ pub data AddsCommit (t : ℕ) (older longer : History) : Type 0 where
   without_records : last_of t older ≡ 0 → longer ≡ older → AddsCommit t older longer
   with_records : (lsn : ℕ) → 1 ≤ last_of t older → longer ≡ commit_record t (last_of t older) lsn ∷ older → AddsCommit t older longer
 
--- One Checkpoint joined.
-pub record AddsCheckpoint (older longer : History) : Type 0 where
+-- One Checkpoint joined: its record is the newest, behind Images where pages were written first, and behind none where the changed pages were few.
+pub record AddsCheckpoint (b : Base) (Few : Type 0) (older longer : History) : Type 0 where
+  pub between : History
+  pub images : GrowsByImages b older between
+  pub alone : Few → between ≡ older
   pub newest : Logged
   pub checkpoint : IsCheckpoint newest
-  pub is : longer ≡ newest ∷ older
+  pub is : longer ≡ newest ∷ between
 
 -- ---- structure changes that are made page by page
 
@@ -152,22 +155,22 @@ pub data EndsBy (was : Option Under) (t : ℕ) (older longer : History) : Type 0
   ends_behind : was ≡ Some (record { owner = t; aim = TakesBack }) → ClosesThen t (λ between. TakesLastBack t between longer) older → EndsBy was t older longer
   ends_drop : was ≡ Some (record { owner = t; aim = TookBack }) → ClosesThen t (λ between. EndsAlone t between longer) older → EndsBy was t older longer
 
--- By the reply and the step, and by the structure change that was under way before it and is behind it. A step that is not named here adds Images alone, which writes of pages want, and a Begin, a Rollback and a Force add nothing.
-abbrev pub GrowsAs : Base → (was now : Option Under) → Reply → Step → History → History → Type 0
-GrowsAs b was now Inserted (Do t (Insert key rid)) older longer = PutsKey b t key rid older longer
-GrowsAs b was now Inserted (Continue t) older longer = ClosesThen t (λ between. PutsPending b was between longer) older
-GrowsAs b was now Deleted (Do t (Delete key)) older longer = DropsKey b t key older longer
-GrowsAs b was now Deleted (Continue t) older longer = Closes t older longer
-GrowsAs b was now Committed (Commit t) older longer = AddsCommit t older longer
-GrowsAs b was now More (Do t (Insert key rid)) older longer = LogsPage b t older longer
-GrowsAs b was now More (Do t (Delete key)) older longer = DropsAlone b t key older longer
-GrowsAs b was now More (Commit t) older longer = AddsCommit t older longer
-GrowsAs b was now More (Rollback t) older longer = longer ≡ older
-GrowsAs b was now More (Continue t) older longer = GoesOnBy b was now t older longer
-GrowsAs b was now RolledBack (Rollback t) older longer = longer ≡ older
-GrowsAs b was now RolledBack (Continue t) older longer = EndsBy was t older longer
-GrowsAs b was now (Started n) step older longer = longer ≡ older
-GrowsAs b was now Done Force older longer = longer ≡ older
-GrowsAs b was now Done Checkpoint older longer = AddsCheckpoint older longer
-GrowsAs b was now Done Switch older longer = ⊥  -- the log goes on in the other file
-GrowsAs b was now reply step older longer = GrowsByImages b older longer
+-- By the reply and the step, by whether a Checkpoint may list each changed page, and by the structure change that was under way before the step and is behind it. A step that is not named here adds Images alone, which writes of pages want, and a Begin, a Rollback and a Force add nothing.
+abbrev pub GrowsAs : Base → (Few : Type 0) → (was now : Option Under) → Reply → Step → History → History → Type 0
+GrowsAs b Few was now Inserted (Do t (Insert key rid)) older longer = PutsKey b t key rid older longer
+GrowsAs b Few was now Inserted (Continue t) older longer = ClosesThen t (λ between. PutsPending b was between longer) older
+GrowsAs b Few was now Deleted (Do t (Delete key)) older longer = DropsKey b t key older longer
+GrowsAs b Few was now Deleted (Continue t) older longer = Closes t older longer
+GrowsAs b Few was now Committed (Commit t) older longer = AddsCommit t older longer
+GrowsAs b Few was now More (Do t (Insert key rid)) older longer = LogsPage b t older longer
+GrowsAs b Few was now More (Do t (Delete key)) older longer = DropsAlone b t key older longer
+GrowsAs b Few was now More (Commit t) older longer = AddsCommit t older longer
+GrowsAs b Few was now More (Rollback t) older longer = longer ≡ older
+GrowsAs b Few was now More (Continue t) older longer = GoesOnBy b was now t older longer
+GrowsAs b Few was now RolledBack (Rollback t) older longer = longer ≡ older
+GrowsAs b Few was now RolledBack (Continue t) older longer = EndsBy was t older longer
+GrowsAs b Few was now (Started n) step older longer = longer ≡ older
+GrowsAs b Few was now Done Force older longer = longer ≡ older
+GrowsAs b Few was now Done Checkpoint older longer = AddsCheckpoint b Few older longer
+GrowsAs b Few was now Done Switch older longer = ⊥  -- the log goes on in the other file
+GrowsAs b Few was now reply step older longer = GrowsByImages b older longer

@@ -19,6 +19,7 @@ use Rattle.im_base_two_logs.specs.Runs.{LeavesNamed}
 use Rattle.im_log_gate.specs.Header.{first_gate, least_number}
 use Rattle.im_restart_analysis.specs.Numbers.{IsNextNumber}
 use Rattle.im_theory_page.specs.PageFile.{file_page}
+use Rattle.im_page_table.specs.DirtyTable.{FitsRecord}
 use Rattle.im_page_writer.specs.Checkpoints.{checkpoint_at}
 use Rattle.im_engine_checkpoint.specs.Rows.{listed}
 use Rattle.im_theory_machine.specs.Locks.{Lock}
@@ -107,7 +108,7 @@ module _ {D : Type 0} (d : Ghosts D) where
     pub b : Base
     pub was : IsRunning d b before s v old
     pub now : IsRunning d b before (shows s step (Some reply)) next new
-    pub grows : GrowsAs b (under_of old.under) (under_of new.under) reply step was.now.log now.now.log
+    pub grows : GrowsAs b (FitsRecord old.writer.table) (under_of old.under) (under_of new.under) reply step was.now.log now.now.log
 
   -- The log went on in the other file. With Images more it ended below the LSN of that file's first byte, and the pages and the map that it made are what the new one, with no record, is over.
   pub record HasTurned (before : List Effect) (s : Shown) (v : View) (step : Step) (reply : Reply) (next : View) (old new : Engine D d) : Type 0 where

@@ -1,5 +1,5 @@
 -- How a store is opened.
-use Rattle.std.specs.Prelude.{◌≡◌, ◌⊎◌, ◌↔◌, ◌<◌, ◌≤◌, true, false, List, [], None, Result, IfOk, IfErr}
+use Rattle.std.specs.Prelude.{◌≡◌, ◌⊎◌, ◌↔◌, ◌<◌, ◌≤◌, ◌+◌, true, false, List, [], None, Result, IfOk, IfErr}
 use Rattle.std.specs.Result.{IsErrAnd}
 use Rattle.im_base_types.specs.declared.fault.Fault.{Fault}
 use Rattle.im_base_types.specs.declared.fault.Fault.TheVariants.{Memory, Device, LogFull, NotAStore, PoolSize, Capacity, Workers}
@@ -13,7 +13,7 @@ use Rattle.im_engine.specs.Kept.{OpenKept, disk_of}
 use Rattle.im_engine.specs.Stands.{StandsFor, SpellsCurrent}
 
 module _ {D : Type 0} (d : Ghosts D) where
-  -- What an opening with these limits answers: an engine that works, with no transaction and no lock, or the disk and why there is none. It is refused
+  -- What an opening with these limits answers: an engine that works, with no transaction and no lock, and a pool of as many frames as the limits say in all, or the disk and why there is none. It is refused
   -- by the number of its frames just where they are too few or too many, and behind that by the number of workers just where those are, by the disk just where that has failed, for want of room only where the log's file is full,
   -- and else only for want of memory or of page numbers, or because the files are no store. Where the current log's bytes are no log's it only reads.
   pub record IsOpening (config : Config) (old : D) (result : Result (Engine D d) (Fault × D)) : Type 0 where
@@ -21,7 +21,7 @@ module _ {D : Type 0} (d : Ghosts D) where
     pub plain : IfOk result (λ e. (e.stepped ≡ config.stepped) × (e.under ≡ None))
     pub opened : IfOk result (λ e. (e.failed ≡ false) × (e.txns.rows ≡ []) × (e.locks ≡ []) × (d.failed e.disk ≡ false))
     pub limit : IfOk result (λ e. e.max_pages ≡ config.max_pages)
-    pub pool : IfOk result (λ e. e.writer.pool.frames ≡ config.frames)
+    pub pool : IfOk result (λ e. e.writer.pool.frames ≡ config.frames + config.more.frames)
     pub group : IfOk result (λ e. e.txns.group ≡ config.group)
     pub spelled : IfOk result (λ _. d.tells → SpellsCurrent (d.seen old))
     pub frames : IsErrAnd result (λ x. x.0 ≡ PoolSize) ↔ ((config.frames < 8) ⊎ (1024 < config.frames))

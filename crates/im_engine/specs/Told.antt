@@ -20,9 +20,10 @@ use Rattle.im_log.specs.LogFile.{HasNoRoom, end_with}
 use Rattle.im_log_gate.specs.Gate.{generation_at}
 use Rattle.im_theory_page.specs.PageFile.{page_count}
 use Rattle.im_page_pool.specs.Pool.{is_changed}
+use Rattle.im_page_writer.specs.Checkpoints.{CheckpointCosts}
 use Rattle.im_page_writer.specs.Costs.{PageCosts}
 use Rattle.im_page_writer.specs.PageWriter.{Evicted}
-use Rattle.im_page_table.specs.DirtyTable.{dirty_pages, has_room, synced_entries}
+use Rattle.im_page_table.specs.DirtyTable.{dirty_pages, has_room, synced_entries, FitsRecord}
 use Rattle.im_engine_checkpoint.specs.Rows.{listed}
 use Rattle.im_theory_tree.specs.Levels.{Pages}
 use Rattle.im_smo_split.specs.Plan.{IsWithin, IsOver}
@@ -211,17 +212,17 @@ module _ {D : Type 0} (d : Ghosts D) where
   CallsDevice answers.Checkpoint e = Unit {0}
   CallsDevice answers.Switch e = (EndsNearTop e → ⊥) × (IsLastLog e → ⊥)
 
-  -- what a step costs that is asked for to bring records or a page to the disk
+  -- What a step costs that is asked for to bring records or a page to the disk. A Checkpoint costs so little where it need write no page first, as its record has room for each that was changed since its last write, and else no more behind these writes.
   abbrev pub StepCosts : answers.Step → Reply → Engine D d → Engine D d → Type 0
   StepCosts (answers.Commit t) reply old new = CommitCosts d old.writer.log.used (HasLogged (find (is_of t) old.txns.rows)) reply old.disk new.disk
   StepCosts answers.Force reply old new = ForceCosts d old.writer.log.used reply old.disk new.disk
   StepCosts (answers.FlushPage page) reply old new =
       reply ≡ Done → is_changed old.writer.pool page ≡ true → PageCosts d page (page_count (d.seen old.disk PagesFile)) (has_room page old.writer.table) old.disk new.disk
-  StepCosts answers.Checkpoint reply old new = CostsAtMost d 4 5 old.disk new.disk
-  StepCosts answers.Switch reply old new = old.writer.table ≡ [] → CostsAtMost d 5 6 old.disk new.disk
+  StepCosts answers.Checkpoint reply old new = (FitsRecord old.writer.table → CostsAtMost d 4 5 old.disk new.disk) × (reply ≡ Done → CheckpointCosts d old.writer old.disk new.disk)
+  StepCosts answers.Switch reply old new = old.writer.table.entries ≡ [] → CostsAtMost d 5 6 old.disk new.disk
   StepCosts _ reply old new = Unit {0}
 
-  -- the record of a Checkpoint that is taken now
+  -- the record of a Checkpoint that is taken now, where no page is written first
   abbrev pub checkpoint_of : Engine D d → Entry
   checkpoint_of e = entries.Checkpoint e.txns.next (listed e.txns.rows) (dirty_pages (synced_entries e.writer.table))
 
@@ -238,7 +239,7 @@ module _ {D : Type 0} (d : Ghosts D) where
     abbrev pub OfForce : Type 0
     OfForce = Where (d.failed disk ≡ true) (fault ≡ Device) ⊥
 
-    -- Behind the checks, why this fault refuses a step that left this log and this disk. The record of a Commit takes 33 bytes. A Checkpoint syncs the file of pages before its record joins the log, so a disk that fails is told first. A Rollback that was let through is never refused.
+    -- Behind the checks, why this fault refuses a step that left this log and this disk. The record of a Commit takes 33 bytes. A Checkpoint syncs the file of pages before its record joins the log, so a disk that fails is told first; where it writes pages before that, it may be refused as a flush is, or for its record, and the log is full either way. A Rollback that was let through is never refused.
     abbrev pub Refuses : answers.Step → Type 0
     Refuses answers.Begin = Where (2 ^ 62 < old.txns.next) (fault ≡ Capacity) ⊥
     Refuses (answers.Do t (answers.Fetch key)) = IsFor (ReadCause d log disk)
@@ -253,7 +254,7 @@ module _ {D : Type 0} (d : Ghosts D) where
     Refuses (answers.Continue t) = IsFor (TurnCause d log disk)
     Refuses (answers.FlushPage page) = IsFor (FlushCause d log disk)
     Refuses answers.Force = OfForce
-    Refuses answers.Checkpoint = Where (d.failed disk ≡ true) (fault ≡ Device) (Where (2 ^ 62 < end_with old.writer.log (size_of (checkpoint_of old))) (fault ≡ LogFull) ⊥)
+    Refuses answers.Checkpoint = Where (d.failed disk ≡ true) (fault ≡ Device) (Where (FitsRecord old.writer.table) (Where (2 ^ 62 < end_with old.writer.log (size_of (checkpoint_of old))) (fault ≡ LogFull) ⊥) (IsFor (FlushCause d log disk)))
     Refuses answers.Switch = Where (EndsNearTop old) (fault ≡ LogFull) (Where (IsLastLog old) (fault ≡ Capacity) (IsFor (SwitchCause d log disk)))
 
   -- A step is refused exactly by the first check that it fails, or else for its cause.

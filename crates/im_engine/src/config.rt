@@ -3,6 +3,7 @@
 ghost use Rattle.std.specs.Prelude.{◌≡◌, ◌≤◌, false};
 
 use crate::buffer_size::BufferSize;
+use crate::more_frames::MoreFrames;
 
 /// The most workers of an opening.
 pub const MOST_WORKERS: usize = 16;
@@ -10,8 +11,10 @@ pub const MOST_WORKERS: usize = 16;
 /// The limits of an engine.
 #[derive(Clone, Copy)]
 pub struct Config {
-    /// The frames of the pool, 8 to 1,024.
+    /// The frames of the pool, 8 to 1,024, beside those of `more`.
     pub frames: usize,
+    /// How many frames more the pool has, so that a store above 4 MiB can be held in memory: all that is promised holds for each number of them.
+    pub more: MoreFrames,
     /// The most pages.
     pub max_pages: u32,
     /// How many batches the log's buffer holds: they share one force, which comes where the next record finds no room, or is asked for.
@@ -28,6 +31,7 @@ pub struct Config {
 impl Default for Config {
     fn default() -> Self
         ensures frames { result.frames ≡ 64 }
+        ensures more { result.more.frames ≡ 0 }
         ensures pages { result.max_pages ≡ 1000000 }
         ensures buffer { result.buffer.batches ≡ 1 }
         ensures stepped { result.stepped ≡ false }
@@ -36,6 +40,7 @@ impl Default for Config {
     {
         Config {
             frames: 64,
+            more: MoreFrames::NONE,
             max_pages: 1_000_000,
             buffer: BufferSize::ONE,
             stepped: false,

@@ -150,7 +150,8 @@ impl<D: TwoLogs> Engine<D> {
     /// answered `More`, and its transaction keeps its locks up to the next `Force` that is answered `Done`, which commits all that wait.
     /// `Force` forces the log where records are buffered, and `FlushPage` writes a page that was changed. `Checkpoint` syncs the file of
     /// pages, logs one record with the active transactions and the pages that lack changes in their file, and forces the log: redo of a
-    /// restart begins at the least of that record's LSN and the LSNs that it lists of pages. `Switch` writes every page that was changed,
+    /// restart begins at the least of that record's LSN and the LSNs that it lists of pages. The record has room for 1,024 pages: where more
+    /// were changed since their last write, pages are written first until no more are left. `Switch` writes every page that was changed,
     /// forces the log, syncs the file of pages, and makes the other log file one of the next generation, with no record: a restart reads
     /// nothing of the log from before.
     ///

@@ -20,7 +20,6 @@ use std::alloc::Global;
 use std::thread::Threads;
 
 impl<D: TwoLogs> Engine<D> {
-    ghost use Rattle.std.specs.Prelude.{OnErr};
     ghost use Rattle.im_base_types.specs.Changes.{Effect};
     ghost use Rattle.im_base_types.specs.Lives.{Shown};
     ghost use Rattle.im_base_types.specs.declared.fault.Fault.TheVariants.{Memory};
@@ -37,10 +36,8 @@ impl<D: TwoLogs> Engine<D> {
         ensures each { IfOk result (λ replies. length replies.items ≡ length steps.now) }
         ensures turns { IfOk result (λ replies. AreSteps D.Disk steps.now replies.items self.old self.new) }
         ensures stops { IfOk result (λ replies. (before : List Effect) (s : Shown) (v : View) → IsLife D.Disk before s v self.old → LeavesNamed D.Disk self.old.disk self.new.disk (IsCutOff before s steps.now replies.items)) }
-        ensures max_pages { self.new.max_pages ≡ self.old.max_pages }
-        ensures frames { self.new.writer.pool.frames ≡ self.old.writer.pool.frames }
-        ensures none { OnErr result (self.new ≡ self.old) }
-        ensures memory { IfErr result (λ e. e ≡ Memory) }
+        ensures sizes { (self.new.max_pages ≡ self.old.max_pages) × (self.new.writer.pool.frames ≡ self.old.writer.pool.frames) }
+        ensures refused { IfErr result (λ e. (e ≡ Memory) × (self.new ≡ self.old)) }
     {
         let mut replies = Vec::with_capacity(alloc, steps.len()).map_err(|_| Fault::Memory)?;
         for step in steps {

@@ -1,6 +1,6 @@
 //! How a store is opened, and how its engine ends.
 
-ghost use Rattle.std.specs.Prelude.{◌≡◌, ◌<◌, ◌≤◌, ◌⊎◌, ◌↔◌, [], false, true, length, List, None, IfOk, IfErr};
+ghost use Rattle.std.specs.Prelude.{◌≡◌, ◌<◌, ◌≤◌, ◌+◌, ◌⊎◌, ◌↔◌, [], false, true, length, List, None, IfOk, IfErr};
 ghost use Rattle.std.specs.Result.{IsErrAnd};
 ghost use Rattle.im_base_types.specs.declared.fault.Fault.TheVariants.{Memory};
 
@@ -37,7 +37,8 @@ impl<D: TwoLogs> Engine<D> {
 
     /// Opens the store of a disk, or makes a new one where all its files are empty: what was committed is there, and what was not is
     /// taken back. No transaction is active, and nothing is locked. From there on the current one of the two logs has the name `Log`. Redo is
-    /// shared by the workers of the configuration, in threads that the runtime starts. Gives the disk back with a refusal.
+    /// shared by the workers of the configuration, in threads that the runtime starts. The pool has the frames of the configuration and those that it has
+    /// more, and takes the memory of all of them. Gives the disk back with a refusal.
     ///
     /// Refused, with no device call, `PoolSize` where the frames are not 8 to 1,024, and behind that `Workers` where the workers are not 1 to 16;
     /// `NotAStore` where the bytes are no store, or nothing says which of two logs is the current one;
@@ -60,7 +61,7 @@ impl<D: TwoLogs> Engine<D> {
         ensures plain { IfOk result (λ e. (e.stepped ≡ config.stepped) × (e.under ≡ None)) }
         ensures limit { IfOk result (λ e. e.max_pages ≡ config.max_pages) }
         ensures group { IfOk result (λ e. e.txns.group ≡ config.group) }
-        ensures pool { IfOk result (λ e. e.writer.pool.frames ≡ config.frames) }
+        ensures pool { IfOk result (λ e. e.writer.pool.frames ≡ config.frames + config.more.frames) }
         ensures spelled { IfOk result (λ _. D.tells → SpellsCurrent (D.seen disk)) }
         ensures causes { IfErr result (λ x. (x.0 ≡ PoolSize) ⊎ (x.0 ≡ Workers) ⊎ (x.0 ≡ Memory) ⊎ (x.0 ≡ Device) ⊎ (x.0 ≡ NotAStore) ⊎ (x.0 ≡ LogFull) ⊎ (x.0 ≡ Capacity)) }
         ensures unspelled { D.tells → ¬ (SpellsCurrent (D.seen disk)) → ReadsNamed D.Disk disk (disk_of D.Disk result) × IfErr result (λ x. (x.0 ≡ PoolSize) ⊎ (x.0 ≡ Workers) ⊎ (x.0 ≡ Memory) ⊎ (x.0 ≡ Device) ⊎ (x.0 ≡ NotAStore)) }
@@ -98,7 +99,7 @@ impl<D: TwoLogs> Engine<D> {
         ensures plain { IfOk result (λ e. (e.stepped ≡ config.stepped) × (e.under ≡ None)) }
         ensures limit { IfOk result (λ e. e.max_pages ≡ config.max_pages) }
         ensures group { IfOk result (λ e. e.txns.group ≡ config.group) }
-        ensures pool { IfOk result (λ e. e.writer.pool.frames ≡ config.frames) }
+        ensures pool { IfOk result (λ e. e.writer.pool.frames ≡ config.frames + config.more.frames) }
         ensures spelled { IfOk result (λ _. D.tells → SpellsCurrent (D.seen disk)) }
         ensures causes { IfErr result (λ x. (x.0 ≡ PoolSize) ⊎ (x.0 ≡ Workers) ⊎ (x.0 ≡ Memory) ⊎ (x.0 ≡ Device) ⊎ (x.0 ≡ NotAStore) ⊎ (x.0 ≡ LogFull) ⊎ (x.0 ≡ Capacity)) }
         ensures unspelled { D.tells → ¬ (SpellsCurrent (D.seen disk)) → ReadsNamed D.Disk disk (disk_of D.Disk result) × IfErr result (λ x. (x.0 ≡ PoolSize) ⊎ (x.0 ≡ Workers) ⊎ (x.0 ≡ Memory) ⊎ (x.0 ≡ Device) ⊎ (x.0 ≡ NotAStore)) }
@@ -115,12 +116,13 @@ impl<D: TwoLogs> Engine<D> {
             Ok(room) => room,
             Err(fault) => return Err((fault, disk)),
         };
+        let frames = config.frames + config.more.frames();
         let mut disk = disk;
         match restart_current(
             how,
             alloc,
             &mut disk,
-            config.frames,
+            frames,
             config.buffer.batches(),
             config.workers,
         ) {

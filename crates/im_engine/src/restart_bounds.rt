@@ -1,6 +1,6 @@
 //! How much of the log an opening would read and redo, were the store to stop now.
 
-ghost use Rattle.std.specs.Prelude.{◌≡◌, ◌+◌, ◌-◌, ◌^◌, min, length, None};
+ghost use Rattle.std.specs.Prelude.{◌≡◌, ◌+◌, ◌-◌, ◌^◌, min, length};
 
 use crate::engine::Engine;
 use im_base_disk::Disk;
@@ -26,10 +26,10 @@ impl<D: Disk> Engine<D> {
         self.writer.log_place()
     }
 
-    /// How many pages may lack changes in their file, or have a write that is not synced: at most 1,024. An opening redoes none but these,
-    /// where a Checkpoint has just been taken.
+    /// How many pages may lack changes in their file, or have a write that is not synced: as many at most as the pool has frames, but for 1,024 at
+    /// least and 65,536 at most. An opening redoes none but these, where a Checkpoint has just been taken.
     pub fn dirty_count(&self) -> usize
-        ensures { result ≡ length self.now.writer.table }
+        ensures { result ≡ length self.now.writer.table.entries }
     {
         self.writer.dirty_count()
     }
@@ -38,7 +38,7 @@ impl<D: Disk> Engine<D> {
     /// Checkpoint that comes now lets an opening redo from this LSN on, or from its own where there is none; once the page is written
     /// (`Step::FlushPage`), from the next one's.
     pub fn oldest_change(&self) -> Option<DirtyPage>
-        ensures { result ≡ oldest None self.now.writer.table }
+        ensures { result ≡ oldest self.now.writer.table }
     {
         self.writer.oldest_change()
     }

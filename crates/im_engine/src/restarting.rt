@@ -53,7 +53,7 @@ pub(crate) fn restart_current<D: TwoLogs, H: Redoes>(
     requires working { D.failed disk.old ≡ false }
     requires synced { IsSynced D.Disk disk.old }
     requires least { 8 ≤ frames }
-    requires most { frames ≤ 1024 }
+    requires most { frames ≤ 262144 }
     ensures outcome { Opens D.Disk disk.new (fault_of result) }
     ensures ready { IfOk result (λ r. IsReadyWriter D.Disk r.writer disk.new × (r.writer.failed ≡ false)) }
     ensures pool { IfOk result (λ r. r.writer.pool.frames ≡ frames) }

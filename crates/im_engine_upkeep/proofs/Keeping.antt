@@ -183,7 +183,7 @@ module _ {D : Type 0} (d : Ghosts D) where
 
   -- ---- the pages that are known
 
-  pub knows_more : (old mid : Engine D d) (known pages n : ℕ) (change : DirtyPage) → KnowsPages d old known pages → IsKeptUp d old mid → oldest None mid.writer.table ≡ Some change → n ≡ max pages (min (change.page + 1) (2 ^ 32 - 1)) → KnowsPages d old known n
+  pub knows_more : (old mid : Engine D d) (known pages n : ℕ) (change : DirtyPage) → KnowsPages d old known pages → IsKeptUp d old mid → oldest mid.writer.table ≡ Some change → n ≡ max pages (min (change.page + 1) (2 ^ 32 - 1)) → KnowsPages d old known n
   knows_more old mid known pages n change knows before is grown = elim (cases_lt pages (min (change.page + 1) (2 ^ 32 - 1))) [
     | inl lt ↦ inr (at_least old known pages n knows (omega (arith, grown, lt)), change.page, record { mid = mid; before = before; change = change; first = is; is = refl }, (omega (arith, grown, lt)))
     | inr ge ↦ (let same : n ≡ pages = omega (arith, grown, ge) in subst (λ (k : ℕ). KnowsPages d old known k) (sym same) knows)

@@ -44,7 +44,7 @@ module _ {D : Type 0} (d : Ghosts D) where
   -- from where an opening would redo, were the store to stop after a step: from elsewhere than before only after a Checkpoint or a Switch that is done
   abbrev pub redo_from : (done : Bool) → Step → (end : ℕ) → Engine D d → ℕ → ℕ
   redo_from false step end new from = from
-  redo_from true Checkpoint end new from = redo_point (oldest None new.writer.table) end
+  redo_from true Checkpoint end new from = redo_point (oldest new.writer.table) end
   redo_from true Switch end new from = durable_end_of d new
   redo_from true _ end new from = from
 

@@ -19,4 +19,4 @@ module _ {D : Type 0} (d : Ghosts D) where
 
   -- how many pages may lack changes in their file
   abbrev pub dirty_of : Engine D d → ℕ
-  dirty_of e = length e.writer.table
+  dirty_of e = length e.writer.table.entries

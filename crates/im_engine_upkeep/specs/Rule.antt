@@ -87,7 +87,7 @@ module _ {D : Type 0} (d : Ghosts D) where
     pub mid : Engine D d
     pub before : IsKeptUp d old mid
     pub change : DirtyPage
-    pub first : oldest None mid.writer.table ≡ Some change
+    pub first : oldest mid.writer.table ≡ Some change
     pub is : change.page ≡ page
 
   -- The pages that the file is known to have are as many as before, or more, by a page that had the oldest change.

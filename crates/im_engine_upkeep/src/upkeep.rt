@@ -17,7 +17,7 @@ use crate::redo_bound::is_closed;
 use im_base_disk::Disk;
 use im_base_steps::{Reply, Step};
 use im_base_two_logs::TwoLogs;
-use im_base_types::{Fault, Lsn, MOST_DIRTY, PageNo};
+use im_base_types::{Fault, Lsn, PageNo};
 use im_engine::Engine;
 
 /// So many eighths of a bound are reached where what it asks for is due.
@@ -261,8 +261,9 @@ impl Upkeep {
         ensures pages { KnowsPages D.Disk engine.old self.old.pages self.new.pages }
         ensures still { (self.new.from ≡ self.old.from) × (self.new.is_upgraded ≡ self.old.is_upgraded) }
     {
-        let mut pages = engine.dirty_count();
-        for _written in 0..MOST_DIRTY {
+        let most = engine.dirty_count();
+        let mut pages = most;
+        for _written in 0..most {
             let Some(change) = engine.oldest_change() else {
                 break;
             };

@@ -1,6 +1,6 @@
 //! How the store of a folder is opened.
 
-ghost use Rattle.std.specs.Prelude.{◌≡◌, [], false, IfOk, IfErr};
+ghost use Rattle.std.specs.Prelude.{◌≡◌, ◌+◌, [], false, IfOk, IfErr};
 ghost use Rattle.im_front.specs.Held.{IsResting};
 ghost use Rattle.im_open.specs.Opened.{AreUsual, IsKeptHere, IsOpenedHere};
 ghost use Rattle.im_open.specs.Refusals.{IsRefusal, IsRefusalKept};
@@ -31,7 +31,7 @@ pub fn open_store<R: Threads + Sync>(
 ) -> Result<OpenStore<Files>, NotOpened>
     ensures opened { IfOk result (λ s. IsOpenedHere ⟦<Files as Disk>⟧ config bounds s) }
     ensures works { IfOk result (λ s. (s.engine.failed ≡ false) × (s.engine.txns.rows ≡ [])) }
-    ensures limits { IfOk result (λ s. (s.engine.max_pages ≡ config.max_pages) × (s.engine.writer.pool.frames ≡ config.frames) × (s.engine.txns.group ≡ config.group)) }
+    ensures limits { IfOk result (λ s. (s.engine.max_pages ≡ config.max_pages) × (s.engine.writer.pool.frames ≡ config.frames + config.more.frames) × (s.engine.txns.group ≡ config.group)) }
     ensures bounds { IfOk result (λ s. s.upkeep.bounds ≡ bounds) }
     ensures causes { IfErr result (λ e. IsRefusal config e) }
 {
@@ -60,7 +60,7 @@ pub fn open<R: Threads + Sync>(
     config: Config,
 ) -> Result<Rested<Engine<Files>>, NotOpened>
     ensures group { IfOk result (λ e. e.txns.group ≡ config.group) }
-    ensures frames { IfOk result (λ e. e.writer.pool.frames ≡ config.frames) }
+    ensures frames { IfOk result (λ e. e.writer.pool.frames ≡ config.frames + config.more.frames) }
     ensures limit { IfOk result (λ e. e.max_pages ≡ config.max_pages) }
     ensures works { IfOk result (λ e. (e.failed ≡ false) × (e.txns.rows ≡ [])) }
     ensures kept { IfOk result (λ e. IsKeptHere ⟦<Files as Disk>⟧ config e) }
@@ -81,7 +81,7 @@ fn opened<R: Threads + Sync>(
 ) -> Result<Engine<Files>, NotOpened>
     ensures rests { IfOk result (λ engine. IsResting ⟦<Engine<Files> as Store>⟧ engine) }
     ensures group { IfOk result (λ e. e.txns.group ≡ config.group) }
-    ensures frames { IfOk result (λ e. e.writer.pool.frames ≡ config.frames) }
+    ensures frames { IfOk result (λ e. e.writer.pool.frames ≡ config.frames + config.more.frames) }
     ensures limit { IfOk result (λ e. e.max_pages ≡ config.max_pages) }
     ensures works { IfOk result (λ e. (e.failed ≡ false) × (e.txns.rows ≡ [])) }
     ensures kept { IfOk result (λ e. IsKeptHere ⟦<Files as Disk>⟧ config e) }
@@ -93,10 +93,16 @@ fn opened<R: Threads + Sync>(
     };
     store.keep();
     match store.unkept() {
-        Some(unkept) => Err(NotOpened::Upkeep(unkept.fault)),
+        Some(unkept) => {
+            let_go(store);
+            Err(NotOpened::Upkeep(unkept.fault))
+        },
         None => Ok(store.into_engine()),
     }
 }
+
+// Lets a store go, as a stop would leave it.
+fn let_go(_store: OpenStore<Files>) {}
 
 // The bounds that nobody names.
 fn usual() -> Bounds

@@ -100,6 +100,16 @@ read_cause f (inl is) {X} full = other_cause f Memory is (λ x. cc x) full
 read_cause f (inr (inl is)) {X} full = other_cause f Device is (λ x. cc x) full
 read_cause f (inr (inr is)) {X} full = other_cause f NotAStore is (λ x. cc x) full
 
+-- why the reading of a log was refused, and that of the file of pages
+pub log_causes : (f : Fault) → ((f ≡ Memory) ⊎ (f ≡ NotAStore)) ⊎ (f ≡ Device) → (f ≡ Memory) ⊎ (f ≡ Device) ⊎ (f ≡ NotAStore)
+log_causes f (inl (inl is)) = inl is
+log_causes f (inl (inr is)) = inr (inr is)
+log_causes f (inr is) = inr (inl is)
+
+pub file_causes : (f : Fault) → (f ≡ NotAStore) ⊎ (f ≡ Device) → (f ≡ Memory) ⊎ (f ≡ Device) ⊎ (f ≡ NotAStore)
+file_causes f (inl is) = inr (inr is)
+file_causes f (inr is) = inr (inl is)
+
 -- ---- an opening
 
 module _ {D : Type 0} (d : Ghosts D) where

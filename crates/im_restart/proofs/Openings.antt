@@ -12,12 +12,13 @@ use Rattle.im_theory_log.specs.Lawful.{IsLawful}
 use Rattle.im_theory_log.proofs.Histories.{at_front}
 use Rattle.im_base_disk.specs.declared.disk.Disk.{Ghosts}
 use Rattle.im_base_disk.specs.Disk.{Files, Only}
+use Rattle.im_base_disk.specs.Ends.{AnswersOr}
 use Rattle.im_base_disk.specs.Runs.{ChangesOnly, LeavesIn, Reads}
 use Rattle.im_base_disk.proofs.Runs.{in_then, only_reads, reads_then}
 use Rattle.im_log_gate.specs.declared.gate.Gate.{Gate}
 use Rattle.im_log_gate.specs.Batches.{batches}
-use Rattle.im_log_gate.specs.Gate.{file_of, first_of, place_of, has_failed, logged, IsReading, StartsAs}
-use Rattle.im_log_gate.specs.Header.{base_of, first_gate, least_number, StartsAlike, IsBlank, IsMade, IsUnmade}
+use Rattle.im_log_gate.specs.Gate.{file_of, has_failed, logged, IsFirstGate, IsNewGate, IsReading, StartsAs}
+use Rattle.im_log_gate.specs.Header.{base_of, first_gate, least_number, StartsAlike, IsMade, IsUnmade}
 use Rattle.im_log_gate.proofs.Starts.{blank_starts}
 use Rattle.im_log_record.specs.Entry.{Entry}
 use Rattle.im_log.specs.Spelled.{logged_at}
@@ -31,7 +32,7 @@ use Rattle.im_restart_analysis.specs.Analysis.{Continues}
 use Rattle.im_restart_analysis.specs.Orderly.{FitsBehind, IsCountedBy, IsOrderly, IsReadable, pages_at_first}
 use Rattle.im_restart_analysis.proofs.LeadingDown.{logs_are_taken}
 use Rattle.im_restart.specs.declared.found.Found.{Found}
-use Rattle.im_restart.specs.Reading.{IsReadLog, OpenKept}
+use Rattle.im_restart.specs.Reading.{HadLog, IsReadLog, OpenKept}
 use Rattle.im_restart.specs.Restart.{AreTaken, IsFresh, SpellsLog}
 
 -- a log that was made has no record, and starts where the unmade one would
@@ -39,26 +40,36 @@ made_blank : {D : Type 0} (d : Ghosts D) (disk : D) (gate : Gate) → d.tells �
 made_blank d disk gate told empty file starts =
     of_log gate (first_gate (d.seen disk Log)) (record { file = file }) starts.first (λ (f : FileId) (n : ℕ). batches n (d.seen disk f) ≡ Some []) (empty told)
 
-pub created : {D : Type 0} (d : Ghosts D) (base : ℕ) (all : History) (old disk : D) (result : Result Gate Fault) → all ≡ [] → IsUnmade (d.seen old Log) → base_of (d.seen old Log) ≡ base → d.tells → OnOk result (d.tells → IsMade (d.seen disk Log)) → OnOk result (d.tells → IsBlank (d.seen disk Log))
-    → IfOk result (λ gate. d.tells → logged d gate disk ≡ Some []) → IfOk result (λ gate. (file_of gate ≡ Log) × (place_of gate ≡ first_of gate)) → IfOk result (λ gate. d.tells → StartsAs gate (d.seen disk Log))
+pub created : {D : Type 0} (d : Ghosts D) (base : ℕ) (all : History) (old disk : D) (result : Result Gate Fault) → all ≡ [] → IsUnmade (d.seen old Log) → base_of (d.seen old Log) ≡ base → d.tells → IfOk result (λ gate. IsNewGate d Log gate disk)
     → IfOk result (λ gate. HasLog base all (d.seen disk Log))
-created d base all old disk (Err e) none unmade low told made new empty first starts = tt
-created d base all old disk (Ok gate) none unmade low told made new empty first starts =
-    let blank = made_blank d disk gate told empty first.0 (starts told) in
-    let low_now = (blank_starts (d.seen old Log) (d.seen disk Log) unmade (new told)).base ∙ low in
-    subst (λ (l : History). HasLog base l (d.seen disk Log)) (sym none) (blank_has base (d.seen disk Log) (made told) low_now blank)
+created d base all old disk (Err e) none unmade low told new = tt
+created d base all old disk (Ok gate) none unmade low told new =
+    let blank = made_blank d disk gate told new.empty new.first.of_file (new.first.starts told) in
+    let low_now = (blank_starts (d.seen old Log) (d.seen disk Log) unmade (new.blank told)).base ∙ low in
+    subst (λ (l : History). HasLog base l (d.seen disk Log)) (sym none) (blank_has base (d.seen disk Log) (new.first.made told) low_now blank)
 
-pub created_alike : {D : Type 0} (d : Ghosts D) (old disk : D) (result : Result Gate Fault) → (d.tells → IsUnmade (d.seen old Log)) → OnOk result (d.tells → IsBlank (d.seen disk Log)) → IfOk result (λ _. d.tells → StartsAlike (d.seen old Log) (d.seen disk Log))
-created_alike d old disk (Err e) unmade new = tt
-created_alike d old disk (Ok gate) unmade new = λ told. blank_starts (d.seen old Log) (d.seen disk Log) (unmade told) (new told)
+pub created_had : {D : Type 0} (d : Ghosts D) (old disk : D) (result : Result Gate Fault) → (d.tells → IsFresh (d.seen old)) → IfOk result (λ gate. IsNewGate d Log gate disk) → IfOk result (λ _. HadLog d old disk)
+created_had d old disk (Err e) fresh new = tt
+created_had d old disk (Ok gate) fresh new = record { store = λ told. inl (fresh told); alike = λ told. blank_starts (d.seen old Log) (d.seen disk Log) (fresh told).0 (new.blank told) }
+
+-- an opened gate where only reads came between
+pub first_read : {D : Type 0} (d : Ghosts D) (old disk : D) (gate : Gate) → d.seen disk ≡ d.seen old → IsFirstGate d Log gate old → IsFirstGate d Log gate disk
+first_read d old disk gate seen first = record {
+  usable = first.usable;
+  of_file = first.of_file;
+  place = first.place;
+  starts = λ told. subst (λ (f : Files). StartsAs gate (f Log)) (sym seen) (first.starts told);
+  made = λ told. subst (λ (f : Files). IsMade (f Log)) (sym seen) (first.made told);
+}
+
+-- more refusals of its own
+pub answers_more : {A : Type 0} (own more : Fault → Type 0) (lost : Bool) (r : Result A Fault) → ((e : Fault) → own e → more e) → AnswersOr own lost r → AnswersOr more lost r
+answers_more {A} own more lost (Ok a) to one = record { causes = tt; device = one.device }
+answers_more {A} own more lost (Err e) to one = record { causes = elim one.causes [ inl is ↦ inl (to e is) | inr is ↦ inr is ]; device = one.device }
 
 -- files that are the same start alike
 pub same_alike : (some other : List ℕ) → other ≡ some → StartsAlike some other
 same_alike some other same = record { gate = ap first_gate same; base = ap base_of same; number = ap least_number same }
-
-pub alike_if_ok : {T : Type 0} {P Q : Type 0} (result : Result T Fault) → (P → Q) → P → IfOk result (λ _. Q)
-alike_if_ok (Ok x) f p = f p
-alike_if_ok (Err e) f p = tt
 
 -- the record that was read is the next one of the list
 pub same_entry : (read : Option Entry) (some other : Entry) → read ≡ Some some → read ≡ Some other → some ≡ other
@@ -124,14 +135,13 @@ also_if_ok P (Ok x) q p = (q, p)
 also_if_ok P (Err e) q p = tt
 
 pub read_log_so : {D T : Type 0} (d : Ghosts D) (old mid new : D) (gate : Gate) (result : Result T Fault) → (result ≡ Err Device ↔ (d.failed new ≡ true)) → IsReading d gate mid → has_failed gate ≡ false → IsOfLog gate
-    → (d.tells → IsMade (d.seen mid Log)) → (d.tells → IsFresh (d.seen old) ⊎ IsMade (d.seen old Log)) → (d.tells → StartsAlike (d.seen old Log) (d.seen mid Log)) → Reads d mid new → OnOk result (IsReadLog d old new)
-read_log_so d old mid new gate (Err e) device reading usable of made store alike reads = tt
-read_log_so d old mid new gate (Ok x) device reading usable of made store alike reads = record {
+    → (d.tells → IsMade (d.seen mid Log)) → HadLog d old mid → Reads d mid new → OnOk result (IsReadLog d old new)
+read_log_so d old mid new gate (Err e) device reading usable of made had reads = tt
+read_log_so d old mid new gate (Ok x) device reading usable of made had reads = record {
   working = not_failed (d.failed new) (λ (is : d.failed new ≡ true). (let never : Ok x ≡ Err Device = device.1 is in cc never));
   durable = only_reads d Log mid new reads (subst (λ (f : FileId). Only f (d.seen mid) (d.may_leave mid)) of.file (reading.durable usable));
   made = λ told. subst (λ (f : Files). IsMade (f Log)) (sym reads.seen) (made told);
-  store = store;
-  alike = λ told. subst (λ (f : Files). StartsAlike (d.seen old Log) (f Log)) (sym reads.seen) (alike told);
+  had = record { store = had.store; alike = λ told. subst (λ (f : Files). StartsAlike (d.seen old Log) (f Log)) (sym reads.seen) (had.alike told) };
 }
   where
     not_failed : (b : Bool) → (b ≡ true → ⊥) → b ≡ false
@@ -153,17 +163,20 @@ module _ {D : Type 0} (d : Ghosts D) (base : ℕ) (all : History) (old mid new :
 module _ {D : Type 0} (d : Ghosts D) (old mid new : D) (r : IsReadLog d old mid) (reads : d.tells → ¬ (IsFresh (d.seen old)) → Reads d old mid) where
   pub spelled_again : (result : Result Found Fault) → IfOk result (λ _. d.tells → SpellsLog (d.seen mid)) → IfOk result (λ _. d.tells → SpellsLog (d.seen old))
   spelled_again (Err e) spelled = tt
-  spelled_again (Ok x) spelled = λ told. elim (r.store told) [
+  spelled_again (Ok x) spelled = λ told. elim (r.had.store told) [
     | inl fresh ↦ inl fresh
     | inr made ↦ subst (λ (f : Files). SpellsLog f) (reads told (made_known (d.seen old) made)).seen (spelled told)
   ]
 
-  pub alike_again : (result : Result Found Fault) → IfOk result (λ _. d.tells → StartsAlike (d.seen mid Log) (d.seen new Log)) → IfOk result (λ _. d.tells → StartsAlike (d.seen old Log) (d.seen new Log))
-  alike_again (Err e) alike = tt
-  alike_again (Ok x) alike = λ told.
-      let first = r.alike told in
-      let then = alike told in
-      record { gate = then.gate ∙ first.gate; base = then.base ∙ first.base; number = then.number ∙ first.number }
+  pub had_again : (result : Result Found Fault) → IfOk result (λ _. HadLog d mid new) → IfOk result (λ _. HadLog d old new)
+  had_again (Err e) had = tt
+  had_again (Ok x) had = record {
+    store = r.had.store;
+    alike = λ told.
+        let first = r.had.alike told in
+        let then = had.alike told in
+        record { gate = then.gate ∙ first.gate; base = then.base ∙ first.base; number = then.number ∙ first.number };
+  }
 
   pub reads_again : (d.tells → ¬ (IsFresh (d.seen mid)) → Reads d mid new) → d.tells → ¬ (IsFresh (d.seen old)) → Reads d old new
   reads_again then told known = reads_then d old mid new (reads told known) (then told (made_known (d.seen mid) (r.made told)))

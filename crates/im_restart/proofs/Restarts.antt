@@ -189,7 +189,7 @@ module _ {D : Type 0} (d : Ghosts D) (b : Base) (base : ℕ) (all : History) whe
 
   -- that expects what the file was synced with
   pub writer_starts : (file : LogFile) (w x : PageWriter) (synced : Synced) (frames : ℕ) (disk : D) → b.start ≤ base → Rises b all → Covers b all (file_page (d.seen disk Pages)) → Only Pages (d.seen disk) (d.may_leave disk) → Only Log2 (d.seen disk) (d.may_leave disk) → IsNewest b (d.seen disk) → IsOpen d file disk → IsLog d base all all file disk
-      → x ≡ record w { known = record w.known { synced = synced } } → w.log ≡ file → w.pool ≡ record { held = []; frames = frames; gets = 0 } → w.table ≡ [] → w.failed ≡ false → w.known.from ≡ None → AreSyncedWith all (redo_point all) synced
+      → x ≡ record w { known = record w.known { synced = synced } } → w.log ≡ file → w.pool ≡ record { held = []; frames = frames; gets = 0 } → w.table.entries ≡ [] → w.failed ≡ false → w.known.from ≡ None → AreSyncedWith all (redo_point all) synced
       → StandsAs d b base (opened b all (file_page (d.seen disk Pages))) x disk
   writer_starts file w x synced frames disk start up covers pages other newest is_open log is same pool table working unknown expected =
       subst (λ (y : PageWriter). StandsAs d b base (opened b all (file_page (d.seen disk Pages))) y disk) (sym is)

@@ -21,7 +21,7 @@ ghost use Rattle.im_restart_redo.specs.Recovery.{Recovers};
 ghost use Rattle.im_restart_redo.specs.Redo.{AreApplicable};
 ghost use Rattle.im_page_writer.specs.Outcome.{fault_of};
 ghost use Rattle.im_page_writer.specs.PageWriter.{IsReadyWriter, StandsAs};
-ghost use Rattle.im_restart.specs.Opening.{Opens};
+ghost use Rattle.im_restart.specs.Opening.{IsRestarted, Opens};
 ghost use Rattle.im_restart.specs.Reading.{IsFound};
 ghost use Rattle.im_restart.specs.StructureChange.{IsTakingBack};
 ghost use Rattle.im_restart.specs.Undoing.{UndoKept};
@@ -158,13 +158,11 @@ fn restart<D: Disk, H: Redoes>(
     requires shared { H.shared }
     requires workers { 1 ≤ workers }
     requires least { 8 ≤ frames }
-    requires most { frames ≤ 1024 }
+    requires most { frames ≤ 262144 }
     requires ready { IsOpen D.Disk found.log disk.old }
     requires usable { found.log.failed ≡ false }
     ensures outcome { Opens D.Disk disk.new (fault_of result) }
-    ensures ready { IfOk result (λ r. IsReadyWriter D.Disk r.writer disk.new × (r.writer.failed ≡ false)) }
-    ensures pool { IfOk result (λ r. r.writer.pool.frames ≡ frames) }
-    ensures least { IfOk result (λ r. 1 ≤ r.next) }
+    ensures restarted { IfOk result (λ r. IsRestarted D.Disk frames r disk.new) }
     ensures kept { (b : Base) (base : ℕ) (all : History) → MayRestart b base all (D.seen disk.old) → Only Pages (D.seen disk.old) (D.may_leave disk.old) → Only Log2 (D.seen disk.old) (D.may_leave disk.old) → IsFound D.Disk base all found disk.old
         → RestartKept D.Disk b base all disk.old disk.new result }
     ensures used_up { (b : Base) (base : ℕ) (all : History) → MayRestart b base all (D.seen disk.old) → Only Pages (D.seen disk.old) (D.may_leave disk.old) → Only Log2 (D.seen disk.old) (D.may_leave disk.old) → IsFound D.Disk base all found disk.old
@@ -213,13 +211,11 @@ fn restart_tested<D: Disk, H: Redoes>(
     requires shared { H.shared }
     requires workers { 1 ≤ workers }
     requires least { 8 ≤ frames }
-    requires most { frames ≤ 1024 }
+    requires most { frames ≤ 262144 }
     requires ready { IsOpen D.Disk found.log disk.old }
     requires usable { found.log.failed ≡ false }
     ensures outcome { Opens D.Disk disk.new (fault_of result) }
-    ensures ready { IfOk result (λ r. IsReadyWriter D.Disk r.writer disk.new × (r.writer.failed ≡ false)) }
-    ensures pool { IfOk result (λ r. r.writer.pool.frames ≡ frames) }
-    ensures least { IfOk result (λ r. 1 ≤ r.next) }
+    ensures restarted { IfOk result (λ r. IsRestarted D.Disk frames r disk.new) }
     ensures kept { (b : Base) (base : ℕ) (all : History) → MayRestart b base all (D.seen disk.old) → Only Pages (D.seen disk.old) (D.may_leave disk.old) → Only Log2 (D.seen disk.old) (D.may_leave disk.old) → IsFound D.Disk base all found disk.old
         → RestartKept D.Disk b base all disk.old disk.new result }
     ensures used_up { (b : Base) (base : ℕ) (all : History) → MayRestart b base all (D.seen disk.old) → Only Pages (D.seen disk.old) (D.may_leave disk.old) → Only Log2 (D.seen disk.old) (D.may_leave disk.old) → IsFound D.Disk base all found disk.old
@@ -261,7 +257,7 @@ pub fn open_or_create<D: Disk, H: Redoes>(
     requires working { D.failed disk.old ≡ false }
     requires synced { IsSynced D.Disk disk.old }
     requires least { 8 ≤ frames }
-    requires most { frames ≤ 1024 }
+    requires most { frames ≤ 262144 }
     ensures outcome { Opens D.Disk disk.new (fault_of result) }
     ensures ready { IfOk result (λ r. IsReadyWriter D.Disk r.writer disk.new × (r.writer.failed ≡ false)) }
     ensures pool { IfOk result (λ r. r.writer.pool.frames ≡ frames) }

@@ -1,21 +1,19 @@
 //! The log is opened, and each of its records read once.
 
-ghost use Rattle.std.specs.Prelude.{◌≡◌, ◌+◌, ◌^◌, ◌≤◌, ◌⊎◌, ◌↔◌, ℕ, [], false, true, length, IfErr, IfOk, IfSome, OnOk, None};
-ghost use Rattle.im_base_types.specs.declared.fault.Fault.TheVariants.{Device, Memory, NotAStore};
+ghost use Rattle.std.specs.Prelude.{◌≡◌, ◌+◌, ◌^◌, ◌≤◌, ◌⊎◌, ℕ, [], false, true, length, IfErr, IfOk, IfSome, OnOk, None};
+ghost use Rattle.im_base_types.specs.declared.fault.Fault.TheVariants.{Memory, NotAStore};
 ghost use Rattle.im_base_types.specs.declared.file_id.FileId.TheVariants.{Log, Pages};
 ghost use Rattle.im_theory_log.specs.Histories.{History};
 ghost use Rattle.im_base_disk.specs.Disk.{Only};
-ghost use Rattle.im_base_disk.specs.Runs.{ChangesOnly, Reads};
-ghost use Rattle.im_log_gate.specs.Gate.{first_of, place_of, has_failed, StartsAs, IsReading};
-ghost use Rattle.im_log_gate.specs.Header.{least_number, StartsAlike, IsMade, IsUnmade};
-ghost use Rattle.im_log.specs.Gates.{IsOfLog};
+ghost use Rattle.im_base_disk.specs.Ends.{ReadsOr};
+ghost use Rattle.im_log_gate.specs.Gate.{IsFirstGate, IsReading};
+ghost use Rattle.im_log_gate.specs.Header.{least_number, IsUnmade};
 ghost use Rattle.im_log.specs.Kept.{HasLog, IsLogOf};
-ghost use Rattle.im_log.specs.LogFile.{IsOpen};
 ghost use Rattle.im_log.specs.Opening.{IsBegun, IsOpening, HasRead};
 ghost use Rattle.im_restart_analysis.specs.Orderly.{IsOrderly, IsReadable, pages_at_first};
 ghost use Rattle.im_restart_analysis.specs.Changes.{AreChanges};
-ghost use Rattle.im_restart.specs.Restart.{AreTaken, IsFresh, SpellsLog};
-ghost use Rattle.im_restart.specs.Reading.{GateKept, IsReadLog, LogKept, OpenKept, ReadKept};
+ghost use Rattle.im_restart.specs.Restart.{AreTaken, SpellsLog};
+ghost use Rattle.im_restart.specs.Reading.{GateKept, HadLog, IsReadLog, IsUsableLog, LogKept, OpenKept, OpensLog, ReadKept};
 
 use crate::found::Found;
 use im_base_disk::Disk;
@@ -29,20 +27,12 @@ use std::alloc::Global;
 fn first_gate<D: Disk>(alloc: Global, disk: &mut D) -> Result<Gate, Fault>
     requires working { D.failed disk.old ≡ false }
     requires durable { Only Log (D.seen disk.old) (D.may_leave disk.old) }
+    ensures outcome { OpensLog D.Disk disk.old disk.new result }
     ensures reading { IfOk result (λ gate. IsReading D.Disk gate disk.new) }
-    ensures usable { IfOk result (λ gate. has_failed gate ≡ false) }
-    ensures of_log { IfOk result (λ gate. IsOfLog gate) }
-    ensures place { IfOk result (λ gate. place_of gate ≡ first_of gate) }
-    ensures starts { IfOk result (λ gate. D.tells → StartsAs gate (D.seen disk.new Log)) }
-    ensures alike { IfOk result (λ _. D.tells → StartsAlike (D.seen disk.old Log) (D.seen disk.new Log)) }
+    ensures first { IfOk result (λ gate. IsFirstGate D.Disk Log gate disk.new) }
+    ensures had { IfOk result (λ _. HadLog D.Disk disk.old disk.new) }
     ensures kept { (base : ℕ) (all : History) → D.tells → IsLogOf base all (D.seen disk.old Log) → (IsUnmade (D.seen disk.old Log) → length (D.seen disk.old Pages) ≡ 0)
         → GateKept D.Disk base all disk.old disk.new result }
-    ensures made { IfOk result (λ _. D.tells → IsMade (D.seen disk.new Log)) }
-    ensures changes { ChangesOnly D.Disk Log disk.old disk.new }
-    ensures store { IfOk result (λ _. D.tells → IsFresh (D.seen disk.old) ⊎ IsMade (D.seen disk.old Log)) }
-    ensures reads { D.tells → ¬ (IsFresh (D.seen disk.old)) → Reads D.Disk disk.old disk.new }
-    ensures causes { IfErr result (λ e. (e ≡ Memory) ⊎ (e ≡ Device) ⊎ (e ≡ NotAStore)) }
-    ensures device { result ≡ Err Device ↔ (D.failed disk.new ≡ true) }
 {
     match Gate::open(alloc, disk, FileId::Log)? {
         Some(gate) => Ok(gate),
@@ -76,15 +66,12 @@ fn read_all<D: Disk>(
 ) -> Result<Option<Found>, Fault>
     requires begun { IsBegun D.Disk opening disk.old }
     requires usable { opening.failed ≡ false }
-    ensures reads { Reads D.Disk disk.old disk.new }
-    ensures ready { IfOk result (λ found. IfSome found (λ f. IsOpen D.Disk f.log disk.new)) }
-    ensures usable { IfOk result (λ found. IfSome found (λ f. f.log.failed ≡ false)) }
+    ensures outcome { ReadsOr D.Disk (λ e. (e ≡ Memory) ⊎ (e ≡ NotAStore)) disk.old disk.new result }
+    ensures log { IfOk result (λ found. IfSome found (λ f. IsUsableLog D.Disk f.log disk.new)) }
     ensures kept { (base : ℕ) (all : History) → IsOpening D.Disk base all [] opening disk.old → AreTaken pages all → least ≡ least_number (D.seen disk.old Log) → 1 ≤ least
         → ReadKept D.Disk base all disk.new result }
     ensures spelled { IfOk result (λ _. (base : ℕ) → HasRead D.Disk base [] opening disk.old → (found : History) × HasLog base found (D.seen disk.old Log) × (IsReadable found → IsOrderly pages found)) }
     ensures whole { result ≡ Ok None → drops ≡ true }
-    ensures causes { IfErr result (λ e. (e ≡ Memory) ⊎ (e ≡ Device) ⊎ (e ≡ NotAStore)) }
-    ensures device { result ≡ Err Device ↔ (D.failed disk.new ≡ true) }
 {
     let mut opening = opening;
     let mut analysis = Analysis::new(alloc, least, pages);
@@ -123,17 +110,13 @@ fn read_log<D: Disk>(
     requires few { (1 ≤ batches) × (batches ≤ 64) }
     requires working { D.failed disk.old ≡ false }
     requires durable { Only Log (D.seen disk.old) (D.may_leave disk.old) }
-    ensures ready { IfOk result (λ found. IfSome found (λ f. IsOpen D.Disk f.log disk.new)) }
-    ensures usable { IfOk result (λ found. IfSome found (λ f. f.log.failed ≡ false)) }
+    ensures outcome { OpensLog D.Disk disk.old disk.new result }
+    ensures log { IfOk result (λ found. IfSome found (λ f. IsUsableLog D.Disk f.log disk.new)) }
     ensures kept { (base : ℕ) (all : History) → D.tells → IsLogOf base all (D.seen disk.old Log) → (IsUnmade (D.seen disk.old Log) → length (D.seen disk.old Pages) ≡ 0) → AreTaken (pages_at_first base) all
         → LogKept D.Disk base all disk.old disk.new result }
     ensures again { OnOk result (IsReadLog D.Disk disk.old disk.new) }
     ensures spelled { IfOk result (λ _. D.tells → SpellsLog (D.seen disk.old)) }
     ensures whole { result ≡ Ok None → drops ≡ true }
-    ensures changes { ChangesOnly D.Disk Log disk.old disk.new }
-    ensures reads { D.tells → ¬ (IsFresh (D.seen disk.old)) → Reads D.Disk disk.old disk.new }
-    ensures causes { IfErr result (λ e. (e ≡ Memory) ⊎ (e ≡ Device) ⊎ (e ≡ NotAStore)) }
-    ensures device { result ≡ Err Device ↔ (D.failed disk.new ≡ true) }
 {
     let gate = first_gate(alloc, disk)?;
     let least = gate.least_number();
@@ -147,17 +130,12 @@ fn read_whole<D: Disk>(alloc: Global, disk: &mut D, batches: usize) -> Result<Fo
     requires few { (1 ≤ batches) × (batches ≤ 64) }
     requires working { D.failed disk.old ≡ false }
     requires durable { Only Log (D.seen disk.old) (D.may_leave disk.old) }
-    ensures ready { IfOk result (λ found. IsOpen D.Disk found.log disk.new) }
-    ensures usable { IfOk result (λ found. found.log.failed ≡ false) }
+    ensures outcome { OpensLog D.Disk disk.old disk.new result }
+    ensures log { IfOk result (λ found. IsUsableLog D.Disk found.log disk.new) }
     ensures kept { (base : ℕ) (all : History) → D.tells → IsLogOf base all (D.seen disk.old Log) → (IsUnmade (D.seen disk.old Log) → length (D.seen disk.old Pages) ≡ 0) → AreTaken (pages_at_first base) all
         → OpenKept D.Disk base all disk.old disk.new result }
     ensures spelled { IfOk result (λ _. D.tells → SpellsLog (D.seen disk.old)) }
-    ensures alike { IfOk result (λ _. D.tells → StartsAlike (D.seen disk.old Log) (D.seen disk.new Log)) }
-    ensures changes { ChangesOnly D.Disk Log disk.old disk.new }
-    ensures store { IfOk result (λ _. D.tells → IsFresh (D.seen disk.old) ⊎ IsMade (D.seen disk.old Log)) }
-    ensures reads { D.tells → ¬ (IsFresh (D.seen disk.old)) → Reads D.Disk disk.old disk.new }
-    ensures causes { IfErr result (λ e. (e ≡ Memory) ⊎ (e ≡ Device) ⊎ (e ≡ NotAStore)) }
-    ensures device { result ≡ Err Device ↔ (D.failed disk.new ≡ true) }
+    ensures had { IfOk result (λ _. HadLog D.Disk disk.old disk.new) }
 {
     match read_log(alloc, disk, batches, false)? {
         Some(found) => Ok(found),
@@ -175,17 +153,12 @@ pub(crate) fn open_log<D: Disk>(alloc: Global, disk: &mut D, batches: usize) -> 
     requires few { (1 ≤ batches) × (batches ≤ 64) }
     requires working { D.failed disk.old ≡ false }
     requires durable { Only Log (D.seen disk.old) (D.may_leave disk.old) }
-    ensures ready { IfOk result (λ found. IsOpen D.Disk found.log disk.new) }
-    ensures usable { IfOk result (λ found. found.log.failed ≡ false) }
+    ensures outcome { OpensLog D.Disk disk.old disk.new result }
+    ensures log { IfOk result (λ found. IsUsableLog D.Disk found.log disk.new) }
     ensures kept { (base : ℕ) (all : History) → D.tells → IsLogOf base all (D.seen disk.old Log) → (IsUnmade (D.seen disk.old Log) → length (D.seen disk.old Pages) ≡ 0) → AreTaken (pages_at_first base) all
         → OpenKept D.Disk base all disk.old disk.new result }
     ensures spelled { IfOk result (λ _. D.tells → SpellsLog (D.seen disk.old)) }
-    ensures alike { IfOk result (λ _. D.tells → StartsAlike (D.seen disk.old Log) (D.seen disk.new Log)) }
-    ensures changes { ChangesOnly D.Disk Log disk.old disk.new }
-    ensures store { IfOk result (λ _. D.tells → IsFresh (D.seen disk.old) ⊎ IsMade (D.seen disk.old Log)) }
-    ensures reads { D.tells → ¬ (IsFresh (D.seen disk.old)) → Reads D.Disk disk.old disk.new }
-    ensures causes { IfErr result (λ e. (e ≡ Memory) ⊎ (e ≡ Device) ⊎ (e ≡ NotAStore)) }
-    ensures device { result ≡ Err Device ↔ (D.failed disk.new ≡ true) }
+    ensures had { IfOk result (λ _. HadLog D.Disk disk.old disk.new) }
 {
     match read_log(alloc, disk, batches, true)? {
         Some(found) => Ok(found),

@@ -8,6 +8,7 @@ ghost use Rattle.im_base_types.specs.declared.file_id.FileId.TheVariants.{Pages}
 ghost use Rattle.im_theory_log.specs.Histories.{Base, History, Rises, end_of};
 ghost use Rattle.im_theory_log.specs.PageCounts.{named_to};
 ghost use Rattle.im_theory_log.specs.RedoPoints.{Covers, redo_point};
+ghost use Rattle.im_base_disk.specs.Ends.{ReadsOr};
 ghost use Rattle.im_base_disk.specs.Runs.{Reads};
 ghost use Rattle.im_theory_page.specs.PageFile.{file_page, page_count};
 ghost use Rattle.im_restart_analysis.specs.Changes.{AreLastBelow};
@@ -125,9 +126,7 @@ pub(crate) fn check_file<D: Disk>(
     end: Lsn,
 ) -> Result<(), Fault>
     requires working { D.failed disk.old ≡ false }
-    ensures reads { Reads D.Disk disk.old disk.new }
-    ensures causes { IfErr result (λ e. (e ≡ Device) ⊎ (e ≡ NotAStore)) }
-    ensures device { result ≡ Err Device ↔ (D.failed disk.new ≡ true) }
+    ensures outcome { ReadsOr D.Disk (λ e. e ≡ NotAStore) disk.old disk.new result }
     ensures each { OnOk result (D.tells → HasEach (page_count (D.seen disk.old Pages)) last.now.lsns copies.now) }
     ensures under { OnOk result (D.tells → last.now.named < page_count (D.seen disk.old Pages) → IsUnder end (file_page (D.seen disk.old Pages) (page_count (D.seen disk.old Pages) - 1))) }
     ensures within { OnOk result (D.tells → IsWithin last.now.named last.now.said (file_page (D.seen disk.old Pages) 0)) }

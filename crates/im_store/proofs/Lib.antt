@@ -1,4 +1,3 @@
-mod Copies
 pub mod Ended
 pub mod Kept
 pub mod Opened

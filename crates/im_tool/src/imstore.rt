@@ -15,11 +15,11 @@ use im_base_model_disk::ModelDisk;
 use im_base_scratch_disk::ScratchDisk;
 use im_base_two_logs::Renamed;
 use im_base_types::Fault;
-use im_engine::MOST_WORKERS;
+use im_engine::{Config, MOST_WORKERS};
 use im_engine_upkeep::Bounds;
 use im_tool_files::{
-    Cause, Causes, Opening, WatchedDisk, print_refused_opening, tell, tell_unopened, tell_unread,
-    trim_program,
+    Cause, Causes, Ending, Opening, WatchedDisk, print_refused_opening, tell, tell_unopened,
+    tell_unread, trim_program,
 };
 use im_tool_user::{LineInput, Manner, Options, Task, parse_options};
 use std::alloc::AllocError;
@@ -92,6 +92,7 @@ fn run_in_memory<T: Threads + Sync>(
         disk,
         "memory",
         options,
+        config_of(options, 0),
         &mut reader,
         &mut writer,
     )?;
@@ -123,8 +124,9 @@ fn run_on_files<R: LineInput, W: Write, T: Threads + Sync>(
 {
     match FileDisk::open(rt, dir) {
         Ok(files) => {
+            let config = config_of(options, files.page_count());
             let disk = WatchedDisk::new(files, rt.stderr(), rt);
-            let end = run_steps(rt, threads, disk, dir, options, reader, writer)?;
+            let end = run_steps(rt, threads, disk, dir, options, config, reader, writer)?;
             match end {
                 StoreEnd::RefusedOpening(fault) => {
                     tell(rt, dir, &fault);
@@ -171,9 +173,10 @@ fn read_on_files<R: LineInput, W: Write, T: Threads + Sync>(
 {
     match FileDisk::open_to_read(rt, dir) {
         Ok(files) => {
+            let config = config_of(options, files.page_count());
             let watched = WatchedDisk::new(files, rt.stderr(), rt);
             let disk = ScratchDisk::new(rt.alloc(), Some(watched));
-            let end = run_steps(rt, threads, disk, dir, options, reader, writer)?;
+            let end = run_steps(rt, threads, disk, dir, options, config, reader, writer)?;
             if let StoreEnd::RefusedOpening(fault) = end {
                 tell(rt, dir, &fault);
                 if fault == Fault::NotAStore {
@@ -191,19 +194,19 @@ fn read_on_files<R: LineInput, W: Write, T: Threads + Sync>(
 }
 
 // The steps that the lines of a reader ask for, as the options say.
-fn run_steps<D: Disk + Cause + Opening + Drop, R: LineInput, W: Write, T: Threads + Sync>(
+fn run_steps<D: Disk + Cause + Opening + Ending + Drop, R: LineInput, W: Write, T: Threads + Sync>(
     rt: &HostRuntime,
     threads: &T,
     disk: D,
     dir: &str,
     options: &Options,
+    config: Config,
     reader: &mut R,
     writer: &mut W,
 ) -> io::Result<StoreEnd>
     requires working { D.failed disk ≡ false }
     requires synced { IsSynced D.Disk disk }
 {
-    let config = config_of(options);
     let bounds = match options.task {
         Task::Read => Bounds::of_bytes(0, 0),
         _ => bounds_of(options),

@@ -1,15 +1,15 @@
 //! The limits of the engine, as the words of the command line name them.
 
 use im_base_types::MOST_FRAMES;
-use im_engine::{BufferSize, Config};
+use im_engine::{BufferSize, Config, MoreFrames};
 use im_engine_upkeep::{Bounds, LogBound, RedoBound};
 use im_tool_user::{MOST_MIB, Options};
 
 const MIB: u64 = 1_048_576;
 
 /// The limits of the engine: 1,024 frames for a folder and 64 in memory, a million pages, and one worker of redo, where the words say nothing
-/// else. The log of a store in a folder has the buffer that suits files.
-pub(crate) fn config_of(options: &Options) -> Config {
+/// else. The log of a store in a folder has the buffer that suits files, and its pool the more frames the more pages its file has.
+pub(crate) fn config_of(options: &Options, pages: u64) -> Config {
     let mut config = Config::default();
     if let Some(workers) = options.workers {
         config.workers = workers as usize;
@@ -21,10 +21,21 @@ pub(crate) fn config_of(options: &Options) -> Config {
     if let Some(frames) = options.frames {
         config.frames = frames as usize;
     }
+    config.more = more_frames(options, pages);
     if let Some(pages) = options.pages {
         config.max_pages = u32::try_from(pages).unwrap_or(u32::MAX);
     }
     config
+}
+
+// How many frames more there are: as many MiB of them as the words say. Where they say neither this nor how many frames there are, as many as suit the
+// file of pages of a folder: who names frames alone has no more than these.
+fn more_frames(options: &Options, pages: u64) -> MoreFrames {
+    match options.cache {
+        Some(mib) => MoreFrames::of_mib(mib),
+        None if options.dir.is_some() && options.frames.is_none() => MoreFrames::over_pages(pages),
+        None => MoreFrames::NONE,
+    }
 }
 
 /// What an opening may cost.

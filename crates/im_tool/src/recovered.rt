@@ -4,8 +4,8 @@ use im_base_disk::Disk;
 use im_base_scratch_disk::ScratchDisk;
 use im_base_steps::{Reply, Step};
 use im_base_two_logs::Renamed;
-use im_base_types::{Fault, MOST_DIRTY, MOST_FRAMES};
-use im_engine::{BufferSize, Config};
+use im_base_types::{Fault, MOST_FRAMES};
+use im_engine::{BufferSize, Config, MoreFrames};
 use im_engine_upkeep::Bounds;
 use im_store::OpenStore;
 use std::alloc::Global;
@@ -14,6 +14,7 @@ use std::thread::Threads;
 // How a store is opened that is only looked at.
 const TO_LOOK: Config = Config {
     frames: MOST_FRAMES,
+    more: MoreFrames::NONE,
     max_pages: u32::MAX,
     buffer: BufferSize::ONE,
     stepped: false,
@@ -41,7 +42,7 @@ pub(crate) fn opened<D: Disk + Drop, T: Threads + Sync>(
 pub(crate) fn write_changed<D: Disk + Drop>(
     store: &mut OpenStore<Renamed<ScratchDisk<D>>>,
 ) -> Result<(), Fault> {
-    for _written in 0..MOST_DIRTY {
+    for _written in 0..store.engine().dirty_count() {
         let Some(change) = store.engine().oldest_change() else {
             break;
         };

@@ -11,7 +11,7 @@ use im_base_types::Fault;
 use im_engine::Config;
 use im_engine_upkeep::{Bounds, Due};
 use im_store::OpenStore;
-use im_tool_files::{Cause, Causes, NoCopy, Opening, print_refused_opening};
+use im_tool_files::{Cause, Causes, Ending, NoCopy, Opening, print_refused_opening};
 use im_tool_user::{
     LineInput, Manner, end_prompt, is_change, is_help, print_entries, print_prompt, print_refused,
     print_reply, print_stop, refuse, refuse_change, run_help, step_in, why_no_step,
@@ -43,10 +43,10 @@ pub enum StoreEnd {
 /// and a carriage return in front of a newline is left out. An error is of the program's own memory, input or output.
 ///
 /// Checkpoints are taken after the opening and after the steps, and the log goes on in the other file, as the bounds want it. At the end of the input a long
-/// log is left for an empty one, or all changed pages are written and a last Checkpoint is taken, so that the next opening has nothing to redo. Where such a step is
-/// refused, or the files cannot be synced then, a line `checkpoint refused N`, `switch refused N` or `close refused N` says so. Where a call of the disk failed, what failed stands in a line of `causes`, once.
+/// log is left for an empty one, or all changed pages are written and a last Checkpoint is taken, so that the next opening has nothing to redo; and of files the logs
+/// are cut. Where such a step is refused, or the files cannot be synced or cut then, a line `checkpoint refused N`, `switch refused N` or `close refused N` says so. Where a call of the disk failed, what failed stands in a line of `causes`, once.
 pub fn store_text<
-    D: TwoLogs + Cause + Opening + Drop,
+    D: TwoLogs + Cause + Opening + Ending + Drop,
     R: LineInput,
     W: Write,
     E: Write,
@@ -106,7 +106,7 @@ fn run_to_end<D: TwoLogs + Cause + Drop, R: LineInput, W: Write, E: Write, C: Co
 }
 
 // Ends the store. After the last line it is closed, unless it was only read, or has failed, which was told then.
-fn closed<D: TwoLogs + Cause + Drop, W: Write, E: Write>(
+fn closed<D: TwoLogs + Cause + Ending + Drop, W: Write, E: Write>(
     store: OpenStore<D>,
     run: io::Result<StoreEnd>,
     manner: Manner,
@@ -117,14 +117,27 @@ fn closed<D: TwoLogs + Cause + Drop, W: Write, E: Write>(
         let _disk = store.into_disk();
         return run;
     }
-    let (closed, disk) = store.close();
-    match closed {
+    match ended(store, causes) {
         Ok(()) => run,
         Err(fault) => {
             write!(writer, "close ")?;
             print_refused(writer, manner, fault.number(), &fault)?;
-            causes.tell(&disk);
             Ok(StoreEnd::RefusedClose(fault))
+        }
+    }
+}
+
+/// Closes a store, and gives back the room of its logs. A call of the disk that failed is told. What was committed is kept, refused or not.
+pub(crate) fn ended<D: TwoLogs + Cause + Ending + Drop, E: Write>(
+    store: OpenStore<D>,
+    causes: &mut Causes<E>,
+) -> Result<(), Fault> {
+    let (closed, disk) = store.close();
+    match closed {
+        Ok(()) => disk.give_back(causes),
+        Err(fault) => {
+            causes.tell(&disk);
+            Err(fault)
         }
     }
 }

@@ -264,10 +264,10 @@ fn load_from<R: LineInput, W: Write, T: Threads + Sync>(
 {
     match FileDisk::open(rt, dir) {
         Ok(files) => {
+            let config = config_of(options, files.page_count());
             let disk = WatchedDisk::new(files, rt.stderr(), rt);
             let is_shown = rt.stderr().is_terminal();
             let mut progress = ProgressLine::new(rt.stderr(), is_shown, "entries", rt);
-            let (config, bounds) = (config_of(options), bounds_of(options));
             let mut causes = Causes {
                 writer: rt.stderr(),
                 dir,
@@ -278,7 +278,7 @@ fn load_from<R: LineInput, W: Write, T: Threads + Sync>(
                 rt.alloc(),
                 Renamed::new(disk, false),
                 config,
-                bounds,
+                bounds_of(options),
                 present,
                 reader,
                 &mut progress,

@@ -3,13 +3,14 @@
 ghost use Rattle.std.specs.Prelude.{◌≡◌, false};
 ghost use Rattle.im_base_disk.specs.Runs.{IsSynced};
 
+use crate::store::ended;
 use im_base_steps::{Reply, Step};
 use im_base_two_logs::TwoLogs;
 use im_base_types::{Fault, Rid, TxnId};
 use im_engine::Config;
 use im_engine_upkeep::Bounds;
 use im_store::OpenStore;
-use im_tool_files::{Cause, Causes, Opening, Progress};
+use im_tool_files::{Cause, Causes, Ending, Opening, Progress};
 use im_tool_user::{EntryText, LineInput, Next, Present, WhyBad};
 use std::alloc::Global;
 use std::io;
@@ -59,9 +60,10 @@ pub enum Loaded {
 
 /// Puts the entries of such a text into a store, commits them a thousand at a time, and tells of each commit. `present` says what is done with
 /// keys that are there, so that a load that broke off can go on. Checkpoints are taken in between, and the log goes on in
-/// the other file, as the bounds want it; after the last entry a long log is left for an empty one, or a Checkpoint is taken, so that the next opening has nothing to redo.
+/// the other file, as the bounds want it; after the last entry a long log is left for an empty one, or a Checkpoint is taken, so that the next opening has nothing to redo, and of files
+/// the logs are cut.
 pub fn load_text<
-    D: TwoLogs + Cause + Opening + Drop,
+    D: TwoLogs + Cause + Opening + Ending + Drop,
     R: LineInput,
     P: Progress,
     E: Write,
@@ -84,10 +86,8 @@ pub fn load_text<
         Ok(mut store) => {
             store.engine().disk().is_done();
             let run = load_to_end(alloc, &mut store, present, reader, progress);
-            let (loaded, disk) = closed(store, run);
             progress.end();
-            causes.tell(&disk);
-            loaded
+            closed(store, run, causes)
         }
         Err((fault, disk)) => {
             causes.tell(&disk);
@@ -111,18 +111,20 @@ fn load_to_end<D: TwoLogs + Drop, R: LineInput, P: Progress>(
     load_all_lines(alloc, store, present, reader, progress)
 }
 
-// Ends the store, which is closed where all was loaded.
-fn closed<D: TwoLogs + Drop>(
+// Ends the store, which is closed where all was loaded. A call of its disk that failed is told.
+fn closed<D: TwoLogs + Cause + Ending + Drop, E: Write>(
     store: OpenStore<D>,
     run: io::Result<Loaded>,
-) -> (io::Result<Loaded>, D) {
+    causes: &mut Causes<E>,
+) -> io::Result<Loaded> {
     let Ok(Loaded::All(count)) = run else {
-        return (run, store.into_disk());
+        let disk = store.into_disk();
+        causes.tell(&disk);
+        return run;
     };
-    let (closed, disk) = store.close();
-    match closed {
-        Ok(()) => (Ok(Loaded::All(count)), disk),
-        Err(fault) => (Ok(Loaded::RefusedClose(count, fault)), disk),
+    match ended(store, causes) {
+        Ok(()) => Ok(Loaded::All(count)),
+        Err(fault) => Ok(Loaded::RefusedClose(count, fault)),
     }
 }
 

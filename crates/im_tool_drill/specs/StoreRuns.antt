@@ -1,5 +1,5 @@
 -- Lives of a store in a script, as engines run them: which calls the answers come from, and on which disks.
-use Rattle.std.specs.Prelude.{◌≡◌, ◌⊎◌, ◌↔◌, ◌<◌, ◌≤◌, ℕ, true, false, List, [], ◌∷◌, Option, None, Result, Ok, Err, IfOk, IfErr, MatchResult}
+use Rattle.std.specs.Prelude.{◌≡◌, ◌⊎◌, ◌↔◌, ◌<◌, ◌≤◌, ◌+◌, ℕ, true, false, List, [], ◌∷◌, Option, None, Result, Ok, Err, IfOk, IfErr, MatchResult}
 use Rattle.std.specs.Global.{Vec}
 use Rattle.std.specs.Result.{IsErrAnd}
 use Rattle.im_base_types.specs.declared.fault.Fault.{Fault}
@@ -95,7 +95,7 @@ module _ (d : Ghosts (Renamed ModelDisk)) where
     pub of : IsConfigOf options config
     pub kept : (before : List Effect) (stands : StandsFor before (d.seen old)) → OpenKept d before old stands result
     pub opened : IfOk result (λ e. (e.failed ≡ false) × (e.txns.rows ≡ []) × (e.locks ≡ []) × (e.max_pages ≡ config.max_pages))
-    pub pool : IfOk result (λ e. e.writer.pool.frames ≡ config.frames)
+    pub pool : IfOk result (λ e. e.writer.pool.frames ≡ config.frames + config.more.frames)
     pub frames : IsErrAnd result (λ x. x.0 ≡ PoolSize) ↔ ((config.frames < 8) ⊎ (1024 < config.frames))
     pub workers : IsErrAnd result (λ x. x.0 ≡ Workers) ↔ ((8 ≤ config.frames) × (config.frames ≤ 1024)) × ((config.workers < 1) ⊎ (16 < config.workers))
     pub device : IsErrAnd result (λ x. x.0 ≡ Device) ↔ (d.failed (disk_of d result) ≡ true)

@@ -84,7 +84,7 @@ pub fn open_store<T: Threads + Sync>(
 
 /// How an engine is opened by these options: 64 frames, 1,000,000 pages and one worker where they are left out. Structure changes
 /// are made page by page where `stepped` stands there, and Commits wait where `group` does.
-/// The size of the log's buffer is no option of a life.
+/// The size of the log's buffer is no option of a life, and no life has more frames than it names.
 pub fn config_of(options: LifeOptions, buffer: BufferSize) -> Config
     ensures config { IsConfigOf options result }
     ensures buffer { result.buffer ≡ buffer }
@@ -105,6 +105,7 @@ pub fn config_of(options: LifeOptions, buffer: BufferSize) -> Config
     };
     Config {
         frames,
+        more: config.more,
         max_pages,
         buffer,
         stepped: options.stepped,

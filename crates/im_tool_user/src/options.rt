@@ -10,6 +10,9 @@ use std::alloc::Global;
 /// The most MiB that may be named.
 pub const MOST_MIB: u64 = 1_048_576;
 
+/// The most MiB of memory for more pages that may be named: with 1,024 frames they make 262,144.
+const MOST_CACHE: u64 = 1_020;
+
 /// What is done with a key that is in the store already.
 #[derive(Clone, Copy, Debug, Default, PartialEq, Eq)]
 pub enum Present {
@@ -53,6 +56,8 @@ pub struct Options<'a> {
     pub task: Task<'a>,
     /// The frames of the pool, 8 to 1,024.
     pub frames: Option<u64>,
+    /// The MiB of memory for more pages, 0 to 1,020.
+    pub cache: Option<u64>,
     /// The most pages.
     pub pages: Option<u64>,
     /// The MiB of log that an opening redoes at most, 0 to 1,048,576; with 0 no Checkpoint is taken.
@@ -78,6 +83,7 @@ pub fn parse_options<'a>(
         dir: matches.get_str("DIR"),
         task: task_of(&matches),
         frames: matches.get_one::<u64>("frames"),
+        cache: matches.get_one::<u64>("cache"),
         pages: matches.get_one::<u64>("pages"),
         checkpoint: matches.get_one::<u64>("checkpoint"),
         switch: matches.get_one::<u64>("switch"),
@@ -150,6 +156,14 @@ fn with_numbers<'a>(
                 .long("frames")
                 .value_parser(ValueParser::unsigned(LEAST_FRAMES as u64, MOST_FRAMES as u64))
                 .help("Pages held in memory at once, 8 to 1024 [1024 with DIR, 64 without]"),
+        )?
+        .arg(
+            Arg::new(alloc, "cache")
+                .long("cache")
+                .value_parser(ValueParser::unsigned(0, MOST_CACHE))
+                .help(
+                    "MiB of memory for more pages, 0 to 1020, all of it taken at the start [twice the file of pages and at most 64 with DIR and without --frames, else 0]",
+                ),
         )?
         .arg(
             Arg::new(alloc, "pages")
@@ -307,6 +321,7 @@ fn as_task<'a>(arg: Arg<'a>, name: &'a str) -> Result<Arg<'a>, Error> {
     if name != "load" {
         arg = arg
             .conflicts_with("frames")?
+            .conflicts_with("cache")?
             .conflicts_with("pages")?
             .conflicts_with("checkpoint")?
             .conflicts_with("switch")?

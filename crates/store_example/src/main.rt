@@ -5,10 +5,10 @@
 mod threads;
 
 use im_base_steps::{Reply, Step};
-use im_engine::{BufferSize, Config};
+use im_engine::{BufferSize, Config, Engine, MoreFrames};
 use im_engine_upkeep::Bounds;
-use im_front::Open;
-use im_open::{Files, copy, open, open_store};
+use im_front::{Open, Rested};
+use im_open::{Files, close, copy, open, open_store};
 use im_store::OpenStore;
 use std::fs;
 use std::sync::Wait;
@@ -31,11 +31,11 @@ fn main(rt: HostRuntime) -> anyhow::Result<()> {
     Ok(())
 }
 
-// A store of one thread, and a copy of it. What keeps the next opening short is done by the steps, and by the end.
+// A store of one thread, and a copy of it. What keeps the next opening short is done by the steps, and by the end, which gives back the room of the logs.
 fn alone<R: Threads + Sync>(rt: &HostRuntime, threads: &R) -> anyhow::Result<()> {
     let mut store = open_store(rt, threads, ALONE, config(false), Bounds::default())?;
     let used = use_store(rt, &mut store);
-    let (closed, _disk) = store.close();
+    let closed = close(store);
     used?;
     closed?;
     Ok(())
@@ -53,7 +53,7 @@ fn use_store(rt: &HostRuntime, store: &mut OpenStore<Files>) -> anyhow::Result<(
 fn copied<R: Threads + Sync>(rt: &HostRuntime, threads: &R) -> anyhow::Result<()> {
     let mut store = open_store(rt, threads, COPY, config(false), Bounds::default())?;
     let listed = list(rt, &mut store);
-    let (closed, _disk) = store.close();
+    let closed = close(store);
     listed?;
     closed?;
     Ok(())
@@ -63,6 +63,7 @@ fn copied<R: Threads + Sync>(rt: &HostRuntime, threads: &R) -> anyhow::Result<()
 fn config(group: bool) -> Config {
     Config {
         frames: 64,
+        more: MoreFrames::NONE,
         max_pages: 1_000_000,
         buffer: BufferSize::OVER_FILES,
         stepped: false,
@@ -75,11 +76,17 @@ fn config(group: bool) -> Config {
 fn together<R: Threads + Wait + Sync>(rt: &HostRuntime, threads: &R) -> anyhow::Result<()> {
     let front = match Open::new(rt.alloc(), open(rt, threads, SHARED, config(true))?) {
         Ok(front) => front,
-        Err((fault, _at_rest)) => return Err(anyhow::Error::from(fault)),
+        Err((fault, at_rest)) => {
+            let_go(at_rest);
+            return Err(anyhow::Error::from(fault));
+        },
     };
     let done = insert_all(threads, rt.alloc(), &front);
     show(rt, threads, done?, front.close(), SHARED)
 }
+
+// Lets a store go for which there is no front.
+fn let_go(_at_rest: Rested<Engine<Files>>) {}
 
 // Inserts a key and commits.
 fn insert(rt: &HostRuntime, store: &mut OpenStore<Files>) -> anyhow::Result<()> {

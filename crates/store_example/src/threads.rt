@@ -68,8 +68,7 @@ pub fn show<R: Threads + Sync>(
 // Closes the store, of which one thread has the engine again.
 fn close(left: Left<Engine<Files>>) -> Result<(), Fault> {
     let Left { engine, .. } = left;
-    let (closed, _disk) = OpenStore::over(engine, Bounds::default()).close();
-    closed
+    im_open::close(OpenStore::over(engine, Bounds::default()))
 }
 
 // How many entries the store in a folder has.

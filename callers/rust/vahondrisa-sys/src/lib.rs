@@ -46,6 +46,7 @@ pub struct vah_config {
     pub progress: Option<vah_progress>,
     pub with: *mut c_void,
     pub read_only: u64,
+    pub cache_bytes: u64,
 }
 
 #[repr(C)]
@@ -97,12 +98,13 @@ pub const VAH_LOCKED: c_int = 19;
 pub const VAH_NO_WAIT: c_uint = 1;
 pub const VAH_REDO_GROWS: u64 = u64::MAX;
 pub const VAH_LOG_GROWS: u64 = u64::MAX;
+pub const VAH_CACHE_FITS: u64 = u64::MAX;
 
 // The library's own build tests these sizes and places too.
 const _: () = assert!(core::mem::size_of::<vah_entry>() == 264 && core::mem::offset_of!(vah_entry, key) == 9);
 const _: () = assert!(core::mem::size_of::<vah_ref>() == 24);
-const _: () = assert!(core::mem::size_of::<vah_config>() == 64 && core::mem::offset_of!(vah_config, redo_bytes) == 16);
-const _: () = assert!(core::mem::offset_of!(vah_config, wait_ms) == 32 && core::mem::offset_of!(vah_config, progress) == 40);
+const _: () = assert!(core::mem::size_of::<vah_config>() == 72 && core::mem::offset_of!(vah_config, redo_bytes) == 16);
+const _: () = assert!(core::mem::offset_of!(vah_config, wait_ms) == 32 && core::mem::offset_of!(vah_config, progress) == 40 && core::mem::offset_of!(vah_config, cache_bytes) == 64);
 const _: () = assert!(core::mem::size_of::<vah_info>() == 104);
 
 extern "C" {

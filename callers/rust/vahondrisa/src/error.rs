@@ -82,7 +82,7 @@ pub enum ErrorKind {
     NotAStore,
     /// 64 transactions are active (`try_begin`), or 4,096 stores are open.
     TooMany,
-    /// `frames` are not 8 to 1,024.
+    /// `frames` are not 8 to 1,024, or `cache_bytes` more than 1,020 MiB.
     PoolSize,
     /// The store is open elsewhere.
     Locked,

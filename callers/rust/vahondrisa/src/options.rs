@@ -24,6 +24,7 @@ use vahondrisa_sys as sys;
 #[derive(Clone, Copy, Debug)]
 pub struct Options {
     frames: u32,
+    cache_bytes: u64,
     max_pages: u32,
     redo_bytes: u64,
     log_bytes: u64,
@@ -33,20 +34,45 @@ pub struct Options {
 
 impl Default for Options {
     fn default() -> Options {
-        Options { frames: 1_024, max_pages: 1_000_000, redo_bytes: sys::VAH_REDO_GROWS, log_bytes: sys::VAH_LOG_GROWS, wait_ms: 0, read_only: false }
+        Options {
+            frames: 1_024,
+            cache_bytes: sys::VAH_CACHE_FITS,
+            max_pages: 1_000_000,
+            redo_bytes: sys::VAH_REDO_GROWS,
+            log_bytes: sys::VAH_LOG_GROWS,
+            wait_ms: 0,
+            read_only: false,
+        }
     }
 }
 
 impl Options {
-    /// 1,024 frames, a million pages at most, 16 MiB of log to redo, or 7 times the file of pages, and 64 MiB to read, or 8 times; waits as long as
-    /// is needed.
+    /// 1,024 frames, and twice the file of pages in more of them, at most 64 MiB; a million pages at most, 16 MiB of log to redo, or 7 times the file of
+    /// pages, and 64 MiB to read, or 8 times; waits as long as is needed.
     pub fn new() -> Options {
         Options::default()
     }
 
-    /// Pages of 4 KiB kept in memory, 8 to 1,024.
+    /// Pages of 4 KiB kept in memory, 8 to 1,024, beside those that `cache_bytes` has room for.
     pub fn frames(mut self, frames: u32) -> Options {
         self.frames = frames;
+        self
+    }
+
+    /// Memory for more pages, beside `frames`: whole frames of 4 KiB, at most 1,020 MiB, or the opening is refused `PoolSize`. All of it is taken when the store is
+    /// opened. Where nothing is said it is twice what the file of pages has then, at most 64 MiB.
+    ///
+    /// ```
+    /// # let dir = std::env::temp_dir().join(format!("vahondrisa-doc-cache-{}", std::process::id()));
+    /// use vahondrisa::{ErrorKind, Store};
+    ///
+    /// let store = Store::options().cache_bytes(16 << 20).open(&dir)?;
+    /// assert_eq!(Store::options().cache_bytes(1 << 40).open(dir.join("other")).err().unwrap().kind(), ErrorKind::PoolSize);
+    /// # store.close()?; std::fs::remove_dir_all(dir).unwrap();
+    /// # Ok::<(), vahondrisa::Error>(())
+    /// ```
+    pub fn cache_bytes(mut self, bytes: u64) -> Options {
+        self.cache_bytes = bytes;
         self
     }
 
@@ -122,6 +148,7 @@ impl Options {
             progress,
             with,
             read_only: self.read_only.into(),
+            cache_bytes: self.cache_bytes,
         };
         let mut at = ptr::null_mut();
         // SAFETY: the path ends with 0, all pointers are to what lives over the call, and `with` is what `progress` takes.

@@ -303,7 +303,7 @@ impl Store {
         })
     }
 
-    /// Writes all pages, leaves a long log for an empty one or takes a checkpoint, and ends the store. What was committed is kept whatever it answers.
+    /// Writes all pages, leaves a long log for an empty one or takes a checkpoint, cuts the logs, and ends the store. What was committed is kept whatever it answers.
     pub fn close(mut self) -> Result<()> {
         self.end()
     }

@@ -1,7 +1,7 @@
 mod folder;
 
 use folder::Folder;
-use vahondrisa::{ErrorKind, Store};
+use vahondrisa::{ErrorKind, Options, Store};
 
 #[test]
 fn keys_are_there_when_opened_again() {
@@ -43,6 +43,28 @@ fn a_switch_is_made_where_nothing_is_active() {
     let store = Store::open(&dir.0).unwrap();
     let txn = store.begin().unwrap();
     assert_eq!(txn.get(b"a").unwrap(), Some(1));
+}
+
+#[test]
+fn a_larger_cache_reads_no_page_again() {
+    let dir = Folder::new("cache");
+    let key = |i: u32| [i.to_be_bytes(); 50].concat();
+    let store = Store::options().frames(8).open(&dir.0).unwrap();
+    store.write(|txn| (0..1000).try_for_each(|i| txn.put(&key(i), i.into()).map(drop))).unwrap();
+    store.close().unwrap();
+    let read_again = |options: Options| {
+        let store = options.frames(8).open(&dir.0).unwrap();
+        let reads = [(); 2].map(|()| {
+            let txn = store.begin().unwrap();
+            assert!((0..1000).all(|i| txn.get(&key(i)).unwrap() == Some(i.into())));
+            txn.commit().unwrap();
+            store.info().unwrap().page_reads
+        });
+        store.close().unwrap();
+        reads[1] - reads[0]
+    };
+    assert!(read_again(Store::options().cache_bytes(0)) > 50);
+    assert_eq!((read_again(Store::options()), read_again(Store::options().cache_bytes(1 << 20))), (0, 0));
 }
 
 #[test]
@@ -100,6 +122,8 @@ fn refusals_have_their_kinds() {
     assert_eq!(younger.commit().unwrap_err().kind(), ErrorKind::MustRollBack);
     txn.commit().unwrap();
     assert_eq!(Store::options().frames(7).open(dir.0.join("x")).err().unwrap().kind(), ErrorKind::PoolSize);
+    let error = Store::options().cache_bytes(1 << 30).open(dir.0.join("x")).err().unwrap();
+    assert!(error.kind() == ErrorKind::PoolSize && error.to_string().contains("cache_bytes"), "{error}");
     assert_eq!(Store::open("/proc/none/here").err().unwrap().kind(), ErrorKind::Device);
 }
 

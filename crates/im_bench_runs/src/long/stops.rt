@@ -16,7 +16,7 @@ use im_base_types::Fault;
 use im_bench_layers::page_kinds::Kinds;
 use im_bench_layers::spans::{Order, Span, Work, committed, lose};
 use im_bench_layers::tally::Tally;
-use im_engine::{BufferSize, Config, Engine};
+use im_engine::{BufferSize, Config, Engine, MoreFrames};
 use std::alloc::Global;
 use std::thread::Threads;
 
@@ -47,6 +47,7 @@ const MOST_CALLS: u64 = 10_000;
 // In how few frames the lives run, so that pages are written in the midst of them.
 const CONFIG: Config = Config {
     frames: 8,
+    more: MoreFrames::NONE,
     max_pages: 1_000_000,
     buffer: BufferSize::ONE,
     stepped: false,

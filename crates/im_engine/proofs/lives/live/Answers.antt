@@ -84,7 +84,7 @@ returns-in-Ok-clause-refused g c =
       full = is.full;
       unspelled = is.unspelled;
     } in
-    on_err c.life-replies.result _ _ _ c.life-replies.ensures.none c.life-replies.ensures.memory (λ same e memory.
+    on_err c.life-replies.result _ _ _ c.life-replies.ensures.refused (λ same e memory.
     let disk = c.into_disk.ensures ∙ ap (λ (x : Engine _ d). x.disk) same in
     record {
       result = Ok c.in-Ok.opened;

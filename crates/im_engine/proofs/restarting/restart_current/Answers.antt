@@ -23,7 +23,7 @@ open_or_create-requires-clause-synced g c = names_synced g.D.Disk c.args.disk.no
 pub returns-in_err-choose-clause-outcome : goal.returns-in_err-choose-clause-outcome
 returns-in_err-choose-clause-outcome g c =
     let e = c.in_err-choose.ensures in
-    opens_refused g.D.Disk c.from_residual.result c.from_residual.ensures.1 (opens_read g.D.Disk _ c.in_err-choose.field-0.0 refl (chosen_causes c.in_err-choose.field-0.0 e.causes) e.device)
+    opens_refused g.D.Disk c.from_residual.result c.from_residual.ensures.1 (opens_read g.D.Disk _ c.in_err-choose.field-0.0 refl (chosen_causes c.in_err-choose.field-0.0 e.answers.causes) e.answers.device)
 
 pub returns-in_err-choose-clause-kept : goal.returns-in_err-choose-clause-kept
 returns-in_err-choose-clause-kept g c before told stands =
@@ -31,13 +31,13 @@ returns-in_err-choose-clause-kept g c before told stands =
     record {
       sound = sound_on c.from_residual.result c.in_err-choose.field-0.0 _ c.from_residual.ensures.1 (λ same. e.refused (ap Err same) told (has_current before (g.D.Disk.seen c.args.disk.now) stands));
       stops = named_stops g.D.Disk before c.args.disk.now stands c.requires.synced (g.met.D.Disk.only_now c.args.disk.now) c.choose.new.disk e.reads;
-      used_up = err_on c.from_residual.result c.in_err-choose.field-0.0 (λ x. x ≡ Capacity → RunsOut stands.b stands.log) c.from_residual.ensures.1 (λ full. not_full c.in_err-choose.field-0.0 e.causes full);
+      used_up = err_on c.from_residual.result c.in_err-choose.field-0.0 (λ x. x ≡ Capacity → RunsOut stands.b stands.log) c.from_residual.ensures.1 (λ full. not_full c.in_err-choose.field-0.0 e.answers.causes full);
     }
 
 pub returns-in_err-choose-clause-unspelled : goal.returns-in_err-choose-clause-unspelled
 returns-in_err-choose-clause-unspelled g c told none =
     let e = c.in_err-choose.ensures in
-    (e.reads, err_on c.from_residual.result c.in_err-choose.field-0.0 _ c.from_residual.ensures.1 (chosen_causes c.in_err-choose.field-0.0 e.causes))
+    (e.reads, err_on c.from_residual.result c.in_err-choose.field-0.0 _ c.from_residual.ensures.1 (chosen_causes c.in_err-choose.field-0.0 e.answers.causes))
 
 -- ---- the restart is refused
 
@@ -50,7 +50,7 @@ returns-in_err-restarted-clause-kept g c before told stands =
     let old = c.args.disk.now in
     let mid = c.choose.new.disk in
     let chosen = c.in_ok-choose.ensures in
-    let may = may_restart d before old stands mid chosen.reads (chosen.current told) in
+    let may = may_restart d before old stands mid chosen.reads (chosen.current told).0 in
     let e = c.in_err-restarted in
     let k = e.ensures.kept stands.b stands.base stands.log told may in
     record {
@@ -63,7 +63,7 @@ pub returns-in_err-restarted-clause-unspelled : goal.returns-in_err-restarted-cl
 returns-in_err-restarted-clause-unspelled g c told none =
     let chosen = c.in_ok-choose.ensures in
     let e = c.in_err-restarted in
-    let k = e.ensures.unspelled told (still_unspelled g.D.Disk c.args.disk.now c.choose.new.disk chosen.reads (chosen.current told) (chosen.has told) none) in
+    let k = e.ensures.unspelled told (still_unspelled g.D.Disk c.args.disk.now c.choose.new.disk chosen.reads (chosen.current told).0 (chosen.current told).1 none) in
     (names_then g.D.Disk c.args.disk.now c.choose.new.disk chosen.reads c.open_or_create.new.disk k.0, err_on c.from_residual-in_err-restarted.result e.field-0.0 _ c.from_residual-in_err-restarted.ensures.1 k.1)
 
 -- ---- the log does not go on
@@ -78,10 +78,10 @@ returns-in_err-upgrade-clause-kept g c before told stands =
     let mid = c.choose.new.disk in
     let near = c.open_or_create.new.disk in
     let chosen = c.in_ok-choose.ensures in
-    let may = may_restart d before old stands mid chosen.reads (chosen.current told) in
+    let may = may_restart d before old stands mid chosen.reads (chosen.current told).0 in
     let k = c.in_ok-restarted.ensures.kept stands.b stands.base stands.log told may in
     let e = c.in_err-upgrade in
-    let up = e.ensures.kept before (opened_rest d before old stands mid chosen.reads (chosen.current told) c.in_ok-restarted.restarted near k.sound) in
+    let up = e.ensures.kept before (opened_rest d before old stands mid chosen.reads (chosen.current told).0 c.in_ok-restarted.restarted near k.sound) in
     record {
       sound = sound_on c.from_residual-in_err-upgrade.result e.field-0.0 _ c.from_residual-in_err-upgrade.ensures.1 up.cause.0;
       stops = upgrade_stops d before old stands c.requires.synced (g.met.D.Disk.only_now old) mid near c.upgrade.new.disk chosen.reads k.stops up.stops;
@@ -91,7 +91,7 @@ returns-in_err-upgrade-clause-kept g c before told stands =
 pub returns-in_err-upgrade-clause-unspelled : goal.returns-in_err-upgrade-clause-unspelled
 returns-in_err-upgrade-clause-unspelled g c told none =
     let chosen = c.in_ok-choose.ensures in
-    absurd (still_unspelled g.D.Disk c.args.disk.now c.choose.new.disk chosen.reads (chosen.current told) (chosen.has told) none (c.in_ok-restarted.ensures.spelled told))
+    absurd (still_unspelled g.D.Disk c.args.disk.now c.choose.new.disk chosen.reads (chosen.current told).0 (chosen.current told).1 none (c.in_ok-restarted.ensures.spelled told))
 
 -- ---- the store is open
 
@@ -103,15 +103,15 @@ returns-clause-kept g c before told stands =
     let near = c.open_or_create.new.disk in
     let r = c.in_ok-restarted.restarted in
     let chosen = c.in_ok-choose.ensures in
-    let may = may_restart d before old stands mid chosen.reads (chosen.current told) in
+    let may = may_restart d before old stands mid chosen.reads (chosen.current told).0 in
     let k = c.in_ok-restarted.ensures.kept stands.b stands.base stands.log told may in
-    let up = c.in_ok-upgrade.ensures.kept before (opened_rest d before old stands mid chosen.reads (chosen.current told) r near k.sound) in
+    let up = c.in_ok-upgrade.ensures.kept before (opened_rest d before old stands mid chosen.reads (chosen.current told).0 r near k.sound) in
     record {
       sound = record {
         rest = up.ok.rest;
         second = up.ok.second;
-        next = opened_next d before old stands mid chosen.reads (chosen.current told) r near k.sound;
-        report = opened_report d before old stands mid chosen.reads (chosen.current told) r near k.sound;
+        next = opened_next d before old stands mid chosen.reads (chosen.current told).0 r near k.sound;
+        report = opened_report d before old stands mid chosen.reads (chosen.current told).0 r near k.sound;
       };
       stops = upgrade_stops d before old stands c.requires.synced (g.met.D.Disk.only_now old) mid near c.upgrade.new.disk chosen.reads k.stops up.stops;
       used_up = tt;
@@ -120,9 +120,9 @@ returns-clause-kept g c before told stands =
 pub returns-clause-spelled : goal.returns-clause-spelled
 returns-clause-spelled g c told =
     let chosen = c.in_ok-choose.ensures in
-    spells_old g.D.Disk c.args.disk.now c.choose.new.disk chosen.reads (chosen.current told) (chosen.has told) (c.in_ok-restarted.ensures.spelled told)
+    spells_old g.D.Disk c.args.disk.now c.choose.new.disk chosen.reads (chosen.current told).0 (chosen.current told).1 (c.in_ok-restarted.ensures.spelled told)
 
 pub returns-clause-unspelled : goal.returns-clause-unspelled
 returns-clause-unspelled g c told none =
     let chosen = c.in_ok-choose.ensures in
-    absurd (still_unspelled g.D.Disk c.args.disk.now c.choose.new.disk chosen.reads (chosen.current told) (chosen.has told) none (c.in_ok-restarted.ensures.spelled told))
+    absurd (still_unspelled g.D.Disk c.args.disk.now c.choose.new.disk chosen.reads (chosen.current told).0 (chosen.current told).1 none (c.in_ok-restarted.ensures.spelled told))

@@ -1,4 +1,4 @@
-use Rattle.std.proofs.Common.{◌≡◌, ◌≢◌, ◌≤◌, sym, ◌∙◌, ap, subst}
+use Rattle.std.proofs.Common.{rules, ◌≡◌, ◌≢◌, ◌≤◌, sym, ◌∙◌, ap, subst}
 use Rattle.im_base_types.specs.declared.fault.Fault.TheVariants.{Capacity, Memory, NotAStore}
 use Rattle.im_base_types.specs.declared.file_id.FileId.TheVariants.{Log}
 use Rattle.im_log_gate.specs.Header.{least_number}
@@ -89,8 +89,13 @@ returns-in_err-applied-clause-outcome g c =
 pub returns-clause-outcome : goal.returns-clause-outcome
 returns-clause-outcome g c = record { ends = c.in_ok-applied.ensures.outcome.ends.alive }
 
-pub returns-clause-pool : goal.returns-clause-pool
-returns-clause-pool g c = c.in_ok-applied.ensures.outcome.frames ∙ ap (λ (w : PageWriter). w.pool.frames) c.expect.ensures ∙ frames_opened c.in_ok-writer.writer c.args.frames c.in_ok-writer.ensures.pool
+pub returns-clause-restarted : goal.returns-clause-restarted
+returns-clause-restarted g c = record {
+  ready = search rules;
+  works = search rules;
+  pool = c.in_ok-applied.ensures.outcome.frames ∙ ap (λ (w : PageWriter). w.pool.frames) c.expect.ensures ∙ frames_opened c.in_ok-writer.writer c.args.frames c.in_ok-writer.ensures.pool;
+  least = search rules;
+}
 
 pub returns-in_err-writer-clause-used_up : goal.returns-in_err-writer-clause-used_up
 returns-in_err-writer-clause-used_up g c b base all may pages other is =

@@ -15,7 +15,7 @@ use Rattle.im_theory_tree.specs.Theory.{page_tree}
 use Rattle.im_theory_tree.proofs.TheoryLaws.{page_tree_laws}
 use Rattle.im_restart_analysis.proofs.CountedPages.{names_within, noted_within}
 use Rattle.im_restart.specs.Restart.{MayRedo, MayRestart, RunsOut}
-use Rattle.im_restart.proofs.Ends.{opens_read, opens_refused, read_cause}
+use Rattle.im_restart.proofs.Ends.{file_causes, opens_read, opens_refused, read_cause}
 use Rattle.im_restart.proofs.Openings.{holds_if_ok}
 use Rattle.im_restart.proofs.Restarts.{found_read, left_reading, log_over, log_synced, opened_behind, pages_read}
 use Rattle.im_restart.proofs.Steps.{left_then}
@@ -24,7 +24,7 @@ use Rattle.im_restart.proofs.open_store.restart_tested.Goals as goal
 pub returns-in_err-check_file-clause-outcome : goal.returns-in_err-check_file-clause-outcome
 returns-in_err-check_file-clause-outcome g c =
     let e = c.in_err-check_file.ensures in
-    opens_refused g.D.Disk c.from_residual.result c.from_residual.ensures.1 (opens_read g.D.Disk _ c.in_err-check_file.field-0.0 refl (inr e.causes) e.device)
+    opens_refused g.D.Disk c.from_residual.result c.from_residual.ensures.1 (opens_read g.D.Disk _ c.in_err-check_file.field-0.0 refl (file_causes c.in_err-check_file.field-0.0 e.outcome.answers.causes) e.outcome.answers.device)
 
 pub returns-in_err-check_file-clause-kept : goal.returns-in_err-check_file-clause-kept
 returns-in_err-check_file-clause-kept g c b base all may pages other is =
@@ -36,7 +36,7 @@ returns-in_err-check_file-clause-kept g c b base all may pages other is =
     let sound = c.in_err-check_file.ensures.sound b all is.log.tells (rises b page_tree all may.lawful) over may.has.covers is.last is.analysis.copies within in
     record {
       sound = sound_on c.from_residual.result _ _ c.from_residual.ensures.1 sound;
-      stops = left_reading d b base all old c.check_file.new.disk (g.met.D.Disk.only_now old) (log_synced d b base all log old c.requires.ready c.requires.usable) pages other may.has may.lawful c.in_err-check_file.ensures.reads;
+      stops = left_reading d b base all old c.check_file.new.disk (g.met.D.Disk.only_now old) (log_synced d b base all log old c.requires.ready c.requires.usable) pages other may.has may.lawful c.in_err-check_file.ensures.outcome.reads;
     }
 
 pub returns-in_err-check_file-clause-redoes : goal.returns-in_err-check_file-clause-redoes
@@ -50,15 +50,15 @@ restart-requires-clause-ready g c =
     let d = g.D.Disk in
     let mid = c.check_file.new.disk in
     let e = c.in_ok-check_file.ensures in
-    let alive : d.failed mid ≡ false = still_working (d.failed mid) (λ lost. let clash = e.device.1 lost in let never : ⊥ = cc clash in never) in
-    open_spared d c.args.found.log c.args.disk.now mid (spares_reads d Log c.args.disk.now mid e.reads) alive c.requires.ready
+    let alive : d.failed mid ≡ false = still_working (d.failed mid) (λ lost. let clash = e.outcome.answers.device.1 lost in let never : ⊥ = cc clash in never) in
+    open_spared d c.args.found.log c.args.disk.now mid (spares_reads d Log c.args.disk.now mid e.outcome.reads) alive c.requires.ready
 
 pub returns-clause-kept : goal.returns-clause-kept
 returns-clause-kept g c b base all may pages other is =
     let d = g.D.Disk in
     let old = c.args.disk.now in
     let mid = c.check_file.new.disk in
-    let reads = c.in_ok-check_file.ensures.reads in
+    let reads = c.in_ok-check_file.ensures.outcome.reads in
     let again = subst (λ (f : Files). MayRestart b base all f) (sym reads.seen) may in
     let r = c.restart.ensures.kept b base all again (pages_read d b base all old mid reads pages) (only_reads d Log2 old mid reads other) (found_read d b base all c.args.found old mid reads is) in
     let number : least_number (d.seen mid Log) ≡ least_number (d.seen old Log) = ap (λ (f : Files). least_number (f Log)) reads.seen in
@@ -73,20 +73,20 @@ returns-clause-redoes g c b base all may pages other is =
     let d = g.D.Disk in
     let old = c.args.disk.now in
     let mid = c.check_file.new.disk in
-    let reads = c.in_ok-check_file.ensures.reads in
+    let reads = c.in_ok-check_file.ensures.outcome.reads in
     let again = subst (λ (f : Files). MayRedo b base all f) (sym reads.seen) may in
     c.restart.ensures.redoes b base all again (pages_read d b base all old mid reads pages) (only_reads d Log2 old mid reads other) (found_read d b base all c.args.found old mid reads is)
 
 pub returns-in_err-check_file-clause-used_up : goal.returns-in_err-check_file-clause-used_up
 returns-in_err-check_file-clause-used_up g c b base all may pages other is =
-    err_on c.from_residual.result c.in_err-check_file.field-0.0 (λ e. e ≡ Capacity → RunsOut b all) c.from_residual.ensures.1 (λ full. read_cause c.in_err-check_file.field-0.0 (inr c.in_err-check_file.ensures.causes) full)
+    err_on c.from_residual.result c.in_err-check_file.field-0.0 (λ e. e ≡ Capacity → RunsOut b all) c.from_residual.ensures.1 (λ full. read_cause c.in_err-check_file.field-0.0 (file_causes c.in_err-check_file.field-0.0 c.in_err-check_file.ensures.outcome.answers.causes) full)
 
 pub returns-clause-used_up : goal.returns-clause-used_up
 returns-clause-used_up g c b base all may pages other is =
     let d = g.D.Disk in
     let old = c.args.disk.now in
     let mid = c.check_file.new.disk in
-    let reads = c.in_ok-check_file.ensures.reads in
+    let reads = c.in_ok-check_file.ensures.outcome.reads in
     let again = subst (λ (f : Files). MayRestart b base all f) (sym reads.seen) may in
     c.restart.ensures.used_up b base all again (pages_read d b base all old mid reads pages) (only_reads d Log2 old mid reads other) (found_read d b base all c.args.found old mid reads is)
 

@@ -16,9 +16,9 @@ use Rattle.im_restart.proofs.read_log.read_all.Goals as goal
 
 pub loop-changes-preserved : goal.loop-changes-preserved
 loop-changes-preserved g c = record {
-  begun = c.next.ensures.begun;
-  reads = reads_then g.D.Disk c.args.disk.now c.loop-changes.disk c.next.new.disk c.loop-changes.invariant.reads c.next.ensures.reads;
-  working = c.in_ok-next.ensures.failed;
+  begun = c.next.ensures.outcome.begun;
+  reads = reads_then g.D.Disk c.args.disk.now c.loop-changes.disk c.next.new.disk c.loop-changes.invariant.reads c.next.ensures.outcome.reads;
+  working = c.in_ok-next.ensures.outcome.failed;
   whole = λ all. c.in_ok-drop_changes-in-Some.ensures.whole all ∙ c.in_ok-note-in-Some.ensures.start ∙ c.loop-changes.invariant.whole all;
   kept = λ base all start taken low some. (
       let h = c.loop-changes.invariant.kept base all start taken low some in
@@ -70,7 +70,7 @@ returns-clause-kept g c base all start taken low some =
     let whole = subst (λ (l : History). IsAnalysed c.args.least c.args.pages l c.loop-changes.analysis × AreChanges l c.loop-changes.changes) e.all_read (h.2, h.3) in
     let analysis = c.finish-analysed.ensures c.args.least c.args.pages all whole.0 in
     let parts = c.in_ok-last.ensures.kept (c.reaches.ensures.0 (search rules)) all whole.1 in
-    let seen = c.next.ensures.reads.seen ∙ c.loop-changes.invariant.reads.seen in
+    let seen = c.next.ensures.outcome.reads.seen ∙ c.loop-changes.invariant.reads.seen in
     let number : c.args.least ≡ least_number (g.D.Disk.seen c.next.new.disk Log) = low ∙ sym (ap (λ (f : Files). least_number (f Log)) seen) in
     record {
       ok = record {
@@ -87,14 +87,14 @@ pub returns-clause-spelled : goal.returns-clause-spelled
 returns-clause-spelled g c base start =
     let h = c.loop-changes.invariant.back base start in
     let e = none_read g.D.Disk base h.0 c.next.new.self c.next.new.disk c.in_ok-next.field-0 c.in-None.is (c.in_ok-next.ensures.reads_on base h.0 h.1) in
-    let seen = c.next.ensures.reads.seen ∙ c.loop-changes.invariant.reads.seen in
+    let seen = c.next.ensures.outcome.reads.seen ∙ c.loop-changes.invariant.reads.seen in
     (h.0, has_read g.D.Disk base h.0 c.next.new.self c.args.disk.now c.next.new.disk seen e, λ readable. (h.2 readable).0)
 
 pub returns-then-not-reaches-clause-spelled : goal.returns-then-not-reaches-clause-spelled
 returns-then-not-reaches-clause-spelled g c base start =
     let h = c.loop-changes.invariant.back base start in
     let e = none_read g.D.Disk base h.0 c.next.new.self c.next.new.disk c.in_ok-next.field-0 c.in-None.is (c.in_ok-next.ensures.reads_on base h.0 h.1) in
-    let seen = c.next.ensures.reads.seen ∙ c.loop-changes.invariant.reads.seen in
+    let seen = c.next.ensures.outcome.reads.seen ∙ c.loop-changes.invariant.reads.seen in
     (h.0, has_read g.D.Disk base h.0 c.next.new.self c.args.disk.now c.next.new.disk seen e, λ readable. (h.2 readable).0)
 
 pub returns-then-not-reaches-clause-whole : goal.returns-then-not-reaches-clause-whole

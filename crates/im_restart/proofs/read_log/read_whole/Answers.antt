@@ -13,11 +13,8 @@ returns-in-Some-clause-kept g c base all told is bare taken =
     let k = c.in_ok-found.ensures.kept base all told is bare taken in
     record { ok = subst (λ (o : Option Found). IfSome o (λ f. IsFound g.D.Disk base all f c.read_log.new.disk)) c.in-Some.is k.ok.1; stops = k.stops; cause = search rules }
 
-pub returns-in-Some-clause-alike : goal.returns-in-Some-clause-alike
-returns-in-Some-clause-alike g c = c.in_ok-found.ensures.again.alike
-
-pub returns-in-Some-clause-store : goal.returns-in-Some-clause-store
-returns-in-Some-clause-store g c = c.in_ok-found.ensures.again.store
+pub returns-in-Some-clause-had : goal.returns-in-Some-clause-had
+returns-in-Some-clause-had g c = c.in_ok-found.ensures.again.had
 
 pub returns-in-None-clause-kept : goal.returns-in-None-clause-kept
 returns-in-None-clause-kept g c base all told is bare taken =

@@ -1,12 +1,13 @@
 use Rattle.std.proofs.Common.{refl, ap}
 use Rattle.im_base_disk.specs.declared.count.Count.{Count}
-use Rattle.im_engine.proofs.DiskReads.{copy_kept, same_reads}
+use Rattle.im_engine.proofs.DiskReads.{same_reads, still_as}
 use Rattle.im_engine.proofs.copying.Engine+Mirrored+D+T.begin_copy.Goals as goal
 
-pub returns-clause-only : goal.returns-clause-only
-returns-clause-only g c =
+pub returns-clause-still : goal.returns-clause-still
+returns-clause-still g c =
     let r = same_reads g.D.Disk c.args.self.now.disk.disk c.begin.new.self.disk c.begin.ensures.disk in
-    record {
+    still_as _ c.args.self.now _
+    (record {
       reads = record {
         seen = r.seen;
         outcomes = r.outcomes;
@@ -26,8 +27,5 @@ returns-clause-only g c =
       failed = refl;
       stepped = refl;
       under = refl;
-    }
-
-pub returns-clause-kept : goal.returns-clause-kept
-returns-clause-kept g c before s v life =
-    copy_kept _ before s v c.args.self.now _ (returns-clause-only g c) (λ f left. g.met.D.Disk.only_now c.args.self.now.disk.disk f left) life
+    })
+    (λ f left. g.met.D.Disk.only_now c.args.self.now.disk.disk f left)

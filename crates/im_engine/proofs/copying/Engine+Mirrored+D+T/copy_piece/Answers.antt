@@ -1,12 +1,13 @@
 use Rattle.std.proofs.Common.{refl, ap}
 use Rattle.im_base_disk.specs.declared.count.Count.{Count}
-use Rattle.im_engine.proofs.DiskReads.{copy_kept}
+use Rattle.im_engine.proofs.DiskReads.{still_as}
 use Rattle.im_engine.proofs.copying.Engine+Mirrored+D+T.copy_piece.Goals as goal
 
-pub returns-clause-only : goal.returns-clause-only
-returns-clause-only g c =
-    let r = c.next_piece.ensures.reads in
-    record {
+pub returns-clause-still : goal.returns-clause-still
+returns-clause-still g c =
+    let r = c.next_piece.ensures.store.reads in
+    still_as _ c.args.self.now _
+    (record {
       reads = record {
         seen = r.seen;
         outcomes = r.outcomes;
@@ -14,10 +15,10 @@ returns-clause-only g c =
         later = r.later;
         since = r.since;
         keeps = r.keeps;
-        writes = ap (λ (n : Count). n.count) c.next_piece.ensures.counts.0;
-        syncs = ap (λ (n : Count). n.count) c.next_piece.ensures.counts.1;
+        writes = ap (λ (n : Count). n.count) c.next_piece.ensures.store.counts.0;
+        syncs = ap (λ (n : Count). n.count) c.next_piece.ensures.store.counts.1;
       };
-      device = c.next_piece.ensures.failed;
+      device = c.next_piece.ensures.store.failed;
       writer = refl;
       max_pages = refl;
       report = refl;
@@ -26,24 +27,15 @@ returns-clause-only g c =
       failed = refl;
       stepped = refl;
       under = refl;
-    }
-
-pub returns-clause-kept : goal.returns-clause-kept
-returns-clause-kept g c before s v life =
-    copy_kept _ before s v c.args.self.now _ (returns-clause-only g c) (λ f left. g.met.D.Disk.only_now c.args.self.now.disk.disk f left) life
+    })
+    (λ f left. g.met.D.Disk.only_now c.args.self.now.disk.disk f left)
 
 -- what the disk says of the piece
 pub returns-clause-none : goal.returns-clause-none
 returns-clause-none g c = c.next_piece.ensures.none
 
-pub returns-clause-same : goal.returns-clause-same
-returns-clause-same g c = c.next_piece.ensures.same
-
 pub returns-clause-last : goal.returns-clause-last
-returns-clause-last g c = c.next_piece.ensures.last
+returns-clause-last g c = c.next_piece.ensures.ends.last
 
-pub returns-clause-more : goal.returns-clause-more
-returns-clause-more g c = c.next_piece.ensures.more
-
-pub returns-clause-gone : goal.returns-clause-gone
-returns-clause-gone g c = c.next_piece.ensures.gone
+pub returns-clause-next : goal.returns-clause-next
+returns-clause-next g c = record { same = c.next_piece.ensures.ends.same; more = c.next_piece.ensures.more; gone = c.next_piece.ensures.gone }

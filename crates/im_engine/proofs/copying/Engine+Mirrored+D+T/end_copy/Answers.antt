@@ -1,12 +1,13 @@
 use Rattle.std.proofs.Common.{refl, ap}
 use Rattle.im_base_disk.specs.declared.count.Count.{Count}
-use Rattle.im_engine.proofs.DiskReads.{copy_kept}
+use Rattle.im_engine.proofs.DiskReads.{still_as, whole_copy}
 use Rattle.im_engine.proofs.copying.Engine+Mirrored+D+T.end_copy.Goals as goal
 
-pub returns-clause-only : goal.returns-clause-only
-returns-clause-only g c =
-    let r = c.finish.ensures.reads in
-    record {
+pub returns-clause-still : goal.returns-clause-still
+returns-clause-still g c =
+    let r = c.finish.ensures.store.reads in
+    still_as _ c.args.self.now _
+    (record {
       reads = record {
         seen = r.seen;
         outcomes = r.outcomes;
@@ -14,10 +15,10 @@ returns-clause-only g c =
         later = r.later;
         since = r.since;
         keeps = r.keeps;
-        writes = ap (λ (n : Count). n.count) c.finish.ensures.counts.0;
-        syncs = ap (λ (n : Count). n.count) c.finish.ensures.counts.1;
+        writes = ap (λ (n : Count). n.count) c.finish.ensures.store.counts.0;
+        syncs = ap (λ (n : Count). n.count) c.finish.ensures.store.counts.1;
       };
-      device = c.finish.ensures.failed;
+      device = c.finish.ensures.store.failed;
       writer = refl;
       max_pages = refl;
       report = refl;
@@ -26,15 +27,20 @@ returns-clause-only g c =
       failed = refl;
       stepped = refl;
       under = refl;
-    }
-
-pub returns-clause-kept : goal.returns-clause-kept
-returns-clause-kept g c before s v life =
-    copy_kept _ before s v c.args.self.now _ (returns-clause-only g c) (λ f left. g.met.D.Disk.only_now c.args.self.now.disk.disk f left) life
+    })
+    (λ f left. g.met.D.Disk.only_now c.args.self.now.disk.disk f left)
 
 -- what the disk says of the copy
-pub returns-clause-taken : goal.returns-clause-taken
-returns-clause-taken g c = c.finish.ensures.taken
+pub returns-clause-whole : goal.returns-clause-whole
+returns-clause-whole g c =
+    whole_copy c.finish.result _ _ _ _ c.finish.ensures.copied c.finish.ensures.synced c.finish.ensures.handed
+    (λ to copied synced handed. record {
+      copied = copied;
+      allowed = λ before s v tells told life. life.stops (g.T.Disk.seen to) (c.finish.ensures.store.reads.outcomes (g.T.Disk.seen to) (handed.left tells told));
+      synced = synced;
+      working = handed.working;
+      taken = handed.taken;
+    })
 
 pub returns-clause-none : goal.returns-clause-none
 returns-clause-none g c = c.finish.ensures.none

@@ -4,11 +4,11 @@ pub returns-clause-copied : goal.returns-clause-copied
 returns-clause-copied g c =
     let is = c.copy_piece.ensures in
     record {
-      still = record { only = is.only; kept = is.kept };
+      still = is.still;
       none = is.none;
-      same = is.same;
+      same = is.next.same;
       last = is.last;
-      more = is.more;
-      gone = is.gone;
+      more = is.next.more;
+      gone = is.next.gone;
       refused = record { failed = is.failed; causes = is.causes };
     }
