@@ -11,7 +11,7 @@ use im_base_types::Fault;
 use im_engine::Config;
 use im_engine_upkeep::Bounds;
 use im_tool::{NoCopies, StoreEnd, store_text};
-use im_tool_files::{Cause, Causes, Opening};
+use im_tool_files::{Cause, Causes, Ending, Opening};
 use im_tool_user::Manner;
 use std::alloc::Global;
 use std::io::BufReader;
@@ -188,7 +188,7 @@ static RUNS: [Run; 12] = [
 ];
 
 // What a store on a disk answers to these lines, and how the run ended.
-fn answers<D: Disk + Cause + Opening + Drop, R: Threads + Sync>(
+fn answers<D: Disk + Cause + Opening + Ending + Drop, R: Threads + Sync>(
     rt: &R,
     alloc: Global,
     disk: D,

@@ -1,5 +1,5 @@
 //! Tests of the programs' work on a store that is open: what it answers to lines, in a folder and on the model disk; what is told of a load, and what it takes
-//! of the portable form; how much a next opening redoes; and the exit statuses.
+//! of the portable form; and the exit statuses.
 //!
 //! They are calls of what `im_tool` shows. What it tells of a store that is not open im_test_tool asks, which is proved beside this crate.
 #![tactic(auto)]
@@ -10,5 +10,3 @@ mod answered;
 mod loaded;
 #[cfg(test)]
 mod programs;
-#[cfg(test)]
-mod redo_kept;

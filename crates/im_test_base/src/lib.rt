@@ -3,6 +3,8 @@
 #![tactic(auto)]
 
 #[cfg(test)]
+mod cuts;
+#[cfg(test)]
 mod disk;
 #[cfg(test)]
 mod laws_at_one_leaf;

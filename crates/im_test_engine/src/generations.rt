@@ -63,14 +63,22 @@ fn a_log_goes_on_over_a_tree_that_has_split(rt: HostRuntime) -> Result<(), Fail>
     let pages = pages_of_many(&rt, alloc)?;
     assert!(rt; pages.len() == 4 * 4096);
     let mut engine = goes_on(&rt, alloc, pages)?;
-    let told = insert_last(&rt, alloc, &mut engine);
-    let next = opened_after_stop(&rt, alloc, &engine, Config::default());
+    let next = opened_with_one_more(&rt, alloc, &mut engine);
     end(engine);
-    told?;
     let mut again = next?;
     let told = look_again(&rt, alloc, &mut again);
     end(again);
     told
+}
+
+// What an opening makes of a stop after the last insert.
+fn opened_with_one_more<R: Abort + Threads + Sync>(
+    rt: &R,
+    alloc: Global,
+    engine: &mut Engine<Renamed<ModelDisk>>,
+) -> Result<Engine<Renamed<ModelDisk>>, Fail> {
+    insert_last(rt, alloc, engine)?;
+    Ok(opened_after_stop(rt, alloc, engine, Config::default())?)
 }
 
 // The new key lies in a page that neither the log nor its header says that there is.

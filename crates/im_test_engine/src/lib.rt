@@ -1,11 +1,17 @@
-//! Tests of the engine of many transactions: lives on the model disk, logs that go on, many transactions at once, devices that fail in the middle of a rollback,
+//! Tests of the engine of many transactions: lives on the model disk, in large pools too, a Checkpoint of many changed pages, logs that go on, many transactions at once, devices that fail in the middle of a rollback,
 //! and openings whose redo workers share. Threads that share one through a front are in im_test_threads, which is proved beside this crate.
 #![tactic(auto)]
 
 #[cfg(test)]
+mod by_chance;
+#[cfg(test)]
 mod generations;
 #[cfg(test)]
+mod large_pools;
+#[cfg(test)]
 mod lives;
+#[cfg(test)]
+mod long_lists;
 #[cfg(test)]
 mod many;
 #[cfg(test)]

@@ -6,7 +6,7 @@ use im_base_model_disk::ModelDisk;
 use im_base_steps::Step;
 use im_base_two_logs::{Renamed, TwoLogs};
 use im_base_types::{FileId, PageKind, PageNo};
-use im_engine::{BufferSize, Config, Engine, live};
+use im_engine::{BufferSize, Config, Engine, MoreFrames, live};
 use std::alloc::Global;
 use std::process::Abort;
 use std::test::Fail;
@@ -157,6 +157,7 @@ fn a_thousand_keys_come_and_go(rt: HostRuntime) -> Result<(), Fail> {
     let alloc = rt.alloc();
     let config = Config {
         frames: 8,
+        more: MoreFrames::NONE,
         max_pages: 100,
         buffer: BufferSize::ONE,
         stepped: false,

@@ -6,7 +6,7 @@ use im_base_model_disk::ModelDisk;
 use im_base_steps::Step;
 use im_base_two_logs::{Renamed, TwoLogs};
 use im_base_types::LONGEST_KEY;
-use im_engine::{BufferSize, Config, Engine};
+use im_engine::{BufferSize, Config, Engine, MoreFrames};
 use std::alloc::Global;
 use std::test::Fail;
 use std::thread::Threads;
@@ -69,6 +69,7 @@ fn go_on<D: TwoLogs>(engine: &mut Engine<D>) -> (u64, Said) {
 fn few_frames() -> Config {
     Config {
         frames: 8,
+        more: MoreFrames::NONE,
         max_pages: 1_000,
         buffer: BufferSize::ONE,
         stepped: false,

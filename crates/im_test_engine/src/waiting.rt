@@ -4,7 +4,7 @@ use crate::said::{Said, created, end, make};
 use im_base_model_disk::ModelDisk;
 use im_base_steps::Step;
 use im_base_two_logs::Renamed;
-use im_engine::{BufferSize, Config, Engine};
+use im_engine::{BufferSize, Config, Engine, MoreFrames};
 use std::alloc::Global;
 use std::process::Abort;
 use std::test::Fail;
@@ -20,6 +20,7 @@ fn key_of(alloc: Global, byte: u8) -> Result<Vec<u8>, Fail> {
 fn grouped<R: Threads + Sync>(rt: &R, alloc: Global) -> Result<Engine<Renamed<ModelDisk>>, Fail> {
     let config = Config {
         frames: 64,
+        more: MoreFrames::NONE,
         max_pages: 1_000,
         buffer: BufferSize::ONE,
         stepped: false,

@@ -4,9 +4,7 @@ use crate::said::{end, opened};
 use im_base_model_disk::ModelDisk;
 use im_base_steps::{Reply, Step};
 use im_base_two_logs::Renamed;
-use im_base_types::{
-    Fault, FileId, Key, LONGEST_KEY, MOST_DIRTY, PAGE_SIZE, PageKind, PageNo, Rid,
-};
+use im_base_types::{Fault, FileId, Key, LONGEST_KEY, PAGE_SIZE, PageKind, PageNo, Rid};
 use im_engine::{Config, Engine};
 use std::alloc::Global;
 use std::test::Fail;
@@ -101,7 +99,7 @@ struct Came {
 
 // Writes each page that lacks changes in its file.
 fn write_all(engine: &mut Engine<Renamed<ModelDisk>>) {
-    for _ in 0..MOST_DIRTY {
+    for _ in 0..engine.dirty_count() {
         let Some(change) = engine.oldest_change() else {
             return;
         };

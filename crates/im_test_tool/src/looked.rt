@@ -54,6 +54,7 @@ pub(crate) fn answered<R: Threads + Sync>(
     alloc: Global,
     disk: FileDisk,
     bounds: Bounds,
+    manner: Manner,
     lines: &[u8],
 ) -> io::Result<(Vec<u8>, Vec<u8>)>
     requires working { ⟦<FileDisk as Disk>⟧.failed disk ≡ false }
@@ -71,7 +72,7 @@ pub(crate) fn answered<R: Threads + Sync>(
         Renamed::new(disk, false),
         Config::default(),
         bounds,
-        Manner::default(),
+        manner,
         &mut reader,
         &mut printed,
         &mut causes,
@@ -89,7 +90,36 @@ pub(crate) fn fill_within<R: Threads + Sync>(
     lines: &[u8],
 ) -> Result<(), Fail> {
     let disk = FileDisk::open(rt, folder)?;
-    let _told = answered(threads, rt.alloc(), disk, bounds, lines)?;
+    let _told = answered(threads, rt.alloc(), disk, bounds, Manner::default(), lines)?;
+    Ok(())
+}
+
+// A manner in which a line that is refused ends the run, and the store is not closed.
+const BATCH: Manner = Manner {
+    has_words: false,
+    has_prompt: false,
+    is_batch: true,
+    is_read: false,
+};
+
+// Makes the steps of these lines in the store of a folder, without bounds, and leaves it as a stop does: the last line is none.
+pub(crate) fn leave<R: Threads + Sync>(
+    rt: &HostRuntime,
+    threads: &R,
+    folder: &str,
+    lines: &[u8],
+) -> Result<(), Fail> {
+    let disk = FileDisk::open(rt, folder)?;
+    let mut all = Vec::from_slice(rt.alloc(), lines)?;
+    all.extend_from_slice(b"stop\n")?;
+    let _told = answered(
+        threads,
+        rt.alloc(),
+        disk,
+        Bounds::of_bytes(0, 0),
+        BATCH,
+        &all,
+    )?;
     Ok(())
 }
 

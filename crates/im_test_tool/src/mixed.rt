@@ -8,6 +8,7 @@ use im_base_two_logs::Renamed;
 use im_base_types::{Fault, PAGE_SIZE};
 use im_engine::{Config, Engine};
 use im_engine_upkeep::Bounds;
+use im_tool_user::Manner;
 use std::alloc::Global;
 use std::io::Write;
 use std::process::Abort;
@@ -166,6 +167,7 @@ fn is_failing<R: Threads + Sync>(
         rt.alloc(),
         disk,
         Bounds::of_bytes(1_048_576, 0),
+        Manner::default(),
         lines,
     )?;
     Ok(

@@ -1,7 +1,7 @@
 //! A look at a store whose log goes on in the other file, and at logs of which one is damaged.
 
 use crate::copies::{Copies, copied, file_in, is_whole, lay, said_of, taken_from};
-use crate::looked::{fill, numbers_of};
+use crate::looked::{fill, leave, numbers_of};
 use crate::mixed::has_part;
 use im_base_file_disk::FileDisk;
 use im_base_types::{Fault, PAGE_SIZE};
@@ -42,7 +42,7 @@ fn write_keys(lines: &mut Vec<u8>, n: u64, keys: Keys) -> io::Result<()> {
     }
 }
 
-// Makes such a store.
+// Makes such a store, which is not closed: a close cuts the log that was left.
 fn make_store<R: Threads + Sync>(
     rt: &HostRuntime,
     threads: &R,
@@ -53,7 +53,7 @@ fn make_store<R: Threads + Sync>(
     let _ = fs::remove_dir_all(rt, folder);
     let mut lines = Vec::new(rt.alloc());
     write_lines(&mut lines, switches, keys)?;
-    fill(rt, threads, folder, &lines)
+    leave(rt, threads, folder, &lines)
 }
 
 // What is told of a store after so many switches: its current log, and how many commits that has.

@@ -1,0 +1,13 @@
+//! Tests of stores that are open, over the model disk and in folders: what an opening redoes and reads within bounds, a log of the first format is left, a log
+//! that is long is cut, a step or upkeep that fails, an end while something is active, and a folder that is held, is not there, or cannot be. After each the
+//! store works on, or an opening finds what was committed.
+//!
+//! No test asks for a second end: `close` takes the store, so that none can be written.
+#![tactic(auto)]
+
+#[cfg(test)]
+mod bounded;
+#[cfg(test)]
+mod folders;
+#[cfg(test)]
+mod stores;
