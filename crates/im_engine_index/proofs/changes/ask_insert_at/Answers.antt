@@ -51,4 +51,4 @@ pub returns-clause-at : goal.returns-clause-at
 returns-clause-at g c = granted_as (λ (x : Place). IsAt c.next_in_leaf.new.writer.pool x.leaf) c.outcome_of.result _ c.outcome_of.ensures.value c.in_ok-leaf.ensures.at
 
 pub returns-clause-leaf : goal.returns-clause-leaf
-returns-clause-leaf g c = granted_as (λ (x : Place). HasLevel 0 (page_at c.next_in_leaf.new.writer.pool x.leaf.number).body) c.outcome_of.result _ c.outcome_of.ensures.value c.in_ok-leaf.ensures.leaf
+returns-clause-leaf g c = granted_as (λ (x : Place). HasLevel 0 (page_at c.next_in_leaf.new.writer.pool x.leaf.number).body) c.outcome_of.result _ c.outcome_of.ensures.value c.in_ok-leaf.ensures.leaf.level
