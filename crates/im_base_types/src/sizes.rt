@@ -30,7 +30,7 @@ pub const LAST_TRANSACTION: u64 = 1 << 62;
 /// How many transactions are active at most.
 pub const MOST_ACTIVE: usize = 64;
 
-/// How many pages the dirty table has at most.
+/// How many pages a Checkpoint lists at most, and for how many the dirty table has room at least.
 pub const MOST_DIRTY: usize = 1_024;
 
 /// How many frames a pool has at least.
