@@ -228,7 +228,13 @@ fn upkeep_that_is_refused_is_told(rt: HostRuntime) -> Result<(), Fail> {
     let made = calls(&store);
     end(store);
     // The four calls of the commit come after those of the opening.
-    store = opened(&rt, alloc, &FIRST, made + 5, Bounds::default())?;
+    store = opened(
+        &rt,
+        alloc,
+        &FIRST,
+        made.saturating_add(5),
+        Bounds::default(),
+    )?;
     let told = switch_fails(&rt, alloc, &mut store);
     let left = closed(&rt, alloc, store);
     told?;
