@@ -1,4 +1,4 @@
-ghost use Rattle.std.specs.Prelude.{◌≡◌, ◌≢◌, ◌+◌, ◌≤◌, List, ℕ, Bool, false, length, take, drop, IfOk, OnOk};
+ghost use Rattle.std.specs.Prelude.{◌≡◌, ◌≢◌, ◌+◌, ◌≤◌, ℕ, Bool, false, length, take, drop, IfOk, OnOk};
 ghost use Rattle.im_base_types.specs.declared.file_id.FileId.{FileId};
 ghost use Rattle.im_base_disk.specs.Disk.{Files, Only, Follows, InFile, Holds, Torn, Elapses, OnlyReads, Answers, Calls};
 

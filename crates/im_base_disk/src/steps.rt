@@ -1,5 +1,5 @@
 //! The steps of which the protocols above are made. No other function of the store calls a disk to write.
-ghost use Rattle.std.specs.Prelude.{◌≡◌, ◌+◌, ◌^◌, ◌≤◌, ◌<◌, ◌⊎◌, ◌↔◌, true, false, length, take, drop, IfOk, IfErr, OnOk};
+ghost use Rattle.std.specs.Prelude.{◌≡◌, ◌+◌, ◌≤◌, ◌<◌, ◌⊎◌, ◌↔◌, true, false, length, take, drop, IfOk, IfErr, OnOk};
 ghost use Rattle.im_base_disk.specs.Disk.{Files, Only, Stepped, Follows, InFile, Holds, Torn, Answers};
 ghost use Rattle.im_base_disk.specs.Runs.{LeavesOnly, ChangesOnly, Reads, Costs};
 ghost use Rattle.im_base_disk.specs.Ends.{CostsUpTo, WritesIn};

@@ -23,27 +23,27 @@ pub record HasOwnDescriptors (disk : FileDisk) : Type 0 where
   pub log2 : IfSome disk.log2 IsApart
 
 -- Nor has one of those that were found.
-abbrev pub AreApart : Found → Type 0
-AreApart found = IfSome found.log2 IsApart × IfSome found.pages IsApart
+abbrev pub FoundAreApart : Found → Type 0
+FoundAreApart found = IfSome found.log2 IsApart × IfSome found.pages IsApart
 
 -- the refusal that stands for an error of an opening
-abbrev pub fault_of : OpenError → Fault
-fault_of (NotAFile name) = NotAStore
-fault_of (NoFile name) = NotAStore
-fault_of NoOtherLog = NotAStore
-fault_of NoPages = NotAStore
-fault_of ShortPages = NotAStore
-fault_of OlderPages = NotAStore
-fault_of (NotALog name) = NotAStore
-fault_of Unfinished = NotAStore
-fault_of NotEmpty = Device
-fault_of Locked = LockedFault
-fault_of NoMemory = Memory
-fault_of (NoFolder error) = Device
-fault_of NotAFolder = Device
-fault_of (Denied error) = Device
-fault_of NoDescriptor = Device
-fault_of (System error) = Device
+abbrev pub fault_of_opening : OpenError → Fault
+fault_of_opening (NotAFile name) = NotAStore
+fault_of_opening (NoFile name) = NotAStore
+fault_of_opening NoOtherLog = NotAStore
+fault_of_opening NoPages = NotAStore
+fault_of_opening ShortPages = NotAStore
+fault_of_opening OlderPages = NotAStore
+fault_of_opening (NotALog name) = NotAStore
+fault_of_opening Unfinished = NotAStore
+fault_of_opening NotEmpty = Device
+fault_of_opening Locked = LockedFault
+fault_of_opening NoMemory = Memory
+fault_of_opening (NoFolder error) = Device
+fault_of_opening NotAFolder = Device
+fault_of_opening (Denied error) = Device
+fault_of_opening NoDescriptor = Device
+fault_of_opening (System error) = Device
 
 -- whether an error is one of files that do not belong together, for this reason
 abbrev pub Says : OpenError → Apart → Type 0

@@ -1,7 +1,7 @@
 //! Real files. Nothing is told of their bytes.
-ghost use Rattle.std.specs.Prelude.{◌≡◌, ◌↔◌, ◌<◌, ◌^◌, [], true, false, IfOk, IfErr, IfSome, OnOk, Ok, Err, Some, is_err, option_map};
+ghost use Rattle.std.specs.Prelude.{◌≡◌, ◌<◌, ◌^◌, [], true, false, IfOk, IfErr, IfSome, OnOk, Ok, Err, Some, is_err, option_map};
 ghost use Rattle.im_base_types.specs.declared.fault.Fault.TheVariants.{Device};
-ghost use Rattle.im_base_file_disk.specs.RealFiles.{AreApart, IsApart, HasOwnDescriptors};
+ghost use Rattle.im_base_file_disk.specs.RealFiles.{FoundAreApart, IsApart, HasOwnDescriptors};
 
 use crate::folders::{make_folders, sync_folders};
 use crate::{DiskCall, DiskError, OpenError};
@@ -366,7 +366,7 @@ fn look(
     options: &OpenOptions,
     log: Option<&File>,
 ) -> Result<Found, OpenError>
-    ensures { IfOk result AreApart }
+    ensures { IfOk result FoundAreApart }
 {
     let log2 = open_if_made(rt, dir, "log2", options)?;
     let pages = open_if_made(rt, dir, "pages", options)?;

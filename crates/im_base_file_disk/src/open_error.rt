@@ -1,6 +1,6 @@
 //! Why a folder's files were not opened.
 ghost use Rattle.std.specs.Prelude.{◌≡◌};
-ghost use Rattle.im_base_file_disk.specs.RealFiles.{fault_of, Says};
+ghost use Rattle.im_base_file_disk.specs.RealFiles.{fault_of_opening, Says};
 
 use crate::disk_error::file_name;
 use im_base_guard::Apart;
@@ -67,7 +67,7 @@ pub enum OpenError {
 impl OpenError {
     /// The refusal: `NotAStore` where the folder has other files or none, `Locked`, `Memory`, and `Device` for all else.
     pub fn fault(&self) -> Fault
-        ensures { result ≡ fault_of self.now }
+        ensures { result ≡ fault_of_opening self.now }
     {
         match self {
             OpenError::NotAFile(_) => Fault::NotAStore,

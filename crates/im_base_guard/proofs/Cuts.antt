@@ -11,7 +11,7 @@ use Rattle.im_base_guard.specs.declared.folder.PagesFront.{PagesFront}
 use Rattle.im_base_guard.specs.declared.belonging.Logs.{Logs}
 use Rattle.im_base_guard.specs.declared.belonging.Apart.{Apart}
 use Rattle.im_base_guard.specs.declared.belonging.Apart.TheVariants.{Unfinished, NoFile, NoPages, ShortPages, NotALog}
-use Rattle.im_base_guard.specs.Fronts.{base_of, generation_of, number_at, says_made, says_second, BeginsWithChange, NamesChange}
+use Rattle.im_base_guard.specs.Fronts.{said_base, said_generation, said_number, front_says_made, front_says_second, BeginsWithChange, NamesChange}
 use Rattle.im_base_guard.specs.Belonging.{current, is_store, left, other_is_current, IsApart, IsVerdict, LacksCounted, LacksFirst}
 use Rattle.im_base_guard.specs.LogCuts.{cut_folder, cut_front, end_at, end_of, first_end, gone_of, has_batch_at, is_empty, kept_at, kept_of, log_cuts_of, shortened, size_at, was_left, AreRead, CutsAreSound}
 
@@ -28,8 +28,8 @@ pub record Alike (a b : Front) : Type 0 where
   pub there : b.is_there ≡ a.is_there
   pub first : slice_index b.bytes 0 ≡ slice_index a.bytes 0
   pub name : slice_index b.bytes 8 ≡ slice_index a.bytes 8
-  pub generation : number_at 16 b ≡ number_at 16 a
-  pub base : number_at 24 b ≡ number_at 24 a
+  pub generation : said_number 16 b ≡ said_number 16 a
+  pub base : said_number 24 b ≡ said_number 24 a
   pub gate : slice_index b.bytes 47 ≡ slice_index a.bytes 47
   pub long : (b.long ≡ a.long) ⊎ WereCut a b
 
@@ -73,33 +73,33 @@ module _ (a b : Front) (h : Alike a b) where
   ]
 
   -- one that was not made was not cut
-  unmade_longer : says_made a ≡ false → 48 < a.long → 48 < b.long
+  unmade_longer : front_says_made a ≡ false → 48 < a.long → 48 < b.long
   unmade_longer none more = elim h.long [
     | inl same ↦ omega (arith, same, more)
     | inr cut ↦ absurd (true≢false (sym (is_made cut) ∙ none))
   ]
     where
-      is_made : WereCut a b → says_made a ≡ true
+      is_made : WereCut a b → front_says_made a ≡ true
       is_made cut =
           let before = cut.before in
           ap (λ (t : Bool). t && (slice_index a.bytes 0 == 1)) (lt-ltb 1 a.long (omega (arith, before))) ∙ ap (λ (x : ℕ). x == 1) cut.made
 
-  made_same : says_made b ≡ says_made a
+  made_same : front_says_made b ≡ front_says_made a
   made_same = ap (λ (t : Bool). t && (slice_index b.bytes 0 == 1)) some ∙ ap (λ (x : ℕ). nat_lt 1 a.long && (x == 1)) h.first
 
-  second_same : says_second b ≡ says_second a
-  second_same = ap (λ (t : Bool). t && (slice_index b.bytes 8 == 50)) made_same ∙ ap (λ (x : ℕ). says_made a && (x == 50)) h.name
+  second_same : front_says_second b ≡ front_says_second a
+  second_same = ap (λ (t : Bool). t && (slice_index b.bytes 8 == 50)) made_same ∙ ap (λ (x : ℕ). front_says_made a && (x == 50)) h.name
 
-  generation_same : generation_of b ≡ generation_of a
+  generation_same : said_generation b ≡ said_generation a
   generation_same =
-      ap (λ (t : Bool). if t then number_at 16 b else (if says_made b then 1 else 0)) second_same
-      ∙ ap (λ (t : Bool). if says_second a then number_at 16 b else (if t then 1 else 0)) made_same
-      ∙ ap (λ (n : ℕ). if says_second a then n else (if says_made a then 1 else 0)) h.generation
+      ap (λ (t : Bool). if t then said_number 16 b else (if front_says_made b then 1 else 0)) second_same
+      ∙ ap (λ (t : Bool). if front_says_second a then said_number 16 b else (if t then 1 else 0)) made_same
+      ∙ ap (λ (n : ℕ). if front_says_second a then n else (if front_says_made a then 1 else 0)) h.generation
 
-  base_same : base_of b ≡ base_of a
+  base_same : said_base b ≡ said_base a
   base_same =
-      ap (λ (t : Bool). if t then number_at 24 b else 0) second_same
-      ∙ ap (λ (n : ℕ). if says_second a then n else 0) h.base
+      ap (λ (t : Bool). if t then said_number 24 b else 0) second_same
+      ∙ ap (λ (n : ℕ). if front_says_second a then n else 0) h.base
 
   begins : b.bytes ≡ a.bytes → BeginsWithChange a → BeginsWithChange b
   begins same change = (made_same ∙ change.0, subst (λ (l : List ℕ). NamesChange (record a { bytes = l })) (sym same) change.1)
@@ -124,12 +124,12 @@ one_of false a b c d x y = y
 -- the same log is the current one
 same_current : (f g : Folder) → Alike f.log g.log → Alike f.log2 g.log2 → other_is_current g ≡ other_is_current f
 same_current f g log log2 =
-    ap (λ (n : ℕ). nat_lt n (generation_of g.log2)) (generation_same f.log g.log log)
-    ∙ ap (λ (n : ℕ). nat_lt (generation_of f.log) n) (generation_same f.log2 g.log2 log2)
+    ap (λ (n : ℕ). nat_lt n (said_generation g.log2)) (generation_same f.log g.log log)
+    ∙ ap (λ (n : ℕ). nat_lt (said_generation f.log) n) (generation_same f.log2 g.log2 log2)
 
 module _ (f g : Folder) (h : AlikeFolders f g) where
   store_same : is_store g ≡ is_store f
-  store_same = ap (λ (t : Bool). t || says_made g.log2) (made_same f.log g.log h.log) ∙ ap (λ (t : Bool). says_made f.log || t) (made_same f.log2 g.log2 h.log2)
+  store_same = ap (λ (t : Bool). t || front_says_made g.log2) (made_same f.log g.log h.log) ∙ ap (λ (t : Bool). front_says_made f.log || t) (made_same f.log2 g.log2 h.log2)
 
   other_same : other_is_current g ≡ other_is_current f
   other_same = same_current f g h.log h.log2
@@ -137,20 +137,20 @@ module _ (f g : Folder) (h : AlikeFolders f g) where
   currents : Alike (current f) (current g)
   currents = subst (λ (t : Bool). Alike (current f) (if t then g.log2 else g.log)) (sym other_same) (one_of (other_is_current f) f.log2 g.log2 f.log g.log h.log2 h.log)
 
-  counted : LacksCounted (base_of (current f)) f.pages → LacksCounted (base_of (current g)) g.pages
+  counted : LacksCounted (said_base (current f)) f.pages → LacksCounted (said_base (current g)) g.pages
   counted lacks =
       subst (λ (at : ℕ). LacksCounted at g.pages) (sym (base_same (current f) (current g) currents))
-      (subst (λ (p : PagesFront). LacksCounted (base_of (current f)) p) (sym h.pages) lacks)
+      (subst (λ (p : PagesFront). LacksCounted (said_base (current f)) p) (sym h.pages) lacks)
 
-  first : LacksFirst (base_of (current f)) (left f) f.pages → LacksFirst (base_of (current g)) (left g) g.pages
+  first : LacksFirst (said_base (current f)) (left f) f.pages → LacksFirst (said_base (current g)) (left g) g.pages
   first lacks = (
     subst (λ (n : ℕ). 0 < n) (sym (base_same (current f) (current g) currents)) lacks.0,
     subst (λ (p : PagesFront). p.long / 4096 < 2) (sym h.pages) lacks.1,
     h.said.0 lacks.2,
   )
 
-  unmade : is_store f ≡ false → (says_made f.log ≡ false) × (says_made f.log2 ≡ false)
-  unmade none = or_parts (says_made f.log) (says_made f.log2) none
+  unmade : is_store f ≡ false → (front_says_made f.log ≡ false) × (front_says_made f.log2 ≡ false)
+  unmade none = or_parts (front_says_made f.log) (front_says_made f.log2) none
 
   apart_same : (why : Apart) → IsApart why f → IsApart why g
   apart_same Unfinished half = h.part ∙ half
@@ -176,11 +176,11 @@ verdict_same f g h (Err why) lacks = apart_same f g h why lacks
 
 -- It was made, has so much left, which is more than is read of it, and it was as long.
 pub record IsFar (kept : ℕ) (front : Front) : Type 0 where
-  pub made : says_made front ≡ true
+  pub made : front_says_made front ≡ true
   pub whole : 65 ≤ kept
   pub within : kept ≤ front.long
 
-first_byte : (front : Front) → says_made front ≡ true → slice_index front.bytes 0 ≡ 1
+first_byte : (front : Front) → front_says_made front ≡ true → slice_index front.bytes 0 ≡ 1
 first_byte front made = eqb-true (slice_index front.bytes 0) 1 (and_parts (nat_lt 1 front.long) (slice_index front.bytes 0 == 1) made).1
 
 far_same : (kept : ℕ) (front : Front) → length front.bytes ≡ 65 → IsFar kept front → (cut_front kept front).bytes ≡ front.bytes
@@ -199,7 +199,7 @@ far_alike kept front read far =
     (inr (record { made = first_byte front far.made; before = omega (arith, whole, within); after = omega (arith, whole) }))
 
 -- Where a batch stands after a gate it ends there; else nothing stays.
-kept_far : (gate : ℕ) (front : Front) → says_made front ≡ true → 31 ≤ gate → (kept_at gate front ≡ 0) ⊎ IsFar (kept_at gate front) front
+kept_far : (gate : ℕ) (front : Front) → front_says_made front ≡ true → 31 ≤ gate → (kept_at gate front ≡ 0) ⊎ IsFar (kept_at gate front) front
 kept_far gate front made low = elim (cases_Bool (has_batch_at gate front)) [
   | inr none ↦ inl (cond-false (has_batch_at gate front) (end_at gate front) 0 none)
   | inl there ↦ inr (is_far there)
@@ -216,14 +216,14 @@ kept_far gate front made low = elim (cases_Bool (has_batch_at gate front)) [
         subst (λ (k : ℕ). IsFar k front) (sym (cond-true (has_batch_at gate front) (end_at gate front) 0 there)) far
 
 first_far : (front : Front) → (first_end front ≡ 0) ⊎ IsFar (first_end front) front
-first_far front = elim (cases_Bool (says_second front)) [
-  | inl second ↦ by (kept_at 47 front) (cond-true (says_second front) (kept_at 47 front) (if says_made front then kept_at 31 front else 0) second)
-      (kept_far 47 front (and_parts (says_made front) (slice_index front.bytes 8 == 50) second).0 (omega arith))
-  | inr other ↦ elim (cases_Bool (says_made front)) [
+first_far front = elim (cases_Bool (front_says_second front)) [
+  | inl second ↦ by (kept_at 47 front) (cond-true (front_says_second front) (kept_at 47 front) (if front_says_made front then kept_at 31 front else 0) second)
+      (kept_far 47 front (and_parts (front_says_made front) (slice_index front.bytes 8 == 50) second).0 (omega arith))
+  | inr other ↦ elim (cases_Bool (front_says_made front)) [
     | inl made ↦ by (kept_at 31 front)
-        (cond-false (says_second front) (kept_at 47 front) (if says_made front then kept_at 31 front else 0) other ∙ cond-true (says_made front) (kept_at 31 front) 0 made)
+        (cond-false (front_says_second front) (kept_at 47 front) (if front_says_made front then kept_at 31 front else 0) other ∙ cond-true (front_says_made front) (kept_at 31 front) 0 made)
         (kept_far 31 front made (omega arith))
-    | inr none ↦ inl (cond-false (says_second front) (kept_at 47 front) (if says_made front then kept_at 31 front else 0) other ∙ cond-false (says_made front) (kept_at 31 front) 0 none)
+    | inr none ↦ inl (cond-false (front_says_second front) (kept_at 47 front) (if front_says_made front then kept_at 31 front else 0) other ∙ cond-false (front_says_made front) (kept_at 31 front) 0 none)
   ]
 ]
   where
@@ -241,7 +241,7 @@ module _ (front : Front) (read : length front.bytes ≡ 65) where
       ∙ get_or-take 48 front.bytes i 0 within
 
   -- and each number that ends within these
-  number_stays : (at more : ℕ) → at + more ≡ 48 → 8 ≤ more → number_at at (cut_front 48 front) ≡ number_at at front
+  number_stays : (at more : ℕ) → at + more ≡ 48 → 8 ≤ more → said_number at (cut_front 48 front) ≡ said_number at front
   number_stays at more ends room =
       let kept = length-take-le 48 front.bytes (omega (arith, read)) in
       let after = length-drop at (take 48 front.bytes) in
@@ -254,7 +254,7 @@ module _ (front : Front) (read : length front.bytes ≡ 65) where
       ∙ take-take 8 more (drop at front.bytes) room
       )
 
-  empty_alike : says_made front ≡ true → 48 < front.long → Alike front (cut_front 48 front)
+  empty_alike : front_says_made front ≡ true → 48 < front.long → Alike front (cut_front 48 front)
   empty_alike made more = record {
     there = refl;
     first = byte_stays 0 (omega arith);
@@ -292,7 +292,7 @@ shortened_same kept front cut = elim (cases_Bool (gone_of kept front == 0)) [
 -- It has no record, and its header and gate stay.
 pub record IsEmptied (end : ℕ) (front : Front) : Type 0 where
   pub is : end ≡ 48
-  pub second : says_second front ≡ true
+  pub second : front_says_second front ≡ true
   pub closed : slice_index front.bytes 47 ≡ 1 → ⊥
 
 module _ (f : Folder) where
@@ -311,10 +311,10 @@ module _ (f : Folder) where
   pub end_is_gate : (end_of f ≡ 0 → ⊥) → IsEmptied (end_of f) (current f)
   end_is_gate some = elim (cases_Bool (was_left f && is_empty (current f))) [
     | inr none ↦ absurd (some (cond-false (was_left f && is_empty (current f)) 48 0 none))
-    | inl there ↦ by there (and_parts (says_second (current f)) (not (slice_index (current f).bytes 47 == 1)) (and_parts (was_left f) (is_empty (current f)) there).1)
+    | inl there ↦ by there (and_parts (front_says_second (current f)) (not (slice_index (current f).bytes 47 == 1)) (and_parts (was_left f) (is_empty (current f)) there).1)
   ]
     where
-      by : (was_left f && is_empty (current f)) ≡ true → (says_second (current f) ≡ true) × (not (slice_index (current f).bytes 47 == 1) ≡ true) → IsEmptied (end_of f) (current f)
+      by : (was_left f && is_empty (current f)) ≡ true → (front_says_second (current f) ≡ true) × (not (slice_index (current f).bytes 47 == 1) ≡ true) → IsEmptied (end_of f) (current f)
       by there both = record {
         is = cond-true (was_left f && is_empty (current f)) 48 0 there;
         second = both.0;
@@ -348,7 +348,7 @@ module _ (f : Folder) (read : AreRead f) where
       cut : (end_of f ≡ 0 → ⊥) × (end_of f < (current f).long) → Alike (current f) (cut_front (end_of f) (current f))
       cut goes =
           let emptied = end_is_gate f goes.0 in
-          let made = (and_parts (says_made (current f)) (slice_index (current f).bytes 8 == 50) emptied.second).0 in
+          let made = (and_parts (front_says_made (current f)) (slice_index (current f).bytes 8 == 50) emptied.second).0 in
           subst (λ (n : ℕ). Alike (current f) (cut_front n (current f))) (sym emptied.is)
           (empty_alike (current f) (reads (other_is_current f)) made (subst (λ (n : ℕ). n < (current f).long) emptied.is goes.1))
 

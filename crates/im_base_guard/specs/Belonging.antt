@@ -8,15 +8,15 @@ use Rattle.im_base_guard.specs.declared.folder.PagesFront.{PagesFront}
 use Rattle.im_base_guard.specs.declared.belonging.Logs.{Logs}
 use Rattle.im_base_guard.specs.declared.belonging.Apart.{Apart}
 use Rattle.im_base_guard.specs.declared.belonging.Apart.TheVariants.{Unfinished, NoFile, NoPages, ShortPages, NotALog}
-use Rattle.im_base_guard.specs.Fronts.{base_of, generation_of, says_made, says_second, BeginsWithChange}
+use Rattle.im_base_guard.specs.Fronts.{said_base, said_generation, front_says_made, front_says_second, BeginsWithChange}
 
 -- One of the logs says that it was made.
 abbrev pub is_store : Folder → Bool
-is_store f = says_made f.log || says_made f.log2
+is_store f = front_says_made f.log || front_says_made f.log2
 
 -- The current log is that of the greater generation.
 abbrev pub other_is_current : Folder → Bool
-other_is_current f = nat_lt (generation_of f.log) (generation_of f.log2)
+other_is_current f = nat_lt (said_generation f.log) (said_generation f.log2)
 
 abbrev pub current : Folder → Front
 current f = if other_is_current f then f.log2 else f.log
@@ -37,7 +37,7 @@ abbrev pub LacksLog : Folder → Type 0
 LacksLog f = (f.log.is_there ≡ false) × (0 < f.log2.long)
 
 abbrev pub LacksLog2 : Folder → Type 0
-LacksLog2 f = (says_second f.log ≡ true) × (f.log2.is_there ≡ false)
+LacksLog2 f = (front_says_second f.log ≡ true) × (f.log2.is_there ≡ false)
 
 abbrev pub LacksPages : Folder → Type 0
 LacksPages f = (is_store f ≡ true) × (f.pages.is_there ≡ false)
@@ -57,8 +57,8 @@ abbrev pub LacksFirst : ℕ → Front → PagesFront → Type 0
 LacksFirst base left pages = (0 < base) × (pages.long / 4096 < 2) × BeginsWithChange left
 
 -- The file of pages was cut: it lacks what page 0 counts, where the current log has no record, so that page 0 is as the log found it; or one of the first two pages.
-abbrev pub IsCut : Folder → Type 0
-IsCut f = ((slice_index (current f).bytes 47 ≢ 1) × LacksCounted (base_of (current f)) f.pages) ⊎ LacksFirst (base_of (current f)) (left f) f.pages
+abbrev pub IsCutShort : Folder → Type 0
+IsCutShort f = ((slice_index (current f).bytes 47 ≢ 1) × LacksCounted (said_base (current f)) f.pages) ⊎ LacksFirst (said_base (current f)) (left f) f.pages
 
 -- ---- the verdict
 
@@ -69,20 +69,20 @@ IsApart (NoFile Log) f = LacksLog f
 IsApart (NoFile Log2) f = LacksLog2 f
 IsApart (NoFile Pages) f = ⊥
 IsApart NoPages f = LacksPages f
-IsApart ShortPages f = IsCut f
+IsApart ShortPages f = IsCutShort f
 IsApart (NotALog Log) f = IsLongUnmade f f.log
 IsApart (NotALog Log2) f = IsLongUnmade f f.log2
 IsApart (NotALog Pages) f = ⊥
 
 -- They do: nothing speaks against it. And what the logs say.
-pub record IsTogether (f : Folder) (logs : Logs) : Type 0 where
+pub record BelongTogether (f : Folder) (logs : Logs) : Type 0 where
   pub none : (why : Apart) → IsApart why f → ⊥
   pub made : logs.is_made ≡ is_store f
   pub current : logs.other_is_current ≡ other_is_current f
 
 -- What is said of a folder is true of it.
 abbrev pub IsVerdict : Folder → Result Logs Apart → Type 0
-IsVerdict f (Ok logs) = IsTogether f logs
+IsVerdict f (Ok logs) = BelongTogether f logs
 IsVerdict f (Err why) = IsApart why f
 
 -- ---- for C

@@ -4,28 +4,28 @@ use Rattle.std.specs.Int.{w64, from_be_bytes}
 use Rattle.im_base_guard.specs.declared.folder.Front.{Front}
 
 -- The log says that it was made. A file of one byte says nothing.
-abbrev pub says_made : Front → Bool
-says_made front = nat_lt 1 front.long && (slice_index front.bytes 0 == 1)
+abbrev pub front_says_made : Front → Bool
+front_says_made front = nat_lt 1 front.long && (slice_index front.bytes 0 == 1)
 
 -- And it is of the second format: the name ends in 2.
-abbrev pub says_second : Front → Bool
-says_second front = says_made front && (slice_index front.bytes 8 == 50)
+abbrev pub front_says_second : Front → Bool
+front_says_second front = front_says_made front && (slice_index front.bytes 8 == 50)
 
 -- the number in the eight bytes from a place on
-abbrev pub number_at : ℕ → Front → ℕ
-number_at at front = from_be_bytes w64 (take 8 (drop at front.bytes))
+abbrev pub said_number : ℕ → Front → ℕ
+said_number at front = from_be_bytes w64 (take 8 (drop at front.bytes))
 
 -- The generation of a log: 0 where it is not made, and 1 in the first format.
-abbrev pub generation_of : Front → ℕ
-generation_of front = if says_second front then number_at 16 front else (if says_made front then 1 else 0)
+abbrev pub said_generation : Front → ℕ
+said_generation front = if front_says_second front then said_number 16 front else (if front_says_made front then 1 else 0)
 
 -- The LSN of a log's first byte: 0 in the first format.
-abbrev pub base_of : Front → ℕ
-base_of front = if says_second front then number_at 24 front else 0
+abbrev pub said_base : Front → ℕ
+said_base front = if front_says_second front then said_number 24 front else 0
 
 -- The least number that a transaction of a log may have: 0 where it does not say one.
-abbrev pub least_of : Front → ℕ
-least_of front = if says_second front then number_at 32 front else 0
+abbrev pub said_least : Front → ℕ
+said_least front = if front_says_second front then said_number 32 front else 0
 
 -- The first gate, at this place, is open, and the record after it, whose kind stands nine bytes on, changes a page.
 abbrev pub HasChangeAt : ℕ → Front → Type 0
@@ -37,7 +37,7 @@ NamesChange front = ((take 8 (drop 1 front.bytes) ≡ codes "ARIESIM1") × HasCh
 
 -- A log that was made begins so.
 abbrev pub BeginsWithChange : Front → Type 0
-BeginsWithChange front = (says_made front ≡ true) × NamesChange front
+BeginsWithChange front = (front_says_made front ≡ true) × NamesChange front
 
 -- ---- a log whose first byte may be damaged
 
@@ -47,13 +47,13 @@ second_name = codes "ARIESIM2" ++ 0 ∷ 0 ∷ 16 ∷ 0 ∷ 0 ∷ 0 ∷ 0 ∷ []
 
 -- The first record is of a transaction with the header's number or a greater one, and that number is the other log's or a greater one.
 pub record HasOwnRecord (front other : Front) : Type 0 where
-  pub numbered : 0 < number_at 57 front
-  pub allowed : number_at 32 front ≤ number_at 57 front
-  pub newer : least_of other ≤ number_at 32 front
+  pub numbered : 0 < said_number 57 front
+  pub allowed : said_number 32 front ≤ said_number 57 front
+  pub newer : said_least other ≤ said_number 32 front
 
 -- A log of the second format but for its first byte, with an open first gate and a record of its own, is of a later generation and a greater base than the other.
 pub record LacksFirstByte (front other : Front) : Type 0 where
-  pub unmade : says_made front ≡ false
+  pub unmade : front_says_made front ≡ false
   pub named : (take 15 (drop 1 front.bytes) ≡ second_name) × (take 7 (drop 40 front.bytes) ≡ replicate 7 0)
-  pub later : (generation_of other < number_at 16 front) × (base_of other < number_at 24 front)
+  pub later : (said_generation other < said_number 16 front) × (said_base other < said_number 24 front)
   pub opened : (slice_index front.bytes 47 ≡ 1) × HasOwnRecord front other

@@ -4,23 +4,23 @@ use Rattle.std.specs.Int.{w32, from_be_bytes}
 use Rattle.im_base_guard.specs.declared.folder.Folder.{Folder}
 use Rattle.im_base_guard.specs.declared.folder.Front.{Front}
 use Rattle.im_base_guard.specs.declared.left_log.LeftLog.{LeftLog}
-use Rattle.im_base_guard.specs.Fronts.{base_of, says_made, says_second}
+use Rattle.im_base_guard.specs.Fronts.{said_base, front_says_made, front_says_second}
 use Rattle.im_base_guard.specs.Belonging.{current, left, other_is_current}
 
 -- the place of the first gate of a log that was made
 abbrev pub guard_gate : Front → ℕ
-guard_gate front = if says_second front then 47 else 31
+guard_gate front = if front_says_second front then 47 else 31
 
 -- the walk at the first gate of the log that was left: over at once where the current log is a first one, or none was left
 abbrev pub left_log_of : Folder → LeftLog
 left_log_of f = record {
   place = guard_gate (left f);
   end = guard_gate (left f);
-  base = base_of (left f);
+  base = said_base (left f);
   lsn = 0;
   pages = 0;
   page = 0;
-  is_over = (base_of (current f) == 0) || not (says_made (left f));
+  is_over = (said_base (current f) == 0) || not (front_says_made (left f));
   is_log2 = not (other_is_current f);
   is_current = false;
 }
@@ -30,7 +30,7 @@ abbrev pub current_log_of : Folder → LeftLog → LeftLog
 current_log_of f l = record l {
   place = guard_gate (current f);
   end = guard_gate (current f);
-  base = base_of (current f);
+  base = said_base (current f);
   is_over = l.lsn == 0;
   is_log2 = other_is_current f;
   is_current = true;

@@ -1,7 +1,7 @@
 //! What the first bytes of a log say.
-ghost use Rattle.std.specs.Prelude.{◌≡◌, ◌↔◌, ◌<◌, ◌≤◌, true, drop, length, replicate, slice_index, take};
-ghost use Rattle.std.specs.Int.{w64, from_be_bytes};
-ghost use Rattle.im_base_guard.specs.Fronts.{base_of, generation_of, least_of, number_at, says_made, says_second, second_name, BeginsWithChange, HasChangeAt, HasOwnRecord, LacksFirstByte, NamesChange};
+ghost use Rattle.std.specs.Prelude.{◌≡◌, ◌↔◌, ◌<◌, ◌≤◌, true, drop, replicate, slice_index, take};
+ghost use Rattle.std.specs.Int.{from_be_bytes};
+ghost use Rattle.im_base_guard.specs.Fronts.{said_base, said_generation, said_least, said_number, front_says_made, front_says_second, second_name, BeginsWithChange, HasChangeAt, HasOwnRecord, LacksFirstByte, NamesChange};
 
 use crate::folder::Front;
 
@@ -13,14 +13,14 @@ const FIRST_NAME: [u8; 8] = *b"ARIESIM1";
 
 /// The log says that it was made.
 pub(crate) fn is_made(front: &Front) -> bool
-    ensures { result ≡ says_made front.now }
+    ensures { result ≡ front_says_made front.now }
 {
     front.long > 1 && front.bytes[0] == 1
 }
 
 /// It says so, and is of the second format.
 pub(crate) fn is_second(front: &Front) -> bool
-    ensures { result ≡ says_second front.now }
+    ensures { result ≡ front_says_second front.now }
 {
     is_made(front) && front.bytes[8] == b'2'
 }
@@ -28,7 +28,7 @@ pub(crate) fn is_second(front: &Front) -> bool
 // The number in the eight bytes from this place on.
 fn number(front: &Front, at: usize) -> u64
     requires within { at ≤ 57 }
-    ensures { result ≡ number_at at front.now }
+    ensures { result ≡ said_number at front.now }
 {
     let mut number = [0; 8];
     number.copy_from_slice(&front.bytes[at..at + 8]);
@@ -37,7 +37,7 @@ fn number(front: &Front, at: usize) -> u64
 
 /// The generation of a log: 0 where it is not made, and 1 in the first format.
 pub(crate) fn generation(front: &Front) -> u64
-    ensures { result ≡ generation_of front.now }
+    ensures { result ≡ said_generation front.now }
 {
     if is_second(front) {
         number(front, 16)
@@ -50,7 +50,7 @@ pub(crate) fn generation(front: &Front) -> u64
 
 /// The LSN of a log's first byte: 0 in the first format.
 pub(crate) fn base(front: &Front) -> u64
-    ensures { result ≡ base_of front.now }
+    ensures { result ≡ said_base front.now }
 {
     if is_second(front) {
         number(front, 24)
@@ -61,7 +61,7 @@ pub(crate) fn base(front: &Front) -> u64
 
 // The least number that a transaction of a log may have: 0 where it does not say one.
 fn least(front: &Front) -> u64
-    ensures { result ≡ least_of front.now }
+    ensures { result ≡ said_least front.now }
 {
     if is_second(front) {
         number(front, 32)
@@ -102,7 +102,7 @@ fn has_second_name(front: &Front) -> bool
 
 // The generation and the base that the header says are greater than the other log's.
 fn is_later(front: &Front, other: &Front) -> bool
-    ensures { (result ≡ true) ↔ (generation_of other.now < number_at 16 front.now) × (base_of other.now < number_at 24 front.now) }
+    ensures { (result ≡ true) ↔ (said_generation other.now < said_number 16 front.now) × (said_base other.now < said_number 24 front.now) }
 {
     generation(other) < number(front, 16) && base(other) < number(front, 24)
 }

@@ -1,7 +1,7 @@
 //! Whether the file of pages lacks pages.
 ghost use Rattle.std.specs.Prelude.{◌≡◌, ◌↔◌, ◌<◌, ◌/◌, true, drop, take};
 ghost use Rattle.std.specs.Int.{w32, w64, from_be_bytes};
-ghost use Rattle.im_base_guard.specs.Belonging.{current, left, other_is_current, IsCut, LacksCounted, LacksFirst};
+ghost use Rattle.im_base_guard.specs.Belonging.{current, left, other_is_current, IsCutShort, LacksCounted, LacksFirst};
 
 use crate::folder::{Folder, Front, PagesFront};
 use crate::fronts::{base, begins_with_change, generation};
@@ -82,7 +82,7 @@ fn lacks_first(base: u64, left: &Front, pages: &PagesFront) -> bool
 /// first two where the log that was left begins with a record that changes a page, as the first such record of a store changes page 1; one whose first byte says that it was
 /// not made is being made anew, and one that was left with another record or none, or was emptied, says nothing.
 pub(crate) fn is_cut(folder: &Folder) -> bool
-    ensures { (result ≡ true) ↔ IsCut folder.now }
+    ensures { (result ≡ true) ↔ IsCutShort folder.now }
 {
     let current = current_of(folder);
     let left = left_of(folder);

@@ -1,6 +1,6 @@
 //! A disk in memory that tells its bytes. What a stop might have left at each of its moments stands in a
 //! history that takes no memory.
-ghost use Rattle.std.specs.Prelude.{◌≡◌, ◌≢◌, ◌+◌, ◌^◌, ◌≤◌, ◌<◌, ◌⊎◌, [], ◌∷◌, true, false, refl, length, take, drop, OnOk, OnErr, IfOk, IfErr, Some};
+ghost use Rattle.std.specs.Prelude.{◌≡◌, ◌≢◌, ◌+◌, ◌^◌, ◌≤◌, ◌<◌, ◌⊎◌, false, length, take, drop, OnOk, OnErr, IfOk, IfErr, Some};
 ghost use Rattle.std.proofs.Common.{inl};
 ghost use Rattle.im_base_types.specs.declared.file_id.FileId.{FileId};
 ghost use Rattle.im_base_disk.specs.Disk.{Files, both, three, Only, Follows, InFile, Holds, Torn, Elapses, Answers};

@@ -1,5 +1,5 @@
 //! One file of the model disk.
-ghost use Rattle.std.specs.Prelude.{◌≡◌, ◌+◌, ◌^◌, ◌<◌, ◌≤◌, ◌⊎◌, [], length, OnOk, OnErr, vec_capacity};
+ghost use Rattle.std.specs.Prelude.{◌≡◌, ◌+◌, ◌<◌, ◌≤◌, ◌⊎◌, [], length, OnOk, OnErr, vec_capacity};
 ghost use Rattle.im_base_disk.specs.Disk.{Holds};
 ghost use Rattle.im_base_model_disk.specs.ModelFile.{Keeps};
 

@@ -1,5 +1,5 @@
 -- Runs that only read the disk below.
-use Rattle.std.proofs.Common.{◌≡◌, refl, subst, Option, None, Some}
+use Rattle.std.proofs.Common.{refl, subst, Option, None, Some}
 use Rattle.im_base_disk.specs.declared.disk.Disk.{Ghosts}
 use Rattle.im_base_disk.proofs.Runs.{reads_none, reads_then}
 use Rattle.im_base_scratch_disk.specs.OnlyRead.{IsOnlyRead}

@@ -1,14 +1,13 @@
 -- The least number of those for which something holds.
-use Rattle.std.proofs.Common.{suc, zero, Bool, true, false, true≢false, ◌∙◌, ◌≡◌, ◌<◌, ◌≤◌, ◌+◌, ℕ, List, [], ◌↔◌, length, take, refl, inl, inr, sym, subst, arith}
+use Rattle.std.proofs.Common.{suc, zero, Bool, true, false, true≢false, ◌∙◌, ◌≡◌, ◌<◌, ◌≤◌, ◌+◌, ℕ, List, [], ◌↔◌, length, take, refl, inl, inr, sym, subst, arith, take-take, get_or-take, length-take-le}
 use Rattle.std.specs.List.{All}
 use Rattle.std.proofs.Math.ListN.{get_or}
-use Rattle.std.proofs.lemmas.List.{take-take, get_or-take, length-take-le}
 use Rattle.std.proofs.lemmas.List.Elements.{All-nil, All-more, All-take, All-get_or, All-weaker}
 use Rattle.im_base_turns.specs.declared.going.Going.{Going}
 use Rattle.im_base_turns.specs.declared.asker.Asker.{Asker as OneAsking}
 use Rattle.im_base_turns.specs.declared.precedence.Precedence.{Precedence}
 use Rattle.im_base_turns.specs.declared.precedence.Precedence.TheVariants.{Nobody, Asker, Another}
-use Rattle.im_base_turns.specs.Turns.{IsOwn, Owns, IsAwaitedBy, IsLeastOf, IsOneMore, MayGoOn, Goes, MayBegin, came_for, precedence_of}
+use Rattle.im_base_turns.specs.Turns.{IsOwn, Owns, IsAwaitedBy, IsLeastOf, IsLeastWith, MayGoOn, Goes, MayBegin, came_for, precedence_of}
 
 -- what holds of all up to a place holds of those before it
 before_last : (P : Going → Type 0) (i : ℕ) (going : List Going) → All P (take (i + 1) going) → All P (take i going)
@@ -23,7 +22,7 @@ at_last P i d going room all =
 
 -- one more is looked at
 pub one_more : (P : Going → Type 0) (number : Going → ℕ) (old new i : ℕ) (d : Going) (going : List Going) → i < length going → IsLeastOf P number (take i going) old
-    → IsOneMore (P (get_or going i d)) (number (get_or going i d)) old new → IsLeastOf P number (take (i + 1) going) new
+    → IsLeastWith (P (get_or going i d)) (number (get_or going i d)) old new → IsLeastOf P number (take (i + 1) going) new
 one_more P number old new i d going room before more = (
   All-more (λ g. P g → (0 < new) × (new ≤ number g)) going i d room
       (All-weaker (λ g. P g → (0 < old) × (old ≤ number g)) (λ g. P g → (0 < new) × (new ≤ number g))

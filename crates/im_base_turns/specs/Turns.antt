@@ -31,8 +31,8 @@ abbrev pub IsLeastOf : (P : Going → Type 0) (number : Going → ℕ) → List 
 IsLeastOf P number going least = All (λ g. P g → (0 < least) × (least ≤ number g)) going × ((n : ℕ) → All (λ g. P g → n ≤ number g) going → 0 < least → n ≤ least)
 
 -- where this was the least number so far, and one more is looked at, for which P may hold, that is it now
-abbrev pub IsOneMore : (P : Type 0) (number old new : ℕ) → Type 0
-IsOneMore P number old new = (P → (0 < new) × (new ≤ number)) × ((0 < old → (0 < new) × (new ≤ old)) × ((n : ℕ) → (P → n ≤ number) → (0 < old → n ≤ old) → 0 < new → n ≤ new))
+abbrev pub IsLeastWith : (P : Type 0) (number old new : ℕ) → Type 0
+IsLeastWith P number old new = (P → (0 < new) × (new ≤ number)) × ((0 < old → (0 < new) × (new ≤ old)) × ((n : ℕ) → (P → n ≤ number) → (0 < old → n ≤ old) → 0 < new → n ≤ new))
 
 -- who is first, for one with this ticket, where the one that is first has the other; 0 is nobody's
 abbrev pub precedence_of : (first ticket : ℕ) → Precedence

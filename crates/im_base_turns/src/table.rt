@@ -1,8 +1,7 @@
 //! Who may begin now, over the table of those that are active.
 
 ghost use Rattle.std.specs.Prelude.{◌≡◌, ◌<◌, ◌≤◌, ◌⊎◌, ◌↔◌, true};
-ghost use Rattle.std.specs.List.{All};
-ghost use Rattle.im_base_turns.specs.Turns.{IsOwn, IsAwaitedBy, IsPatient, IsLeastOf, IsOneMore, Owns, MayBegin, came_for};
+ghost use Rattle.im_base_turns.specs.Turns.{IsOwn, IsAwaitedBy, IsPatient, IsLeastOf, IsLeastWith, Owns, MayBegin, came_for};
 
 use crate::asker::Asker;
 use crate::going::Going;
@@ -103,7 +102,7 @@ fn is_patient(one: &Going) -> bool
 
 // The least number of those that are waited for, where one more is looked at.
 fn with_awaited(least: u64, asker: &Asker, came: u64, one: &Going) -> u64
-    ensures { IsOneMore (IsAwaitedBy asker.now came one.now) one.now.number least result }
+    ensures { IsLeastWith (IsAwaitedBy asker.now came one.now) one.now.number least result }
 {
     if is_awaited(asker, came, one) {
         older(least, one.number)
@@ -114,7 +113,7 @@ fn with_awaited(least: u64, asker: &Asker, came: u64, one: &Going) -> u64
 
 // The same of those that are patient, by the numbers that they had.
 fn with_patient(least: u64, one: &Going) -> u64
-    ensures { IsOneMore (IsPatient one.now) one.now.had least result }
+    ensures { IsLeastWith (IsPatient one.now) one.now.had least result }
 {
     if is_patient(one) {
         older(least, one.had)
@@ -125,7 +124,7 @@ fn with_patient(least: u64, one: &Going) -> u64
 
 // The same of those of a thread.
 fn with_own(least: u64, thread: u64, one: &Going) -> u64
-    ensures { IsOneMore (IsOwn thread one.now) one.now.number least result }
+    ensures { IsLeastWith (IsOwn thread one.now) one.now.number least result }
 {
     if is_own(thread, one) {
         older(least, one.number)

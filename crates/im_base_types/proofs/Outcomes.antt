@@ -1,5 +1,5 @@
 -- What the end of a call says.
-use Rattle.std.proofs.Common.{◌≡◌, ◌⊎◌, inl, inr, Bool, false, true, Option, None, Some, refl, sym, ap, subst}
+use Rattle.std.proofs.Common.{◌≡◌, ◌⊎◌, inl, inr, Bool, false, true, Some, refl, sym, ap, subst}
 use Rattle.std.specs.Prelude.{◌↔◌, Result, Ok, Err, not, is_ok, IfErr, IsErrAnd}
 use Rattle.im_base_types.specs.declared.fault.Fault.{Fault}
 use Rattle.im_base_types.specs.declared.fault.Fault.TheVariants.{Device, Failed}

@@ -36,8 +36,8 @@ nothing_shown = record { failed = false; running = λ t. idle; asked = [] }
 abbrev pub with_running : ℕ → Running → Shown → Shown
 with_running t x s = record s { running = λ u. if u == t then x else s.running u }
 
-abbrev pub marks : ℕ → Mark → Shown → Shown
-marks t m s = with_running t (record (s.running t) { mark = m }) s
+abbrev pub shows_mark : ℕ → Mark → Shown → Shown
+shows_mark t m s = with_running t (record (s.running t) { mark = m }) s
 
 abbrev pub adds : ℕ → Change → Shown → Shown
 adds t c s = with_running t (record (s.running t) { effect = c ∷ (s.running t).effect }) s
@@ -82,7 +82,7 @@ accessed t (Insert k r) Inserted s = adds t (Put k r) s
 accessed t (Delete k) Deleted s = adds t (Drop k 0) s
 accessed t (Insert k r) More s = pends t (Insert k r) s
 accessed t (Delete k) More s = pends t (Delete k) s
-accessed t a Die s = marks t MustRollBack s
+accessed t a Die s = shows_mark t MustRollBack s
 accessed t a _ s = s
 
 -- every Commit that waited for a force
@@ -96,9 +96,9 @@ answered step (Refused n) s = refused n step s
 answered Begin (Started t) s = with_running t (record { mark = Going; effect = []; pending = None }) s
 answered (Do t a) reply s = accessed t a reply s
 answered (Commit t) Committed s = with_running t idle (asks t true s)
-answered (Commit t) More s = marks t Committing (asks t false s)
+answered (Commit t) More s = shows_mark t Committing (asks t false s)
 answered (Rollback t) RolledBack s = with_running t idle s
-answered (Rollback t) More s = marks t RollingBack s
+answered (Rollback t) More s = shows_mark t RollingBack s
 answered (Continue t) RolledBack s = with_running t idle s
 answered (Continue t) Inserted s = finishes t Inserted s
 answered (Continue t) Deleted s = finishes t Deleted s

@@ -15,7 +15,7 @@ use Rattle.im_engine_upkeep.specs.declared.bounds.Bounds.{Bounds}
 use Rattle.im_store.specs.Stores.{IsEnd, IsOpenedStore, IsStepKept}
 use Rattle.im_store.specs.declared.open_store.OpenStore.{OpenStore}
 use Rattle.im_calls_form.specs.declared.call.Call.{Call}
-use Rattle.im_calls_form.specs.Calls.{Asks, Tells, Says, Refuses}
+use Rattle.im_calls_form.specs.Calls.{AsksStep, Tells, Says, Refuses}
 use Rattle.im_calls.specs.declared.opened.Opened.{Opened}
 
 -- a number that is for a step: it asks neither how the store stands, nor an opening, nor an end, nor for a copy
@@ -59,7 +59,7 @@ module _ {D : Type 0} (d : Ghosts D) (asked told : Call) where
   pub record IsMade (old new : OpenStore D d) : Type 0 where
     pub step : Step
     pub reply : Reply
-    pub asks : Asks asked (asked_by step)
+    pub asks : AsksStep asked (asked_by step)
     pub made : IsStepKept d step reply old new
     pub tells : Tells told (told_by reply)
 

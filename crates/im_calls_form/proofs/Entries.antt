@@ -1,14 +1,11 @@
 -- Entries that were put into a buffer are read out of it as they were, and as many as one scan has find room there.
-use Rattle.std.proofs.Common.{◌≡◌, ℕ, suc, ◌+◌, ◌*◌, ◌≤◌, ◌<◌, ◌^◌, List, [], ◌∷◌, ◌++◌, length, take, drop, min, refl, sym, ap, subst, ◌∙◌, arith}
+use Rattle.std.proofs.Common.{◌≡◌, ℕ, suc, ◌+◌, ◌*◌, ◌≤◌, List, [], ◌∷◌, ◌++◌, length, take, drop, refl, sym, ap, ◌∙◌, arith, length-append, append_assoc, take_at, drop_at, take_all, take-append-drop, append-nil}
 use Rattle.std.specs.Int.{w64, to_le_bytes, from_le_bytes}
 use Rattle.std.proofs.lemmas.Nat.{from_le_bytes-to_le_bytes_8}
-use Rattle.std.proofs.lemmas.List.{length-append, append_assoc, take_at, drop_at, take_all, take-append-drop, append-nil}
 use Rattle.std.proofs.lemmas.List.Concat.{flat_map-cons}
 use Rattle.im_base_types.specs.Pages.{Entry}
-use Rattle.im_base_types.specs.Answers as answers
-use Rattle.im_calls_form.specs.declared.call.Call.{Call}
-use Rattle.im_calls_form.specs.Calls.{BeginsWith, Tells, entry_bytes, entries_bytes}
-use Rattle.im_calls_form.specs.Entries.{read_entries, IsEntry, AreEntries}
+use Rattle.im_calls_form.specs.Calls.{BeginsWith, entry_bytes, entries_bytes}
+use Rattle.im_calls_form.specs.Entries.{read_entries, AreEntries}
 
 -- a row id takes eight bytes
 eight : (n : ℕ) → length (to_le_bytes w64 n) ≡ 8

@@ -9,30 +9,30 @@ use Rattle.im_calls_form.specs.declared.call.Call.{Call}
 -- ---- what is asked
 
 -- the bytes that are asked for
-abbrev pub front : ℕ → List ℕ → List ℕ
-front n bytes = take (min n 256) bytes
+abbrev pub asked_bytes : ℕ → List ℕ → List ℕ
+asked_bytes n bytes = take (min n 256) bytes
 
 -- the access that a call asks, by its number
 abbrev pub AsksAccess : Call → answers.Access → Type 0
-AsksAccess c (answers.Fetch key) = (c.step ≡ 1) × (key ≡ front c.key_len c.key)
-AsksAccess c (answers.Seek key) = (c.step ≡ 2) × (key ≡ front c.key_len c.key)
-AsksAccess c (answers.Next key) = (c.step ≡ 3) × (key ≡ front c.key_len c.key)
-AsksAccess c (answers.Prev key) = (c.step ≡ 17) × (key ≡ front c.key_len c.key)
-AsksAccess c (answers.Scan lo hi limit) = (c.step ≡ 4) × (lo ≡ front c.key_len c.key) × (hi ≡ front c.hi_len c.hi) × (limit ≡ c.limit)
-AsksAccess c (answers.Insert key rid) = (c.step ≡ 5) × (key ≡ front c.key_len c.key) × (rid ≡ c.number)
-AsksAccess c (answers.Delete key) = (c.step ≡ 6) × (key ≡ front c.key_len c.key)
+AsksAccess c (answers.Fetch key) = (c.step ≡ 1) × (key ≡ asked_bytes c.key_len c.key)
+AsksAccess c (answers.Seek key) = (c.step ≡ 2) × (key ≡ asked_bytes c.key_len c.key)
+AsksAccess c (answers.Next key) = (c.step ≡ 3) × (key ≡ asked_bytes c.key_len c.key)
+AsksAccess c (answers.Prev key) = (c.step ≡ 17) × (key ≡ asked_bytes c.key_len c.key)
+AsksAccess c (answers.Scan lo hi limit) = (c.step ≡ 4) × (lo ≡ asked_bytes c.key_len c.key) × (hi ≡ asked_bytes c.hi_len c.hi) × (limit ≡ c.limit)
+AsksAccess c (answers.Insert key rid) = (c.step ≡ 5) × (key ≡ asked_bytes c.key_len c.key) × (rid ≡ c.number)
+AsksAccess c (answers.Delete key) = (c.step ≡ 6) × (key ≡ asked_bytes c.key_len c.key)
 
 -- the step that a call asks, by its number
-abbrev pub Asks : Call → answers.Step → Type 0
-Asks c answers.Begin = c.step ≡ 0
-Asks c (answers.Do t access) = (t ≡ c.txn) × AsksAccess c access
-Asks c (answers.Commit t) = (c.step ≡ 7) × (t ≡ c.txn)
-Asks c (answers.Rollback t) = (c.step ≡ 8) × (t ≡ c.txn)
-Asks c (answers.Continue t) = (c.step ≡ 9) × (t ≡ c.txn)
-Asks c (answers.FlushPage page) = (c.step ≡ 10) × (page ≡ c.limit)
-Asks c answers.Force = c.step ≡ 11
-Asks c answers.Checkpoint = c.step ≡ 12
-Asks c answers.Switch = c.step ≡ 16
+abbrev pub AsksStep : Call → answers.Step → Type 0
+AsksStep c answers.Begin = c.step ≡ 0
+AsksStep c (answers.Do t access) = (t ≡ c.txn) × AsksAccess c access
+AsksStep c (answers.Commit t) = (c.step ≡ 7) × (t ≡ c.txn)
+AsksStep c (answers.Rollback t) = (c.step ≡ 8) × (t ≡ c.txn)
+AsksStep c (answers.Continue t) = (c.step ≡ 9) × (t ≡ c.txn)
+AsksStep c (answers.FlushPage page) = (c.step ≡ 10) × (page ≡ c.limit)
+AsksStep c answers.Force = c.step ≡ 11
+AsksStep c answers.Checkpoint = c.step ≡ 12
+AsksStep c answers.Switch = c.step ≡ 16
 
 -- ---- what is told
 

@@ -2,7 +2,7 @@
 //!
 //! What a caller of another language asks, and what it is answered, as numbers and bytes in one place in memory.
 //!
-//! A `Call` is a question with its answer. `step_of` is the step that it asks: `Asks` says which, by its number and its fields. `answer` puts a
+//! A `Call` is a question with its answer. `step_of` is the step that it asks: `AsksStep` says which, by its number and its fields. `answer` puts a
 //! reply in its place: `Tells` says what it then reads, byte by byte, and the question stays. Steps and replies are those of the engine, as
 //! `asked_by` and `told_by` have them, so what is asked and answered in memory is what contracts speak of. Who reads the bytes of entries by their
 //! form has the entries that were told (`entries_are_read_again`).

@@ -3,7 +3,7 @@
 ghost use Rattle.std.specs.Prelude.{◌≡◌, ◌≢◌, ◌<◌, ◌≤◌, ◌⊎◌, ◌↔◌, IfOk, IfErr};
 ghost use Rattle.im_base_types.specs.declared.fault.Fault.TheVariants.{Memory, BadScript};
 ghost use Rattle.im_base_steps.specs.Calls.{asked_by};
-ghost use Rattle.im_calls_form.specs.Calls.{front, Asks};
+ghost use Rattle.im_calls_form.specs.Calls.{asked_bytes, AsksStep};
 
 use crate::call::Call;
 use im_base_steps::Step;
@@ -12,7 +12,7 @@ use std::alloc::Global;
 
 /// The step that is asked. Refused `BadScript` where the number is no step's, and `Memory` where a step by a key finds none.
 pub fn step_of(alloc: Global, call: &Call) -> Result<Step, Fault>
-    ensures asked { IfOk result (λ step. Asks call.now (asked_by step)) }
+    ensures asked { IfOk result (λ step. AsksStep call.now (asked_by step)) }
     ensures unknown { result ≡ Err BadScript ↔ ((12 < call.now.step) × (call.now.step ≢ 16) × (call.now.step ≢ 17)) }
     ensures causes { IfErr result (λ e. (e ≡ Memory) ⊎ (e ≡ BadScript)) }
     ensures memory { result ≡ Err Memory → ((1 ≤ call.now.step) × (call.now.step ≤ 6)) ⊎ (call.now.step ≡ 17) }
@@ -44,14 +44,14 @@ pub fn step_of(alloc: Global, call: &Call) -> Result<Step, Fault>
 }
 
 fn key_of(alloc: Global, call: &Call) -> Result<Vec<u8>, Fault>
-    ensures key { IfOk result (λ key. key.items ≡ front call.now.key_len call.now.key) }
+    ensures key { IfOk result (λ key. key.items ≡ asked_bytes call.now.key_len call.now.key) }
     ensures cause { IfErr result (λ e. e ≡ Memory) }
 {
     bytes_of(alloc, &call.key, call.key_len)
 }
 
 fn hi_of(alloc: Global, call: &Call) -> Result<Vec<u8>, Fault>
-    ensures key { IfOk result (λ key. key.items ≡ front call.now.hi_len call.now.hi) }
+    ensures key { IfOk result (λ key. key.items ≡ asked_bytes call.now.hi_len call.now.hi) }
     ensures cause { IfErr result (λ e. e ≡ Memory) }
 {
     bytes_of(alloc, &call.hi, call.hi_len)
@@ -59,7 +59,7 @@ fn hi_of(alloc: Global, call: &Call) -> Result<Vec<u8>, Fault>
 
 // The first bytes, all where more are asked for.
 fn bytes_of(alloc: Global, bytes: &[u8; 256], len: u32) -> Result<Vec<u8>, Fault>
-    ensures key { IfOk result (λ key. key.items ≡ front len bytes.now) }
+    ensures key { IfOk result (λ key. key.items ≡ asked_bytes len bytes.now) }
     ensures cause { IfErr result (λ e. e ≡ Memory) }
 {
     let count = (len as usize).min(256);

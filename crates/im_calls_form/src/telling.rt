@@ -1,6 +1,6 @@
 //! Replies as answers.
 
-ghost use Rattle.std.specs.Prelude.{◌≡◌, ◌≤◌, ◌++◌, List, ℕ, length};
+ghost use Rattle.std.specs.Prelude.{◌≤◌, ◌++◌, List, ℕ, length};
 ghost use Rattle.im_base_types.specs.Faults.{number_of};
 ghost use Rattle.im_base_steps.specs.Calls.{told_by};
 ghost use Rattle.im_calls_form.specs.Calls.{Tells, Says, Refuses, Shows, BeginsWith, IsAnswered, entry_bytes, entries_bytes, numbers_bytes};

@@ -1,8 +1,7 @@
 -- An access that is answered has the answer of one user alone.
-use Rattle.std.proofs.Common.{◌≡◌, ℕ, map, Bool, true, false, cond, is_some, List, [], ◌∷◌, ◌++◌, append_assoc, append-nil, refl, ap, sym, subst, ◌∙◌, inl, inr}
+use Rattle.std.proofs.Common.{◌≡◌, ℕ, map, Bool, true, false, cond, is_some, List, [], ◌∷◌, ◌++◌, append_assoc, append-nil, refl, ap, sym, subst, ◌∙◌, inl, inr, eq-eqb}
 use Rattle.std.specs.Prelude.{◌&&◌, ◌==◌, if◌then◌else◌, Option, None, Some}
 use Rattle.std.specs.FinMap.{empty, get}
-use Rattle.std.proofs.lemmas.Bool.{eq-eqb}
 use Rattle.im_base_types.specs.Maps.{IndexMap}
 use Rattle.im_base_types.specs.Changes.{Effect, Put, Drop, apply, apply_all, seen_effect}
 use Rattle.im_base_types.proofs.Changes.{apply_all_append, apply_seen}
@@ -13,21 +12,10 @@ use Rattle.im_base_types.specs.Refusals.{failed as has_failed}
 use Rattle.im_theory_machine.specs.View.{View, Aim, Under, Puts, Drops, pending_for, pending_of, Txn, change_made, did, did_txn, forced_by, is_among, nets_of, relocked}
 use Rattle.im_theory_machine.specs.Machine.{Moves, Answers, Goes, begins, does, waits, dies, commits, queues, drops, turns, undoes, ends, puts_later, puts, drops_first, drops_leaf, takes_later, takes_first, takes_leaf, takes_last, logs_page, tree_blocks, tree_halts, flushes, forces, checkpoints, switches, lacks, breaks, barred, fault_if, Run, start}
 use Rattle.im_theory_machine.specs.Isolation.{access_of, pending_after, finished_from, finished, IsReplay}
-use Rattle.im_theory_machine.proofs.Callers.{Run-push}
-use Rattle.im_theory_machine.proofs.Theorem.{going_replay, after_story}
-use Rattle.im_theory_machine.proofs.Runs.{Moves-upheld, Upheld, clear_do, going_told, nothing_told, run_upheld, tell, tells}
-use Rattle.im_theory_machine.proofs.Under.{IsUnder, ahead}
-use Rattle.im_theory_machine.proofs.Invariant.{Told}
+use Rattle.im_theory_machine.proofs.Cited.{Run-push, going_replay, after_story, Moves-upheld, Upheld, clear_do, going_told, nothing_told, run_upheld, tell, tells, IsUnder, ahead, Told, cases_test, idle_others, queue_marks}
 use Rattle.im_theory_steps.specs.Seen.{drop_by, drop_of}
 use Rattle.im_base_types.specs.Keys.{Key}
-use Rattle.im_theory_steps.proofs.Showing.{effect_shown}
-use Rattle.im_theory_machine.proofs.Bools.{cases_test}
-use Rattle.im_theory_machine.proofs.Queue.{idle_others}
-use Rattle.im_theory_machine.proofs.Isolates.{queue_marks}
-use Rattle.im_theory_steps.proofs.Together.{nets_else}
-use Rattle.im_theory_steps.proofs.Acknowledged.{no_effects, step_shows}
-use Rattle.im_theory_steps.proofs.Asking.{effects_acked}
-use Rattle.im_theory_steps.proofs.Steps.{moves_by}
+use Rattle.im_theory_steps.proofs.Cited.{effect_shown, nets_else, no_effects, step_shows, effects_acked, moves_by}
 use Rattle.im_theory_steps.specs.Acknowledged.{AllAcked, IsCleanBut, acked_effects}
 use Rattle.im_theory_steps.specs.Lived.{IsLived}
 use Rattle.im_engine.specs.Told.{AnswersAlone}

@@ -30,10 +30,7 @@ use Rattle.im_theory_steps.specs.Growth.{AreBelow}
 use Rattle.im_theory_steps.specs.Durable.{AreCommitted}
 use Rattle.im_theory_steps.specs.Serving.{IsServing}
 use Rattle.im_theory_steps.specs.Switching.{IsSwitched}
-use Rattle.im_theory_steps.proofs.Durable.{commits_stand}
-use Rattle.im_theory_steps.proofs.GoingOn.{switches_served}
-use Rattle.im_theory_steps.proofs.Growth.{copies_are_images, images_change_nothing}
-use Rattle.im_theory_steps.proofs.Steps.{images_keep, opened_serves, quiet_logs}
+use Rattle.im_theory_steps.proofs.Cited.{commits_stand, switches_served, copies_are_images, images_change_nothing, images_keep, opened_serves, quiet_logs}
 use Rattle.im_restart_analysis.specs.Losers.{is_loser}
 use Rattle.im_restart_analysis.specs.Numbers.{IsNextNumber}
 use Rattle.im_restart_analysis.specs.Orderly.{IsCounted}

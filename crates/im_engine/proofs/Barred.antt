@@ -3,7 +3,7 @@ use Rattle.std.proofs.Common.{◌≡◌, inl, inr, ℕ, List, Bool, true, false,
 use Rattle.std.specs.Prelude.{◌||◌, ◌==◌, if◌then◌else◌}
 use Rattle.std.specs.FinMap.{empty}
 use Rattle.im_base_types.specs.Answers as answers
-use Rattle.im_base_types.specs.Answers.{Step, Begin, Do, Commit, Rollback, Continue, FlushPage, Force, Checkpoint, Switch, Reply, Refused, Mark}
+use Rattle.im_base_types.specs.Answers.{Step, Begin, Do, Commit, Rollback, Continue, FlushPage, Force, Checkpoint, Switch, Refused, Mark}
 use Rattle.im_base_types.specs.Changes.{Effect, apply_all}
 use Rattle.im_base_types.specs.Refusals.{memory, unfinished, failed as has_failed}
 use Rattle.im_base_types.specs.Lives.{Asked, Shown, asks, breaks, shows}
@@ -16,23 +16,19 @@ use Rattle.im_theory_machine.specs.View.{View, pending_of, owns_in}
 use Rattle.im_theory_machine.specs.Machine.{barred, first_check, mark_for}
 use Rattle.im_theory_steps.specs.Checks.{marks_in}
 use Rattle.im_theory_steps.specs.Durable.{AreCommitted}
-use Rattle.im_theory_steps.proofs.Acknowledged.{going_free}
-use Rattle.im_theory_steps.proofs.Showing.{is_shown_so}
-use Rattle.im_theory_steps.proofs.Asking.{refusals_ask_nothing}
-use Rattle.im_theory_steps.proofs.Lived.{lives_go_on}
-use Rattle.im_theory_steps.proofs.Steps.{barred_served}
+use Rattle.im_theory_steps.proofs.Cited.{going_free, is_shown_so, refusals_ask_nothing, lives_go_on, barred_served}
 use Rattle.im_engine.specs.declared.engine.Engine.{Engine}
 use Rattle.im_engine.specs.Stands.{Allowed}
 use Rattle.im_engine.specs.Running.{IsLife}
 use Rattle.im_engine.specs.Kept.{StepKept}
 use Rattle.im_engine.specs.Aims.{under_of}
 use Rattle.im_engine.proofs.Running.{allowed_as, runs_on, checks_tell}
-use Rattle.im_engine.proofs.Grown.{no_images}
 use Rattle.im_base_two_logs.proofs.Runs.{unnamed}
 use Rattle.im_engine.proofs.Named.{allowed_nameless}
 use Rattle.im_engine.proofs.Made.{step_made}
 use Rattle.im_engine.proofs.Refused.{none_done}
 use Rattle.im_engine.proofs.Ending.{cut_leaves}
+use Rattle.im_page_table.proofs.Growing.{grows_none as no_images}
 
 -- a stop within any step may leave what it might leave before
 pub cut_any : {D : Type 0} (d : Ghosts D) (before : List Effect) (s : Shown) (step : Step) (old new : D) → LeavesOnly d old new (Allowed before s) → LeavesOnly d old new (Allowed before (shows s step None))

@@ -30,7 +30,7 @@ use Rattle.im_engine.specs.Faults.{told_as, ends_engine}
 use Rattle.im_engine.specs.Told.{Where, Checked, HasLogged, IsFor, OfForce, Refuses, ReadCause, FlushCause, DeleteCause, InsertCause, SwitchCause, CallsDevice, EndsNearTop, IsLastLog, check_of, checkpoint_of}
 use Rattle.im_theory_machine.specs.View.{owns_in}
 use Rattle.im_engine.specs.Aims.{under_of}
-use Rattle.im_engine.proofs.Telling.{not_true}
+use Rattle.im_engine.proofs.Looked.{not_true}
 
 -- ---- one check after another
 

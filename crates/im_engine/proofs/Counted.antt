@@ -1,9 +1,8 @@
 -- Changes in a store's log are taken back at most once.
-use Rattle.std.specs.Prelude.{List}
+use Rattle.std.specs.Prelude.{List, None}
 use Rattle.im_base_types.specs.Changes.{Effect}
 use Rattle.im_base_types.specs.Lives.{Shown, nothing_shown, shows}
 use Rattle.im_theory_log.proofs.LogLaws.{at_most_once}
-use Rattle.std.specs.Prelude.{None}
 use Rattle.im_base_disk.specs.declared.disk.Disk.{Ghosts}
 use Rattle.im_base_disk.specs.Disk.{Files}
 use Rattle.im_engine.proofs.NamedRuns.{named_weakened}

@@ -36,7 +36,7 @@ use Rattle.im_base_txn.specs.declared.transaction.Mark.TheVariants.{Going, MustR
 use Rattle.im_base_txn.specs.declared.transaction.Transaction.{Transaction}
 use Rattle.im_base_txn.specs.Rows.{is_of, changed, with_mark, with_record}
 use Rattle.im_base_txn.proofs.LookUps.{look_ups_follow}
-use Rattle.im_theory_machine.specs.Locks.{Lock, Request, Holds}
+use Rattle.im_theory_machine.specs.Locks.{Request}
 use Rattle.im_theory_machine.specs.Locks as locks
 use Rattle.im_theory_machine.specs.Rows.{asked}
 use Rattle.im_theory_machine.specs.Changing.{MatchesWithKept}
@@ -52,12 +52,7 @@ use Rattle.im_theory_steps.specs.Growth.{AreBelow, AreStructural, GrowsByStructu
 use Rattle.im_theory_steps.specs.Serving.{IsRow, IsServing, IsServed, mark_of}
 use Rattle.im_theory_steps.specs.Steps.{IsOnTheWay, key_record}
 use Rattle.im_theory_steps.specs.Durable.{AreCommitted}
-use Rattle.im_theory_steps.proofs.Asking.{asks_nothing, dies_ask_nothing, waits_ask_nothing}
-use Rattle.im_theory_steps.proofs.Durable.{commits_stand}
-use Rattle.im_theory_steps.proofs.Growth.{copies_are_images, images_change_nothing, numbers_stay_new, within_leaves_others}
-use Rattle.im_theory_steps.proofs.Logging.{deletes_served}
-use Rattle.im_theory_steps.proofs.Promises.{granted_keys_free}
-use Rattle.im_theory_steps.proofs.Steps.{at, dies_served, mark_free, reads_served, structure_keeps, waits_served, ways_lead_on}
+use Rattle.im_theory_steps.proofs.Cited.{asks_nothing, dies_ask_nothing, waits_ask_nothing, commits_stand, copies_are_images, images_change_nothing, numbers_stay_new, within_leaves_others, deletes_served, granted_keys_free, at, dies_served, mark_free, reads_served, structure_keeps, waits_served, ways_lead_on}
 use Rattle.im_engine_index.specs.KeyLogs.{LeftByEdit, LeavesEdit}
 use Rattle.im_engine_index.specs.Edits.{MayEdit, Deleted}
 use Rattle.im_engine_index.specs.declared.noted.Taken.{Taken}

@@ -1,7 +1,6 @@
 -- Transactions that begin and end, and the force of the log.
-use Rattle.std.proofs.Common.{◌≢◌, ◌≡◌, ◌⊎◌, inl, inr, ℕ, suc, ◌+◌, ◌≤◌, ◌<◌, ◌^◌, List, [], ◌∷◌, ◌++◌, append-nil, Bool, true, false, Option, Some, None, length, refl, sym, ap, subst, ◌∙◌, arith}
+use Rattle.std.proofs.Common.{◌≢◌, ◌≡◌, ◌⊎◌, inl, inr, ℕ, suc, ◌+◌, ◌≤◌, ◌<◌, ◌^◌, List, [], ◌∷◌, ◌++◌, append-nil, Bool, true, false, Option, Some, None, length, refl, sym, ap, subst, ◌∙◌, arith, ltb-true}
 use Rattle.std.specs.Prelude.{find, map, nat_lt, not, if◌then◌else◌}
-use Rattle.std.proofs.lemmas.Bool.{ltb-true}
 use Rattle.im_base_types.specs.Faults.{number_of}
 use Rattle.im_base_types.specs.declared.fault.Fault.{Fault}
 use Rattle.im_page_writer.specs.Outcome.{LogEnds, Ends, Flushes, AsksNothing, none_mild}
@@ -15,14 +14,13 @@ use Rattle.im_base_types.specs.Changes.{Effect, seen_effect}
 use Rattle.im_theory_log.specs.Histories.{Base, History, Rises, end_of}
 use Rattle.im_theory_log.specs.Lawful.{IsLawful, Follows, IsOutside}
 use Rattle.im_theory_log.specs.Structure.{open_smo}
-use Rattle.im_theory_log.proofs.LogLaws.{logs_stay_lawful}
+use Rattle.im_theory_log.proofs.Cited.{logs_stay_lawful, rises as rises_of}
 use Rattle.im_theory_log.specs.Transactions.{last_of, net, changes_of, is_finished, is_rolling_back}
 use Rattle.im_base_types.specs.Refusals.{memory, unfinished, too_many}
 use Rattle.im_base_types.specs.declared.fault.Fault.TheVariants.{Failed, LogFull, Device, NotAStore}
 use Rattle.im_theory_log.specs.Writer.{Writer}
 use Rattle.im_theory_log.specs.WriterSteps.{appended, forced}
 use Rattle.im_base_types.specs.Lives.{Asked, Shown, Survives, asks, shows}
-use Rattle.im_theory_log.proofs.Fronts.{rises as rises_of}
 use Rattle.im_base_disk.specs.declared.disk.Disk.{Ghosts}
 use Rattle.im_base_disk.specs.Disk.{Files}
 use Rattle.im_base_disk.specs.Runs.{LeavesOnly}
@@ -47,14 +45,8 @@ use Rattle.im_theory_steps.specs.Checks.{checked_by}
 use Rattle.im_theory_steps.specs.Durable.{AreCommitted}
 use Rattle.im_theory_steps.specs.Growth.{AreBelow, Stays, IsOfAll}
 use Rattle.im_theory_steps.specs.Serving.{IsServing, mark_of}
-use Rattle.im_theory_steps.proofs.Asking.{empty_asked}
-use Rattle.im_theory_steps.proofs.Growth.{copies_are_images, images_change_nothing, numbers_stay_new, unlogged}
-use Rattle.im_theory_steps.proofs.Durable.{commits_stand, others_ask_nothing, cut_commits_stand}
+use Rattle.im_theory_steps.proofs.Cited.{empty_asked, copies_are_images, images_change_nothing, numbers_stay_new, unlogged, commits_stand, others_ask_nothing, cut_commits_stand, commit_commits, logged_commits_served, logged_commits_wait, effect_shown, at, mark_free, unlogged_commits_served, begins_served, drops_served, turns_served, flushes_served, forces_served}
 use Rattle.im_theory_steps.specs.Steps.{commit_record}
-use Rattle.im_theory_steps.proofs.Records.{commit_commits}
-use Rattle.im_theory_steps.proofs.Logging.{logged_commits_served, logged_commits_wait}
-use Rattle.im_theory_steps.proofs.Showing.{effect_shown}
-use Rattle.im_theory_steps.proofs.Steps.{at, mark_free, unlogged_commits_served, begins_served, drops_served, turns_served, flushes_served, forces_served}
 use Rattle.im_engine.specs.declared.engine.Engine.{Engine}
 use Rattle.im_engine.specs.Numbered.{Numbered}
 use Rattle.im_engine.specs.Stands.{Allowed}

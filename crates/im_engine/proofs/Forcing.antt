@@ -26,12 +26,9 @@ use Rattle.im_theory_tree.specs.Theory.{page_tree}
 use Rattle.im_engine_checkpoint.specs.Rows.{listed}
 use Rattle.im_base_types.specs.Faults.{number_of}
 use Rattle.im_theory_machine.specs.View.{View}
-use Rattle.im_theory_steps.specs.Growth.{AreBelow, IsCheckpointed, IsCopied}
+use Rattle.im_theory_steps.specs.Growth.{AreBelow, IsCheckpointed, IsAfterCopies}
 use Rattle.im_theory_steps.specs.Serving.{IsServing}
-use Rattle.im_theory_steps.proofs.Growth.{checkpoints_change_nothing, copies_are_images, images_change_nothing}
-use Rattle.im_theory_steps.proofs.Durable.{commits_stand}
-use Rattle.im_theory_steps.proofs.Logging.{logged_checkpoints_served}
-use Rattle.im_theory_steps.proofs.Steps.{images_keep}
+use Rattle.im_theory_steps.proofs.Cited.{checkpoints_change_nothing, copies_are_images, images_change_nothing, commits_stand, logged_checkpoints_served, images_keep}
 use Rattle.im_engine.specs.declared.engine.Engine.{Engine}
 use Rattle.im_engine.specs.Faults.{told_as}
 use Rattle.im_engine.specs.Numbered.{Numbered}
@@ -72,7 +69,7 @@ module _ {D : Type 0} (d : Ghosts D) (before : List Effect) (s : Shown) (v : Vie
 
   -- pages may have been written first, for which Images joined the log
   module _ (between : History) (grows : GrowsByImages run.0 run.1.now.log between) where
-    copied : IsCopied run.0 page_tree run.1.now.log between
+    copied : IsAfterCopies run.0 page_tree run.1.now.log between
     copied = copies_are_images page_tree run.0 run.1.now.log between grows
 
     behind_lawful : IsLawful run.0 page_tree between

@@ -1,7 +1,6 @@
 -- The structure change under way stands behind what others log.
-use Rattle.std.proofs.Common.{◌≡◌, ◌≢◌, ◌≤◌, ℕ, zero, suc, true, false, List, [], ◌∷◌, ◌++◌, Option, None, Some, refl, sym, ap, subst, ◌∙◌, arith}
+use Rattle.std.proofs.Common.{◌≡◌, ◌≢◌, ◌≤◌, ℕ, zero, suc, true, false, List, [], ◌∷◌, ◌++◌, Option, None, Some, refl, sym, ap, subst, ◌∙◌, arith, eq-eqb}
 use Rattle.std.specs.Prelude.{if◌then◌else◌}
-use Rattle.std.proofs.lemmas.Bool.{eq-eqb}
 use Rattle.im_base_types.specs.Pages.{Page, Body}
 use Rattle.im_base_types.specs.Records.{Logged}
 use Rattle.im_theory_log.specs.Copies.{AreImages, GrowsByImages}
@@ -10,7 +9,7 @@ use Rattle.im_theory_log.specs.Lawful.{IsLawful, IsOutside}
 use Rattle.im_theory_log.specs.Structure.{open_smo}
 use Rattle.im_theory_tree.specs.Theory.{page_tree}
 use Rattle.im_smo_pages.specs.Images.{Numbered, image_of}
-use Rattle.im_smo_log.specs.BetweenSteps.{AreBeside, GoesOnBeside, IsBeside}
+use Rattle.im_smo_log.specs.BetweenSteps.{AreBeside, GoesOnBeside, IsRecordBeside}
 use Rattle.im_smo_log.specs.Changes.{AreCounted}
 use Rattle.im_smo_log.specs.Under.{AreLogged, IsUnderWay, is_structural}
 use Rattle.im_smo_log.proofs.BetweenSteps.{others_go_on}
@@ -53,7 +52,7 @@ module _ (b : Base) where
       (others_go_on b c.transaction c.undo_next c.images c.done c.last more older is.goes law all).opened
 
   -- a record that changes no page, of another or of nobody
-  pub plain_beside : (t : ℕ) (images : List Numbered) (r : Logged) → r.txn ≢ t → is_structural r.what ≡ false → changes_page r.what ≡ false → IsBeside t images r
+  pub plain_beside : (t : ℕ) (images : List Numbered) (r : Logged) → r.txn ≢ t → is_structural r.what ≡ false → changes_page r.what ≡ false → IsRecordBeside t images r
   plain_beside t images r other plain none = record { other = other; plain = plain; apart = λ is. absurd (let never : false ≡ true = sym none ∙ is in cc never) }
 
   pub images_beside : (t : ℕ) → 1 ≤ t → (images : List Numbered) (more older : History) → AreImages b more older → AreBeside t images more

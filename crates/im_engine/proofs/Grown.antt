@@ -1,5 +1,5 @@
 -- Steps that add Images alone.
-use Rattle.std.proofs.Common.{◌≡◌, ℕ, [], ◌∷◌, cond, is_some, Option, Some, None, refl}
+use Rattle.std.proofs.Common.{◌≡◌, ℕ, [], ◌∷◌, cond, is_some, Option, Some, None}
 use Rattle.std.specs.FinMap.{get}
 use Rattle.im_base_types.specs.Answers as answers
 use Rattle.im_base_types.specs.Answers.{Access, Fetch, Seek, Next, Prev, Scan, Insert, Delete, Do, answer, changes}
@@ -10,10 +10,6 @@ use Rattle.im_theory_log.specs.Histories.{Base, History}
 use Rattle.im_theory_log.specs.Copies.{GrowsByImages}
 use Rattle.im_theory_machine.specs.View.{Under}
 use Rattle.im_engine.specs.Growing.{GrowsAs}
-
--- nothing joined
-pub no_images : (b : Base) (log : History) → GrowsByImages b log log
-no_images b log = record { images = []; is = refl; all = tt }
 
 module _ (Few : Type 0) (was now : Option Under) (b : Base) (t : ℕ) (older longer : History) (images : GrowsByImages b older longer) where
   found_grows : (a : Access) (o : Option ℕ) → GrowsAs b Few was now (answers.found o) (Do t a) older longer

@@ -3,7 +3,7 @@ use Rattle.std.proofs.Common.{◌≡◌, ◌≢◌, ◌⊎◌, inl, inr, ⊎_eli
 use Rattle.std.specs.Prelude.{find}
 use Rattle.std.specs.FinMap.{get}
 use Rattle.im_base_types.specs.Answers as answers
-use Rattle.im_base_types.specs.Answers.{Insert, Do, Refused, Reply, answer, changes}
+use Rattle.im_base_types.specs.Answers.{Insert, Do, Refused, Reply, answer}
 use Rattle.im_base_types.specs.Changes.{Effect, Put}
 use Rattle.im_theory_log.specs.Histories.{Base, History}
 use Rattle.im_base_types.specs.Keys.{Key}
@@ -52,8 +52,7 @@ use Rattle.im_theory_steps.specs.Checks.{checked_by}
 use Rattle.im_theory_steps.specs.Growth.{GrowsWithin}
 use Rattle.im_theory_steps.specs.Serving.{IsServed}
 use Rattle.im_theory_steps.specs.Steps.{IsOnTheWay, key_record}
-use Rattle.im_theory_steps.proofs.Logging.{inserts_served}
-use Rattle.im_theory_steps.proofs.Steps.{lacks_served, ways_lead_on}
+use Rattle.im_theory_steps.proofs.Cited.{inserts_served, lacks_served, ways_lead_on}
 use Rattle.im_engine_index.specs.declared.noted.Noted.{Noted}
 use Rattle.im_engine_index.specs.declared.lock_answer.LockAnswer.{LockAnswer}
 use Rattle.im_engine_index.specs.declared.lock_answer.LockAnswer.TheVariants.{Granted, Wait, Die}

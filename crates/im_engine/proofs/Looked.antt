@@ -28,10 +28,7 @@ use Rattle.im_theory_machine.specs.Table.{Table}
 use Rattle.im_theory_machine.specs.View.{View, own_locks}
 use Rattle.im_theory_steps.specs.Growth.{AreBelow}
 use Rattle.im_theory_steps.specs.Serving.{IsServing}
-use Rattle.im_theory_steps.proofs.Growth.{copies_are_images, images_change_nothing}
-use Rattle.im_theory_steps.proofs.Steps.{images_keep}
-use Rattle.im_theory_steps.proofs.Durable.{commits_stand, quiet_lives_settle}
-use Rattle.im_theory_steps.proofs.Lived.{lives_go_on}
+use Rattle.im_theory_steps.proofs.Cited.{copies_are_images, images_change_nothing, images_keep, commits_stand, quiet_lives_settle, lives_go_on}
 use Rattle.im_engine.specs.declared.engine.Engine.{Engine}
 use Rattle.im_engine.specs.Faults.{told_as, ends_engine}
 use Rattle.im_engine.specs.Told.{ReadCause}

@@ -21,9 +21,7 @@ use Rattle.im_theory_machine.specs.Machine.{Moves, Breaks, barred}
 use Rattle.im_theory_steps.specs.Growth.{AreBelow, Stays, IsOfAll}
 use Rattle.im_theory_steps.specs.Serving.{IsServing, IsServed}
 use Rattle.im_theory_steps.specs.Durable.{AreCommitted}
-use Rattle.im_theory_steps.proofs.Growth.{copies_are_images, images_change_nothing}
-use Rattle.im_theory_steps.proofs.Durable.{commits_stand}
-use Rattle.im_theory_steps.proofs.Lived.{lives_go_on}
+use Rattle.im_theory_steps.proofs.Cited.{copies_are_images, images_change_nothing, commits_stand, lives_go_on}
 use Rattle.im_engine.specs.declared.engine.Engine.{Engine}
 use Rattle.im_engine.specs.Aims.{under_of}
 use Rattle.im_engine.specs.Stands.{Allowed}

@@ -5,15 +5,14 @@ use Rattle.im_base_types.specs.Lives.{Shown, shows}
 use Rattle.im_base_steps.specs.Calls.{asked_by, told_by}
 use Rattle.im_base_steps.specs.declared.step.Step.{Step}
 use Rattle.im_base_steps.specs.declared.reply.Reply.{Reply}
-use Rattle.im_base_types.specs.declared.file_id.FileId.TheVariants.{Log, Pages, Log2}
+use Rattle.im_base_types.specs.declared.file_id.FileId.TheVariants.{Log, Log2}
 use Rattle.im_theory_log.specs.Histories.{Base, History}
 use Rattle.im_base_disk.specs.Disk.{Files}
 use Rattle.im_base_two_logs.specs.Renamed.{named, same_files}
 use Rattle.im_base_two_logs.specs.Runs.{IsNameless}
 use Rattle.im_base_two_logs.proofs.Runs.{other_names}
-use Rattle.im_log_header.specs.Header as headers
 use Rattle.im_log_header.proofs.Saying.{unmade}
-use Rattle.im_log_gate.specs.Header.{generation_of, least_number, IsMade, IsUnmade}
+use Rattle.im_log_gate.specs.Header.{generation_of, least_number, IsUnmade}
 use Rattle.im_log_choice.specs.Current.{IsCurrent, HasCurrent}
 use Rattle.im_log_choice.proofs.Choices.{choices}
 use Rattle.im_log_choice.proofs.Names.{turned_has}
@@ -23,6 +22,7 @@ use Rattle.im_page_file.specs.OtherLog.{IsNewest}
 use Rattle.im_restart.specs.Restart.{HasStore, MayRestart, SpellsLog}
 use Rattle.im_engine.specs.Stands.{Allowed, StandsFor, SpellsCurrent}
 use Rattle.im_engine.specs.Turns.{IsCutOff}
+use Rattle.im_page_writer.proofs.Switching.{named_pages, made_header}
 
 -- ---- names
 
@@ -30,23 +30,15 @@ use Rattle.im_engine.specs.Turns.{IsCutOff}
 pub turned_back : (swapped : Bool) (files : Files) → named (not swapped) (named true files) ≡ named swapped files
 turned_back swapped files = other_names swapped (named true files) ∙ ap (named swapped) (same_files true files)
 
-back_has : (swapped : Bool) (files : Files) → HasCurrent (named swapped files) → HasCurrent files
+pub back_has : (swapped : Bool) (files : Files) → HasCurrent (named swapped files) → HasCurrent files
 back_has true files has = subst HasCurrent (same_files true files) (turned_has (named true files) has)
 back_has false files has = has
-
--- the file of pages has one name
-pub same_pages : (swapped : Bool) (files : Files) → named swapped files Pages ≡ files Pages
-same_pages true files = refl
-same_pages false files = refl
 
 -- ---- one of the two is the current one
 
 pub newest_current : {b : Base} (files : Files) → IsNewest b files → IsCurrent false files
 newest_current {b} files (inl older) = inl older.earlier
 newest_current {b} files (inr none) = inr ((unmade (files Log) none.0).generation, (unmade (files Log2) none.1).generation, refl)
-
-made_header : (file : List ℕ) → IsMade file → headers.IsMade file
-made_header file made = record { within = made.within; made = made.made; named = made.named }
 
 newest_has : {b : Base} (base : ℕ) (all : History) (files : Files) → IsLogOf base all (files Log) → IsNewest b files → HasCurrent files
 newest_has {b} base all files log (inl older) = record {
@@ -178,5 +170,5 @@ spells_by files r (inr zero) has spells = record {
     none = has.apart (zero.0 ∙ sym zero.1)
 
     by : SpellsLog (named r files) → SpellsLog (named false files)
-    by (inl fresh) = inl (of_either IsUnmade false r files none.0 none.1, ap (λ (bytes : List ℕ). length bytes) (sym (same_pages r files)) ∙ fresh.1)
+    by (inl fresh) = inl (of_either IsUnmade false r files none.0 none.1, ap (λ (bytes : List ℕ). length bytes) (sym (named_pages r files)) ∙ fresh.1)
     by (inr found) = absurd (not_both (named r files Log) found.1.made none.0)

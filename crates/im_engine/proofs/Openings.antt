@@ -21,9 +21,10 @@ use Rattle.im_restart_analysis.specs.Numbers.{IsNextNumber}
 use Rattle.im_engine.specs.Restarting.{IsAtRest}
 use Rattle.im_engine.specs.Stands.{StandsFor, Allowed}
 use Rattle.im_engine.proofs.AtRest.{rest_restarted}
-use Rattle.im_engine.proofs.Named.{allowed_nameless, may_by, newest_current, same_pages}
+use Rattle.im_engine.proofs.Named.{allowed_nameless, may_by, newest_current}
 use Rattle.im_engine.proofs.NamedRuns.{names_leave}
 use Rattle.im_engine.proofs.Reopened.{leaves_logs}
+use Rattle.im_page_writer.proofs.Switching.{named_pages as same_pages}
 
 module _ {D : Type 0} (d : Ghosts D) (before : List Effect) (old : D) (l : StandsFor before (d.seen old)) where
   -- a stop within the restart

@@ -1,6 +1,5 @@
 -- How a step goes on with the structure change under way, where it leaves it as it is; and what its owner is never told.
-use Rattle.std.proofs.Common.{◌≡◌, ◌≢◌, ◌⊎◌, inl, inr, ℕ, Bool, true, false, cond, is_some, Option, None, Some, refl, sym, ap, subst, ◌∙◌, ◌==◌}
-use Rattle.std.proofs.lemmas.Bool.{eqb-true}
+use Rattle.std.proofs.Common.{◌≡◌, ◌≢◌, ◌⊎◌, inl, inr, ℕ, Bool, true, false, cond, is_some, Option, None, Some, refl, sym, ap, subst, ◌∙◌, ◌==◌, eqb-true}
 use Rattle.im_base_types.specs.Answers as answers
 use Rattle.im_base_types.specs.Answers.{Step, Begin, Do, Commit, Rollback, Continue, FlushPage, Force, Checkpoint, Switch}
 use Rattle.im_base_types.specs.Maps.{IndexMap}

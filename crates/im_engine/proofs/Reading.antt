@@ -28,8 +28,7 @@ use Rattle.im_theory_machine.specs.declared.verdict.Verdict.TheVariants.{Wait, D
 use Rattle.im_theory_machine.specs.View.{View, did, marked, owner_in, owns_in, pending_of}
 use Rattle.im_theory_machine.specs.Machine.{Wants}
 use Rattle.im_theory_steps.specs.Checks.{checked_by}
-use Rattle.im_theory_steps.proofs.Asking.{asks_nothing, waits_ask_nothing, dies_ask_nothing}
-use Rattle.im_theory_steps.proofs.Steps.{reads_served, waits_served, dies_served}
+use Rattle.im_theory_steps.proofs.Cited.{asks_nothing, waits_ask_nothing, dies_ask_nothing, reads_served, waits_served, dies_served}
 use Rattle.im_engine.specs.declared.engine.Engine.{Engine}
 use Rattle.im_engine.specs.Faults.{told_as, ends_engine}
 use Rattle.im_engine.specs.Running.{IsRunning, IsLife}

@@ -1,5 +1,5 @@
 -- Steps that calls of the writer refuse.
-use Rattle.std.proofs.Common.{◌≡◌, ◌≢◌, inl, inr, ℕ, ◌≤◌, List, Bool, true, false, Some, None, refl, sym, subst, ◌∙◌}
+use Rattle.std.proofs.Common.{◌≡◌, ◌≢◌, inl, inr, ℕ, ◌≤◌, List, true, false, Some, None, refl, sym, subst, ◌∙◌}
 use Rattle.im_base_types.specs.Answers.{Step, Begin, Do, Commit, Rollback, Continue, FlushPage, Force, Checkpoint, Switch, Refused}
 use Rattle.im_base_types.specs.Changes.{Effect}
 use Rattle.im_theory_log.specs.Histories.{Base, History}
@@ -20,9 +20,7 @@ use Rattle.im_theory_machine.specs.Locks.{Lock, SameLocks}
 use Rattle.im_theory_machine.specs.View.{View, locks_in}
 use Rattle.im_theory_machine.specs.Machine.{Breaks, Wants, barred}
 use Rattle.im_theory_steps.specs.Serving.{IsServing}
-use Rattle.im_theory_steps.proofs.Asking.{refusals_ask_nothing}
-use Rattle.im_theory_steps.proofs.Durable.{others_ask_nothing}
-use Rattle.im_theory_steps.proofs.Steps.{lacks_served}
+use Rattle.im_theory_steps.proofs.Cited.{refusals_ask_nothing, others_ask_nothing, lacks_served}
 use Rattle.im_engine.specs.declared.engine.Engine.{Engine}
 use Rattle.im_engine.specs.Faults.{told_as, ends_engine}
 use Rattle.im_engine.specs.Stands.{Allowed}
@@ -30,9 +28,7 @@ use Rattle.im_engine.specs.Running.{IsRunning, IsLife}
 use Rattle.im_engine.specs.Kept.{StepKept, IsDone}
 use Rattle.im_engine.proofs.Running.{allowed_as, tells, read_on, read_stops}
 use Rattle.im_engine.proofs.Made.{grown_made, leaves_as, step_broke}
-
-not_true : (b : Bool) → b ≡ false → b ≡ true → ⊥
-not_true b off on = let never : false ≡ true = sym off ∙ on in cc never
+use Rattle.im_engine.proofs.Looked.{not_true}
 
 -- nothing was done
 pub none_done : {D : Type 0} (d : Ghosts D) (before : List Effect) (s : Shown) (v : View) (step : Step) (n : ℕ) (e : Engine D d) → IsDone d before s v step (Refused n) e

@@ -1,7 +1,7 @@
 -- What the records of a restart leave of a log: what is committed, and numbers that are above its own.
 use Rattle.std.proofs.Common.{◌≡◌, ℕ, ◌<◌, ◌≤◌, ◌-◌, ◌^◌, [], ◌∷◌, ◌++◌, Bool, true, false, inl, inr, refl, sym, ap, subst, ◌∙◌, arith}
-use Rattle.std.specs.Prelude.{not, ◌==◌, ◌&&◌, ◌||◌, nat_le, min}
-use Rattle.std.proofs.lemmas.Bool.{cases_Bool, cases_eq, and_parts, ne_eqb, eq-eqb, cond-false}
+use Rattle.std.specs.Prelude.{◌==◌, ◌||◌, min}
+use Rattle.std.proofs.lemmas.Bool.{cases_Bool, cases_eq, ne_eqb, eq-eqb, cond-false}
 use Rattle.im_base_types.specs.Records.{What, InsertKey, DeleteKey, UndoInsert, UndoDelete, Smo, UndoSmo, DummyClr, Commit, End, Image, Checkpoint, Unreadable, Logged}
 use Rattle.im_theory_log.specs.Histories.{Base, History, IsRecordOf}
 use Rattle.im_theory_log.specs.Structure.{open_after, open_smo}
@@ -14,6 +14,7 @@ use Rattle.im_restart_analysis.proofs.Losers.{all_done, loser_from}
 use Rattle.im_restart.specs.Undone.{IsUndo, AreUndo, GrowsByRestart}
 use Rattle.im_theory_tree.specs.Theory.{page_tree}
 use Rattle.im_theory_steps.specs.Growth.{AreBelow, IsOver}
+use Rattle.im_restart_undo.proofs.Growth.{loser_has}
 
 -- ---- numbers
 
@@ -37,9 +38,6 @@ next_is_above lowest n log next lt =
     below_each n log (λ r is. subst (λ (x : ℕ). r.txn < x) same (next.new.above r is))
 
 -- ---- one record of a restart
-
-has_its : (t : ℕ) (log : History) → is_loser t log ≡ true → has_record t log ≡ true
-has_its t log is = (and_parts (has_record t log) (not (is_finished t log)) (and_parts (nat_le 1 t) (has_record t log && not (is_finished t log)) is).1).0
 
 -- the open structure change's records are of the log
 opened_below : (n : ℕ) (r : Logged) (w : What) (going : History) → r.txn < n → AreBelow n going → AreBelow n (open_after r w going)
@@ -68,7 +66,7 @@ record LeavesLog (r : Logged) (older : History) (w : What) : Type 0 where
 
 module _ (r : Logged) (older : History) where
   loser_below : is_loser r.txn older ≡ true → (n : ℕ) → 1 ≤ n → AreBelow n older → r.txn < n
-  loser_below loser n one low = below_of n r.txn older low (has_its r.txn older loser)
+  loser_below loser n one low = below_of n r.txn older low (loser_has r.txn older loser)
 
   owner_below : (s : Logged) (rest : History) → open_smo older ≡ s ∷ rest → r.txn ≡ s.txn → (n : ℕ) → 1 ≤ n → AreBelow n older → r.txn < n
   owner_below s rest going owner n one low =

@@ -7,8 +7,7 @@ use Rattle.im_base_types.specs.declared.fault.Fault.{Fault}
 use Rattle.im_base_types.specs.Maps.{IndexMap}
 use Rattle.im_base_types.specs.Pages.{Page}
 use Rattle.im_theory_log.specs.Structure.{open_smo, settled, taken_back}
-use Rattle.im_theory_log.proofs.Redo.{reached_end}
-use Rattle.im_theory_log.proofs.Fronts.{has_tree}
+use Rattle.im_theory_log.proofs.Cited.{reached_end, has_tree}
 use Rattle.im_engine_index.specs.LockCalls.{AsksLocks}
 use Rattle.im_page_writer.specs.Outcome.{AreLoaded, HasPages, Stays, pages_of}
 use Rattle.im_page_writer.proofs.Outcomes.{leaves_of_end, pages_here}
@@ -40,13 +39,10 @@ use Rattle.im_theory_machine.specs.View as views
 use Rattle.im_theory_machine.specs.View.{View, owner_of, owner_in, owns_in, pending_of}
 use Rattle.im_theory_machine.specs.Machine.{barred}
 use Rattle.im_theory_steps.specs.Checks.{checked_by}
-use Rattle.im_theory_steps.proofs.Lived.{rows_tell}
+use Rattle.im_theory_steps.proofs.Cited.{rows_tell, owners_marked, copies_are_images, images_change_nothing, commits_stand}
 use Rattle.im_theory_steps.specs.Growth.{AreBelow}
 use Rattle.im_theory_steps.specs.Serving.{IsAt, IsServing, mark_of}
-use Rattle.im_theory_steps.proofs.Owner.{owners_marked}
 use Rattle.im_theory_steps.specs.Durable.{AreCommitted}
-use Rattle.im_theory_steps.proofs.Growth.{copies_are_images, images_change_nothing}
-use Rattle.im_theory_steps.proofs.Durable.{commits_stand}
 use Rattle.im_engine.specs.declared.engine.Engine.{Engine}
 use Rattle.im_engine.specs.Stands.{StandsFor, Allowed}
 use Rattle.im_engine.specs.declared.stepped.Under.{Under}

@@ -15,7 +15,7 @@ use Rattle.im_theory_log.specs.Transactions.{contents, last_of, undo_next_of}
 use Rattle.im_theory_log.specs.Writer.{Writer}
 use Rattle.im_base_disk.specs.declared.disk.Disk.{Ghosts}
 use Rattle.im_log_record.specs.Entry as entries
-use Rattle.im_log_record.specs.Entry.{Entry, page_of, prev_of}
+use Rattle.im_log_record.specs.Entry.{Entry, prev_of}
 use Rattle.im_log.specs.Whats.{what_of}
 use Rattle.im_log.specs.Spelled.{logged_at}
 use Rattle.im_page_writer.specs.declared.page_writer.PageWriter.{PageWriter}

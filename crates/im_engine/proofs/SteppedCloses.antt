@@ -43,11 +43,7 @@ use Rattle.im_theory_steps.specs.Checks.{checked_by}
 use Rattle.im_theory_steps.specs.Growth.{AreBelow, GrowsByStructure, GrowsWithin, IsOfOthers, IsOver, Stays}
 use Rattle.im_theory_steps.specs.Serving.{IsServing}
 use Rattle.im_theory_steps.specs.Steps.{noted}
-use Rattle.im_theory_steps.proofs.Changing.{turns_drop, turns_end}
-use Rattle.im_theory_steps.proofs.Durable.{commits_stand}
-use Rattle.im_theory_steps.proofs.Growth.{numbers_stay_new, same_by, same_then, structure_changes_no_key, within_leaves_others}
-use Rattle.im_theory_steps.proofs.Steps.{mark_free, structure_keeps}
-use Rattle.im_theory_steps.proofs.Undone.{ends_leave_nothing, last_undone_served, undone_served}
+use Rattle.im_theory_steps.proofs.Cited.{turns_drop, turns_end, commits_stand, numbers_stay_new, same_by, same_then, structure_changes_no_key, within_leaves_others, mark_free, structure_keeps, ends_leave_nothing, last_undone_served, undone_served}
 use Rattle.im_engine.specs.declared.engine.Engine.{Engine}
 use Rattle.im_engine.specs.declared.stepped.Aim.{Aim}
 use Rattle.im_engine.specs.declared.stepped.Aim.TheVariants.{TakesBack, TookBack}

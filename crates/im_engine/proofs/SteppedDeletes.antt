@@ -10,7 +10,7 @@ use Rattle.im_base_types.specs.Keys.{Key}
 use Rattle.im_base_types.specs.Lives.{Shown}
 use Rattle.im_base_types.specs.Maps.{IndexMap}
 use Rattle.im_base_types.specs.declared.fault.Fault.{Fault}
-use Rattle.im_base_types.specs.declared.fault.Fault.TheVariants.{Capacity, Device, Failed, LogFull, Memory, NotAStore, PagesFull}
+use Rattle.im_base_types.specs.declared.fault.Fault.TheVariants.{Device, Failed, LogFull, Memory, NotAStore}
 use Rattle.im_base_types.specs.declared.fault.Fault.TheVariants as faults
 use Rattle.im_base_disk.specs.declared.disk.Disk.{Ghosts}
 use Rattle.im_base_disk.specs.Disk.{Files}
@@ -63,7 +63,8 @@ use Rattle.im_engine.proofs.SteppedExits.{barred_seen, hides, paced_by}
 use Rattle.im_engine.proofs.SteppedMade.{left_by_edit, tree_made}
 use Rattle.im_engine.proofs.SteppedPaces.{same_under}
 use Rattle.im_engine.proofs.SteppedTold.{none_under}
-use Rattle.im_engine.proofs.Telling.{delete_table, late_lost, not_true, told_refused}
+use Rattle.im_engine.proofs.Telling.{delete_table, late_lost, told_refused}
+use Rattle.im_engine.proofs.Looked.{not_true}
 
 -- a call that is not refused late ends as one that may be
 as_late : {D : Type 0} (d : Ghosts D) (v : PageWriter) (old : D) (w : PageWriter) (new : D) → v.failed ≡ false → (f : Fault) → LogEnds d false mild v old w new (Some f) → LogEnds d true mild v old w new (Some f)

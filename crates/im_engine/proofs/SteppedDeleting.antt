@@ -25,8 +25,7 @@ use Rattle.im_theory_machine.specs.View.{View, did, owns_in, with_change}
 use Rattle.im_theory_steps.specs.Checks.{checked_by}
 use Rattle.im_theory_steps.specs.Serving.{IsServed}
 use Rattle.im_theory_steps.specs.Steps.{key_record}
-use Rattle.im_theory_steps.proofs.Changing.{deletes_begin}
-use Rattle.im_theory_steps.proofs.Logging.{deletes_served}
+use Rattle.im_theory_steps.proofs.Cited.{deletes_begin, deletes_served}
 use Rattle.im_theory_tree.specs.Levels.{Pages}
 use Rattle.im_theory_tree.specs.Good.{IsGoodTree}
 use Rattle.im_theory_tree.specs.Theory.{page_tree}

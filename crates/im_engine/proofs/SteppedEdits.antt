@@ -1,7 +1,6 @@
 -- Steps that change a key beside a structure change: what their calls below ask, and the log behind the key's record.
-use Rattle.std.proofs.Common.{◌≡◌, ◌≢◌, inr, ℕ, zero, suc, ◌≤◌, ◌<◌, List, ◌∷◌, ◌++◌, Bool, true, false, Option, Some, None, Result, Ok, Err, refl, sym, ap, subst, ◌∙◌, arith}
+use Rattle.std.proofs.Common.{◌≡◌, ◌≢◌, inr, ℕ, zero, suc, ◌≤◌, ◌<◌, List, ◌∷◌, ◌++◌, Bool, true, false, Option, Some, None, Result, Ok, Err, refl, sym, ap, subst, ◌∙◌, arith, ltb-true}
 use Rattle.std.specs.Prelude.{◌↔◌, IsOk, find, ◌==◌, ◌&&◌, nat_lt, not, length}
-use Rattle.std.proofs.lemmas.Bool.{ltb-true}
 use Rattle.std.specs.List.{list_any}
 use Rattle.im_base_types.specs.Answers.{Access, Do, changes}
 use Rattle.im_base_types.specs.Changes.{Effect}
@@ -29,9 +28,7 @@ use Rattle.im_theory_steps.specs.Checks.{checked_by}
 use Rattle.im_theory_steps.specs.Growth.{GrowsWithin}
 use Rattle.im_theory_steps.specs.Serving.{IsRow, mark_of}
 use Rattle.im_theory_steps.specs.Steps.{IsOnTheWay, key_record}
-use Rattle.im_theory_steps.proofs.Holding.{free_by_table}
-use Rattle.im_theory_steps.proofs.Promises.{granted_keys_free}
-use Rattle.im_theory_steps.proofs.Steps.{at, mark_free, ways_lead_on}
+use Rattle.im_theory_steps.proofs.Cited.{free_by_table, granted_keys_free, at, mark_free, ways_lead_on}
 use Rattle.im_theory_tree.specs.Theory.{page_tree}
 use Rattle.im_tree_search.specs.declared.change_beside.Beside.{Beside}
 use Rattle.im_smo_log.specs.Under.{is_structural}

@@ -28,8 +28,7 @@ use Rattle.im_theory_steps.specs.Checks.{checked_by}
 use Rattle.im_theory_steps.specs.Growth.{GrowsWithin}
 use Rattle.im_theory_steps.specs.Serving.{IsServed}
 use Rattle.im_theory_steps.specs.Steps.{IsOnTheWay, key_record, mark_for_aim, noted}
-use Rattle.im_theory_steps.proofs.Changing.{deletes_end, inserts_end, inserts_free}
-use Rattle.im_theory_steps.proofs.Steps.{ways_lead_on}
+use Rattle.im_theory_steps.proofs.Cited.{deletes_end, inserts_end, inserts_free, ways_lead_on}
 use Rattle.im_theory_tree.specs.Theory.{page_tree}
 use Rattle.im_theory_tree.proofs.TheoryLaws.{page_tree_laws}
 use Rattle.im_smo_log.specs.declared.change.Change.{Change}
@@ -60,9 +59,10 @@ use Rattle.im_engine.specs.Told.{IsMade, fixed_of}
 use Rattle.im_engine.proofs.Edited.{by_structure}
 use Rattle.im_engine.proofs.Running.{covered_stops}
 use Rattle.im_engine.proofs.SteppedEnds.{end_made, end_refused, going_mark}
-use Rattle.im_engine.proofs.Telling.{late_lost, log_lost, not_true}
+use Rattle.im_engine.proofs.Telling.{late_lost, log_lost}
 use Rattle.im_engine.proofs.SteppedMade.{left_by_edit, logged_made}
 use Rattle.im_engine.proofs.SteppedOwners.{OwnsRow, goes_here, owner_below, owner_forward, owner_row, view_has}
+use Rattle.im_engine.proofs.Looked.{not_true}
 
 never_failed : {D : Type 0} (d : Ghosts D) (v : PageWriter) (old : D) (w : PageWriter) (new : D) → v.failed ≡ false → (f : Fault) → LogEnds d false none_mild v old w new (Some f) → f ≡ Failed → ⊥
 never_failed d v old w new works f x is = let moved : LogEnds d false none_mild v old w new (Some Failed) = subst (λ (g : Fault). LogEnds d false none_mild v old w new (Some g)) is x in not_true v.failed works moved.0

@@ -4,7 +4,7 @@ use Rattle.std.specs.Prelude.{find, ◌==◌}
 use Rattle.std.specs.FinMap.{get}
 use Rattle.std.proofs.lemmas.Bool.{cond-true, eq-eqb}
 use Rattle.im_base_types.specs.Answers as answers
-use Rattle.im_base_types.specs.Answers.{Insert, Do, Refused, Reply, answer, changes}
+use Rattle.im_base_types.specs.Answers.{Insert, Do}
 use Rattle.im_base_types.specs.Changes.{Effect}
 use Rattle.im_base_types.specs.Keys.{Key}
 use Rattle.im_base_types.specs.Lives.{Shown}
@@ -33,8 +33,7 @@ use Rattle.im_theory_machine.specs.View.{View, did, locked, owns_in, with_change
 use Rattle.im_theory_steps.specs.Checks.{checked_by}
 use Rattle.im_theory_steps.specs.Serving.{IsServed}
 use Rattle.im_theory_steps.specs.Steps.{key_record, noted}
-use Rattle.im_theory_steps.proofs.Changing.{inserts_begin}
-use Rattle.im_theory_steps.proofs.Logging.{inserts_served}
+use Rattle.im_theory_steps.proofs.Cited.{inserts_begin, inserts_served}
 use Rattle.im_theory_page.specs.Split.{HasRoom}
 use Rattle.im_theory_tree.specs.Levels.{Pages}
 use Rattle.im_theory_tree.specs.Good.{IsGoodTree}

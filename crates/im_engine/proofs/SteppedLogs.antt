@@ -35,6 +35,7 @@ use Rattle.im_engine.specs.declared.stepped.Aim.{Aim}
 use Rattle.im_engine.specs.declared.stepped.Aim.TheVariants.{Puts, Drops, TakesBack, TookBack}
 use Rattle.im_engine.specs.Aims.{Aims}
 use Rattle.im_engine.proofs.GoingOn.{images_beside}
+use Rattle.im_engine_index.proofs.OwnChanges.{goes_as}
 
 -- a page that is not told of has no image
 pub none_of : (images : List Numbered) (p : ℕ) → list_any (λ (q : ℕ). q == p) (numbers_of images) ≡ false → image_of images p ≡ None
@@ -43,16 +44,6 @@ none_of (x ∷ xs) p not = elim (cases_Bool (x.0 == p)) [
   | inl is ↦ (let clash : true ≡ false = sym (ap (λ (t : Bool). t || list_any (λ (q : ℕ). q == p) (numbers_of xs)) is) ∙ not in let never : ⊥ = cc clash in absurd never)
   | inr other ↦ cond-false (x.0 == p) (Some x.1) (image_of xs p) other ∙ none_of xs p (sym (ap (λ (t : Bool). t || list_any (λ (q : ℕ). q == p) (numbers_of xs)) other) ∙ not)
 ]
-
--- ---- a change by its fields
-
-pub goes_by : (b : Base) (c : Change) (log : History) (t undo_next : ℕ) (images : List Numbered) (done prev : ℕ) → c.transaction ≡ t → c.undo_next ≡ undo_next → c.images ≡ images → c.done ≡ done → c.last ≡ prev → IsUnderWay b t undo_next images done prev log → Goes b c log
-goes_by b c log t undo_next images done prev owner leads same made last way =
-    subst (λ (x : ℕ). IsUnderWay b x c.undo_next c.images c.done c.last log) (sym owner)
-    (subst (λ (x : ℕ). IsUnderWay b t x c.images c.done c.last log) (sym leads)
-    (subst (λ (xs : List Numbered). IsUnderWay b t undo_next xs c.done c.last log) (sym same)
-    (subst (λ (x : ℕ). IsUnderWay b t undo_next images x c.last log) (sym made)
-    (subst (λ (x : ℕ). IsUnderWay b t undo_next images done x log) (sym last) way))))
 
 -- ---- its next page
 
@@ -79,7 +70,7 @@ module _ {D : Type 0} (d : Ghosts D) (b : Base) (base : ℕ) (s : Writer) (c new
   under_way = step.goes goes
 
   pub page_goes : Goes b new log_now
-  page_goes = goes_by b new log_now c.transaction c.undo_next c.images (suc c.done) new.last step.owner step.leads step.images step.done refl under_way
+  page_goes = goes_as b new log_now c.transaction c.undo_next c.images (suc c.done) new.last step.owner step.leads step.images step.done refl under_way
 
   pub page_lawful : IsLawful b page_tree log_now
   page_lawful = under_way.lawful

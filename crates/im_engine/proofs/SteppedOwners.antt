@@ -1,8 +1,7 @@
 -- Whose structure change is under way: its row, and what its Continue is told.
-use Rattle.std.proofs.Common.{◌≡◌, ◌≢◌, ◌⊎◌, ℕ, ◌<◌, List, true, false, Option, None, Some, refl, sym, ap, subst, ◌∙◌}
+use Rattle.std.proofs.Common.{◌≡◌, ◌≢◌, ◌⊎◌, ℕ, ◌<◌, List, true, false, Option, None, Some, refl, sym, ap, subst, ◌∙◌, eq-eqb}
 use Rattle.std.specs.Prelude.{find}
 use Rattle.std.specs.FinMap.{empty}
-use Rattle.std.proofs.lemmas.Bool.{eq-eqb}
 use Rattle.im_base_types.specs.Answers as answers
 use Rattle.im_base_types.specs.Answers.{Continue}
 use Rattle.im_base_types.specs.Changes.{Effect, apply_all}
@@ -21,8 +20,7 @@ use Rattle.im_theory_machine.specs.View as views
 use Rattle.im_theory_machine.specs.View.{View, Txn, owner_in, owner_of}
 use Rattle.im_theory_steps.specs.Serving.{IsAt, IsRow, mark_of}
 use Rattle.im_theory_steps.specs.Steps.{mark_for_aim}
-use Rattle.im_theory_steps.proofs.Owner.{owners_marked}
-use Rattle.im_theory_steps.proofs.Steps.{at}
+use Rattle.im_theory_steps.proofs.Cited.{owners_marked, at}
 use Rattle.im_engine.specs.declared.engine.Engine.{Engine}
 use Rattle.im_engine.specs.declared.stepped.Under.{Under}
 use Rattle.im_engine.specs.Aims.{IsGoing, IsChanging, aim_of, under_of}

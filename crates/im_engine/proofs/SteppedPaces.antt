@@ -1,6 +1,5 @@
 -- How a step goes on with the structure change under way, or beside it.
-use Rattle.std.proofs.Common.{◌≡◌, inl, ℕ, List, true, Option, None, Some, refl, sym, ap, subst, ◌∙◌}
-use Rattle.std.proofs.lemmas.Bool.{ne_eqb}
+use Rattle.std.proofs.Common.{◌≡◌, inl, ℕ, List, true, Option, None, Some, refl, sym, ap, subst, ◌∙◌, ne_eqb}
 use Rattle.im_base_types.specs.Answers as answers
 use Rattle.im_base_types.specs.Answers.{Access, Fetch, Seek, Next, Prev, Scan, Insert, Delete, Do, Continue}
 use Rattle.im_base_types.specs.Changes.{Effect}

@@ -29,9 +29,7 @@ use Rattle.im_theory_machine.specs.View.{View, owner_of, owns_in}
 use Rattle.im_theory_steps.specs.Checks.{checked_by}
 use Rattle.im_theory_steps.specs.Serving.{IsServed}
 use Rattle.im_theory_steps.specs.Steps.{noted}
-use Rattle.im_theory_steps.proofs.Changing.{pages_served}
-use Rattle.im_theory_steps.proofs.Growth.{copies_are_images, images_change_nothing}
-use Rattle.im_theory_steps.proofs.Steps.{lacks_served}
+use Rattle.im_theory_steps.proofs.Cited.{pages_served, copies_are_images, images_change_nothing, lacks_served}
 use Rattle.im_theory_tree.specs.Theory.{page_tree}
 use Rattle.im_smo_log.specs.declared.change.Change.{Change}
 use Rattle.im_smo_log.specs.Changes.{GrowsByChange}
@@ -58,8 +56,9 @@ use Rattle.im_engine.proofs.Running.{checks_tell, grown_stops, read_on}
 use Rattle.im_engine.proofs.SteppedLogs.{log_now, made, now, page, page_front, page_goes, page_going, page_grows, page_last, page_lawful, page_newest, page_undo, was as was_body}
 use Rattle.im_engine.proofs.SteppedMade.{logged_made}
 use Rattle.im_engine.proofs.SteppedOwners.{goes_here, owner_below, owner_row, owns_it, paced_own}
-use Rattle.im_engine.proofs.Telling.{log_lost, not_true, told_answered, told_refused}
+use Rattle.im_engine.proofs.Telling.{log_lost, told_answered, told_refused}
 use Rattle.im_engine.proofs.Turning.{continue_made}
+use Rattle.im_engine.proofs.Looked.{not_true}
 
 -- why one page is refused
 pub page_cause : {D : Type 0} (d : Ghosts D) (v : PageWriter) (old : D) (w : PageWriter) (new : D) (f : Fault) → LogEnds d false mild v old w new (Some f) → TurnCause d w.log new (told_as f)

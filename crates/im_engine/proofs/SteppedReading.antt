@@ -53,13 +53,14 @@ use Rattle.im_engine.specs.Running.{IsLife, IsRunning}
 use Rattle.im_engine.specs.Told.{IsBlockedBy, IsMade, WantsHere, WantsOf, fixed_of}
 use Rattle.im_engine.proofs.Answered.{IsPlain, dies_plain, exit_made, granted_at, other_at, refused_made, rest_fixed, rest_here, same_rows, waits_plain}
 use Rattle.im_engine.proofs.Causes.{read_answered, read_cause, read_refused, reads}
-use Rattle.im_engine.proofs.Telling.{is_refused, not_true, read_lost}
+use Rattle.im_engine.proofs.Telling.{is_refused, read_lost}
 use Rattle.im_engine.proofs.SteppedPaces.{blocked_by, paced_read}
 use Rattle.im_engine.proofs.Reading.{dies, granted, refused, waits}
 use Rattle.im_engine.proofs.Running.{read_on, read_stops}
 use Rattle.im_engine.proofs.SteppedMade.{tree_made}
 use Rattle.im_engine.proofs.SteppedReads.{hidden_here, seen_here}
 use Rattle.im_engine.proofs.SteppedTold.{tree_here, walk_here}
+use Rattle.im_engine.proofs.Looked.{not_true}
 
 -- it wants nothing
 reads_want : (pages : Pages) (m : IndexMap) (Idle : Type 0) (stepped : Bool) (was now : Option Changing) (Begun : ℕ → Type 0) (nets : ℕ → Effect) (locks : ℕ → List Lock) (max t : ℕ) (a : Access) → reads a ≡ true → (reply : Reply) → WantsOf pages m Idle stepped was now Begun nets locks max (Do t a) reply

@@ -52,11 +52,7 @@ use Rattle.im_theory_steps.specs.Checks.{checked_by}
 use Rattle.im_theory_steps.specs.Growth.{AreBelow, GrowsByStructure, GrowsWithin}
 use Rattle.im_theory_steps.specs.Serving.{IsRow, IsServed, IsServing, mark_of}
 use Rattle.im_theory_steps.specs.Steps.{noted}
-use Rattle.im_theory_steps.proofs.Changing.{trees_halt, turns_begin, turns_empty}
-use Rattle.im_theory_steps.proofs.Durable.{commits_stand}
-use Rattle.im_theory_steps.proofs.Growth.{numbers_stay_new, structure_changes_no_key, unlogged, within_leaves_others}
-use Rattle.im_theory_steps.proofs.Steps.{at, mark_free}
-use Rattle.im_theory_steps.proofs.Undone.{ends_leave_nothing, last_undone_served, rolling_has_more, undo_takes_back, undone_served}
+use Rattle.im_theory_steps.proofs.Cited.{trees_halt, turns_begin, turns_empty, commits_stand, numbers_stay_new, structure_changes_no_key, unlogged, within_leaves_others, at, mark_free, ends_leave_nothing, last_undone_served, rolling_has_more, undo_takes_back, undone_served}
 use Rattle.im_engine.specs.declared.engine.Engine.{Engine}
 use Rattle.im_engine.specs.declared.stepped.Aim.TheVariants.{TakesBack, TookBack}
 use Rattle.im_engine.specs.declared.stepped.Under.{Under}

@@ -2,7 +2,7 @@
 use Rattle.std.proofs.Common.{◌≡◌, ◌≢◌, inl, inr, ⊎_elim, ℕ, Bool, true, false, List, length, Option, None, Some, refl, sym, ap, subst, ◌∙◌, cond}
 use Rattle.std.specs.Prelude.{◌||◌, ◌==◌, ◌+◌, ◌-◌, if◌then◌else◌, ◌↔◌, nat_lt, not}
 use Rattle.im_base_types.specs.Answers as answers
-use Rattle.im_base_types.specs.Answers.{Step, Begin, Do, Commit, Rollback, Continue, FlushPage, Force, Checkpoint, Switch, Access, Mark, Idle, Going, MustRollBack, RollingBack, Committing}
+use Rattle.im_base_types.specs.Answers.{Step, Begin, Do, Commit, Rollback, Continue, FlushPage, Force, Checkpoint, Switch, Mark, Idle, Going, MustRollBack, RollingBack, Committing}
 use Rattle.im_base_types.specs.Changes.{Effect}
 use Rattle.im_base_types.specs.Lives.{Shown, breaks}
 use Rattle.im_base_types.specs.Maps.{IndexMap}
@@ -35,7 +35,8 @@ use Rattle.im_engine.specs.Told.{Fixed, Known, AnswersAlone, AsksChange, wants_p
 use Rattle.im_engine.proofs.Alone.{answers_alone}
 use Rattle.im_engine.proofs.Barred.{barred_kept, first_failed}
 use Rattle.im_engine.proofs.Causes.{refused_inj}
-use Rattle.im_engine.proofs.Telling.{alive_now, not_true}
+use Rattle.im_engine.proofs.Telling.{alive_now}
+use Rattle.im_engine.proofs.Looked.{not_true}
 
 -- ---- the numbers of refusals
 

@@ -30,9 +30,7 @@ use Rattle.im_theory_machine.specs.Table.{locks_of}
 use Rattle.im_theory_steps.specs.Checks.{checked_by}
 use Rattle.im_theory_steps.specs.Serving.{IsServing}
 use Rattle.im_theory_steps.specs.Switching.{IsSwitched}
-use Rattle.im_theory_steps.proofs.GoingOn.{switches_served}
-use Rattle.im_theory_steps.proofs.Growth.{copies_are_images, images_change_nothing}
-use Rattle.im_theory_steps.proofs.Steps.{images_keep}
+use Rattle.im_theory_steps.proofs.Cited.{switches_served, copies_are_images, images_change_nothing, images_keep}
 use Rattle.im_engine.specs.declared.engine.Engine.{Engine}
 use Rattle.im_engine.specs.Faults.{told_as}
 use Rattle.im_engine.specs.Numbered.{Numbered}

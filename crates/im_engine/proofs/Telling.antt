@@ -18,9 +18,7 @@ use Rattle.im_engine.specs.Faults.{told_as, ends_engine}
 use Rattle.im_base_types.specs.Answers as answers
 use Rattle.im_engine.specs.Numbered.{Numbered, besides_rows}
 use Rattle.im_engine.specs.Told.{Known, HasNext, IsTold, after, fixed_of, is_early, known_of}
-
-pub not_true : (b : Bool) → b ≡ false → b ≡ true → ⊥
-not_true b off on = let never : false ≡ true = sym off ∙ on in cc never
+use Rattle.im_engine.proofs.Looked.{not_true}
 
 -- a refusal of the calls below breaks the engine where its number says so
 pub ends_breaks : (f : Fault) → breaks (number_of (told_as f)) ≡ ends_engine f

@@ -20,7 +20,7 @@ use Rattle.im_base_disk.specs.Disk.{Files}
 use Rattle.im_base_disk.specs.Runs.{LeavesOnly}
 use Rattle.im_base_disk.proofs.Runs.{weakened}
 use Rattle.im_log_record.specs.Entry as entries
-use Rattle.im_log_record.specs.Entry.{Entry, prev_of}
+use Rattle.im_log_record.specs.Entry.{Entry}
 use Rattle.im_log.specs.Whats.{what_of}
 use Rattle.im_log.specs.Spelled.{logged_at}
 use Rattle.im_log.specs.declared.log_file.LogFile.{LogFile}
@@ -59,10 +59,7 @@ use Rattle.im_theory_steps.specs.Checks.{checked_by, mark_at}
 use Rattle.im_theory_steps.specs.Growth.{AreBelow, AreWithin, GrowsWithin, IsWithin}
 use Rattle.im_theory_steps.specs.Undone.{UndoesNewest}
 use Rattle.im_theory_steps.specs.Serving.{IsRow, IsServing, mark_of}
-use Rattle.im_theory_steps.proofs.Growth.{numbers_stay_new, within_leaves_others}
-use Rattle.im_theory_steps.proofs.Durable.{commits_stand}
-use Rattle.im_theory_steps.proofs.Steps.{at, mark_free}
-use Rattle.im_theory_steps.proofs.Undone.{ends_leave_nothing, last_undone_served, rolling_has_more, undone_served}
+use Rattle.im_theory_steps.proofs.Cited.{numbers_stay_new, within_leaves_others, commits_stand, at, mark_free, ends_leave_nothing, last_undone_served, rolling_has_more, undone_served}
 use Rattle.im_engine.specs.declared.engine.Engine.{Engine}
 use Rattle.im_engine.specs.Faults.{told_as, ends_engine}
 use Rattle.im_engine.specs.Numbered.{Numbered}
@@ -77,8 +74,8 @@ use Rattle.im_engine.specs.Growing.{turns as by_turn, ends_by_turn}
 use Rattle.im_engine.proofs.Running.{nobody_owner, closed_now, checks_tell, bodies_are, left_on}
 use Rattle.im_engine.proofs.Made.{step_made}
 use Rattle.im_engine.proofs.Refused.{breaks_with, lacks_with}
-use Rattle.im_engine.proofs.Telling.{not_true}
 use Rattle.im_engine.proofs.Causes.{Answers, behind, not_refused_for, refused_for}
+use Rattle.im_engine.proofs.Looked.{not_true}
 
 -- ---- the row of a step that goes on
 

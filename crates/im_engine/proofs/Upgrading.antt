@@ -1,7 +1,7 @@
 -- How an upgrade ends, by which a log of the first format goes on as one of the second.
 use Rattle.std.proofs.Common.{◌≡◌, ◌≢◌, ◌⊎◌, inl, inr, ℕ, ◌≤◌, ◌+◌, ◌^◌, Bool, true, false, List, Some, None, Result, Ok, Err, take, refl, sym, ◌∙◌, ap, arith}
-use Rattle.std.specs.Prelude.{◌↔◌, if◌then◌else◌, IfErr}
-use Rattle.std.proofs.lemmas.Bool.{cases_Bool, cond-true}
+use Rattle.std.specs.Prelude.{◌↔◌, IfErr}
+use Rattle.std.proofs.lemmas.Bool.{cases_Bool}
 use Rattle.im_base_types.specs.declared.fault.Fault.{Fault}
 use Rattle.im_base_types.specs.declared.fault.Fault.TheVariants.{Capacity, Device, Failed, LogFull, NotAStore}
 use Rattle.im_base_types.specs.declared.file_id.FileId.TheVariants.{Log}
@@ -9,7 +9,7 @@ use Rattle.im_base_types.specs.Changes.{Effect}
 use Rattle.im_base_disk.specs.declared.disk.Disk.{Ghosts}
 use Rattle.im_base_disk.specs.Disk.{Files}
 use Rattle.im_log_header.specs.Header.{says_made, says_second}
-use Rattle.im_log_header.proofs.Saying.{says_other}
+use Rattle.im_log_header.proofs.Saying.{says_other, gate_is}
 use Rattle.im_log_gate.specs.Gate.{first_of, generation_at}
 use Rattle.im_log_gate.specs.Header.{first_gate, generation_of}
 use Rattle.im_log.specs.LogFile.{HasNoRoom}
@@ -26,14 +26,10 @@ use Rattle.im_engine.proofs.AtRest.{rest_stops, rest_switched, switch_left}
 
 -- ---- the two formats
 
-gate_second : (file : List ℕ) → says_second (take 47 file) ≡ true → first_gate file ≡ 47
-unfolding first_gate
-gate_second file is = cond-true (says_second (take 47 file)) 47 (if says_made (take 47 file) then 31 else 47) is
-
 -- a log of the first format is of generation 1
 formats : (file : List ℕ) → (first_gate file ≡ 47) ⊎ ((first_gate file ≡ 31) × (generation_of file ≡ 1))
 formats file = elim (cases_Bool (says_second (take 47 file))) [
-  | inl second ↦ inl (gate_second file second)
+  | inl second ↦ inl (gate_is file second)
   | inr other ↦ elim (cases_Bool (says_made (take 47 file))) [
     | inl made ↦ (let says = says_other file other true made in inr (says.gate, says.generation))
     | inr none ↦ inl (says_other file other false none).gate

@@ -12,8 +12,7 @@ use Rattle.im_base_txn.specs.declared.transaction.Transaction.{Transaction}
 use Rattle.im_base_txn.specs.Rows.{AreRising, is_of, is_committing, waits_at, waiting_in, waiting_numbers, without_waiting}
 use Rattle.im_theory_machine.specs.Table.{Table, AreReleased}
 use Rattle.im_theory_machine.specs.View.{View, Txn, owner_in, is_among}
-use Rattle.im_theory_machine.proofs.Isolates.{queue_marks}
-use Rattle.im_theory_machine.proofs.Runs.{IsQueue}
+use Rattle.im_theory_machine.proofs.Cited.{queue_marks, IsQueue}
 use Rattle.im_theory_steps.specs.Steps.{without_all}
 use Rattle.im_theory_steps.specs.Serving.{IsAt, IsServing, mark_of}
 use Rattle.im_theory_steps.proofs.Waiting.{queue_rows, queue_count, queue_long, queue_numbers, released_queue}

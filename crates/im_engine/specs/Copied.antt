@@ -6,8 +6,7 @@ use Rattle.im_base_types.specs.Lives.{Shown}
 use Rattle.im_base_types.specs.declared.fault.Fault.{Fault}
 use Rattle.im_base_types.specs.declared.file_id.FileId.{FileId}
 use Rattle.im_base_disk.specs.declared.disk.Disk.{Ghosts}
-use Rattle.im_base_disk.specs.Runs.{Reads}
-use Rattle.im_base_disk.specs.Runs.{IsSynced}
+use Rattle.im_base_disk.specs.Runs.{Reads, IsSynced}
 use Rattle.im_base_two_logs.specs.Runs.{LeavesNamed}
 use Rattle.im_base_mirror_disk.specs.Copies.{HasFailed, IsFurther}
 use Rattle.im_base_mirror_disk.specs.declared.mirrored.Mirrored.{Mirrored}

@@ -17,17 +17,17 @@ use Rattle.im_engine.specs.Running.{IsLife}
 use Rattle.im_engine.specs.Kept.{OpenKept, StepKept, disk_of}
 
 -- Each insert and each delete of a log is compensated at most once, not at all where its transaction has a Commit, and once where it has an End.
-abbrev pub AreCounted : History → Type 0
-AreCounted log = (s : Logged) → IsRecordOf s log → is_key s.what ≡ true → IsCounted log s
+abbrev pub AreCompensated : History → Type 0
+AreCompensated log = (s : Logged) → IsRecordOf s log → is_key s.what ≡ true → IsCounted log s
 
 -- The log of files that stand for some effects is such a log.
 abbrev pub FilesAreCounted : Type 0
-FilesAreCounted = (effects : List Effect) (files : Files) (is : StandsFor effects files) → AreCounted is.log
+FilesAreCounted = (effects : List Effect) (files : Files) (is : StandsFor effects files) → AreCompensated is.log
 
 -- The files stand for these effects, and their log is such a log.
 pub record StandsCounted (effects : List Effect) (files : Files) : Type 0 where
   pub stands : StandsFor effects files
-  pub counted : AreCounted stands.log
+  pub counted : AreCompensated stands.log
 
 -- for some effects
 abbrev pub AreCountedFiles : Files → Type 0

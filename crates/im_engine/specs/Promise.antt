@@ -11,7 +11,7 @@ use Rattle.im_base_types.specs.Maps.{IndexMap}
 use Rattle.im_base_types.specs.Pages.{Entry}
 use Rattle.im_base_types.specs.Changes.{Effect, apply_all}
 use Rattle.im_base_types.specs.Lives.{Asked, Shown, effects, nothing_shown, shows, shown_by}
-use Rattle.im_theory_machine.specs.Isolation.{IsReplay, finished, serial, waits_in}
+use Rattle.im_theory_machine.specs.Isolation.{IsReplay, finished, serial, queue_after_all}
 use Rattle.im_theory_machine.specs.View.{MayRollBack, is_among}
 use Rattle.im_base_steps.specs.declared.step.Step.{Step}
 use Rattle.im_base_steps.specs.declared.reply.Reply.{Reply}
@@ -93,4 +93,4 @@ pub record IsAsAlone (base : IndexMap) (trace : List (answers.Step × answers.Re
   pub rolled_back : (front rest : List (answers.Step × answers.Reply)) (t : ℕ) (reply : answers.Reply) → trace ≡ front ++ (answers.Rollback t, reply) ∷ rest → (reply ≡ answers.More) ⊎ (reply ≡ answers.RolledBack) →
       IsReplay (committed_map base front) (finished t trace)
   -- One that is still active gets them on the map committed now: it is going, or was told to roll back, or its commit waits for a Force.
-  pub going : (t : ℕ) → MayRollBack (((shown_by nothing_shown trace).running t).mark) ⊎ (is_among t (waits_in [] trace) ≡ true) → IsReplay (committed_map base trace) (finished t trace)
+  pub going : (t : ℕ) → MayRollBack (((shown_by nothing_shown trace).running t).mark) ⊎ (is_among t (queue_after_all [] trace) ≡ true) → IsReplay (committed_map base trace) (finished t trace)

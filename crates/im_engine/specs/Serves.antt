@@ -16,8 +16,7 @@ use Rattle.im_theory_machine.specs.View.{View, Txn, owner_in}
 use Rattle.im_theory_machine.specs.Machine.{start}
 use Rattle.im_theory_steps.specs.Serving.{IsAt}
 use Rattle.im_theory_steps.specs.Steps.{mark_for_aim}
-use Rattle.im_theory_steps.proofs.Durable.{quiet_lives_settle}
-use Rattle.im_theory_steps.proofs.Owner.{owners_marked}
+use Rattle.im_theory_steps.proofs.Cited.{quiet_lives_settle, owners_marked}
 use Rattle.im_base_types.specs.declared.fault.Fault.{Fault}
 use Rattle.im_engine.specs.declared.engine.Engine.{Engine}
 use Rattle.im_engine.specs.declared.stepped.Under.{Under}

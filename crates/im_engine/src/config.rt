@@ -1,6 +1,6 @@
 //! How an engine is opened.
 
-ghost use Rattle.std.specs.Prelude.{◌≡◌, ◌≤◌, false};
+ghost use Rattle.std.specs.Prelude.{◌≡◌, false};
 
 use crate::buffer_size::BufferSize;
 use crate::more_frames::MoreFrames;

@@ -1,9 +1,6 @@
 //! The engine: a store that is open, and its steps.
 
-ghost use Rattle.std.specs.Prelude.{◌≡◌, ◌≤◌, length, false, is_some, None, Some, Option, List, IfOk, IfErr};
-ghost use Rattle.std.specs.FinMap.{entries as entries_of};
-ghost use Rattle.im_base_types.specs.Changes.{Effect};
-ghost use Rattle.im_base_types.specs.Lives.{Shown};
+ghost use Rattle.std.specs.Prelude.{◌≡◌, ◌≤◌, length, false, is_some, None, Some, Option};
 ghost use Rattle.std.proofs.Props.{props};
 ghost use Rattle.im_log.proofs.Waiting.{sealed_prop};
 ghost use Rattle.im_page_writer.specs.PageWriter.{IsReadyWriter};

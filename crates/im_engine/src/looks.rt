@@ -11,8 +11,7 @@ use im_page_pool::Frame;
 use std::alloc::Global;
 
 impl<D: Disk> Engine<D> {
-    ghost use Rattle.std.specs.Prelude.{false, true, is_some};
-    ghost use Rattle.std.specs.Prelude.{Ok};
+    ghost use Rattle.std.specs.Prelude.{false, true, is_some, Ok};
     ghost use Rattle.std.specs.FinMap.{empty, entries};
     ghost use Rattle.im_base_types.specs.Changes.{Effect, apply_all};
     ghost use Rattle.im_theory_log.specs.Histories.{Base};

@@ -1,6 +1,6 @@
 //! Active transactions, and the number that is given next.
 
-ghost use Rattle.std.specs.Prelude.{◌≡◌, ◌<◌, ◌≤◌, ◌^◌, ◌+◌, ◌++◌, [], ◌∷◌, not, filter, find, length, map, nat_lt, true, false, IfSome, IfNone, Some};
+ghost use Rattle.std.specs.Prelude.{◌≡◌, ◌<◌, ◌≤◌, ◌^◌, ◌+◌, ◌++◌, [], ◌∷◌, not, filter, find, length, map, true, false, IfSome, IfNone, Some};
 ghost use Rattle.im_base_txn.specs.Rows.{AreRising, begun, changed, is_of, is_committing, is_waiting, waits_at, waiting_in, with_mark, with_record, without_waiting};
 ghost use Rattle.im_base_txn.specs.declared.transaction.Mark.TheVariants.{Committing};
 ghost use Rattle.im_base_txn.specs.declared.transaction.Transaction.{Transaction as Row};

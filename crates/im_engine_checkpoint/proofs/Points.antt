@@ -9,46 +9,44 @@ use Rattle.im_theory_log.specs.Histories.{Base, History, Rises, below, end_of, p
 use Rattle.im_theory_log.specs.Copies.{Reaches, noted, onto, redo_all}
 use Rattle.im_theory_log.specs.RedoPoints.{least, redo_point}
 use Rattle.im_theory_log.specs.WriterSteps.{IsIn}
-use Rattle.im_theory_log.proofs.Histories.{below_newest, below_older, end_below, none_below, start_low}
-use Rattle.im_theory_log.proofs.PageLaws.{redo_reaches_the_page}
-use Rattle.im_theory_log.proofs.RedoPoints.{least_start, point_checkpoint}
-use Rattle.im_engine_checkpoint.specs.RedoPoint.{HasRecLsn, IsLeastOf, IsRedone, RedoNeedsNothingBefore, RedoPointIsTheLeast, first_page, records_from}
+use Rattle.im_theory_log.proofs.Cited.{below_newest, below_older, end_below, none_below, start_low, redo_reaches_the_page, least_start, point_checkpoint}
+use Rattle.im_engine_checkpoint.specs.RedoPoint.{HasRecLsn, IsLeastPoint, IsRedoneAlike, RedoNeedsNothingBefore, RedoPointIsTheLeast, first_page, records_since}
 
 -- ---- the records from an LSN on, over those below it, are the log
 
-none_from : (b : Base) (from : ℕ) (log : History) → Rises b log → end_of b log < from → records_from from log ≡ []
+none_from : (b : Base) (from : ℕ) (log : History) → Rises b log → end_of b log < from → records_since from log ≡ []
 none_from b from [] up low = refl
 none_from b from (r ∷ older) up low =
     let last : end_of b older < r.lsn = up.1 in
     let less : end_of b older < from = let here : r.lsn < from = low in omega (arith, last, here) in
-    cond-false (nat_le from r.lsn) (records_from from older ++ r ∷ []) (records_from from older) (lt-leb from r.lsn low) ∙ none_from b from older up.0 less
+    cond-false (nat_le from r.lsn) (records_since from older ++ r ∷ []) (records_since from older) (lt-leb from r.lsn low) ∙ none_from b from older up.0 less
 
 onto_last : (records : List Logged) (r : Logged) (f : History) → onto (records ++ r ∷ []) f ≡ r ∷ onto records f
 onto_last [] r f = refl
 onto_last (x ∷ records) r f = onto_last records r (x ∷ f)
 
-onto_below : (b : Base) (from : ℕ) (log : History) → Rises b log → onto (records_from from log) (below from log) ≡ log
+onto_below : (b : Base) (from : ℕ) (log : History) → Rises b log → onto (records_since from log) (below from log) ≡ log
 onto_below b from [] up = refl
 onto_below b from (r ∷ older) up = elim (cases_lt r.lsn from) [
   | inl under ↦
-      ap (λ (f : History). onto (records_from from (r ∷ older)) f) (below_newest from r older under)
+      ap (λ (f : History). onto (records_since from (r ∷ older)) f) (below_newest from r older under)
       ∙ ap (λ (l : List Logged). onto l (r ∷ older)) (none_from b from (r ∷ older) up under)
   | inr over ↦
-      ap (λ (f : History). onto (records_from from (r ∷ older)) f) (below_older from r older over)
-      ∙ ap (λ (l : List Logged). onto l (below from older)) (cond-true (nat_le from r.lsn) (records_from from older ++ r ∷ []) (records_from from older) (le-leb from r.lsn over))
-      ∙ onto_last (records_from from older) r (below from older)
+      ap (λ (f : History). onto (records_since from (r ∷ older)) f) (below_older from r older over)
+      ∙ ap (λ (l : List Logged). onto l (below from older)) (cond-true (nat_le from r.lsn) (records_since from older ++ r ∷ []) (records_since from older) (le-leb from r.lsn over))
+      ∙ onto_last (records_since from older) r (below from older)
       ∙ ap (λ (l : History). r ∷ l) (onto_below b from older up.0)
 ]
 
 -- every record stands behind the base's start
-all_from : (b : Base) (from : ℕ) (log : History) → Rises b log → from ≤ b.start + 1 → records_from from log ≡ records_from 0 log
+all_from : (b : Base) (from : ℕ) (log : History) → Rises b log → from ≤ b.start + 1 → records_since from log ≡ records_since 0 log
 all_from b from [] up low = refl
 all_from b from (r ∷ older) up low =
     let start : b.start ≤ end_of b older = start_low b older up.0 in
     let last : end_of b older < r.lsn = up.1 in
-    cond-true (nat_le from r.lsn) (records_from from older ++ r ∷ []) (records_from from older) (le-leb from r.lsn (omega (arith, low, start, last)))
+    cond-true (nat_le from r.lsn) (records_since from older ++ r ∷ []) (records_since from older) (le-leb from r.lsn (omega (arith, low, start, last)))
     ∙ ap (λ (l : List Logged). l ++ r ∷ []) (all_from b from older up.0 low)
-    ∙ sym (cond-true (nat_le 0 r.lsn) (records_from 0 older ++ r ∷ []) (records_from 0 older) (le-leb 0 r.lsn (omega arith)))
+    ∙ sym (cond-true (nat_le 0 r.lsn) (records_since 0 older ++ r ∷ []) (records_since 0 older) (le-leb 0 r.lsn (omega arith)))
 
 -- ---- redo from an LSN on
 
@@ -63,16 +61,16 @@ raised b log from p g up h = elim (cases_lt b.start h.upto) [
   }
 ]
 
-from_past : (b : Base) (log : History) (from p : ℕ) (g : Page) → Rises b log → b.start < from → Reaches b log from p g → redo_all (records_from from log) p g ≡ page_at b log p
+from_past : (b : Base) (log : History) (from p : ℕ) (g : Page) → Rises b log → b.start < from → Reaches b log from p g → redo_all (records_since from log) p g ≡ page_at b log p
 from_past b log from p g up past h =
     let whole = onto_below b from log up in
-    redo_reaches_the_page b (below from log) (records_from from log) from p g
+    redo_reaches_the_page b (below from log) (records_since from log) from p g
     (subst (λ (l : History). Rises b l) (sym whole) up)
     (end_below b from log past)
     (subst (λ (l : History). Reaches b l from p g) (sym whole) h)
     ∙ ap (λ (l : History). page_at b l p) whole
 
-redone_from : (b : Base) (log : History) (from p : ℕ) (g : Page) → Rises b log → Reaches b log from p g → redo_all (records_from from log) p g ≡ page_at b log p
+redone_from : (b : Base) (log : History) (from p : ℕ) (g : Page) → Rises b log → Reaches b log from p g → redo_all (records_since from log) p g ≡ page_at b log p
 redone_from b log from p g up h = elim (cases_lt b.start from) [
   | inl past ↦ from_past b log from p g up past h
   | inr before ↦
@@ -81,7 +79,7 @@ redone_from b log from p g up h = elim (cases_lt b.start from) [
 ]
 
 -- redo of every record, from the page that the log began with
-redone_whole : (b : Base) (log : History) (p : ℕ) → Rises b log → redo_all (records_from 0 log) p (b.pages p) ≡ page_at b log p
+redone_whole : (b : Base) (log : History) (p : ℕ) → Rises b log → redo_all (records_since 0 log) p (b.pages p) ≡ page_at b log p
 redone_whole b log p up = redone_from b log 0 p (b.pages p) up (record {
   upto = 0;
   from = omega arith;
@@ -91,7 +89,7 @@ redone_whole b log p up = redone_from b log 0 p (b.pages p) up (record {
 pub needs_nothing_before : RedoNeedsNothingBefore redo_all
 needs_nothing_before b log file up covers p = by (noted (redo_point log) log p) refl
   where
-    made : (g : Page) → first_page (noted (redo_point log) log p) (file p) ≡ Some g → Reaches b log (redo_point log) p g → IsRedone redo_all b log file p
+    made : (g : Page) → first_page (noted (redo_point log) log p) (file p) ≡ Some g → Reaches b log (redo_point log) p g → IsRedoneAlike redo_all b log file p
     made g first has = record {
       page = g;
       first = first;
@@ -99,7 +97,7 @@ needs_nothing_before b log file up covers p = by (noted (redo_point log) log p) 
       whole = redone_whole b log p up;
     }
 
-    by : (o : Option (ℕ × Page)) → noted (redo_point log) log p ≡ o → IsRedone redo_all b log file p
+    by : (o : Option (ℕ × Page)) → noted (redo_point log) log p ≡ o → IsRedoneAlike redo_all b log file p
     by None none = let found = covers.read p none in made found.page (ap (λ (o : Option (ℕ × Page)). first_page o (file p)) none ∙ found.here) found.reaches
     by (Some (l, c)) some = made c (ap (λ (o : Option (ℕ × Page)). first_page o (file p)) some) (covers.copied p l c some)
 
@@ -127,5 +125,5 @@ least_one l (y ∷ dirty) = elim (least_one (min l y.rec_lsn) dirty) [
 
 pub is_the_least : RedoPointIsTheLeast
 is_the_least r older next active dirty is =
-    subst (λ (m : ℕ). IsLeastOf m r.lsn dirty) (sym (point_checkpoint r older next active dirty is))
+    subst (λ (m : ℕ). IsLeastPoint m r.lsn dirty) (sym (point_checkpoint r older next active dirty is))
     (record { own = least_start r.lsn dirty; each = λ x held. least_in r.lsn x dirty held; one = least_one r.lsn dirty })

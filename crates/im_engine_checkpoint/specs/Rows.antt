@@ -1,16 +1,8 @@
 -- The rows of the table of transactions that a Checkpoint lists.
-use Rattle.std.specs.Prelude.{◌==◌, ◌&&◌, Bool, false, true, not, List, map, filter}
+use Rattle.std.specs.Prelude.{◌==◌, ◌&&◌, Bool, not, List, map, filter}
 use Rattle.im_base_types.specs.declared.tables.ActiveTransaction.{ActiveTransaction}
-use Rattle.im_base_txn.specs.declared.transaction.Mark.{Mark}
-use Rattle.im_base_txn.specs.declared.transaction.Mark.TheVariants.{Committing, Going, MustRollBack, RollingBack}
 use Rattle.im_base_txn.specs.declared.transaction.Transaction.{Transaction}
-
--- its Commit is logged, and waits for a force
-abbrev pub is_committing : Mark → Bool
-is_committing Committing = true
-is_committing Going = false
-is_committing MustRollBack = false
-is_committing RollingBack = false
+use Rattle.im_base_txn.specs.Rows.{is_committing}
 
 -- A transaction is listed that has logged a record, unless its Commit is logged too: restart has nothing to take back of that one.
 abbrev pub is_listed : Transaction → Bool

@@ -8,7 +8,6 @@ use Rattle.im_base_disk.specs.Disk.{Files}
 use Rattle.im_base_two_logs.specs.Renamed.{named}
 use Rattle.im_base_guard.specs.declared.folder.Folder.{Folder}
 use Rattle.im_base_guard.specs.declared.folder.Front.{Front}
-use Rattle.im_base_guard.specs.declared.log_cuts.LogCuts.{LogCuts}
 use Rattle.im_base_guard.specs.Fronts as guard
 use Rattle.im_base_guard.specs.Belonging.{current, left, other_is_current}
 use Rattle.im_base_guard.specs.LogCuts.{end_of, gone_of, kept_of, log_cuts_of}
@@ -246,7 +245,7 @@ keeps_gate end file front is emptied = elim (cases_Bool (gone_of end front == 0)
             gate_by file front is e.second,
             (λ (one : get_or file 47 0 ≡ 1). e.closed (byte file front is 47 (omega arith) ∙ one)),
             omega (arith, ends, long, more),
-            unmade_says file front is (and_parts (guard.says_made front) (slice_index front.bytes 8 == 50) e.second).0,
+            unmade_says file front is (and_parts (guard.front_says_made front) (slice_index front.bytes 8 == 50) e.second).0,
           );
         }
 

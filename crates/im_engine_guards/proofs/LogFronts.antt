@@ -35,21 +35,21 @@ module _ (file : List ℕ) (front : Front) (is : IsFront file front) where
   eighth : slice_index front.bytes 8 ≡ slice_index (take 47 file) 8
   eighth = byte 8 (omega arith) ∙ sym (get_or-take 47 file 8 0 (omega arith))
 
-  pub made_same : guard.says_made front ≡ says_made (take 47 file)
+  pub made_same : guard.front_says_made front ≡ says_made (take 47 file)
   made_same =
       ap (λ (n : ℕ). nat_lt 1 n && (slice_index front.bytes 0 == 1)) is.long
       ∙ ap (λ (t : Bool). t && (slice_index front.bytes 0 == 1)) (sym some)
       ∙ ap (λ (x : ℕ). nat_lt 1 (length (take 47 file)) && (x == 1)) first
 
-  pub second_same : guard.says_second front ≡ says_second (take 47 file)
+  pub second_same : guard.front_says_second front ≡ says_second (take 47 file)
   second_same = ap (λ (t : Bool). t && (slice_index front.bytes 8 == 50)) made_same ∙ ap (λ (x : ℕ). says_made (take 47 file) && (x == 50)) eighth
 
   -- a log that does not say that it was made was not
-  pub unmade_by : guard.says_made front ≡ false → IsUnmade file
+  pub unmade_by : guard.front_says_made front ≡ false → IsUnmade file
   unmade_by fails = elim (cases_lt 1 (length file)) [
     | inr short ↦ inl short
     | inl long ↦ inr (λ (one : slice_index file 0 ≡ 1).
-        let holds : guard.says_made front ≡ true =
+        let holds : guard.front_says_made front ≡ true =
         ap (λ (n : ℕ). nat_lt 1 n && (slice_index front.bytes 0 == 1)) is.long
         ∙ ap (λ (t : Bool). t && (slice_index front.bytes 0 == 1)) (lt-ltb 1 (length file) long)
         ∙ ap (λ (x : ℕ). x == 1) (byte 0 (omega arith) ∙ one)
@@ -63,26 +63,26 @@ module _ (file : List ℕ) (front : Front) (is : IsFront file front) where
   unfolding first_gate
   second_gate holds = cond-true (says_second (take 47 file)) 47 (if says_made (take 47 file) then 31 else 47) holds
 
-  pub gate_by : guard.says_second front ≡ true → first_gate file ≡ 47
+  pub gate_by : guard.front_says_second front ≡ true → first_gate file ≡ 47
   gate_by holds = second_gate (sym second_same ∙ holds)
 
-  number_same : (at : ℕ) → at + 8 ≤ 47 → 47 < length file → guard.number_at at front ≡ number_at at (take 47 file)
+  number_same : (at : ℕ) → at + 8 ≤ 47 → 47 < length file → guard.said_number at front ≡ number_at at (take 47 file)
   number_same at fits long =
       ap (λ (l : List ℕ). from_be_bytes w64 (take 8 (drop at l))) is.bytes
       ∙ ap (λ (l : List ℕ). from_be_bytes w64 l)
       (piece at 65 (file ++ replicate 65 0) (omega (arith, fits)) ∙ ap (drop at) (take-append-le (at + 8) file (replicate 65 0) (omega (arith, fits, long))) ∙ sym (piece at 47 file fits))
 
-  by_second : says_second (take 47 file) ≡ true → 47 < length file → guard.generation_of front ≡ generation_of file
+  by_second : says_second (take 47 file) ≡ true → 47 < length file → guard.said_generation front ≡ generation_of file
   unfolding generation_of
   by_second holds long =
-      cond-true (guard.says_second front) (guard.number_at 16 front) (if guard.says_made front then 1 else 0) (second_same ∙ holds)
+      cond-true (guard.front_says_second front) (guard.said_number 16 front) (if guard.front_says_made front then 1 else 0) (second_same ∙ holds)
       ∙ number_same 16 (omega arith) long
       ∙ sym (cond-true (says_second (take 47 file)) (number_at 16 (take 47 file)) (if says_made (take 47 file) then 1 else 0) holds)
 
-  by_other : says_second (take 47 file) ≡ false → guard.generation_of front ≡ generation_of file
+  by_other : says_second (take 47 file) ≡ false → guard.said_generation front ≡ generation_of file
   unfolding generation_of
   by_other fails =
-      cond-false (guard.says_second front) (guard.number_at 16 front) (if guard.says_made front then 1 else 0) (second_same ∙ fails)
+      cond-false (guard.front_says_second front) (guard.said_number 16 front) (if guard.front_says_made front then 1 else 0) (second_same ∙ fails)
       ∙ ap (λ (t : Bool). if t then 1 else 0) made_same
       ∙ sym (cond-false (says_second (take 47 file)) (number_at 16 (take 47 file)) (if says_made (take 47 file) then 1 else 0) fails)
 
@@ -104,7 +104,7 @@ module _ (file : List ℕ) (front : Front) (is : IsFront file front) where
           absurd never
 
   -- and is of its generation
-  pub generation_same : IsUnmade file ⊎ IsMade file → generation_of file ≡ guard.generation_of front
+  pub generation_same : IsUnmade file ⊎ IsMade file → generation_of file ≡ guard.said_generation front
   generation_same known = elim (cases_Bool (says_second (take 47 file))) [
     | inr fails ↦ sym (by_other fails)
     | inl holds ↦ ⊎_elim
@@ -114,15 +114,15 @@ module _ (file : List ℕ) (front : Front) (is : IsFront file front) where
   ]
 
   -- a made one says that it was made, and an unmade one does not
-  pub unmade_says : guard.says_made front ≡ true → IsUnmade file → ⊥
+  pub unmade_says : guard.front_says_made front ≡ true → IsUnmade file → ⊥
   unmade_says holds = by (and_parts (nat_lt 1 front.long) (slice_index front.bytes 0 == 1) holds)
     where
       by : (nat_lt 1 front.long ≡ true) × ((slice_index front.bytes 0 == 1) ≡ true) → IsUnmade file → ⊥
       by both (inl short) = let long = ltb-true 1 front.long both.0 in let same = is.long in omega (arith, long, same, short)
       by both (inr other) = other (sym (byte 0 (omega arith)) ∙ eqb-true (slice_index front.bytes 0) 1 both.1)
 
-  pub made_says : (IsUnmade file → ⊥) → guard.says_made front ≡ true
-  made_says made = elim (cases_Bool (guard.says_made front)) [
+  pub made_says : (IsUnmade file → ⊥) → guard.front_says_made front ≡ true
+  made_says made = elim (cases_Bool (guard.front_says_made front)) [
     | inl holds ↦ holds
     | inr fails ↦ absurd (made (unmade_by fails))
   ]
@@ -130,20 +130,20 @@ module _ (file : List ℕ) (front : Front) (is : IsFront file front) where
   -- its first gate and its base are those of the file
   pub gate_same : (IsUnmade file → ⊥) → guard_gate front ≡ first_gate file
   unfolding first_gate
-  gate_same made = elim (cases_Bool (guard.says_second front)) [
-    | inl second ↦ cond-true (guard.says_second front) 47 31 second ∙ sym (gate_by second)
-    | inr fails ↦ cond-false (guard.says_second front) 47 31 fails
+  gate_same made = elim (cases_Bool (guard.front_says_second front)) [
+    | inl second ↦ cond-true (guard.front_says_second front) 47 31 second ∙ sym (gate_by second)
+    | inr fails ↦ cond-false (guard.front_says_second front) 47 31 fails
         ∙ sym
         (cond-false (says_second (take 47 file)) 47 (if says_made (take 47 file) then 31 else 47) (sym second_same ∙ fails)
         ∙ cond-true (says_made (take 47 file)) 31 47 (sym made_same ∙ made_says made))
   ]
 
-  pub base_same : (guard.says_second front ≡ true → 47 < length file) → guard.base_of front ≡ base_of file
+  pub base_same : (guard.front_says_second front ≡ true → 47 < length file) → guard.said_base front ≡ base_of file
   unfolding base_of
-  base_same long = elim (cases_Bool (guard.says_second front)) [
-    | inl second ↦ cond-true (guard.says_second front) (guard.number_at 24 front) 0 second
+  base_same long = elim (cases_Bool (guard.front_says_second front)) [
+    | inl second ↦ cond-true (guard.front_says_second front) (guard.said_number 24 front) 0 second
         ∙ number_same 24 (omega arith) (long second)
         ∙ sym (cond-true (says_second (take 47 file)) (number_at 24 (take 47 file)) 0 (sym second_same ∙ second))
-    | inr fails ↦ cond-false (guard.says_second front) (guard.number_at 24 front) 0 fails
+    | inr fails ↦ cond-false (guard.front_says_second front) (guard.said_number 24 front) 0 fails
         ∙ sym (cond-false (says_second (take 47 file)) (number_at 24 (take 47 file)) 0 (sym second_same ∙ fails))
   ]

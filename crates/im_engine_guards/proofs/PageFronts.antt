@@ -1,8 +1,7 @@
 -- The beginning of a file of pages says what page 0 says.
-use Rattle.std.proofs.Common.{◌≡◌, ℕ, nat_lt, ◌+◌, ◌*◌, ◌<◌, ◌≤◌, List, length, take, drop, slice_index, Some, None, refl, sym, ◌∙◌, ap, arith, inl, inr}
+use Rattle.std.proofs.Common.{◌≡◌, ℕ, nat_lt, ◌+◌, ◌*◌, ◌<◌, ◌≤◌, List, length, take, drop, slice_index, Some, None, refl, sym, ◌∙◌, ap, arith, inl, inr, get_or-take, get_or-drop}
 use Rattle.std.specs.Int.{w32, w64, from_be_bytes}
 use Rattle.std.proofs.lemmas.Bool.{cases_Bool, cond-true, cond-false, lt-ltb}
-use Rattle.std.proofs.lemmas.List.{get_or-take, get_or-drop}
 use Rattle.im_base_types.specs.Pages.{Page}
 use Rattle.im_theory_page.specs.Number.{u32_at, u64_at}
 use Rattle.im_theory_page.specs.Page.{is_form, page_of, said_by}

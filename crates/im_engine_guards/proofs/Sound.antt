@@ -5,7 +5,7 @@ use Rattle.std.proofs.lemmas.Bool.{cases_Bool, cond-true, cond-false, le-ltb, lt
 use Rattle.im_base_types.specs.Changes.{Effect}
 use Rattle.im_base_types.specs.declared.file_id.FileId.TheVariants.{Log, Pages, Log2}
 use Rattle.im_base_disk.specs.Disk.{Files}
-use Rattle.im_base_two_logs.specs.Renamed.{named, same_files}
+use Rattle.im_base_two_logs.specs.Renamed.{named}
 use Rattle.im_base_guard.specs.declared.folder.Folder.{Folder}
 use Rattle.im_base_guard.specs.declared.folder.Front.{Front}
 use Rattle.im_base_guard.specs.declared.belonging.Apart.{Apart}
@@ -14,9 +14,8 @@ use Rattle.im_base_guard.specs.declared.belonging.Logs.{Logs}
 use Rattle.im_base_guard.specs.Fronts as guard
 use Rattle.im_base_guard.specs.Belonging.{current, is_store, other_is_current, word_of, Decides, IsApart, IsVerdict, LacksCounted}
 use Rattle.im_log_header.specs.Header as headers
-use Rattle.im_log_header.specs.Header.{generation_of, IsUnmade}
+use Rattle.im_log_header.specs.Header.{generation_of}
 use Rattle.im_log_choice.specs.Current.{IsCurrent, HasCurrent}
-use Rattle.im_log_choice.proofs.Names.{turned_has}
 use Rattle.im_log_gate.specs.Header.{first_gate, IsMade}
 use Rattle.im_log_gate.proofs.Reading.{ends_here}
 use Rattle.im_log.specs.Kept.{IsLogOf}
@@ -29,12 +28,13 @@ use Rattle.im_theory_log.specs.RedoPoints.{Covers}
 use Rattle.im_theory_page.specs.PageFile.{file_page}
 use Rattle.im_theory_tree.specs.Theory.{page_tree}
 use Rattle.im_engine.specs.Stands.{StandsFor}
+use Rattle.im_engine.proofs.Named.{back_has}
 use Rattle.im_engine_guards.specs.Guards.{IsFolder, IsFront, IsLeft, IsPagesFront, NeverRefused}
 use Rattle.im_engine_guards.proofs.Counts.{never_counted}
 use Rattle.im_engine_guards.proofs.LogFronts.{byte, gate_by, generation_same, second_made, second_same, unmade_by}
 
 -- a log of the second format behind whose header no gate is open has no record
-no_record : (base : ℕ) (all : History) (file : List ℕ) (front : Front) → IsFront file front → guard.says_second front ≡ true → slice_index front.bytes 47 ≢ 1 → IsLogOf base all file → all ≡ []
+no_record : (base : ℕ) (all : History) (file : List ℕ) (front : Front) → IsFront file front → guard.front_says_second front ≡ true → slice_index front.bytes 47 ≢ 1 → IsLogOf base all file → all ≡ []
 no_record base all file front is second closed (inl none) = absurd (second_made file front is (sym (second_same file front is) ∙ second) none.0)
 no_record base all file front is second closed (inr has) =
     let gate = gate_by file front is second in
@@ -53,11 +53,11 @@ module _ (files : Files) (f : Folder) (is : IsFolder files f) (known : HasCurren
       let two = generation_same (files Log2) f.log2 is.log2 known.other in
       by one two s now
     where
-      by : generation_of (files Log) ≡ guard.generation_of f.log → generation_of (files Log2) ≡ guard.generation_of f.log2 → (s : Bool) → IsCurrent s files → other_is_current f ≡ s
-      by one two true (inl later) = lt-ltb (guard.generation_of f.log) (guard.generation_of f.log2) (omega (arith, later, one, two))
+      by : generation_of (files Log) ≡ guard.said_generation f.log → generation_of (files Log2) ≡ guard.said_generation f.log2 → (s : Bool) → IsCurrent s files → other_is_current f ≡ s
+      by one two true (inl later) = lt-ltb (guard.said_generation f.log) (guard.said_generation f.log2) (omega (arith, later, one, two))
       by one two true (inr none) = let clash : true ≡ false = none.2 in let never : ⊥ = cc in absurd never
-      by one two false (inl later) = le-ltb (guard.generation_of f.log) (guard.generation_of f.log2) (omega (arith, later, one, two))
-      by one two false (inr none) = let zero = none.0 in let other = none.1 in le-ltb (guard.generation_of f.log) (guard.generation_of f.log2) (omega (arith, zero, other, one, two))
+      by one two false (inl later) = le-ltb (guard.said_generation f.log) (guard.said_generation f.log2) (omega (arith, later, one, two))
+      by one two false (inr none) = let zero = none.0 in let other = none.1 in le-ltb (guard.said_generation f.log) (guard.said_generation f.log2) (omega (arith, zero, other, one, two))
 
   front_of : (s : Bool) → other_is_current f ≡ s → IsFront (named s files Log) (current f)
   front_of true e = subst (IsFront (files Log2)) (sym (cond-true (other_is_current f) f.log2 f.log e)) is.log2
@@ -72,11 +72,11 @@ module _ (files : Files) (f : Folder) (is : IsFolder files f) (known : HasCurren
     beside_none l none c law at lacks =
         never_counted b (named s files Pages) (subst (λ (h : History). Covers b h (file_page (named s files Pages))) none c) (subst (λ (h : History). IsLawful b page_tree h) none law) at f.pages (pages_of s) lacks
 
-    pub uncounted : slice_index (current f).bytes 47 ≢ 1 → LacksCounted (guard.base_of (current f)) f.pages → ⊥
-    uncounted closed lacks = elim (cases_Bool (guard.says_second (current f))) [
-      | inl second ↦ beside_none all (no_record base all (named s files Log) (current f) (front_of s (other_is s now)) second closed log) covers lawful (guard.base_of (current f)) lacks
+    pub uncounted : slice_index (current f).bytes 47 ≢ 1 → LacksCounted (guard.said_base (current f)) f.pages → ⊥
+    uncounted closed lacks = elim (cases_Bool (guard.front_says_second (current f))) [
+      | inl second ↦ beside_none all (no_record base all (named s files Log) (current f) (front_of s (other_is s now)) second closed log) covers lawful (guard.said_base (current f)) lacks
       | inr other ↦ (
-          let zero = cond-false (guard.says_second (current f)) (guard.number_at 24 (current f)) 0 other in
+          let zero = cond-false (guard.front_says_second (current f)) (guard.said_number 24 (current f)) 0 other in
           let older = lacks.0 in
           omega (arith, zero, older))
     ]
@@ -94,10 +94,6 @@ newest_has {b} base all files log (inl older) = record {
 }
 newest_has {b} base all files log (inr none) = record { log = inl none.0; other = inl none.1; apart = λ same. none }
 
-back_has : (swapped : Bool) (files : Files) → HasCurrent (named swapped files) → HasCurrent files
-back_has true files has = subst HasCurrent (same_files true files) (turned_has (named true files) has)
-back_has false files has = has
-
 -- neither of two that are not so
 neither : (x y : Bool) → (x || y) ≡ false → (x ≡ false) × (y ≡ false)
 neither true y is = let never : ⊥ = cc in absurd never
@@ -110,7 +106,7 @@ module _ (effects : List Effect) (files : Files) (f : Folder) (stands : StandsFo
   module _ (so : IsLeft files f) where
     short : is_store f ≡ false → (length (files Log) ≤ 48) × (length (files Log2) ≤ 48)
     short none =
-        let both = neither (guard.says_made f.log) (guard.says_made f.log2) none in
+        let both = neither (guard.front_says_made f.log) (guard.front_says_made f.log2) none in
         so.fresh (unmade_by (files Log) f.log is.log both.0) (unmade_by (files Log2) f.log2 is.log2 both.1)
 
     never : (why : Apart) → IsApart why f → ⊥

@@ -17,9 +17,9 @@ use Rattle.im_log_header.proofs.Saying.{unmade}
 use Rattle.im_log_gate.specs.Header.{IsUnmade, base_of, first_gate}
 use Rattle.im_log.specs.Kept.{HasLog, IsLogOf}
 use Rattle.im_log.proofs.Creations.{not_both}
-use Rattle.im_theory_walk.specs.Walks.{Begins, HasNoCopy, IsAtEnd, NamesChanges, PassesCopied, walked}
-use Rattle.im_theory_walk.proofs.Changes.{current_is_read, left_is_read}
-use Rattle.im_theory_walk.proofs.Pieces.{at_over, walked_cut, walked_on}
+use Rattle.im_log_walk.specs.Walks.{Begins, HasNoCopy, IsAtEnd, NamesChanges, PassesCopied, walked}
+use Rattle.im_log_walk.proofs.Changes.{current_is_read, left_is_read}
+use Rattle.im_log_walk.proofs.Pieces.{at_over, walked_cut, walked_on}
 use Rattle.im_page_file.specs.OtherLog.{IsNewest, LeftSays, SaysLeft}
 use Rattle.im_theory_log.specs.Histories.{History}
 use Rattle.im_theory_log.specs.RedoPoints.{Covers}
@@ -27,7 +27,7 @@ use Rattle.im_theory_log.proofs.Fronts.{rises}
 use Rattle.im_theory_page.specs.PageFile.{file_page, page_count}
 use Rattle.im_theory_tree.specs.Theory.{page_tree}
 use Rattle.im_engine.specs.Stands.{StandsFor}
-use Rattle.im_engine_guards.specs.Guards.{IsFolder, IsFront, IsWalked, NeverOlder, log_of, lsn_in}
+use Rattle.im_engine_guards.specs.Guards.{IsFolder, IsFront, IsWalked, NeverOlder, walked_log, lsn_in}
 use Rattle.im_engine_guards.proofs.LogFronts.{base_same, gate_by, gate_same, unmade_says}
 use Rattle.im_engine_guards.proofs.Older.{Names, NamesGreatest, NamesNewest, never_older}
 use Rattle.im_engine_guards.proofs.Sound.{known, other_is}
@@ -68,7 +68,7 @@ module _ (files : Files) (f : Folder) (is : IsFolder files f) where
   current_front false e = subst (IsFront (files Log)) (sym (cond-false (other_is_current f) f.log2 f.log e)) is.log
 
 -- a log of the second format is longer than its header
-long_is : (file : List ℕ) → first_gate file < length file → (front : Front) → IsFront file front → guard.says_second front ≡ true → 47 < length file
+long_is : (file : List ℕ) → first_gate file < length file → (front : Front) → IsFront file front → guard.front_says_second front ≡ true → 47 < length file
 long_is file within front is second = let gate = gate_by file front is second in omega (arith, gate, within)
 
 -- the same header has the same first gate
@@ -115,7 +115,7 @@ module _ (effects : List Effect) (files : Files) (stands : StandsFor effects fil
   l_is : l ≡ walked w.sizes lf (left_log_of f)
   l_is = w.left ∙ ap (λ (file : List ℕ). walked w.sizes file (left_log_of f)) (left_file (other_is_current f) stands.swapped files turned)
 
-  cf_is : log_of (current_log_of f l) files ≡ cf
+  cf_is : walked_log (current_log_of f l) files ≡ cf
   cf_is = current_file (other_is_current f) stands.swapped files turned
 
   m_is : m ≡ walked w.further cf (current_log_of f l)
@@ -145,7 +145,7 @@ module _ (effects : List Effect) (files : Files) (stands : StandsFor effects fil
   covered true covers = covers
   covered false covers = covers
 
-  module _ (left_was : guard.says_made (left f) ≡ true) (going : (left_log_of f).is_over ≡ false) where
+  module _ (left_was : guard.front_says_made (left f) ≡ true) (going : (left_log_of f).is_over ≡ false) where
     lf_front : IsFront lf (left f)
     lf_front = left_front files f is stands.swapped turned
 
@@ -218,7 +218,7 @@ module _ (effects : List Effect) (files : Files) (stands : StandsFor effects fil
     | inl over ↦ (
         let same : l ≡ left_log_of f = l_is ∙ still w.sizes lf (left_log_of f) over in
         none_found (ap (λ (x : LeftLog). x.lsn) same) (ap (λ (x : LeftLog). x.pages) same))
-    | inr going ↦ by_found (was (guard.base_of (current f) == 0) (guard.says_made (left f)) going) going
+    | inr going ↦ by_found (was (guard.said_base (current f) == 0) (guard.front_says_made (left f)) going) going
   ]
     where
       was : (x y : Bool) → (x || not y) ≡ false → y ≡ true

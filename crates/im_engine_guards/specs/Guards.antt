@@ -19,7 +19,7 @@ use Rattle.im_base_guard.specs.declared.belonging.Logs.{Logs}
 use Rattle.im_log_choice.specs.Current.{IsCurrent}
 use Rattle.im_engine.specs.Stands.{StandsFor}
 use Rattle.im_log_gate.specs.Header.{IsUnmade}
-use Rattle.im_theory_walk.specs.Walks.{IsAtEnd, walked}
+use Rattle.im_log_walk.specs.Walks.{IsAtEnd, walked}
 use Rattle.im_theory_page.specs.PageFile.{page_count}
 use Rattle.im_theory_tree.specs.Levels.{Pages}
 use Rattle.im_theory_tree.specs.Good.{IsGoodTree}
@@ -75,16 +75,16 @@ abbrev pub lsn_in : List ℕ → ℕ → ℕ
 lsn_in file p = if nat_lt p (page_count file) then from_be_bytes w64 (take 8 (drop (p * 4096) file)) else 0
 
 -- the log that a walk is over
-abbrev pub log_of : LeftLog → Files → List ℕ
-log_of l files = if l.is_log2 then files Log2 else files Log
+abbrev pub walked_log : LeftLog → Files → List ℕ
+walked_log l files = if l.is_log2 then files Log2 else files Log
 
 -- The walks over the log that was left, as far as it is read, and then over the current one, to its end, in whatever pieces.
 pub record IsWalked (files : Files) (f : Folder) (l m : LeftLog) : Type 0 where
   pub sizes : List ℕ
-  pub left : l ≡ walked sizes (log_of (left_log_of f) files) (left_log_of f)
+  pub left : l ≡ walked sizes (walked_log (left_log_of f) files) (left_log_of f)
   pub further : List ℕ
-  pub current : m ≡ walked further (log_of (current_log_of f l) files) (current_log_of f l)
-  pub ends : IsAtEnd (log_of (current_log_of f l) files) m
+  pub current : m ≡ walked further (walked_log (current_log_of f l) files) (current_log_of f l)
+  pub ends : IsAtEnd (walked_log (current_log_of f l) files) m
 
 -- They find no older pages beside files that stand for effects.
 abbrev pub NeverOlder : Type 0

@@ -1,7 +1,5 @@
 -- What the lock table decided of a row, as what is decided of an access.
-use Rattle.std.proofs.Common.{◌≡◌, ◌≢◌, ℕ, List, sym, ◌∙◌, ap, subst}
-use Rattle.im_base_types.specs.declared.fault.Fault.{Fault}
-use Rattle.im_base_types.specs.declared.fault.Fault.TheVariants.{Memory, NotAStore}
+use Rattle.std.proofs.Common.{◌≡◌, ℕ, List, sym, ◌∙◌, ap, subst}
 use Rattle.im_base_types.specs.Answers.{Reply}
 use Rattle.im_theory_machine.specs.Locks.{Request}
 use Rattle.im_theory_machine.specs.Table.{Table, Decides}
@@ -9,9 +7,6 @@ use Rattle.im_theory_machine.specs.declared.verdict.Verdict.{Verdict}
 use Rattle.im_engine_index.specs.declared.lock_answer.LockAnswer.{LockAnswer}
 use Rattle.im_engine_index.specs.declared.lock_answer.LockAnswer.TheVariants.{Granted, Wait, Die}
 use Rattle.im_engine_index.specs.LockAnswers.{verdict_of, IfGranted}
-
-pub memory_not : (e : Fault) → e ≡ Memory → e ≢ NotAStore
-memory_not e is why = let clash : Memory ≡ NotAStore = sym is ∙ why in cc clash
 
 -- the verdict is the outcome's
 pub decided_as : {X : Type 0} (old new : Table) (t : ℕ) (row asks : List Request) (verdict : Verdict) (outcome : LockAnswer X) → Decides old t row verdict new → row ≡ asks → verdict_of outcome ≡ verdict → Decides old t asks (verdict_of outcome) new

@@ -57,7 +57,7 @@ use Rattle.im_engine_index.proofs.KeyLogs.{owner_some, bodies_are, grows_within,
 
 -- ---- growth within a transaction, twice
 
-within_append : (t : ℕ) (one two : History) → AreWithin t one → AreWithin t two → AreWithin t (one ++ two)
+pub within_append : (t : ℕ) (one two : History) → AreWithin t one → AreWithin t two → AreWithin t (one ++ two)
 within_append t [] two first second = second
 within_append t (r ∷ one) two first second = (first.0, within_append t one two first.1 second)
 

@@ -14,7 +14,7 @@ use Rattle.im_base_types.specs.Changes.{Effect, Touches}
 use Rattle.im_base_types.specs.Records.{What}
 use Rattle.im_theory_log.specs.Copies.{GrowsByImages}
 use Rattle.im_theory_log.specs.Histories.{Base, History}
-use Rattle.im_theory_log.specs.Lawful.{IsLawful, IsNotIn, IsOutside}
+use Rattle.im_theory_log.specs.Lawful.{IsNotIn, IsOutside}
 use Rattle.im_theory_log.specs.Lawful as lawful
 use Rattle.im_theory_log.specs.Structure.{open_smo, settled}
 use Rattle.im_theory_log.specs.Transactions.{contents, is_rolling_back}

@@ -1,5 +1,5 @@
 -- An insert: planned, granted, and then logged behind the structure change that its leaf wants.
-use Rattle.std.proofs.Common.{◌≡◌, ◌≢◌, ◌⊎◌, inl, inr, ⊎_elim, ◌≤◌, ℕ, Bool, true, false, List, [], ◌∷◌, ◌++◌, length, Option, None, Some, Result, Ok, Err, refl, sym, ◌∙◌, ap, subst, append_assoc, arith}
+use Rattle.std.proofs.Common.{◌≡◌, ◌≢◌, ◌⊎◌, inl, inr, ⊎_elim, ◌≤◌, ℕ, Bool, true, false, List, [], ◌∷◌, ◌++◌, length, Option, None, Some, Result, Ok, Err, refl, sym, ◌∙◌, ap, subst, arith}
 use Rattle.std.specs.Prelude.{IsErrAnd}
 use Rattle.std.proofs.Math.Path.{fun_ext}
 use Rattle.std.specs.FinMap.{get}
@@ -20,7 +20,6 @@ use Rattle.im_base_disk.proofs.Runs.{then_on, weakened}
 use Rattle.im_log.proofs.Above.{front_then}
 use Rattle.im_page_writer.specs.declared.page_writer.PageWriter.{PageWriter}
 use Rattle.im_page_writer.specs.Outcome.{want_of_memory, pages_of, AllPages, AreLoaded, Outcome as Ends, Logs}
-use Rattle.im_page_table.specs.Growth.{Keeps}
 use Rattle.im_page_writer.specs.PageWriter.{Evicted}
 use Rattle.im_page_writer.proofs.Outcomes.{leaves_of_end}
 use Rattle.im_page_file.proofs.Standing.{wider_covered}
@@ -41,7 +40,7 @@ use Rattle.im_smo_split.proofs.OneLeaf.{one_leaf}
 use Rattle.im_smo_actions.specs.Structure.{IsUnfinished}
 use Rattle.im_smo_actions.proofs.Growth.{images_as_change, change_then, record_back, record_front, no_images_of}
 use Rattle.im_smo_actions.proofs.Standing.{pages_stay, unfinished_good, unfinished_images, images_made, left_images, left_then}
-use Rattle.im_theory_steps.specs.Growth.{AreWithin, GrowsWithin, IsStructural, AreStructural, GrowsByStructure, IsRestructured, is_structural}
+use Rattle.im_theory_steps.specs.Growth.{GrowsWithin, IsStructural, AreStructural, GrowsByStructure, IsRestructured, is_structural}
 use Rattle.im_theory_steps.proofs.Growth.{structure_changes_no_key}
 use Rattle.im_engine_index.specs.declared.noted.Noted.{Noted}
 use Rattle.im_engine_index.specs.declared.plan.Plan.{Plan}
@@ -49,6 +48,7 @@ use Rattle.im_engine_index.specs.declared.plan.Plan.TheVariants.{Fits, Split}
 use Rattle.im_engine_index.specs.KeyLogs.{LeftByEdit, LeavesEdit, MayPut, KeyLogKept}
 use Rattle.im_engine_index.specs.InsertPlans.{IsInsertPlan, ComesTo, MayInsert, PutKept}
 use Rattle.im_engine_index.proofs.KeyLogs.{owner_some, grows_within, is_going_on, left_edit, none_open, settled_are, still_closed, walk_says}
+use Rattle.im_engine_index.proofs.Deletes.{within_then}
 
 -- ---- logs
 
@@ -73,18 +73,6 @@ changes_structural t (r ∷ more) all = (structural t r r.what refl all.0, chang
 
 pub grows_structure : (t : ℕ) (older longer : History) → GrowsByChange t older longer → GrowsByStructure t older longer
 grows_structure t older longer by = record { more = by.more; is = sym by.is; structural = changes_structural t by.more by.all }
-
--- growth within a transaction, twice
-both_within : (t : ℕ) (one two : History) → AreWithin t one → AreWithin t two → AreWithin t (one ++ two)
-both_within t [] two first second = second
-both_within t (r ∷ one) two first second = (first.0, both_within t one two first.1 second)
-
-grown_within : (t : ℕ) (one two three : History) → GrowsWithin t one two → GrowsWithin t two three → GrowsWithin t one three
-grown_within t one two three first next = record {
-  more = next.more ++ first.more;
-  is = append_assoc next.more first.more one ∙ ap (λ (l : History). next.more ++ l) first.is ∙ next.is;
-  within = both_within t next.more first.more next.within first.within;
-}
 
 -- an Image is no record of the transaction
 pub past_images : (b : Base) (t : ℕ) (images older more : History) → t ≢ 0 → AreImages b images older → HasRecordOf t (images ++ more) → HasRecordOf t more
@@ -123,10 +111,6 @@ late_sound f g memory other sound is = by (want_of_memory f) refl
     by true short = let clash : Failed ≡ NotAStore = sym (memory (is_memory f short)) ∙ is in cc clash
     by false short = sound (sym (other (λ e. let clash : true ≡ false = ap want_of_memory (sym e) ∙ short in cc clash)) ∙ is)
 
--- pages that have their copies keep them
-pub loaded_same : (b : Base) (s t : Writer) → Keeps b s t → AreLoaded s → AreLoaded t
-loaded_same b s t keeps ready q = (keeps.pages q).waits ∙ ready q
-
 -- ---- what a stop leaves
 
 module _ {D : Type 0} (d : Ghosts D) (b : Base) (base : ℕ) where
@@ -137,7 +121,7 @@ module _ {D : Type 0} (d : Ghosts D) (b : Base) (base : ℕ) where
       (λ told c is. record {
         high = is.high;
         lawful = is.lawful;
-        grows = grown_within t s.log now.log is.high grows is.grows;
+        grows = within_then t s.log now.log is.high grows is.grows;
         covered = wider_covered d b base s.durable now.durable is.high is.high c durable (front_self is.high) is.covered;
       }))
       (λ told c is. is)

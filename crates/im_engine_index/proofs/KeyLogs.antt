@@ -19,11 +19,8 @@ use Rattle.im_theory_log.specs.LogLaws as logs
 use Rattle.im_theory_log.specs.Structure.{open_smo, settled, taken_back}
 use Rattle.im_theory_log.specs.Transactions.{contents, is_end, is_finished, is_rolling_back, last_of, undo_from, undo_next_of}
 use Rattle.im_theory_log.specs.Writer.{Writer, WriterKept}
-use Rattle.im_theory_log.proofs.Fronts.{has_tree}
-use Rattle.im_theory_log.proofs.Images.{images_pages}
-use Rattle.im_theory_log.proofs.LogLaws.{logs_stay_lawful}
+use Rattle.im_theory_log.proofs.Cited.{has_tree, images_pages, logs_stay_lawful, reached_end, left_alone}
 use Rattle.im_base_types.proofs.Maps.{sorted_find}
-use Rattle.im_theory_log.proofs.Redo.{reached_end}
 use Rattle.im_base_disk.specs.declared.disk.Disk.{Ghosts}
 use Rattle.im_base_disk.proofs.Runs.{weakened}
 use Rattle.im_log_record.specs.Entry.{Entry, InsertKey, DeleteKey}
@@ -39,12 +36,10 @@ use Rattle.im_theory_tree.specs.Levels.{Pages, walk}
 use Rattle.im_theory_tree.specs.Good.{AllOf, IsGoodTree}
 use Rattle.im_theory_tree.specs.Search.{IsOnWay}
 use Rattle.im_theory_tree.specs.Theory.{page_tree, CanDropFrom, CanPutInto}
-use Rattle.im_theory_tree.proofs.LookupLemmas.{leaf_value, way_leaf}
-use Rattle.im_theory_tree.proofs.TheoryLaws.{page_tree_laws}
+use Rattle.im_theory_tree.proofs.Cited.{leaf_value, way_leaf, page_tree_laws}
 use Rattle.im_tree_search.specs.Levels.{bodies}
 use Rattle.im_smo_log.specs.Changes.{IsOfChange, GrowsByChange, LeftByChange, LeavesChange}
 use Rattle.im_smo_log.proofs.ChangeLogs.{images_lawful}
-use Rattle.im_smo_log.proofs.Others.{left_alone}
 use Rattle.im_smo_actions.specs.Structure.{IsUnfinished}
 use Rattle.im_smo_actions.proofs.Standing.{left_images}
 use Rattle.im_theory_steps.specs.Growth.{AreWithin, GrowsWithin, IsOfAll, IsWithin, Stays}

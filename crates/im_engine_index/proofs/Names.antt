@@ -23,7 +23,7 @@ use Rattle.im_tree_search.specs.NextKeys.{next_name as next_key_name, far_name, 
 use Rattle.im_tree_search.specs.Ranges.{IsRange, key_if, within}
 use Rattle.im_theory_machine.specs.Locks.{Name, Request}
 use Rattle.im_theory_machine.specs.Rows.{asked, name_of, next_name}
-use Rattle.im_engine_locks.specs.Found.{Finds, FindsBelow, FindsNext, IsScanOf, name_below}
+use Rattle.im_engine_locks.specs.Found.{FindsNextName, FindsBelow, FindsNext, IsScanOf, name_below}
 use Rattle.im_tree_search.specs.Levels.{bodies_of, start_at}
 use Rattle.im_engine_index.specs.Asks.{IsPlace}
 use Rattle.im_engine_index.specs.LockAnswers.{name_in, name_behind, seek_at}
@@ -64,10 +64,10 @@ pub next_is : (m : IndexMap) (es : List Entry) (key : Key) (pool : PoolView) (p 
     → name_in (entries_of pool p) next ≡ next_name m key
 next_is m es key pool p next same is = same_name pool p next (first_in (Above key) es) is ∙ ap name_of (first_is (Above key) m es same)
 
-pub finds_there : (m : IndexMap) (key : Key) (rid : ℕ) (next : Name) → get m key ≡ Some rid → Finds m key true next
+pub finds_there : (m : IndexMap) (key : Key) (rid : ℕ) (next : Name) → get m key ≡ Some rid → FindsNextName m key true next
 finds_there m key rid next is = record { there_is = ap is_some is; next_is = λ never. let clash : true ≡ false = never in cc clash }
 
-pub finds_gap : (m : IndexMap) (key : Key) (next : Name) → get m key ≡ None → next ≡ next_name m key → Finds m key false next
+pub finds_gap : (m : IndexMap) (key : Key) (next : Name) → get m key ≡ None → next ≡ next_name m key → FindsNextName m key false next
 finds_gap m key next none is = record { there_is = ap is_some none; next_is = λ _. is }
 
 pub finds_below : (m : IndexMap) (es : List Entry) (key : Key) (below next : Option Entry) (found : Option Name) (name : Name) → es ≡ entries m → below ≡ last_in key es → next ≡ first_in (From key) es → found ≡ name_below below → name ≡ name_of next
@@ -128,7 +128,7 @@ seek_says m key false found at = ap entry at
 
 -- ---- what a change finds
 
-pub finds_any : (m : IndexMap) (key : Key) (there : Bool) (next : Name) → is_some (get m key) ≡ there → next ≡ next_name m key → Finds m key there next
+pub finds_any : (m : IndexMap) (key : Key) (there : Bool) (next : Name) → is_some (get m key) ≡ there → next ≡ next_name m key → FindsNextName m key there next
 finds_any m key there next is at = record { there_is = is; next_is = λ _. at }
 
 pub finds_both : (m : IndexMap) (key : Key) (there : Bool) (next : Name) → is_some (get m key) ≡ there → next ≡ next_name m key → FindsNext m key there next

@@ -64,7 +64,7 @@ use Rattle.im_engine_index.proofs.KeyLogs.{good_pages, leaf_has, open_longer, ow
 
 -- ---- a change under way, by its fields
 
-goes_as : (b : Base) (c : Change) (log : History) (t undo_next : ℕ) (images : List Numbered) (done prev : ℕ) → c.transaction ≡ t → c.undo_next ≡ undo_next → c.images ≡ images → c.done ≡ done → c.last ≡ prev → IsUnderWay b t undo_next images done prev log → Goes b c log
+pub goes_as : (b : Base) (c : Change) (log : History) (t undo_next : ℕ) (images : List Numbered) (done prev : ℕ) → c.transaction ≡ t → c.undo_next ≡ undo_next → c.images ≡ images → c.done ≡ done → c.last ≡ prev → IsUnderWay b t undo_next images done prev log → Goes b c log
 goes_as b c log t undo_next images done prev owner leads same made last way =
     subst (λ (x : ℕ). IsUnderWay b x c.undo_next c.images c.done c.last log) (sym owner)
     (subst (λ (x : ℕ). IsUnderWay b t x c.images c.done c.last log) (sym leads)

@@ -19,7 +19,7 @@ use Rattle.im_page_writer.specs.declared.page_writer.PageWriter.{PageWriter}
 use Rattle.im_page_writer.specs.Outcome.{fault_of, want_of_memory, pages_of, AllPages, AreLoaded, HasPages, IsSound, Outcome as Ends, Logs, Stays}
 use Rattle.im_engine_index.specs.LockCalls.{AsksLocks}
 use Rattle.im_page_writer.specs.PageWriter.{Evicted}
-use Rattle.im_page_writer.proofs.Outcomes.{stays_then}
+use Rattle.im_page_writer.proofs.Outcomes.{stays_then, loaded_still as loaded_same}
 use Rattle.im_theory_page.specs.Split.{HasRoom}
 use Rattle.im_theory_tree.specs.Good.{IsGoodTree}
 use Rattle.im_theory_tree.specs.Levels.{Pages, walk}
@@ -47,11 +47,11 @@ use Rattle.im_engine_index.specs.declared.plan.Prepared.{Prepared}
 use Rattle.im_engine_index.specs.Asks.{IsAsked, IsPlace}
 use Rattle.im_engine_index.specs.Edits.{MayEdit, InsertKept, IsLimited}
 use Rattle.im_engine_index.specs.KeyLogs.{LeavesEdit}
-use Rattle.im_engine_index.specs.InsertPlans.{IsFull, IsInsertPlan, PlanKept, prepared_with, IsPrepared, PreparedKept, MayInsert, PutKept}
+use Rattle.im_engine_index.specs.InsertPlans.{IsFullForKey, IsInsertPlan, PlanKept, prepared_with, IsPrepared, PreparedKept, MayInsert, PutKept}
 use Rattle.im_engine_index.specs.LockAnswers.{verdict_of, IfGranted}
 use Rattle.im_engine_index.proofs.KeyLogs.{bodies_are, walk_is, walk_says}
 use Rattle.im_engine_index.proofs.Names.{walk_says_map}
-use Rattle.im_engine_index.proofs.Inserts.{calls_left, is_memory, late_sound, loaded, loaded_same, stands_behind}
+use Rattle.im_engine_index.proofs.Inserts.{calls_left, is_memory, late_sound, loaded, stands_behind}
 
 -- ---- what a leaf has of its key
 
@@ -80,7 +80,7 @@ pub nothing_planned : (pages : AllPages) (key : Key) (max : ℕ) (m : IndexMap) 
 nothing_planned pages key max m pool place same at (inl there) = inl (λ none. there (at.value ∙ sym (walk_says_map m (walk (bodies_of pages)) key same) ∙ none))
 nothing_planned pages key max m pool place same at (inr room) = inr (record { page = place.leaf.number; way = at.leaf.way; room = subst (λ (x : Page). HasRoom true x.body.entries (key, 0)) at.leaf.shown room })
 
-pub plan_refused : (pages : AllPages) (key : Key) (max : ℕ) (f : Fault) (r : Result Plan Fault) → IsErrAnd r (λ y. y ≡ f) → f ≢ NotAStore → (f ≡ PagesFull → IsFull pages key max) → PlanKept pages key max r
+pub plan_refused : (pages : AllPages) (key : Key) (max : ℕ) (f : Fault) (r : Result Plan Fault) → IsErrAnd r (λ y. y ≡ f) → f ≢ NotAStore → (f ≡ PagesFull → IsFullForKey pages key max) → PlanKept pages key max r
 plan_refused pages key max f (Ok plan) is sound full = absurd is
 plan_refused pages key max f (Err y) is sound full = record { sound = λ same. sound (sym is ∙ same); full = λ same. full (sym is ∙ same) }
 
@@ -127,7 +127,7 @@ prepared_is pages t key rid max m old new pool plan (Granted place) spare good i
 prepared_is pages t key rid max m old new pool plan (Wait holder) spare good is planned = record { decides = is.decides; ready = tt; limited = limited_by pages key max spare good plan planned }
 prepared_is pages t key rid max m old new pool plan Die spare good is planned = record { decides = is.decides; ready = tt; limited = limited_by pages key max spare good plan planned }
 
-pub prepare_refused : (pages : AllPages) (t : ℕ) (key : Key) (rid max : ℕ) (m : IndexMap) (old new : Table) (pool : PoolView) (f : Fault) (r : Result (LockAnswer Prepared) Fault) → IsErrAnd r (λ y. y ≡ f) → f ≢ NotAStore → (f ≡ PagesFull → IsFull pages key max)
+pub prepare_refused : (pages : AllPages) (t : ℕ) (key : Key) (rid max : ℕ) (m : IndexMap) (old new : Table) (pool : PoolView) (f : Fault) (r : Result (LockAnswer Prepared) Fault) → IsErrAnd r (λ y. y ≡ f) → f ≢ NotAStore → (f ≡ PagesFull → IsFullForKey pages key max)
     → PreparedKept pages t key rid max m old new pool r
 prepare_refused pages t key rid max m old new pool f (Ok x) is sound full = absurd is
 prepare_refused pages t key rid max m old new pool f (Err y) is sound full = record { sound = λ same. sound (sym is ∙ same); full = λ same. full (sym is ∙ same) }
@@ -173,7 +173,7 @@ module _ {D : Type 0} (d : Ghosts D) (b : Base) (base : ℕ) (s : Writer) (e t l
   tree_lacks none = sym (walk_says d b base s e t last undo_next v old may.unfinished owner key) ∙ none
 
   -- refused in front of the grant
-  pub insert_refused : (new : Table) (w : PageWriter) (disk : D) (f : Fault) → Ends d AreLoaded (mild_to_split (Some max)) v old w disk (Some f) → f ≢ Capacity → f ≢ NotAStore → (f ≡ PagesFull → IsFull (pages_of s) key max)
+  pub insert_refused : (new : Table) (w : PageWriter) (disk : D) (f : Fault) → Ends d AreLoaded (mild_to_split (Some max)) v old w disk (Some f) → f ≢ Capacity → f ≢ NotAStore → (f ≡ PagesFull → IsFullForKey (pages_of s) key max)
       → (r : Result (LockAnswer (Option Noted)) Fault) → IsErrAnd r (λ y. y ≡ f) → InsertKept d b base s e t key rid max held new old w disk r
   insert_refused new w disk f one never sound full (Ok x) is = absurd is
   insert_refused new w disk f one never sound full (Err y) is =

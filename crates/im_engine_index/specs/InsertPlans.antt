@@ -40,7 +40,7 @@ use Rattle.im_engine_index.specs.LockAnswers.{verdict_of, IfGranted}
 -- ---- in front of the grant
 
 -- The key is not there and its leaf lacks room for it, and the pages of its split are over the limit.
-pub record IsFull (pages : AllPages) (key : Key) (max : ℕ) : Type 0 where
+pub record IsFullForKey (pages : AllPages) (key : Key) (max : ℕ) : Type 0 where
   pub absent : find key_order key (walk (bodies_of pages)) ≡ None
   pub lacks : LacksRoomFor (bodies_of pages) key
   pub over : IsOver (bodies_of pages) key max
@@ -60,7 +60,7 @@ IsInsertPlan pages key max UsedUp = HasNoneLeft pages key
 -- what planning an insert keeps
 pub record PlanKept (pages : AllPages) (key : Key) (max : ℕ) (result : Result Plan Fault) : Type 0 where
   pub sound : IsSound result (IsInsertPlan pages key max)
-  pub full : IfErr result (λ e. e ≡ PagesFull → IsFull pages key max)
+  pub full : IfErr result (λ e. e ≡ PagesFull → IsFullForKey pages key max)
 
 -- a plan beside the place that was granted
 abbrev pub prepared_with : Plan → LockAnswer Place → LockAnswer Prepared
@@ -78,7 +78,7 @@ pub record IsPrepared (pages : AllPages) (t : ℕ) (key : Key) (rid max : ℕ) (
 -- what that keeps
 pub record PreparedKept (pages : AllPages) (t : ℕ) (key : Key) (rid max : ℕ) (m : IndexMap) (old new : Table) (pool : PoolView) (result : Result (LockAnswer Prepared) Fault) : Type 0 where
   pub sound : IsSound result (IsPrepared pages t key rid max m old new pool)
-  pub full : IfErr result (λ e. e ≡ PagesFull → IsFull pages key max)
+  pub full : IfErr result (λ e. e ≡ PagesFull → IsFullForKey pages key max)
 
 -- ---- behind it
 

@@ -1,8 +1,8 @@
 //! Deletes beside a structure change of another, which may begin one of their own that goes on over several steps.
 
-ghost use Rattle.std.specs.Prelude.{◌≡◌, ◌≢◌, ◌≤◌, ℕ, [], None, Some, length, false, is_some, IfOk, IfErr, OnErr};
+ghost use Rattle.std.specs.Prelude.{◌≡◌, ◌≢◌, ◌≤◌, ℕ, [], Some, length, false, is_some, IfErr, OnErr};
 ghost use Rattle.std.specs.FinMap.{entries, get};
-ghost use Rattle.im_base_types.specs.declared.fault.Fault.TheVariants.{Memory, Failed};
+ghost use Rattle.im_base_types.specs.declared.fault.Fault.TheVariants.{Memory};
 ghost use Rattle.im_base_types.specs.Answers.{Delete};
 ghost use Rattle.im_base_types.specs.Maps.{IndexMap};
 ghost use Rattle.im_theory_log.specs.Histories.{Base};

@@ -1,6 +1,6 @@
 //! One entry, beside a structure change of another transaction.
 
-ghost use Rattle.std.specs.Prelude.{◌≡◌, ◌⊎◌, None, false, IfOk, OnErr};
+ghost use Rattle.std.specs.Prelude.{◌≡◌, ◌⊎◌, None, false, OnErr};
 ghost use Rattle.std.specs.FinMap.{entries, get};
 ghost use Rattle.im_base_types.specs.Maps.{IndexMap, From, first_in, last_in};
 ghost use Rattle.im_base_types.specs.Answers.{Fetch, Prev, found as found_reply, entry as entry_found};

@@ -4,7 +4,6 @@ ghost use Rattle.std.specs.Prelude.{◌≡◌, ◌≤◌, ℕ, false, true, leng
 ghost use Rattle.std.specs.FinMap.{entries};
 ghost use Rattle.im_base_types.specs.declared.fault.Fault.TheVariants.{Memory};
 ghost use Rattle.im_base_types.specs.Keys.{Key as KeyBytes};
-ghost use Rattle.im_base_types.specs.Pages.{Entry};
 ghost use Rattle.im_base_types.specs.Maps.{IndexMap, is_below};
 ghost use Rattle.im_base_types.specs.Answers.{Scan, limit_of};
 ghost use Rattle.im_page_writer.specs.PageWriter.{IsReadyWriter};
@@ -15,11 +14,10 @@ ghost use Rattle.im_tree_search.specs.Levels.{bodies_of};
 ghost use Rattle.im_tree_search.specs.Found.{HasTree};
 ghost use Rattle.im_tree_search.specs.NextKeys.{IsFar};
 ghost use Rattle.im_tree_search.specs.Sights.{HasTreeBut, IfSeen};
-ghost use Rattle.im_theory_machine.specs.Locks.{IsFree};
 ghost use Rattle.im_theory_machine.specs.Rows.{asked};
 ghost use Rattle.im_engine_locks.specs.Found.{IsScanOf};
 ghost use Rattle.im_engine_locks.specs.Requests.{named_if};
-ghost use Rattle.im_theory_machine.specs.Table.{Decides, SameLasting, SameTable, locks_of};
+ghost use Rattle.im_theory_machine.specs.Table.{Decides, SameLasting, SameTable};
 ghost use Rattle.im_engine_index.specs.LockAnswers.{name_behind, entries_found, IfGranted};
 ghost use Rattle.im_engine_index.specs.Reads.{IsRead, IsReadBeside};
 

@@ -1,6 +1,5 @@
 -- Rivals by the index of names are the holders in conflict, and what was kept is what is held.
-use Rattle.std.proofs.Common.{◌≡◌, ◌≢◌, ℕ, ◌<◌, ◌≤◌, Bool, true, false, not, ◌&&◌, ◌||◌, nat_eq, List, [], ◌∷◌, None, Some, refl, ap, sym, subst, ◌∙◌, ◌⊎◌, inl, inr, arith}
-use Rattle.std.proofs.lemmas.Bool.{eq-eqb, ne_eqb}
+use Rattle.std.proofs.Common.{◌≡◌, ◌≢◌, ℕ, ◌<◌, ◌≤◌, Bool, true, false, not, ◌&&◌, ◌||◌, nat_eq, List, [], ◌∷◌, None, Some, refl, ap, sym, subst, ◌∙◌, ◌⊎◌, inl, inr, arith, eq-eqb, ne_eqb}
 use Rattle.im_theory_machine.specs.Locks.{Name, Lock, Request, kept, kept_if, held_now, held_if, Holds, Asks, SameLocks, ConflictsWith, IsFree, WaitsFor, MustDie}
 use Rattle.im_theory_machine.specs.Table.{Table, locks_of}
 use Rattle.im_engine_locks.specs.Index.{is_held, same_lock, same_mode, is_exclusive, is_holder, is_among, is_against, is_rival, is_rival_of, holders_at, keeps, lasts, is_kept, is_to_commit, IsLeast}

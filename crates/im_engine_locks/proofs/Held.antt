@@ -1,6 +1,5 @@
 -- The lists of one owner beside the index of names, as a lock is added at the end of one or taken from there.
-use Rattle.std.proofs.Common.{◌≡◌, ℕ, Bool, true, false, not, ◌&&◌, ◌||◌, nat_eq, List, [], ◌∷◌, ◌++◌, filter, map, length, take, Result, Ok, Err, OnOk, OnErr, get_or, ◌<◌, ◌+◌, refl, ap, sym, subst, ◌∙◌, arith}
-use Rattle.std.proofs.lemmas.Bool.{eqb-true, eq-eqb, ne_eqb}
+use Rattle.std.proofs.Common.{◌≡◌, ℕ, Bool, true, false, not, ◌&&◌, ◌||◌, nat_eq, List, [], ◌∷◌, ◌++◌, filter, map, length, take, Result, Ok, Err, OnOk, OnErr, get_or, ◌<◌, ◌+◌, refl, ap, sym, subst, ◌∙◌, arith, eqb-true, eq-eqb, ne_eqb}
 use Rattle.std.proofs.lemmas.Grind.{common_steps}
 use Rattle.im_theory_machine.specs.Locks.{Name, Lock, Request}
 use Rattle.im_theory_machine.specs.Table.{Held, all_of}

@@ -5,12 +5,11 @@ use Rattle.im_base_types.specs.Keys.{Key}
 use Rattle.im_base_types.specs.Maps.{IndexMap, From, is_below, first, last_below}
 use Rattle.im_base_types.specs.Pages.{Entry}
 use Rattle.im_base_types.specs.Answers.{limit_of, scan}
-use Rattle.im_theory_machine.specs.Locks.{Name, At}
-use Rattle.im_theory_machine.specs.Locks.{Request as Asked}
+use Rattle.im_theory_machine.specs.Locks.{Name, At, Request as Asked}
 use Rattle.im_theory_machine.specs.Rows.{name_of, next_name, shared}
 
 -- whether the key is there and, where it is not, which name is next
-pub record Finds (m : IndexMap) (key : Key) (there : Bool) (next : Name) : Type 0 where
+pub record FindsNextName (m : IndexMap) (key : Key) (there : Bool) (next : Name) : Type 0 where
   pub there_is : is_some (get m key) ≡ there
   pub next_is : there ≡ false → next ≡ next_name m key
 

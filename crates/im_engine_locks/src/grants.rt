@@ -1,6 +1,6 @@
 //! Locks taken and given back, by name and by owner at once.
 
-ghost use Rattle.std.specs.Prelude.{◌≡◌, ◌≢◌, ℕ, ◌<◌, ◌-◌, ◌||◌, OnOk, OnErr, IfOk, take, length, map, ◌∷◌, [], true, false, not};
+ghost use Rattle.std.specs.Prelude.{◌≡◌, ◌<◌, ◌-◌, ◌||◌, OnOk, OnErr, IfOk, take, length, map, ◌∷◌, [], true, false, not};
 ghost use Rattle.im_theory_machine.specs.Locks.{Name as LockName};
 ghost use Rattle.im_engine_locks.specs.Requests.{row, requested, named};
 ghost use Rattle.im_engine_locks.specs.Index.{OthersHold, is_held, keeps, lasts, seen, seen_all, same_lock, holds_by_name};

@@ -1,6 +1,6 @@
 //! Holders of names, looked up, added and taken out.
 
-ghost use Rattle.std.specs.Prelude.{◌≡◌, ℕ, ◌++◌, [], ◌∷◌, not, IfOk, OnOk, OnErr, filter, List, true, false};
+ghost use Rattle.std.specs.Prelude.{◌≡◌, ℕ, ◌++◌, [], ◌∷◌, not, IfOk, OnErr, filter, List, true, false};
 ghost use Rattle.std.specs.Str.{bytes_eq};
 ghost use Rattle.im_theory_machine.specs.Locks.{Name as LockName};
 ghost use Rattle.im_engine_locks.specs.Requests.{named};

@@ -2,7 +2,7 @@
 
 ghost use Rattle.std.specs.Prelude.{◌≡◌};
 ghost use Rattle.im_engine_locks.specs.Requests.{row};
-ghost use Rattle.im_engine_locks.specs.Index.{is_against, is_rival, is_rival_of, rival_in, smaller_of, IsLeast};
+ghost use Rattle.im_engine_locks.specs.Index.{is_rival, is_rival_of, rival_in, smaller_of, IsLeast};
 
 use crate::holder::Holder;
 use crate::name_index::NameIndex;

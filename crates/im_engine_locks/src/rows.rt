@@ -6,9 +6,8 @@ ghost use Rattle.im_base_types.specs.Maps.{IndexMap, From, first};
 ghost use Rattle.im_base_types.specs.Answers.{Fetch, Seek, Next, Prev, Insert, Delete};
 ghost use Rattle.im_theory_machine.specs.Rows.{asked, name_of, next_name};
 ghost use Rattle.im_theory_machine.specs.Changing.{asked_begun};
-ghost use Rattle.im_engine_locks.specs.Requests.{named, row};
-ghost use Rattle.im_engine_locks.specs.Found.{Finds, FindsBelow, FindsNext};
-ghost use Rattle.im_engine_locks.specs.Requests.{named_if, requests_of};
+ghost use Rattle.im_engine_locks.specs.Requests.{named, row, named_if, requests_of};
+ghost use Rattle.im_engine_locks.specs.Found.{FindsNextName, FindsBelow, FindsNext};
 ghost use Rattle.im_theory_machine.specs.declared.lock_kind.Mode.TheVariants.{Shared, Exclusive};
 ghost use Rattle.im_theory_machine.specs.declared.lock_kind.Duration.TheVariants.{ToCommit};
 
@@ -41,7 +40,7 @@ fn exclusive(name: Name<'_>, duration: Duration) -> Request<'_>
 
 /// What a Fetch asks: the key where it is there, else the next name, which is looked at only then.
 pub fn fetch_row<'a>(key: &'a [u8], there: bool, next: Name<'a>) -> Row<'a>
-    ensures { (m : IndexMap) → Finds m key.now there (named next.entry) → row (requests_of result) ≡ asked (Fetch key.now) m }
+    ensures { (m : IndexMap) → FindsNextName m key.now there (named next.entry) → row (requests_of result) ≡ asked (Fetch key.now) m }
 {
     Row::one(shared(if there { Name::Key(key) } else { next }))
 }
@@ -66,7 +65,7 @@ pub fn prev_row<'a>(found: Option<Name<'a>>, next: Name<'a>) -> Row<'a>
 
 /// What an Insert asks: where the key is there the key, shared; else the next name for the instant and the key.
 pub fn insert_row<'a>(key: &'a [u8], there: bool, next: Name<'a>) -> Row<'a>
-    ensures { (m : IndexMap) (rid : ℕ) → Finds m key.now there (named next.entry) → row (requests_of result) ≡ asked (Insert key.now rid) m }
+    ensures { (m : IndexMap) (rid : ℕ) → FindsNextName m key.now there (named next.entry) → row (requests_of result) ≡ asked (Insert key.now rid) m }
 {
     let name = Name::Key(key);
     if there {

@@ -1,15 +1,14 @@
 //! What a Scan asks of the lock table.
 
-ghost use Rattle.std.specs.Prelude.{◌≡◌, ℕ, IfOk, IfErr, OnOk, ◌++◌, map};
+ghost use Rattle.std.specs.Prelude.{◌≡◌, ℕ, IfOk, IfErr, ◌++◌, map};
 ghost use Rattle.im_base_types.specs.declared.fault.Fault.TheVariants.{Memory};
 ghost use Rattle.im_base_types.specs.Keys.{Key as KeyBytes};
 ghost use Rattle.im_base_types.specs.Maps.{IndexMap};
 ghost use Rattle.im_base_types.specs.Answers.{Scan};
 ghost use Rattle.im_theory_machine.specs.Locks.{At};
 ghost use Rattle.im_theory_machine.specs.Rows.{asked, shared as asked_shared};
-ghost use Rattle.im_engine_locks.specs.Requests.{row};
+ghost use Rattle.im_engine_locks.specs.Requests.{row, named_if};
 ghost use Rattle.im_engine_locks.specs.Found.{IsScanOf, end_row};
-ghost use Rattle.im_engine_locks.specs.Requests.{named_if};
 
 use crate::name::Name;
 use crate::request::Request;

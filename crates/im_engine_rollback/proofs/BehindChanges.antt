@@ -42,11 +42,10 @@ use Rattle.im_restart_analysis.specs.Losers.{has_record, is_loser}
 use Rattle.im_restart_analysis.specs.Undo.{ComesTo, IsNext}
 use Rattle.im_restart_analysis.proofs.Losers.{loser_from}
 use Rattle.im_restart_analysis.proofs.Undoing.{undo_goes_on}
-use Rattle.im_restart_undo.specs.Planning.{HiddenBack, page_made, way_made, leaf_planned, change_needed, NeedsChange}
+use Rattle.im_restart_undo.specs.Planning.{HiddenBack, page_made, way_made, leaf_planned, change_needed, NeedsChange, IsWayOfMade}
 use Rattle.im_restart_undo.specs.GoingBeside.{IsGoingBeside}
 use Rattle.im_restart_undo.specs.Records.{GrowsByUndo}
 use Rattle.im_restart_undo.specs.Undoing.{IsToUndo, LeavesUndo, UsesUp}
-use Rattle.im_restart_undo.specs.Planning.{IsWayOfMade}
 use Rattle.im_restart_undo.proofs.Growth.{grows_one, left_both, left_from}
 use Rattle.im_restart_undo.proofs.Plans.{never_planned}
 use Rattle.im_restart_undo.proofs.StructureLogs.{row_is}

@@ -21,9 +21,9 @@ pub record IsNextAt (t l : ℕ) (log : History) : Type 0 where
   pub here : found.lsn ≡ l
 
 -- a record read at an LSN: it is what is undone next, or undo goes on at another
-abbrev pub Leads : ℕ → ℕ → History → Option ℕ → Type 0
-Leads t l log None = IsNextAt t l log
-Leads t l log (Some next) = GoesOnAt t next log
+abbrev pub LeadsUndo : ℕ → ℕ → History → Option ℕ → Type 0
+LeadsUndo t l log None = IsNextAt t l log
+LeadsUndo t l log (Some next) = GoesOnAt t next log
 
 -- the LSN of what is undone next, 0 where nothing is left
 pub record IsFound (t l : ℕ) (log : History) : Type 0 where
@@ -33,7 +33,7 @@ pub record IsFound (t l : ℕ) (log : History) : Type 0 where
 module _ {D : Type 0} (d : Ghosts D) (b : Base) (base : ℕ) where
   -- what reading one record comes to, behind which the writer stands as it did
   abbrev pub ReadOne : Writer → ℕ → ℕ → PageWriter → D → Option ℕ → Type 0
-  ReadOne s t l w disk next = StandsAs d b base s w disk × Leads t l s.log next
+  ReadOne s t l w disk next = StandsAs d b base s w disk × LeadsUndo t l s.log next
 
   -- and reading up to the next record to undo
   abbrev pub Finds : Writer → ℕ → PageWriter → D → ℕ → Type 0

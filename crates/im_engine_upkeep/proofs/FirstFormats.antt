@@ -1,5 +1,5 @@
 -- Looks at two logs, one after another.
-use Rattle.std.proofs.Common.{◌∙◌, inl, inr, subst, sym, ⊎_elim}
+use Rattle.std.proofs.Common.{◌∙◌, inr, subst, sym, ⊎_elim}
 use Rattle.std.specs.Prelude.{◌≡◌, ◌⊎◌, ◌↔◌, Bool, true, false, IsTrue}
 use Rattle.im_base_disk.specs.declared.disk.Disk.{Ghosts}
 use Rattle.im_base_disk.specs.Disk.{Files}

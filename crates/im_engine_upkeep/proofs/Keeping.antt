@@ -1,7 +1,7 @@
 -- What was made is upkeep.
 use Rattle.std.proofs.Common.{◌∙◌, ap, inl, inr, refl, subst, sym, arith}
 use Rattle.std.proofs.lemmas.Bool.{cases_lt}
-use Rattle.std.specs.Prelude.{◌≡◌, ◌+◌, ◌-◌, ◌^◌, ℕ, min, max, Bool, None, Some, true, false, Result, OnOk, IfErr, Ok, Err, ◌≤◌, IsTrue}
+use Rattle.std.specs.Prelude.{◌≡◌, ◌+◌, ◌-◌, ◌^◌, ℕ, min, max, Bool, Some, true, false, Result, OnOk, IfErr, Ok, Err, ◌≤◌, IsTrue}
 use Rattle.im_base_types.specs.declared.tables.DirtyPage.{DirtyPage}
 use Rattle.im_page_table.specs.DirtyTable.{oldest}
 use Rattle.im_base_disk.specs.declared.disk.Disk.{Ghosts}
@@ -19,7 +19,7 @@ use Rattle.im_engine_upkeep.specs.declared.due.Due.TheVariants as due
 use Rattle.im_engine_upkeep.specs.Noted.{IsNoted, IsNotedBy, after_last, as_before, is_done, is_left, noted, redo_from}
 use Rattle.im_engine_upkeep.specs.Numbers.{durable_end_of}
 use Rattle.im_engine_upkeep.specs.Upkeep.{IsKeptUp, none, more}
-use Rattle.im_engine_upkeep.specs.Rule.{IsByRule, IsDue, IsEnded, IsLongAtEnd, IsWritten, IsTaken, KnowsPages, MadeLast, WasForced, WasRefused}
+use Rattle.im_engine_upkeep.specs.Rule.{IsByRule, IsDue, IsEnded, IsLongAtEnd, IsWritten, IsTaken, KnowsPages, MadeLast, WasRefused}
 use Rattle.im_engine_upkeep.specs.Rule as rule
 
 -- what follows where it was made

@@ -1,3 +1,3 @@
 mod FirstFormats
-mod Keeping
+pub mod Keeping
 mod Synced

@@ -1,6 +1,6 @@
 //! How long a log may get, and what follows from that: when it goes on in the other file.
 
-ghost use Rattle.std.specs.Prelude.{false, max, ◌≡◌, ◌≤◌, ◌*◌, ◌⊎◌, ◌↔◌, IsTrue};
+ghost use Rattle.std.specs.Prelude.{false, ◌≡◌, ◌≤◌, ◌*◌, ◌↔◌, IsTrue};
 ghost use Rattle.im_engine_upkeep.specs.LogBound.{length_over, least_or_none};
 
 use im_base_types::{PAGE_SIZE, PageNo};

@@ -2,7 +2,6 @@
 use Rattle.std.proofs.Common.{◌≡◌, ◌+◌, ◌⊎◌, inl, inr, ℕ, List, [], ◌∷◌, ◌++◌, true, false, Result, Ok, Err, IfOk, refl, subst, ap, ◌∙◌, arith}
 use Rattle.std.specs.Prelude.{IfErr}
 use Rattle.std.proofs.lemmas.Bool.{cases_Bool}
-use Rattle.im_base_types.specs.Pages.{Entry}
 use Rattle.im_base_types.specs.Answers as answers
 use Rattle.im_base_types.specs.declared.fault.Fault.{Fault}
 use Rattle.im_base_types.specs.declared.fault.Fault.TheVariants.{Memory, TraceFull}
@@ -16,7 +15,7 @@ use Rattle.im_theory_store.specs.declared.store.Store.{Ghosts}
 use Rattle.im_front.specs.Held.{State, IsRun, waits_in, forces_in}
 use Rattle.im_front.specs.Traces.{trace_of}
 use Rattle.im_front.specs.Plain.{PlainState, seen_of, IsKeptFrom}
-use Rattle.im_front.specs.Acknowledged.{Point, point_of, point_in, IsHeld, IsLast, IsNotAcknowledged, IsNotForced, IsStepOf}
+use Rattle.im_front.specs.Acknowledged.{point_of, point_in, IsHeld, IsLast, IsNotAcknowledged, IsNotForced, IsStepOf}
 use Rattle.im_front.specs.Writing.{IsUnmade}
 use Rattle.im_front.proofs.Growing.{seen_of-push}
 

@@ -1,5 +1,5 @@
 -- In a run of the machine, what was started has ended or is active.
-use Rattle.std.proofs.Common.{◌≡◌, ◌≢◌, ℕ, zero, suc, ◌+◌, ◌-◌, ◌≤◌, ◌<◌, Bool, true, false, true≢false, List, [], ◌∷◌, ◌++◌, length, length-append, Option, Some, None, ◌⊎◌, refl, ap, sym, subst, ◌∙◌, inl, inr, arith}
+use Rattle.std.proofs.Common.{◌≡◌, ◌≢◌, ℕ, zero, suc, ◌+◌, ◌-◌, ◌≤◌, ◌<◌, Bool, true, false, true≢false, List, [], ◌∷◌, length, length-append, Option, Some, None, ◌⊎◌, refl, ap, sym, subst, ◌∙◌, inl, inr, arith}
 use Rattle.std.proofs.lemmas.Bool.{cases_lt, eq-eqb, ne_eqb}
 use Rattle.std.specs.Prelude.{cond, is_some, ◌==◌}
 use Rattle.std.specs.FinMap.{get}
@@ -8,9 +8,7 @@ use Rattle.im_base_types.specs.Maps.{IndexMap, From, Above, first, last_below}
 use Rattle.im_base_types.specs.Answers.{Access, Fetch, Seek, Next, Prev, Scan, Insert, Delete, Step, Begin, Do, Commit, Rollback, Continue, FlushPage, Force, Checkpoint, Switch, Reply, Started, Committed, RolledBack, More, Blocked, BlockedTree, Die, Done, Refused, Absent, Inserted, Duplicate, Deleted, Mark, Idle, Going, MustRollBack, RollingBack, Committing, found, entry, answer}
 use Rattle.im_theory_machine.specs.Locks.{Lock}
 use Rattle.im_theory_machine.specs.View.{Txn, View, Puts, Drops, TakesBack, TookBack, locked, with_change, change_made, idle, set_txn, begun, did, did_txn, marked, committed_by, dropped_by, undid_more, undid_last, broken, queued, forced_by, is_among, idle_all, AreDifferent, MayRollBack}
-use Rattle.im_theory_machine.proofs.Bools.{or_true}
-use Rattle.im_theory_machine.proofs.Queue.{among_one}
-use Rattle.im_theory_machine.proofs.Runs.{IsQueue, queue_goes, queue_breaks}
+use Rattle.im_theory_machine.proofs.Cited.{or_true, among_one, IsQueue, queue_goes, queue_breaks}
 use Rattle.im_theory_machine.specs.Machine.{barred, Answers, Goes, Moves, begins, does, waits, dies, commits, queues, drops, turns, undoes, ends, puts_later, puts, drops_first, drops_leaf, takes_later, takes_first, takes_leaf, takes_last, logs_page, tree_blocks, tree_halts, flushes, forces, checkpoints, switches, lacks, breaks, start}
 use Rattle.im_base_steps.specs.Replies.{started_in, commits_in, rolled_back_in, waits_after, IsCounted}
 use Rattle.im_front.specs.Events.{Event, Made, Broke, Runs}

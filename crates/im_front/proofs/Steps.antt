@@ -14,7 +14,7 @@ use Rattle.im_theory_machine.specs.Machine.{Moves, Run, start}
 use Rattle.im_theory_machine.specs.Isolation.{Isolates}
 use Rattle.im_front.specs.declared.recorded.Recorded.{Recorded}
 use Rattle.im_base_steps.specs.Calls.{asked_by, is_blocked}
-use Rattle.im_front.specs.Traces.{said_by, trace_of}
+use Rattle.im_front.specs.Traces.{reply_of_told, trace_of}
 use Rattle.im_front.specs.Events.{Event, Made, Broke, made_in, Runs, shown_in}
 use Rattle.im_base_steps.specs.Replies.{started_in, commits_in, rolled_back_in, waits_after, IsReply, IsCounted}
 use Rattle.im_theory_store.specs.Store.{IsAlive, StepKept, LookKept}
@@ -81,11 +81,11 @@ waits_in-push : (n : ℕ) (trace : List (Step × Reply)) (e : Step × Reply) →
 waits_in-push n [] e = refl
 waits_in-push n (x ∷ xs) e = waits_in-push (waits_after n x.0 x.1) xs e
 
-pub trace_of-push : (rs : List Recorded) (r : Recorded) → trace_of (rs ++ r ∷ []) ≡ trace_of rs ++ (asked_by r.step, said_by r.reply) ∷ []
+pub trace_of-push : (rs : List Recorded) (r : Recorded) → trace_of (rs ++ r ∷ []) ≡ trace_of rs ++ (asked_by r.step, reply_of_told r.reply) ∷ []
 trace_of-push [] r = refl
-trace_of-push (x ∷ xs) r = ap (λ l. (asked_by x.step, said_by x.reply) ∷ l) (trace_of-push xs r)
+trace_of-push (x ∷ xs) r = ap (λ l. (asked_by x.step, reply_of_told x.reply) ∷ l) (trace_of-push xs r)
 
-pub trace_of-recorded : (olds news : List Recorded) (r : Recorded) (step : Step) (reply : Reply) → news ≡ olds ++ r ∷ [] → asked_by r.step ≡ step → said_by r.reply ≡ reply → trace_of news ≡ trace_of olds ++ (step, reply) ∷ []
+pub trace_of-recorded : (olds news : List Recorded) (r : Recorded) (step : Step) (reply : Reply) → news ≡ olds ++ r ∷ [] → asked_by r.step ≡ step → reply_of_told r.reply ≡ reply → trace_of news ≡ trace_of olds ++ (step, reply) ∷ []
 trace_of-recorded olds news r step reply is asked told = ap trace_of is ∙ trace_of-push olds r ∙ (λ i. trace_of olds ++ (asked i, told i) ∷ [])
 
 pub length-trace_of : (rs : List Recorded) → length (trace_of rs) ≡ length rs

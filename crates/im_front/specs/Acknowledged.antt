@@ -35,12 +35,6 @@ pub record IsStepOf {E : Type 0} (made : E → Step → Reply → E → Type 0) 
   pub now : E
   pub step_made : made was step reply now
 
--- A Commit of the transaction was made, and answered Committed, or More where it waits for a force.
-pub record IsAsked {E : Type 0} (made : E → Step → Reply → E → Type 0) (t : ℕ) : Type 0 where
-  pub reply : Reply
-  pub step : IsStepOf made (steps.Commit t) reply
-  pub told : (told_by reply ≡ answers.Committed) ⊎ (told_by reply ≡ answers.More)
-
 module _ {E : Type 0} (d : Ghosts E) where
   -- What always holds behind the lock: where the engine tells what it holds the trace is a run that ends in it; as many forces were made as the trace
   -- answered Done, and those wait whose Commit was answered More since.

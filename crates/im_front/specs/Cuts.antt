@@ -1,5 +1,5 @@
 -- What answers a cut of the trace first.
-use Rattle.std.specs.Prelude.{◌≡◌, ◌<◌, ◌+◌, ℕ, true, false, List, [], length, Result, Err, OnOk}
+use Rattle.std.specs.Prelude.{◌≡◌, ◌<◌, ◌+◌, true, false, List, [], length, Result, Err, OnOk}
 use Rattle.im_base_types.specs.Changes.{Effect}
 use Rattle.im_base_types.specs.Lives.{Shown}
 use Rattle.im_base_types.specs.declared.fault.Fault.{Fault}

@@ -9,27 +9,27 @@ use Rattle.im_front.specs.declared.recorded.Recorded.{Recorded}
 use Rattle.im_front.specs.declared.stats.Stats.{Stats}
 
 -- what a reply of the trace says
-abbrev pub said_by : Told → answers.Reply
-said_by (tolds.Started t) = answers.Started t
-said_by (tolds.Found rid) = answers.Found rid
-said_by tolds.Absent = answers.Absent
-said_by (tolds.Entry key rid) = answers.Entry key.items rid
-said_by tolds.End = answers.End
-said_by (tolds.Entries list) = answers.Entries list.items
-said_by tolds.Inserted = answers.Inserted
-said_by tolds.Duplicate = answers.Duplicate
-said_by tolds.Deleted = answers.Deleted
-said_by tolds.Committed = answers.Committed
-said_by tolds.RolledBack = answers.RolledBack
-said_by tolds.More = answers.More
-said_by (tolds.Blocked blocker) = blocked_by blocker
-said_by tolds.Die = answers.Die
-said_by tolds.Done = answers.Done
-said_by (tolds.Refused fault) = answers.Refused (number_of fault)
+abbrev pub reply_of_told : Told → answers.Reply
+reply_of_told (tolds.Started t) = answers.Started t
+reply_of_told (tolds.Found rid) = answers.Found rid
+reply_of_told tolds.Absent = answers.Absent
+reply_of_told (tolds.Entry key rid) = answers.Entry key.items rid
+reply_of_told tolds.End = answers.End
+reply_of_told (tolds.Entries list) = answers.Entries list.items
+reply_of_told tolds.Inserted = answers.Inserted
+reply_of_told tolds.Duplicate = answers.Duplicate
+reply_of_told tolds.Deleted = answers.Deleted
+reply_of_told tolds.Committed = answers.Committed
+reply_of_told tolds.RolledBack = answers.RolledBack
+reply_of_told tolds.More = answers.More
+reply_of_told (tolds.Blocked blocker) = blocked_by blocker
+reply_of_told tolds.Die = answers.Die
+reply_of_told tolds.Done = answers.Done
+reply_of_told (tolds.Refused fault) = answers.Refused (number_of fault)
 
 -- steps with their replies
 abbrev pub trace_of : List Recorded → List (answers.Step × answers.Reply)
-trace_of = map (λ r. (asked_by r.step, said_by r.reply))
+trace_of = map (λ r. (asked_by r.step, reply_of_told r.reply))
 
 -- the three counts, as the cell of statistics has them
 abbrev pub counts_of : Stats → List ℕ

@@ -3,7 +3,7 @@
 //! A transaction that is told to give way rolls back and begins again, as the youngest of all. If it began at once it would meet the same older ones, and be told
 //! so again, without end. So it waits until each older one has ended; and who has given way a few times is first: nobody begins before it.
 
-ghost use Rattle.std.specs.Prelude.{◌≡◌, ◌≢◌, ◌<◌, ◌≤◌, ◌+◌, ◌⊎◌, ◌↔◌, true, false, length};
+ghost use Rattle.std.specs.Prelude.{◌≡◌, ◌<◌, ◌≤◌, ◌+◌, ◌⊎◌, ◌↔◌, true, false};
 ghost use Rattle.std.specs.List.{All};
 ghost use Rattle.im_front.specs.Line.{IsWaitedFor, asker_of};
 ghost use Rattle.im_base_turns.specs.Turns.{MayBegin};

@@ -1,17 +1,16 @@
 //! A front that keeps its trace for proofs alone, and hands its callers no parts of a ledger: nobody has to pick one.
 
-ghost use Rattle.std.specs.Prelude.{◌≡◌, ◌<◌, ◌≤◌, ◌^◌, ◌+◌, ◌↔◌, ◌⊎◌, List, true, false, [], ◌∷◌, ◌++◌, length, Err, IfOk, IfErr, OnErr, IfSome, IsSome};
-ghost use Rattle.std.specs.List.{sum_by, All};
+ghost use Rattle.std.specs.Prelude.{◌≡◌, ◌<◌, ◌≤◌, ◌^◌, ◌+◌, ◌↔◌, true, false, [], ◌∷◌, ◌++◌, length, Err, IfOk, IfErr, OnErr};
+ghost use Rattle.std.specs.List.{All};
 ghost use Rattle.std.specs.Arc.{arc_value};
 ghost use Rattle.crossbeam_utils.specs.Seq.{cell_view};
-ghost use Rattle.im_base_types.specs.Pages.{Entry};
-ghost use Rattle.im_front_stats.specs.Counts.{writer, committed, NoLess};
+ghost use Rattle.im_front_stats.specs.Counts.{writer, NoLess};
 ghost use Rattle.im_base_types.specs.declared.fault.Fault.TheVariants.{TooMany, Memory};
 ghost use Rattle.im_base_steps.specs.Calls.{told_by, is_blocked};
 ghost use Rattle.im_front.specs.Traces.{counts_of};
 ghost use Rattle.im_base_steps.specs.Replies.{is_full, IsReply};
-ghost use Rattle.im_front.specs.Held.{IsCounted, IsResting, Stands, waits_in, forces_in};
-ghost use Rattle.im_front.specs.Plain.{none, seen_of, Notes, GoesOn, IsKeptFrom};
+ghost use Rattle.im_front.specs.Held.{IsCounted, waits_in, forces_in};
+ghost use Rattle.im_front.specs.Plain.{none, seen_of, GoesOn, IsKeptFrom};
 ghost use Rattle.im_front.specs.Acknowledged.{IsAcknowledged, IsForced, IsNotAcknowledged, IsNotForced, IsSettled, IsStepOf};
 
 use crate::callers::{Behind, Callers, Pace};
@@ -51,7 +50,7 @@ pub struct Kept<E: Store> {
 }
 
 impl<E: Store> Model for Kept<E> {
-    ghost use Rattle.std.specs.Prelude.{◌≡◌, ◌≤◌, ◌+◌, length};
+    ghost use Rattle.std.specs.Prelude.{◌≡◌, ◌≤◌, length};
     ghost use Rattle.std.specs.Arc.{arc_value};
     ghost use Rattle.crossbeam_utils.specs.Seq.{cell_view};
     ghost use Rattle.im_front_stats.specs.Counts.{writer};

@@ -1,16 +1,15 @@
 //! A front that keeps its trace for proofs alone.
 
-ghost use Rattle.std.specs.Prelude.{◌≡◌, ◌<◌, ◌≤◌, ◌^◌, ◌+◌, ◌↔◌, ◌⊎◌, List, true, false, [], length, Err, IfOk, IfErr, OnErr, IfSome, IsSome};
+ghost use Rattle.std.specs.Prelude.{◌≡◌, ◌<◌, ◌≤◌, ◌^◌, ◌+◌, ◌↔◌, ◌⊎◌, true, false, [], length, Err, IfOk, IfErr, OnErr, IfSome, IsSome};
 ghost use Rattle.std.specs.List.{sum_by, All};
 ghost use Rattle.std.specs.Arc.{arc_value};
 ghost use Rattle.crossbeam_utils.specs.Seq.{cell_view};
-ghost use Rattle.im_base_types.specs.Pages.{Entry};
-ghost use Rattle.im_front_stats.specs.Counts.{writer, committed, NoLess};
+ghost use Rattle.im_front_stats.specs.Counts.{writer, NoLess};
 ghost use Rattle.im_base_types.specs.declared.fault.Fault.TheVariants.{TooMany, Memory};
 ghost use Rattle.im_base_steps.specs.Calls.{told_by, is_blocked};
 ghost use Rattle.im_front.specs.Traces.{counts_of};
 ghost use Rattle.im_base_steps.specs.Replies.{is_full, IsReply};
-ghost use Rattle.im_front.specs.Held.{IsCounted, IsResting, Stands, waits_in, forces_in};
+ghost use Rattle.im_front.specs.Held.{IsCounted, IsResting, waits_in, forces_in};
 ghost use Rattle.im_front.specs.Plain.{none, seen_of, Notes, GoesOn, IsKeptFrom};
 ghost use Rattle.im_front.specs.Acknowledged.{IsAcknowledged, IsForced, IsNotAcknowledged, IsNotForced, IsSettled, IsStepOf};
 

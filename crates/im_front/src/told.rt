@@ -2,7 +2,7 @@
 
 ghost use Rattle.std.specs.Prelude.{◌≡◌, ◌≤◌, ◌+◌, ◌++◌, true, [], length, vec_len, vec_capacity, IfSome};
 ghost use Rattle.im_base_steps.specs.Calls.{asked_by, told_by, has_entry, entries_in, most_entries, most_key};
-ghost use Rattle.im_front.specs.Traces.{said_by};
+ghost use Rattle.im_front.specs.Traces.{reply_of_told};
 
 use im_base_steps::{Blocker, Reply, Step};
 use im_base_types::{Fault, Key, Rid, TxnId};
@@ -56,7 +56,7 @@ impl Told {
     pub(crate) fn of(reply: &Reply, room: Room) -> Told
         requires key { has_entry (told_by reply.now) ≡ true → 255 ≤ vec_capacity room.key }
         requires entries { length (entries_in (told_by reply.now)) ≤ vec_capacity room.entries }
-        ensures { said_by result ≡ told_by reply.now }
+        ensures { reply_of_told result ≡ told_by reply.now }
     {
         let Room { key, entries } = room;
         match reply {

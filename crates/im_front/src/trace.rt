@@ -2,7 +2,6 @@
 
 ghost use Rattle.std.specs.Prelude.{◌≡◌, List, [], ◌∷◌, ◌++◌};
 ghost use Rattle.std.specs.Borrow.{ftrue};
-ghost use Rattle.im_base_types.specs.Pages.{Entry};
 ghost use Rattle.im_base_steps.specs.declared.step.Step.{Step as Steps};
 ghost use Rattle.im_base_steps.specs.declared.reply.Reply.{Reply as Replies};
 

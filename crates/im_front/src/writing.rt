@@ -1,6 +1,6 @@
 //! Transactions that are made again where they have to give way.
 
-ghost use Rattle.std.specs.Prelude.{◌≡◌, IfErr, IfOk};
+ghost use Rattle.std.specs.Prelude.{IfErr, IfOk};
 ghost use Rattle.im_front.specs.Writing.{IsBegun, IsTakenBack, IsUnmade, IsUnwritten, IsWritten};
 
 use crate::callers::Behind;

@@ -1,5 +1,5 @@
 -- Why a step of a load came to nothing, from what the front says of it.
-use Rattle.std.proofs.Common.{◌≡◌, ◌⊎◌, inl, inr, false, Result, Ok, Err}
+use Rattle.std.proofs.Common.{◌≡◌, inl, inr, false, Result, Ok, Err}
 use Rattle.std.specs.Prelude.{IfErr, IfOk}
 use Rattle.im_base_types.specs.declared.fault.Fault.{Fault}
 use Rattle.im_base_steps.specs.declared.step.Step.{Step}

@@ -1,6 +1,6 @@
 //! A load.
 
-ghost use Rattle.std.specs.Prelude.{◌≡◌, ◌≤◌, ◌+◌, ◌*◌, ◌⊎◌, ℕ, All, List, IfErr, IfOk, IfSome, length};
+ghost use Rattle.std.specs.Prelude.{◌≡◌, ◌≤◌, ◌+◌, ◌*◌, ◌⊎◌, ℕ, All, IfErr, IfOk, IfSome, length};
 ghost use Rattle.std.specs.List.{sum_by};
 ghost use Rattle.im_base_types.specs.declared.fault.Fault.TheVariants.{Memory, TooMany};
 ghost use Rattle.im_front.specs.Traces.{trace_of};

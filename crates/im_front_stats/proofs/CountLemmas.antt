@@ -7,7 +7,7 @@ use Rattle.crossbeam_utils.specs.Seq.{Versioned, Knows, idle}
 use Rattle.crossbeam_utils.specs.declared.atomic.seq_cell.Doing.{Doing}
 use Rattle.atomic_table.proofs.Lists.{at_set, at_snoc, set_again}
 use Rattle.im_front_stats.specs.declared.version_rule.Known.{Known}
-use Rattle.im_front_stats.specs.Counts.{nothing, writer, reader, IsSound, NoLess, Fits, Kept, Stored, Loaded}
+use Rattle.im_front_stats.specs.Counts.{nothing, writer, reader, IsSound, NoLess, FitsRule, Kept, Stored, Loaded}
 
 off : false ≡ true → ⊥
 off e = true≢false (sym e)
@@ -18,18 +18,18 @@ NoLess-refl xs = (le_refl _, le_refl _, le_refl _)
 pub NoLess-trans : (xs ys zs : List ℕ) → NoLess xs ys → NoLess ys zs → NoLess xs zs
 NoLess-trans xs ys zs a b = (omega (arith, a.0, b.0), omega (arith, a.1, b.1), omega (arith, a.2, b.2))
 
-fits_set : (seat : ℕ) (now : List ℕ) (views : List Known) (by : ℕ) (w : Known) → ((j : ℕ) (u : Known) → j ≢ by → get_elem? views j ≡ some u → Fits seat now j u) → Fits seat now by w → (j : ℕ) (u : Known) → get_elem? (set views by w) j ≡ some u → Fits seat now j u
+fits_set : (seat : ℕ) (now : List ℕ) (views : List Known) (by : ℕ) (w : Known) → ((j : ℕ) (u : Known) → j ≢ by → get_elem? views j ≡ some u → FitsRule seat now j u) → FitsRule seat now by w → (j : ℕ) (u : Known) → get_elem? (set views by w) j ≡ some u → FitsRule seat now j u
 fits_set seat now views by w others mine j u e =
     ⊎_elim
-    (λ (x : (j ≡ by) × (w ≡ u)). subst (λ (y : ℕ × Known). Fits seat now y.0 y.1) (λ i. (sym x.0 i, x.1 i)) mine)
+    (λ (x : (j ≡ by) × (w ≡ u)). subst (λ (y : ℕ × Known). FitsRule seat now y.0 y.1) (λ i. (sym x.0 i, x.1 i)) mine)
     (λ (x : (j ≢ by) × (get_elem? views j ≡ some u)). others j u x.0 x.1)
     (at_set views by j w u e)
 
 pub begins : Kept nothing (writer nothing ∷ [])
 begins = (le_refl 0, 0, one)
   where
-    one : (by : ℕ) (v : Known) → get_elem? (writer nothing ∷ []) by ≡ some v → Fits 0 nothing by v
-    one zero v e = subst (Fits 0 nothing 0) (some-injective _ _ e) ((λ _. (refl, refl)), NoLess-refl nothing)
+    one : (by : ℕ) (v : Known) → get_elem? (writer nothing ∷ []) by ≡ some v → FitsRule 0 nothing by v
+    one zero v e = subst (FitsRule 0 nothing 0) (some-injective _ _ e) ((λ _. (refl, refl)), NoLess-refl nothing)
     one (suc by) v e = absurd (some-ne-none v (sym e))
 
 -- the writer stores counts that do not fall
@@ -60,7 +60,7 @@ forks by v words views h at = (
   h.1,
   λ j u e. ⊎_elim
       (λ was. h.2 j u (subst (λ l. get_elem? l j ≡ some u) (set_again views by v at) was))
-      (λ (same : reader v.seen ≡ u). subst (Fits h.1 words j) same ((λ c. absurd (off c)), (h.2 by v at).1))
+      (λ (same : reader v.seen ≡ u). subst (FitsRule h.1 words j) same ((λ c. absurd (off c)), (h.2 by v at).1))
       (at_snoc (set views by v) (reader v.seen) u j e),
 )
 

@@ -37,12 +37,12 @@ abbrev pub NoLess : List ℕ → List ℕ → Type 0
 NoLess old new = (started old ≤ started new) × (committed old ≤ committed new) × (rolled_back old ≤ rolled_back new)
 
 -- what the rule says of one pass: who writes is the one in this seat and knows the counts, and no one has seen more
-abbrev pub Fits : ℕ → List ℕ → ℕ → Known → Type 0
-Fits seat counts by v = (v.writes ≡ true → (by ≡ seat) × (v.seen ≡ counts)) × NoLess v.seen counts
+abbrev pub FitsRule : ℕ → List ℕ → ℕ → Known → Type 0
+FitsRule seat counts by v = (v.writes ≡ true → (by ≡ seat) × (v.seen ≡ counts)) × NoLess v.seen counts
 
 -- the rule: the counts are sound, the one writer wrote them last, and no one has seen more
 abbrev pub Kept : List ℕ → List Known → Type 0
-Kept counts views = IsSound counts × (seat : ℕ) × ((by : ℕ) (v : Known) → get_elem? views by ≡ some v → Fits seat counts by v)
+Kept counts views = IsSound counts × (seat : ℕ) × ((by : ℕ) (v : Known) → get_elem? views by ≡ some v → FitsRule seat counts by v)
 
 -- the first kind of step: the writer put other counts in the place of those that it wrote last
 abbrev pub Stored : Known → List ℕ → List ℕ → Known → Type 0

@@ -11,7 +11,7 @@ use Rattle.im_base_disk.specs.Runs.{Reads}
 use Rattle.im_base_disk.proofs.Runs.{spares_reads}
 use Rattle.im_log_gate.specs.Gate.{place_of}
 use Rattle.im_log.specs.declared.log_file.LogFile.{LogFile}
-use Rattle.im_log.specs.LogFile.{first_lsn, next_lsn, IsOpen, LiesOutside}
+use Rattle.im_log.specs.LogFile.{first_waiting_lsn, next_lsn, IsOpen, LiesOutside}
 use Rattle.im_log.specs.Outcome.{LogRead}
 use Rattle.im_log.proofs.Above.{open_spared}
 use Rattle.im_log.proofs.Runs.{log_read}
@@ -44,7 +44,7 @@ lies_in_file log lsn low below (inl is) = omega (arith, low, is)
 lies_in_file log lsn low below (inr (inl is)) = omega (arith, below, is.0)
 lies_in_file log lsn low below (inr (inr is)) = omega (arith, below, is)
 
-pub lies_in_buffer : (log : LogFile) (lsn : ℕ) → first_lsn log ≤ lsn → lsn < next_lsn log → LiesOutside log lsn → ⊥
+pub lies_in_buffer : (log : LogFile) (lsn : ℕ) → first_waiting_lsn log ≤ lsn → lsn < next_lsn log → LiesOutside log lsn → ⊥
 lies_in_buffer log lsn low below (inl is) = omega (arith, low, is)
 lies_in_buffer log lsn low below (inr (inl is)) = omega (arith, low, is.1)
 lies_in_buffer log lsn low below (inr (inr is)) = omega (arith, below, is)

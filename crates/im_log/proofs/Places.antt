@@ -17,7 +17,7 @@ use Rattle.im_log_record.specs.Entry.{Entry}
 use Rattle.im_log_record.specs.Reading.{entry_of}
 use Rattle.im_log.specs.declared.log_file.LogFile.{LogFile}
 use Rattle.im_log.specs.Spelled.{logged_at, record_size, first_record, records_from, batches_records}
-use Rattle.im_log.specs.LogFile.{buffered, first_lsn, batch_lsn, next_lsn, IsOpen, IsLog, Sealed}
+use Rattle.im_log.specs.LogFile.{buffered, first_waiting_lsn, batch_lsn, next_lsn, IsOpen, IsLog, Sealed}
 use Rattle.im_log.specs.Reading.{FitsFront, IsFrontOf, SpellsRecord}
 use Rattle.im_log.proofs.Spells.{First, first, first_more, size_more, step, none, log_records}
 use Rattle.im_log.proofs.Passes.{batch_taken}
@@ -275,7 +275,7 @@ module _ {D : Type 0} (d : Ghosts D) (base : ℕ) (all durable : List Logged) (l
   none_below below = let i = in_file (omega (arith, below)) in omega (arith, below, i.lsn_is, h.based)
 
   -- one behind the gate stands in the buffer
-  pub buffer_bounds : log.base + place_of log.gate ≤ r.lsn → (first_lsn log ≤ r.lsn) × (r.lsn < next_lsn log)
+  pub buffer_bounds : log.base + place_of log.gate ≤ r.lsn → (first_waiting_lsn log ≤ r.lsn) × (r.lsn < next_lsn log)
   buffer_bounds above =
       let i = in_buffer above in
       (omega (arith, i.lsn_is, i.behind), omega (arith, i.lsn_is, i.before, shown_long log))

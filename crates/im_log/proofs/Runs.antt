@@ -24,7 +24,7 @@ use Rattle.im_log.specs.declared.log_file.LogFile.{LogFile}
 use Rattle.im_log.specs.Gates.{IsOfLog}
 use Rattle.im_log.specs.Spelled.{logged_at, records_from, batches_records, log_of, last_lsn}
 use Rattle.im_log.specs.LogFile.{buffered, batch_lsn, next_lsn, IsOpen, IsLog, Sealed}
-use Rattle.im_log.specs.Kept.{HasLog, HasMore, SpellsEither, Appended, Forced}
+use Rattle.im_log.specs.Kept.{HasLog, HasMoreBatches, SpellsEither, Appended, Forced}
 use Rattle.im_log.proofs.Spells.{Whole, push, log_same, log_with_all, batches_push}
 
 pub waiting : (log : LogFile) → length (buffered log) ≡ log.used
@@ -332,7 +332,7 @@ module _ {D : Type 0} (d : Ghosts D) (base : ℕ) (all durable : List Logged) wh
   rises lsn (r ∷ older) below b start = below
 
   -- a record in the buffer, behind a call after which the log has these lists
-  pub appended : (was : List Logged) → IsFront was durable → (log new : LogFile) (old disk : D) → HasMore (d.seen old Log) (d.seen disk Log) → (bytes : List ℕ) (entry : Entry) (lsn : ℕ) → IsLog d base all durable log disk → entry_of bytes ≡ Some entry
+  pub appended : (was : List Logged) → IsFront was durable → (log new : LogFile) (old disk : D) → HasMoreBatches (d.seen old Log) (d.seen disk Log) → (bytes : List ℕ) (entry : Entry) (lsn : ℕ) → IsLog d base all durable log disk → entry_of bytes ≡ Some entry
       → Whole bytes → lsn ≡ next_lsn log → buffered new ≡ buffered log ++ bytes → new.used ≡ log.used + length bytes → (new.start ≡ log.start) × (take log.start new.buffer.items ≡ take log.start log.buffer.items) → new.base ≡ log.base → new.gate ≡ log.gate → new.failed ≡ log.failed
       → Appended d base all was entry lsn old new disk
   appended was grows log new old disk file bytes entry lsn h of w at buffer used seal same gate failed = record {
@@ -344,5 +344,5 @@ module _ {D : Type 0} (d : Ghosts D) (base : ℕ) (all durable : List Logged) wh
   }
 
 -- a file has no more than it has
-pub no_more : (file : List ℕ) → HasMore file file
+pub no_more : (file : List ℕ) → HasMoreBatches file file
 no_more file = record { more = []; grown = λ before is. is ∙ ap Some (sym (append-nil before)); generation = refl }

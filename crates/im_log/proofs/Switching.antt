@@ -17,7 +17,7 @@ use Rattle.im_log_choice.proofs.SwitchStops.{log_not_other}
 use Rattle.im_log_gate.specs.declared.gate.Gate.{Gate}
 use Rattle.im_log_gate.specs.Batches.{batches}
 use Rattle.im_log_gate.specs.Gate.{file_of, base_at, place_of, logged, InOneFile, StartsAs}
-use Rattle.im_log_gate.specs.Switching.{IsFirstOf, IsNextOf}
+use Rattle.im_log_gate.specs.Switching.{IsFirstGateOf, IsNextOf}
 use Rattle.im_log_gate.specs.Header.{base_of, first_gate, generation_of, IsMade}
 use Rattle.im_log_gate.proofs.Switching as made_logs
 use Rattle.im_log_gate.proofs.Starts.{made_some}
@@ -125,7 +125,7 @@ module _ {D : Type 0} (d : Ghosts D) where
           record { swapped = both.0.swapped; current = both.0.current; has = both.1; log = either c both.0.swapped both.0.current going both.0.log; pages = both.0.pages })
 
       -- and once it has gone on
-      pub went_on : (new : LogFile) (new_disk : D) → new.failed ≡ false → new.base ≡ header.base → new.start ≡ 0 → new.used ≡ 0 → IsFirstOf header new.gate → StartsAs new.gate (d.seen new_disk Log) → IsMade (d.seen new_disk Log)
+      pub went_on : (new : LogFile) (new_disk : D) → new.failed ≡ false → new.base ≡ header.base → new.start ≡ 0 → new.used ≡ 0 → IsFirstGateOf header new.gate → StartsAs new.gate (d.seen new_disk Log) → IsMade (d.seen new_disk Log)
           → logged d new.gate new_disk ≡ Some [] → d.seen new_disk Log2 ≡ d.seen disk Log → d.seen new_disk Pages ≡ d.seen disk Pages → IsSynced d new_disk → WentOn d base all next log disk new new_disk
       went_on new new_disk works based start used first new_starts made none before pages durable =
           let file = d.seen new_disk Log in

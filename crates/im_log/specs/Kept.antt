@@ -43,7 +43,7 @@ pub record SpellsBetween (base : ℕ) (durable all : List Logged) (bytes : List 
   pub shorter : IsFront left all
 
 -- The one file's batches are the other's and more at the end, in a log of the same generation.
-pub record HasMore (old new : List ℕ) : Type 0 where
+pub record HasMoreBatches (old new : List ℕ) : Type 0 where
   pub more : List (List ℕ)
   pub grown : (before : List (List ℕ)) → batches (first_gate old) old ≡ Some before → batches (first_gate new) new ≡ Some (before ++ more)
   pub generation : generation_of new ≡ generation_of old
@@ -55,7 +55,7 @@ module _ {D : Type 0} (d : Ghosts D) (base : ℕ) (all durable : List Logged) wh
     pub now_durable : List Logged
     pub grows : IsFront durable now_durable
     pub log : IsLog d base (logged_at lsn entry ∷ all) now_durable new disk
-    pub file : HasMore (d.seen old_disk Log) (d.seen disk Log)
+    pub file : HasMoreBatches (d.seen old_disk Log) (d.seen disk Log)
 
   pub record AppendKept (entry : Entry) (old_disk : D) (new : LogFile) (new_disk : D) (result : Result ℕ Fault) : Type 0 where
     pub ok : IfOk result (λ lsn. Appended entry lsn old_disk new new_disk)
@@ -64,7 +64,7 @@ module _ {D : Type 0} (d : Ghosts D) (base : ℕ) (all durable : List Logged) wh
   -- All is durable.
   pub record Forced (old_disk : D) (new : LogFile) (disk : D) : Type 0 where
     pub log : IsLog d base all all new disk
-    pub file : HasMore (d.seen old_disk Log) (d.seen disk Log)
+    pub file : HasMoreBatches (d.seen old_disk Log) (d.seen disk Log)
 
   pub record ForceKept (old_disk : D) (new : LogFile) (new_disk : D) (result : Result Unit Fault) : Type 0 where
     pub ok : OnOk result (Forced old_disk new new_disk)

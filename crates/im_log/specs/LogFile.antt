@@ -20,8 +20,8 @@ pub record Sealed (log : LogFile) : Type 0 where
   pub filled : IsFilled batches (take log.start log.buffer.items)
 
 -- The LSN of the first record that waits.
-abbrev pub first_lsn : LogFile → ℕ
-first_lsn log = log.base + (place_of log.gate + 5)
+abbrev pub first_waiting_lsn : LogFile → ℕ
+first_waiting_lsn log = log.base + (place_of log.gate + 5)
 
 -- That of the first record of the batch that is being filled.
 abbrev pub batch_lsn : LogFile → ℕ
@@ -33,19 +33,19 @@ next_lsn log = batch_lsn log + log.used
 
 -- Where no record can be: below the log, at its gate, and at its end or above.
 abbrev pub LiesOutside : LogFile → ℕ → Type 0
-LiesOutside log lsn = (lsn < log.base) ⊎ ((log.base + place_of log.gate ≤ lsn) × (lsn < first_lsn log)) ⊎ (next_lsn log ≤ lsn)
+LiesOutside log lsn = (lsn < log.base) ⊎ ((log.base + place_of log.gate ≤ lsn) × (lsn < first_waiting_lsn log)) ⊎ (next_lsn log ≤ lsn)
 
 -- Where a record of this length would end, as an LSN.
 abbrev pub end_with : LogFile → ℕ → ℕ
 end_with log size = if nat_le (log.used + size) 16384 then next_lsn log + size else next_lsn log + 5 + size
 
 -- A buffer full of batches, and a record more, would end at LSN 2^62 or below.
-abbrev pub IsAhead : LogFile → Type 0
-IsAhead log = log.base + (place_of log.gate + 1) + (length log.buffer.items + 16388) ≤ 2 ^ 62
+abbrev pub HasLsnsLeft : LogFile → Type 0
+HasLsnsLeft log = log.base + (place_of log.gate + 1) + (length log.buffer.items + 16388) ≤ 2 ^ 62
 
 -- Behind the batch that is being filled a whole one more finds room in the buffer, and its records below LSN 2^62.
 abbrev pub HasNextRoom : LogFile → Type 0
-HasNextRoom log = (log.start + log.used + 16394 ≤ length log.buffer.items) × IsAhead log
+HasNextRoom log = (log.start + log.used + 16394 ≤ length log.buffer.items) × HasLsnsLeft log
 
 -- The log stands behind the same gate.
 pub record SameGate (old new : LogFile) : Type 0 where

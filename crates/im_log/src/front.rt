@@ -1,6 +1,6 @@
 //! The record at the front of bytes.
 
-ghost use Rattle.std.specs.Prelude.{◌≡◌, ◌≤◌, length, take, IfErr, IfOk, None};
+ghost use Rattle.std.specs.Prelude.{◌≡◌, ◌≤◌, length, IfErr, IfOk, None};
 ghost use Rattle.im_base_types.specs.declared.fault.Fault.TheVariants.{NotAStore};
 ghost use Rattle.im_log.specs.Spelled.{record_size, first_record};
 

@@ -1,6 +1,6 @@
 //! The log file with its buffer. A record's LSN is the base and its place in the file.
 
-ghost use Rattle.std.specs.Prelude.{[], ◌∷◌, drop, ◌≡◌, ◌≢◌, ◌+◌, ◌*◌, ◌^◌, ◌<◌, ◌≤◌, ◌↔◌, ◌⊎◌, ◌++◌, false, true, not, is_ok, length, take, min, ◌-◌, IfErr, IfOk, OnOk, List, ℕ, Some};
+ghost use Rattle.std.specs.Prelude.{[], ◌∷◌, ◌≡◌, ◌+◌, ◌^◌, ◌<◌, ◌≤◌, ◌↔◌, ◌⊎◌, ◌++◌, false, true, length, take, min, ◌-◌, IfOk, OnOk, List, ℕ};
 ghost use Rattle.im_log_gate.specs.Gate.{base_at, first_of, place_of};
 ghost use Rattle.im_log.specs.Gates.{IsOfLog};
 
@@ -35,14 +35,13 @@ pub struct LogFile {
 }
 
 impl LogFile {
-    ghost use Rattle.im_base_disk.specs.Runs.{LeavesIn, ChangesOnly, Reads, Costs, CostsAtMost, Forces};
-    ghost use Rattle.im_base_types.specs.declared.fault.Fault.TheVariants.{Device, Failed, LogFull, Memory, NotAStore};
-    ghost use Rattle.im_base_types.specs.declared.file_id.FileId.TheVariants.{Log};
+    ghost use Rattle.im_base_disk.specs.Runs.{Costs, Forces};
+    ghost use Rattle.im_base_types.specs.declared.fault.Fault.TheVariants.{Failed, LogFull, NotAStore};
     ghost use Rattle.im_base_types.specs.Records.{Logged};
     ghost use Rattle.im_theory_log.specs.Histories.{IsRecordOf};
     ghost use Rattle.im_log_record.specs.Entry.{view};
     ghost use Rattle.im_log_record.specs.Spelling.{IsEntry, size_of, spelling};
-    ghost use Rattle.im_log.specs.LogFile.{buffered, first_lsn, batch_lsn, next_lsn, end_with, HasTakenIn, HasNoRoom, IsAhead, HasNextRoom, IsOpen, IsLog, LiesOutside, SameGate};
+    ghost use Rattle.im_log.specs.LogFile.{buffered, first_waiting_lsn, next_lsn, end_with, HasTakenIn, HasNextRoom, IsOpen, IsLog, LiesOutside, SameGate};
     ghost use Rattle.im_log_gate.specs.Batches.{IsFilled};
     ghost use Rattle.im_log.specs.Kept.{AppendKept, ForceKept};
     ghost use Rattle.im_log.specs.Outcome.{LacksRoom, LogOutcome, LogRead};
@@ -249,7 +248,7 @@ impl LogFile {
             → IsRecordOf r all → lsn ≡ r.lsn → FoundKept r room.new result }
         ensures room { length room.new ≡ length room.old }
         ensures size { IfOk result (λ size. (4 ≤ size) × (size ≤ 16384)) }
-        ensures buffered { first_lsn self.now ≤ lsn → disk.new ≡ disk.old }
+        ensures buffered { first_waiting_lsn self.now ≤ lsn → disk.new ≡ disk.old }
         ensures outside { self.now.failed ≡ false → LiesOutside self.now lsn → result ≡ Err NotAStore }
     {
         if self.failed {

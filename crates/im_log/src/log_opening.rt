@@ -1,6 +1,6 @@
 //! A log is opened after the last batch of its file, which is read once, several batches at a time.
 
-ghost use Rattle.std.specs.Prelude.{◌*◌, ◌≡◌, ◌+◌, ◌-◌, ◌^◌, ◌<◌, ◌≤◌, ◌⊎◌, true, false, length, IfErr, IfOk, OnOk, List, ℕ, Some};
+ghost use Rattle.std.specs.Prelude.{◌*◌, ◌≡◌, ◌+◌, ◌-◌, ◌^◌, ◌<◌, ◌≤◌, ◌⊎◌, true, false, length, IfErr, IfOk, List, ℕ, Some};
 ghost use Rattle.im_log.specs.Gates.{IsOfLog};
 ghost use Rattle.im_base_types.specs.declared.fault.Fault.TheVariants.{Memory, NotAStore};
 ghost use Rattle.im_base_types.specs.declared.file_id.FileId.TheVariants.{Log};
@@ -63,7 +63,7 @@ impl Opening {
     ghost use Rattle.im_base_types.specs.declared.fault.Fault.TheVariants.{Memory, NotAStore};
     ghost use Rattle.im_base_types.specs.Outcomes.{none_own};
     ghost use Rattle.im_base_types.specs.Records.{Logged};
-    ghost use Rattle.im_log_gate.specs.Gate.{place_of, has_failed, unread, IsReading, IsReady, InOneFile};
+    ghost use Rattle.im_log_gate.specs.Gate.{place_of, unread, IsReady};
     ghost use Rattle.im_log_gate.specs.Batches.{in_front};
     ghost use Rattle.im_log_record.specs.Entry.{view};
     ghost use Rattle.im_log_record.specs.Reading.{entry_of, Gives};

@@ -1,6 +1,6 @@
 //! A record of the file or of the buffer is brought to the front of a room.
 
-ghost use Rattle.std.specs.Prelude.{◌≡◌, ◌≤◌, false, length, take, drop, IfErr, IfOk, None};
+ghost use Rattle.std.specs.Prelude.{◌≡◌, ◌≤◌, false, length, drop, IfErr, IfOk, None};
 ghost use Rattle.im_base_types.specs.declared.fault.Fault.TheVariants.{NotAStore};
 ghost use Rattle.im_base_types.specs.declared.file_id.FileId.TheVariants.{Log};
 ghost use Rattle.im_base_disk.specs.Ends.{ReadsOr};

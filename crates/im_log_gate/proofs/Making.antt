@@ -1,6 +1,5 @@
 -- The first gate of a log file, and a new log of the second format.
-use Rattle.std.proofs.Common.{◌≡◌, ◌≢◌, inl, inr, ℕ, ◌<◌, List, [], ◌++◌, length, take, slice_index, Option, Some, None, refl, sym, ◌∙◌, ap, subst, arith}
-use Rattle.std.proofs.lemmas.List.{drop_at, length-take-le}
+use Rattle.std.proofs.Common.{◌≡◌, ◌≢◌, inl, inr, ℕ, ◌<◌, List, [], ◌++◌, length, take, slice_index, Option, Some, None, refl, sym, ◌∙◌, ap, subst, arith, drop_at, length-take-le}
 use Rattle.im_log_gate.proofs.BatchLemmas.{from_drop}
 use Rattle.im_log_gate.proofs.Switching.{made, says, empty}
 use Rattle.im_log_gate.proofs.Places.{reaches_by}

@@ -18,7 +18,7 @@ pub record IsNextOf (gate : Gate) (next : ℕ) (header : Header) : Type 0 where
   pub low : header.base + 47 ≤ 2 ^ 62
 
 -- The first gate of a log of the second format with this header.
-pub record IsFirstOf (header : Header) (gate : Gate) : Type 0 where
+pub record IsFirstGateOf (header : Header) (gate : Gate) : Type 0 where
   pub generation : generation_at gate ≡ header.generation
   pub base : base_at gate ≡ header.base
   pub least : least_at gate ≡ header.next
@@ -29,7 +29,7 @@ pub record IsFirstOf (header : Header) (gate : Gate) : Type 0 where
 module _ {D : Type 0} (d : Ghosts D) where
   -- It goes on in the other file, which is a log with this header and no batch. The log from before is the other one, as it was.
   pub record HasSwitched (header : Header) (gate : Gate) (old new : D) : Type 0 where
-    pub first : IsFirstOf header gate
+    pub first : IsFirstGateOf header gate
     pub starts : d.tells → StartsAs gate (d.seen new Log)
     pub made : d.tells → IsMade (d.seen new Log)
     pub empty : d.tells → logged d gate new ≡ Some []

@@ -1,6 +1,6 @@
 //! The gate of a log file: opening and making the file, reading its batches, and putting one more.
 
-ghost use Rattle.std.specs.Prelude.{◌≡◌, ◌+◌, ◌*◌, ◌^◌, ◌<◌, ◌≤◌, ◌↔◌, ◌⊎◌, ◌++◌, ℕ, List, false, true, not, is_ok, length, take, IfErr, IfOk, IfSome, OnOk, MatchOption, [], ◌∷◌};
+ghost use Rattle.std.specs.Prelude.{◌≡◌, ◌+◌, ◌^◌, ◌<◌, ◌≤◌, ◌↔◌, ◌⊎◌, ℕ, List, false, true, length, take, IfErr, IfOk, IfSome, OnOk, MatchOption, [], ◌∷◌};
 
 use crate::creation::{NEW_START, make_new};
 use crate::put::{clear, put_behind, put_laid};

@@ -1,8 +1,7 @@
 -- What headers say.
-use Rattle.std.proofs.Common.{◌≡◌, inl, inr, ℕ, ◌^◌, ◌<◌, ◌≤◌, max, nat_lt, ◌&&◌, Bool, true, false, List, [], ◌∷◌, length, take, drop, get_or, slice_index, refl, sym, ◌∙◌, ap, subst, arith, length-take}
+use Rattle.std.proofs.Common.{◌≡◌, inl, inr, ℕ, ◌^◌, ◌<◌, ◌≤◌, max, nat_lt, ◌&&◌, Bool, true, false, List, [], ◌∷◌, length, take, drop, get_or, slice_index, refl, sym, ◌∙◌, ap, subst, arith, length-take, get_or-take}
 use Rattle.std.specs.Prelude.{◌==◌, if◌then◌else◌}
 use Rattle.std.proofs.lemmas.Bool.{cases_Bool, cases_lt, cond-true, cond-false, le-ltb, lt-ltb, ne_eqb}
-use Rattle.std.proofs.lemmas.List.{get_or-take}
 use Rattle.std.proofs.lemmas.Nat.{from_be_bytes-to_be_bytes_8}
 use Rattle.im_log_header.specs.Header.{IsUnmade, IsMade, IsEmptyLog, StartsAlike, Says, says_made, says_second, number_at, first_gate, base_of, least_number, generation_of, second_header, made_with}
 use Rattle.im_log_header.specs.Laws.{FrontsSayTheSame, UnmadeSaysNothing, EmptyLogsSayTheirs}
@@ -135,7 +134,7 @@ alike_heads file c same = (
   ap (λ (h : List ℕ). if says_second h then number_at 16 h else (if says_made h then 1 else 0)) same,
 )
 
-gate_is : (file : List ℕ) → says_second (take 47 file) ≡ true → first_gate file ≡ 47
+pub gate_is : (file : List ℕ) → says_second (take 47 file) ≡ true → first_gate file ≡ 47
 unfolding first_gate
 gate_is file is = cond-true (says_second (take 47 file)) 47 (if says_made (take 47 file) then 31 else 47) is
 

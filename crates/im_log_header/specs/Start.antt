@@ -20,5 +20,5 @@ pub record IsSpelled (header : Header) (bytes : List ℕ) : Type 0 where
   pub is : bytes ≡ second_header header.generation header.base number
 
 -- A file says this of where its log starts.
-abbrev pub StartsAs : LogStart → List ℕ → Type 0
-StartsAs start file = Says start.first_gate start.header.generation start.header.base start.header.next file
+abbrev pub SaysStart : LogStart → List ℕ → Type 0
+SaysStart start file = Says start.first_gate start.header.generation start.header.base start.header.next file

@@ -5,7 +5,7 @@ ghost use Rattle.im_base_types.specs.declared.fault.Fault.TheVariants.{Device, N
 ghost use Rattle.im_base_disk.specs.Runs.{Reads};
 ghost use Rattle.im_base_disk.specs.Ends.{ReadsOr};
 ghost use Rattle.im_log_header.specs.Header.{IsUnmade, IsMade, IsSecond, first_header};
-ghost use Rattle.im_log_header.specs.Start.{IsHeader, IsSpelled, StartsAs};
+ghost use Rattle.im_log_header.specs.Start.{IsHeader, IsSpelled, SaysStart};
 
 use crate::header::{Header, LogStart};
 use crate::spelling::{FIRST_FORMAT, parse};
@@ -71,7 +71,7 @@ pub fn read_header<D: Disk>(disk: &mut D, file: FileId) -> Result<Option<LogStar
     requires working { D.failed disk.old ≡ false }
     ensures unmade { result ≡ Ok None → D.tells → IsUnmade (D.seen disk.old file) }
     ensures made { IfOk result (λ found. IfSome found (λ start. D.tells → IsMade (D.seen disk.old file))) }
-    ensures starts { IfOk result (λ found. IfSome found (λ start. D.tells → StartsAs start (D.seen disk.old file))) }
+    ensures starts { IfOk result (λ found. IfSome found (λ start. D.tells → SaysStart start (D.seen disk.old file))) }
     ensures ranged { IfOk result (λ found. IfSome found (λ start. IsHeader start.header)) }
     ensures refused { result ≡ Err NotAStore → D.tells → ¬ (IsUnmade (D.seen disk.old file)) × ¬ (IsMade (D.seen disk.old file)) }
     ensures outcome { ReadsOr D.Disk (λ e. e ≡ NotAStore) disk.old disk.new result }

@@ -1,7 +1,6 @@
 -- The front of a buffer after a write behind it.
-use Rattle.std.proofs.Common.{◌≡◌, ℕ, ◌+◌, ◌≤◌, List, ◌++◌, length, take, sym, ap, ◌∙◌, append_assoc}
+use Rattle.std.proofs.Common.{◌≡◌, ℕ, ◌+◌, ◌≤◌, List, ◌++◌, length, take, sym, ap, ◌∙◌, append_assoc, take_at, length-append, length-take-le}
 use Rattle.im_log_record.specs.Spelling.{front, whole}
-use Rattle.std.proofs.lemmas.List.{take_at, length-append, length-take-le}
 
 pub take_put : (old bytes rest : List ℕ) (at end : ℕ) → at ≤ length old → end ≡ at + length bytes → take end (take at old ++ (bytes ++ rest)) ≡ take at old ++ bytes
 take_put old bytes rest at end le e =

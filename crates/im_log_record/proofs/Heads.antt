@@ -1,7 +1,6 @@
 -- The fields in front of every record.
-use Rattle.std.proofs.Common.{◌≡◌, ℕ, zero, suc, ◌+◌, List, [], ◌∷◌, ◌++◌, length, Some, refl, ap, subst, ◌∙◌, append_assoc}
+use Rattle.std.proofs.Common.{◌≡◌, ℕ, zero, suc, ◌+◌, List, [], ◌∷◌, ◌++◌, length, Some, refl, ap, subst, ◌∙◌, append_assoc, length-append}
 use Rattle.std.proofs.lemmas.Option.{same_Some}
-use Rattle.std.proofs.lemmas.List.{length-append}
 use Rattle.im_log_record.specs.declared.fields.Head.{Head}
 use Rattle.im_log_record.specs.declared.kind.Kind.{Kind}
 use Rattle.im_log_record.specs.declared.kind.Kind.TheVariants as kinds

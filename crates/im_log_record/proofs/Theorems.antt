@@ -9,7 +9,7 @@ use Rattle.im_log_record.specs.declared.kind.Kind.{Kind}
 use Rattle.im_log_record.specs.declared.kind.Kind.TheVariants as kinds
 use Rattle.im_log_record.specs.Kind.{number_of, kind_at}
 use Rattle.im_log_record.specs.Entry.{Entry, InsertKey, DeleteKey, UndoInsert, UndoDelete, Smo, UndoSmo, DummyClr, Commit, End, Image, Checkpoint}
-use Rattle.im_log_record.specs.Spelling.{word32, word64, Is32, Is64, IsChained, IsEntry, Spells, whole, keyed, blank, tables, front, spelling, size_of}
+use Rattle.im_log_record.specs.Spelling.{word32, word64, Is32, Is64, IsOwnedHead, IsEntry, Spells, whole, keyed, blank, tables, front, spelling, size_of}
 use Rattle.im_log_record.specs.Reading.{IsBytes, keyed_at, bodies_at, last_body_at, tables_at, has_owner, has_plain_owner, has_none, part_at, word32_at, head_at, entry_at, entry_of, first_entry}
 use Rattle.im_log_record.proofs.Words.{bind_some, part_takes, part_again, word32_field, length-word64}
 use Rattle.im_log_record.proofs.Heads.{IsHead, head_bytes, head_takes, head_again, whole_is, length-whole, length-head, kind_takes, kind_again}
@@ -21,10 +21,10 @@ record IsSpelled (h : Head) (kind : ℕ) (payload : List ℕ) (said : Entry) : T
   pub fits : IsEntry said
   pub spelled : whole kind h.transaction h.prev h.undo_next h.page payload ≡ spelling said
 
-owned : (h : Head) → IsHead h → has_owner h ≡ true → IsChained h.transaction h.prev h.undo_next h.page
+owned : (h : Head) → IsHead h → has_owner h ≡ true → IsOwnedHead h.transaction h.prev h.undo_next h.page
 owned h fits e = record { transaction = (leb-true 1 h.transaction e, fits.transaction); prev = fits.prev; undo_next = fits.undo_next; page = fits.page }
 
-plain : (h : Head) → IsHead h → has_plain_owner h ≡ true → IsChained h.transaction h.prev 0 h.page × (h.undo_next ≡ 0)
+plain : (h : Head) → IsHead h → has_plain_owner h ≡ true → IsOwnedHead h.transaction h.prev 0 h.page × (h.undo_next ≡ 0)
 plain h fits e =
     let p = and_parts (leb 1 h.transaction) (eqb h.undo_next 0) e in
     (record { transaction = (leb-true 1 h.transaction p.0, fits.transaction); prev = fits.prev; undo_next = omega arith; page = fits.page }, eqb-true _ _ p.1)
@@ -73,7 +73,7 @@ entry_takes h kinds.DummyClr payload said head fits e =
     let q = and_parts (has_owner h) (eqb h.page 0) p.0 in
     let none : payload ≡ [] = nil_from_length payload (eqb-true _ _ p.1) in
     let page : h.page ≡ 0 = eqb-true _ _ q.1 in
-    subst (IsSpelled h 7 payload) g.1 (record { fits = subst (IsChained h.transaction h.prev h.undo_next) page (owned h head q.0); spelled = same _ _ _ _ _ _ _ _ _ _ _ refl refl refl page none })
+    subst (IsSpelled h 7 payload) g.1 (record { fits = subst (IsOwnedHead h.transaction h.prev h.undo_next) page (owned h head q.0); spelled = same _ _ _ _ _ _ _ _ _ _ _ refl refl refl page none })
 entry_takes h kinds.Commit payload said head fits e =
     let g = cond_some (has_plain_owner h && eqb h.page 0 && eqb (length payload) 0) (Commit h.transaction h.prev) said e in
     let p = and_parts (has_plain_owner h && eqb h.page 0) (eqb (length payload) 0) g.0 in
@@ -81,7 +81,7 @@ entry_takes h kinds.Commit payload said head fits e =
     let none : payload ≡ [] = nil_from_length payload (eqb-true _ _ p.1) in
     let page : h.page ≡ 0 = eqb-true _ _ q.1 in
     let o = plain h head q.0 in
-    subst (IsSpelled h 8 payload) g.1 (record { fits = subst (IsChained h.transaction h.prev 0) page o.0; spelled = same _ _ _ _ _ _ _ _ _ _ _ refl refl o.1 page none })
+    subst (IsSpelled h 8 payload) g.1 (record { fits = subst (IsOwnedHead h.transaction h.prev 0) page o.0; spelled = same _ _ _ _ _ _ _ _ _ _ _ refl refl o.1 page none })
 entry_takes h kinds.End payload said head fits e =
     let g = cond_some (has_plain_owner h && eqb h.page 0 && eqb (length payload) 0) (End h.transaction h.prev) said e in
     let p = and_parts (has_plain_owner h && eqb h.page 0) (eqb (length payload) 0) g.0 in
@@ -89,7 +89,7 @@ entry_takes h kinds.End payload said head fits e =
     let none : payload ≡ [] = nil_from_length payload (eqb-true _ _ p.1) in
     let page : h.page ≡ 0 = eqb-true _ _ q.1 in
     let o = plain h head q.0 in
-    subst (IsSpelled h 9 payload) g.1 (record { fits = subst (IsChained h.transaction h.prev 0) page o.0; spelled = same _ _ _ _ _ _ _ _ _ _ _ refl refl o.1 page none })
+    subst (IsSpelled h 9 payload) g.1 (record { fits = subst (IsOwnedHead h.transaction h.prev 0) page o.0; spelled = same _ _ _ _ _ _ _ _ _ _ _ refl refl o.1 page none })
 entry_takes h kinds.Image payload said head fits e =
     let g = cond_some (has_none h && eqb (length payload) 4096) (Image h.page payload) said e in
     let p = and_parts (has_none h) (eqb (length payload) 4096) g.0 in

@@ -106,7 +106,7 @@ abbrev pub IsKey : List ℕ → Type 0
 IsKey key = (1 ≤ length key) × (length key ≤ 255)
 
 -- what a transaction wrote, behind its record before and with a next record to undo, about a page
-pub record IsChained (t p u g : ℕ) : Type 0 where
+pub record IsOwnedHead (t p u g : ℕ) : Type 0 where
   pub transaction : IsOwner t
   pub prev : Is64 p
   pub undo_next : Is64 u
@@ -145,15 +145,15 @@ pub record IsTables (n : ℕ) (active : List ActiveTransaction) (dirty : List Di
 
 -- what has a spelling
 abbrev pub IsEntry : Entry → Type 0
-IsEntry (InsertKey transaction prev page key rid) = IsChained transaction prev 0 page × (IsKey key × Is64 rid)
-IsEntry (DeleteKey transaction prev page key rid) = IsChained transaction prev 0 page × (IsKey key × Is64 rid)
-IsEntry (UndoInsert transaction prev undo_next page key rid) = IsChained transaction prev undo_next page × (IsKey key × Is64 rid)
-IsEntry (UndoDelete transaction prev undo_next page key rid) = IsChained transaction prev undo_next page × (IsKey key × Is64 rid)
-IsEntry (Smo transaction prev page before after) = IsChained transaction prev 0 page × (IsBody before × IsBody after)
-IsEntry (UndoSmo transaction prev undo_next page after) = IsChained transaction prev undo_next page × IsBody after
-IsEntry (DummyClr transaction prev undo_next) = IsChained transaction prev undo_next 0
-IsEntry (Commit transaction prev) = IsChained transaction prev 0 0
-IsEntry (End transaction prev) = IsChained transaction prev 0 0
+IsEntry (InsertKey transaction prev page key rid) = IsOwnedHead transaction prev 0 page × (IsKey key × Is64 rid)
+IsEntry (DeleteKey transaction prev page key rid) = IsOwnedHead transaction prev 0 page × (IsKey key × Is64 rid)
+IsEntry (UndoInsert transaction prev undo_next page key rid) = IsOwnedHead transaction prev undo_next page × (IsKey key × Is64 rid)
+IsEntry (UndoDelete transaction prev undo_next page key rid) = IsOwnedHead transaction prev undo_next page × (IsKey key × Is64 rid)
+IsEntry (Smo transaction prev page before after) = IsOwnedHead transaction prev 0 page × (IsBody before × IsBody after)
+IsEntry (UndoSmo transaction prev undo_next page after) = IsOwnedHead transaction prev undo_next page × IsBody after
+IsEntry (DummyClr transaction prev undo_next) = IsOwnedHead transaction prev undo_next 0
+IsEntry (Commit transaction prev) = IsOwnedHead transaction prev 0 0
+IsEntry (End transaction prev) = IsOwnedHead transaction prev 0 0
 IsEntry (Image page bytes) = Is32 page × IsPage bytes
 IsEntry (Checkpoint next active dirty) = IsTables next active dirty
 

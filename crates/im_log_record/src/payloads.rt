@@ -1,5 +1,4 @@
 //! What each kind adds to the fields that every record has.
-ghost use Rattle.std.specs.Prelude.{◌≡◌};
 ghost use Rattle.im_log_record.specs.Entry.{active_rows, dirty_rows};
 ghost use Rattle.im_log_record.specs.Reading.{Reads, keyed_at, body_at, bodies_at, last_body_at, count_at, actives_at, dirties_at, tables_at};
 

@@ -1,5 +1,5 @@
 //! A record as bytes, at a place in a buffer.
-ghost use Rattle.std.specs.Prelude.{◌≡◌, ◌+◌, ◌*◌, ◌≤◌, ◌<◌, ◌++◌, ◌∷◌, [], length, take};
+ghost use Rattle.std.specs.Prelude.{◌≡◌, ◌+◌, ◌*◌, ◌≤◌, ◌<◌, ◌++◌, [], length, take};
 ghost use Rattle.std.specs.List.{flat_map};
 ghost use Rattle.im_log_record.specs.Entry.{view, active_rows, dirty_rows, transaction_of, prev_of, undo_next_of, page_of};
 ghost use Rattle.im_log_record.specs.Kind.{number_of, kind_of};

@@ -1,6 +1,5 @@
 -- Batches behind gates, as they stand in a file.
-use Rattle.std.proofs.Common.{◌≡◌, ◌≢◌, ℕ, zero, suc, ◌+◌, ◌^◌, ◌≤◌, Bool, true, false, List, [], ◌∷◌, ◌++◌, length, map, take, drop, Option, Some, None, refl, sym, ◌∙◌, ap, subst, arith, append-nil, append_assoc, length-append, length-drop}
-use Rattle.std.proofs.lemmas.List.{take-append-drop, length-take-le, drop_at, drop-drop}
+use Rattle.std.proofs.Common.{◌≡◌, ◌≢◌, ℕ, zero, suc, ◌+◌, ◌^◌, ◌≤◌, Bool, true, false, List, [], ◌∷◌, ◌++◌, length, map, take, drop, Option, Some, None, refl, sym, ◌∙◌, ap, subst, arith, append-nil, append_assoc, length-append, length-drop, take-append-drop, length-take-le, drop_at, drop-drop}
 use Rattle.std.proofs.lemmas.List.Elements.{All-cons, All-nil}
 use Rattle.std.specs.Prelude.{All}
 use Rattle.std.specs.Int.{w32, to_be_bytes}
@@ -16,7 +15,7 @@ use Rattle.im_log_record.specs.Spelling.{size_of as size_said, word32}
 use Rattle.im_log_record.proofs.Words.{IsBytes-drop, IsBytes-take, word32_back}
 use Rattle.im_log.specs.Spelled.{log_of}
 use Rattle.im_log.proofs.Spells.{log_is, log_records, log_room, not_refused}
-use Rattle.im_log_spelling.specs.Files.{spelt, IsBatch, IsLogOf}
+use Rattle.im_log_spelling.specs.Files.{spelt, IsBatch, HasLogAt}
 use Rattle.im_log_spelling.proofs.Records.{batches_read, said_all}
 
 -- ---- read as they stand
@@ -25,7 +24,7 @@ fit_all : (said : List (List Entry)) → AllByRecursion IsBatch said → All Fit
 fit_all [] fits = All-nil Fits
 fit_all (es ∷ rest) fits = All-cons Fits (spelt es) (map spelt rest) fits.0.fits (fit_all rest fits.1)
 
-pub read : ((said : Entry) → 33 ≤ size_said said) → (base : ℕ) (file : List ℕ) (log : List Logged) → IsLogOf base file log → log_of base file ≡ Some log
+pub read : ((said : Entry) → 33 ≤ size_said said) → (base : ℕ) (file : List ℕ) (log : List Logged) → HasLogAt base file log → log_of base file ≡ Some log
 read least base file log is =
     let bs = map spelt is.said in
     let behind = gated bs ++ is.gate ∷ is.rest in
@@ -114,7 +113,7 @@ some_batches : (o : Option (List (List ℕ))) (base : ℕ) (file : List ℕ) (lo
 some_batches (Some bs) base file log here is = (bs, here)
 some_batches None base file log here is = absurd (not_refused base file log is here)
 
-pub spelled : (base : ℕ) (file : List ℕ) (log : List Logged) → IsBytes file → log_of base file ≡ Some log → IsLogOf base file log
+pub spelled : (base : ℕ) (file : List ℕ) (log : List Logged) → IsBytes file → log_of base file ≡ Some log → HasLogAt base file log
 spelled base file log small is =
     let first = first_gate file in
     let bs = some_batches (batches first file) base file log refl is in

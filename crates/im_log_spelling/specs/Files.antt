@@ -31,7 +31,7 @@ joined_all lsn (said ∷ rest) older = joined_all (lsn + (5 + length (spelt said
 
 -- A file has a log whose first byte has this LSN: behind what stands in front of its first gate there are batches, each behind an open gate, then a closed gate, no higher than LSN 2^62, and
 -- anything behind that. The log has the records of these batches, the newest first.
-pub record IsLogOf (base : ℕ) (file : List ℕ) (log : List Logged) : Type 0 where
+pub record HasLogAt (base : ℕ) (file : List ℕ) (log : List Logged) : Type 0 where
   pub said : List (List Entry)
   pub batches : AllByRecursion IsBatch said
   pub header : List ℕ
@@ -45,8 +45,8 @@ pub record IsLogOf (base : ℕ) (file : List ℕ) (log : List Logged) : Type 0 w
 
 -- such a file is read as that log
 abbrev pub LogsAreRead : Type 0
-LogsAreRead = (base : ℕ) (file : List ℕ) (log : List Logged) → IsLogOf base file log → log_of base file ≡ Some log
+LogsAreRead = (base : ℕ) (file : List ℕ) (log : List Logged) → HasLogAt base file log → log_of base file ≡ Some log
 
 -- and of bytes below 256 there is no other that is
 abbrev pub LogsAreSpelled : Type 0
-LogsAreSpelled = (base : ℕ) (file : List ℕ) (log : List Logged) → IsBytes file → log_of base file ≡ Some log → IsLogOf base file log
+LogsAreSpelled = (base : ℕ) (file : List ℕ) (log : List Logged) → IsBytes file → log_of base file ≡ Some log → HasLogAt base file log

@@ -1,6 +1,6 @@
 -- Why a store was not opened.
 use Rattle.std.specs.Prelude.{◌≡◌, ◌<◌, ◌≤◌, ◌⊎◌, ◌↔◌}
-use Rattle.im_base_file_disk.specs.RealFiles.{fault_of}
+use Rattle.im_base_file_disk.specs.RealFiles.{fault_of_opening}
 use Rattle.im_base_types.specs.declared.fault.Fault.{Fault}
 use Rattle.im_base_types.specs.declared.fault.Fault.TheVariants.{Capacity, Device, LogFull, Memory, NotAStore, PoolSize, Workers}
 use Rattle.im_engine.specs.declared.config.Config.{Config}
@@ -14,18 +14,18 @@ pub record IsCause (config : Config) (fault : Fault) : Type 0 where
   pub any : (fault ≡ PoolSize) ⊎ (fault ≡ Workers) ⊎ (fault ≡ Memory) ⊎ (fault ≡ Device) ⊎ (fault ≡ NotAStore) ⊎ (fault ≡ LogFull) ⊎ (fault ≡ Capacity)
 
 -- The files were not opened, or their store was refused for such a cause.
-abbrev pub IsRefusal : Config → NotOpened → Type 0
-IsRefusal config (Files error) = Unit {0}
-IsRefusal config (Store fault) = IsCause config fault
-IsRefusal config (Upkeep fault) = ⊥
+abbrev pub IsOpenRefusal : Config → NotOpened → Type 0
+IsOpenRefusal config (Files error) = Unit {0}
+IsOpenRefusal config (Store fault) = IsCause config fault
+IsOpenRefusal config (Upkeep fault) = ⊥
 
 -- The same, or what was due then was refused.
 abbrev pub IsRefusalKept : Config → NotOpened → Type 0
 IsRefusalKept config (Upkeep fault) = Unit {0}
-IsRefusalKept config error = IsRefusal config error
+IsRefusalKept config error = IsOpenRefusal config error
 
 -- the refusal that programs print
 abbrev pub fault_in : NotOpened → Fault
-fault_in (Files error) = fault_of error
+fault_in (Files error) = fault_of_opening error
 fault_in (Store fault) = fault
 fault_in (Upkeep fault) = fault

@@ -3,7 +3,7 @@
 ghost use Rattle.std.specs.Prelude.{◌≡◌, ◌+◌, [], false, IfOk, IfErr};
 ghost use Rattle.im_front.specs.Held.{IsResting};
 ghost use Rattle.im_open.specs.Opened.{AreUsual, IsKeptHere, IsOpenedHere};
-ghost use Rattle.im_open.specs.Refusals.{IsRefusal, IsRefusalKept};
+ghost use Rattle.im_open.specs.Refusals.{IsOpenRefusal, IsRefusalKept};
 
 use crate::not_opened::NotOpened;
 use im_base_disk::Disk;
@@ -33,7 +33,7 @@ pub fn open_store<R: Threads + Sync>(
     ensures works { IfOk result (λ s. (s.engine.failed ≡ false) × (s.engine.txns.rows ≡ [])) }
     ensures limits { IfOk result (λ s. (s.engine.max_pages ≡ config.max_pages) × (s.engine.writer.pool.frames ≡ config.frames + config.more.frames) × (s.engine.txns.group ≡ config.group)) }
     ensures bounds { IfOk result (λ s. s.upkeep.bounds ≡ bounds) }
-    ensures causes { IfErr result (λ e. IsRefusal config e) }
+    ensures causes { IfErr result (λ e. IsOpenRefusal config e) }
 {
     let disk = match FileDisk::open(rt, folder) {
         Ok(disk) => disk,

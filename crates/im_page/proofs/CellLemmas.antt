@@ -1,9 +1,8 @@
 -- A cell is the same wherever its bytes are the same.
-use Rattle.std.proofs.Common.{◌≡◌, ℕ, ◌+◌, ◌-◌, ◌*◌, ◌<◌, ◌≤◌, Bool, true, false, List, length, take, drop, slice_index, slice_range, sym, ap, ap₂, ◌∙◌, refl, arith, length-take, length-drop}
-use Rattle.std.proofs.lemmas.List.{ext_get_or, get_or-take, get_or-drop}
+use Rattle.std.proofs.Common.{◌≡◌, ℕ, ◌+◌, ◌-◌, ◌*◌, ◌<◌, ◌≤◌, Bool, true, false, List, length, take, drop, slice_index, slice_range, sym, ap, ap₂, ◌∙◌, refl, arith, length-take, length-drop, ext_get_or, get_or-take, get_or-drop}
 use Rattle.im_theory_page.specs.Number.{u16_at, u32_at, SameOutside}
 use Rattle.im_theory_page.specs.Entry.{width}
-use Rattle.im_theory_page.specs.Form.{cell_size, key_from, number_at, entry_from}
+use Rattle.im_theory_page.specs.Form.{cell_size, key_from, value_at, entry_from}
 
 -- the n bytes at t in ys are those at s in xs
 pub record SameBytes (xs ys : List ℕ) (s t n : ℕ) : Type 0 where
@@ -34,7 +33,7 @@ same_u32 xs ys s t n i j h low high e =
     ap₂ (λ a b. a * 65536 + b) (same_u16 xs ys s t n i j h low (omega arith) e) (same_u16 xs ys s t n (i + 2) (j + 2) h (omega arith) (omega arith) (omega arith))
 
 pub same_number : (leaf : Bool) (xs ys : List ℕ) (s t n i j : ℕ) → SameBytes xs ys s t n → s ≤ i → i + width leaf ≤ s + n → j + s ≡ i + t
-    → number_at leaf ys j ≡ number_at leaf xs i
+    → value_at leaf ys j ≡ value_at leaf xs i
 same_number true xs ys s t n i j h low high e =
     ap₂ (λ a b. a * 4294967296 + b) (same_u32 xs ys s t n i j h low (omega arith) e) (same_u32 xs ys s t n (i + 4) (j + 4) h (omega arith) (omega arith) (omega arith))
 same_number false xs ys s t n i j h low high e = same_u32 xs ys s t n i j h low high e
@@ -48,8 +47,8 @@ same_entry leaf xs ys s t h in_xs in_ys =
     let head : slice_index ys t ≡ n = same_at xs ys s t (cell_size leaf xs s) s t h (omega arith) (omega arith) (omega arith) in
     let part : SameBytes xs ys (s + 1) (t + 1) n = record { same = λ k lt. same_at xs ys s t (cell_size leaf xs s) (s + 1 + k) (t + 1 + k) h (omega arith) (omega arith) (omega arith) } in
     let key : key_from ys t ≡ key_from xs s = ap (λ m. slice_range ys (t + 1) (t + 1 + m)) head ∙ same_part xs ys (s + 1) (t + 1) n part (omega arith) (omega arith) in
-    let value : number_at leaf ys (t + 1 + slice_index ys t) ≡ number_at leaf xs (s + 1 + n) =
-    ap (λ m. number_at leaf ys (t + 1 + m)) head
+    let value : value_at leaf ys (t + 1 + slice_index ys t) ≡ value_at leaf xs (s + 1 + n) =
+    ap (λ m. value_at leaf ys (t + 1 + m)) head
     ∙ same_number leaf xs ys s t (cell_size leaf xs s) (s + 1 + n) (t + 1 + n) h (omega arith) (omega arith) (omega arith) in
     ap₂ (λ a b. (a, b)) key value
 
@@ -61,7 +60,7 @@ unchanged_above xs ys from to s n h le = record { same = λ k lt. h.above (s + k
 
 -- a key that was written, and a value behind it
 pub written_entry : (leaf : Bool) (mid new : List ℕ) (at to : ℕ) (key : List ℕ) (value : ℕ) → slice_index mid at ≡ length key → key_from mid at ≡ key
-    → at + 1 + length key ≤ length mid → SameOutside mid new (at + 1 + length key) to → number_at leaf new (at + 1 + length key) ≡ value
+    → at + 1 + length key ≤ length mid → SameOutside mid new (at + 1 + length key) to → value_at leaf new (at + 1 + length key) ≡ value
     → entry_from leaf new at ≡ (key, value)
 unfolding entry_from
 written_entry leaf mid new at to key value size is_key room rest is_value =
@@ -73,4 +72,4 @@ written_entry leaf mid new at to key value size is_key room rest is_value =
     ∙ same_part mid new (at + 1) (at + 1) (length key) part (omega arith) (omega (arith, rest.len))
     ∙ ap (λ m. slice_range mid (at + 1) (at + 1 + m)) (sym size)
     ∙ is_key in
-    ap₂ (λ a b. (a, b)) is (ap (λ m. number_at leaf new (at + 1 + m)) head ∙ is_value)
+    ap₂ (λ a b. (a, b)) is (ap (λ m. value_at leaf new (at + 1 + m)) head ∙ is_value)

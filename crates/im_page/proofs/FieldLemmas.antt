@@ -8,7 +8,7 @@ use Rattle.im_theory_page.specs.Number.{u32_at, u64_at, SameOutside}
 use Rattle.im_theory_page.specs.Entry.{no_entry, size}
 use Rattle.im_theory_page.specs.Form.{count_of, start_of, slot_at, key_from, cell_size, entry_from, entries_of, IsPacked}
 use Rattle.im_theory_page.specs.Header.{FitsKind, HasPrev, HasNext, HasLeftmost}
-use Rattle.im_theory_page.specs.Page.{kind_of, is_leaf, said_by, IsHeader, IsForm, HoldsEntries, with_entries}
+use Rattle.im_theory_page.specs.Page.{kind_of, is_leaf, said_by, IsPageHeader, IsForm, HoldsEntries, with_entries}
 use Rattle.im_page.proofs.CellLemmas.{SameBytes, same_entry, same_u32, same_number}
 use Rattle.im_page.proofs.HeaderLemmas.{same_page}
 use Rattle.im_page.proofs.ListLemmas.{made, made_same}
@@ -106,7 +106,7 @@ cells_of_field old new from to h f = cells_same old new from to h (omega arith) 
 same_kind : (old new : List ℕ) (from to : ℕ) → SameOutside old new from to → IsField from to → slice_index new 8 ≡ slice_index old 8
 same_kind old new from to h f = byte old new from to 8 h (omega arith)
 
-form_kept : (old new : List ℕ) (from to : ℕ) → SameOutside old new from to → IsField from to → IsForm old → slice_index new 10 ≤ 1 → IsHeader new → IsForm new
+form_kept : (old new : List ℕ) (from to : ℕ) → SameOutside old new from to → IsField from to → IsForm old → slice_index new 10 ≤ 1 → IsPageHeader new → IsForm new
 form_kept old new from to h f form mark header =
     let kind = same_kind old new from to h f in
     record {

@@ -5,7 +5,7 @@ use Rattle.std.proofs.lemmas.List.Sums.{sum_by-insert}
 use Rattle.im_theory_page.specs.Number.{SameOutside}
 use Rattle.im_theory_page.specs.Entry.{no_entry, width, size}
 use Rattle.im_base_types.specs.Pages.{Entry}
-use Rattle.im_theory_page.specs.Form.{count_of, start_of, slot_at, cell_size, key_from, entry_from, entries_of, KeysRise, AreApart, IsPacked}
+use Rattle.im_theory_page.specs.Form.{count_of, start_of, slot_at, cell_size, key_from, entry_from, entries_of, KeysRise, CellsAreApart, IsPacked}
 use Rattle.im_theory_page.specs.Found.{Parts}
 use Rattle.im_page.specs.Edit.{AddsSlot}
 use Rattle.im_page.proofs.CellLemmas.{SameBytes, same_entry}
@@ -148,7 +148,7 @@ pub from_order : (i a b m n : ℕ) → ((a < i) × (m ≡ a)) ⊎ ((i < a) × (m
 from_order i a b m n x y e = omega arith
 
 -- a cell that lies below the others shares no byte with them
-pub new_apart : (leaf : Bool) (old mid new : List ℕ) (i start : ℕ) (e : Entry) → Inserted leaf old mid new i start e → AreApart leaf new
+pub new_apart : (leaf : Bool) (old mid new : List ℕ) (i start : ℕ) (e : Entry) → Inserted leaf old mid new i start e → CellsAreApart leaf new
 new_apart leaf old mid new i start e h a b la lb ne =
     let n = new_slot leaf old mid new i start e h in
     let top : slot_at new i + cell_size leaf new (slot_at new i) ≡ start_of old = omega (arith, n.0, n.1, h.sized) in

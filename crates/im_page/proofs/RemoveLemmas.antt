@@ -4,7 +4,7 @@ use Rattle.std.proofs.lemmas.Bool.{cases_lt, lt-ltb, le-ltb}
 use Rattle.std.proofs.lemmas.List.Sums.{sum_by-remove}
 use Rattle.im_theory_page.specs.Entry.{no_entry, entry_at, width, size}
 use Rattle.im_base_types.specs.Pages.{Entry}
-use Rattle.im_theory_page.specs.Form.{count_of, start_of, slot_at, cell_size, key_from, entry_from, entries_of, KeysRise, AreApart, IsPacked}
+use Rattle.im_theory_page.specs.Form.{count_of, start_of, slot_at, cell_size, key_from, entry_from, entries_of, KeysRise, CellsAreApart, IsPacked}
 use Rattle.im_page.specs.Edit.{moved_up, MovesCells, DropsSlot}
 use Rattle.im_page.proofs.CellLemmas.{SameBytes, same_entry, same_at}
 use Rattle.im_page.proofs.ListLemmas.{made, made_remove}
@@ -134,7 +134,7 @@ still_rise leaf old mid new i at n h a b ab lb =
     let right : key_from new (slot_at new b) ≡ key_from old (slot_at old y.0) = ap (λ (e : Entry). e.0) (cell_of leaf old mid new i at n h b y.0 y.1).entry in
     rw (left, right) (h.packed.rises x.0 y.0 (omega (arith, x.1.order, y.1.order)) y.1.within)
 
-pub still_apart : (leaf : Bool) (old mid new : List ℕ) (i at n : ℕ) → Removed leaf old mid new i at n → AreApart leaf new
+pub still_apart : (leaf : Bool) (old mid new : List ℕ) (i at n : ℕ) → Removed leaf old mid new i at n → CellsAreApart leaf new
 still_apart leaf old mid new i at n h a b la lb ne =
     let x = comes_from leaf old mid new i at n h a la in
     let y = comes_from leaf old mid new i at n h b lb in

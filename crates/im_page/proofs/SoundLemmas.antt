@@ -1,12 +1,11 @@
 -- One more slot of the test, and what the whole test says.
-use Rattle.std.proofs.Common.{zero, suc, ◌≡◌, ◌≢◌, ◌⊎◌, ℕ, ◌+◌, ◌-◌, ◌*◌, ◌<◌, ◌≤◌, Bool, true, false, List, length, replicate, slice_index, slice_set, refl, sym, ap, subst, ◌∙◌, inl, inr, ⊎_elim, arith}
+use Rattle.std.proofs.Common.{zero, suc, ◌≡◌, ◌≢◌, ◌⊎◌, ℕ, ◌+◌, ◌-◌, ◌*◌, ◌<◌, ◌≤◌, Bool, true, false, List, length, replicate, slice_index, slice_set, refl, sym, ap, subst, ◌∙◌, inl, inr, ⊎_elim, arith, get_or-set_other, get_or-set_same, length-set}
 use Rattle.std.proofs.lemmas.Bool.{cases_eq, cases_lt, true≢false}
-use Rattle.std.proofs.lemmas.List.{get_or-set_other, get_or-set_same, length-set}
 use Rattle.std.proofs.lemmas.List.FromFn.{sum_by-map-range_with_len_more}
 use Rattle.im_theory_page.specs.Entry.{size}
 use Rattle.im_base_types.specs.Keys.{IsBelow}
 use Rattle.im_theory_page.specs.Form.{count_of, start_of, slot_at, cell_size, key_from, entry_from, entries_of, IsPacked}
-use Rattle.im_page.specs.Sound.{is_taken, AreEnds, AreSound, HasSlots, IsRun, MarksOne, SlotsSound, total_of}
+use Rattle.im_page.specs.Sound.{is_taken, AreEnds, AreSound, HasSlots, ArePacked, MarksOne, SlotsSound, total_of}
 use Rattle.im_theory_page.proofs.Order.{below_irrefl, below_trans}
 use Rattle.im_page.proofs.CoverLemmas.{ended_at, follow_all, follow_apart, full, none_below, spans}
 use Rattle.im_theory_page.proofs.EntryLemmas.{key_len}
@@ -108,11 +107,11 @@ sound_all leaf bytes flags len start h end begun high keyed below =
     (λ k from to. follow_all (slot_at bytes) (end_of leaf bytes) n (start_of bytes) 4096 (4095 - k) some follow last k from (omega arith)) in
     record { sound = sound; full = omega (arith, all, spans_total leaf bytes n len sound) }
 
-pub run_begins : (leaf : Bool) (bytes : List ℕ) → IsRun leaf bytes 0 4096
+pub run_begins : (leaf : Bool) (bytes : List ℕ) → ArePacked leaf bytes 0 4096
 run_begins leaf bytes = record { low = λ i lt. absurd (omega arith); falls = λ i j ij lj. absurd (omega arith); high = λ i lt. absurd (omega arith); full = refl }
 
 -- one cell more, right in front of the last one
-pub run_more : (leaf : Bool) (bytes : List ℕ) (n from at : ℕ) → length bytes ≡ 4096 → IsRun leaf bytes n from → at ≡ slot_at bytes n → at + cell_size leaf bytes at ≡ from → IsRun leaf bytes (n + 1) at
+pub run_more : (leaf : Bool) (bytes : List ℕ) (n from at : ℕ) → length bytes ≡ 4096 → ArePacked leaf bytes n from → at ≡ slot_at bytes n → at + cell_size leaf bytes at ≡ from → ArePacked leaf bytes (n + 1) at
 run_more leaf bytes n from at len h is_at meets =
     let within : from ≤ 4096 = omega (arith, h.full) in
     let more = total_more leaf bytes n at is_at (omega (arith, meets, within, len)) in
@@ -131,7 +130,7 @@ run_more leaf bytes n from at len h is_at meets =
     }
 
 -- cells that lie so down to where they begin, and whose keys rise from one to the next
-pub run_sound : (leaf : Bool) (bytes : List ℕ) → IsRun leaf bytes (count_of bytes) (start_of bytes) → ((i : ℕ) → i < count_of bytes → 1 ≤ slice_index bytes (slot_at bytes i))
+pub run_sound : (leaf : Bool) (bytes : List ℕ) → ArePacked leaf bytes (count_of bytes) (start_of bytes) → ((i : ℕ) → i < count_of bytes → 1 ≤ slice_index bytes (slot_at bytes i))
     → ((i : ℕ) → 0 < i → i < count_of bytes → IsBelow (key_from bytes (slot_at bytes (i - 1))) (key_from bytes (slot_at bytes i))) → SlotsSound leaf bytes
 run_sound leaf bytes h keyed below = record {
   sound = record {

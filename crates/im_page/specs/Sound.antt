@@ -58,7 +58,7 @@ pub record MarksOne (old new : List Bool) (at : ℕ) : Type 0 where
   pub others : (k : ℕ) → k ≢ at → is_taken new k ≡ is_taken old k
 
 -- the first n slots' cells lie one in front of the other, from the page's end down to `from`
-pub record IsRun (leaf : Bool) (bytes : List ℕ) (n from : ℕ) : Type 0 where
+pub record ArePacked (leaf : Bool) (bytes : List ℕ) (n from : ℕ) : Type 0 where
   pub low : (i : ℕ) → i < n → from ≤ slot_at bytes i
   pub falls : (i j : ℕ) → i < j → j < n → slot_at bytes j + cell_size leaf bytes (slot_at bytes j) ≤ slot_at bytes i
   pub high : (i : ℕ) → i < n → slot_at bytes i + cell_size leaf bytes (slot_at bytes i) ≤ 4096

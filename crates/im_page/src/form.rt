@@ -2,9 +2,9 @@
 
 ghost use Rattle.std.specs.Prelude.{◌≡◌, ◌↔◌, IsTrue, ℕ, ◌+◌, ◌*◌, ◌/◌, ◌<◌, ◌≤◌, false, true, length, slice_index, replicate};
 ghost use Rattle.im_base_types.specs.Keys.{IsBelow};
-ghost use Rattle.im_theory_page.specs.Form.{count_of, start_of, slot_at, key_from, cell_size, IsPacked};
+ghost use Rattle.im_theory_page.specs.Form.{count_of, start_of, slot_at, key_from, IsPacked};
 ghost use Rattle.im_theory_page.specs.Entry.{width};
-ghost use Rattle.im_theory_page.specs.Page.{IsHeader, IsForm};
+ghost use Rattle.im_theory_page.specs.Page.{IsPageHeader, IsForm};
 ghost use Rattle.im_page.specs.Sound.{HasSlots, IsTopOf, IsPlace, ArePlaces, AreUniform, SlotsSound};
 
 use crate::cells::{cell_len, foot_of, key_at};
@@ -247,7 +247,7 @@ pub fn is_packed(leaf: bool, bytes: &[u8]) -> bool
 /// Whether the header's fields are those of its kind.
 fn is_header(bytes: &[u8]) -> bool
     requires { length bytes.now ≡ 4096 }
-    ensures { IsTrue result ↔ IsHeader bytes.now }
+    ensures { IsTrue result ↔ IsPageHeader bytes.now }
 {
     match bytes[8] {
         0 => {

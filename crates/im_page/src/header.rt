@@ -1,7 +1,7 @@
 //! The header of a page: what it says, and how its bytes are written.
 
-ghost use Rattle.std.specs.Prelude.{◌≡◌, ℕ, ◌+◌, ◌≤◌, ◌<◌, ◌==◌, length, if◌then◌else◌};
-ghost use Rattle.im_theory_page.specs.Number.{u16_at, u32_at, u64_at, SameOutside};
+ghost use Rattle.std.specs.Prelude.{◌≡◌, ◌≤◌, length, if◌then◌else◌};
+ghost use Rattle.im_theory_page.specs.Number.{u64_at};
 ghost use Rattle.im_theory_page.specs.Page.{kind_of, said_by, IsForm};
 ghost use Rattle.im_theory_page.specs.Header.{FitsKind, empty_body, initial};
 ghost use Rattle.im_page.specs.Edit.{IsErased, HasHeader};

@@ -3,7 +3,7 @@
 ghost use Rattle.std.specs.Prelude.{◌≡◌, ℕ, ◌+◌, ◌*◌, ◌^◌, ◌<◌, ◌≤◌, length, slice_index, insert, false};
 ghost use Rattle.im_theory_page.specs.Number.{SameOutside};
 ghost use Rattle.im_theory_page.specs.Entry.{width};
-ghost use Rattle.im_theory_page.specs.Form.{count_of, start_of, key_from, number_at, entry_from, entries_of, IsPacked};
+ghost use Rattle.im_theory_page.specs.Form.{count_of, start_of, key_from, value_at, entry_from, entries_of, IsPacked};
 ghost use Rattle.im_theory_page.specs.Found.{Parts};
 ghost use Rattle.im_page.specs.Edit.{AddsSlot};
 
@@ -26,7 +26,7 @@ fn put_key(bytes: &mut [u8], at: usize, key: &[u8])
 fn put_value(bytes: &mut [u8], leaf: bool, at: usize, value: u64)
     requires room { at + width leaf ≤ length bytes.old }
     requires fits { leaf ≡ false → value < 2 ^ 32 }
-    ensures value { number_at leaf bytes.new at ≡ value }
+    ensures value { value_at leaf bytes.new at ≡ value }
     ensures rest { SameOutside bytes.old bytes.new at (at + width leaf) }
 {
     if leaf {

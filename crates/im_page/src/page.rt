@@ -1,6 +1,6 @@
 //! A page of 4,096 bytes.
 
-ghost use Rattle.std.specs.Prelude.{◌≡◌, ◌⊎◌, true, false, Err, IsTrue, ℕ, ◌+◌, ◌≤◌, ◌<◌, length, take, drop, slice_range, insert, remove, [], OnOk, OnErr, IsOk, IfOk, IfErr, ◌↔◌, ◌^◌, Some, None};
+ghost use Rattle.std.specs.Prelude.{◌≡◌, ◌⊎◌, true, false, Err, IsTrue, ◌+◌, ◌≤◌, ◌<◌, length, take, drop, slice_range, insert, remove, OnOk, OnErr, IsOk, IfOk, IfErr, ◌↔◌, ◌^◌, Some, None};
 ghost use Rattle.im_base_types.specs.declared.page_kind.PageKind.TheVariants.{Free, Leaf, Inner};
 ghost use Rattle.im_base_types.specs.declared.fault.Fault.TheVariants.{Device, NotAStore};
 ghost use Rattle.im_base_types.specs.declared.file_id.FileId.TheVariants.{Pages};

@@ -9,13 +9,7 @@ use Rattle.im_theory_log.specs.Histories.{Base, History, IsFront, end_of, page_a
 use Rattle.im_theory_log.specs.RedoPoints.{redo_point}
 use Rattle.im_theory_log.specs.Writer.{PageState, Writer, WriterKept}
 use Rattle.im_theory_log.specs.WriterSteps.{MayAppend, appended, imaged, passed}
-use Rattle.im_theory_log.proofs.Histories.{page_same}
-use Rattle.im_theory_log.proofs.Redo.{reached_end}
-use Rattle.im_theory_log.proofs.RedoPoints.{point_same}
-use Rattle.im_theory_log.proofs.WriterAppends.{appended_kept}
-use Rattle.im_theory_log.proofs.WriterCheckpoints.{next_point}
-use Rattle.im_theory_log.proofs.WriterGrowth.{grown_kept}
-use Rattle.im_theory_log.proofs.WriterRedo.{imaged_kept}
+use Rattle.im_theory_log.proofs.Cited.{page_same, reached_end, point_same, appended_kept, next_point, grown_kept, imaged_kept}
 use Rattle.im_base_disk.specs.declared.disk.Disk.{Ghosts}
 use Rattle.im_base_disk.specs.Runs.{ChangesOnly}
 use Rattle.im_base_disk.proofs.Runs.{spared}
@@ -30,7 +24,7 @@ use Rattle.im_page_table.specs.DirtyTable.{TableView, entry_in, IsTied}
 use Rattle.im_page_file.specs.PageFile.{IsPageFile}
 use Rattle.im_page_file.specs.Stands.{Stands}
 use Rattle.im_page_table.specs.Growth.{image_at, image_pages, with_image}
-use Rattle.im_page_file.specs.Images.{MayImage, Imaged, ImageKept}
+use Rattle.im_page_file.specs.Images.{MayLogImage, Imaged, ImageKept}
 use Rattle.im_page_table.specs.KnownCopies.{KnowsCopies}
 use Rattle.im_page_table.proofs.KnownCopies.{knows_grown, knows_joined, knows_redoing}
 use Rattle.im_page_file.proofs.OtherLog.{older_as, only_spared}
@@ -92,7 +86,7 @@ knows_imaged b s lsn p more kept k last below = by s.redo_end refl
 
 module _ {D : Type 0} (d : Ghosts D) (b : Base) (base : ℕ) (s : Writer) (log : LogFile) (table : TableView) (old : D) (st : Stands d b base s log table old) where
   -- how it stands behind an append of the Image
-  pub stands_imaged : (p lsn : ℕ) (bytes : List ℕ) (new_log : LogFile) (new : D) → b.start ≤ base → MayImage s p bytes → Appended d base s.log s.durable (entries.Image p bytes) lsn old new_log new
+  pub stands_imaged : (p lsn : ℕ) (bytes : List ℕ) (new_log : LogFile) (new : D) → b.start ≤ base → MayLogImage s p bytes → Appended d base s.log s.durable (entries.Image p bytes) lsn old new_log new
       → IsOpen d new_log new → ChangesOnly d Log old new → Imaged d b base s p lsn new_log table new
   stands_imaged p lsn bytes new_log new starts may put ready changes =
       let log_is = subst (λ (r : Logged). IsLog d base (r ∷ s.log) put.now_durable new_log new) (image_is lsn p bytes (s.pages p).page may.page) put.log in
@@ -112,7 +106,7 @@ module _ {D : Type 0} (d : Ghosts D) (b : Base) (base : ℕ) (s : Writer) (log :
       }
 
   -- what the append keeps, whatever it answers
-  pub image_appended : (p : ℕ) (bytes : List ℕ) (new_log : LogFile) (new : D) (result : Result ℕ Fault) → b.start ≤ base → MayImage s p bytes → AppendKept d base s.log s.durable (entries.Image p bytes) old new_log new result
+  pub image_appended : (p : ℕ) (bytes : List ℕ) (new_log : LogFile) (new : D) (result : Result ℕ Fault) → b.start ≤ base → MayLogImage s p bytes → AppendKept d base s.log s.durable (entries.Image p bytes) old new_log new result
       → IsOpen d new_log new → ChangesOnly d Log old new → ImageKept d b base s p table old new_log new result
   image_appended p bytes new_log new result starts may kept ready changes = record { ok = by result kept.ok; stops = log_stops d b base s log table old st new kept.stops }
     where

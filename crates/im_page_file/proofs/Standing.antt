@@ -5,9 +5,7 @@ use Rattle.im_base_types.specs.declared.file_id.FileId.TheVariants.{Log, Pages, 
 use Rattle.im_theory_log.specs.Histories.{Base, History, IsFront}
 use Rattle.im_theory_log.specs.Writer.{Writer, WriterKept}
 use Rattle.im_theory_log.specs.WriterSteps.{forced, synced_entry, written, written_entry}
-use Rattle.im_theory_log.proofs.Histories.{front_self}
-use Rattle.im_theory_log.proofs.WriterCovers.{covers}
-use Rattle.im_theory_log.proofs.WriterWrites.{forced_kept, synced_kept, written_kept}
+use Rattle.im_theory_log.proofs.Cited.{front_self, covers, forced_kept, synced_kept, written_kept}
 use Rattle.im_base_disk.specs.declared.disk.Disk.{Ghosts}
 use Rattle.im_base_disk.specs.Disk.{Files, Only, Holds, Torn, InFile, Stepped, Follows}
 use Rattle.im_base_disk.specs.Runs.{ChangesOnly, LeavesIn, LeavesOnly, Reads, Spares}

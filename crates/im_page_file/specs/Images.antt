@@ -11,7 +11,7 @@ use Rattle.im_page_table.specs.DirtyTable.{TableView}
 use Rattle.im_page_file.specs.Stands.{Stands, LeavesCovered}
 
 -- What it asks: the page has its copy, and these are its bytes. While redo goes on the log is not empty.
-pub record MayImage (s : Writer) (p : ℕ) (bytes : List ℕ) : Type 0 where
+pub record MayLogImage (s : Writer) (p : ℕ) (bytes : List ℕ) : Type 0 where
   pub ready : (s.pages p).waits ≡ false
   pub page : page_of bytes ≡ Some (s.pages p).page
   pub begun : s.redo_end ≡ None → s.log ≢ []

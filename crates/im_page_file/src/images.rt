@@ -7,7 +7,7 @@ ghost use Rattle.im_base_disk.specs.Runs.{ChangesOnly, Forces};
 ghost use Rattle.im_log.specs.LogFile.{IsOpen};
 ghost use Rattle.im_page_table.specs.DirtyTable.{TableView};
 ghost use Rattle.im_page_file.specs.Stands.{Stands};
-ghost use Rattle.im_page_file.specs.Images.{MayImage, ImageKept};
+ghost use Rattle.im_page_file.specs.Images.{MayLogImage, ImageKept};
 ghost use Rattle.im_page_file.specs.Imaging.{Imaging};
 ghost use Rattle.im_page_file.specs.Takes.{TakesImage};
 ghost use Rattle.im_page_file.specs.LogEnds.{fault_of};
@@ -31,7 +31,7 @@ pub fn append_image<D: Disk>(
     requires whole { length bytes.now ≡ 4096 }
     requires ready { IsOpen D.Disk log.old disk.old }
     ensures outcome { log.old.failed ≡ false → Imaging D.Disk log.old log.new disk.new (fault_of result) }
-    ensures kept { (b : Base) (base : ℕ) (s : Writer) (table : TableView) → b.start ≤ base → Stands D.Disk b base s log.old table disk.old → MayImage s page bytes.now
+    ensures kept { (b : Base) (base : ℕ) (s : Writer) (table : TableView) → b.start ≤ base → Stands D.Disk b base s log.old table disk.old → MayLogImage s page bytes.now
         → ImageKept D.Disk b base s page table disk.old log.new disk.new result }
     ensures changes { ChangesOnly D.Disk Log disk.old disk.new }
     ensures forces { OnOk result (Forces D.Disk 1 disk.old disk.new) }

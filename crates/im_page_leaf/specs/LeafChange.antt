@@ -17,7 +17,7 @@ pub record HasPlaceFor (page : Page) (key : List ℕ) (i : ℕ) : Type 0 where
   pub room : taken (is_leaf_kind page.body.kind) page.body.entries + (1 + length key + width (is_leaf_kind page.body.kind) + 2) ≤ 4064
 
 -- The leaf has the key at this place.
-pub record HasKey (page : Page) (key : List ℕ) (i : ℕ) : Type 0 where
+pub record HasKeyAt (page : Page) (key : List ℕ) (i : ℕ) : Type 0 where
   pub leaf : page.body.kind ≡ Leaf
   pub rises : Rises page.body.entries
   pub within : i < length page.body.entries

@@ -5,7 +5,7 @@ use Rattle.im_base_types.specs.Pages.{Page}
 use Rattle.im_base_types.specs.Records.{What, InsertKey, DeleteKey}
 use Rattle.im_page_leaf.specs.declared.leaf_edit.LeafEdit.{LeafEdit}
 use Rattle.im_page_leaf.specs.declared.leaf_edit.LeafEdit.TheVariants.{Put, Take}
-use Rattle.im_page_leaf.specs.LeafChange.{HasPlaceFor, HasKey, CanPutKey, CanTakeKey}
+use Rattle.im_page_leaf.specs.LeafChange.{HasPlaceFor, HasKeyAt, CanPutKey, CanTakeKey}
 
 -- what a record of it does to its page
 abbrev pub edit_of : LeafEdit → Key → ℕ → What
@@ -15,7 +15,7 @@ edit_of Take k i = DeleteKey k i
 -- The leaf takes it at this place.
 abbrev pub HasPlace : LeafEdit → Page → Key → ℕ → Type 0
 HasPlace Put page k i = HasPlaceFor page k i
-HasPlace Take page k i = HasKey page k i
+HasPlace Take page k i = HasKeyAt page k i
 
 -- The leaf takes it.
 abbrev pub MayEdit : LeafEdit → Page → Key → Type 0

@@ -1,7 +1,7 @@
 //! A key that is put into a leaf or taken out: whether the leaf takes that, and where.
 ghost use Rattle.std.specs.Prelude.{◌≡◌, IfErr, IfOk};
 ghost use Rattle.im_base_types.specs.declared.fault.Fault.TheVariants.{NotAStore};
-ghost use Rattle.im_page_leaf.specs.LeafChange.{HasPlaceFor, HasKey, CanPutKey, CanTakeKey};
+ghost use Rattle.im_page_leaf.specs.LeafChange.{HasPlaceFor, HasKeyAt, CanPutKey, CanTakeKey};
 ghost use Rattle.im_page_leaf.specs.LeafEdits.{HasPlace, MayEdit};
 
 use im_base_types::{Fault, LONGEST_KEY, PageKind};
@@ -37,7 +37,7 @@ fn place_for(page: &Page, key: &[u8]) -> Result<usize, Fault>
 
 // Where a key stands in a leaf. Refused `NotAStore`, exactly where the page is no leaf that has it.
 fn place_of(page: &Page, key: &[u8]) -> Result<usize, Fault>
-    ensures ok { IfOk result (λ i. HasKey page.now key.now i) }
+    ensures ok { IfOk result (λ i. HasKeyAt page.now key.now i) }
     ensures refused { IfErr result (λ e. (e ≡ NotAStore) × ¬ (CanTakeKey page.now key.now)) }
 {
     if page.kind() != PageKind::Leaf {

@@ -1,7 +1,7 @@
 //! Which page stands in which frame.
 
-ghost use Rattle.std.specs.Prelude.{◌≡◌, ◌↔◌, ◌+◌, ◌*◌, ◌<◌, ◌≤◌, ◌++◌, ◌∷◌, ◌-◌, [], ℕ, Option, Some, None, nat_eq, length, take, slice_index, vec_capacity, IfOk, IfSome, IfErr, IsSome};
-ghost use Rattle.std.specs.Map.{keys_of, values_of, lookup, remove_entry};
+ghost use Rattle.std.specs.Prelude.{◌≡◌, ◌+◌, ◌*◌, ◌<◌, ◌≤◌, ◌++◌, ◌∷◌, ◌-◌, [], ℕ, Option, Some, None, nat_eq, length, take, slice_index, vec_capacity, IfOk, IfSome, IfErr, IsSome};
+ghost use Rattle.std.specs.Map.{lookup, remove_entry};
 ghost use Rattle.std.specs.Map.Iter.{ShowsInOrder, ShowsInReverse, deref_pair};
 ghost use Rattle.lru.specs.LruCache.{promoted, last_entry};
 ghost use Rattle.im_base_types.specs.declared.fault.Fault.TheVariants.{Memory};

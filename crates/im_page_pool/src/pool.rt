@@ -1,7 +1,6 @@
 //! The pool.
 
-ghost use Rattle.std.specs.Prelude.{◌≡◌, ◌≢◌, ◌↔◌, ◌⊎◌, ◌+◌, ◌<◌, ◌≤◌, ◌^◌, ◌∷◌, [], ℕ, List, true, false, length, nat_eq, take, Some, None, Ok, Err, OnOk, OnErr, IfOk, IfErr, IfSome, IsOk, IsTrue, IsSome, insert, remove, reverse, slice_get, option_map};
-ghost use Rattle.std.specs.Map.{keys_of, remove_entry};
+ghost use Rattle.std.specs.Prelude.{◌≡◌, ◌↔◌, ◌⊎◌, ◌+◌, ◌<◌, ◌≤◌, ◌^◌, [], ℕ, List, true, false, length, take, Some, None, Ok, Err, OnOk, OnErr, IfOk, IfErr, IfSome, IsOk, IsTrue, IsSome, insert, remove, reverse, slice_get, option_map};
 ghost use Rattle.lru.specs.LruCache.{last_entry};
 ghost use Rattle.im_base_types.specs.declared.fault.Fault.TheVariants.{Device, Memory, NotAStore};
 ghost use Rattle.im_base_types.specs.declared.file_id.FileId.TheVariants.{Pages};

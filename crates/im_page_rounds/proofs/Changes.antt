@@ -22,7 +22,7 @@ stays false u g new same = refl
 pub plain_stays : (r : Logged) (p : ℕ) (g : Page) → changes_page r.what ≡ false → redo_one r p g ≡ g
 plain_stays r p g plain = stays (r.page == p) (nat_le r.lsn g.lsn) g (page_after r.lsn r.what g) (no_change r.lsn r.what g plain)
 
-if_none : (t u v : Bool) → v ≡ false → (if t then (if u then false else v) else false) ≡ false
+pub if_none : (t u v : Bool) → v ≡ false → (if t then (if u then false else v) else false) ≡ false
 if_none true true v none = refl
 if_none true false v none = none
 if_none false u v none = refl

@@ -2,7 +2,7 @@
 use Rattle.std.proofs.Common.{◌≡◌, inl, inr, ◌⊎◌, ℕ, suc, ◌+◌, ◌≤◌, List, [], ◌∷◌, ◌++◌, Bool, refl, sym, ◌∙◌, ap, subst, arith, length}
 use Rattle.std.specs.Prelude.{if◌then◌else◌, ◌==◌}
 use Rattle.std.proofs.lemmas.Bool.{cases_eq, cond-false, eq-eqb, ne_eqb}
-use Rattle.im_page_rounds.specs.Rounds.{times, all_but_last, without, GetsPage, moves, takes, evicts, GetsPages, AreDifferent, AllHeld}
+use Rattle.im_page_rounds.specs.Rounds.{times, all_but_last, without, GetsPage, moves, takes, evicts, GetsPages, EachOnce, AllHeld}
 
 -- the list begins with these
 abbrev BeginsWith : List ℕ → List ℕ → Type 0
@@ -56,7 +56,7 @@ one_more frames p front old new none room begins (evicts free full is) =
     (more, is ∙ ap (λ (l : List ℕ). p ∷ l) (ap all_but_last begins.1 ∙ left))
 
 -- so many gets in turn
-held_then : (frames : ℕ) (ps front old new : List ℕ) → AreDifferent ps → ((q : ℕ) → 1 ≤ times q ps → times q front ≡ 0) → length front + length ps ≤ frames → BeginsWith front old → GetsPages frames ps old new
+held_then : (frames : ℕ) (ps front old new : List ℕ) → EachOnce ps → ((q : ℕ) → 1 ≤ times q ps → times q front ≡ 0) → length front + length ps ≤ frames → BeginsWith front old → GetsPages frames ps old new
     → (p : ℕ) → (1 ≤ times p ps) ⊎ (1 ≤ times p front) → 1 ≤ times p new
 held_then frames [] front old new each apart room begins is p which = elim which [
   | inl some ↦ absurd (omega (arith, some))

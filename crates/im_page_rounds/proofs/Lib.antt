@@ -3,7 +3,7 @@ pub mod Rounds
 pub mod Held
 pub mod Sums
 pub mod Changes
-mod OnePage
+pub mod OnePage
 pub mod Places
 mod Together
 pub mod HandPages

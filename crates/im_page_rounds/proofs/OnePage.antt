@@ -28,7 +28,7 @@ has_already r g le = record {
   is = sym (cond-true (r.page == r.page) _ g (eq-eqb r.page r.page refl) ∙ cond-true (nat_le r.lsn g.lsn) g (page_after r.lsn r.what g) (le-leb r.lsn g.lsn le));
 }
 
-applies_below : (r : Logged) (g : Page) → g.lsn < r.lsn → applies r r.page g ≡ changes_page r.what
+pub applies_below : (r : Logged) (g : Page) → g.lsn < r.lsn → applies r r.page g ≡ changes_page r.what
 applies_below r g lt = cond-true (r.page == r.page) _ false (eq-eqb r.page r.page refl) ∙ cond-false (nat_le r.lsn g.lsn) false (changes_page r.what) (lt-leb r.lsn g.lsn lt)
 
 -- one that lacks it is changed by it

@@ -33,7 +33,7 @@ round_leaves known (r ∷ rs) s =
     record { log = on.log; durable = on.durable; point = on.point; redo_end = on.redo_end; page = on.page; waits = on.waits; reads = on.reads; synced = on.synced; unsynced = on.unsynced }
 
 -- a history is a front of what records in turn make of it
-onto_has : (rs : List Logged) (f : History) → (newer : History) × (newer ++ f ≡ onto rs f)
+pub onto_has : (rs : List Logged) (f : History) → (newer : History) × (newer ++ f ≡ onto rs f)
 onto_has [] f = ([], refl)
 onto_has (r ∷ rs) f = let (newer, is) = onto_has rs (r ∷ f) in (newer ++ r ∷ [], append_assoc newer (r ∷ []) f ∙ is)
 

@@ -8,7 +8,7 @@ use Rattle.im_theory_log.specs.Copies.{redo_one}
 use Rattle.im_theory_log.specs.Writer.{DirtyEntry}
 use Rattle.im_theory_log.specs.WriterSteps.{applies, at_point, is_copied}
 use Rattle.im_page_table.specs.KnownCopies.{redone_as}
-use Rattle.im_page_rounds.specs.Rounds.{AreDifferent, applied_to, CountsAdd, EntriesFollow, redone_all, sum_over, times}
+use Rattle.im_page_rounds.specs.Rounds.{EachOnce, applied_to, CountsAdd, EntriesFollow, redone_all, sum_over, times}
 
 twice_known : (k c : Bool) → (k || (k || c)) ≡ (k || c)
 twice_known true c = refl
@@ -63,7 +63,7 @@ sum_none (p ∷ ps) f q none zero =
     let rest = sum_none ps f q rest_none zero in
     omega (arith, here, rest)
 
-sum_one : (ps : List ℕ) (f : ℕ → ℕ) (q : ℕ) → AreDifferent ps → 1 ≤ times q ps → ((p : ℕ) → q ≢ p → f p ≡ 0) → sum_over ps f ≡ f q
+sum_one : (ps : List ℕ) (f : ℕ → ℕ) (q : ℕ) → EachOnce ps → 1 ≤ times q ps → ((p : ℕ) → q ≢ p → f p ≡ 0) → sum_over ps f ≡ f q
 sum_one [] f q each some zero = absurd (omega arith)
 sum_one (p ∷ ps) f q each some zero = elim (cases_eq q p) [
   | inl is ↦ (let none : times q ps ≡ 0 = ap (λ (n : ℕ). times n ps) is ∙ each.0 in let rest = sum_none ps f q none zero in let here : f q ≡ f p = ap f is in omega (arith, rest, here))

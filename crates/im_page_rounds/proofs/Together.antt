@@ -11,7 +11,7 @@ use Rattle.im_theory_log.specs.WriterSteps.{applies}
 use Rattle.im_page_rounds.specs.declared.worker.Worker.{Worker}
 use Rattle.im_page_rounds.specs.Rounds.{applied_of_all}
 use Rattle.im_page_rounds.specs.Hand.{IsThis, StandIn, is_applied}
-use Rattle.im_page_rounds.specs.Workers.{AreDealt, AreRedone, AreThese, HandRedone, Worked, applied_by, count_below, count_in, place_in}
+use Rattle.im_page_rounds.specs.Workers.{AreDealt, AreRedone, AreThese, HandRedone, Worked, applied_by, count_below, told_count, place_in}
 use Rattle.im_page_rounds.proofs.Places.{item_at}
 
 -- ---- the pages
@@ -87,11 +87,11 @@ as_many from span [] (r ∷ rs) stand = absurd stand
 as_many from span (l ∷ lsns) [] stand = absurd stand
 as_many from span (l ∷ lsns) (r ∷ rs) stand = ap suc (as_many from span lsns rs stand.1)
 
-sum_same : (workers : List Worker) (w : Worker) (n : ℕ) (f : ℕ → ℕ) → ((k : ℕ) → k < n → count_in (get_or workers k w).applied ≡ f k) → count_below workers w n ≡ sum_below n f
+sum_same : (workers : List Worker) (w : Worker) (n : ℕ) (f : ℕ → ℕ) → ((k : ℕ) → k < n → told_count (get_or workers k w).applied ≡ f k) → count_below workers w n ≡ sum_below n f
 sum_same workers w zero f each = refl
 sum_same workers w (suc n) f each = let rest = sum_same workers w n f (λ k lt. each k (omega (arith, lt))) in let one = each n (omega arith) in omega (arith, rest, one)
 
-counted : (r : Result ℕ Fault) (P : ℕ → Type 0) → IsOk r → IfOk r P → P (count_in r)
+counted : (r : Result ℕ Fault) (P : ℕ → Type 0) → IsOk r → IfOk r P → P (told_count r)
 counted (Ok n) P ok p = p
 counted (Err e) P ok p = absurd (false≢true ok)
 
@@ -101,7 +101,7 @@ module _ (from : ℕ) (span lsns numbers : List ℕ) (rs : List Logged) (g : ℕ
     (redone : (k : ℕ) (w : Worker) → k < length workers → IfOk (get_or workers k w).applied (λ count. HandRedone (length workers) k numbers rs g changed count (get_or workers k w).pages.items)) where
   made : (n : ℕ) → ((k : ℕ) (w : Worker) → k < length workers → IsOk (get_or workers k w).applied) → ((w : Worker) → n ≡ min (count_below workers w (length workers)) (length lsns)) → AreRedone numbers rs g changed n workers
   made n all count =
-      let each : (k : ℕ) (w : Worker) → k < length workers → HandRedone (length workers) k numbers rs g changed (count_in (get_or workers k w).applied) (get_or workers k w).pages.items = λ k w lt. counted (get_or workers k w).applied _ (all k w lt) (redone k w lt) in
+      let each : (k : ℕ) (w : Worker) → k < length workers → HandRedone (length workers) k numbers rs g changed (told_count (get_or workers k w).applied) (get_or workers k w).pages.items = λ k w lt. counted (get_or workers k w).applied _ (all k w lt) (redone k w lt) in
       let w : Worker = item_at workers 0 some in
       let sum = sum_same workers w (length workers) (λ k. applied_by (length workers) k numbers rs g) (λ k lt. (each k w lt).count) in
       let whole = counts_of_all (length workers) numbers rs g some in

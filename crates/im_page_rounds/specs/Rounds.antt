@@ -101,9 +101,9 @@ times f [] = 0
 times f (g ∷ gs) = (if f == g then 1 else 0) + times f gs
 
 -- each of these numbers once
-abbrev pub AreDifferent : List ℕ → Type 0
-AreDifferent [] = Unit {0}
-AreDifferent (p ∷ ps) = (times p ps ≡ 0) × AreDifferent ps
+abbrev pub EachOnce : List ℕ → Type 0
+EachOnce [] = Unit {0}
+EachOnce (p ∷ ps) = (times p ps ≡ 0) × EachOnce ps
 
 -- The entry of a page after a round: as it was where no record was applied, else at the redo point.
 abbrev pub EntriesFollow : Type 0
@@ -121,7 +121,7 @@ AreOf ps (r ∷ rs) = (1 ≤ times r.page ps) × AreOf ps rs
 
 -- The counts of a round's different pages add up to the count of the round.
 abbrev pub CountsAdd : Type 0
-CountsAdd = (ps : List ℕ) (rs : List Logged) (pages : ℕ → Page) → AreDifferent ps → AreOf ps rs → sum_over ps (λ p. applied_to rs p (pages p)) ≡ applied_of_all rs pages
+CountsAdd = (ps : List ℕ) (rs : List Logged) (pages : ℕ → Page) → EachOnce ps → AreOf ps rs → sum_over ps (λ p. applied_to rs p (pages p)) ≡ applied_of_all rs pages
 
 -- ---- the pages of a round are all held after the last get, by the order of use
 
@@ -146,4 +146,4 @@ GetsPages frames (p ∷ ps) old new = (mid : List ℕ) × GetsPage frames p old 
 
 -- As many different pages as there are frames, at most, are all held after the last get.
 abbrev pub AllHeld : Type 0
-AllHeld = (frames : ℕ) (ps old new : List ℕ) → AreDifferent ps → length ps ≤ frames → length old ≤ frames → GetsPages frames ps old new → (p : ℕ) → 1 ≤ times p ps → 1 ≤ times p new
+AllHeld = (frames : ℕ) (ps old new : List ℕ) → EachOnce ps → length ps ≤ frames → length old ≤ frames → GetsPages frames ps old new → (p : ℕ) → 1 ≤ times p ps → 1 ≤ times p new

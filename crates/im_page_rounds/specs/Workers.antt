@@ -69,14 +69,14 @@ pub record AreRedone (numbers : List ℕ) (rs : List Logged) (old : ℕ → Page
   pub among : AreAmong numbers rs
 
 -- what a worker counted
-abbrev pub count_in : Result ℕ Fault → ℕ
-count_in (Ok n) = n
-count_in (Err e) = 0
+abbrev pub told_count : Result ℕ Fault → ℕ
+told_count (Ok n) = n
+told_count (Err e) = 0
 
 -- what so many workers, from the first, counted
 abbrev pub count_below : List Worker → Worker → ℕ → ℕ
 count_below workers w zero = 0
-count_below workers w (suc k) = count_below workers w k + count_in (get_or workers k w).applied
+count_below workers w (suc k) = count_below workers w k + told_count (get_or workers k w).applied
 
 -- What a worker's part of a round makes of it.
 pub record Worked (workers number : ℕ) (numbers : List ℕ) (from : ℕ) (span lsns : List ℕ) (old new : Worker) : Type 0 where

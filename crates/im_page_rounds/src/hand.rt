@@ -1,5 +1,5 @@
 //! The records of a round, applied to the pages of one worker.
-ghost use Rattle.std.specs.Prelude.{◌≡◌, ◌≢◌, ◌≤◌, ◌<◌, ◌+◌, ◌-◌, ◌*◌, ◌^◌, ◌||◌, ◌&&◌, ℕ, List, Bool, true, length, drop, take, get_or, if◌then◌else◌, IfErr, IfOk, OnOk};
+ghost use Rattle.std.specs.Prelude.{◌≡◌, ◌≢◌, ◌≤◌, ◌<◌, ◌+◌, ◌-◌, ◌*◌, ◌^◌, ◌||◌, ◌&&◌, ℕ, List, Bool, true, length, get_or, if◌then◌else◌, IfErr, IfOk, OnOk};
 ghost use Rattle.im_base_types.specs.declared.fault.Fault.TheVariants.{NotAStore};
 ghost use Rattle.im_base_types.specs.Pages.{Page};
 ghost use Rattle.im_base_types.specs.Records.{Logged};

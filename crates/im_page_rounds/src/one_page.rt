@@ -8,7 +8,7 @@ ghost use Rattle.im_log_record.specs.Spelling.{IsEntry};
 ghost use Rattle.im_log.specs.Spelled.{logged_at};
 ghost use Rattle.im_log.specs.Whats.{what_of};
 ghost use Rattle.im_page_file.specs.PageCopy.{after_in};
-ghost use Rattle.im_page_leaf.specs.LeafChange.{HasPlaceFor, HasKey};
+ghost use Rattle.im_page_leaf.specs.LeafChange.{HasPlaceFor, HasKeyAt};
 ghost use Rattle.im_page_leaf.specs.LeafEdits.{edit_of, HasPlace, MayEdit};
 ghost use Rattle.im_page_rounds.specs.OnePage.{PageChanges, PageRedone, PageRefuses, PageTakes};
 
@@ -34,7 +34,7 @@ fn put_key(page: &mut Page, i: usize, key: &[u8], rid: u64, lsn: Lsn)
 
 // Takes a key out of its place in a leaf, by the record at an LSN.
 fn take_key(page: &mut Page, i: usize, key: &[u8], rid: u64, lsn: Lsn)
-    requires place { HasKey page.old key.now i }
+    requires place { HasKeyAt page.old key.now i }
     ensures { page.new ≡ page_after lsn (DeleteKey key.now rid) page.old }
 {
     page.remove(i);

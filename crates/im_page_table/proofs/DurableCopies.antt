@@ -8,12 +8,7 @@ use Rattle.im_theory_log.specs.Copies.{HasCopy, Reaches}
 use Rattle.im_theory_log.specs.RedoPoints.{is_checkpoint, redo_point}
 use Rattle.im_theory_log.specs.Writer.{DirtyEntry, EntryKept, IsLeft, PageKept, PageState, Writer, WriterKept}
 use Rattle.im_theory_log.specs.WriterSteps.{ended, entry_since, is_copied, only, synced, synced_entry, written, written_entry, written_page}
-use Rattle.im_theory_log.proofs.Copies.{copy_grows}
-use Rattle.im_theory_log.proofs.Histories.{after_lsn, below_newest, below_older, front_of_front, front_self, page_here, page_lsn_le, page_other, whole_below}
-use Rattle.im_theory_log.proofs.Redo.{reached_end}
-use Rattle.im_theory_log.proofs.RedoPoints.{point_same}
-use Rattle.im_theory_log.proofs.WriterFronts.{left_all, left_split, whole}
-use Rattle.im_theory_log.proofs.WriterWrites.{only_kept}
+use Rattle.im_theory_log.proofs.Cited.{copy_grows, after_lsn, below_newest, below_older, front_of_front, front_self, page_here, page_lsn_le, page_other, whole_below, reached_end, point_same, left_all, left_split, whole, only_kept}
 use Rattle.im_page_table.specs.KnownCopies.{changed_as, changed_page_as, AreAbove, KnowsDurable}
 use Rattle.im_page_table.proofs.OnePage.{only_here, only_other}
 

@@ -5,8 +5,7 @@ use Rattle.im_theory_log.specs.Histories.{Base, History, IsFront, end_of}
 use Rattle.im_theory_log.specs.Copies.{IsImage, AreImages, GrowsByImages}
 use Rattle.im_theory_log.specs.PageCounts.{named_to}
 use Rattle.im_theory_log.specs.Writer.{PageState, Writer, WriterKept}
-use Rattle.im_theory_log.proofs.Histories.{front_of_front, front_self}
-use Rattle.im_theory_log.proofs.Redo.{reaches_exact}
+use Rattle.im_theory_log.proofs.Cited.{front_of_front, front_self, reaches_exact}
 use Rattle.im_page_table.specs.Growth.{image_at, image_pages, with_image, SamePage, Keeps}
 
 -- what a call answers, said in another way

@@ -8,11 +8,7 @@ use Rattle.im_theory_log.specs.Copies.{AreImages, GrowsByImages, HasCopy}
 use Rattle.im_theory_log.specs.RedoPoints.{is_checkpoint, redo_point}
 use Rattle.im_theory_log.specs.Writer.{DirtyEntry, EntryKept, IsLeft, IsAfterRedo, IsWritten, PageKept, PageState, Writer, WriterKept}
 use Rattle.im_theory_log.specs.WriterSteps.{changed, changed_entry, changed_page, ended, entry_since, forced, holds_copy, only, passed, synced, synced_entry, written, written_page, applies, at_point, is_copied, redone, redone_page}
-use Rattle.im_theory_log.proofs.Copies.{copy_grows}
-use Rattle.im_theory_log.proofs.Histories.{front_of_front, page_lsn_le}
-use Rattle.im_theory_log.proofs.Redo.{reached_end}
-use Rattle.im_theory_log.proofs.RedoPoints.{point_same}
-use Rattle.im_theory_log.proofs.WriterFronts.{left_split, whole}
+use Rattle.im_theory_log.proofs.Cited.{copy_grows, front_of_front, page_lsn_le, reached_end, point_same, left_split, whole, left_grown}
 use Rattle.im_page_table.specs.KnownCopies.{changed_as, changed_page_as, checkpoint_lsn, IsAtOrAfter, IsKnownFrom, KnowsCopies, or_from, redone_as, redone_page_as, every_page}
 use Rattle.im_page_table.proofs.OnePage.{only_here, only_other}
 
@@ -73,9 +69,6 @@ known_ended s t (Some n) going is = absurd (let clash : None ≡ Some is.redo_en
 -- while redo goes on none is
 pub knows_redoing : (s : Writer) → s.redo_end ≡ None → KnowsCopies s
 knows_redoing s going = record { copies = λ e over. absurd (let clash : None ≡ Some e = sym going ∙ over in cc clash) }
-
-left_grown : (durable more log h : History) → IsFront durable more → IsLeft more log h → IsLeft durable log h
-left_grown durable more log h f w = record { from = front_of_front durable more h f w.from; upto = w.upto }
 
 -- a longer front of the log is durable
 pub knows_grown : (s : Writer) (more : History) → IsFront s.durable more → KnowsCopies s → KnowsCopies (record s { durable = more })

@@ -135,8 +135,8 @@ dirty_pages t = with_rows [] t.entries
 -- ---- the oldest change
 
 -- a page's first change since its last write, where it has one: the row that a Checkpoint has of it behind its sync
-abbrev pub changed_page : TableEntry → Option DirtyPage
-changed_page x = option_map (λ l. record { page = x.page; rec_lsn = l }) x.since
+abbrev pub dirty_page_of : TableEntry → Option DirtyPage
+dirty_page_of x = option_map (λ l. record { page = x.page; rec_lsn = l }) x.since
 
 -- the one change is older than the other: of two at one LSN that of the lesser page
 abbrev pub is_before : DirtyPage → DirtyPage → Bool
@@ -151,7 +151,7 @@ older (Some a) (Some b) = if is_before b a then Some b else Some a
 -- the oldest of them all
 abbrev pub oldest_among : Option DirtyPage → List TableEntry → Option DirtyPage
 oldest_among o [] = o
-oldest_among o (x ∷ xs) = oldest_among (older o (changed_page x)) xs
+oldest_among o (x ∷ xs) = oldest_among (older o (dirty_page_of x)) xs
 
 abbrev pub oldest : TableView → Option DirtyPage
 oldest t = oldest_among None t.entries

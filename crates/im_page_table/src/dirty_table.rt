@@ -7,7 +7,7 @@ ghost use Rattle.im_log_record.specs.Spelling.{Rise};
 ghost use Rattle.im_theory_log.specs.WriterSteps.{changed_entry, written_entry, synced_entry, forgotten_entry, at_point, is_copied, Lists};
 ghost use Rattle.im_page_table.specs.declared.table_entry.TableEntry.{TableEntry};
 ghost use Rattle.im_base_types.specs.declared.sizes.TheConstants.{MOST_DIRTY};
-ghost use Rattle.im_page_table.specs.DirtyTable.{entry_in, most_entries, table_entry, dirty_entry, dirty_pages, put, has_room, written_in, synced_among, synced_entries, forgotten_entries, uncopied, changed_page, is_before, older, oldest, and_written, with_written, AreApart, ChangesEntry, Finds, IsCopied, IsFound};
+ghost use Rattle.im_page_table.specs.DirtyTable.{entry_in, most_entries, table_entry, dirty_entry, dirty_pages, put, has_room, written_in, synced_among, synced_entries, forgotten_entries, uncopied, dirty_page_of, is_before, older, oldest, and_written, with_written, AreApart, ChangesEntry, Finds, IsCopied, IsFound};
 
 use crate::TableEntry;
 use crate::rows::make_rows;
@@ -398,7 +398,7 @@ fn is_before(one: DirtyPage, other: DirtyPage) -> bool
 
 // The older of a change and the first one of a page since its last write.
 fn older(found: Option<DirtyPage>, entry: TableEntry) -> Option<DirtyPage>
-    ensures { result ≡ older found (changed_page entry) }
+    ensures { result ≡ older found (dirty_page_of entry) }
 {
     let Some(since) = entry.since else {
         return found;

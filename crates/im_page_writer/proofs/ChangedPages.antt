@@ -1,26 +1,12 @@
 -- What a page is once a record of the log has changed it: its LSN is no less than the record's; and where it is the record's, the page is what the record left.
-use Rattle.std.proofs.Common.{◌≡◌, inl, inr, ℕ, ◌<◌, ◌≤◌, [], ◌∷◌, true, refl, sym, ◌∙◌, ap, subst, arith, Some}
+use Rattle.std.proofs.Common.{◌≡◌, inl, inr, ℕ, ◌<◌, ◌≤◌, [], ◌∷◌, true, sym, ◌∙◌, ap, subst, arith, Some}
 use Rattle.std.proofs.lemmas.Bool.{cases_Bool, cases_eq, cases_lt}
 use Rattle.im_base_types.specs.Pages.{Body, Page}
 use Rattle.im_base_types.specs.Records.{What, InsertKey, DeleteKey, UndoInsert, UndoDelete, Smo, UndoSmo, DummyClr, Commit, End, Image, Checkpoint, Unreadable, Logged}
 use Rattle.im_theory_log.specs.Histories.{Base, History, IsRecordOf, Rises, below, changes_page, end_of, page_after, page_at}
 use Rattle.im_theory_log.proofs.Histories.{below_newest, below_older, no_change, page_here, page_lsn_up, page_other}
 use Rattle.im_page_file.specs.PageCopy.{after_in}
-
--- a kind that changes its page gives it its own LSN
-changed_lsn : (l : ℕ) (w : What) (g : Page) → changes_page w ≡ true → (page_after l w g).lsn ≡ l
-changed_lsn l (InsertKey k i) g is = refl
-changed_lsn l (DeleteKey k i) g is = refl
-changed_lsn l (UndoInsert k i) g is = refl
-changed_lsn l (UndoDelete k i) g is = refl
-changed_lsn l (Smo old new) g is = refl
-changed_lsn l (UndoSmo new) g is = refl
-changed_lsn l DummyClr g is = absurd (cc is)
-changed_lsn l Commit g is = absurd (cc is)
-changed_lsn l End g is = absurd (cc is)
-changed_lsn l (Image c) g is = absurd (cc is)
-changed_lsn l (Checkpoint n a d) g is = absurd (cc is)
-changed_lsn l Unreadable g is = absurd (cc is)
+use Rattle.im_theory_left.proofs.Left.{own_lsn}
 
 -- a structure change leaves its image
 pub after_body : (l : ℕ) (w : What) (g : Page) (body : Body) → after_in w ≡ Some body → (page_after l w g).body ≡ body
@@ -64,7 +50,7 @@ below_low b n (x ∷ older) up = elim (cases_lt x.lsn n) [
 
 module _ (b : Base) (p : ℕ) (r : Logged) (page : r.page ≡ p) (changes : changes_page r.what ≡ true) where
   newest_lsn : (older : History) → (page_at b (r ∷ older) p).lsn ≡ r.lsn
-  newest_lsn older = ap (λ (g : Page). g.lsn) (page_here b r older p page) ∙ changed_lsn r.lsn r.what (page_at b older p) changes
+  newest_lsn older = ap (λ (g : Page). g.lsn) (page_here b r older p page) ∙ own_lsn r.lsn r.what (page_at b older p) changes
 
   pub changed_reaches : (log : History) → Rises b log → IsRecordOf r log → r.lsn ≤ (page_at b log p).lsn
   changed_reaches [] up has = absurd has
@@ -86,7 +72,7 @@ module _ (b : Base) (p : ℕ) (r : Logged) (page : r.page ≡ p) (changes : chan
       elim (cases_eq x.page p) [
         | inl here ↦ elim (cases_Bool (changes_page x.what)) [
           | inl changed ↦
-              let e : (page_at b (x ∷ older) p).lsn ≡ x.lsn = ap (λ (g : Page). g.lsn) (page_here b x older p here) ∙ changed_lsn x.lsn x.what (page_at b older p) changed in
+              let e : (page_at b (x ∷ older) p).lsn ≡ x.lsn = ap (λ (g : Page). g.lsn) (page_here b x older p here) ∙ own_lsn x.lsn x.what (page_at b older p) changed in
               absurd (omega (arith, e, same, low, up.1))
           | inr plain ↦
               let e : page_at b (x ∷ older) p ≡ page_at b older p = page_here b x older p here ∙ no_change x.lsn x.what (page_at b older p) plain in

@@ -11,9 +11,7 @@ use Rattle.im_theory_log.specs.PageCounts.{names_page}
 use Rattle.im_theory_log.specs.RedoPoints.{is_checkpoint, redo_point}
 use Rattle.im_theory_log.specs.Writer.{DirtyEntry, PageState, Writer, WriterKept}
 use Rattle.im_theory_log.specs.WriterSteps.{MayAppend, changed_entry, first_since, holds_copy, only, passed}
-use Rattle.im_theory_log.proofs.WriterAppends.{changed_kept}
-use Rattle.im_theory_log.proofs.WriterCheckpoints.{next_point}
-use Rattle.im_theory_log.proofs.WriterGrowth.{grown_kept}
+use Rattle.im_theory_log.proofs.Cited.{changed_kept, next_point, grown_kept}
 use Rattle.im_base_disk.specs.declared.disk.Disk.{Ghosts}
 use Rattle.im_base_disk.specs.Runs.{ChangesOnly}
 use Rattle.im_base_disk.proofs.Runs.{spared}

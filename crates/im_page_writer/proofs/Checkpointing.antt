@@ -6,12 +6,9 @@ use Rattle.im_base_types.specs.declared.file_id.FileId.TheVariants.{Log, Pages, 
 use Rattle.im_base_types.specs.declared.tables.ActiveTransaction.{ActiveTransaction}
 use Rattle.im_base_types.specs.declared.tables.DirtyPage.{DirtyPage}
 use Rattle.im_theory_log.specs.Histories.{Base, History, IsFront, end_of}
-use Rattle.im_theory_log.proofs.Histories.{front_self}
+use Rattle.im_theory_log.proofs.Cited.{front_self, checkpoint_kept, grown_kept, forgotten_kept, still_none}
 use Rattle.im_theory_log.specs.Writer.{DirtyEntry, IsWritten, PageState, Writer}
 use Rattle.im_theory_log.specs.WriterSteps.{IsIn, Lists, appended, forced, forgotten, forgotten_entry, forgotten_page, is_copied, passed, synced}
-use Rattle.im_theory_log.proofs.WriterCheckpoints.{checkpoint_kept}
-use Rattle.im_theory_log.proofs.WriterGrowth.{grown_kept}
-use Rattle.im_theory_log.proofs.WriterWrites.{forgotten_kept}
 use Rattle.im_base_disk.specs.declared.disk.Disk.{Ghosts}
 use Rattle.im_base_disk.specs.Runs.{ChangesOnly}
 use Rattle.im_base_disk.proofs.Runs.{spared}
@@ -54,12 +51,8 @@ shown_forgotten (Some h) x is = (is.0, is.1 ∙ changed_forgotten x.entry)
 pooled_forgotten : (pool : PoolView) (pages : ℕ → PageState) → IsPooled pool pages → IsPooled pool (λ q. forgotten_page (pages q))
 pooled_forgotten pool pages is = record { shows = λ p. shown_forgotten (held_of pool p) (pages p) (is.shows p); ready = is.ready }
 
-none_before : (o : Option DirtyEntry) → forgotten_entry o ≡ None → o ≡ None
-none_before None is = refl
-none_before (Some e) is = absurd (cc is)
-
 knows_forgotten : (s : Writer) → KnowsCopies s → KnowsCopies (forgotten s)
-knows_forgotten s k = record { copies = λ e over p none late later h w. k.copies e over p (none_before (s.pages p).entry none) late later h w }
+knows_forgotten s k = record { copies = λ e over p none late later h w. k.copies e over p (still_none (s.pages p).entry none) late later h w }
 
 pub none_copied : (o : Option DirtyEntry) → is_copied (forgotten_entry o) ≡ false
 none_copied None = refl

@@ -16,7 +16,7 @@ use Rattle.im_page_pool.specs.Pool.{Held, PoolView, held_of, frame_of, page_at}
 use Rattle.im_page_table.specs.DirtyTable.{TableView, is_changed}
 use Rattle.im_page_file.specs.Stands.{LeavesCovered}
 use Rattle.im_page_table.specs.Growth.{with_image}
-use Rattle.im_page_file.specs.Images.{MayImage, Imaged}
+use Rattle.im_page_file.specs.Images.{MayLogImage, Imaged}
 use Rattle.im_page_writer.specs.Writing.{IsShown, IsPooled, MayCopy, IsWriting, Goes, LeavesGrown, PageImaged}
 use Rattle.im_page_file.proofs.Standing.{covered_then, covered_wider, run_start}
 use Rattle.im_page_table.proofs.Growing.{image_entry, image_keeps, grown_front, grows_none, grows_then, keeps_none, keeps_then}
@@ -105,7 +105,7 @@ module _ {D : Type 0} (d : Ghosts D) (b : Base) (base : ℕ) where
   -- ---- an Image
 
   module _ (s : Writer) (log : LogFile) (table : TableView) (pool : PoolView) (old : D) (w : IsWriting d b base s log table pool old) (p : ℕ) (may : MayCopy s pool p) where
-    pub may_image : (bytes : List ℕ) (page : Page) → page_of bytes ≡ Some page → page ≡ (s.pages p).page → MayImage s p bytes
+    pub may_image : (bytes : List ℕ) (page : Page) → page_of bytes ≡ Some page → page ≡ (s.pages p).page → MayLogImage s p bytes
     may_image bytes page is shown = record { ready = may.ready; page = is ∙ ap (λ (g : Page). Some g) shown; begun = λ going. may.begun }
 
     pub copy_done : (lsn : ℕ) (new_log : LogFile) (new : D) → LeavesCovered d b base s.durable s.log old new → Imaged d b base s p lsn new_log table new → PageImaged d b base s p lsn old new_log table pool new

@@ -9,11 +9,7 @@ use Rattle.im_theory_log.specs.Copies.{HasCopy}
 use Rattle.im_theory_log.specs.RedoPoints.{redo_point}
 use Rattle.im_theory_log.specs.Writer.{Writer, WriterKept}
 use Rattle.im_theory_log.specs.WriterSteps.{MayWrite, forced}
-use Rattle.im_theory_log.proofs.Copies.{copy_grows, noted_here}
-use Rattle.im_theory_log.proofs.Histories.{end_le}
-use Rattle.im_theory_log.proofs.PageCounts.{named_in}
-use Rattle.im_theory_log.proofs.RedoPoints.{point_low, point_same}
-use Rattle.im_theory_log.proofs.WriterFronts.{whole}
+use Rattle.im_theory_log.proofs.Cited.{copy_grows, noted_here, end_le, named_in, point_low, point_same, whole}
 use Rattle.im_base_disk.specs.declared.disk.Disk.{Ghosts}
 use Rattle.im_base_disk.specs.Disk.{Files}
 use Rattle.im_base_disk.specs.Runs.{ChangesOnly, LeavesIn}

@@ -1,12 +1,10 @@
 -- A held leaf through the calls that change it by a record.
-use Rattle.std.proofs.Common.{◌≡◌, ℕ, ◌<◌, true, false, Bool, List, length, insert, remove, Option, refl, sym, ◌∙◌, ap, subst}
+use Rattle.std.proofs.Common.{◌≡◌, ℕ, true, false, Bool, List, Option, refl, ◌∙◌, ap, subst}
 use Rattle.std.specs.Prelude.{option_map}
 use Rattle.std.specs.Option.{option_map_or}
 use Rattle.im_base_types.specs.Keys.{Key}
 use Rattle.im_base_types.specs.Pages.{Entry, Page}
-use Rattle.im_base_types.specs.Records.{InsertKey, DeleteKey}
 use Rattle.im_theory_log.specs.Histories.{page_after}
-use Rattle.im_theory_page.specs.Entry.{Parts, Rises, entry_at}
 use Rattle.im_theory_page.specs.Page as pages
 use Rattle.im_theory_page.specs.Header.{initial}
 use Rattle.im_page_pool.specs.declared.frame.Frame.{Frame}
@@ -15,7 +13,6 @@ use Rattle.im_page_leaf.specs.declared.leaf_edit.LeafEdit.{LeafEdit}
 use Rattle.im_page_leaf.specs.declared.leaf_edit.LeafEdit.TheVariants.{Put, Take}
 use Rattle.im_page_leaf.specs.LeafChange.{LeafTakes}
 use Rattle.im_page_leaf.specs.LeafEdits.{edit_of, MayEdit}
-use Rattle.im_page_leaf.proofs.KeyLists.{put_at, without_at}
 
 -- the page that was set
 pub set_page : (frame : Frame) (page : Page) (mark : Bool) (old new : PoolView) → Sets frame page mark old new → page_at new frame.number ≡ page
@@ -32,14 +29,6 @@ set_then frame one two old mid new first next = record {
   frames = next.frames ∙ first.frames;
   gets = next.gets ∙ first.gets;
 }
-
--- an entry put at its place, without the mark and with the LSN: the page that the record makes
-pub put_is : (p : Page) (lsn : ℕ) (k : Key) (v i : ℕ) → Parts p.body.entries k i i → record { lsn = lsn; body = record p.body { marked = false; entries = insert p.body.entries i (k, v) } } ≡ page_after lsn (InsertKey k v) p
-put_is p lsn k v i place = ap (λ (es : List Entry). record { lsn = lsn; body = record p.body { marked = false; entries = es } }) (sym (put_at p.body.entries k v i place))
-
-pub take_is : (p : Page) (lsn : ℕ) (k : Key) (v i : ℕ) → Rises p.body.entries → i < length p.body.entries → (entry_at p.body.entries i).0 ≡ k
-    → record { lsn = lsn; body = record p.body { marked = false; entries = remove p.body.entries i } } ≡ page_after lsn (DeleteKey k v) p
-take_is p lsn k v i rises lt is = ap (λ (es : List Entry). record { lsn = lsn; body = record p.body { marked = false; entries = es } }) (sym (without_at p.body.entries k i rises lt is))
 
 -- three sets in a row: other entries, no mark, an LSN
 pub three_sets : (frame : Frame) (lsn : ℕ) (es : List Entry) (want : Page) (old one two new : PoolView) → Sets frame (pages.with_entries (page_at old frame.number) es) true old one

@@ -28,5 +28,5 @@ pub mod Sized
 pub mod Switching
 mod Loans
 mod SameWriter
-mod RoundsDone
+pub mod RoundsDone
 pub mod InCompany

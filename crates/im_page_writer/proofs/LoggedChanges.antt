@@ -23,10 +23,6 @@ pub at_shows : (o : Option Held) (place : ℕ) (x : PageState) (other : Page) �
 at_shows None place x other is shown = absurd (cc is)
 at_shows (Some h) place x other is shown = shown.0
 
-pub ok_of : {A E : Type 0} (r : Result A E) (P : Type 0) → P → OnOk r P
-ok_of (Ok a) P is = is
-ok_of (Err e) P is = tt
-
 -- a call that was refused
 pub none_ok : {A E : Type 0} (r : Result A E) (P : A → Type 0) → is_ok r ≡ false → IfOk r P
 none_ok (Ok a) P is = absurd (cc is)

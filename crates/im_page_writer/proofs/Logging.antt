@@ -4,10 +4,7 @@ use Rattle.im_base_types.specs.declared.file_id.FileId.TheVariants.{Log, Pages, 
 use Rattle.im_theory_log.specs.Histories.{Base, end_of, page_at}
 use Rattle.im_theory_log.specs.Writer.{Writer}
 use Rattle.im_theory_log.specs.WriterSteps.{MayAppend, appended, passed}
-use Rattle.im_theory_log.proofs.Histories.{page_same}
-use Rattle.im_theory_log.proofs.WriterAppends.{appended_kept}
-use Rattle.im_theory_log.proofs.WriterCheckpoints.{next_point}
-use Rattle.im_theory_log.proofs.WriterGrowth.{grown_kept}
+use Rattle.im_theory_log.proofs.Cited.{page_same, appended_kept, next_point, grown_kept}
 use Rattle.im_base_disk.specs.declared.disk.Disk.{Ghosts}
 use Rattle.im_base_disk.specs.Runs.{ChangesOnly}
 use Rattle.im_base_disk.proofs.Runs.{spared}

@@ -5,8 +5,7 @@ use Rattle.std.proofs.lemmas.Bool.{cases_eq, cond-true, cond-false, eq-eqb, ne_e
 use Rattle.im_theory_log.specs.Writer.{DirtyEntry, IsWritten}
 use Rattle.im_base_types.specs.declared.tables.DirtyPage.{DirtyPage}
 use Rattle.im_page_table.specs.declared.table_entry.TableEntry.{TableEntry}
-use Rattle.im_page_table.specs.declared.table_entry.TableEntry.{TableEntry}
-use Rattle.im_page_table.specs.DirtyTable.{TableView, changed_page, dirty_entry, entry_among, entry_in, is_before, older, oldest, oldest_among}
+use Rattle.im_page_table.specs.DirtyTable.{TableView, dirty_page_of, dirty_entry, entry_among, entry_in, is_before, older, oldest, oldest_among}
 
 -- ---- the older of two
 
@@ -37,17 +36,17 @@ older_one (Some a) (Some b) r is = chosen_one (is_before b a) b a r is
 
 oldest_some : (o : Option DirtyPage) (xs : List TableEntry) → is_some o ≡ true → is_some (oldest_among o xs) ≡ true
 oldest_some o [] is = is
-oldest_some o (x ∷ xs) is = oldest_some (older o (changed_page x)) xs (older_some o (changed_page x) is)
+oldest_some o (x ∷ xs) is = oldest_some (older o (dirty_page_of x)) xs (older_some o (dirty_page_of x) is)
 
 none_of : {X : Type 0} (o : Option X) → (is_some o ≡ true → ⊥) → o ≡ None
 none_of None never = refl
 none_of (Some x) never = absurd (never refl)
 
-entry_here : {X : Type 0} (t : Bool) (x : X) (o : Option X) → t ≡ true → is_some (if t then Some x else o) ≡ true
+pub entry_here : {X : Type 0} (t : Bool) (x : X) (o : Option X) → t ≡ true → is_some (if t then Some x else o) ≡ true
 entry_here true x o is = refl
 entry_here false x o is = absurd (cc is)
 
-entry_there : {X : Type 0} (t : Bool) (x : X) (o : Option X) → is_some o ≡ true → is_some (if t then Some x else o) ≡ true
+pub entry_there : {X : Type 0} (t : Bool) (x : X) (o : Option X) → is_some o ≡ true → is_some (if t then Some x else o) ≡ true
 entry_there true x o is = refl
 entry_there false x o is = is
 
@@ -56,7 +55,7 @@ abbrev row_at : ℕ → ℕ → DirtyPage
 row_at p l = record { page = p; rec_lsn = l }
 
 -- a change is one of its entry's page
-change_page : (x : TableEntry) (r : DirtyPage) → changed_page x ≡ Some r → x.page ≡ r.page
+change_page : (x : TableEntry) (r : DirtyPage) → dirty_page_of x ≡ Some r → x.page ≡ r.page
 change_page x r is = by x.since is
   where
     by : (o : Option ℕ) → option_map (λ (l : ℕ). row_at x.page l) o ≡ Some r → x.page ≡ r.page
@@ -65,9 +64,9 @@ change_page x r is = by x.since is
 
 oldest_from : (o : Option DirtyPage) (xs : List TableEntry) (r : DirtyPage) → oldest_among o xs ≡ Some r → (o ≡ Some r) ⊎ (is_some (entry_among xs r.page) ≡ true)
 oldest_from o [] r is = inl is
-oldest_from o (x ∷ xs) r is = elim (oldest_from (older o (changed_page x)) xs r is) [
+oldest_from o (x ∷ xs) r is = elim (oldest_from (older o (dirty_page_of x)) xs r is) [
   | inr later ↦ inr (entry_there (x.page == r.page) (dirty_entry x) (entry_among xs r.page) later)
-  | inl one ↦ elim (older_one o (changed_page x) r one) [
+  | inl one ↦ elim (older_one o (dirty_page_of x) r one) [
     | inl before ↦ inl before
     | inr here ↦ inr (entry_here (x.page == r.page) (dirty_entry x) (entry_among xs r.page) (eq-eqb x.page r.page (change_page x r here)))
   ]
@@ -81,7 +80,7 @@ oldest_there t r is = elim (oldest_from None t.entries r is) [
 ]
 
 -- where there is none, an entry has no change
-unchanged : (x : TableEntry) → changed_page x ≡ None → x.since ≡ None
+unchanged : (x : TableEntry) → dirty_page_of x ≡ None → x.since ≡ None
 unchanged x is = by x.since is
   where
     by : (o : Option ℕ) → option_map (λ (l : ℕ). row_at x.page l) o ≡ None → o ≡ None
@@ -94,9 +93,9 @@ none_from o xs is = none_of o (λ some. let clash : true ≡ false = sym (oldest
 none_oldest : (o : Option DirtyPage) (xs : List TableEntry) → oldest_among o xs ≡ None → (p : ℕ) → IsWritten (entry_among xs p)
 none_oldest o [] is p = tt
 none_oldest o (x ∷ xs) is p =
-    let rest : IsWritten (entry_among xs p) = none_oldest (older o (changed_page x)) xs is p in
-    let none : older o (changed_page x) ≡ None = none_from (older o (changed_page x)) xs is in
-    let here : changed_page x ≡ None = none_of (changed_page x) (λ some. let clash : true ≡ false = sym (added_some o (changed_page x) some) ∙ ap (λ (q : Option DirtyPage). is_some q) none in cc clash) in
+    let rest : IsWritten (entry_among xs p) = none_oldest (older o (dirty_page_of x)) xs is p in
+    let none : older o (dirty_page_of x) ≡ None = none_from (older o (dirty_page_of x)) xs is in
+    let here : dirty_page_of x ≡ None = none_of (dirty_page_of x) (λ some. let clash : true ≡ false = sym (added_some o (dirty_page_of x) some) ∙ ap (λ (q : Option DirtyPage). is_some q) none in cc clash) in
     elim (cases_eq x.page p) [
       | inl same ↦ subst (λ (e : Option DirtyEntry). IsWritten e) (sym (cond-true (x.page == p) (Some (dirty_entry x)) (entry_among xs p) (eq-eqb x.page p same))) (unchanged x here)
       | inr other ↦ subst (λ (e : Option DirtyEntry). IsWritten e) (sym (cond-false (x.page == p) (Some (dirty_entry x)) (entry_among xs p) (ne_eqb x.page p other))) rest

@@ -18,7 +18,7 @@ use Rattle.im_log_gate.proofs.Starts.{gate_behind}
 use Rattle.im_log.proofs.Spells.{log_records}
 use Rattle.im_page_writer.specs.declared.known.Synced.{Synced}
 use Rattle.im_page_writer.specs.declared.known.Known.{Known}
-use Rattle.im_page_writer.specs.Synced.{AreSyncedWith, IsChangedBelow, IsKnown, IsOwn, MayBe, end_of_log}
+use Rattle.im_page_writer.specs.Synced.{AreSyncedWith, IsChangedBelow, IsKnown, IsUnderLog, MayBe, end_of_log}
 use Rattle.im_page_writer.proofs.ChangedPages.{below_low, changed_here, changed_reaches, record_below}
 
 -- ---- the log's end
@@ -71,7 +71,7 @@ reaches_synced b log point p g synced up is reaches =
 
 module _ {D : Type 0} (d : Ghosts D) (b : Base) (base : ℕ) (s : Writer) (log : LogFile) (disk : D) (based : b.start ≤ base) (kept : WriterKept b s) (is_open : IsOpen d log disk) (log_is : IsLog d base s.log s.durable log disk) where
   -- a page with its full copy, of which nothing is left to be written
-  pub own_page : (known : Known) (p : ℕ) → IsKnown s known → (s.pages p).waits ≡ false → IsWritten (s.pages p).entry → IsOwn log known p (s.pages p).page
+  pub own_page : (known : Known) (p : ℕ) → IsKnown s known → (s.pages p).waits ≡ false → IsWritten (s.pages p).entry → IsUnderLog log known p (s.pages p).page
   own_page known p knows ready done =
       let k = kept.pages p in
       let durable = k.written ready done s.durable (record { from = front_self s.durable; upto = kept.front }) in

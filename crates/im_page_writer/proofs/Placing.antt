@@ -7,8 +7,7 @@ use Rattle.im_base_types.specs.Pages.{Page}
 use Rattle.im_theory_log.specs.Histories.{Base, History}
 use Rattle.im_theory_log.specs.Writer.{DirtyEntry, PageState, Writer, IsWritten}
 use Rattle.im_theory_log.specs.WriterSteps.{entry_since, only, synced, synced_entry, synced_page, written, written_entry, written_page}
-use Rattle.im_theory_log.proofs.Histories.{front_self}
-use Rattle.im_theory_log.proofs.WriterWrites.{may_after, read_back, written_kept}
+use Rattle.im_theory_log.proofs.Cited.{front_self, may_after, read_back, written_kept}
 use Rattle.im_base_disk.specs.declared.disk.Disk.{Ghosts}
 use Rattle.im_base_disk.specs.Disk.{Files, Torn, InFile, Stepped, Follows}
 use Rattle.im_base_disk.specs.Runs.{ChangesOnly, LeavesOnly, Spares}

@@ -11,9 +11,7 @@ use Rattle.im_theory_log.specs.Histories.{Base, History, changes_page, end_of, p
 use Rattle.im_theory_log.specs.Copies.{HasCopy, redo_one}
 use Rattle.im_theory_log.specs.Writer.{PageState, Writer}
 use Rattle.im_theory_log.specs.WriterSteps.{applies, at_point, is_copied, only, redone}
-use Rattle.im_theory_log.proofs.Copies.{copy_grows}
-use Rattle.im_theory_log.proofs.Histories.{no_change}
-use Rattle.im_theory_log.proofs.WriterRedo.{redone_kept}
+use Rattle.im_theory_log.proofs.Cited.{copy_grows, no_change, redone_kept}
 use Rattle.im_base_disk.specs.declared.disk.Disk.{Ghosts}
 use Rattle.im_log.specs.declared.log_file.LogFile.{LogFile}
 use Rattle.im_theory_page.specs.Header.{initial}
@@ -24,7 +22,10 @@ use Rattle.im_page_table.specs.DirtyTable.{TableView, ChangesEntry, HasEntries}
 use Rattle.im_page_table.specs.Growth.{Keeps}
 use Rattle.im_page_writer.specs.Writing.{IsShown, IsPooled, IsWriting, Goes}
 use Rattle.im_page_table.specs.KnownCopies.{every_page, redone_as, redone_page_as}
-use Rattle.im_page_writer.specs.Redoing.{TakesRecord, LacksTaker, RedoneHere, RedoKept}
+use Rattle.im_page_writer.specs.Redoing.{LacksTaker, RedoneHere, RedoKept}
+use Rattle.im_page_rounds.specs.OnePage.{PageTakes}
+use Rattle.im_page_rounds.proofs.Changes.{if_none}
+use Rattle.im_page_rounds.proofs.OnePage.{applies_below}
 use Rattle.im_page_writer.proofs.Changing.{pooled_set}
 use Rattle.im_page_file.proofs.Standing.{covered_then}
 use Rattle.im_page_writer.proofs.Goings.{leaves_then, pooled_same}
@@ -37,20 +38,12 @@ use Rattle.im_page_table.proofs.TableSteps.{entries_put}
 
 -- ---- whether redo applies a record
 
-pub applies_is : (r : Logged) (g : Page) → g.lsn < r.lsn → applies r r.page g ≡ changes_page r.what
-applies_is r g lt = cond-true (r.page == r.page) _ false (eq-eqb r.page r.page refl) ∙ cond-false (nat_le r.lsn g.lsn) false (changes_page r.what) (lt-leb r.lsn g.lsn lt)
-
 -- it does not where the page has the record already
 pub applied_already : (r : Logged) (q : ℕ) (g : Page) → (r.page ≡ q → r.lsn ≤ g.lsn) → applies r q g ≡ false
 applied_already r q g has = elim (cases_eq r.page q) [
   | inl here ↦ cond-true (r.page == q) _ false (eq-eqb r.page q here) ∙ cond-true (nat_le r.lsn g.lsn) false (changes_page r.what) (le-leb r.lsn g.lsn (has here))
   | inr other ↦ cond-false (r.page == q) _ false (ne_eqb r.page q other)
 ]
-
-if_none : (t u v : Bool) → v ≡ false → (if t then (if u then false else v) else false) ≡ false
-if_none true true v none = refl
-if_none true false v none = none
-if_none false u v none = refl
 
 -- nor where its kind changes no page
 pub applies_none : (r : Logged) (q : ℕ) (g : Page) → changes_page r.what ≡ false → applies r q g ≡ false
@@ -66,7 +59,7 @@ page_stays : (r : Logged) (q : ℕ) (g : Page) → applies r q g ≡ false → r
 page_stays r q g none = stays (r.page == q) (nat_le r.lsn g.lsn) (changes_page r.what) g (page_after r.lsn r.what g) (no_change r.lsn r.what g) none
 
 -- a record that changes no page is taken
-takes_none : (w : What) (g : Page) → changes_page w ≡ false → TakesRecord w g
+takes_none : (w : What) (g : Page) → changes_page w ≡ false → PageTakes w g
 takes_none (InsertKey k i) g none = absurd (cc none)
 takes_none (DeleteKey k i) g none = absurd (cc none)
 takes_none (UndoInsert k i) g none = absurd (cc none)
@@ -91,7 +84,7 @@ applied_page known point r x = record x { page = page_after r.lsn r.what x.page;
 
 module _ (known : Bool) (point : ℕ) (r : Logged) (pages : ℕ → PageState) (lt : (pages r.page).page.lsn < r.lsn) (changes : changes_page r.what ≡ true) where
   applied_here : (q : ℕ) → r.page ≡ q → applies r q (pages q).page ≡ true
-  applied_here q here = subst (λ (n : ℕ). applies r n (pages n).page ≡ true) here (applies_is r (pages r.page).page lt ∙ changes)
+  applied_here q here = subst (λ (n : ℕ). applies r n (pages n).page ≡ true) here (applies_below r (pages r.page).page lt ∙ changes)
 
   other_stays : (q : ℕ) → (r.page ≡ q → ⊥) → applies r q (pages q).page ≡ false
   other_stays q other = applied_already r q (pages q).page (λ here. absurd (other here))
@@ -193,12 +186,12 @@ on_of (Err e) P Q is to = tt
 -- ---- refusals
 
 -- a page that needs the record and takes it is no cause
-pub taker_there : (r : Logged) (pool : PoolView) (n : ℕ) (x : PageState) → n ≡ r.page → IsShown (held_of pool n) x → x.page.lsn < r.lsn → (applies r r.page x.page ≡ true → TakesRecord r.what x.page) → LacksTaker r.what n pool → ⊥
-taker_there r pool n x number shown lt takes lacks = lacks.lacks (subst (λ (g : Page). TakesRecord r.what g) (sym (held_shows (held_of pool n) x (initial 0) lacks.held shown)) taken)
+pub taker_there : (r : Logged) (pool : PoolView) (n : ℕ) (x : PageState) → n ≡ r.page → IsShown (held_of pool n) x → x.page.lsn < r.lsn → (applies r r.page x.page ≡ true → PageTakes r.what x.page) → LacksTaker r.what n pool → ⊥
+taker_there r pool n x number shown lt takes lacks = lacks.lacks (subst (λ (g : Page). PageTakes r.what g) (sym (held_shows (held_of pool n) x (initial 0) lacks.held shown)) taken)
   where
-    taken : TakesRecord r.what x.page
+    taken : PageTakes r.what x.page
     taken = elim (cases_Bool (changes_page r.what)) [
-      | inl changes ↦ takes (applies_is r x.page lt ∙ changes)
+      | inl changes ↦ takes (applies_below r x.page lt ∙ changes)
       | inr plain ↦ takes_none r.what x.page plain
     ]
 
@@ -212,7 +205,7 @@ module _ {D : Type 0} (d : Ghosts D) (b : Base) (base : ℕ) (s : Writer) (r : L
         ok = on_ok result _ _ kept.ok (λ is. record { before = is.before; keeps = keeps_then b s t is.before goes.keeps is.keeps; stops = covered_then d b base s.durable t.log t.durable is.before.log old mid disk goes.stops is.stops goes.keeps.durable (grown_front b t.log is.before.log is.keeps.log); known = is.known; stands = is.stands });
         applied = subst (λ (g : Page). IfOk result (λ done. done ≡ applies r r.page g)) same kept.applied;
         stops = leaves_then d b base s old t log table pool mid goes disk kept.stops;
-        cause = subst (λ (g : Page). (applies r r.page g ≡ true → TakesRecord r.what g) → IfErr result (λ e. e ≢ NotAStore)) same kept.cause;
+        cause = subst (λ (g : Page). (applies r r.page g ≡ true → PageTakes r.what g) → IfErr result (λ e. e ≢ NotAStore)) same kept.cause;
       }
 
 -- what redo asks of the writer, behind other calls

@@ -99,7 +99,7 @@ shown_page o h x is shown = subst (λ (k : Option Held). IsShown k x) is shown
 -- ---- the pages that take part
 
 -- one of two pages, by whether it takes part
-either_page : (P : PageState → Type 0) (t : Bool) (x y : PageState) → P x → P y → P (if t then x else y)
+pub either_page : (P : PageState → Type 0) (t : Bool) (x y : PageState) → P x → P y → P (if t then x else y)
 either_page P true x y one other = one
 either_page P false x y one other = other
 

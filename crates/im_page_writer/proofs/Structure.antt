@@ -13,8 +13,7 @@ use Rattle.im_theory_log.specs.PageCounts.{names_page}
 use Rattle.im_theory_log.specs.RedoPoints.{is_checkpoint}
 use Rattle.im_theory_log.specs.Writer.{Writer}
 use Rattle.im_theory_log.specs.WriterSteps.{MayAppend, changed, changed_entry, holds_copy}
-use Rattle.im_theory_log.proofs.WriterAppends.{changed_kept}
-use Rattle.im_theory_log.proofs.WriterCheckpoints.{next_point}
+use Rattle.im_theory_log.proofs.Cited.{changed_kept, next_point}
 use Rattle.im_base_disk.specs.declared.disk.Disk.{Ghosts}
 use Rattle.im_base_disk.specs.Runs.{ChangesOnly}
 use Rattle.im_log_record.specs.declared.record.Record.{Record}

@@ -1,8 +1,7 @@
 -- How the log goes on in the other file under a writer of pages.
-use Rattle.std.proofs.Common.{◌≡◌, ◌⊎◌, inl, inr, ⊎_elim, ℕ, ◌+◌, ◌<◌, ◌≤◌, Bool, true, false, not, List, [], Option, None, Some, Result, Ok, Err, take, refl, sym, ◌∙◌, ap, subst, arith}
+use Rattle.std.proofs.Common.{◌≡◌, ◌⊎◌, inl, inr, ⊎_elim, ℕ, ◌+◌, ◌<◌, ◌≤◌, Bool, true, false, not, List, [], Option, None, Some, Result, Ok, Err, take, refl, sym, ◌∙◌, ap, subst, arith, append-nil}
 use Rattle.std.specs.Prelude.{◌≢◌, ◌↔◌, ◌^◌, nat_le, nat_lt, if◌then◌else◌, IfErr, IsErrAnd}
 use Rattle.std.proofs.lemmas.Bool.{cases_lt}
-use Rattle.std.proofs.lemmas.List.{append-nil}
 use Rattle.std.specs.Ordering.{nat_cmp}
 use Rattle.std.specs.BTreeMap.{BTreeMap, get, is_at}
 use Rattle.std.specs.Map.{lookup}
@@ -14,10 +13,7 @@ use Rattle.im_theory_log.specs.Histories.{Base, History, IsFront, Rises, end_of,
 use Rattle.im_theory_log.specs.Copies.{GrowsByImages}
 use Rattle.im_theory_log.specs.Writer.{Writer}
 use Rattle.im_theory_log.specs.WriterSteps.{is_copied}
-use Rattle.im_theory_log.proofs.Histories.{front_self}
-use Rattle.im_theory_log.proofs.Redo.{reached_end}
-use Rattle.im_theory_log.proofs.RedoPoints.{covers_base}
-use Rattle.im_theory_log.proofs.WriterCovers.{covers}
+use Rattle.im_theory_log.proofs.Cited.{front_self, reached_end, covers_base, covers}
 use Rattle.im_theory_switch.specs.Switch.{base_after, switched}
 use Rattle.im_theory_switch.proofs.Switch.{lsns_low, writer_switches}
 use Rattle.im_theory_left.specs.Left.{AreReadable}
@@ -67,7 +63,7 @@ get_none m none p = ap (λ (es : List (ℕ × ℕ)). lookup (is_at (nat_cmp p)) 
 -- ---- the two logs
 
 -- a made log is one of either format
-made_header : (file : List ℕ) → IsMade file → headers.IsMade file
+pub made_header : (file : List ℕ) → IsMade file → headers.IsMade file
 made_header file made = record { within = made.within; made = made.made; named = made.named }
 
 -- where the other log is older, the log is the current one
@@ -98,7 +94,7 @@ left_still b was file (inl same) left = subst (LeftSays b) (sym same) left
 left_still b was file (inr none) left = inl none
 
 -- the file of pages has one name
-named_pages : (swapped : Bool) (files : Files) → named swapped files Pages ≡ files Pages
+pub named_pages : (swapped : Bool) (files : Files) → named swapped files Pages ≡ files Pages
 named_pages true files = refl
 named_pages false files = refl
 

@@ -20,19 +20,11 @@ use Rattle.im_page_writer.specs.Writing.{IsShown, IsPooled, SameHeld}
 use Rattle.im_page_writer.specs.PageWriter.{next_written, IsNextWritten, StandsAs}
 use Rattle.im_page_writer.proofs.Placing.{written_synced}
 use Rattle.im_page_writer.proofs.FlushedRows.{synced_clean}
-use Rattle.im_page_writer.proofs.OldestChanges.{none_changed_in, oldest_there}
+use Rattle.im_page_writer.proofs.OldestChanges.{none_changed_in, oldest_there, entry_here, entry_there}
 use Rattle.im_page_writer.proofs.Writers.{none_left}
 use Rattle.im_page_table.proofs.Tables.{first_is, first_not, held_synced, synced_apart}
 
 -- ---- the last page of a list that was changed
-
-some_first : {X : Type 0} (t : Bool) (x : X) (o : Option X) → t ≡ true → is_some (if t then Some x else o) ≡ true
-some_first true x o is = refl
-some_first false x o is = absurd (cc is)
-
-some_rest : {X : Type 0} (t : Bool) (x : X) (o : Option X) → is_some o ≡ true → is_some (if t then Some x else o) ≡ true
-some_rest true x o is = refl
-some_rest false x o is = is
 
 -- where there is none, no page was changed
 pub none_changed : (es : List (ℕ × Held)) → last_changed es ≡ None → (p : ℕ) → option_map_or (λ h. h.changed) (lookup (nat_eq p) es) false ≡ false
@@ -63,10 +55,10 @@ last_held (f ∷ es) e is = by (λ rest. last_held es e rest) (last_changed es) 
     by : (last_changed es ≡ Some e → is_some (lookup (nat_eq e.0) es) ≡ true) → (o : Option (ℕ × Held)) → last_changed es ≡ o → is_some (lookup (nat_eq e.0) (f ∷ es)) ≡ true
     by deeper None rest =
         let here : f ≡ e = same f.1.changed (subst (λ (o : Option (ℕ × Held)). option_map_or (λ f. Some f) o (if f.1.changed then Some f else None) ≡ Some e) rest is) in
-        some_first (nat_eq e.0 f.0) f.1 (lookup (nat_eq e.0) es) (eq-eqb e.0 f.0 (ap (λ (x : ℕ × Held). x.0) (sym here)))
+        entry_here (nat_eq e.0 f.0) f.1 (lookup (nat_eq e.0) es) (eq-eqb e.0 f.0 (ap (λ (x : ℕ × Held). x.0) (sym here)))
     by deeper (Some g) rest =
         let later : Some g ≡ Some e = subst (λ (o : Option (ℕ × Held)). option_map_or (λ f. Some f) o (if f.1.changed then Some f else None) ≡ Some e) rest is in
-        some_rest (nat_eq e.0 f.0) f.1 (lookup (nat_eq e.0) es) (deeper (rest ∙ later))
+        entry_there (nat_eq e.0 f.0) f.1 (lookup (nat_eq e.0) es) (deeper (rest ∙ later))
 
 -- ---- a table whose pages are all in a list is no longer than it
 
@@ -116,8 +108,8 @@ rows_count (x ∷ xs) = let rest = rows_count xs in omega (arith, rest)
 row_there : (xs : List TableEntry) (p : ℕ) → is_some (entry_among xs p) ≡ true → is_some (lookup (nat_eq p) (rows_in xs)) ≡ true
 row_there [] p is = is
 row_there (x ∷ xs) p is = elim (cases_eq x.page p) [
-  | inl here ↦ some_first (nat_eq p x.page) (dirty_entry x) (lookup (nat_eq p) (rows_in xs)) (eq-eqb p x.page (sym here))
-  | inr other ↦ some_rest (nat_eq p x.page) (dirty_entry x) (lookup (nat_eq p) (rows_in xs))
+  | inl here ↦ entry_here (nat_eq p x.page) (dirty_entry x) (lookup (nat_eq p) (rows_in xs)) (eq-eqb p x.page (sym here))
+  | inr other ↦ entry_there (nat_eq p x.page) (dirty_entry x) (lookup (nat_eq p) (rows_in xs))
       (row_there xs p (ap (λ (o : Option DirtyEntry). is_some o) (sym (first_not x xs p other)) ∙ is))
 ]
 
@@ -210,10 +202,6 @@ no_number (Some e) p is has = cc is
 pub if_found : (o : Option Held) (p : ℕ) (r : Option Frame) → r ≡ option_map (λ h. frame_of (p, h)) o → IfSome r (λ f. Some p ≡ Some f.number)
 if_found None p r is = subst (λ (x : Option Frame). IfSome x (λ f. Some p ≡ Some f.number)) (sym is) tt
 if_found (Some h) p r is = subst (λ (x : Option Frame). IfSome x (λ f. Some p ≡ Some f.number)) (sym is) refl
-
-pub none_found : (o : Option Held) (p : ℕ) → None ≡ option_map (λ h. frame_of (p, h)) o → o ≡ None
-none_found None p is = refl
-none_found (Some h) p is = absurd (cc is)
 
 -- where there is none, nothing is left to be written of any page
 none_named : (o : Option (ℕ × Held)) → option_map (λ e. e.0) o ≡ None → o ≡ None

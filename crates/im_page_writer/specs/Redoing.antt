@@ -3,7 +3,7 @@ use Rattle.std.specs.Prelude.{◌≡◌, ◌≢◌, ◌<◌, ◌⊎◌, ◌||◌
 use Rattle.im_base_types.specs.declared.fault.Fault.{Fault}
 use Rattle.im_base_types.specs.declared.fault.Fault.TheVariants.{NotAStore}
 use Rattle.im_base_types.specs.Pages.{Page}
-use Rattle.im_base_types.specs.Records.{What, InsertKey, DeleteKey, UndoInsert, UndoDelete, Logged}
+use Rattle.im_base_types.specs.Records.{What, Logged}
 use Rattle.im_theory_log.specs.Histories.{Base, changes_page, page_after}
 use Rattle.im_theory_log.specs.Copies.{copy_in}
 use Rattle.im_theory_log.specs.Writer.{Writer}
@@ -18,15 +18,7 @@ use Rattle.im_page_table.specs.KnownCopies.{redone_as}
 use Rattle.im_page_table.specs.Growth.{Keeps}
 use Rattle.im_page_writer.specs.Writing.{LeavesGrown}
 use Rattle.im_page_writer.specs.PageWriter.{StandsAs}
-use Rattle.im_page_leaf.specs.LeafChange.{CanPutKey, CanTakeKey}
-
--- a page takes a record: a key to be put is lacking and has room in the leaf, one to be taken out is there; an image is always taken
-abbrev pub TakesRecord : What → Page → Type 0
-TakesRecord (InsertKey k i) g = CanPutKey g k
-TakesRecord (UndoDelete k i) g = CanPutKey g k
-TakesRecord (DeleteKey k i) g = CanTakeKey g k
-TakesRecord (UndoInsert k i) g = CanTakeKey g k
-TakesRecord _ g = Unit {0}
+use Rattle.im_page_rounds.specs.OnePage.{PageTakes}
 
 -- It is said whether a record of this kind changes a page. Where it does, the held page is changed by it, and otherwise nothing is.
 pub record AppliedTo (lsn : ℕ) (what : What) (frame : Frame) (old : PoolView) (done : Bool) (new : PoolView) : Type 0 where
@@ -60,7 +52,7 @@ pub record HasRooms (number : ℕ) (pool : PoolView) (table : TableView) : Type 
 -- A held page does not take the record.
 pub record LacksTaker (what : What) (number : ℕ) (pool : PoolView) : Type 0 where
   pub held : Holds pool number
-  pub lacks : ¬ (TakesRecord what (page_at pool number))
+  pub lacks : ¬ (PageTakes what (page_at pool number))
 
 module _ {D : Type 0} (d : Ghosts D) (b : Base) (base : ℕ) where
   -- Each page was as before, the log had Images more, and then the page's noted copy was loaded.
@@ -90,4 +82,4 @@ module _ {D : Type 0} (d : Ghosts D) (b : Base) (base : ℕ) where
     pub ok : OnOk result (RedoneFrom s r old w disk)
     pub applied : IfOk result (λ done. done ≡ applies r r.page (s.pages r.page).page)
     pub stops : LeavesGrown d b base s old disk
-    pub cause : (applies r r.page (s.pages r.page).page ≡ true → TakesRecord r.what (s.pages r.page).page) → IfErr result (λ e. e ≢ NotAStore)
+    pub cause : (applies r r.page (s.pages r.page).page ≡ true → PageTakes r.what (s.pages r.page).page) → IfErr result (λ e. e ≢ NotAStore)

@@ -50,11 +50,11 @@ abbrev pub end_of_log : LogFile → ℕ
 end_of_log log = min (log.base + place_of log.gate) (2 ^ 64 - 1)
 
 -- The page was written under this log: its LSN is below the log's end, and the file may have it.
-pub record IsOwn (log : LogFile) (known : Known) (number : ℕ) (page : Page) : Type 0 where
+pub record IsUnderLog (log : LogFile) (known : Known) (number : ℕ) (page : Page) : Type 0 where
   pub under : page.lsn < end_of_log log
   pub may : MayBe known.synced number page
 
 -- what the file has there is no page, or not one that was written under this log
 abbrev pub IsForeign : LogFile → Known → ℕ → Option Page → Type 0
 IsForeign log known number None = Unit {0}
-IsForeign log known number (Some page) = ¬ (IsOwn log known number page)
+IsForeign log known number (Some page) = ¬ (IsUnderLog log known number page)

@@ -1,15 +1,14 @@
 //! A flush: the full copies of a range of pages, a force of the log, and the writes.
-ghost use Rattle.std.specs.Prelude.{◌≡◌, ◌≢◌, ◌≤◌, ◌<◌, ◌+◌, ◌-◌, ◌^◌, ◌⊎◌, ◌↔◌, ℕ, List, false, true, length, vec_capacity, is_some, IfErr, OnOk};
-ghost use Rattle.im_base_types.specs.declared.fault.Fault.TheVariants.{Device, LogFull};
+ghost use Rattle.std.specs.Prelude.{◌≡◌, ◌≤◌, ◌<◌, ◌+◌, ◌-◌, ℕ, false, true, vec_capacity, is_some, OnOk};
 ghost use Rattle.im_base_types.specs.declared.file_id.FileId.TheVariants.{Pages};
 ghost use Rattle.im_theory_log.specs.Histories.{Base};
 ghost use Rattle.im_theory_log.specs.Writer.{Writer};
 ghost use Rattle.im_base_disk.specs.Disk.{Answers};
 ghost use Rattle.im_base_disk.specs.Runs.{Costs};
 ghost use Rattle.im_log.specs.declared.log_file.LogFile.{LogFile};
-ghost use Rattle.im_log.specs.LogFile.{HasNoRoom, end_with, IsOpen};
+ghost use Rattle.im_log.specs.LogFile.{IsOpen};
 ghost use Rattle.im_theory_page.specs.PageFile.{page_count};
-ghost use Rattle.im_page_pool.specs.Pool.{held_of, is_changed};
+ghost use Rattle.im_page_pool.specs.Pool.{is_changed};
 ghost use Rattle.im_page_writer.specs.Costs.{FlushCosts, PageCosts, WriteCosts};
 ghost use Rattle.im_page_table.specs.DirtyTable.{entry_in, has_room};
 ghost use Rattle.im_page_file.specs.Imaging.{Imaging};

@@ -1,11 +1,10 @@
 //! The full copies of a flush: Images of the pages of which the log is known to have none, in rising page number.
-ghost use Rattle.std.specs.Prelude.{◌≡◌, ◌≢◌, ◌≤◌, ◌<◌, ◌+◌, ◌-◌, ◌^◌, ◌⊎◌, ◌↔◌, ℕ, [], false, true, not, is_ok, length, min, vec_capacity, slice_index_or, IsOk, IfErr, OnOk};
-ghost use Rattle.im_base_types.specs.declared.fault.Fault.TheVariants.{Device, Failed, LogFull};
+ghost use Rattle.std.specs.Prelude.{◌≡◌, ◌≤◌, ◌<◌, ◌+◌, ◌-◌, ℕ, false, true, vec_capacity, IsOk, OnOk};
 ghost use Rattle.im_base_types.specs.declared.file_id.FileId.TheVariants.{Log};
 ghost use Rattle.im_theory_log.specs.Histories.{Base};
 ghost use Rattle.im_theory_log.specs.Writer.{Writer};
 ghost use Rattle.im_base_disk.specs.Runs.{ChangesOnly, Forces, Reads};
-ghost use Rattle.im_log.specs.LogFile.{HasNoRoom, end_with, IsOpen};
+ghost use Rattle.im_log.specs.LogFile.{IsOpen};
 ghost use Rattle.im_theory_log.specs.WriterSteps.{is_copied};
 ghost use Rattle.im_page_table.specs.DirtyTable.{TableView, entry_in};
 ghost use Rattle.im_page_file.specs.Imaging.{Imaging};

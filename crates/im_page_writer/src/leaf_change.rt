@@ -1,9 +1,9 @@
 //! A held leaf, changed as a record says.
-ghost use Rattle.std.specs.Prelude.{◌≡◌, true};
+ghost use Rattle.std.specs.Prelude.{true};
 ghost use Rattle.im_base_types.specs.Records.{InsertKey, DeleteKey};
 ghost use Rattle.im_theory_log.specs.Histories.{page_after};
 ghost use Rattle.im_page_pool.specs.Pool.{IsAt, Sets, page_at};
-ghost use Rattle.im_page_leaf.specs.LeafChange.{HasPlaceFor, HasKey};
+ghost use Rattle.im_page_leaf.specs.LeafChange.{HasPlaceFor, HasKeyAt};
 ghost use Rattle.im_page_leaf.specs.LeafEdits.{edit_of, HasPlace};
 
 use im_base_types::Lsn;
@@ -28,7 +28,7 @@ fn put_key(pool: &mut Pool, frame: Frame, i: usize, key: &[u8], rid: u64, lsn: L
 // Takes a key out of its place in a held leaf, by the record at an LSN.
 fn take_key(pool: &mut Pool, frame: Frame, i: usize, key: &[u8], rid: u64, lsn: Lsn)
     requires at { IsAt pool.old frame }
-    requires place { HasKey (page_at pool.old frame.number) key.now i }
+    requires place { HasKeyAt (page_at pool.old frame.number) key.now i }
     ensures { Sets frame (page_after lsn (DeleteKey key.now rid) (page_at pool.old frame.number)) true pool.old pool.new }
 {
     pool.remove(frame, i);

@@ -1,6 +1,5 @@
 //! The page writes of a flush, in rising page number.
-ghost use Rattle.std.specs.Prelude.{◌≡◌, ◌≢◌, ◌≤◌, ◌<◌, ◌+◌, ◌-◌, ◌*◌, ◌⊎◌, ◌↔◌, ℕ, List, [], None, false, true, length, min, IfErr, IfOk, OnOk};
-ghost use Rattle.im_base_types.specs.declared.fault.Fault.TheVariants.{Device};
+ghost use Rattle.std.specs.Prelude.{◌≡◌, ◌≤◌, ◌<◌, ◌+◌, ◌-◌, ◌↔◌, ℕ, None, false, true, IfOk, OnOk};
 ghost use Rattle.im_base_types.specs.declared.file_id.FileId.TheVariants.{Pages};
 ghost use Rattle.im_theory_log.specs.Histories.{Base};
 ghost use Rattle.im_theory_log.specs.Writer.{Writer};
@@ -9,9 +8,9 @@ ghost use Rattle.im_base_disk.specs.Runs.{ChangesOnly, LeavesOnly, Costs};
 ghost use Rattle.im_log.specs.declared.log_file.LogFile.{LogFile};
 ghost use Rattle.im_theory_page.specs.PageFile.{page_count};
 ghost use Rattle.im_page_pool.specs.Writes.{WritesPage, TearsPage};
-ghost use Rattle.im_page_table.specs.DirtyTable.{entry_in, has_room, written_in};
+ghost use Rattle.im_page_table.specs.DirtyTable.{has_room, written_in};
 ghost use Rattle.im_page_file.specs.Stands.{Stands};
-ghost use Rattle.im_page_writer.specs.Writing.{lsn_for, pool_page, SameHeld, Unmarks, IsPooled, IsWriting, MayPlace, MayWriteHere, PlacedKept, ImagesDurable, WritesKept};
+ghost use Rattle.im_page_writer.specs.Writing.{lsn_for, pool_page, SameHeld, Unmarks, IsPooled, IsWriting, MayPlace, MayWriteHere, PlacedKept, WritesKept};
 
 use crate::image_range::lsn_of;
 use im_base_disk::Disk;

@@ -116,7 +116,7 @@ impl PageWriter {
     ghost use Rattle.im_log_record.specs.Spelling.{IsEntry, size_of};
     ghost use Rattle.im_log.specs.Whats.{what_of};
     ghost use Rattle.im_log_gate.specs.Gate.{first_of, generation_at, place_of};
-    ghost use Rattle.im_page_writer.specs.Synced.{IsForeign, IsOwn};
+    ghost use Rattle.im_page_writer.specs.Synced.{IsForeign, IsUnderLog};
     ghost use Rattle.im_page_writer.specs.Writing.{SameHeld};
     ghost use Rattle.im_page_writer.specs.Outcome.{fault_of, no_page, none_mild, AllPages, AreLoadedTo, Flushes, HasPages, IsSound, Logs, Outcome};
     ghost use Rattle.im_page_writer.specs.PageWriter.{IsReadyWriter, IsUnforced, StandsAs, FlushedOne, StepKept, FlushedNext, HasRoom, IsPlain, LogKept};
@@ -274,7 +274,7 @@ impl PageWriter {
         ensures at { IfOk result (IsAt self.new.pool) }
         ensures frame { IfOk result (λ frame. frame.number ≡ number) }
         ensures gets { IfOk result (λ _. self.new.pool.gets ≡ self.old.pool.gets + 1) }
-        ensures own { IfOk result (λ _. IsOwn self.new.log self.new.known number (page_at self.new.pool number)) }
+        ensures own { IfOk result (λ _. IsUnderLog self.new.log self.new.known number (page_at self.new.pool number)) }
         ensures no_page { result ≡ Err NotAStore → D.tells → IsForeign self.new.log self.new.known number (file_page (D.seen disk.new Pages) number) }
     {
         match self.pool.get_absent(disk, number) {
@@ -295,8 +295,8 @@ impl PageWriter {
     // Whether a held page was written under this log.
     fn is_own(&self, frame: Frame) -> bool
         requires at { IsAt self.now.pool frame }
-        ensures own { result ≡ true → IsOwn self.now.log self.now.known frame.number (page_at self.now.pool frame.number) }
-        ensures foreign { result ≡ false → ¬ (IsOwn self.now.log self.now.known frame.number (page_at self.now.pool frame.number)) }
+        ensures own { result ≡ true → IsUnderLog self.now.log self.now.known frame.number (page_at self.now.pool frame.number) }
+        ensures foreign { result ≡ false → ¬ (IsUnderLog self.now.log self.now.known frame.number (page_at self.now.pool frame.number)) }
     {
         let page = self.pool.page(frame);
         page.lsn() < self.log.durable_end() && self.known.may_be(frame.number, page)
@@ -324,7 +324,7 @@ impl PageWriter {
         ensures gets { IfOk result (λ _. self.new.pool.gets ≡ self.old.pool.gets + 1) }
         ensures held { self.old.failed ≡ false → Holds self.old.pool number → IsOk result × MovesFirst number self.old.pool self.new.pool }
         ensures quiet { self.old.failed ≡ false → Holds self.old.pool number → (disk.new ≡ disk.old) × (self.new.log ≡ self.old.log) × (self.new.table ≡ self.old.table) }
-        ensures own { IfOk result (λ _. held_of self.old.pool number ≡ None → IsOwn self.new.log self.new.known number (page_at self.new.pool number)) }
+        ensures own { IfOk result (λ _. held_of self.old.pool number ≡ None → IsUnderLog self.new.log self.new.known number (page_at self.new.pool number)) }
         ensures no_page { result ≡ Err NotAStore → D.tells → IsForeign self.new.log self.new.known number (file_page (D.seen disk.new Pages) number) }
     {
         if self.failed {
@@ -346,7 +346,7 @@ impl PageWriter {
         ensures at { IfOk result (IsAt self.new.pool) }
         ensures frame { IfOk result (λ frame. frame.number ≡ number) }
         ensures gets { IfOk result (λ _. self.new.pool.gets ≡ self.old.pool.gets + 1) }
-        ensures own { IfOk result (λ _. IsOwn self.new.log self.new.known number (page_at self.new.pool number)) }
+        ensures own { IfOk result (λ _. IsUnderLog self.new.log self.new.known number (page_at self.new.pool number)) }
         ensures no_page { result ≡ Err NotAStore → D.tells → IsForeign self.new.log self.new.known number (file_page (D.seen disk.new Pages) number) }
     {
         self.make_frame(disk)?;

@@ -7,7 +7,8 @@ ghost use Rattle.im_log.specs.Whats.{what_of};
 ghost use Rattle.im_page_pool.specs.Pool.{IsAt, Sets, page_at};
 ghost use Rattle.im_page_leaf.specs.LeafEdits.{edit_of, MayEdit};
 ghost use Rattle.im_page_file.specs.PageCopy.{after_in};
-ghost use Rattle.im_page_writer.specs.Redoing.{TakesRecord, AppliedTo};
+ghost use Rattle.im_page_writer.specs.Redoing.{AppliedTo};
+ghost use Rattle.im_page_rounds.specs.OnePage.{PageTakes};
 
 use crate::leaf_change::edit_key;
 use im_base_types::{Fault, Lsn};
@@ -77,7 +78,7 @@ pub(crate) fn redo_record(
     requires at { IsAt pool.old frame }
     ensures ok { IfOk result (λ done. AppliedTo lsn (what_of (view record.now)) frame pool.old done pool.new) }
     ensures err { OnErr result (pool.new ≡ pool.old) }
-    ensures refused { IfErr result (λ e. (e ≡ NotAStore) × ¬ (TakesRecord (what_of (view record.now)) (page_at pool.old frame.number))) }
+    ensures refused { IfErr result (λ e. (e ≡ NotAStore) × ¬ (PageTakes (what_of (view record.now)) (page_at pool.old frame.number))) }
 {
     match record {
         Record::InsertKey { key, rid, .. } => redo_key(pool, frame, lsn, LeafEdit::Put, key, *rid),

@@ -14,8 +14,7 @@ use Rattle.im_theory_log.specs.Structure.{settled, taken_back}
 use Rattle.im_theory_log.specs.Transactions.{is_end, is_finished, last_of}
 use Rattle.im_theory_log.specs.Writer.{PageState, Writer}
 use Rattle.im_page_table.specs.KnownCopies.{changed_page_as}
-use Rattle.im_theory_log.proofs.Fronts.{fronts_lawful}
-use Rattle.im_theory_log.proofs.Images.{images_pages}
+use Rattle.im_theory_log.proofs.Cited.{fronts_lawful, images_pages}
 use Rattle.im_base_disk.specs.declared.disk.Disk.{Ghosts}
 use Rattle.im_base_disk.specs.Runs.{LeavesOnly}
 use Rattle.im_base_disk.proofs.Runs.{weakened}

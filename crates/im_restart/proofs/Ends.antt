@@ -19,11 +19,6 @@ use Rattle.im_restart.proofs.FullLog.{full_log}
 
 -- ---- what else a call may be refused for
 
-pub take_mild : (e : Fault) → mild e ≡ true → mild_to_take e ≡ true
-take_mild Memory is = refl
-take_mild NotAStore is = refl
-take_mild e is = absurd (cc is)
-
 pub take_none : (e : Fault) → none_mild e ≡ true → mild_to_take e ≡ true
 take_none e is = absurd (cc is)
 

@@ -12,10 +12,11 @@ use Rattle.im_theory_log.specs.Transactions.{reads_on, to_undo, undo_reads}
 use Rattle.im_theory_log.specs.Lawful.{IsLawful}
 use Rattle.im_restart_analysis.specs.Undo.{ComesTo, IsUndoable, leads_on}
 use Rattle.im_restart_analysis.proofs.Undoing.{undo_goes_on}
+use Rattle.im_restart_analysis.proofs.Tables.{at_cases}
 use Rattle.im_restart.specs.declared.chains.Chain.{Chain}
 use Rattle.im_restart.specs.UndoOrder.{IsLatest}
 use Rattle.im_restart.specs.LoserChains.{AreChains, ChainMap, GoesOnAt, above, and_also, nobody}
-use Rattle.im_restart.proofs.Losers.{at_cases, out_from}
+use Rattle.im_restart.proofs.Losers.{out_from}
 use Rattle.im_restart.proofs.Steps.{comes_to}
 
 -- ---- what reading comes to is no later than where it begins

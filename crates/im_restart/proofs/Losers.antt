@@ -1,38 +1,25 @@
 -- The map of the losers' chains, step by step.
 use Rattle.std.proofs.Common.{◌≡◌, ◌≢◌, ◌≤◌, ◌<◌, ◌⊎◌, ℕ, List, [], ◌∷◌, Bool, true, false, Option, None, Some, inl, inr, refl, sym, ◌∙◌, ap, subst, arith}
 use Rattle.std.specs.Prelude.{◌||◌, cond, is_some}
-use Rattle.std.specs.declared.cmp.Ordering.{Ordering}
-use Rattle.std.specs.declared.cmp.Ordering.TheVariants.{Less, Equal, Greater}
-use Rattle.std.specs.Ordering.{nat_cmp, is_eq}
+use Rattle.std.specs.Ordering.{nat_cmp}
 use Rattle.std.specs.BTreeMap.{BTreeMap, get, is_at}
 use Rattle.std.specs.Map.{lookup}
 use Rattle.std.proofs.lemmas.Bool.{cases_Bool, cases_eq, cond-true, cond-false, eq-eqb, ne_eqb}
-use Rattle.std.proofs.lemmas.Cmp.{ranked}
-use Rattle.std.proofs.lemmas.Map.Lookups.{exact_unsigned}
 use Rattle.im_base_types.specs.Records.{Logged}
 use Rattle.im_theory_log.specs.Tree.{Tree}
 use Rattle.im_theory_log.specs.Histories.{Base, History, IsFront, IsRecordOf, Rises, end_of}
-use Rattle.im_theory_log.specs.Transactions.{last_of, undo_next_of}
 use Rattle.im_theory_log.specs.Lawful.{IsLawful}
 use Rattle.im_restart_analysis.specs.declared.rows.Loser.{Loser}
 use Rattle.im_restart_analysis.specs.Losers.{AreLosers, LoserMap, is_loser, row_of}
 use Rattle.im_restart_analysis.specs.Undo.{HasRecordAt}
 use Rattle.im_restart_analysis.proofs.LawfulLogs.{low}
 use Rattle.im_restart_analysis.proofs.Readings.{goes_on_at}
-use Rattle.im_restart_analysis.proofs.Tables.{listed}
+use Rattle.im_restart_analysis.proofs.Tables.{listed, at_cases}
 use Rattle.im_restart.specs.declared.chains.Chain.{Chain}
-use Rattle.im_restart.specs.LoserChains.{AreChains, AreWaiting, ChainMap, GoesOnAt, HasChain, SparesOthers, and_also, chain_of, nobody}
+use Rattle.im_restart.specs.LoserChains.{AreChains, HasOnlyLosers, ChainMap, GoesOnAt, HasChain, SparesOthers, and_also, chain_of, nobody}
 use Rattle.im_restart.proofs.Others.{goes_longer}
 
 -- ---- maps
-
-pub at_cases : (t q : ℕ) → ((t ≡ q) × (is_at (nat_cmp t) q ≡ true)) ⊎ ((t ≢ q) × (is_at (nat_cmp t) q ≡ false))
-at_cases t q = by (nat_cmp t q) refl
-  where
-    by : (o : Ordering) → nat_cmp t q ≡ o → ((t ≡ q) × (is_at (nat_cmp t) q ≡ true)) ⊎ ((t ≢ q) × (is_at (nat_cmp t) q ≡ false))
-    by Equal is = inl (exact_unsigned t q is, ap is_eq is)
-    by Less is = inr ((λ e. (let lt : t < q = ranked t q Less (sym is) in omega (arith, lt, e))), ap is_eq is)
-    by Greater is = inr ((λ e. (let lt : q < t = ranked t q Greater (sym is) in omega (arith, lt, e))), ap is_eq is)
 
 -- the one map is the other with this at a key
 abbrev pub HasAt : {X : Type 0} → BTreeMap ℕ X → ℕ → Option X → BTreeMap ℕ X → Type 0
@@ -220,7 +207,7 @@ waiting losers u = is_some (get nat_cmp losers u)
 pub no_entry : {X : Type 0} (m : BTreeMap ℕ X) (q : ℕ) → m.entries ≡ [] → get nat_cmp m q ≡ None
 no_entry m q none = rw none refl
 
-pub waiting_first : (losers : LoserMap) (chains : ChainMap) (log : History) → AreLosers losers log → chains.entries ≡ [] → AreChains (waiting losers) chains log × AreWaiting losers log
+pub waiting_first : (losers : LoserMap) (chains : ChainMap) (log : History) → AreLosers losers log → chains.entries ≡ [] → AreChains (waiting losers) chains log × HasOnlyLosers losers log
 waiting_first losers chains log are none = (
   record {
     each = λ l c is. absurd (some_not (get nat_cmp chains l) c (no_entry chains l none) is);
@@ -234,8 +221,8 @@ waiting_first losers chains log are none = (
 )
 
 -- one of them is taken out
-pub waiting_taken : (b : Base) (tree : Tree) (losers new : LoserMap) (chains : ChainMap) (log : History) (t : ℕ) (row : Loser) → IsLawful b tree log → AreChains (waiting losers) chains log → AreWaiting losers log → get nat_cmp losers t ≡ Some row
-    → HasAt losers t None new → AreChains (and_also t (waiting new)) chains log × (waiting new t ≡ false) × GoesOnAt (chain_of t row.last row.undo_next) row.undo_next log × AreWaiting new log
+pub waiting_taken : (b : Base) (tree : Tree) (losers new : LoserMap) (chains : ChainMap) (log : History) (t : ℕ) (row : Loser) → IsLawful b tree log → AreChains (waiting losers) chains log → HasOnlyLosers losers log → get nat_cmp losers t ≡ Some row
+    → HasAt losers t None new → AreChains (and_also t (waiting new)) chains log × (waiting new t ≡ false) × GoesOnAt (chain_of t row.last row.undo_next) row.undo_next log × HasOnlyLosers new log
 waiting_taken b tree losers new chains log t row law are wait is gone =
     let mine = wait t row is in (
       subst (λ (out : ℕ → Bool). AreChains out chains log) (λ i u. same u i) are,
@@ -263,7 +250,7 @@ waiting_taken b tree losers new chains log t row law are wait is gone =
     ]
 
 -- the others wait as they did
-pub waiting_longer : (t : ℕ) (losers : LoserMap) (old new : History) → waiting losers t ≡ false → SparesOthers t old new → AreWaiting losers old → AreWaiting losers new
+pub waiting_longer : (t : ℕ) (losers : LoserMap) (old new : History) → waiting losers t ≡ false → SparesOthers t old new → HasOnlyLosers losers old → HasOnlyLosers losers new
 waiting_longer t losers old new left spares wait u row is =
     let mine = wait u row is in
     let other : u ≢ t = λ e. (let clash : true ≡ false = sym (ap (λ (o : Option Loser). is_some o) is) ∙ ap (λ (n : ℕ). waiting losers n) e ∙ left in cc clash) in

@@ -7,7 +7,7 @@ use Rattle.std.proofs.lemmas.Bool.{cases_Bool}
 use Rattle.im_base_types.specs.declared.fault.Fault.{Fault}
 use Rattle.im_base_types.specs.declared.fault.Fault.TheVariants.{Memory, NotAStore}
 use Rattle.im_base_types.specs.Pages.{Body, Page}
-use Rattle.im_base_types.specs.Records.{What, Unreadable, Logged}
+use Rattle.im_base_types.specs.Records.{What, Logged}
 use Rattle.im_base_types.specs.Records as whats
 use Rattle.im_theory_log.specs.Tree.{Tree}
 use Rattle.im_theory_log.specs.Histories.{Base, History, IsRecordOf, page_at}
@@ -16,10 +16,7 @@ use Rattle.im_theory_log.specs.Structure.{open_smo}
 use Rattle.im_theory_log.specs.Transactions.{is_compensation, is_finished, last_of, to_undo}
 use Rattle.im_theory_log.specs.Lawful.{IsLawful, has_owner}
 use Rattle.im_theory_log.specs.Writer.{Writer}
-use Rattle.im_theory_log.proofs.Compensated.{in_log}
-use Rattle.im_theory_log.proofs.Images.{images_open, lawful_images}
-use Rattle.im_theory_log.proofs.LogLaws.{finished_none, on_top}
-use Rattle.im_theory_log.proofs.OpenSmo.{IsOpenSmo, is_open_smo}
+use Rattle.im_theory_log.proofs.Cited.{in_log, images_open, lawful_images, finished_none, on_top, IsOpenSmo, is_open_smo}
 use Rattle.im_base_disk.specs.declared.disk.Disk.{Ghosts}
 use Rattle.im_base_disk.specs.Disk.{Files}
 use Rattle.im_base_disk.specs.Runs.{LeavesOnly, Reads}

@@ -17,6 +17,7 @@ use Rattle.im_restart_analysis.proofs.Losers.{loser_number}
 use Rattle.im_restart_undo.specs.Records as undone
 use Rattle.im_restart_undo.specs.Records.{IsOfUndo, compensations, with_compensation}
 use Rattle.im_restart_undo.proofs.Keeping.{undo_others}
+use Rattle.im_restart_undo.proofs.StructureLogs.{twice}
 use Rattle.im_restart.specs.UndoOrder.{AreInOrder, GoesFirst, IsInOrder, IsLatest, IsNearlyInOrder, TakesBackLatest}
 use Rattle.im_restart.proofs.Others.{spares_key}
 
@@ -80,16 +81,6 @@ none_in_order [] older none = tt
 none_in_order (r ∷ more) older none =
     let parts = counts_none r r.what (compensations more) none in
     ((λ holds. not_true (is_compensation r.what) parts.0 holds), none_in_order more older parts.1)
-
--- a record that is none leaves the stack of its transaction as it is, but for the Smo records on top
-twice_step : (s : Logged) (rest : History) (u : Bool) → is_smo s.what ≡ u → without_smo (without_smo rest) ≡ without_smo rest → without_smo (without_smo (s ∷ rest)) ≡ without_smo (s ∷ rest)
-twice_step s rest true is so =
-    ap without_smo (cond-true (is_smo s.what) (without_smo rest) (s ∷ rest) is) ∙ so ∙ sym (cond-true (is_smo s.what) (without_smo rest) (s ∷ rest) is)
-twice_step s rest false is so = ap without_smo (cond-false (is_smo s.what) (without_smo rest) (s ∷ rest) is)
-
-twice : (stack : History) → without_smo (without_smo stack) ≡ without_smo stack
-twice [] = refl
-twice (s ∷ rest) = twice_step s rest (is_smo s.what) refl (twice rest)
 
 stack_without : (t : ℕ) (r : Logged) (w : What) (rest : History) → r.what ≡ w → IsOfUndo t r w → is_compensation w ≡ false → without_smo (stack_after r w rest) ≡ without_smo rest
 stack_without t r (Smo was now) rest same is none = cond-true (is_smo r.what) (without_smo rest) (r ∷ rest) (ap is_smo same)

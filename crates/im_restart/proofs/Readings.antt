@@ -1,12 +1,11 @@
 -- What stands where the undo of a loser goes on.
-use Rattle.std.proofs.Common.{◌≡◌, ◌≢◌, ◌≤◌, ◌<◌, ◌⊎◌, ℕ, true, false, inl, inr, refl, sym, ◌∙◌, ap, subst, arith}
+use Rattle.std.proofs.Common.{◌≡◌, ◌≢◌, ◌≤◌, ◌<◌, ℕ, true, false, inl, inr, refl, sym, ◌∙◌, ap, subst, arith}
 use Rattle.im_base_types.specs.Records.{What}
 use Rattle.im_theory_log.specs.Tree.{Tree, TreeLaws}
 use Rattle.im_theory_log.specs.Histories.{Base, History, IsRecordOf}
 use Rattle.im_theory_log.specs.Transactions.{is_finished, is_key, undo_next_of, undo_reads}
 use Rattle.im_theory_log.specs.Lawful.{IsLawful, MayCome}
-use Rattle.im_log_record.specs.Entry.{Entry, prev_of, transaction_of}
-use Rattle.im_log_record.specs.Entry.{undo_next_of as named_next}
+use Rattle.im_log_record.specs.Entry.{Entry, prev_of, transaction_of, undo_next_of as named_next}
 use Rattle.im_log.specs.Spelled.{logged_at}
 use Rattle.im_log.specs.Whats.{what_of}
 use Rattle.im_restart_analysis.specs.declared.rows.Loser.{Loser}

@@ -9,9 +9,7 @@ use Rattle.im_theory_log.specs.Histories.{Base, History, IsFront, Rises, end_of}
 use Rattle.im_theory_log.specs.Transactions.{reads_on, to_undo, undo_reads}
 use Rattle.im_theory_log.specs.Lawful.{IsLawful}
 use Rattle.im_theory_log.specs.Writer.{Writer}
-use Rattle.im_theory_log.proofs.Fronts.{fronts_lawful, rises}
-use Rattle.im_theory_log.proofs.Histories.{page_same}
-use Rattle.im_theory_log.proofs.Images.{lawful_images}
+use Rattle.im_theory_log.proofs.Cited.{fronts_lawful, rises, page_same, lawful_images}
 use Rattle.im_base_disk.specs.declared.disk.Disk.{Ghosts}
 use Rattle.im_base_disk.specs.Disk.{Files}
 use Rattle.im_base_disk.specs.Runs.{LeavesOnly}

@@ -13,8 +13,7 @@ use Rattle.im_theory_log.specs.Histories.{Base, History, IsRecordOf, Rises, belo
 use Rattle.im_theory_log.specs.Copies.{noted}
 use Rattle.im_theory_log.specs.PageCounts.{count_in, named_to}
 use Rattle.im_theory_log.specs.RedoPoints.{CoversFrom}
-use Rattle.im_theory_log.proofs.Histories.{page_lsn_le, rises_below, start_low}
-use Rattle.im_theory_log.proofs.PageCounts.{noted_named}
+use Rattle.im_theory_log.proofs.Cited.{page_lsn_le, rises_below, start_low, noted_named}
 use Rattle.im_theory_page.specs.Header.{initial}
 use Rattle.im_restart_analysis.specs.Changes.{AreChangedAt, AreLastBelow, LastMap}
 use Rattle.im_restart_analysis.specs.declared.changes.LastChanges.{LastChanges}

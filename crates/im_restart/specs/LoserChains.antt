@@ -54,8 +54,8 @@ abbrev pub and_also : ℕ → (ℕ → Bool) → ℕ → Bool
 and_also t out u = (t == u) || out u
 
 -- Each of these is a loser with its row.
-abbrev pub AreWaiting : LoserMap → History → Type 0
-AreWaiting losers log = (t : ℕ) (row : Loser) → get nat_cmp losers t ≡ Some row → (is_loser t log ≡ true) × (row ≡ row_of t log)
+abbrev pub HasOnlyLosers : LoserMap → History → Type 0
+HasOnlyLosers losers log = (t : ℕ) (row : Loser) → get nat_cmp losers t ≡ Some row → (is_loser t log ≡ true) × (row ≡ row_of t log)
 
 -- the other losers are as they were
 pub record SparesOthers (t : ℕ) (old new : History) : Type 0 where

@@ -1,6 +1,6 @@
 //! Whether the file of pages can be the one that the log was written beside.
 
-ghost use Rattle.std.specs.Prelude.{◌≡◌, ◌≢◌, ◌≤◌, ◌<◌, ◌-◌, ◌/◌, ◌⊎◌, ◌↔◌, ℕ, length, false, true, IfErr, OnOk, None, Some, Err};
+ghost use Rattle.std.specs.Prelude.{◌≡◌, ◌≢◌, ◌≤◌, ◌<◌, ◌-◌, ◌/◌, ◌⊎◌, ◌↔◌, length, false, true, IfErr, OnOk, None, Some, Err};
 ghost use Rattle.std.specs.Ordering.{nat_cmp};
 ghost use Rattle.std.specs.BTreeMap.{get};
 ghost use Rattle.im_base_types.specs.declared.fault.Fault.TheVariants.{Device, NotAStore};

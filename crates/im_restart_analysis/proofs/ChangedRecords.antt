@@ -1,10 +1,9 @@
 -- The changes that records made, as records come; and the last of each page.
-use Rattle.std.proofs.Common.{◌≡◌, ◌≢◌, ◌≤◌, ◌<◌, ◌++◌, ◌&&◌, ℕ, [], ◌∷◌, List, All, Bool, Option, Some, inl, inr, refl, sym, ◌∙◌, ap, subst, arith, true, false, ◌==◌, if◌then◌else◌, nat_le}
+use Rattle.std.proofs.Common.{◌≡◌, ◌≢◌, ◌≤◌, ◌<◌, ◌++◌, ◌&&◌, ℕ, [], ◌∷◌, List, All, Bool, Option, Some, inl, inr, refl, sym, ◌∙◌, ap, subst, arith, true, false, ◌==◌, if◌then◌else◌, nat_le, append-nil}
 use Rattle.std.specs.List.{filter}
 use Rattle.std.specs.Ordering.{nat_cmp}
 use Rattle.std.specs.BTreeMap.{Updates}
 use Rattle.std.proofs.lemmas.Bool.{cases_eq, cases_lt, cond-false, le-leb, lt-leb, ne_eqb}
-use Rattle.std.proofs.lemmas.List.{append-nil}
 use Rattle.std.proofs.lemmas.List.Elements.{All-push, All-weaker, filter-append}
 use Rattle.im_base_types.specs.Records.{Logged}
 use Rattle.im_theory_log.specs.Histories.{History, changes_page}

@@ -10,10 +10,7 @@ use Rattle.im_theory_log.specs.Lawful.{IsLawful, MayCome}
 use Rattle.im_theory_log.specs.PageCounts.{count_in, count_of, greatest_count, named_to}
 use Rattle.im_theory_log.specs.RedoPoints.{Covers, redo_point}
 use Rattle.im_theory_log.specs.Tree.{Tree, TreeLaws}
-use Rattle.im_theory_log.proofs.Compensated.{in_log}
-use Rattle.im_theory_log.proofs.Copies.{Joins, copies, joins, leaves}
-use Rattle.im_theory_log.proofs.Histories.{page_here, page_other}
-use Rattle.im_theory_log.proofs.PageCounts.{named_le_count}
+use Rattle.im_theory_log.proofs.Cited.{in_log, Joins, copies, joins, leaves, page_here, page_other, named_le_count}
 use Rattle.im_restart_analysis.specs.Changes.{AreLastBelow}
 use Rattle.im_restart_analysis.specs.declared.changes.LastChanges.{LastChanges}
 use Rattle.im_restart_analysis.specs.Within.{IsWithin, SaysPages, greatest_in, greatest_said}

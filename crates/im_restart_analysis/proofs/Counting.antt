@@ -1,7 +1,6 @@
 -- Page counts that records say, and the pages that they name.
-use Rattle.std.proofs.Common.{◌≡◌, ◌≢◌, ◌-◌, ◌^◌, inl, inr, ℕ, ◌∷◌, ◌++◌, max, Bool, true, false, List, Option, None, Some, refl, sym, ◌∙◌, ap, arith, replicate, if◌then◌else◌, ◌==◌}
+use Rattle.std.proofs.Common.{◌≡◌, ◌≢◌, ◌-◌, ◌^◌, inl, inr, ℕ, ◌∷◌, ◌++◌, max, Bool, true, false, List, Option, None, Some, refl, sym, ◌∙◌, ap, arith, replicate, if◌then◌else◌, ◌==◌, get_or-append-add}
 use Rattle.std.proofs.lemmas.Bool.{cases_eq, cond-true, cond-false, eq-eqb, ne_eqb}
-use Rattle.std.proofs.lemmas.List.{get_or-append-add}
 use Rattle.im_base_types.specs.Pages.{Page}
 use Rattle.im_base_types.specs.Records.{Logged, Unreadable}
 use Rattle.im_theory_log.specs.Histories.{Base, History}

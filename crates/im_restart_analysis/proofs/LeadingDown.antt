@@ -8,8 +8,7 @@ use Rattle.im_theory_log.specs.Histories.{Base, History, Rises, end_of}
 use Rattle.im_theory_log.specs.PageCounts.{count_of, greatest_count}
 use Rattle.im_theory_log.specs.Transactions.{last_of}
 use Rattle.im_theory_log.specs.Lawful.{IsLawful, MayCome, has_owner}
-use Rattle.im_theory_log.proofs.Fronts.{rises}
-use Rattle.im_theory_log.proofs.PageCounts.{count_begun, count_grows, record_within}
+use Rattle.im_theory_log.proofs.Cited.{rises, count_begun, count_grows, record_within}
 use Rattle.im_restart_analysis.specs.Orderly.{IsCountedBy, IsEarlier, LeadsDown}
 use Rattle.im_restart_analysis.specs.Undo.{LawfulLogsAreTaken}
 use Rattle.im_restart_analysis.proofs.LawfulLogs.{taken_when_lawful}

@@ -9,12 +9,7 @@ use Rattle.im_theory_log.specs.Structure.{open_smo}
 use Rattle.im_theory_log.specs.Transactions.{last_of, undo_next_of, to_undo, stack_after, rest_of, without_smo, top_of, undo_reads, reads_on, is_key, is_smo}
 use Rattle.im_theory_log.specs.Lawful.{IsLawful, IsOutside}
 use Rattle.im_theory_log.specs.LogLaws.{NoSmo}
-use Rattle.im_theory_log.proofs.Fronts.{rises}
-use Rattle.im_theory_log.proofs.Histories.{end_below, rises_below}
-use Rattle.im_theory_log.proofs.Stacks.{IsStack, is_stack, last_le}
-use Rattle.im_theory_log.proofs.OpenSmo.{part, split, owned, IsOwned}
-use Rattle.im_theory_log.proofs.Compensated.{in_log}
-use Rattle.im_theory_log.proofs.UndoReads.{undo_reads_top}
+use Rattle.im_theory_log.proofs.Cited.{rises, end_below, rises_below, IsStack, is_stack, last_le, part, split, owned, IsOwned, not_part, in_log, undo_reads_top}
 use Rattle.im_restart_analysis.specs.Undo.{IsUndoable, IsNext, ComesTo}
 
 -- ---- stacks have key records and records of structure changes
@@ -60,11 +55,6 @@ no_smo b tree log t law closed =
     let cut = split b tree log t law in
     let is : to_undo t log ≡ cut.bottom = cut.is ∙ ap (λ (going : History). part t going ++ cut.bottom) closed in
     subst (λ (l : History). NoSmo l) (sym is) cut.plain
-
--- nor the stack of who has none open, beside that of another
-not_part : (t : ℕ) (going : History) → IsOutside t going → part t going ≡ []
-not_part t [] out = refl
-not_part t (s ∷ going) out = cond-false (s.txn == t) (s ∷ going) [] (ne_eqb s.txn t out)
 
 no_smo_beside : (b : Base) (tree : Tree) (log : History) (t : ℕ) → IsLawful b tree log → IsOutside t (open_smo log) → NoSmo (to_undo t log)
 no_smo_beside b tree log t law out =

@@ -7,9 +7,7 @@ use Rattle.im_theory_log.specs.Tree.{Tree}
 use Rattle.im_theory_log.specs.Histories.{History, Base, IsRecordOf, end_of, below}
 use Rattle.im_theory_log.specs.Transactions.{last_of, undo_next_of, undo_from, undo_reads, reads_on}
 use Rattle.im_theory_log.specs.Lawful.{IsLawful, Follows, MayCome, MayDummyClr, Undoes, has_owner}
-use Rattle.im_theory_log.proofs.Chains.{closed_place, leads_all, undone_place}
-use Rattle.im_theory_log.proofs.Fronts.{rises}
-use Rattle.im_theory_log.proofs.Histories.{end_below}
+use Rattle.im_theory_log.proofs.Cited.{closed_place, leads_all, undone_place, rises, end_below, reads_past}
 use Rattle.im_restart_analysis.specs.Undo.{leads_on, HasRecordAt}
 use Rattle.im_restart_analysis.proofs.LawfulLogs.{low}
 
@@ -155,9 +153,6 @@ leads_to b tree (r ∷ older) s law (inl same) on some =
 leads_to b tree (r ∷ older) s law (inr there) on some = in_older s.txn s.undo_next r older (leads_to b tree older s law.0 there on some)
 
 -- ---- reading at a record
-
-reads_past : (r : Logged) (older : History) (l : ℕ) → l < r.lsn → undo_reads l (r ∷ older) ≡ undo_reads l older
-reads_past r older l less = cond-false (r.lsn == l) (reads_on r r.what (undo_reads r.undo_next older)) (undo_reads l older) (ne_eqb r.lsn l (λ e. absurd (omega (arith, e, less))))
 
 reads_here : (r : Logged) (older : History) → undo_reads r.lsn (r ∷ older) ≡ reads_on r r.what (undo_reads r.undo_next older)
 reads_here r older = cond-true (r.lsn == r.lsn) (reads_on r r.what (undo_reads r.undo_next older)) (undo_reads r.lsn older) (eq-eqb r.lsn r.lsn refl)

@@ -34,7 +34,7 @@ not_listed losers log t all is = elim (cases_Bool (is_loser t log)) [
 
 -- ---- a row changed, and taken out
 
-at_cases : (t q : ℕ) → ((t ≡ q) × (is_at (nat_cmp t) q ≡ true)) ⊎ ((t ≢ q) × (is_at (nat_cmp t) q ≡ false))
+pub at_cases : (t q : ℕ) → ((t ≡ q) × (is_at (nat_cmp t) q ≡ true)) ⊎ ((t ≢ q) × (is_at (nat_cmp t) q ≡ false))
 at_cases t q = by (nat_cmp t q) refl
   where
     by : (o : Ordering) → nat_cmp t q ≡ o → ((t ≡ q) × (is_at (nat_cmp t) q ≡ true)) ⊎ ((t ≢ q) × (is_at (nat_cmp t) q ≡ false))

@@ -9,8 +9,7 @@ use Rattle.im_theory_log.specs.Structure.{open_smo, open_after, settled, taken_b
 use Rattle.im_theory_log.specs.Transactions.{last_of, to_undo, stack_after, rest_of, undo_from, net, is_end, is_finished, committed, committed_after}
 use Rattle.im_theory_log.specs.Lawful.{IsLawful, Follows, IsOutside, IsNotIn, MayCome, has_owner}
 use Rattle.im_theory_log.specs.LogLaws.{bodies}
-use Rattle.im_theory_log.proofs.LogLaws.{logs_stay_lawful, on_top, finished_none, finished_tree}
-use Rattle.im_theory_log.proofs.Compensated.{in_log}
+use Rattle.im_theory_log.proofs.Cited.{logs_stay_lawful, on_top, finished_none, finished_tree, in_log}
 use Rattle.im_restart_analysis.specs.Losers.{is_loser}
 use Rattle.im_restart_analysis.specs.Undo.{left_of, IsUndoable, IsNext, IsLinked, TakesBack, UndoesPage, LeavesOthers, TakesOff, HasEnded, UndoGoesOn}
 use Rattle.im_restart_analysis.proofs.Losers.{loser_number, loser_unfinished, own_stack, own_row, still_loser, loser_ends, leaves_others, numbered, has_its_record, loser_from, all_done}

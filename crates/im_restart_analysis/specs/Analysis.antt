@@ -9,7 +9,7 @@ use Rattle.im_theory_log.specs.RedoPoints.{redo_point}
 use Rattle.im_restart_analysis.specs.declared.analysis.Analysis.{Analysis}
 use Rattle.im_restart_analysis.specs.declared.analysis.Analysed.{Analysed}
 use Rattle.im_restart_analysis.specs.Losers.{AreLosers}
-use Rattle.im_restart_analysis.specs.Numbers.{IsNextNumber, point_of}
+use Rattle.im_restart_analysis.specs.Numbers.{IsNextNumber, redo_point_of}
 use Rattle.im_restart_analysis.specs.CopyLsns.{AreCopies, IsAbove, LsnsRise}
 use Rattle.im_restart_analysis.specs.OpenChange.{IsOpenChange, OpensAnother}
 use Rattle.im_restart_analysis.specs.Orderly.{Knows}
@@ -24,7 +24,7 @@ pub record Continues (r : Logged) (older : History) : Type 0 where
 pub record IsAnalysed (lowest n : ℕ) (log : History) (a : Analysis) : Type 0 where
   pub rises : LsnsRise log
   pub next : IsNextNumber lowest a.next log
-  pub point : a.point ≡ point_of log
+  pub point : a.point ≡ redo_point_of log
   pub losers : AreLosers a.losers log
   pub copies : AreCopies 0 a.copies log
   pub known : Knows n log a

@@ -20,6 +20,6 @@ pub record IsNextNumber (lowest next : ℕ) (log : History) : Type 0 where
   pub is : next ≡ min number (2 ^ 64 - 1)
 
 -- the redo point of a log that has records
-abbrev pub point_of : History → Option ℕ
-point_of [] = None
-point_of (r ∷ older) = Some (redo_point (r ∷ older))
+abbrev pub redo_point_of : History → Option ℕ
+redo_point_of [] = None
+redo_point_of (r ∷ older) = Some (redo_point (r ∷ older))

@@ -39,7 +39,7 @@ pub struct Analysed {
 }
 
 impl Analysis {
-    ghost use Rattle.std.specs.Prelude.{◌≡◌, ◌≢◌, ◌⊎◌, ℕ, [], ◌∷◌, OnErr, IfErr};
+    ghost use Rattle.std.specs.Prelude.{◌≡◌, ◌≢◌, ◌⊎◌, ℕ, [], OnErr, IfErr};
     ghost use Rattle.im_base_types.specs.declared.fault.Fault.TheVariants.{Memory, NotAStore};
     ghost use Rattle.im_base_types.specs.Records.{Unreadable};
     ghost use Rattle.im_theory_log.specs.Histories.{History};

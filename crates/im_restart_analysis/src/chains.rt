@@ -1,6 +1,6 @@
 //! Whether a transaction's records lead down.
 
-ghost use Rattle.std.specs.Prelude.{◌≡◌, ◌<◌, ◌⊎◌, ◌↔◌, IsTrue};
+ghost use Rattle.std.specs.Prelude.{◌<◌, ◌↔◌, IsTrue};
 ghost use Rattle.im_log_record.specs.Entry.{view};
 ghost use Rattle.im_log.specs.Spelled.{logged_at};
 ghost use Rattle.im_restart_analysis.specs.Orderly.{IsEarlier, LeadsDown};

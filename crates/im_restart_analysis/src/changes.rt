@@ -1,10 +1,10 @@
 //! The changes of pages that the records so far made.
 
-ghost use Rattle.std.specs.Prelude.{◌≡◌, ◌≢◌, ◌≤◌, ◌+◌, ◌∷◌, ◌&&◌, ◌↔◌, ℕ, [], All, max, nat_le, true, false, if◌then◌else◌, IfErr, IfOk, OnOk, None, Some};
+ghost use Rattle.std.specs.Prelude.{◌≡◌, ◌≢◌, ◌≤◌, ◌+◌, ◌∷◌, ◌&&◌, ◌↔◌, ℕ, [], All, max, nat_le, true, false, IfErr, IfOk, OnOk, None, Some};
 ghost use Rattle.im_base_types.specs.declared.fault.Fault.TheVariants.{Memory};
 ghost use Rattle.im_base_types.specs.Records.{Unreadable};
 ghost use Rattle.im_theory_log.specs.Histories.{History, changes_page};
-ghost use Rattle.im_theory_log.specs.PageCounts.{named_to, names_page};
+ghost use Rattle.im_theory_log.specs.PageCounts.{named_to};
 ghost use Rattle.im_log_record.specs.Entry.{view};
 ghost use Rattle.im_log.specs.Spelled.{logged_at};
 ghost use Rattle.im_log.specs.Whats.{what_of};

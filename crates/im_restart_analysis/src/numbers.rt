@@ -7,7 +7,7 @@ ghost use Rattle.im_log_record.specs.Entry.{view, dirty_rows};
 ghost use Rattle.im_log.specs.Whats.{what_of};
 ghost use Rattle.im_log.specs.Spelled.{logged_at};
 ghost use Rattle.im_restart_analysis.specs.Records.{next_in};
-ghost use Rattle.im_restart_analysis.specs.Numbers.{IsNextNumber, point_of};
+ghost use Rattle.im_restart_analysis.specs.Numbers.{IsNextNumber, redo_point_of};
 
 use im_base_types::{Lsn, TxnId};
 use im_log_record::{DirtyList, Record};
@@ -57,7 +57,7 @@ fn least(lsn: Lsn, dirty: &DirtyList) -> Lsn
 
 /// The redo point once this record is taken.
 pub fn point_after(point: Option<Lsn>, lsn: Lsn, record: &Record) -> Lsn
-    ensures { (older : History) → point ≡ point_of older → Some result ≡ point_of (logged_at lsn (view record.now) ∷ older) }
+    ensures { (older : History) → point ≡ redo_point_of older → Some result ≡ redo_point_of (logged_at lsn (view record.now) ∷ older) }
 {
     if let Record::Checkpoint { dirty, .. } = record {
         return least(lsn, dirty);

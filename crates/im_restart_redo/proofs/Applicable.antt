@@ -9,7 +9,7 @@ use Rattle.im_theory_log.specs.Structure.{body_before, open_smo, settled, taken_
 use Rattle.im_theory_log.specs.Lawful.{IsLawful, IsNotIn, MayCome}
 use Rattle.im_theory_log.specs.Tree.{Tree, TreeLaws}
 use Rattle.im_theory_log.proofs.Fronts.{has_tree}
-use Rattle.im_page_writer.specs.Redoing.{TakesRecord}
+use Rattle.im_page_rounds.specs.OnePage.{PageTakes}
 use Rattle.im_restart_redo.specs.Redo.{AreApplicable, IsOnLeaves}
 
 -- a page that the open structure change has not changed is as the log made it
@@ -21,7 +21,7 @@ module _ (b : Base) (tree : Tree) (leaves : IsOnLeaves tree) (r : Logged) (older
   here : IsNotIn r.page (open_smo older) → (page_at b older r.page).body ≡ settled b older r.page
   here out = not_taken_back r.page (open_smo older) (page_at b older r.page).body out
 
-  takes : (w : What) → MayCome b tree r older w → TakesRecord w (page_at b older r.page)
+  takes : (w : What) → MayCome b tree r older w → PageTakes w (page_at b older r.page)
   takes (InsertKey k i) may = leaves.put (settled b older) (page_at b older r.page) r.page k i (has_tree b tree older law).good may.can_put (here may.not_in)
   takes (DeleteKey k i) may = leaves.take (settled b older) (page_at b older r.page) r.page k i (has_tree b tree older law).good may.can_drop (here may.not_in)
   takes (UndoInsert k i) may = leaves.take (settled b older) (page_at b older r.page) r.page k i (has_tree b tree older law).good may.can_drop (here may.not_in)

@@ -1,10 +1,9 @@
 -- Records, as redo applies them one by one.
-use Rattle.std.proofs.Common.{◌≡◌, inl, inr, ℕ, ◌+◌, ◌<◌, ◌≤◌, [], ◌∷◌, ◌++◌, List, Bool, true, false, Option, refl, sym, ◌∙◌, ap, subst, arith, append_assoc}
+use Rattle.std.proofs.Common.{◌≡◌, inl, inr, ℕ, ◌+◌, ◌<◌, ◌≤◌, [], ◌∷◌, ◌++◌, List, Bool, true, false, Option, refl, sym, ◌∙◌, ap, subst, arith, append_assoc, append-nil}
 use Rattle.std.specs.BTreeMap.{get}
 use Rattle.std.specs.Ordering.{nat_cmp}
 use Rattle.std.specs.Prelude.{◌&&◌, nat_le, if◌then◌else◌, is_some, option_map, None, Some}
 use Rattle.std.proofs.lemmas.Bool.{cases_lt, lt-leb}
-use Rattle.std.proofs.lemmas.List.{append-nil}
 use Rattle.im_base_types.specs.Records.{Logged}
 use Rattle.im_base_types.specs.Pages.{Page}
 use Rattle.im_theory_log.specs.Histories.{Base, History, IsFront, IsRecordOf, Rises, end_of, page_at}
@@ -12,15 +11,14 @@ use Rattle.im_theory_log.specs.Copies.{HasCopy, Reaches, noted, redo_one}
 use Rattle.im_theory_log.specs.RedoPoints.{redo_point}
 use Rattle.im_theory_log.specs.Writer.{Writer, WriterKept}
 use Rattle.im_theory_log.specs.WriterSteps.{applies, ended}
-use Rattle.im_theory_log.proofs.Histories.{front_of_front, rises_in}
-use Rattle.im_theory_log.proofs.Copies.{copy_grows}
-use Rattle.im_theory_log.proofs.Redo.{reached_end}
+use Rattle.im_theory_log.proofs.Cited.{front_of_front, rises_in, copy_grows, reached_end}
 use Rattle.im_log_record.specs.Entry.{Entry}
 use Rattle.im_log.specs.Spelled.{logged_at}
 use Rattle.im_base_disk.specs.declared.disk.Disk.{Ghosts}
 use Rattle.im_page_writer.specs.declared.page_writer.PageWriter.{PageWriter}
 use Rattle.im_page_table.specs.KnownCopies.{redone_as}
-use Rattle.im_page_writer.specs.Redoing.{RedoneFrom, TakesRecord}
+use Rattle.im_page_writer.specs.Redoing.{RedoneFrom}
+use Rattle.im_page_rounds.specs.OnePage.{PageTakes}
 use Rattle.im_page_writer.proofs.Restarting.{writer_ends}
 use Rattle.im_restart_analysis.specs.CopyLsns.{AreCopies, CopyMap}
 use Rattle.im_restart_redo.specs.Redo.{AreApplicable, Redone, applied_in, first_lsn, lsns_from}
@@ -34,7 +32,7 @@ use Rattle.im_restart_redo.proofs.Reached.{needs_record}
 use Rattle.im_restart_redo.proofs.Within.{record_still, within_more}
 
 -- each record of the log can be applied where it stands
-pub applicable_at : (b : Base) (newer : History) (r : Logged) (older : History) → AreApplicable b (newer ++ r ∷ older) → TakesRecord r.what (page_at b older r.page)
+pub applicable_at : (b : Base) (newer : History) (r : Logged) (older : History) → AreApplicable b (newer ++ r ∷ older) → PageTakes r.what (page_at b older r.page)
 applicable_at b [] r older can = can.1
 applicable_at b (s ∷ newer) r older can = applicable_at b newer r older can.0
 
@@ -115,8 +113,8 @@ module _ {D : Type 0} (d : Ghosts D) (b : Base) (base : ℕ) (begun : History) (
         ∙ append_assoc so.passed.within.durable.newer so.after (so.first ∷ so.older) ∙ ap (λ (h : History). so.passed.within.durable.newer ++ h) so.split ∙ so.passed.within.durable.is
 
     -- where its page needs it, the page takes it
-    pub next_taken : (r : Logged) → so.first ≡ r → AreApplicable b begun → applies r r.page (so.passed.now.pages r.page).page ≡ true → TakesRecord r.what (so.passed.now.pages r.page).page
-    next_taken r same can = subst (λ (x : Logged). applies x x.page (so.passed.now.pages x.page).page ≡ true → TakesRecord x.what (so.passed.now.pages x.page).page) same
+    pub next_taken : (r : Logged) → so.first ≡ r → AreApplicable b begun → applies r r.page (so.passed.now.pages r.page).page ≡ true → PageTakes r.what (so.passed.now.pages r.page).page
+    next_taken r same can = subst (λ (x : Logged). applies x x.page (so.passed.now.pages x.page).page ≡ true → PageTakes x.what (so.passed.now.pages x.page).page) same
         (λ needed.
         let k : WriterKept b so.passed.now = so.passed.within.stands.writing.stands.kept in
         let at : (so.passed.within.log.images ++ so.after) ++ so.first ∷ so.older ≡ so.passed.now.log = append_assoc so.passed.within.log.images so.after (so.first ∷ so.older) ∙ ap (λ (h : History). so.passed.within.log.images ++ h) so.split ∙ sym so.passed.within.log.is in
@@ -125,7 +123,7 @@ module _ {D : Type 0} (d : Ghosts D) (b : Base) (base : ℕ) (begun : History) (
         needs_record b (so.passed.within.log.images ++ so.after) so.first so.older (so.passed.now.pages so.first.page).upto (so.passed.now.pages so.first.page).page
         (subst (λ (l : History). Rises b l) (sym at) k.rises) (so.passed.had so.first.page).1
         (subst (λ (l : History). Reaches b l (so.passed.now.pages so.first.page).upto so.first.page (so.passed.now.pages so.first.page).page) (sym at) page) needed in
-        subst (λ g. TakesRecord so.first.what g) is (applicable_at b so.after so.first so.older (subst (λ (h : History). AreApplicable b h) (sym so.split) can)))
+        subst (λ g. PageTakes so.first.what g) is (applicable_at b so.after so.first so.older (subst (λ (h : History). AreApplicable b h) (sym so.split) can)))
 
     -- its LSN is above those of the records before it
     next_rises : end_of b so.older < so.first.lsn

@@ -17,10 +17,11 @@ use Rattle.im_page_rounds.specs.Hand.{AllTaken}
 use Rattle.im_page_rounds.specs.Rounds.{HaveHad, applied_of_all, changing, of_page, redone_all}
 use Rattle.im_page_rounds.proofs.Changes.{changes_alone}
 use Rattle.im_page_rounds.proofs.Pages.{own_records}
-use Rattle.im_page_rounds.proofs.Rounds.{page_then, round_leaves}
+use Rattle.im_page_rounds.proofs.Rounds.{page_then, round_leaves, onto_has}
 use Rattle.im_page_writer.specs.declared.page_writer.PageWriter.{PageWriter}
 use Rattle.im_page_writer.specs.PageWriter.{Evicted}
 use Rattle.im_page_writer.specs.Rounds.{AreOfThose, RoundFrom, RoundKept, redone_of}
+use Rattle.im_page_writer.proofs.RoundsDone.{either_page}
 use Rattle.im_restart_redo.specs.declared.rounds.Passed.{Passed}
 use Rattle.im_restart_redo.specs.Applying.{IsApplying, IsLsnBehind}
 use Rattle.im_restart_analysis.specs.declared.changes.Change.{Change}
@@ -33,7 +34,6 @@ use Rattle.im_restart_redo.proofs.Ordered.{AreUp, at_then, same_order}
 use Rattle.im_restart_redo.proofs.Parts.{AreOfPage, ArePart, TakesEach, all_of_each, each_of_all, of_page_are, of_page_records, of_page_then, pairs_are, part_of, taken_changing, up_changing, up_onto, up_page}
 use Rattle.im_restart_redo.proofs.RoundsApplied.{AreRecords, SegmentNext, begun_rises, records_changing, records_longer, records_onto}
 use Rattle.im_restart_redo.proofs.RoundsPassed.{counted_after, had_after, had_keeps, lsns_after, round_taken}
-use Rattle.im_restart_redo.proofs.Runs.{onto_has}
 use Rattle.im_restart_redo.proofs.SameCounts.{same_count}
 use Rattle.im_restart_redo.proofs.Within.{within_more}
 
@@ -85,10 +85,6 @@ had_then true true x y low high still redone old = old
 had_then true false x y low high still redone old = absurd (let clash : false ≡ true = still refl in cc clash)
 had_then false true x y low high still redone old = redone
 had_then false false x y low high still redone old = old
-
-either_page : (P : PageState → Type 0) (t : Bool) (x y : PageState) → P x → P y → P (if t then x else y)
-either_page P true x y one other = one
-either_page P false x y one other = other
 
 -- records that are of a page in the same order make the same of it
 same_redone : (xs ys : List Logged) (p : ℕ) (g : Page) → of_page p xs ≡ of_page p ys → redo_all xs p g ≡ redo_all ys p g

@@ -9,7 +9,7 @@ use Rattle.im_theory_log.specs.Copies.{noted, redo_one}
 use Rattle.im_theory_log.specs.RedoPoints.{redo_point}
 use Rattle.im_theory_log.specs.WriterSteps.{applies, is_found, opened}
 use Rattle.im_theory_log.proofs.Histories.{no_change}
-use Rattle.im_restart_redo.specs.Redo.{applied_in, first_lsn, first_page, is_applied}
+use Rattle.im_restart_redo.specs.Redo.{applied_in, first_lsn, first_page, is_redone}
 use Rattle.im_restart_redo.specs.Applying.{IsLsnBehind}
 use Rattle.im_restart_redo.specs.Loading.{HaveFirst}
 use Rattle.im_restart_redo.proofs.Reached.{changed_lsn}
@@ -110,5 +110,5 @@ none_counted lsns point r older none =
 pub one_counted : (lsns : ℕ → ℕ) (point : ℕ) (r : Logged) (older : History) (done : Bool) (count : ℕ) → point ≤ r.lsn → done ≡ (changes_page r.what && nat_lt (lsns r.page) r.lsn) → count ≡ applied_in lsns point older
     → count + (if done then 1 else 0) ≡ applied_in lsns point (r ∷ older)
 one_counted lsns point r older done count low is counted =
-    let test : done ≡ is_applied lsns point r = is ∙ ap (λ (x : Bool). x && (changes_page r.what && nat_lt (lsns r.page) r.lsn)) (sym (le-leb point r.lsn low)) in
+    let test : done ≡ is_redone lsns point r = is ∙ ap (λ (x : Bool). x && (changes_page r.what && nat_lt (lsns r.page) r.lsn)) (sym (le-leb point r.lsn low)) in
     ap (λ (n : ℕ). n + (if done then 1 else 0)) counted ∙ ap (λ (x : Bool). applied_in lsns point older + (if x then 1 else 0)) test

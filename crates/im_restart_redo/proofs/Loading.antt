@@ -33,7 +33,7 @@ use Rattle.im_page_writer.specs.declared.page_writer.PageWriter.{PageWriter}
 use Rattle.im_page_writer.specs.Redoing.{LoadKept}
 use Rattle.im_page_writer.proofs.Outcomes.{sound_done}
 use Rattle.im_page_table.proofs.OnePage.{only_here, only_other}
-use Rattle.im_restart_redo.specs.Loading.{AreWaiting, IsLoading, LoadingKept, WaitsFor, lsn_at}
+use Rattle.im_restart_redo.specs.Loading.{AreWaiting, IsLoading, LoadingKept, WaitsForCopy, lsn_at}
 use Rattle.im_restart_redo.specs.Redo.{first_lsn}
 use Rattle.im_restart_redo.specs.Within.{IsWithinRedo}
 use Rattle.im_restart_redo.proofs.Counting.{first_loaded}
@@ -111,7 +111,7 @@ waiting_opened b begun file all are = record {
     not_found None is = refl
     not_found (Some x) is = absurd (cc is)
 
-    found : (p l : ℕ) (o : Option (ℕ × Page)) → noted (redo_point begun) begun p ≡ o → option_map (λ (c : ℕ × Page). c.0) o ≡ Some l → WaitsFor begun p l ((opened b begun file).pages p)
+    found : (p l : ℕ) (o : Option (ℕ × Page)) → noted (redo_point begun) begun p ≡ o → option_map (λ (c : ℕ × Page). c.0) o ≡ Some l → WaitsForCopy begun p l ((opened b begun file).pages p)
     found p l None is some = absurd (cc some)
     found p l (Some x) is some =
         let first : x.0 ≡ l = cc some in
@@ -143,7 +143,7 @@ pub record AsksLoad (s : Writer) (lsn n : ℕ) (what : What) : Type 0 where
   pub low : (q : ℕ) → q < n → (s.pages q).waits ≡ false
 
 module _ {D : Type 0} (d : Ghosts D) (b : Base) (base : ℕ) (begun : History) (file : ℕ → Option Page) (from : D) (p lsn : ℕ) (left : List (ℕ × ℕ)) (w : PageWriter) (disk : D) (so : IsLoading d b base begun file ((p, lsn) ∷ left) from w disk) where
-  pub waiting_here : WaitsFor begun p lsn (so.now.pages p)
+  pub waiting_here : WaitsForCopy begun p lsn (so.now.pages p)
   waiting_here = so.waiting.these p lsn (lsn_first p lsn left so.rising)
 
   -- the record that holds it

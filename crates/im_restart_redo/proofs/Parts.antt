@@ -13,12 +13,12 @@ use Rattle.im_page_rounds.specs.OnePage.{PageTakes}
 use Rattle.im_page_rounds.specs.Rounds.{changing, of_page}
 use Rattle.im_page_rounds.proofs.Changes.{pages_stay}
 use Rattle.im_page_rounds.proofs.Pages.{other_page}
+use Rattle.im_page_rounds.proofs.Rounds.{onto_has}
 use Rattle.im_restart_analysis.specs.declared.changes.Change.{Change}
 use Rattle.im_restart_redo.specs.Changes.{AreOwn, lsns_of, record_lsns}
 use Rattle.im_restart_redo.specs.Segments.{AreOnPages, lsns_at, lsns_in, pairs_of}
 use Rattle.im_restart_redo.proofs.Ordered.{AreOver, AreUp, at_here, at_other}
 use Rattle.im_restart_redo.proofs.RoundsApplied.{AreRecords}
-use Rattle.im_restart_redo.proofs.Runs.{onto_has}
 
 -- ---- the changes of a page are those of its records
 

@@ -8,8 +8,7 @@ use Rattle.im_base_types.specs.Records.{Checkpoint, Commit, DeleteKey, DummyClr,
 use Rattle.im_theory_log.specs.Histories.{Base, History, Rises, changes_page, end_of, page_after, page_at}
 use Rattle.im_theory_log.specs.Copies.{Reaches, redo_one}
 use Rattle.im_theory_log.specs.WriterSteps.{applies}
-use Rattle.im_theory_log.proofs.Histories.{below_between, below_has, no_change, none_below, page_here, page_lsn_up}
-use Rattle.im_theory_log.proofs.Redo.{reaches_one}
+use Rattle.im_theory_log.proofs.Cited.{below_between, below_has, no_change, none_below, page_here, page_lsn_up, reaches_one}
 
 -- no record is at the start or before it
 pub reaches_start : (b : Base) (log : History) (m p : ℕ) (g : Page) → Rises b log → Reaches b log m p g → Reaches b log (b.start + 1) p g

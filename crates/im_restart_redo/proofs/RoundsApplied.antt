@@ -15,6 +15,7 @@ use Rattle.im_log.specs.Span.{IsSpanOf, IsWhole}
 use Rattle.im_log.specs.Spelled.{record_size}
 use Rattle.im_page_rounds.specs.Hand.{StandIn}
 use Rattle.im_page_rounds.specs.Rounds.{AreFrom, changing}
+use Rattle.im_page_rounds.proofs.Rounds.{onto_has}
 use Rattle.im_page_writer.specs.declared.page_writer.PageWriter.{PageWriter}
 use Rattle.im_page_writer.specs.PageWriter.{StandsAs}
 use Rattle.im_restart_redo.specs.Redo.{applied_in, first_lsn, lsns_from}
@@ -24,7 +25,7 @@ use Rattle.im_restart_redo.specs.Rounds.{AreWhole, IsWholeAt}
 use Rattle.im_restart_redo.specs.Window.{AreAlsoOf}
 use Rattle.im_restart_redo.proofs.Passing.{count_same, passed_all}
 use Rattle.im_restart_redo.proofs.Within.{record_still, within_read}
-use Rattle.im_restart_redo.proofs.Runs.{onto_has, run_of}
+use Rattle.im_restart_redo.proofs.Runs.{run_of}
 
 -- ---- the records of a run, in a part of the log
 

@@ -7,17 +7,15 @@ use Rattle.im_theory_log.specs.Histories.{Base, History, Rises, end_of, page_at}
 use Rattle.im_theory_log.specs.Copies.{Reaches, onto, redo_all, redo_one}
 use Rattle.im_theory_log.specs.Writer.{Writer, WriterKept}
 use Rattle.im_theory_log.specs.WriterSteps.{applies}
-use Rattle.im_theory_log.proofs.Redo.{reaches_one}
-use Rattle.im_theory_log.proofs.Histories.{rises_in}
+use Rattle.im_theory_log.proofs.Cited.{reaches_one, rises_in}
 use Rattle.im_base_disk.specs.declared.disk.Disk.{Ghosts}
 use Rattle.im_page_table.specs.Growth.{Keeps}
 use Rattle.im_page_table.specs.KnownCopies.{redone_as}
 use Rattle.im_page_rounds.specs.Hand.{AllTaken}
-use Rattle.im_page_rounds.specs.OnePage.{PageTakes}
+use Rattle.im_page_rounds.specs.OnePage.{PageTakes, PageTakes as TakesRecord}
 use Rattle.im_page_rounds.specs.Rounds.{AreFrom, HaveHad, applied_of_all, redone_all}
-use Rattle.im_restart_redo.proofs.Runs.{onto_has}
 use Rattle.im_page_writer.specs.declared.page_writer.PageWriter.{PageWriter}
-use Rattle.im_page_writer.specs.Redoing.{TakesRecord}
+use Rattle.im_page_rounds.proofs.Rounds.{onto_has}
 use Rattle.im_restart_redo.specs.Redo.{AreApplicable, applied_in}
 use Rattle.im_restart_redo.specs.Applying.{HasPassed, IsLsnBehind}
 use Rattle.im_restart_redo.proofs.Applying.{applicable_at}

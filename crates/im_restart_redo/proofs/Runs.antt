@@ -1,7 +1,6 @@
 -- The records of a round among those that redo goes past: so many of those that it reads, and the records between them.
-use Rattle.std.proofs.Common.{◌≡◌, inl, inr, ℕ, suc, zero, ◌+◌, ◌<◌, ◌≤◌, List, [], ◌∷◌, ◌++◌, length, take, drop, get_or, Bool, true, false, refl, sym, ◌∙◌, ap, subst, arith, append_assoc}
+use Rattle.std.proofs.Common.{◌≡◌, inl, inr, ℕ, suc, zero, ◌+◌, ◌<◌, ◌≤◌, List, [], ◌∷◌, ◌++◌, length, take, drop, get_or, Bool, true, false, refl, sym, ◌∙◌, ap, subst, arith, append_assoc, le-leb, leb-true}
 use Rattle.std.specs.Prelude.{if◌then◌else◌, ◌&&◌, nat_le}
-use Rattle.std.proofs.lemmas.Bool.{le-leb, leb-true}
 use Rattle.std.proofs.lemmas.List.{drop_more}
 use Rattle.im_base_types.specs.Records.{Logged}
 use Rattle.im_theory_log.specs.Histories.{Base, History, IsRecordOf, Rises, changes_page, end_of}
@@ -21,11 +20,6 @@ oldest_first (r ∷ h) = oldest_first h ++ r ∷ []
 pub onto_then : (rs more : List Logged) (f : History) → onto (rs ++ more) f ≡ onto more (onto rs f)
 onto_then [] more f = refl
 onto_then (r ∷ rs) more f = onto_then rs more (r ∷ f)
-
--- a history is a front of what records in turn make of it
-pub onto_has : (rs : List Logged) (f : History) → (newer : History) × (newer ++ f ≡ onto rs f)
-onto_has [] f = ([], refl)
-onto_has (r ∷ rs) f = let (newer, is) = onto_has rs (r ∷ f) in (newer ++ r ∷ [], append_assoc newer (r ∷ []) f ∙ is)
 
 pub onto_oldest : (h f : History) → onto (oldest_first h) f ≡ h ++ f
 onto_oldest [] f = refl

@@ -5,7 +5,7 @@ use Rattle.std.proofs.Math.Path.{fun_ext}
 use Rattle.std.proofs.lemmas.Bool.{cases_eq, eq-eqb, ne_eqb}
 use Rattle.im_base_types.specs.Pages.{Page}
 use Rattle.im_base_types.specs.Records.{Logged}
-use Rattle.im_page_rounds.specs.Rounds.{AreDifferent, AreOf, applied_of_all, applied_to, of_page, sum_over, times}
+use Rattle.im_page_rounds.specs.Rounds.{EachOnce, AreOf, applied_of_all, applied_to, of_page, sum_over, times}
 use Rattle.im_page_rounds.proofs.Pages.{own_records}
 use Rattle.im_page_rounds.proofs.Sums.{counts_add}
 use Rattle.im_restart_redo.proofs.Ordered.{one_here}
@@ -13,7 +13,7 @@ use Rattle.im_restart_redo.proofs.Ordered.{one_here}
 -- different pages that have all of these records
 record IsCover (rs : List Logged) : Type 0 where
   pub pages : List ℕ
-  pub each : AreDifferent pages
+  pub each : EachOnce pages
   pub all : AreOf pages rs
 
 of_more : (q : ℕ) (ps : List ℕ) (rs : List Logged) → AreOf ps rs → AreOf (q ∷ ps) rs

@@ -1,7 +1,6 @@
 -- The records of a log in a part of it that a room holds.
-use Rattle.std.proofs.Common.{◌≡◌, ◌⊎◌, inl, inr, ⊎_elim, ℕ, ◌+◌, ◌-◌, ◌≤◌, List, Result, Err, length, length-take, take, drop, min, Some, refl, sym, ◌∙◌, ap, subst, arith, false, true}
+use Rattle.std.proofs.Common.{◌≡◌, ◌⊎◌, inl, inr, ⊎_elim, ℕ, ◌+◌, ◌-◌, ◌≤◌, List, Result, Err, length, length-take, take, drop, min, Some, refl, sym, ◌∙◌, ap, subst, arith, false, true, take-take}
 use Rattle.std.specs.Prelude.{◌↔◌}
-use Rattle.std.proofs.lemmas.List.{take-take}
 use Rattle.im_base_types.specs.declared.fault.Fault.{Fault}
 use Rattle.im_base_types.specs.declared.fault.Fault.TheVariants.{Device, Failed}
 use Rattle.im_base_types.specs.Records.{Logged}

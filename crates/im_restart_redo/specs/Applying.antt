@@ -1,18 +1,15 @@
 -- What the records of redo keep.
-use Rattle.std.specs.Prelude.{◌≡◌, ◌≤◌, ◌<◌, ◌+◌, ◌⊎◌, ℕ, Bool, false, if◌then◌else◌, List, [], ◌++◌, Option, Result}
+use Rattle.std.specs.Prelude.{◌≡◌, ◌≤◌, ◌+◌, ◌⊎◌, ℕ, Bool, if◌then◌else◌, List, [], ◌++◌, Option, Result}
 use Rattle.im_base_types.specs.declared.fault.Fault.{Fault}
 use Rattle.im_base_types.specs.Pages.{Page}
 use Rattle.im_theory_log.specs.Histories.{Base, History, end_of}
 use Rattle.im_theory_log.specs.RedoPoints.{redo_point}
-use Rattle.im_theory_log.specs.Writer.{PageState, Writer}
+use Rattle.im_theory_log.specs.Writer.{Writer}
 use Rattle.im_base_disk.specs.declared.disk.Disk.{Ghosts}
 use Rattle.im_page_writer.specs.declared.page_writer.PageWriter.{PageWriter}
 use Rattle.im_restart_redo.specs.Redo.{RedoSound, applied_in, first_lsn, lsns_from}
 use Rattle.im_restart_redo.specs.Within.{IsWithinRedo}
-
--- no page waits, and each has had all records of this front
-abbrev pub HaveHad : Base → History → (ℕ → PageState) → Type 0
-HaveHad b front pages = (p : ℕ) → ((pages p).waits ≡ false) × (end_of b front < (pages p).upto)
+use Rattle.im_page_rounds.specs.Rounds.{HaveHad}
 
 -- The LSN of a page that redo has brought past a front of the log: the one that it had at first, or one of the front's that is above that.
 pub record IsLsnBehind (b : Base) (first : ℕ) (front : History) (lsn : ℕ) : Type 0 where

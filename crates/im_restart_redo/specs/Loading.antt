@@ -20,7 +20,7 @@ abbrev pub lsn_at : List (ℕ × ℕ) → ℕ → Option ℕ
 lsn_at pairs p = lookup (is_at (nat_cmp p)) pairs
 
 -- The page waits for its last copy in the log that redo began with, which stands at this LSN.
-pub record WaitsFor (begun : History) (p l : ℕ) (x : PageState) : Type 0 where
+pub record WaitsForCopy (begun : History) (p l : ℕ) (x : PageState) : Type 0 where
   pub waits : x.waits ≡ true
   pub copy : Page
   pub found : x.found ≡ Some (l, copy)
@@ -29,7 +29,7 @@ pub record WaitsFor (begun : History) (p l : ℕ) (x : PageState) : Type 0 where
 -- The pages that wait are those with a copy left to be loaded.
 pub record AreWaiting (begun : History) (left : List (ℕ × ℕ)) (pages : ℕ → PageState) : Type 0 where
   pub others : (p : ℕ) → lsn_at left p ≡ None → (pages p).waits ≡ false
-  pub these : (p l : ℕ) → lsn_at left p ≡ Some l → WaitsFor begun p l (pages p)
+  pub these : (p l : ℕ) → lsn_at left p ≡ Some l → WaitsForCopy begun p l (pages p)
 
 -- Each page that does not wait has the LSN that it has at first.
 abbrev pub HaveFirst : Base → History → (ℕ → Option Page) → (ℕ → PageState) → Type 0

@@ -9,19 +9,19 @@ use Rattle.im_theory_log.specs.Histories.{Base, History, IsFront, changes_page, 
 use Rattle.im_theory_log.specs.Copies.{GrowsByImages, noted}
 use Rattle.im_theory_log.specs.RedoPoints.{redo_point}
 use Rattle.im_theory_log.specs.Writer.{Writer}
-use Rattle.im_theory_log.specs.WriterSteps.{or_else}
+use Rattle.im_theory_log.specs.WriterSteps.{page_or}
 use Rattle.im_base_disk.specs.declared.disk.Disk.{Ghosts}
 use Rattle.im_page_writer.specs.declared.page_writer.PageWriter.{PageWriter}
 use Rattle.im_page_file.specs.Stands.{LeavesCovered}
 use Rattle.im_page_leaf.specs.LeafChange.{CanPutKey, CanTakeKey}
 use Rattle.im_page_writer.specs.PageWriter.{StandsAs}
 use Rattle.im_page_writer.specs.Outcome.{IsSound}
-use Rattle.im_page_writer.specs.Redoing.{TakesRecord}
+use Rattle.im_page_rounds.specs.OnePage.{PageTakes}
 
 -- each record of the log can be applied to its page as the records before it left that
 abbrev pub AreApplicable : Base → History → Type 0
 AreApplicable b [] = Unit {0}
-AreApplicable b (r ∷ older) = AreApplicable b older × TakesRecord r.what (page_at b older r.page)
+AreApplicable b (r ∷ older) = AreApplicable b older × PageTakes r.what (page_at b older r.page)
 
 -- the LSNs of the records from a point on that change a page, the oldest first
 abbrev pub lsns_from : ℕ → History → List ℕ
@@ -30,7 +30,7 @@ lsns_from point (r ∷ older) = if nat_le point r.lsn && changes_page r.what the
 
 -- the page as redo first has it: its noted copy, else what the file has, else what the log is over
 abbrev pub first_page : Option (ℕ × Page) → Option Page → Page → Page
-first_page None file initial = or_else file initial
+first_page None file initial = page_or file initial
 first_page (Some c) file initial = c.1
 
 -- the LSN that each page has then
@@ -38,13 +38,13 @@ abbrev pub first_lsn : Base → History → (ℕ → Option Page) → ℕ → �
 first_lsn b begun file p = (first_page (noted (redo_point begun) begun p) (file p) (b.pages p)).lsn
 
 -- whether redo from a point applies a record: it changes a page that had a lower LSN at first
-abbrev pub is_applied : (ℕ → ℕ) → ℕ → Logged → Bool
-is_applied lsns point r = nat_le point r.lsn && (changes_page r.what && nat_lt (lsns r.page) r.lsn)
+abbrev pub is_redone : (ℕ → ℕ) → ℕ → Logged → Bool
+is_redone lsns point r = nat_le point r.lsn && (changes_page r.what && nat_lt (lsns r.page) r.lsn)
 
 -- how many records it applies
 abbrev pub applied_in : (ℕ → ℕ) → ℕ → History → ℕ
 applied_in lsns point [] = 0
-applied_in lsns point (r ∷ older) = applied_in lsns point older + (if is_applied lsns point r then 1 else 0)
+applied_in lsns point (r ∷ older) = applied_in lsns point older + (if is_redone lsns point r then 1 else 0)
 
 -- What the tree says that a key can be put into or taken out of is a leaf that lacks it, with room, or has it.
 pub record IsOnLeaves (tree : Tree) : Type 0 where

@@ -25,6 +25,7 @@ use Rattle.im_theory_tree.specs.Theory.{page_tree}
 use Rattle.im_theory_tree.specs.Ways.{with_leaf}
 use Rattle.im_tree_search.specs.declared.change_beside.Beside.{Beside}
 use Rattle.im_smo_log.specs.Under.{is_structural}
+use Rattle.im_smo_log.proofs.ChangeLogs.{all_append}
 use Rattle.im_smo_actions.specs.GoingBeside.{settled_pages, IsToldOf}
 use Rattle.im_restart_analysis.specs.declared.rows.Loser.{Loser}
 use Rattle.im_restart_analysis.specs.Undo.{IsNext}
@@ -32,7 +33,7 @@ use Rattle.im_restart_undo.specs.declared.back.Back.TheVariants.{Plain}
 use Rattle.im_restart_undo.specs.GoingBeside.{entries_behind, IsAsPlanned, IsGoingBeside, TakenBeside}
 use Rattle.im_restart_undo.specs.Records.{compensations, inverse_of}
 use Rattle.im_restart_undo.specs.Undoing.{IsToUndo, LeavesUndo}
-use Rattle.im_restart_undo.proofs.Growth.{all_append, compensations_append, grows_images, grows_then, images_compensate, left_both, left_from, left_images, owner_some, same_finished, same_row}
+use Rattle.im_restart_undo.proofs.Growth.{compensations_append, grows_images, grows_then, images_compensate, left_both, left_from, left_images, owner_some, same_finished, same_row}
 
 -- ---- Images
 

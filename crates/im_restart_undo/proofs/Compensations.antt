@@ -13,7 +13,7 @@ use Rattle.im_theory_log.specs.Lawful.{Follows, IsLawful, IsNotIn, IsOutside, Ma
 use Rattle.im_theory_log.specs.Structure.{open_after, open_smo, settled}
 use Rattle.im_theory_log.specs.Transactions.{contents, contents_after, is_end, is_finished, last_of, rest_of, stack_after, to_undo, undo_from}
 use Rattle.im_theory_log.specs.Writer.{Writer}
-use Rattle.im_theory_log.proofs.LogLaws.{logs_stay_lawful}
+use Rattle.im_theory_log.proofs.Cited.{logs_stay_lawful, left_alone}
 use Rattle.im_base_disk.specs.declared.disk.Disk.{Ghosts}
 use Rattle.im_log_record.specs.Entry.{Entry, InsertKey, DeleteKey, UndoInsert, UndoDelete, transaction_of, prev_of, undo_next_of as leads_of, page_of}
 use Rattle.im_log_record.specs.Spelling.{IsEntry}
@@ -30,11 +30,10 @@ use Rattle.im_theory_tree.specs.Levels.{Pages, walk}
 use Rattle.im_theory_tree.specs.Search.{IsOnWay}
 use Rattle.im_theory_tree.specs.Theory.{page_tree, CanDropFrom, CanPutInto}
 use Rattle.im_theory_tree.specs.Ways.{with_leaf}
-use Rattle.im_theory_tree.proofs.LookupLemmas.{way_leaf}
-use Rattle.im_theory_tree.proofs.TheoryLaws.{page_tree_laws}
+use Rattle.im_theory_tree.proofs.Cited.{way_leaf, page_tree_laws}
 use Rattle.im_theory_page.specs.Split.{HasRoom}
 use Rattle.im_smo_log.specs.Under.{is_structural}
-use Rattle.im_smo_log.proofs.Others.{key_pages, left_alone}
+use Rattle.im_smo_log.proofs.Others.{key_pages}
 use Rattle.im_smo_actions.proofs.Standing.{stands_bodies}
 use Rattle.im_restart_analysis.specs.declared.rows.Loser.{Loser}
 use Rattle.im_restart_analysis.specs.Losers.{row_of}

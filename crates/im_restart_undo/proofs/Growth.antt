@@ -11,9 +11,7 @@ use Rattle.im_theory_log.specs.LogLaws as logs
 use Rattle.im_theory_log.specs.Structure.{taken_back}
 use Rattle.im_theory_log.specs.Transactions.{committed, committed_after, is_end, is_finished, net}
 use Rattle.im_theory_log.specs.Writer.{Writer}
-use Rattle.im_theory_log.proofs.Fronts.{has_tree}
-use Rattle.im_theory_log.proofs.Histories.{front_self}
-use Rattle.im_theory_log.proofs.Images.{lawful_images}
+use Rattle.im_theory_log.proofs.Cited.{has_tree, front_self, lawful_images}
 use Rattle.im_base_disk.specs.declared.disk.Disk.{Ghosts}
 use Rattle.im_base_disk.specs.Disk.{Files}
 use Rattle.im_base_disk.proofs.Runs.{then_on, weakened}
@@ -31,6 +29,7 @@ use Rattle.im_theory_tree.specs.Good.{AllOf, IsGoodTree}
 use Rattle.im_theory_tree.specs.Theory.{page_tree}
 use Rattle.im_tree_search.specs.Levels.{bodies}
 use Rattle.im_smo_log.specs.Changes.{IsOfChange, GrowsByChange, LeftByChange, LeavesChange}
+use Rattle.im_smo_log.proofs.ChangeLogs.{all_append}
 use Rattle.im_smo_actions.proofs.Standing.{stands_bodies, stands_page, stands_ready}
 use Rattle.im_restart_analysis.specs.Losers.{has_record, is_loser, row_of}
 use Rattle.im_restart_analysis.specs.Undo.{IsNext, IsUndoable, LeavesOthers}
@@ -41,10 +40,6 @@ use Rattle.im_restart_undo.specs.Place.{HasWholeTree}
 use Rattle.im_restart_undo.specs.Undoing.{IsGoing, LeftByUndo, LeavesUndo, GoesTo}
 
 -- ---- the records
-
-pub all_append : (P : Logged → Type 0) (one two : History) → AllOf P one → AllOf P two → AllOf P (one ++ two)
-all_append P [] two first second = second
-all_append P (r ∷ one) two first second = (first.0, all_append P one two first.1 second)
 
 compensation_append : (r : Logged) (w : What) (one two : History) → with_compensation r w (one ++ two) ≡ with_compensation r w one ++ two
 compensation_append r (UndoInsert k i) one two = refl
@@ -187,7 +182,7 @@ has_more : (t : ℕ) (more older : History) → has_record t older ≡ true → 
 has_more t [] older has = has
 has_more t (r ∷ more) older has = or_right (r.txn == t) (has_record t (more ++ older)) (has_more t more older has)
 
-loser_has : (t : ℕ) (log : History) → is_loser t log ≡ true → has_record t log ≡ true
+pub loser_has : (t : ℕ) (log : History) → is_loser t log ≡ true → has_record t log ≡ true
 loser_has t log is =
     (and_parts (has_record t log) (not (is_finished t log)) (and_parts (nat_le 1 t) (has_record t log && not (is_finished t log)) is).1).0
 

@@ -1,5 +1,5 @@
 -- Gets of a page that may be the leaf of a key.
-use Rattle.std.proofs.Common.{◌≡◌, ◌<◌, ℕ, Bool, Option, Some, None, refl, sym, ap, subst, ◌∙◌}
+use Rattle.std.proofs.Common.{◌≡◌, ◌<◌, ℕ, Bool, Option, Some, None, sym, ap, subst, ◌∙◌}
 use Rattle.std.specs.Prelude.{Result, Ok, Err, IsErrAnd, IfSome, OnOk}
 use Rattle.im_base_types.specs.declared.fault.Fault.{Fault}
 use Rattle.im_base_types.specs.Keys.{Key}
@@ -36,11 +36,6 @@ known_held pages pool frame page p is shown says level less =
         counted = subst (λ (n : ℕ). n < (bodies_of pages 0).leftmost) (sym is) less;
       };
     }
-
--- what is nothing is none
-pub none_of : {A : Type 0} (o : Option A) → ((a : A) → o ≡ Some a → ⊥) → o ≡ None
-none_of None not = refl
-none_of (Some a) not = absurd (not a refl)
 
 -- a refusal has no answer
 pub no_answer : {A : Type 0} (r : Result A Fault) (f : Fault) (P : Type 0) → IsErrAnd r (λ e. e ≡ f) → OnOk r P

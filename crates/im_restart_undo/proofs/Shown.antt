@@ -12,8 +12,7 @@ use Rattle.im_theory_log.specs.Structure.{settled}
 use Rattle.im_theory_log.specs.Transactions.{change_of, changes_of, committed, contents, net, to_undo}
 use Rattle.im_theory_log.specs.LogLaws.{bodies}
 use Rattle.im_base_types.proofs.Changes.{applied_at}
-use Rattle.im_theory_log.proofs.Committed.{nets_of}
-use Rattle.im_theory_log.proofs.Fronts.{has_tree}
+use Rattle.im_theory_log.proofs.Cited.{nets_of, has_tree}
 use Rattle.im_base_types.proofs.Maps.{sorted_find}
 use Rattle.im_theory_tree.specs.Levels.{Pages, walk}
 use Rattle.im_theory_tree.specs.Search.{IsOnWay}

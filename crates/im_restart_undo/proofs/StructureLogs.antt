@@ -13,12 +13,12 @@ use Rattle.im_smo_log.specs.Changes.{IsOfChange, GrowsByChange}
 
 -- ---- stacks
 
-twice_step : (s : Logged) (rest : History) (u : Bool) → is_smo s.what ≡ u → without_smo (without_smo rest) ≡ without_smo rest → without_smo (without_smo (s ∷ rest)) ≡ without_smo (s ∷ rest)
+pub twice_step : (s : Logged) (rest : History) (u : Bool) → is_smo s.what ≡ u → without_smo (without_smo rest) ≡ without_smo rest → without_smo (without_smo (s ∷ rest)) ≡ without_smo (s ∷ rest)
 twice_step s rest true is so =
     ap without_smo (cond-true (is_smo s.what) (without_smo rest) (s ∷ rest) is) ∙ so ∙ sym (cond-true (is_smo s.what) (without_smo rest) (s ∷ rest) is)
 twice_step s rest false is so = ap without_smo (cond-false (is_smo s.what) (without_smo rest) (s ∷ rest) is)
 
-twice : (stack : History) → without_smo (without_smo stack) ≡ without_smo stack
+pub twice : (stack : History) → without_smo (without_smo stack) ≡ without_smo stack
 twice [] = refl
 twice (s ∷ rest) = twice_step s rest (is_smo s.what) refl (twice rest)
 

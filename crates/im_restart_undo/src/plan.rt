@@ -1,6 +1,6 @@
 //! How one key record of a transaction can be taken back.
 
-ghost use Rattle.std.specs.Prelude.{◌≡◌, ◌≢◌, ◌≤◌, ◌⊎◌, ℕ, [], true, false, length, Ok, IfErr, IfOk};
+ghost use Rattle.std.specs.Prelude.{◌≡◌, ◌≤◌, ◌⊎◌, ℕ, [], true, false, length, Ok, IfErr, IfOk};
 ghost use Rattle.im_base_types.specs.declared.fault.Fault.TheVariants.{Capacity, Memory};
 ghost use Rattle.im_base_types.specs.Records.{InsertKey, DeleteKey};
 ghost use Rattle.im_theory_log.specs.Transactions.{is_key};

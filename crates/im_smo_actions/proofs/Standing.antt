@@ -8,10 +8,7 @@ use Rattle.im_theory_log.specs.LogLaws as logs
 use Rattle.im_theory_log.specs.Structure.{open_smo, taken_back}
 use Rattle.im_theory_log.specs.Transactions.{last_of, undo_next_of, is_finished}
 use Rattle.im_theory_log.specs.Writer.{Writer, WriterKept}
-use Rattle.im_theory_log.proofs.Fronts.{has_tree}
-use Rattle.im_theory_log.proofs.Histories.{front_self}
-use Rattle.im_theory_log.proofs.Images.{images_last, images_undo_next, images_open}
-use Rattle.im_theory_log.proofs.Redo.{reached_end}
+use Rattle.im_theory_log.proofs.Cited.{has_tree, front_self, images_last, images_undo_next, images_open, reached_end}
 use Rattle.im_base_disk.specs.declared.disk.Disk.{Ghosts}
 use Rattle.im_base_disk.proofs.Runs.{then_on, weakened}
 use Rattle.im_page_writer.specs.declared.page_writer.PageWriter.{PageWriter}

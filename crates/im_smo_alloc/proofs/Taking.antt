@@ -9,11 +9,7 @@ use Rattle.im_base_types.specs.declared.page_kind.PageKind.TheVariants.{Free, Me
 use Rattle.im_theory_page.specs.Header.{empty_body}
 use Rattle.im_theory_tree.specs.Levels.{Pages, height, pages_under, the_root, walk}
 use Rattle.im_theory_tree.specs.Good.{IsGoodTree, free_from, times}
-use Rattle.im_theory_tree.proofs.Counting.{pages_counted}
-use Rattle.im_theory_tree.proofs.Descent.{times-here}
-use Rattle.im_theory_tree.proofs.FreeList.{take_free, take_count, give_free}
-use Rattle.im_theory_tree.proofs.InnerSplit.{good_once}
-use Rattle.im_theory_tree.proofs.Keeps.{times-append}
+use Rattle.im_theory_tree.proofs.Cited.{pages_counted, times-here, take_free, take_count, give_free, good_once, times-append}
 use Rattle.im_smo_pages.specs.Bodies.{says, meta_without_first, meta_with_count, meta_with_first}
 use Rattle.im_smo_pages.specs.Images.{Numbered, IsRising, without_image}
 use Rattle.im_smo_pages.specs.Changed.{SamePages, free_taken_pages, count_taken_pages, free_given_pages}

@@ -13,8 +13,7 @@ use Rattle.im_page_writer.specs.Outcome.{AllPages}
 use Rattle.im_page_writer.proofs.Outcomes.{pages_still}
 use Rattle.im_theory_tree.specs.Levels.{Pages}
 use Rattle.im_theory_tree.specs.Good.{times, IsGoodTree}
-use Rattle.im_theory_tree.proofs.Keeps.{times-append}
-use Rattle.im_theory_tree.proofs.StepLemmas.{relisted}
+use Rattle.im_theory_tree.proofs.Cited.{times-append, relisted}
 use Rattle.im_smo_pages.specs.Bodies.{meta_with_first}
 use Rattle.im_smo_pages.specs.Changed.{SamePages, free_given_pages}
 use Rattle.im_smo_pages.specs.Images.{Numbered, image_of}

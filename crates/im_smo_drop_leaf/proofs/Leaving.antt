@@ -12,9 +12,9 @@ use Rattle.im_theory_tree.specs.Good.{IsGoodTree}
 use Rattle.im_theory_tree.specs.Search.{IsOnWay}
 use Rattle.im_theory_tree.specs.Steps.{DropsChain, FromEntry, FromLeftmost, FromRoot}
 use Rattle.im_theory_tree.specs.KeyDeletions.{HasNone, chain_down, leaf_down}
-use Rattle.im_theory_tree.proofs.LookupLemmas.{way_inner}
-use Rattle.im_theory_tree.proofs.KeyDeletionLemmas.{drop_entry, drop_leftmost, drop_all}
-use Rattle.im_smo_pages.specs.Bodies.{says, leaf_body, with_prev, with_next, without_entry, without_leftmost}
+use Rattle.im_theory_tree.proofs.Cited.{way_inner, drop_entry, drop_leftmost, drop_all}
+use Rattle.im_smo_pages.specs.Bodies.{says, with_prev, with_next, without_entry, without_leftmost}
+use Rattle.im_theory_page.specs.Header.{leaf_body}
 use Rattle.im_smo_pages.specs.Changed.{SamePages, linked_prev, linked_next, unlinked_pages}
 use Rattle.im_smo_pages.specs.Images.{Numbered, IsRising, put_image, without_image}
 use Rattle.im_smo_pages.proofs.Beside.{beside, place_on_way}

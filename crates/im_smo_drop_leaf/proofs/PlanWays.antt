@@ -8,16 +8,11 @@ use Rattle.im_theory_page.specs.Header.{empty_body}
 use Rattle.im_theory_log.specs.Tree.{with_body}
 use Rattle.im_theory_tree.specs.Levels.{Pages}
 use Rattle.im_theory_tree.specs.Good.{IsLeafPage, times, IsGoodTree}
-use Rattle.im_theory_tree.specs.Same.{SameTree}
 use Rattle.im_theory_tree.specs.Search.{IsOnWay}
 use Rattle.im_theory_tree.specs.KeyDeletions.{chain_down}
 use Rattle.im_theory_tree.specs.Steps.{DropsChain, FromEntry, FromLeftmost, FromRoot}
-use Rattle.im_theory_tree.proofs.Frame.{AllOf-right}
-use Rattle.im_theory_tree.proofs.Descent.{times-here}
-use Rattle.im_theory_tree.proofs.WayStays.{way_stays}
-use Rattle.im_theory_tree.proofs.KeyDeletionLemmas.{drop_entry, drop_leftmost, drop_all}
+use Rattle.im_theory_tree.proofs.Cited.{AllOf-right, times-here, way_stays, drop_entry, drop_leftmost, drop_all, chain_ways, same_tree}
 use Rattle.im_theory_tree.specs.Ways.{KeepsWays}
-use Rattle.im_theory_tree.proofs.KeyWays.{chain_ways}
 use Rattle.im_smo_pages.specs.Bodies.{meta_with_first}
 use Rattle.im_smo_pages.specs.Images.{Numbered, held}
 use Rattle.im_smo_pages.specs.OnWay.{IsApart}
@@ -37,9 +32,6 @@ good_between : (pages mid : Pages) (gone : List ℕ) → DropsChain pages mid go
 good_between pages mid gone (FromEntry h key parent p i s e) = gone_spare mid gone (chain_down pages h p) e (drop_entry pages mid [] h key parent p i s).0
 good_between pages mid gone (FromLeftmost h key parent p s e) = gone_spare mid gone (chain_down pages h p) e (drop_leftmost pages mid [] h key parent p s).0
 good_between pages mid gone (FromRoot h s e) = gone_spare mid gone (chain_down pages h (pages 1).leftmost) e (drop_all pages mid [] h s).0
-
-same_page : (b c : Body) → c ≡ b → SameTree b c
-same_page b c e = record { kind = ap (λ (x : Body). x.kind) e; level = ap (λ (x : Body). x.level) e; entries = ap (λ (x : Body). x.entries) e; leftmost = ap (λ (x : Body). x.leftmost) e }
 
 not_in : (x q : ℕ) (qs : List ℕ) → times x (q ∷ qs) ≡ 0 → q ≡ x → ⊥
 not_in x q qs none e = omega (arith, subst (λ y. times x (y ∷ qs) ≡ 0) e none, times-here x qs)
@@ -93,7 +85,7 @@ deletions_keep_ways pages images p good after deletes key q way apart = elim (ze
       let gone = deletes.above ++ p ∷ [] in
       let over : IsOnWay deletes.mid zero key q = chain_ways pages deletes.mid gone deletes.drops key q way none in
       way_stays deletes.mid (held pages images) gone [] zero key q (good_between pages deletes.mid gone deletes.drops) after
-      (λ x t. same_page (deletes.mid x) (held pages images x) (deletes.gives x ∙ given_elsewhere deletes.mid gone x t)) over
+      (λ x t. same_tree (deletes.mid x) (held pages images x) (deletes.gives x ∙ given_elsewhere deletes.mid gone x t)) over
   | inr some ↦
       let gone = deletes.above ++ p ∷ [] in
       let leaf = leaf_at pages key q way in

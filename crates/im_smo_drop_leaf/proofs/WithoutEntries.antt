@@ -14,10 +14,7 @@ use Rattle.im_theory_tree.specs.Levels.{Pages, height}
 use Rattle.im_theory_tree.specs.Good.{IsGoodTree}
 use Rattle.im_theory_tree.specs.Search.{IsOnWay}
 use Rattle.im_theory_tree.specs.Ways.{with_leaf}
-use Rattle.im_theory_tree.proofs.LeafChange.{leaf_change}
-use Rattle.im_theory_tree.proofs.LookupLemmas.{way_inner}
-use Rattle.im_theory_tree.proofs.TheoryLaws.{changes_leaf}
-use Rattle.im_theory_tree.proofs.Way.{way_begins}
+use Rattle.im_theory_tree.proofs.Cited.{leaf_change, way_inner, changes_leaf, way_begins}
 use Rattle.im_smo_pages.specs.Bodies.{says}
 use Rattle.im_smo_pages.specs.Images.{Numbered, image_of, put_image, without_image}
 use Rattle.im_smo_pages.proofs.ImageLemmas.{applied_image, body_or}

@@ -4,7 +4,8 @@ use Rattle.im_base_types.specs.Pages.{Body}
 use Rattle.im_theory_log.specs.Tree.{with_body}
 use Rattle.im_base_types.specs.declared.page_kind.PageKind.TheVariants.{Leaf}
 use Rattle.im_theory_tree.specs.Levels.{Pages}
-use Rattle.im_smo_pages.specs.Bodies.{leaf_body, with_prev, with_next, without_entry, without_leftmost}
+use Rattle.im_smo_pages.specs.Bodies.{with_prev, with_next, without_entry, without_leftmost}
+use Rattle.im_theory_page.specs.Header.{leaf_body}
 use Rattle.im_smo_pages.specs.Changed.{linked_prev, linked_next, unlinked_pages}
 use Rattle.im_tree_search.specs.declared.child_place.ChildPlace.{ChildPlace}
 use Rattle.im_tree_search.specs.declared.child_place.ChildPlace.TheVariants.{Entry, Leftmost, Only}

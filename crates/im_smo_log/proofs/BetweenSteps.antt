@@ -8,27 +8,23 @@ use Rattle.im_theory_log.specs.Histories.{Base, History, changes_page, page_afte
 use Rattle.im_theory_log.specs.Lawful.{MayCome}
 use Rattle.im_theory_log.specs.LogLaws.{bodies}
 use Rattle.im_theory_log.specs.Structure.{open_after, open_smo, settled, taken_back}
-use Rattle.im_theory_log.proofs.Histories.{no_change, page_other, page_same}
-use Rattle.im_theory_log.proofs.Settled.{settled_smo}
+use Rattle.im_theory_log.proofs.Cited.{no_change, page_other, page_same, settled_smo}
 use Rattle.im_theory_page.specs.Split.{HasRoom}
 use Rattle.im_theory_tree.specs.Levels.{Pages, leaves_under, pages_under, the_root, height}
 use Rattle.im_theory_tree.specs.Good.{IsGoodTree}
 use Rattle.im_theory_tree.specs.Same.{SameTree, SameButMark}
 use Rattle.im_theory_tree.specs.Search.{IsOnWay}
 use Rattle.im_theory_tree.specs.Theory.{page_tree}
-use Rattle.im_theory_tree.proofs.Frame.{leaves_same}
-use Rattle.im_theory_tree.proofs.FreeList.{first_of_tree}
-use Rattle.im_theory_tree.proofs.MarkLemmas.{all_everywhere, marks_keep}
-use Rattle.im_theory_tree.proofs.WayBlind.{same_leaves_same_ways}
+use Rattle.im_theory_tree.proofs.Cited.{leaves_same, first_of_tree, all_everywhere, marks_keep, same_leaves_same_ways}
 use Rattle.im_smo_pages.specs.Images.{Numbered, image_of, held}
 use Rattle.im_smo_pages.proofs.ImageLemmas.{body_or, applied_image}
-use Rattle.im_smo_log.specs.BetweenSteps.{IsBeside, OthersGoOn, PagesKeepSettled, InsertsMayEnd}
+use Rattle.im_smo_log.specs.BetweenSteps.{IsRecordBeside, OthersGoOn, PagesKeepSettled, InsertsMayEnd}
 use Rattle.im_smo_log.proofs.Going.{made_all}
 use Rattle.im_smo_log.proofs.Others.{open_same, others_keep, ways_keep}
 
 -- ---- others
 
-module _ (t : ℕ) (images : List Numbered) (b : Base) (r : Logged) (older : History) (is : IsBeside t images r) where
+module _ (t : ℕ) (images : List Numbered) (b : Base) (r : Logged) (older : History) (is : IsRecordBeside t images r) where
   opened_same : open_smo (r ∷ older) ≡ open_smo older
   opened_same = open_same r r.what (open_smo older) is.plain
 

@@ -10,38 +10,22 @@ use Rattle.im_theory_log.specs.Lawful.{Follows, IsLawful, IsNewIn, resumes}
 use Rattle.im_theory_log.specs.PageCounts.{count_of, greatest_count, named_to}
 use Rattle.im_theory_log.specs.Structure.{open_smo, settled, taken_back}
 use Rattle.im_theory_log.specs.Transactions.{is_end, is_finished, last_of, undo_next_of}
-use Rattle.im_theory_log.proofs.Appends.{append_smo}
-use Rattle.im_theory_log.proofs.Fronts.{has_tree}
-use Rattle.im_theory_log.proofs.Histories.{below_older, whole_below}
-use Rattle.im_theory_log.proofs.Images.{images_last, images_open, images_undo_next, lawful_images}
-use Rattle.im_theory_log.proofs.Named.{named_up}
-use Rattle.im_theory_log.proofs.PageCounts.{count_front, count_low, count_more, count_said}
+use Rattle.im_theory_log.proofs.Cited.{append_smo, has_tree, below_older, whole_below, images_last, images_open, images_undo_next, lawful_images, named_up, count_front, count_low, count_more, count_said}
 use Rattle.im_theory_tree.specs.Good.{AllOf}
 use Rattle.im_theory_tree.specs.Theory.{page_tree}
-use Rattle.im_smo_pages.specs.Images.{Numbered, IsAbove, IsRising, image_at}
+use Rattle.im_smo_pages.specs.Images.{Numbered, IsRising, image_at}
+use Rattle.im_smo_pages.proofs.ImageLemmas.{above_all, rising_tail}
 use Rattle.im_smo_log.specs.Logged.{smo_at}
 use Rattle.im_smo_log.specs.Changes.{IsOfChange, GrowsByChange, with_mark, marks, image_marks, AreCounted, IsOpenBelow, IsLoggedTo}
 
 -- ---- numbers that rise
 
-pub above_lt : (n : ℕ) (xs : List Numbered) (k : ℕ) → IsAbove n xs → k < length xs → n < (image_at xs k).0
-above_lt n [] k up within = absurd (omega arith)
-above_lt n (x ∷ xs) zero up within = up.0
-above_lt n (x ∷ xs) (suc k) up within =
-    let rest : x.0 < (image_at xs k).0 = above_lt x.0 xs k up.1 (omega arith) in
-    let here : n < x.0 = up.0 in
-    omega (arith, rest, here)
-
-pub tail_rises : (x : Numbered) (xs : List Numbered) → IsAbove x.0 xs → IsRising xs
-tail_rises x [] up = tt
-tail_rises x (y ∷ xs) up = up.1
-
 pub rising_lt : (xs : List Numbered) (i k : ℕ) → IsRising xs → i < k → k < length xs → (image_at xs i).0 < (image_at xs k).0
 rising_lt [] i k up lt within = absurd (omega arith)
 rising_lt (x ∷ xs) zero zero up lt within = absurd (omega arith)
-rising_lt (x ∷ xs) zero (suc k) up lt within = above_lt x.0 xs k up (omega arith)
+rising_lt (x ∷ xs) zero (suc k) up lt within = above_all x.0 xs k up (omega arith)
 rising_lt (x ∷ xs) (suc i) zero up lt within = absurd (omega arith)
-rising_lt (x ∷ xs) (suc i) (suc k) up lt within = rising_lt xs i k (tail_rises x xs up) (omega arith) (omega arith)
+rising_lt (x ∷ xs) (suc i) (suc k) up lt within = rising_lt xs i k (rising_tail x xs up) (omega arith) (omega arith)
 
 -- none is past the last one
 pub last_most : (xs : List Numbered) (i : ℕ) → IsRising xs → i < length xs → (image_at xs i).0 ≤ (image_at xs (length xs - 1)).0
@@ -115,7 +99,7 @@ images_marks : (b : Base) (images older more : History) → AreImages b images o
 images_marks b [] older more all = refl
 images_marks b (r ∷ images) older more all = ap (λ (w : What). with_mark r w (marks (images ++ more))) all.0.what ∙ images_marks b images older more all.1
 
-all_append : (P : Logged → Type 0) (one two : History) → AllOf P one → AllOf P two → AllOf P (one ++ two)
+pub all_append : (P : Logged → Type 0) (one two : History) → AllOf P one → AllOf P two → AllOf P (one ++ two)
 all_append P [] two first second = second
 all_append P (r ∷ one) two first second = (first.0, all_append P one two first.1 second)
 

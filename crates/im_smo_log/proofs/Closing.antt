@@ -12,8 +12,7 @@ use Rattle.im_theory_log.specs.PageCounts.{count_of, named_to}
 use Rattle.im_theory_log.specs.Lawful.{Follows, IsLawful, MayDummyClr, resumes}
 use Rattle.im_theory_log.specs.Structure.{open_smo, settled, taken_back}
 use Rattle.im_theory_log.specs.Transactions.{committed, committed_after, contents, contents_after, is_end, is_finished, last_of, net, stack_after, to_undo, undo_from, undo_next_of}
-use Rattle.im_theory_log.proofs.Appends.{append_dummy}
-use Rattle.im_theory_log.proofs.Fronts.{has_tree}
+use Rattle.im_theory_log.proofs.Cited.{append_dummy, has_tree}
 use Rattle.im_theory_tree.specs.Levels.{Pages, walk}
 use Rattle.im_theory_tree.specs.Good.{AllOf, IsGoodTree}
 use Rattle.im_theory_tree.specs.Theory.{page_tree}

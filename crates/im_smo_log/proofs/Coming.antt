@@ -7,8 +7,7 @@ use Rattle.im_theory_log.specs.Lawful.{Follows, IsNewIn, MayDummyClr, resumes}
 use Rattle.im_theory_log.specs.LogLaws.{IsRebuilt}
 use Rattle.im_theory_log.specs.Structure.{open_smo}
 use Rattle.im_theory_log.specs.Transactions.{last_of, undo_next_of}
-use Rattle.im_theory_log.proofs.Appends.{append_dummy, append_smo}
-use Rattle.im_theory_log.proofs.PageCounts.{count_low}
+use Rattle.im_theory_log.proofs.Cited.{append_dummy, append_smo, count_low}
 use Rattle.im_theory_tree.specs.Theory.{page_tree}
 use Rattle.im_smo_pages.specs.Images.{Numbered, image_at}
 use Rattle.im_smo_log.specs.Under.{AreLogged}

@@ -11,11 +11,7 @@ use Rattle.im_theory_log.specs.LogLaws.{IsRebuilt, bodies}
 use Rattle.im_theory_log.specs.PageCounts.{count_in, count_of, greatest_count, named_to, names_page}
 use Rattle.im_theory_log.specs.Structure.{open_after, open_smo, settled}
 use Rattle.im_theory_log.specs.Transactions.{is_end, is_finished, last_of, undo_next_of}
-use Rattle.im_theory_log.proofs.Histories.{below_older, page_here, page_other, whole_below}
-use Rattle.im_theory_log.proofs.Fronts.{has_tree}
-use Rattle.im_theory_log.proofs.Named.{named_up}
-use Rattle.im_theory_log.proofs.PageCounts.{count_more, count_said}
-use Rattle.im_theory_log.proofs.Settled.{settled_smo}
+use Rattle.im_theory_log.proofs.Cited.{below_older, page_here, page_other, whole_below, has_tree, named_up, count_more, count_said, settled_smo, left_alone}
 use Rattle.im_theory_tree.specs.Levels.{Pages, walk}
 use Rattle.im_theory_tree.specs.Good.{IsGoodTree}
 use Rattle.im_theory_tree.specs.Same.{SameButMark}
@@ -29,7 +25,7 @@ use Rattle.im_smo_log.specs.GoingOn.{PagesAgree}
 use Rattle.im_smo_pages.proofs.ImageLemmas.{body_or, applied_image}
 use Rattle.im_smo_log.proofs.ChangeLogs.{rising_lt}
 use Rattle.im_smo_log.proofs.ImagePlaces.{image_place, image_there}
-use Rattle.im_smo_log.proofs.Others.{left_alone, logged_wider}
+use Rattle.im_smo_log.proofs.Others.{logged_wider}
 
 -- undo goes on, behind the change, where it stood
 resumes_newer : (b : Base) (t : ℕ) (images : List Numbered) (i : ℕ) (r : Logged) (older : History) (s : Logged) (rest : History) → end_of b older < r.lsn → AreLogged t images (end_of b older) i (s ∷ rest)

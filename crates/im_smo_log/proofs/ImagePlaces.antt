@@ -8,9 +8,8 @@ use Rattle.im_theory_tree.specs.Levels.{Pages}
 use Rattle.im_theory_tree.specs.Ways.{with_leaf}
 use Rattle.im_smo_pages.specs.Images.{Numbered, IsRising, image_of, image_at, held}
 use Rattle.im_smo_pages.specs.OnWay.{IsApart}
-use Rattle.im_smo_pages.proofs.ImageLemmas.{body_or, applied_image}
+use Rattle.im_smo_pages.proofs.ImageLemmas.{body_or, applied_image, above_all as above_lt, rising_tail as tail_rises}
 use Rattle.im_smo_pages.proofs.PlanWays.{apart_page}
-use Rattle.im_smo_log.proofs.ChangeLogs.{above_lt, tail_rises}
 
 -- the image at a place is that of its number
 pub image_there : (xs : List Numbered) (k : ℕ) → IsRising xs → k < length xs → image_of xs (image_at xs k).0 ≡ Some (image_at xs k).1

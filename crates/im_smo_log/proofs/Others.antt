@@ -11,12 +11,9 @@ use Rattle.im_theory_log.specs.Tree.{with_entries}
 use Rattle.im_theory_log.specs.Histories.{Base, History, changes_page, end_of, page_after, page_at}
 use Rattle.im_theory_log.specs.Lawful.{IsLawful, IsNotIn, MayCome, resumes}
 use Rattle.im_theory_log.specs.PageCounts.{count_of}
-use Rattle.im_theory_log.specs.Structure.{body_before, open_after, open_smo, settled, taken_back}
+use Rattle.im_theory_log.specs.Structure.{open_after, open_smo, settled, taken_back}
 use Rattle.im_theory_log.specs.Transactions.{is_end, is_finished, last_of, undo_from, undo_next_of}
-use Rattle.im_theory_log.proofs.Fronts.{has_tree}
-use Rattle.im_theory_log.proofs.Histories.{below_older, no_change, page_other, page_same}
-use Rattle.im_theory_log.proofs.Named.{named_up}
-use Rattle.im_theory_log.proofs.PageCounts.{count_more}
+use Rattle.im_theory_log.proofs.Cited.{has_tree, below_older, no_change, page_other, page_same, named_up, count_more, left_alone}
 use Rattle.im_theory_tree.specs.Levels.{Pages}
 use Rattle.im_theory_tree.specs.Good.{IsGoodTree}
 use Rattle.im_theory_tree.specs.Same.{SameButMark}
@@ -50,10 +47,6 @@ logged_wider t images l m zero (s ∷ rest) up is = absurd is
 logged_wider t images l m (suc i) [] up is = absurd is
 logged_wider t images l m (suc i) (s ∷ rest) up is =
     (is.0, is.1, (let low : s.lsn ≤ l = is.2 in omega (arith, low, up)), logged_wider t images l m i rest up is.3)
-
-pub left_alone : (p : ℕ) (going : History) (now : Body) → IsNotIn p going → taken_back going p now ≡ now
-left_alone p [] now out = refl
-left_alone p (s ∷ rest) now out = cond-false (s.page == p) (body_before s.what now) (taken_back rest p now) (ne_eqb s.page p out.0) ∙ left_alone p rest now out.1
 
 -- where undo goes on behind the change: a later record of another says nothing of it
 resumes_other : (b : Base) (t : ℕ) (images : List Numbered) (i : ℕ) (r : Logged) (older going : History) → r.txn ≢ t → end_of b older < r.lsn → AreLogged t images (end_of b older) i going

@@ -1,7 +1,6 @@
 -- The bytes of a page behind its LSN.
-use Rattle.std.proofs.Common.{◌≡◌, ℕ, ◌+◌, ◌-◌, Bool, true, false, List, ◌++◌, length, take, drop, replicate, get_or, Some, None, refl, ap, subst, ◌∙◌, arith, if◌then◌else◌}
+use Rattle.std.proofs.Common.{◌≡◌, ℕ, ◌+◌, ◌-◌, Bool, true, false, List, ◌++◌, length, take, drop, replicate, get_or, Some, None, refl, ap, subst, ◌∙◌, arith, if◌then◌else◌, get_or-append-add, get_or-drop, length-drop, length-append, take_all}
 use Rattle.std.specs.Bool.{Decides}
-use Rattle.std.proofs.lemmas.List.{get_or-append-add, get_or-drop, length-drop, length-append, take_all}
 use Rattle.im_base_types.specs.Pages.{Page}
 use Rattle.im_theory_page.specs.Number.{SameOutside}
 use Rattle.im_theory_page.specs.Page.{IsForm, said_by, is_form, page_of}

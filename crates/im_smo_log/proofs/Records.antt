@@ -3,7 +3,7 @@ use Rattle.std.proofs.Common.{◌≡◌, ◌≢◌, ◌≤◌, ◌+◌, ℕ, Lis
 use Rattle.std.specs.Prelude.{max}
 use Rattle.im_base_types.specs.Pages.{Body, Page}
 use Rattle.im_base_types.specs.Records as whats
-use Rattle.im_base_types.specs.Records.{What, Logged}
+use Rattle.im_base_types.specs.Records.{What}
 use Rattle.im_theory_log.specs.Histories.{Base}
 use Rattle.im_theory_log.specs.Writer.{Writer}
 use Rattle.im_page_table.specs.KnownCopies.{changed_as}

@@ -11,9 +11,7 @@ use Rattle.im_theory_log.specs.Tree.{with_body}
 use Rattle.im_theory_log.specs.Writer.{PageState, Writer}
 use Rattle.im_theory_log.specs.WriterSteps.{appended}
 use Rattle.im_page_table.specs.KnownCopies.{changed_as, changed_page_as}
-use Rattle.im_theory_log.proofs.Histories.{front_self}
-use Rattle.im_theory_log.proofs.Images.{images_pages}
-use Rattle.im_theory_log.proofs.Redo.{reached_end}
+use Rattle.im_theory_log.proofs.Cited.{front_self, images_pages, reached_end}
 use Rattle.im_base_disk.specs.declared.disk.Disk.{Ghosts}
 use Rattle.im_base_disk.specs.Disk.{Files}
 use Rattle.im_base_disk.proofs.Runs.{then_on, weakened}
@@ -34,7 +32,7 @@ use Rattle.im_theory_tree.specs.Theory.{page_tree}
 use Rattle.im_theory_tree.specs.Plans.{applied}
 use Rattle.im_smo_pages.specs.Images.{Numbered, IsAbove, IsRising, image_of, image_at, plan_of}
 use Rattle.im_smo_pages.specs.Changed.{SamePages}
-use Rattle.im_smo_pages.proofs.ImageLemmas.{body_or, applied_image}
+use Rattle.im_smo_pages.proofs.ImageLemmas.{body_or, applied_image, rising_tail}
 use Rattle.im_smo_pages.proofs.Updates.{at_other}
 use Rattle.im_smo_alloc.specs.Seen.{bodies, seen}
 use Rattle.im_smo_log.specs.Logged.{smo_at, dummy_at, PageLogged}
@@ -77,14 +75,10 @@ absent m n (x ∷ xs) up le =
     let here : m < x.0 = up.0 in
     cond-false (x.0 == n) (Some x.1) (image_of xs n) (ne_eqb x.0 n (λ e. absurd (omega (arith, e, here, le)))) ∙ absent x.0 n xs up.1 (omega (arith, here, le))
 
-tail_rises : (x : Numbered) (xs : List Numbered) → IsAbove x.0 xs → IsRising xs
-tail_rises x [] up = tt
-tail_rises x (y ∷ xs) up = up.1
-
 drop_rises : (i : ℕ) (xs : List Numbered) → IsRising xs → IsRising (drop i xs)
 drop_rises zero xs up = up
 drop_rises (suc i) [] up = tt
-drop_rises (suc i) (x ∷ xs) up = drop_rises i xs (tail_rises x xs up)
+drop_rises (suc i) (x ∷ xs) up = drop_rises i xs (rising_tail x xs up)
 
 -- the first of them becomes the writer's page
 seen_step : (s t : Writer) (x : Numbered) (rest : List Numbered) → IsAbove x.0 rest → ((q : ℕ) → bodies (pages_of t) q ≡ with_body (bodies (pages_of s)) x.0 x.1.body q) → SamePages (seen (pages_of t) rest) (seen (pages_of s) (x ∷ rest))

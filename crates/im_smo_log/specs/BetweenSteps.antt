@@ -16,14 +16,14 @@ use Rattle.im_smo_log.specs.Under.{is_structural, IsUnderWay}
 -- ---- what others log in a step
 
 -- a record of another than t, none of a structure change, on no page of the plan
-pub record IsBeside (t : ℕ) (images : List Numbered) (r : Logged) : Type 0 where
+pub record IsRecordBeside (t : ℕ) (images : List Numbered) (r : Logged) : Type 0 where
   pub other : r.txn ≢ t
   pub plain : is_structural r.what ≡ false
   pub apart : changes_page r.what ≡ true → IsApart images r.page
 
 abbrev pub AreBeside : ℕ → List Numbered → History → Type 0
 AreBeside t images [] = Unit {0}
-AreBeside t images (r ∷ rs) = IsBeside t images r × AreBeside t images rs
+AreBeside t images (r ∷ rs) = IsRecordBeside t images r × AreBeside t images rs
 
 -- A change goes on behind such records: it is under way, a key's leaf behind it is that still, the open records are the same, and each page of the plan is settled as it was, so page 0, whose count others are told.
 pub record GoesOnBeside (b : Base) (t undo_next : ℕ) (images : List Numbered) (done prev : ℕ) (older longer : History) : Type 0 where

@@ -18,8 +18,8 @@ use Rattle.im_smo_log.specs.Logged.{smo_at, dummy_at}
 use Rattle.im_smo_log.specs.Under.{IsUnderWay, is_structural, is_done}
 
 -- Records of others, outside the pages of the plan, keep a structure change under way.
-abbrev pub OthersKeep : Type 0
-OthersKeep = (b : Base) (t undo_next : ℕ) (images : List Numbered) (done prev : ℕ) (r : Logged) (older : History) → IsUnderWay b t undo_next images done prev older
+abbrev pub OthersKeepChange : Type 0
+OthersKeepChange = (b : Base) (t undo_next : ℕ) (images : List Numbered) (done prev : ℕ) (r : Logged) (older : History) → IsUnderWay b t undo_next images done prev older
     → IsLawful b page_tree (r ∷ older) → r.txn ≢ t → is_structural r.what ≡ false → (changes_page r.what ≡ true → IsApart images r.page)
     → IsUnderWay b t undo_next images done prev (r ∷ older)
 

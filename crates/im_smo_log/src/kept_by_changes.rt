@@ -6,7 +6,7 @@ ghost use Rattle.im_theory_log.specs.Transactions.{committed, contents, net};
 ghost use Rattle.im_smo_log.specs.BetweenSteps.{OthersGoOn, PagesKeepSettled, InsertsMayEnd};
 ghost use Rattle.im_smo_log.specs.ChangePages.{FirstAreDone};
 ghost use Rattle.im_smo_log.specs.Changes.{GrowsByChange, IsSameOf};
-ghost use Rattle.im_smo_log.specs.GoingOn.{OthersKeep, OthersKeepWays, PagesGoOn, OtherPagesAreSettled, PagesAgree, ClosesWell, ChangesBegin, PagesMayCome, ClosesMayCome};
+ghost use Rattle.im_smo_log.specs.GoingOn.{OthersKeepChange, OthersKeepWays, PagesGoOn, OtherPagesAreSettled, PagesAgree, ClosesWell, ChangesBegin, PagesMayCome, ClosesMayCome};
 
 /// The records of a structure change, and Images among them, leave the committed effects, the tree's map and each net as
 /// they were, and of each other transaction all that undo asks. So a stop in its middle loses and adds nothing of what
@@ -22,7 +22,7 @@ pub fn changes_keep()
 /// alone: it begins over pages with none open, its next page may come, and its end, and beside it each page that is not made
 /// yet is the settled one. The pages that are made are the first of its numbers.
 pub fn changes_go_on()
-    ensures others { OthersKeep }
+    ensures others { OthersKeepChange }
     ensures ways { OthersKeepWays }
     ensures pages { PagesGoOn }
     ensures settled { OtherPagesAreSettled }

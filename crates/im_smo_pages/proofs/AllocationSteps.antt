@@ -7,8 +7,7 @@ use Rattle.im_theory_page.specs.Header.{empty_body}
 use Rattle.im_theory_tree.specs.Levels.{Pages}
 use Rattle.im_theory_tree.specs.Good.{times, AreFree, IsGoodTree}
 use Rattle.im_theory_tree.specs.Allocations.{TakesFree, TakesCount, GivesFree}
-use Rattle.im_theory_tree.proofs.Descent.{times-here}
-use Rattle.im_theory_tree.proofs.InnerSplit.{good_once}
+use Rattle.im_theory_tree.proofs.Cited.{times-here, good_once}
 use Rattle.im_smo_pages.specs.Bodies.{meta_without_first, meta_with_count, meta_with_first}
 use Rattle.im_smo_pages.specs.Changed.{SamePages, free_taken_pages, count_taken_pages, free_given_pages}
 use Rattle.im_smo_pages.proofs.Updates.{at_here, at_other, tree_of, links_of, not_first, not_later}

@@ -1,18 +1,14 @@
 -- The leaves beside a leaf of a good tree.
-use Rattle.std.proofs.Common.{◌≡◌, ℕ, zero, suc, ◌+◌, ◌≤◌, List, [], ◌∷◌, ◌++◌, inl, inr, sym, ap, subst, ◌∙◌, arith}
+use Rattle.std.proofs.Common.{◌≡◌, ℕ, zero, ◌+◌, ◌≤◌, List, [], ◌∷◌, ◌++◌, inl, inr, sym, ap, subst, ◌∙◌, arith}
 use Rattle.std.proofs.lemmas.Bool.{cases_eq}
 use Rattle.std.proofs.lemmas.Bool.Decides.{nat_tests}
 use Rattle.std.proofs.lemmas.List.{map-append}
 use Rattle.im_base_types.specs.declared.page_kind.PageKind.TheVariants.{Leaf}
 use Rattle.im_base_types.specs.Keys.{Key}
-use Rattle.im_theory_tree.specs.Levels.{Pages, Node, below, leaves_under, page_numbers, the_root, height}
-use Rattle.im_theory_tree.specs.Good.{AllOf, IsLeafPage, HaveLevels, AreChained, first_page, times, IsGoodTree}
+use Rattle.im_theory_tree.specs.Levels.{Pages, Node, leaves_under, page_numbers, the_root, height}
+use Rattle.im_theory_tree.specs.Good.{AllOf, IsLeafPage, AreChained, first_page, times, IsGoodTree}
 use Rattle.im_theory_tree.specs.Search.{IsOnWay}
-use Rattle.im_theory_tree.proofs.Keeps.{times-append}
-use Rattle.im_theory_tree.proofs.Descent.{times-here}
-use Rattle.im_theory_tree.proofs.LeafSplit.{chained_right}
-use Rattle.im_theory_tree.proofs.InnerSplit.{good_once}
-use Rattle.im_theory_tree.proofs.DropChild.{leaves_among}
+use Rattle.im_theory_tree.proofs.Cited.{times-append, times-here, chained_right, good_once, leaves_among, leaves_are_leaves}
 
 -- a leaf, among the leaves from left to right
 pub record LeafPlace (pages : Pages) (p : ℕ) : Type 0 where
@@ -36,10 +32,6 @@ pub record Beside (pages : Pages) (spare : List ℕ) (p : ℕ) : Type 0 where
 -- the leaf of a key
 pub place_on_way : (pages : Pages) (key : Key) (p : ℕ) → IsOnWay pages zero key p → LeafPlace pages p
 place_on_way pages key p way = record { before = way.left; node = way.node; after = way.right; leaves = sym way.leaves; page = way.page }
-
-all_leaves : (pages : Pages) (h : ℕ) (ns : List Node) → HaveLevels pages h ns → AllOf (IsLeafPage pages) (leaves_under pages h ns)
-all_leaves pages zero ns have = have
-all_leaves pages (suc h) ns have = all_leaves pages h (below pages ns) have.1
 
 leaf_among : (pages : Pages) (ns : List Node) (x : ℕ) → AllOf (IsLeafPage pages) ns → 1 ≤ times x (page_numbers ns) → (pages x).kind ≡ Leaf
 leaf_among pages [] x all some = absurd (omega arith)
@@ -73,7 +65,7 @@ beside pages spare p good place = subst (Beside pages spare) place.page at_node
     chain = chained_right pages 0 place.before (place.node ∷ place.after) (subst (AreChained pages 0) place.leaves good.chained)
 
     all : AllOf (IsLeafPage pages) (place.before ++ place.node ∷ place.after)
-    all = subst (AllOf (IsLeafPage pages)) place.leaves (all_leaves pages (height pages) the_root good.levels)
+    all = subst (AllOf (IsLeafPage pages)) place.leaves (leaves_are_leaves pages (height pages) the_root good.levels)
 
     counts : (x : ℕ) → times x (page_numbers (place.before ++ place.node ∷ place.after)) ≡ times x (page_numbers place.before) + times x (place.node.page ∷ page_numbers place.after)
     counts x = ap (times x) (map-append (λ (n : Node). n.page) place.before (place.node ∷ place.after)) ∙ times-append x (page_numbers place.before) (place.node.page ∷ page_numbers place.after)

@@ -12,13 +12,9 @@ use Rattle.im_theory_tree.specs.Good.{times, IsGoodTree}
 use Rattle.im_theory_tree.specs.Search.{IsOnWay}
 use Rattle.im_theory_tree.specs.Deletions.{bare_leaf}
 use Rattle.im_theory_tree.specs.KeyDeletions.{HasNone, chain_down, leaf_down, Unlinks, DropsEntry, DropsLeftmost, DropsAll}
-use Rattle.im_theory_tree.proofs.Frame.{leaves_under-append}
-use Rattle.im_theory_tree.proofs.Way.{split_at}
-use Rattle.im_theory_tree.proofs.ChildPlaces.{first_child, below_at}
-use Rattle.im_theory_tree.proofs.DropChild.{bare_leaves}
-use Rattle.im_theory_tree.proofs.KeyDeletionLemmas.{bare_of, leaf_is}
-use Rattle.im_theory_tree.proofs.LookupLemmas.{way_inner}
-use Rattle.im_smo_pages.specs.Bodies.{leaf_body, with_prev, with_next, without_entry, without_leftmost}
+use Rattle.im_theory_tree.proofs.Cited.{leaves_under-append, split_at, first_child, below_at, bare_leaves, bare_of, leaf_is, way_inner}
+use Rattle.im_smo_pages.specs.Bodies.{with_prev, with_next, without_entry, without_leftmost}
+use Rattle.im_theory_page.specs.Header.{leaf_body}
 use Rattle.im_smo_pages.specs.Changed.{SamePages, linked_prev, linked_next, unlinked_pages, entry_dropped_pages, leftmost_dropped_pages, root_emptied_pages}
 use Rattle.im_smo_pages.proofs.Updates.{at_here, at_other, tree_of, links_of, tree_then, links_then, links_with, prev_here, prev_other, prev_tree, next_here, next_other, next_tree, not_first}
 use Rattle.im_smo_pages.proofs.Beside.{LeafPlace, Beside, beside}

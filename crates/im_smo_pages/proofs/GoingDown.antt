@@ -12,19 +12,17 @@ use Rattle.im_theory_tree.specs.Good.{AtOrAbove, IsGoodTree}
 use Rattle.im_theory_tree.specs.Search.{IsOnWay}
 use Rattle.im_theory_tree.specs.Halves.{SplitsWell}
 use Rattle.im_theory_tree.specs.KeySplits.{KeepsWay}
-use Rattle.im_theory_tree.proofs.LeafSplitWay.{key_leaf_split}
-use Rattle.im_theory_tree.proofs.RootSplitWay.{key_root_leaf_split}
-use Rattle.im_smo_pages.specs.Bodies.{leaf_body, with_separator}
+use Rattle.im_theory_tree.proofs.Cited.{key_leaf_split, key_root_leaf_split, key_leaf_ways, key_root_leaf_ways, step_way}
+use Rattle.im_smo_pages.specs.Bodies.{with_separator}
+use Rattle.im_theory_page.specs.Header.{leaf_body}
 use Rattle.im_smo_pages.specs.Images.{Numbered, Has, held}
 use Rattle.im_smo_pages.specs.Changed.{linked_prev}
 use Rattle.im_smo_pages.specs.OnImages.{PartsLeaf, PartsRootLeaf, Becomes}
 use Rattle.im_theory_tree.specs.Ways.{KeepsWays}
-use Rattle.im_theory_tree.proofs.KeyWays.{key_leaf_ways, key_root_leaf_ways}
 use Rattle.im_smo_pages.specs.OnWay.{IsHalf, HasRoomIn}
 use Rattle.im_smo_pages.proofs.Updates.{at_other}
 use Rattle.im_smo_pages.proofs.LeafSplitSteps.{leaf_apart, leaf_step}
 use Rattle.im_smo_pages.proofs.Beside.{place_on_way, beside}
-use Rattle.im_theory_tree.proofs.Way.{step_way}
 use Rattle.im_smo_pages.proofs.RootSplitSteps.{root_leaf_step}
 use Rattle.im_smo_pages.proofs.Becoming.{leaf_then_link}
 

@@ -1,5 +1,5 @@
 -- What each page holds where images are applied, once some more are put in.
-use Rattle.std.proofs.Common.{◌≡◌, ℕ, List, Option, Some, None, inl, inr, refl, sym, ap, subst, ◌∙◌}
+use Rattle.std.proofs.Common.{◌≡◌, ℕ, List, Option, Some, inl, inr, refl, sym, ap, subst, ◌∙◌}
 use Rattle.std.proofs.lemmas.Bool.{cases_eq}
 use Rattle.std.specs.Prelude.{IsSome}
 use Rattle.im_base_types.specs.Pages.{Body, Page}
@@ -7,7 +7,7 @@ use Rattle.im_theory_log.specs.Tree.{with_body}
 use Rattle.im_theory_tree.specs.Levels.{Pages}
 use Rattle.im_smo_pages.specs.Images.{Numbered, IsRising, image_of, put_image, without_image, held, Has, KeepsAll}
 use Rattle.im_smo_pages.specs.Changed.{SamePages}
-use Rattle.im_smo_pages.proofs.Updates.{at_here, at_other, with_same}
+use Rattle.im_smo_pages.proofs.Updates.{with_same}
 use Rattle.im_smo_pages.proofs.ImageLemmas.{body_or, applied_image, applied_put, image_put, image_put_other, put_rising, put_without}
 
 -- ---- one page

@@ -7,7 +7,7 @@ use Rattle.im_theory_log.specs.Tree.{with_body}
 use Rattle.im_theory_tree.specs.Levels.{Pages}
 use Rattle.im_theory_tree.specs.Good.{AllOf}
 use Rattle.im_theory_tree.specs.Plans.{Image as Planned, applied, KnowsPages, PagesAscend}
-use Rattle.im_smo_pages.specs.Images.{Numbered, IsAbove, IsRising, image_of, put_image, without_image, image_at, IsFound, IsAbsent, plan_of}
+use Rattle.im_smo_pages.specs.Images.{Numbered, IsAbove, IsRising, image_of, put_image, without_image, image_at, IsFound, LacksImage, plan_of}
 
 -- ---- one step of each list
 
@@ -46,7 +46,7 @@ above_less : (m n : ℕ) (xs : List Numbered) → m ≤ n → IsAbove n xs → I
 above_less m n [] le up = tt
 above_less m n (x ∷ xs) le up = (let here : n < x.0 = up.0 in omega (arith, here, le), up.1)
 
-above_all : (n : ℕ) (xs : List Numbered) (k : ℕ) → IsAbove n xs → k < length xs → n < (image_at xs k).0
+pub above_all : (n : ℕ) (xs : List Numbered) (k : ℕ) → IsAbove n xs → k < length xs → n < (image_at xs k).0
 above_all n [] k up within = absurd (omega arith)
 above_all n (x ∷ xs) zero up within = up.0
 above_all n (x ∷ xs) (suc k) up within =
@@ -100,7 +100,7 @@ found_tail x xs n i h = record {
   here = h.here;
 }
 
-absent_tail : (x : Numbered) (xs : List Numbered) (n i : ℕ) → IsAbsent (x ∷ xs) n (suc i) → IsAbsent xs n i
+absent_tail : (x : Numbered) (xs : List Numbered) (n i : ℕ) → LacksImage (x ∷ xs) n (suc i) → LacksImage xs n i
 absent_tail x xs n i h = record {
   within = let w : suc i ≤ length (x ∷ xs) = h.within in omega (arith, w);
   below = λ k lt. h.below (suc k) (omega arith);
@@ -110,7 +110,7 @@ absent_tail x xs n i h = record {
 found_less : (x : Numbered) (xs : List Numbered) (n i : ℕ) → IsFound (x ∷ xs) n (suc i) → x.0 < n
 found_less x xs n i h = h.below zero (omega arith)
 
-absent_less : (x : Numbered) (xs : List Numbered) (n i : ℕ) → IsAbsent (x ∷ xs) n (suc i) → x.0 < n
+absent_less : (x : Numbered) (xs : List Numbered) (n i : ℕ) → LacksImage (x ∷ xs) n (suc i) → x.0 < n
 absent_less x xs n i h = h.below zero (omega arith)
 
 not_above : (m n : ℕ) (xs : List Numbered) → IsAbove m xs → n ≤ m → image_of xs n ≡ None
@@ -126,7 +126,7 @@ found_image (x ∷ xs) n (suc i) h =
     let less = found_less x xs n i h in
     of_other n x xs (λ e. absurd (omega (arith, e, less))) ∙ found_image xs n i (found_tail x xs n i h)
 
-pub absent_image : (xs : List Numbered) (n i : ℕ) → IsRising xs → IsAbsent xs n i → image_of xs n ≡ None
+pub absent_image : (xs : List Numbered) (n i : ℕ) → IsRising xs → LacksImage xs n i → image_of xs n ≡ None
 absent_image [] n i up h = refl
 absent_image (x ∷ xs) n zero up h =
     let more : n < x.0 = h.above (omega arith) in
@@ -140,7 +140,7 @@ put_found n p [] i h = absurd (let w : i < length {A = Numbered} [] = h.within i
 put_found n p (x ∷ xs) zero h = put_same n p x xs h.here
 put_found n p (x ∷ xs) (suc i) h = put_less n p x xs (found_less x xs n i h) ∙ ap (λ (l : List Numbered). x ∷ l) (put_found n p xs i (found_tail x xs n i h))
 
-pub put_absent : (n : ℕ) (p : Page) (xs : List Numbered) (i : ℕ) → IsAbsent xs n i → put_image n p xs ≡ insert xs i (n, p)
+pub put_absent : (n : ℕ) (p : Page) (xs : List Numbered) (i : ℕ) → LacksImage xs n i → put_image n p xs ≡ insert xs i (n, p)
 put_absent n p [] zero h = refl
 put_absent n p [] (suc i) h = absurd (let w : suc i ≤ length {A = Numbered} [] = h.within in omega (arith, w))
 put_absent n p (x ∷ xs) zero h = put_more n p x xs (h.above (omega arith))
@@ -221,7 +221,7 @@ search_above xs m n up more k le within = omega (arith, rising_le xs m k up le w
 
 -- ---- what an insertion that succeeded leaves
 
-pub inserted : (now was xs : List Numbered) (t : Bool) (i n : ℕ) (p : Page) → now ≡ (if t then insert was i (n, p) else was) → t ≡ true → was ≡ xs → IsAbsent xs n i → now ≡ put_image n p xs
+pub inserted : (now was xs : List Numbered) (t : Bool) (i n : ℕ) (p : Page) → now ≡ (if t then insert was i (n, p) else was) → t ≡ true → was ≡ xs → LacksImage xs n i → now ≡ put_image n p xs
 inserted now was xs t i n p is ok same absent =
     is ∙ cond-true t (insert was i (n, p)) was ok ∙ ap (λ (l : List Numbered). insert l i (n, p)) same ∙ sym (put_absent n p xs i absent)
 

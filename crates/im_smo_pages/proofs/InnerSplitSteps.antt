@@ -10,8 +10,7 @@ use Rattle.im_theory_tree.specs.Levels.{Pages}
 use Rattle.im_theory_tree.specs.Good.{IsGoodTree}
 use Rattle.im_theory_tree.specs.Search.{IsOnWay}
 use Rattle.im_theory_tree.specs.KeySplits.{SplitsInnerPages, SplitsKeyInner}
-use Rattle.im_theory_tree.proofs.LookupLemmas.{way_inner}
-use Rattle.im_theory_tree.proofs.Way.{step_way}
+use Rattle.im_theory_tree.proofs.Cited.{way_inner, step_way}
 use Rattle.im_smo_pages.specs.Bodies.{inner_body, with_separator}
 use Rattle.im_smo_pages.specs.Parts.{SplitsAt}
 use Rattle.im_smo_pages.specs.Changed.{SamePages, inner_split_pages}

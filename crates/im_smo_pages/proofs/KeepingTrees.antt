@@ -8,9 +8,7 @@ use Rattle.im_theory_tree.specs.Levels.{Pages, height, walk}
 use Rattle.im_theory_tree.specs.Good.{IsGoodTree}
 use Rattle.im_theory_tree.specs.Search.{IsOnWay}
 use Rattle.im_theory_tree.specs.KeyDeletions.{HasNone, leaf_down, chain_down}
-use Rattle.im_theory_tree.proofs.FreeList.{take_free, take_count, give_free}
-use Rattle.im_theory_tree.proofs.WayStays.{way_stays}
-use Rattle.im_theory_tree.proofs.KeyDeletionLemmas.{drop_entry, drop_leftmost, drop_all}
+use Rattle.im_theory_tree.proofs.Cited.{take_free, take_count, give_free, way_stays, drop_entry, drop_leftmost, drop_all}
 use Rattle.im_smo_pages.specs.Bodies.{meta_without_first, meta_with_count, without_entry, without_leftmost}
 use Rattle.im_smo_pages.specs.Images.{Numbered, held}
 use Rattle.im_smo_pages.specs.Changed.{SamePages, unlinked_pages, free_given_pages, root_emptied_pages}

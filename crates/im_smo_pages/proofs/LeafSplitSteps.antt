@@ -12,12 +12,9 @@ use Rattle.im_theory_tree.specs.Same.{SameLinks}
 use Rattle.im_theory_tree.specs.Good.{times, IsGoodTree}
 use Rattle.im_theory_tree.specs.Search.{IsOnWay}
 use Rattle.im_theory_tree.specs.KeySplits.{SplitsLeafPages, SplitsKeyLeaf}
-use Rattle.im_theory_tree.proofs.Keeps.{times-append}
-use Rattle.im_theory_tree.proofs.Descent.{times-here, pages_above, pages_descend}
-use Rattle.im_theory_tree.proofs.InnerSplit.{good_once}
-use Rattle.im_theory_tree.proofs.LookupLemmas.{way_leaf, way_inner}
-use Rattle.im_theory_tree.proofs.Way.{step_way}
-use Rattle.im_smo_pages.specs.Bodies.{leaf_body, with_separator, with_prev}
+use Rattle.im_theory_tree.proofs.Cited.{times-append, times-here, pages_above, pages_descend, good_once, way_leaf, way_inner, step_way}
+use Rattle.im_smo_pages.specs.Bodies.{with_separator, with_prev}
+use Rattle.im_theory_page.specs.Header.{leaf_body}
 use Rattle.im_smo_pages.specs.Parts.{SplitsAt}
 use Rattle.im_smo_pages.specs.Changed.{SamePages, leaf_split_pages}
 use Rattle.im_smo_pages.proofs.Updates.{at_here, at_other, tree_of, links_of, tree_then, prev_here, prev_other, prev_tree, links_then, links_with, not_first, not_later}

@@ -4,7 +4,8 @@ use Rattle.im_base_types.specs.Pages.{Body, Page}
 use Rattle.im_theory_log.specs.Tree.{with_body, with_entries}
 use Rattle.im_theory_page.specs.Entry.{entry_at, Rises}
 use Rattle.im_theory_tree.specs.Levels.{Pages}
-use Rattle.im_smo_pages.specs.Bodies.{leaf_body, inner_body, raised, with_separator}
+use Rattle.im_smo_pages.specs.Bodies.{inner_body, raised, with_separator}
+use Rattle.im_theory_page.specs.Header.{leaf_body}
 use Rattle.im_smo_pages.specs.Parts.{LeafSplit, InnerSplit, RootLeafSplit, RootInnerSplit}
 use Rattle.im_smo_pages.specs.Images.{Numbered, IsRising, image_of, held, Has, KeepsAll}
 use Rattle.im_smo_pages.specs.Changed.{SamePages, leaf_parted_pages, inner_split_pages, root_leaf_split_pages, root_inner_split_pages}

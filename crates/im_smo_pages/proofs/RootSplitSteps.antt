@@ -7,10 +7,9 @@ use Rattle.im_theory_page.specs.Entry.{entry_at, Rises}
 use Rattle.im_theory_tree.specs.Levels.{Pages, height}
 use Rattle.im_theory_tree.specs.Good.{times, IsGoodTree}
 use Rattle.im_theory_tree.specs.KeySplits.{SplitsRootLeafPages, SplitsRootInnerPages, SplitsKeyRootLeaf, SplitsKeyRootInner}
-use Rattle.im_theory_tree.proofs.Descent.{times-here}
-use Rattle.im_theory_tree.proofs.InnerSplit.{good_once}
-use Rattle.im_theory_tree.proofs.Way.{way_begins}
-use Rattle.im_smo_pages.specs.Bodies.{leaf_body, inner_body, raised}
+use Rattle.im_theory_tree.proofs.Cited.{times-here, good_once, way_begins}
+use Rattle.im_smo_pages.specs.Bodies.{inner_body, raised}
+use Rattle.im_theory_page.specs.Header.{leaf_body}
 use Rattle.im_smo_pages.specs.Parts.{SplitsAt}
 use Rattle.im_smo_pages.specs.Changed.{SamePages, root_leaf_split_pages, root_inner_split_pages}
 use Rattle.im_smo_pages.proofs.Updates.{at_here, at_other, tree_of, links_of, links_then, links_with, not_first, not_later}

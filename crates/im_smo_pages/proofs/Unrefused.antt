@@ -11,15 +11,7 @@ use Rattle.im_theory_tree.specs.Levels.{Pages, Node, child_of, below, leaves_und
 use Rattle.im_theory_tree.specs.Good.{AllOf, AtOrAbove, IsUnder, InRange, next_bound, IsAfter, AreOrdered, IsGoodTree}
 use Rattle.im_theory_tree.specs.Search.{IsOnWay}
 use Rattle.im_theory_tree.specs.Halves.{FitsPage, LacksRoom, SplitsWell}
-use Rattle.im_theory_tree.proofs.Frame.{AllOf-append}
-use Rattle.im_theory_tree.proofs.Order.{AllOf-from, ordered_right}
-use Rattle.im_theory_tree.proofs.Descent.{leaves_descend}
-use Rattle.im_theory_tree.proofs.Way.{step_way, split_at}
-use Rattle.im_theory_tree.proofs.Ascent.{Ascends, ascends_from_rises}
-use Rattle.im_theory_tree.proofs.HalvesLemmas.{splits_well, all_place, separator_after}
-use Rattle.im_theory_tree.proofs.ChildPlaces.{ChildPlace, child_place, children_were, below_at, high_behind}
-use Rattle.im_theory_tree.proofs.Bounds.{ordered_bounds, bounds_of_level, separator_in_range}
-use Rattle.im_theory_tree.proofs.LookupLemmas.{way_leaf, way_inner}
+use Rattle.im_theory_tree.proofs.Cited.{AllOf-append, AllOf-from, ordered_right, leaves_descend, step_way, split_at, Ascends, ascends_from_rises, at_all as all_place, splits_well, separator_after, ChildPlace, child_place, children_were, below_at, high_behind, ordered_bounds, bounds_of_level, separator_in_range, way_leaf, way_inner}
 use Rattle.im_smo_pages.specs.Bodies.{HasNoKey}
 use Rattle.im_smo_pages.specs.Parts.{CanHalve, CanSplit}
 

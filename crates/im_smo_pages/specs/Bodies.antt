@@ -3,17 +3,13 @@ use Rattle.std.specs.Prelude.{◌≡◌, ℕ, ◌+◌, ◌-◌, ◌<◌, false, 
 use Rattle.im_base_types.specs.Keys.{Key}
 use Rattle.im_base_types.specs.Pages.{Entry, Body, Page}
 use Rattle.im_base_types.specs.Maps.{with_key}
-use Rattle.im_base_types.specs.declared.page_kind.PageKind.TheVariants.{Leaf, Inner}
+use Rattle.im_base_types.specs.declared.page_kind.PageKind.TheVariants.{Inner}
 use Rattle.im_theory_page.specs.Entry.{entry_at}
 use Rattle.im_theory_page.specs.Header.{empty_body}
 
 -- the page, saying something else: the LSN stays
 abbrev pub says : Page → Body → Page
 says p b = record p { body = b }
-
--- a leaf with these entries
-abbrev pub leaf_body : ℕ → ℕ → List Entry → Body
-leaf_body prev next es = record (empty_body Leaf 0 prev next 0) { entries = es }
 
 -- an inner page with these entries
 abbrev pub inner_body : ℕ → ℕ → List Entry → Body

@@ -3,9 +3,9 @@ use Rattle.std.specs.Prelude.{◌≡◌, ℕ, zero, suc, ◌+◌, [], ◌∷◌,
 use Rattle.im_theory_log.specs.Tree.{with_body, with_entries}
 use Rattle.im_base_types.specs.declared.page_kind.PageKind.TheVariants.{Free}
 use Rattle.im_theory_page.specs.Entry.{entry_at}
-use Rattle.im_theory_page.specs.Header.{empty_body}
+use Rattle.im_theory_page.specs.Header.{empty_body, leaf_body}
 use Rattle.im_theory_tree.specs.Levels.{Pages}
-use Rattle.im_smo_pages.specs.Bodies.{leaf_body, inner_body, raised, with_separator, with_prev, with_next, without_entry, without_leftmost, meta_without_first, meta_with_count, meta_with_first}
+use Rattle.im_smo_pages.specs.Bodies.{inner_body, raised, with_separator, with_prev, with_next, without_entry, without_leftmost, meta_without_first, meta_with_count, meta_with_first}
 
 -- the same pages
 abbrev pub SamePages : Pages → Pages → Type 0

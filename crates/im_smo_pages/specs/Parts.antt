@@ -8,7 +8,8 @@ use Rattle.im_theory_page.specs.Entry.{entry_at}
 use Rattle.im_theory_page.specs.Page.{is_leaf_kind}
 use Rattle.im_theory_page.specs.Split.{IsSplitPoint, HasRoom}
 use Rattle.im_theory_tree.specs.Halves.{SplitsWell}
-use Rattle.im_smo_pages.specs.Bodies.{says, leaf_body, inner_body, raised, with_separator, HasNoKey}
+use Rattle.im_smo_pages.specs.Bodies.{says, inner_body, raised, with_separator, HasNoKey}
+use Rattle.im_theory_page.specs.Header.{leaf_body}
 
 -- a page of this kind is split at place n, its split point, and each part has room
 pub record SplitsAt (of : PageKind) (page : Body) (n : ℕ) : Type 0 where

@@ -3,7 +3,8 @@
 ghost use Rattle.std.specs.Prelude.{◌≡◌, ◌<◌, ◌↔◌, [], OnOk, OnErr, IfErr, IsOk, length};
 ghost use Rattle.im_base_types.specs.declared.fault.Fault.TheVariants.{NotAStore};
 ghost use Rattle.im_base_types.specs.declared.page_kind.PageKind.TheVariants.{Inner};
-ghost use Rattle.im_smo_pages.specs.Bodies.{says, leaf_body, without_entry, without_leftmost};
+ghost use Rattle.im_smo_pages.specs.Bodies.{says, without_entry, without_leftmost};
+ghost use Rattle.im_theory_page.specs.Header.{leaf_body};
 
 use im_base_types::{Fault, PageKind, PageNo};
 use im_page::Page;

@@ -1,8 +1,8 @@
 //! The pages of a structure change under construction.
 
-ghost use Rattle.std.specs.Prelude.{◌≡◌, ℕ, ◌<◌, ◌≤◌, [], length, OnOk, OnErr, IfOk, IfErr, IfSome, IsSome, IsNone, Some, None, IsOk, vec_len, vec_capacity};
+ghost use Rattle.std.specs.Prelude.{◌≡◌, ℕ, ◌<◌, ◌≤◌, [], length, OnOk, OnErr, IfOk, IfErr, IfSome, IsSome, IsNone, Some, None, IsOk};
 ghost use Rattle.im_base_types.specs.declared.fault.Fault.TheVariants.{Memory};
-ghost use Rattle.im_smo_pages.specs.Images.{IsFound, IsAbsent, IsRising, image_of, image_at, put_image, without_image};
+ghost use Rattle.im_smo_pages.specs.Images.{IsFound, LacksImage, IsRising, image_of, image_at, put_image, without_image};
 
 use crate::image::Image;
 use im_base_types::{Fault, PageNo};
@@ -93,7 +93,7 @@ impl Images {
     /// The place of the page of a number, or where it would come in.
     pub fn find(&self, number: PageNo) -> Result<usize, usize>
         ensures found { IfOk result (λ i. IsFound self.now number i) }
-        ensures absent { IfErr result (λ i. IsAbsent self.now number i) }
+        ensures absent { IfErr result (λ i. LacksImage self.now number i) }
         ensures page { IfOk result (λ i. image_of self.now number ≡ Some (image_at self.now i).1) }
         ensures none { IfErr result (λ _. image_of self.now number ≡ None) }
     {

@@ -1,6 +1,6 @@
 -- What a step of the split answers and keeps.
-use Rattle.std.proofs.Common.{◌≡◌, ◌≢◌, ℕ, zero, suc, ◌+◌, ◌≤◌, Bool, List, ◌∷◌, false, sym, ap, subst, ◌∙◌, arith}
-use Rattle.std.specs.Prelude.{Result, Ok, Err, IfErr, IfOk}
+use Rattle.std.proofs.Common.{◌≡◌, ℕ, zero, suc, ◌+◌, ◌≤◌, Bool, List, ◌∷◌, false, sym, ap, subst, ◌∙◌, arith}
+use Rattle.std.specs.Prelude.{Result, Ok, Err, IfOk}
 use Rattle.im_base_types.specs.declared.fault.Fault.{Fault}
 use Rattle.im_base_types.specs.declared.fault.Fault.TheVariants.{NotAStore}
 use Rattle.im_base_types.specs.Keys.{Key}
@@ -12,6 +12,7 @@ use Rattle.im_theory_page.specs.Content.{IsContent}
 use Rattle.im_theory_page.specs.Page.{is_leaf_kind}
 use Rattle.im_page_writer.specs.Outcome.{AllPages, IsSound}
 use Rattle.im_page_writer.proofs.Outcomes.{sound_own}
+use Rattle.im_page_writer.proofs.Structure.{refused_not}
 use Rattle.im_theory_tree.specs.Levels.{Pages}
 use Rattle.im_theory_tree.specs.Halves.{FitsPage}
 use Rattle.im_tree_search.specs.Levels.{HasLevel}
@@ -31,10 +32,6 @@ pub both_ok : {A E : Type 0} (r : Result A E) (P Q R : A → Type 0) → IfOk r 
 both_ok (Ok a) P Q R one two to = to a one two
 both_ok (Err e) P Q R one two to = tt
 
-pub not_refused : {A : Type 0} (r : Result A Fault) → (r ≡ Err NotAStore → ⊥) → IfErr r (λ e. e ≢ NotAStore)
-not_refused (Ok a) never = tt
-not_refused (Err e) never = λ same. never (ap (λ (f : Fault). Err f) same)
-
 -- the entries of an inner page are those of a page
 pub fits_inner : (level : ℕ) (page : Page) → 1 ≤ level → HasLevel level page.body → IsContent page → FitsPage false page.body.entries
 fits_inner zero page some is content = absurd (omega (arith, some))
@@ -47,7 +44,7 @@ module _ (s : AllPages) (key : Key) (images new : List Numbered) (numbers : List
   -- a step on the images
   pub pending_kept : (r : Result PendingSplit Fault) → IfOk r (λ pending. GoesOnTo (seen s images) (seen s new) new (newest_first numbers) key pending.level pending.parent pending.page) → (r ≡ Err NotAStore → ⊥)
       → IsSound r (λ pending. LeavesPending s key images pending new numbers)
-  pending_kept r is never = sound_own r _ _ is (not_refused r never) (λ pending goes. record { pending_is = goes.0; parent = goes.2; same = goes.1; ways = goes.3 })
+  pending_kept r is never = sound_own r _ _ is (refused_not r never) (λ pending goes. record { pending_is = goes.0; parent = goes.2; same = goes.1; ways = goes.3 })
 
   module _ (up : IsRising images) (out : List Numbered) (page : Page) (r : Result PendingSplit Fault) where
     inner_at : (k parent p q : ℕ) → IsPending (seen s images) (q ∷ newest_first numbers) key (suc k) parent p → Has images parent → page ≡ page_in s images p → out ≡ without_image p images

@@ -1,6 +1,5 @@
 -- The pages that are to be split stay where a step changes none of them.
-use Rattle.std.proofs.Common.{◌≡◌, ℕ, zero, suc, ◌+◌, ◌≤◌, ◌<◌, Bool, true, false, List, take, drop, sym, subst, arith, length-take, length-drop}
-use Rattle.std.proofs.lemmas.List.{get_or-take, get_or-drop}
+use Rattle.std.proofs.Common.{◌≡◌, ℕ, zero, suc, ◌+◌, ◌≤◌, ◌<◌, Bool, true, false, List, take, drop, sym, subst, arith, length-take, length-drop, get_or-take, get_or-drop}
 use Rattle.im_base_types.specs.Keys.{Key}
 use Rattle.im_base_types.specs.Pages.{Entry, Body}
 use Rattle.im_theory_page.specs.Entry.{no_entry, entry_at, Rises}
@@ -10,8 +9,7 @@ use Rattle.im_theory_tree.specs.Levels.{Pages}
 use Rattle.im_theory_tree.specs.Search.{IsOnWay}
 use Rattle.im_theory_tree.specs.Halves.{LacksRoom}
 use Rattle.im_theory_tree.specs.KeySplits.{is_leaf_level}
-use Rattle.im_theory_tree.proofs.LookupLemmas.{way_leaf, way_inner}
-use Rattle.im_theory_tree.proofs.Way.{step_way}
+use Rattle.im_theory_tree.proofs.Cited.{way_leaf, way_inner, step_way}
 use Rattle.im_smo_split.specs.PendingSplits.{PassesUp, SplitsDown}
 
 pub way_level : (pages : Pages) (k : ℕ) (key : Key) (p : ℕ) → IsOnWay pages k key p → (pages p).level ≡ k

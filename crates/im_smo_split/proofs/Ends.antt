@@ -13,9 +13,7 @@ use Rattle.im_theory_tree.specs.Good.{IsGoodTree}
 use Rattle.im_theory_tree.specs.Search.{IsOnWay}
 use Rattle.im_theory_tree.specs.Halves.{FitsPage}
 use Rattle.im_theory_tree.specs.KeySplits.{HasRoomOnWay}
-use Rattle.im_theory_tree.proofs.StepLemmas.{relisted}
-use Rattle.im_theory_tree.proofs.Way.{step_way, way_begins}
-use Rattle.im_theory_tree.proofs.LookupLemmas.{way_leaf}
+use Rattle.im_theory_tree.proofs.Cited.{relisted, step_way, way_begins, way_leaf}
 use Rattle.im_smo_pages.specs.Images.{Numbered, IsRising, without_image, held, Has}
 use Rattle.im_theory_tree.specs.Ways.{KeepsWays}
 use Rattle.im_smo_pages.specs.OnWay.{HasRoomIn}

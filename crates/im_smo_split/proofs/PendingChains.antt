@@ -1,7 +1,7 @@
 -- From one pending split to the next.
-use Rattle.std.proofs.Common.{◌≡◌, ◌≢◌, ◌⊎◌, ℕ, zero, suc, ◌+◌, ◌≤◌, ◌<◌, true, false, List, [], ◌∷◌, take, drop, Some, sym, ap, subst, ◌∙◌, ⊎_elim, arith}
+use Rattle.std.proofs.Common.{◌≡◌, ◌≢◌, ℕ, zero, suc, ◌+◌, ◌≤◌, ◌<◌, true, false, List, [], ◌∷◌, take, drop, Some, sym, ap, subst, ◌∙◌, arith}
 use Rattle.im_base_types.specs.Keys.{Key, IsBelow}
-use Rattle.im_base_types.specs.Pages.{Entry, Body}
+use Rattle.im_base_types.specs.Pages.{Body}
 use Rattle.im_theory_log.specs.Tree.{with_body, with_entries}
 use Rattle.im_base_types.specs.declared.page_kind.PageKind.TheVariants.{Leaf, Inner}
 use Rattle.im_theory_page.specs.Entry.{entry_at, Rises}
@@ -13,17 +13,9 @@ use Rattle.im_theory_tree.specs.Good.{AtOrAbove, times, IsGoodTree}
 use Rattle.im_theory_tree.specs.Search.{IsOnWay}
 use Rattle.im_theory_tree.specs.Halves.{FitsPage, SplitsWell}
 use Rattle.im_theory_tree.specs.KeySplits.{is_leaf_level, HasRoomOnWay, KeepsWay, SplitsKeyLeaf, SplitsKeyInner, SplitsKeyRootLeaf, SplitsKeyRootInner}
-use Rattle.im_theory_tree.proofs.Way.{step_way, way_begins}
-use Rattle.im_theory_tree.proofs.WayStays.{way_stays}
-use Rattle.im_theory_tree.proofs.LookupLemmas.{way_leaf, way_inner, way_known}
-use Rattle.im_theory_tree.proofs.InnerSplitWay.{key_inner_split}
-use Rattle.im_theory_tree.proofs.RootSplitWay.{key_root_leaf_split, key_root_inner_split}
-use Rattle.im_theory_tree.proofs.StepLemmas.{below_or_not}
-use Rattle.im_theory_tree.proofs.LeafSplitWay.{key_leaf_split}
-use Rattle.im_theory_tree.proofs.ChildStays.{child_in_left, child_in_right}
+use Rattle.im_theory_tree.proofs.Cited.{step_way, way_begins, way_stays, way_leaf, way_inner, way_known, key_inner_split, key_root_leaf_split, key_root_inner_split, room_of_parts, key_leaf_split, child_in_left, child_in_right, key_inner_ways, key_root_inner_ways}
 use Rattle.im_smo_pages.specs.Bodies.{inner_body, with_separator, raised}
 use Rattle.im_theory_tree.specs.Ways.{KeepsAllWays}
-use Rattle.im_theory_tree.proofs.KeyWays.{key_inner_ways, key_root_inner_ways}
 use Rattle.im_smo_pages.specs.Parts.{SplitsAt, CanHalve, CanSplit}
 use Rattle.im_smo_pages.specs.Changed.{SamePages, leaf_split_pages, inner_split_pages, root_leaf_split_pages, root_inner_split_pages}
 use Rattle.im_smo_pages.proofs.Updates.{at_other, tree_of, not_first, not_later}
@@ -169,15 +161,6 @@ module _ (pages new : Pages) (spare : List ℕ) (key : Key) (k l r n c : ℕ) (p
       )
 
 -- ---- a leaf
-
--- the part of a split leaf that the key belongs to has room
-room_of_parts : (pages new : Pages) (key : Key) (es : List Entry) (p q n : ℕ) (s : Key) → SplitsWell true es n → (new p).entries ≡ take n es → (new q).entries ≡ drop n es
-    → KeepsWay pages new [] zero key p q s → HasRoomOnWay new zero key
-room_of_parts pages new key es p q n s well left right keeps =
-    ⊎_elim
-    (λ (below : IsBelow key s). record { page = p; way = keeps.low below; room = subst (HasRoomForAny true) (sym left) well.left_room })
-    (λ (above : (s ≡ key) ⊎ IsBelow s key). record { page = q; way = keeps.high above; room = subst (HasRoomForAny true) (sym right) well.right_room })
-    (below_or_not key s)
 
 leaf_end : (pages new : Pages) (key : Key) (parent p q n : ℕ) → SplitsKeyLeaf pages new [] key parent p q n → SplitsWell true (pages p).entries n → IsGoodTree new [] × (walk new ≡ walk pages) × HasRoomOnWay new zero key
 leaf_end pages new key parent p q n last well =

@@ -16,7 +16,7 @@ use Rattle.im_theory_tree.proofs.Way.{step_way, way_begins}
 use Rattle.im_tree_search.specs.Levels.{kind_at}
 use Rattle.im_smo_split.specs.declared.top.Top.{Top}
 use Rattle.im_smo_split.specs.PendingSplits.{PassesUp, SplitsDown}
-use Rattle.im_smo_split.specs.Paths.{OnPath, separator, IsPath, fits, pages_taken, new_pages}
+use Rattle.im_smo_split.specs.Paths.{OnPath, separator, IsPath, fits_page, pages_taken, new_pages}
 use Rattle.im_smo_split.specs.Readings.{HasUp, IsRoom}
 use Rattle.im_smo_split.specs.Tops.{IsPlaced, IsFound}
 
@@ -144,10 +144,10 @@ module _ (pages : Pages) (key : Key) (k p c bytes : ℕ) (t : Top) (r : Bool) (g
       → IsPlaced pages key level number top
   placed level number top is_level is_number if_fits if_full =
       elim (cases_Bool r) [
-        | inl fits ↦
+        | inl fits_page ↦
             subst (λ (x : ℕ). IsPlaced pages key x number top) (sym is_level)
             (subst (λ (x : ℕ). IsPlaced pages key k x top) (sym is_number)
-            (subst (IsPlaced pages key k c) (sym (if_fits fits ∙ ap (λ (x : ℕ). record { level = x; page = c; parent = p; root = false; pages = 1 }) is_level)) (placed_under fits)))
+            (subst (IsPlaced pages key k c) (sym (if_fits fits_page ∙ ap (λ (x : ℕ). record { level = x; page = c; parent = p; root = false; pages = 1 }) is_level)) (placed_under fits_page)))
         | inr over ↦
             subst (λ (x : ℕ). IsPlaced pages key x number top) (sym is_level)
             (subst (λ (x : ℕ). IsPlaced pages key k x top) (sym is_number) (subst (IsPlaced pages key k c) (sym (if_full over)) (placed_over over)))

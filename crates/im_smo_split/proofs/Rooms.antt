@@ -2,8 +2,7 @@
 use Rattle.std.proofs.Common.{◌≡◌, ℕ, ◌+◌, ◌≤◌, ◌<◌, ◌⊎◌, inl, inr, Bool, true, false, List, Option, Some, sym, subst, ◌∙◌, ⊎_elim, rules, arith}
 use Rattle.std.proofs.lemmas.Bool.{cases_lt}
 use Rattle.std.specs.Bool.{IsTrue}
-use Rattle.im_base_types.specs.Pages.{Body}
-use Rattle.im_base_types.specs.Pages.{Entry}
+use Rattle.im_base_types.specs.Pages.{Body, Entry}
 use Rattle.im_theory_page.specs.Entry.{taken, width}
 use Rattle.im_smo_split.specs.Readings.{IsFull, IsKeyRoom, IsRoom}
 

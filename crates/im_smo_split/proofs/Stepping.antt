@@ -10,8 +10,7 @@ use Rattle.im_theory_tree.specs.Levels.{Pages, walk}
 use Rattle.im_theory_tree.specs.Good.{AtOrAbove}
 use Rattle.im_theory_tree.specs.Halves.{FitsPage}
 use Rattle.im_theory_tree.specs.Search.{IsOnWay}
-use Rattle.im_theory_tree.proofs.StepLemmas.{relisted}
-use Rattle.im_theory_tree.proofs.Way.{step_way, way_begins}
+use Rattle.im_theory_tree.proofs.Cited.{relisted, step_way, way_begins}
 use Rattle.im_tree_search.specs.Levels.{HasLevel}
 use Rattle.im_tree_search.proofs.Steps.{way_level}
 use Rattle.im_smo_pages.specs.Images.{Numbered, Has, IsRising, held, without_image}

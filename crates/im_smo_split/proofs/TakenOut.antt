@@ -6,23 +6,16 @@ use Rattle.std.specs.Prelude.{IsSome}
 use Rattle.im_base_types.specs.Pages.{Body, Page}
 use Rattle.im_theory_log.specs.Tree.{with_body}
 use Rattle.im_page_writer.specs.Outcome.{AllPages}
-use Rattle.im_theory_page.specs.Header.{initial}
 use Rattle.im_theory_tree.specs.Levels.{Pages}
 use Rattle.im_smo_pages.specs.Images.{Numbered, Has, KeepsAll, IsRising, held, image_of, put_image, without_image}
 use Rattle.im_smo_pages.proofs.Holding.{has_put, put_keeps}
-use Rattle.im_smo_pages.proofs.ImageLemmas.{body_or, applied_image, applied_put, image_put_other, image_without, put_without}
+use Rattle.im_smo_pages.proofs.ImageLemmas.{body_or, applied_image, applied_put, image_without, put_without}
 use Rattle.im_smo_pages.proofs.Updates.{at_here, at_other}
 use Rattle.im_smo_alloc.specs.Seen.{bodies, seen, page_in}
-use Rattle.im_smo_alloc.proofs.Seeing.{page_says}
-
--- the other images stay
-pub out_other : (n m : ℕ) (xs : List Numbered) → IsRising xs → (n ≡ m → ⊥) → image_of (without_image n xs) m ≡ image_of xs m
-out_other n m xs up other =
-    sym (image_put_other n m (initial 0) (without_image n xs) other) ∙ ap (λ (l : List Numbered). image_of l m) (put_without n (initial 0) xs up)
-    ∙ image_put_other n m (initial 0) xs other
+use Rattle.im_smo_alloc.proofs.Seeing.{page_says, without_other}
 
 pub out_has : (n m : ℕ) (xs : List Numbered) → IsRising xs → (n ≡ m → ⊥) → Has xs m → Has (without_image n xs) m
-out_has n m xs up other has = subst IsSome (sym (out_other n m xs up other)) has
+out_has n m xs up other has = subst IsSome (sym (without_other n m xs up other)) has
 
 or_there : (o : Option Page) (a b : Body) → IsSome o → body_or o a ≡ body_or o b
 or_there None a b is = let never : ⊥ = cc is in absurd never
@@ -47,7 +40,7 @@ module _ (s : AllPages) (xs : List Numbered) (n : ℕ) (page : Page) (up : IsRis
             subst (λ (y : ℕ). held beneath (without_image n xs) y ≡ seen s xs y) here
             (applied_image beneath (without_image n xs) n ∙ ap (λ (o : Option Page). body_or o (beneath n)) (image_without n xs up) ∙ at_here (bodies s) n page.body ∙ body_is)
         | inr other ↦
-            applied_image beneath (without_image n xs) x ∙ ap (λ (o : Option Page). body_or o (beneath x)) (out_other n x xs up other)
+            applied_image beneath (without_image n xs) x ∙ ap (λ (o : Option Page). body_or o (beneath x)) (without_other n x xs up other)
             ∙ ap (body_or (image_of xs x)) (at_other (bodies s) n page.body x other) ∙ sym (applied_image (bodies s) xs x)
       ]
 

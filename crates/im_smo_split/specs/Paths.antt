@@ -23,16 +23,16 @@ IsPath pages key k (x ∷ []) = (x.page ≡ 1) × (height pages ≡ k)
 IsPath pages key k (x ∷ y ∷ up) = IsSplitPoint (is_leaf_level k) (pages x.page).entries x.point × IsChild (pages y.page) key x.page × IsPath pages key (suc k) (y ∷ up)
 
 -- an entry with this key fits into the page
-abbrev pub fits : Pages → Bool → ℕ → Key → Bool
-fits pages leaf p key = nat_le (taken leaf (pages p).entries + (size leaf (key, 0) + 2)) 4064
+abbrev pub fits_page : Pages → Bool → ℕ → Key → Bool
+fits_page pages leaf p key = nat_le (taken leaf (pages p).entries + (size leaf (key, 0) + 2)) 4064
 
 -- The pages that a split of the first of these takes: one for itself, and those for its parent's split, where its separator does not fit there. The root takes two.
 abbrev pub pages_taken : Pages → List OnPath → ℕ
 pages_taken pages [] = 0
 pages_taken pages (x ∷ []) = 2
-pages_taken pages (x ∷ y ∷ up) = if fits pages false y.page (separator pages x) then 1 else 1 + pages_taken pages (y ∷ up)
+pages_taken pages (x ∷ y ∷ up) = if fits_page pages false y.page (separator pages x) then 1 else 1 + pages_taken pages (y ∷ up)
 
 -- the pages that have to be taken before a key goes into the first of these, its leaf
 abbrev pub new_pages : Pages → Key → List OnPath → ℕ
 new_pages pages key [] = 0
-new_pages pages key (x ∷ up) = if fits pages true x.page key then 0 else pages_taken pages (x ∷ up)
+new_pages pages key (x ∷ up) = if fits_page pages true x.page key then 0 else pages_taken pages (x ∷ up)

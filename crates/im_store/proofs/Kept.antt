@@ -1,6 +1,6 @@
 -- What upkeep leaves as it was.
 use Rattle.std.proofs.Common.{◌∙◌, ap, refl, subst, sym, arith}
-use Rattle.std.specs.Prelude.{◌≡◌, ◌+◌, ◌-◌, ◌∷◌, ℕ, Bool, true, false, List, [], Result, Ok, Err, OnOk, IfErr, length, if◌then◌else◌}
+use Rattle.std.specs.Prelude.{◌≡◌, ◌+◌, ◌-◌, ◌∷◌, ℕ, Bool, true, false, List, [], length, if◌then◌else◌}
 use Rattle.im_base_types.specs.Answers as answers
 use Rattle.im_base_types.specs.declared.fault.Fault.{Fault}
 use Rattle.im_base_disk.specs.declared.disk.Disk.{Ghosts}
@@ -104,16 +104,6 @@ after_active step (replies.Blocked by) k service suits zero = zero
 after_active step replies.Die k service suits zero = zero
 after_active step replies.Done k service suits zero = chosen_active (is_force step) (record k { active = k.active - k.waiting; waiting = 0 }) k (less k.active k.waiting zero) zero
 after_active step (replies.Refused fault) k service suits zero = zero
-
--- what follows where it was made
-pub ok_on : {T A B : Type 0} (r : Result T Fault) → OnOk r A → (A → B) → OnOk r B
-ok_on (Ok _) on f = f on
-ok_on (Err _) on f = on
-
--- and where it was refused
-pub err_on : {T : Type 0} {A B : Fault → Type 0} (r : Result T Fault) → IfErr r A → ((e : Fault) → A e → B e) → IfErr r B
-err_on (Ok _) on f = on
-err_on (Err e) on f = f e on
 
 none_of : {A : Type 0} (xs : List A) → length xs ≡ 0 → xs ≡ []
 none_of [] zero = refl

@@ -1,7 +1,7 @@
 -- What an opening of the engine makes of one of a store.
 use Rattle.std.proofs.Common.{◌∙◌, ap, inl, inr, refl, subst, sym, arith}
 use Rattle.std.proofs.Math.Nat.{lt_of_not-le}
-use Rattle.std.specs.Prelude.{◌≡◌, ◌⊎◌, ◌↔◌, ◌<◌, ◌≤◌, ◌+◌, ℕ, Bool, true, false, None, Ok, Err}
+use Rattle.std.specs.Prelude.{◌≡◌, ◌⊎◌, ◌↔◌, ◌<◌, ◌≤◌, ◌+◌, ℕ, Bool, true, None, Ok, Err}
 use Rattle.im_base_types.specs.declared.fault.Fault.{Fault}
 use Rattle.im_base_types.specs.declared.fault.Fault.TheVariants.{Device, PoolSize, Workers}
 use Rattle.im_base_disk.specs.declared.disk.Disk.{Ghosts}
@@ -14,7 +14,7 @@ use Rattle.im_engine_upkeep.specs.declared.upkeep.Upkeep.{Upkeep}
 use Rattle.im_engine_upkeep.specs.FirstFormat.{HasFirst}
 use Rattle.im_engine_upkeep.specs.Noted.{fresh}
 use Rattle.im_store.specs.declared.open_store.OpenStore.{OpenStore}
-use Rattle.im_store.specs.Stores.{AreRight, IsByEngine, IsOpenedStore}
+use Rattle.im_store.specs.Stores.{AreRight, IsOpenedStore}
 
 -- frames and workers for which nothing was refused
 pub right : (frames workers : ℕ) → (((frames < 8) ⊎ (1024 < frames)) → ⊥) → (((8 ≤ frames) × (frames ≤ 1024)) × ((workers < 1) ⊎ (16 < workers)) → ⊥)

@@ -3,7 +3,6 @@
 ghost use Rattle.std.specs.Prelude.{◌≡◌, ◌↔◌, false, true, None, IfOk, IfErr, IsTrue};
 ghost use Rattle.im_base_types.specs.declared.fault.Fault.TheVariants.{Device};
 ghost use Rattle.im_base_disk.specs.Runs.{IsSynced, Reads};
-ghost use Rattle.im_base_steps.specs.declared.reply.Reply.TheVariants as replies;
 ghost use Rattle.im_engine_upkeep.specs.FirstFormat.{HasFirst};
 ghost use Rattle.im_store.specs.Stores.{AreRight, follows};
 
@@ -27,7 +26,7 @@ pub struct OpenStore<D: Disk> {
 }
 
 impl<D: TwoLogs + Drop> OpenStore<D> {
-    ghost use Rattle.std.specs.Prelude.{◌≡◌, ◌↔◌, List, [], false, true, None, IfOk, IfErr, OnOk, IsTrue};
+    ghost use Rattle.std.specs.Prelude.{◌≡◌, ◌↔◌, List, [], false, None, IfOk, IfErr, OnOk, IsTrue};
     ghost use Rattle.im_base_types.specs.Changes.{Effect};
     ghost use Rattle.im_base_types.specs.Lives.{Shown};
     ghost use Rattle.im_base_disk.specs.Runs.{IsSynced};
@@ -36,9 +35,8 @@ impl<D: TwoLogs + Drop> OpenStore<D> {
     ghost use Rattle.im_engine.specs.Kept.{EntriesKept, LookKept};
     ghost use Rattle.im_engine.specs.Looking.{Looks};
     ghost use Rattle.im_engine.specs.Running.{IsLife};
-    ghost use Rattle.im_engine_upkeep.specs.Rule.{IsHeldUp};
+    ghost use Rattle.im_engine_upkeep.specs.Rule.{IsHeldUp, WasRefused};
     ghost use Rattle.im_engine_upkeep.specs.Noted.{fresh};
-    ghost use Rattle.im_engine_upkeep.specs.Rule.{WasRefused};
     ghost use Rattle.im_engine_upkeep.specs.Upkeep.{IsKeptUp};
     ghost use Rattle.im_store.specs.Stores.{IsEnd, IsOpenedStore, IsStepKept, SameLimits, WasEnded, WasKept};
 

@@ -1,6 +1,6 @@
 //! A force that lacks memory: who makes it is told so and waits still, and the others are committed all the same.
 
-ghost use Rattle.std.specs.Prelude.{◌≡◌, ◌≤◌};
+ghost use Rattle.std.specs.Prelude.{◌≤◌};
 ghost use Rattle.im_front.specs.Held.{IsResting};
 
 use crate::stores::{begin, opened};
@@ -38,8 +38,6 @@ impl Lacking {
 }
 
 impl Store for Lacking {
-    ghost use Rattle.std.specs.Prelude.{◌≡◌};
-
     ghost tells = { ⊥ };
 
     ghost life = { λ _ _ _ _. ⊥ };

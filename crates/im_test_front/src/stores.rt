@@ -1,6 +1,6 @@
 //! Stores on a disk in memory, as the tests open, fill and end them.
 
-ghost use Rattle.std.specs.Prelude.{◌≡◌, IfOk};
+ghost use Rattle.std.specs.Prelude.{IfOk};
 ghost use Rattle.im_front.specs.Held.{IsResting};
 
 use im_base_model_disk::{Fill, Length, ModelDisk, Stop};

@@ -1,5 +1,5 @@
 //! A round of redo by several workers: their pages and their count, and that two are at work at once.
-ghost use Rattle.std.specs.Prelude.{◌≡◌, ◌<◌, ◌≤◌, length, IfOk, OnOk};
+ghost use Rattle.std.specs.Prelude.{◌<◌, OnOk};
 ghost use Rattle.im_page_writer.specs.PageWriter.{IsReadyWriter};
 
 use crate::page_writer::change_each;

@@ -23,7 +23,7 @@ use Rattle.im_theory_log.proofs.Named.{still_named}
 use Rattle.im_theory_log.proofs.OpenSmo.{IsOpenSmo, is_open_smo}
 use Rattle.im_theory_log.proofs.Settled.{settled_smo, settled_undo_smo, tree_same}
 
-left_alone : (p : ℕ) (going : History) (now : Body) → IsNotIn p going → taken_back going p now ≡ now
+pub left_alone : (p : ℕ) (going : History) (now : Body) → IsNotIn p going → taken_back going p now ≡ now
 left_alone p [] now out = refl
 left_alone p (s ∷ rest) now out = cond-false (s.page == p) (body_before s.what now) (taken_back rest p now) (ne_eqb s.page p out.0) ∙ left_alone p rest now out.1
 

@@ -1,6 +1,5 @@
 -- Fronts of a lawful log.
-use Rattle.std.proofs.Common.{◌≡◌, List, [], ◌∷◌, ◌++◌, sym, ◌∙◌, ap, append_assoc}
-use Rattle.std.proofs.lemmas.List.{append-nil}
+use Rattle.std.proofs.Common.{◌≡◌, List, [], ◌∷◌, ◌++◌, sym, ◌∙◌, ap, append_assoc, append-nil}
 use Rattle.im_base_types.specs.Changes.{Effect}
 use Rattle.im_theory_log.specs.Histories.{Base, History, IsFront, Rises}
 use Rattle.im_theory_log.specs.Lawful.{HasTree, IsLawful}

@@ -1,3 +1,4 @@
+pub mod Cited
 pub mod Histories
 pub mod Redo
 pub mod Copies

@@ -1,6 +1,5 @@
 -- A life that adds nothing.
-use Rattle.std.proofs.Common.{List, [], refl, sym}
-use Rattle.std.proofs.lemmas.List.{append-nil}
+use Rattle.std.proofs.Common.{List, [], refl, sym, append-nil}
 use Rattle.im_base_types.specs.Changes.{Effect}
 use Rattle.im_base_types.specs.Lives.{Survives}
 

@@ -86,7 +86,7 @@ no_smo_rest : (stack : History) → NoSmo stack → NoSmo (rest_of stack)
 no_smo_rest [] ok = tt
 no_smo_rest (s ∷ rest) ok = ok.1
 
-not_part : (t : ℕ) (going : History) → IsOutside t going → part t going ≡ []
+pub not_part : (t : ℕ) (going : History) → IsOutside t going → part t going ≡ []
 not_part t [] out = refl
 not_part t (s ∷ going) out = cond-false (s.txn == t) (s ∷ going) [] (ne_eqb s.txn t out)
 

@@ -5,7 +5,7 @@ use Rattle.std.proofs.lemmas.Bool.{cases_Bool, cases_eq, cond-true, cond-false, 
 use Rattle.im_theory_log.specs.Copies.{copy_in, noted}
 use Rattle.im_theory_log.specs.Histories.{Base, History, IsFront, IsRecordOf, page_after, page_at}
 use Rattle.im_theory_log.specs.Lawful.{Follows, IsLawful, MayCome}
-use Rattle.im_theory_log.specs.PageCounts.{count_in, count_of, first_count, greatest_count, named_to, names_page}
+use Rattle.im_theory_log.specs.PageCounts.{count_in, count_of, greatest_count, named_to, names_page}
 use Rattle.im_base_types.specs.Pages.{Body, Page}
 use Rattle.im_base_types.specs.Records.{Checkpoint, Commit, DeleteKey, DummyClr, End, Image, InsertKey, Logged, Smo, UndoDelete, UndoInsert, UndoSmo, Unreadable, What}
 use Rattle.im_theory_log.specs.Structure.{body_before, open_after, open_smo, settled, taken_back}
@@ -14,14 +14,9 @@ use Rattle.im_theory_log.proofs.Compensated.{in_log}
 use Rattle.im_theory_log.proofs.Copies.{Joins, copies, joins, leaves}
 use Rattle.im_theory_log.proofs.Fronts.{has_tree}
 use Rattle.im_theory_log.proofs.Histories.{page_here, page_other}
+use Rattle.im_theory_log.proofs.Named.{named_up}
 
 -- ---- the pages that records name
-
-pub named_more : (r : Logged) (older : History) → named_to older ≤ named_to (r ∷ older)
-named_more r older = elim (cases_Bool (names_page r.what)) [
-  | inl names ↦ (let is : named_to (r ∷ older) ≡ max (r.page + 1) (named_to older) = cond-true (names_page r.what) (max (r.page + 1) (named_to older)) (named_to older) names in omega (arith, is))
-  | inr not ↦ (let is : named_to (r ∷ older) ≡ named_to older = cond-false (names_page r.what) (max (r.page + 1) (named_to older)) (named_to older) not in omega (arith, is))
-]
 
 pub named_here : (r : Logged) (older : History) → names_page r.what ≡ true → r.page < named_to (r ∷ older)
 named_here r older names =
@@ -30,7 +25,7 @@ named_here r older names =
 
 named_by : (newer f : History) → named_to f ≤ named_to (newer ++ f)
 named_by [] f = omega arith
-named_by (r ∷ newer) f = let rest = named_by newer f in let more = named_more r (newer ++ f) in omega (arith, rest, more)
+named_by (r ∷ newer) f = let rest = named_by newer f in let more = named_up r (newer ++ f) in omega (arith, rest, more)
 
 pub named_front : (f log : History) → IsFront f log → named_to f ≤ named_to log
 named_front f log h = subst (λ (l : History). named_to f ≤ named_to l) h.is (named_by h.newer f)
@@ -40,7 +35,7 @@ pub named_in : (p : ℕ) (f log : History) → IsFront f log → p < named_to f 
 named_in p f log h is = let up = named_front f log h in omega (arith, up, is)
 
 pub named_then : (p : ℕ) (r : Logged) (older : History) → p < named_to older → p < named_to (r ∷ older)
-named_then p r older is = let up = named_more r older in omega (arith, up, is)
+named_then p r older is = let up = named_up r older in omega (arith, up, is)
 
 -- a record of the log names its page
 record_named : (log : History) (s : Logged) → IsRecordOf s log → names_page s.what ≡ true → s.page < named_to log

@@ -7,7 +7,7 @@ use Rattle.im_theory_log.specs.Copies.{Reaches, copy_in, noted}
 use Rattle.im_theory_log.specs.Histories.{Base, History, Rises, end_of}
 use Rattle.im_base_types.specs.Pages.{Page}
 use Rattle.im_base_types.specs.Records.{Checkpoint, Commit, DeleteKey, DummyClr, End, Image, InsertKey, Logged, Smo, UndoDelete, UndoInsert, UndoSmo, Unreadable, What}
-use Rattle.im_theory_log.specs.RedoPoints.{Covers, CoversFrom, IsRead, checkpoint_point, first_lsn, is_checkpoint, least, or_first, point_after, redo_point}
+use Rattle.im_theory_log.specs.RedoPoints.{Covers, CoversFrom, IsRead, checkpoint_point, lsn_of_first, is_checkpoint, least, or_first, point_after, redo_point}
 use Rattle.im_theory_log.proofs.Copies.{Joins, copied_more, copies, joins, leaves}
 use Rattle.im_theory_log.proofs.Redo.{reaches_before, reaches_more}
 
@@ -70,10 +70,10 @@ point_within b (r ∷ older) l up is = by (λ e. point_within b older l up.0 e) 
     by rec End is = before rec is
     by rec Unreadable is = before rec is
 
-first_within : (b : Base) (log : History) → Rises b log → first_lsn log ≤ end_of b log
+first_within : (b : Base) (log : History) → Rises b log → lsn_of_first log ≤ end_of b log
 first_within b [] up = omega arith
 first_within b (r ∷ []) up = omega arith
-first_within b (r ∷ t ∷ older) up = let rest : first_lsn (t ∷ older) ≤ t.lsn = first_within b (t ∷ older) up.0 in let last : t.lsn < r.lsn = up.1 in omega (arith, rest, last)
+first_within b (r ∷ t ∷ older) up = let rest : lsn_of_first (t ∷ older) ≤ t.lsn = first_within b (t ∷ older) up.0 in let last : t.lsn < r.lsn = up.1 in omega (arith, rest, last)
 
 -- the redo point is no later than the log's end
 pub point_low : (b : Base) (log : History) → Rises b log → redo_point log ≤ end_of b log
@@ -81,7 +81,7 @@ point_low b log up = by (checkpoint_point log) refl
   where
     by : (o : Option ℕ) → checkpoint_point log ≡ o → redo_point log ≤ end_of b log
     by (Some l) is = let e : redo_point log ≡ l = ap (λ (o : Option ℕ). or_first o log) is in let low : l ≤ end_of b log = point_within b log l up is in omega (arith, e, low)
-    by None is = let e : redo_point log ≡ first_lsn log = ap (λ (o : Option ℕ). or_first o log) is in let low : first_lsn log ≤ end_of b log = first_within b log up in omega (arith, e, low)
+    by None is = let e : redo_point log ≡ lsn_of_first log = ap (λ (o : Option ℕ). or_first o log) is in let low : lsn_of_first log ≤ end_of b log = first_within b log up in omega (arith, e, low)
 
 -- ---- what is covered, from a bound on, once a record has joined
 

@@ -14,7 +14,7 @@ use Rattle.im_theory_log.proofs.Stacks.{last_le}
 
 -- ---- reading past records
 
-reads_past : (r : Logged) (older : History) (l : ℕ) → l < r.lsn → undo_reads l (r ∷ older) ≡ undo_reads l older
+pub reads_past : (r : Logged) (older : History) (l : ℕ) → l < r.lsn → undo_reads l (r ∷ older) ≡ undo_reads l older
 reads_past r older l less = cond-false (r.lsn == l) (reads_on r r.what (undo_reads r.undo_next older)) (undo_reads l older) (ne_eqb r.lsn l (λ e. absurd (omega (arith, e, less))))
 
 reads_here : (r : Logged) (older : History) (l : ℕ) → r.lsn ≡ l → undo_reads l (r ∷ older) ≡ reads_on r r.what (undo_reads r.undo_next older)

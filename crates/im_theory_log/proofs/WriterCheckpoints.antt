@@ -10,7 +10,7 @@ use Rattle.im_base_types.specs.Pages.{Page}
 use Rattle.im_base_types.specs.Records.{Checkpoint, Logged, What}
 use Rattle.im_theory_log.specs.RedoPoints.{is_checkpoint, least, redo_point}
 use Rattle.im_theory_log.specs.Writer.{DirtyEntry, IsAfterRedo, Writer, WriterKept}
-use Rattle.im_theory_log.specs.WriterSteps.{is_copied, IsDirty, IsIn, Lists, MayAppend, NextPoint, appended}
+use Rattle.im_theory_log.specs.WriterSteps.{is_copied, IsInDirtyTable, IsIn, Lists, MayAppend, NextPoint, appended}
 use Rattle.im_theory_log.proofs.Appends.{plain}
 use Rattle.im_theory_log.proofs.Histories.{page_here, page_other}
 use Rattle.im_theory_log.proofs.RedoPoints.{least_start, point_checkpoint, point_first, point_same}
@@ -116,7 +116,7 @@ module _ (b : Base) (s : Writer) (r : Logged) (q n : ℕ) (a : List ActiveTransa
     | inr (x, within, same) ↦ of x (lists.each x within) same
   ]
     where
-      of : (x : DirtyPage) → IsDirty s.pages x → least r.lsn d ≡ x.rec_lsn → NextPoint b s r
+      of : (x : DirtyPage) → IsInDirtyTable s.pages x → least r.lsn d ≡ x.rec_lsn → NextPoint b s r
       of x dirty same = elim (rec_own x.page dirty.entry dirty.is) [
         | inr past ↦ later_point b s r q k redo_end (omega (arith, point, same, dirty.rec_lsn, past)) high entries still none_known
         | inl old ↦ same_point b s r k last (as_before x dirty.entry dirty.is dirty.rec_lsn same old)

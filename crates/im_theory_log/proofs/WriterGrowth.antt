@@ -1,5 +1,5 @@
 -- More of the log may have become durable, by whatever call: fewer fronts can be left, so that what is kept is kept.
-use Rattle.std.proofs.Common.{◌≡◌, inl, inr, ℕ, Option}
+use Rattle.std.proofs.Common.{inl, inr, ℕ, Option}
 use Rattle.im_theory_log.specs.Histories.{Base, History, IsFront}
 use Rattle.im_base_types.specs.Pages.{Page}
 use Rattle.im_theory_log.specs.RedoPoints.{redo_point}
@@ -8,7 +8,7 @@ use Rattle.im_theory_log.proofs.Copies.{copy_grows}
 use Rattle.im_theory_log.proofs.Histories.{front_of_front}
 
 -- a front that a stop leaves then is one that it left before
-left_grown : (durable more log h : History) → IsFront durable more → IsLeft more log h → IsLeft durable log h
+pub left_grown : (durable more log h : History) → IsFront durable more → IsLeft more log h → IsLeft durable log h
 left_grown durable more log h f w = record { from = front_of_front durable more h f w.from; upto = w.upto }
 
 reaches_grown : (b : Base) (log durable more : History) (p m : ℕ) (o : Option Page) → IsFront durable more → ReachesInEach b durable log p m o → ReachesInEach b more log p m o

@@ -8,7 +8,7 @@ use Rattle.im_base_types.specs.Pages.{Page}
 use Rattle.im_base_types.specs.Records.{What}
 use Rattle.im_theory_log.specs.RedoPoints.{Covers, redo_point}
 use Rattle.im_theory_log.specs.Writer.{IsLeft, LeavesPages, PageKept, PointKept, Writer, WriterKept}
-use Rattle.im_theory_log.specs.WriterSteps.{ended, opened, opened_page, or_else}
+use Rattle.im_theory_log.specs.WriterSteps.{ended, opened, opened_page, page_or}
 use Rattle.im_theory_log.proofs.Histories.{below_newest, below_older, front_self, page_same, rises_in, whole_below}
 use Rattle.im_theory_log.proofs.RedoPoints.{point_low}
 use Rattle.im_theory_log.proofs.WriterCovers.{covers}
@@ -36,14 +36,14 @@ module _ (b : Base) (log : History) (file : ℕ → Option Page) (up : Rises b l
   }
   page_opened p None noted_is =
       let read = is.read p noted_is in
-      let page : or_else (file p) (b.pages p) ≡ read.page = ap (λ (o : Option Page). or_else o (b.pages p)) read.here in
-      let has : Reaches b log (redo_point log) p (or_else (file p) (b.pages p)) = subst (λ (g : Page). Reaches b log (redo_point log) p g) (sym page) read.reaches in
+      let page : page_or (file p) (b.pages p) ≡ read.page = ap (λ (o : Option Page). page_or o (b.pages p)) read.here in
+      let has : Reaches b log (redo_point log) p (page_or (file p) (b.pages p)) = subst (λ (g : Page). Reaches b log (redo_point log) p g) (sym page) read.reaches in
       record {
         low = λ ready. omega arith;
         high = (let low : redo_point log ≤ end_of b log = point_low b log up in omega (arith, low));
         run = λ q some. absurd (cc some);
         now = λ ready. has;
-        written = λ ready done. only_log (λ (h : History). Reaches b h (redo_point log) p (or_else (file p) (b.pages p))) has;
+        written = λ ready done. only_log (λ (h : History). Reaches b h (redo_point log) p (page_or (file p) (b.pages p))) has;
         clean = λ ready none. (refl, read.here ∙ ap (λ (g : Page). Some g) (sym page));
         entry = λ e some. absurd (cc some);
         still = λ untouched. refl;

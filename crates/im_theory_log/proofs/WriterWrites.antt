@@ -231,7 +231,7 @@ still_written : (o : Option DirtyEntry) → IsWritten (forgotten_entry o) → Is
 still_written None done = tt
 still_written (Some e) done = done
 
-still_none : (o : Option DirtyEntry) → forgotten_entry o ≡ None → o ≡ None
+pub still_none : (o : Option DirtyEntry) → forgotten_entry o ≡ None → o ≡ None
 still_none None is = refl
 still_none (Some e) is = absurd (cc is)
 

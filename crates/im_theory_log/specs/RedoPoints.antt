@@ -12,10 +12,10 @@ least l [] = l
 least l (d ∷ ds) = least (min l d.rec_lsn) ds
 
 -- the LSN of the first record
-abbrev pub first_lsn : History → ℕ
-first_lsn [] = 0
-first_lsn (r ∷ []) = r.lsn
-first_lsn (r ∷ s ∷ older) = first_lsn (s ∷ older)
+abbrev pub lsn_of_first : History → ℕ
+lsn_of_first [] = 0
+lsn_of_first (r ∷ []) = r.lsn
+lsn_of_first (r ∷ s ∷ older) = lsn_of_first (s ∷ older)
 
 abbrev pub is_checkpoint : What → Bool
 is_checkpoint (Checkpoint n a d) = true
@@ -33,7 +33,7 @@ checkpoint_point (r ∷ older) = point_after r.lsn r.what (checkpoint_point olde
 
 abbrev pub or_first : Option ℕ → History → ℕ
 or_first (Some l) log = l
-or_first None log = first_lsn log
+or_first None log = lsn_of_first log
 
 -- the LSN from which redo begins: the last checkpoint's, without one the first record's
 abbrev pub redo_point : History → ℕ

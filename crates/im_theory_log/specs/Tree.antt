@@ -1,9 +1,6 @@
 -- What the theory of logs asks of the tree of pages: its words, and the laws of one key put or taken out.
-use Rattle.std.specs.Prelude.{◌≡◌, ◌⊎◌, ◌<◌, not, ℕ, List, false, if◌then◌else◌, ◌==◌}
-use Rattle.std.specs.Ordering.{eq_by_cmp}
-use Rattle.std.specs.FinMap.{put}
-use Rattle.std.specs.FinMap.Entries.{where_key}
-use Rattle.im_base_types.specs.Keys.{Key, key_order}
+use Rattle.std.specs.Prelude.{◌≡◌, ◌⊎◌, ◌<◌, ℕ, List, false, if◌then◌else◌, ◌==◌}
+use Rattle.im_base_types.specs.Keys.{Key}
 use Rattle.im_base_types.specs.Maps.{with_key, without_key}
 use Rattle.im_base_types.specs.Pages.{Entry, Body}
 

@@ -133,7 +133,7 @@ IsIn x [] = ⊥
 IsIn x (y ∷ ys) = (x ≡ y) ⊎ IsIn x ys
 
 -- a page with this rec_lsn is in the dirty table
-pub record IsDirty (pages : ℕ → PageState) (x : DirtyPage) : Type 0 where
+pub record IsInDirtyTable (pages : ℕ → PageState) (x : DirtyPage) : Type 0 where
   pub entry : DirtyEntry
   pub is : (pages x.page).entry ≡ Some entry
   pub rec_lsn : entry.rec_lsn ≡ x.rec_lsn
@@ -141,7 +141,7 @@ pub record IsDirty (pages : ℕ → PageState) (x : DirtyPage) : Type 0 where
 -- the list has the entries of the dirty table
 pub record Lists (pages : ℕ → PageState) (list : List DirtyPage) : Type 0 where
   pub all : (p : ℕ) (e : DirtyEntry) → (pages p).entry ≡ Some e → IsIn (record { page = p; rec_lsn = e.rec_lsn }) list
-  pub each : (x : DirtyPage) → IsIn x list → IsDirty pages x
+  pub each : (x : DirtyPage) → IsIn x list → IsInDirtyTable pages x
 
 -- ---- redo
 
@@ -178,14 +178,14 @@ abbrev pub is_found : Option (ℕ × Page) → Bool
 is_found None = false
 is_found (Some x) = true
 
-abbrev pub or_else : Option Page → Page → Page
-or_else None g = g
-or_else (Some h) g = h
+abbrev pub page_or : Option Page → Page → Page
+page_or None g = g
+page_or (Some h) g = h
 
 -- a page with a noted copy waits for it; the others are what the file has
 abbrev pub opened_page : Page → ℕ → Option (ℕ × Page) → Option Page → PageState
 opened_page initial point found file =
-    record { page = or_else file initial; upto = point; waits = is_found found; found = found; entry = None; synced = file; reads = file; unsynced = false }
+    record { page = page_or file initial; upto = point; waits = is_found found; found = found; entry = None; synced = file; reads = file; unsynced = false }
 
 abbrev pub opened : Base → History → (ℕ → Option Page) → Writer
 opened b log file = record {

@@ -10,9 +10,8 @@ use Rattle.im_theory_machine.specs.declared.lock_kind.Mode.TheVariants.{Exclusiv
 use Rattle.im_theory_machine.specs.declared.lock_kind.Duration.TheVariants.{Instant, ToCommit}
 use Rattle.im_theory_machine.specs.Rows.{next_name, asked}
 use Rattle.im_theory_machine.specs.View.{Txn, set_txn, did_txn}
-use Rattle.im_theory_machine.proofs.Invariant.{Told, Told-moved, StoryHolds, Fits}
+use Rattle.im_theory_machine.proofs.Invariant.{Told, Told-moved, StoryHolds, Fits, Chain-more}
 use Rattle.im_theory_machine.proofs.Keeping.{Sets-fits, IsGranted, did-fits, relocked, walk_but, undo_sets, undo_links}
-use Rattle.im_theory_machine.proofs.Invariant.{Chain-more}
 use Rattle.im_theory_machine.proofs.Locks.{kept-from, kept-old}
 use Rattle.im_theory_machine.specs.Kept.{IsPending, KeptLocksStay}
 use Rattle.im_theory_machine.proofs.Pending.{kept_locks_stay, row_is}

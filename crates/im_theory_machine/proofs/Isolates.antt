@@ -9,7 +9,7 @@ use Rattle.im_base_types.specs.Answers.{Going, Committing, Idle, Insert, Delete,
 use Rattle.im_theory_machine.specs.Rows.{asked}
 use Rattle.im_theory_machine.specs.View.{View, Txn, Puts, Under, pending_of, idle, set_txn, is_among, AreDifferent, map_behind, relocked}
 use Rattle.im_theory_machine.specs.Machine.{barred, Answers, Goes, Moves, begins, does, waits, dies, commits, queues, drops, turns, undoes, ends, puts_later, puts, drops_first, drops_leaf, takes_later, takes_first, takes_leaf, takes_last, logs_page, tree_blocks, tree_halts, flushes, forces, checkpoints, switches, lacks, breaks, Run, IsReached, start}
-use Rattle.im_theory_machine.specs.Isolation.{finished, IsReplay, queue_after, waits_in, finished_all, committed_in, serial, Isolates, GrantedChangesAreFree}
+use Rattle.im_theory_machine.specs.Isolation.{finished, IsReplay, queue_after, queue_after_all, finished_all, committed_in, serial, Isolates, GrantedChangesAreFree}
 use Rattle.im_theory_machine.proofs.Changes.{same_maps}
 use Rattle.im_theory_machine.proofs.Callers.{Run-push}
 use Rattle.std.specs.Prelude.{◌==◌}
@@ -186,9 +186,9 @@ answers_queue : (v w : View) (step : Step) (reply : Reply) (o : Option ℕ) → 
 answers_queue v w step reply None g = goes_queue v w step reply g
 answers_queue v w step reply (Some fault) g = queue_by v.queue w.queue step step reply (Refused fault) refl g.0 (ap (λ (y : View). y.queue) g.1 ∙ sym (refused_queue v.queue step fault))
 
-run_queue : (v : View) (trace : List (Step × Reply)) (w : View) → Run v trace w → w.queue ≡ waits_in v.queue trace
+run_queue : (v : View) (trace : List (Step × Reply)) (w : View) → Run v trace w → w.queue ≡ queue_after_all v.queue trace
 run_queue v [] w r = ap (λ (y : View). y.queue) r
-run_queue v (e ∷ es) w r = run_queue r.0 es w r.2 ∙ ap (λ (q : List ℕ). waits_in q es) (answers_queue v r.0 e.0 e.1 (barred v e.0) r.1)
+run_queue v (e ∷ es) w r = run_queue r.0 es w r.2 ∙ ap (λ (q : List ℕ). queue_after_all q es) (answers_queue v r.0 e.0 e.1 (barred v e.0) r.1)
 
 -- ---- those that a force finishes, one after another
 
@@ -222,7 +222,7 @@ module _ (base : IndexMap) (n : ℕ) where
       let may = (commit_end v t w g).may in
       (commit_adds v t w g ∙ after_story base n front v r t (clear_commit v t (passed v (Commit t) Committed w (barred v (Commit t)) m (λ fault e. cc))) may, going_replay base n front v r t may)
 
-  one_force : (front : List (Step × Reply)) (v w : View) → Run (start base n) front v → Moves v Force Done w → Serially v.committed (finished_all front (waits_in [] front)) w.committed
+  one_force : (front : List (Step × Reply)) (v w : View) → Run (start base n) front v → Moves v Force Done w → Serially v.committed (finished_all front (queue_after_all [] front)) w.committed
   one_force front v w r m =
       let g = unbarred v Force Done w (barred v Force) m (λ fault e. cc) in
       let up : Upheld v (tells (pending_of None) nothing_told front) = run_upheld base n front v r in

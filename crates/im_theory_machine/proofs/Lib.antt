@@ -1,4 +1,5 @@
 pub mod Bools
+pub mod Cited
 pub mod Order
 pub mod Search
 pub mod Guards

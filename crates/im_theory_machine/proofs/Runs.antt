@@ -13,10 +13,9 @@ use Rattle.im_theory_machine.specs.View.{Txn, View, Under, Puts, Drops, TakesBac
 use Rattle.im_theory_machine.specs.Machine.{barred, Answers, Goes, Moves, begins, does, waits, dies, commits, queues, drops, turns, undoes, ends, puts_later, puts, drops_first, drops_leaf, takes_later, takes_first, takes_leaf, takes_last, logs_page, tree_blocks, tree_halts, flushes, forces, checkpoints, switches, lacks, breaks, Run, start, or_else, fault_if}
 use Rattle.im_theory_machine.specs.Isolation.{access_of, is_more, pending_after}
 use Rattle.im_base_types.specs.Refusals.{failed as has_failed, unfinished}
-use Rattle.im_theory_machine.proofs.Invariant.{Told, StoryHolds, Fits, by_txn, set_txn-same, set_txn-other}
+use Rattle.im_theory_machine.proofs.Invariant.{Told, StoryHolds, Fits, by_txn, set_txn-same, set_txn-other, Chain}
 use Rattle.im_theory_machine.proofs.Bools.{cases_number, cases_test}
 use Rattle.im_theory_machine.proofs.Queue.{among_pushed, pushed_last, pushed_more, different_pushed, by_force_txn, forced_fits, waiting_told}
-use Rattle.im_theory_machine.proofs.Invariant.{Chain}
 use Rattle.im_theory_machine.proofs.Pending.{kept_locks_stay}
 use Rattle.im_theory_machine.proofs.Fitting.{puts_off_fits, puts_fits, took_off_fits}
 use Rattle.im_theory_machine.proofs.Under.{ahead, IsUnder, not_going, none_either, others_pending, none_by, ahead_push, ahead_same, ahead_others, under_others, under_set, under_did, under_undone, under_forced}

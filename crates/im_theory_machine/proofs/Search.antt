@@ -1,6 +1,5 @@
 -- The first entry past a start and the last below a key, by what each says of the map's look-ups.
-use Rattle.std.proofs.Common.{subst, ◌≡◌, ℕ, Bool, true, false, cond, List, [], ◌∷◌, Option, Some, None, ◌&&◌, refl, ap, sym, ◌∙◌, inl, inr}
-use Rattle.std.proofs.Common.{T}
+use Rattle.std.proofs.Common.{subst, ◌≡◌, ℕ, Bool, true, false, cond, List, [], ◌∷◌, Option, Some, None, ◌&&◌, refl, ap, sym, ◌∙◌, inl, inr, T}
 use Rattle.std.specs.FinMap.{entries, get, get-entries, entries_sorted, find, is_sorted}
 use Rattle.std.specs.FinMap.Entries.{below_all}
 use Rattle.im_base_types.specs.Keys.{Key, key_order}

@@ -10,39 +10,39 @@ use Rattle.im_theory_machine.specs.declared.lock_kind.Mode.TheVariants.{Shared, 
 use Rattle.im_theory_machine.specs.Rows.{asked, name_of, next_name, there_or_next}
 use Rattle.im_theory_machine.specs.View.{View, locks_in, begun}
 use Rattle.im_theory_machine.specs.Machine.{Goes, Moves, begins, does, waits, dies, commits, queues, drops, turns, undoes, ends, puts_later, puts, drops_first, drops_leaf, takes_later, takes_first, takes_leaf, takes_last, logs_page, tree_blocks, tree_halts, flushes, forces, checkpoints, switches, lacks, breaks, Run, start}
-use Rattle.im_theory_machine.specs.Worked.{nothing, missing, both, end_shared, read, told, AGapStays}
+use Rattle.im_theory_machine.specs.Worked.{empty_map, missing, both_begun, end_shared, read, told, AGapStays}
 use Rattle.im_theory_machine.proofs.Invariant.{by_txn}
 use Rattle.im_theory_machine.proofs.Search.{first-by}
 
-none_there : (k : Key) → get nothing k ≡ None
+none_there : (k : Key) → get empty_map k ≡ None
 none_there k = get-empty key_order k
 
-none_first : (s : Start) → first s nothing ≡ None
-none_first s = first-by s nothing None (λ x p. none_there x)
+none_first : (s : Start) → first s empty_map ≡ None
+none_first s = first-by s empty_map None (λ x p. none_there x)
 
-next_is : next_name nothing missing ≡ PastAll
+next_is : next_name empty_map missing ≡ PastAll
 next_is = ap name_of (none_first (Above missing))
 
-name_is : there_or_next nothing missing ≡ PastAll
-name_is = ap (λ (o : Option ℕ). cond (is_some o) (At missing) (next_name nothing missing)) (none_there missing) ∙ next_is
+name_is : there_or_next empty_map missing ≡ PastAll
+name_is = ap (λ (o : Option ℕ). cond (is_some o) (At missing) (next_name empty_map missing)) (none_there missing) ∙ next_is
 
 -- ---- the run
 
-none_held : (s : ℕ) → locks_in both s ≡ []
-none_held = by_txn (λ s x. x.locks ≡ []) (begun (start nothing 1)).txns 2 (both.txns 2) refl
-    (λ s differ. by_txn (λ u x. x.locks ≡ []) (start nothing 1).txns 1 ((begun (start nothing 1)).txns 1) refl (λ u other. refl) s)
+none_held : (s : ℕ) → locks_in both_begun s ≡ []
+none_held = by_txn (λ s x. x.locks ≡ []) (begun (start empty_map 1)).txns 2 (both_begun.txns 2) refl
+    (λ s differ. by_txn (λ u x. x.locks ≡ []) (start empty_map 1).txns 1 ((begun (start empty_map 1)).txns 1) refl (λ u other. refl) s)
 
-free : IsFree (locks_in both) 1 (asked (Fetch missing) nothing)
+free : IsFree (locks_in both_begun) 1 (asked (Fetch missing) empty_map)
 free s p = subst (λ (ls : List Lock). Holds ls p.name p.theirs) (none_held s) p.held
 
 -- the older one finds the key missing, and locks the name past the last key
-reads : Moves both (Do 1 (Fetch missing)) Absent read
+reads : Moves both_begun (Do 1 (Fetch missing)) Absent read
 reads = does 1 (Fetch missing) end_shared refl refl free
     (subst (λ (n : Name). SameLocks end_shared (record { name = n; mode = Shared } ∷ [])) (sym name_is) (λ n m. (λ h. h, λ h. h)))
     (sym (ap found (none_there missing)))
     refl
 
-conflict : ConflictsWith (locks_in read) 2 (asked (Insert missing 1) nothing) 1
+conflict : ConflictsWith (locks_in read) 2 (asked (Insert missing 1) empty_map) 1
 conflict = record {
   name = PastAll;
   mode = Exclusive;
@@ -57,12 +57,12 @@ conflict = record {
 stops : Moves read (Do 2 (Insert missing 1)) Die told
 stops = dies 2 (Insert missing 1) refl refl (record { holder = 1; conflict = conflict; older = lit< tt }) refl refl
 
-younger_dies : Run (start nothing 1)
+younger_dies : Run (start empty_map 1)
     ((Begin, Started 1) ∷ (Begin, Started 2) ∷ (Do 1 (Fetch missing), Absent) ∷ (Do 2 (Insert missing 1), Die) ∷ (Do 2 (Insert missing 1), Refused must_roll_back) ∷ []) told
 younger_dies = (
-  begun (start nothing 1),
+  begun (start empty_map 1),
   begins refl (lit≤ tt) refl refl,
-  (both, begins refl (lit≤ tt) refl refl, (read, reads, (told, stops, (told, (refl, refl), refl)))),
+  (both_begun, begins refl (lit≤ tt) refl refl, (read, reads, (told, stops, (told, (refl, refl), refl)))),
 )
 
 -- ---- and no other reply puts the key there
@@ -76,8 +76,8 @@ same_access t b e = cc
 never_inserted : (w : View) → Goes read (Do 2 (Insert missing 1)) Inserted w → ⊥
 never_inserted w (begins e l d q) = cc
 never_inserted w (does t b ls e going free_now same d q) =
-    let mine : IsFree (locks_in read) 2 (asked (Insert missing 1) nothing) =
-    subst (λ (n : ℕ). IsFree (locks_in read) n (asked (Insert missing 1) nothing)) (same_owner t b e) (subst (λ (c : Access). IsFree (locks_in read) t (asked c nothing)) (same_access t b e) free_now) in
+    let mine : IsFree (locks_in read) 2 (asked (Insert missing 1) empty_map) =
+    subst (λ (n : ℕ). IsFree (locks_in read) n (asked (Insert missing 1) empty_map)) (same_owner t b e) (subst (λ (c : Access). IsFree (locks_in read) t (asked c empty_map)) (same_access t b e) free_now) in
     mine 1 conflict
 never_inserted w (waits t b holder e going wait d q) = cc
 never_inserted w (dies t b e going must d q) = cc

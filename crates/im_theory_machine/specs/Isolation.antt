@@ -62,9 +62,9 @@ queue_after queue Force Done = []
 queue_after queue _ _ = queue
 
 -- and behind a trace, in the order of their Commits
-abbrev pub waits_in : List ℕ → List (Step × Reply) → List ℕ
-waits_in queue [] = queue
-waits_in queue (e ∷ es) = waits_in (queue_after queue e.0 e.1) es
+abbrev pub queue_after_all : List ℕ → List (Step × Reply) → List ℕ
+queue_after_all queue [] = queue
+queue_after_all queue (e ∷ es) = queue_after_all (queue_after queue e.0 e.1) es
 
 -- the finished accesses of these, one whole transaction after another
 abbrev pub finished_all : List (Step × Reply) → List ℕ → List (Access × Reply)
@@ -74,7 +74,7 @@ finished_all front (t ∷ ts) = finished t front ++ finished_all front ts
 -- the finished accesses of the transaction whose Commit is answered here, if one is, or of those that a force finishes
 abbrev pub committed_in : List (Step × Reply) → Step → Reply → List (Access × Reply)
 committed_in front (Commit t) Committed = finished t front
-committed_in front Force Done = finished_all front (waits_in [] front)
+committed_in front Force Done = finished_all front (queue_after_all [] front)
 committed_in front _ _ = []
 
 -- The serial run: behind this front of a trace, the finished accesses of the committed transactions with their replies, one whole transaction after another,
@@ -95,7 +95,7 @@ pub record Isolates (base : IndexMap) (next : ℕ) : Type 0 where
   pub going : (trace : List (Step × Reply)) (v : View) → Run (start base next) trace v →
       (t : ℕ) → MayRollBack ((v.txns t).mark) ⊎ ((v.txns t).mark ≡ Committing) → IsReplay v.committed (finished t trace)
   -- those that wait are the ones that the trace says
-  pub waiting : (trace : List (Step × Reply)) (v : View) → Run (start base next) trace v → v.queue ≡ waits_in [] trace
+  pub waiting : (trace : List (Step × Reply)) (v : View) → Run (start base next) trace v → v.queue ≡ queue_after_all [] trace
   -- on the map before its place in commit order, once a force has finished it
   pub by_force : (front rest : List (Step × Reply)) (v w end : View) → Run (start base next) front v → Moves v Force Done w → Run w rest end →
       (ts us : List ℕ) (t : ℕ) → v.queue ≡ ts ++ t ∷ us → IsReplay (map_behind v.committed v.txns ts) (finished t (front ++ (Force, Done) ∷ rest))

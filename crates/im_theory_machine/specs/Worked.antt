@@ -10,15 +10,15 @@ use Rattle.im_theory_machine.specs.declared.lock_kind.Mode.TheVariants.{Shared}
 use Rattle.im_theory_machine.specs.View.{View, begun, did, marked}
 use Rattle.im_theory_machine.specs.Machine.{Moves, Run, start}
 
-abbrev pub nothing : IndexMap
-nothing = empty {X = ℕ} {R = key_order}
+abbrev pub empty_map : IndexMap
+empty_map = empty {X = ℕ} {R = key_order}
 
 abbrev pub missing : Key
 missing = 97 ∷ []
 
 -- both have begun
-abbrev pub both : View
-both = begun (begun (start nothing 1))
+abbrev pub both_begun : View
+both_begun = begun (begun (start empty_map 1))
 
 -- the name past the last key, shared
 abbrev pub end_shared : List Lock
@@ -26,7 +26,7 @@ end_shared = record { name = PastAll; mode = Shared } ∷ []
 
 -- the first one has read the gap, and holds its end
 abbrev pub read : View
-read = did both 1 (Fetch missing) end_shared
+read = did both_begun 1 (Fetch missing) end_shared
 
 -- the second one has died
 abbrev pub told : View
@@ -34,6 +34,6 @@ told = marked read 2 MustRollBack
 
 -- The first one finds the key missing; the second one, who would put it there, must die, and is then refused until it is rolled back. From where the gap was read no move puts the key there.
 pub record AGapStays : Type 0 where
-  pub younger_dies : Run (start nothing 1)
+  pub younger_dies : Run (start empty_map 1)
       ((Begin, Started 1) ∷ (Begin, Started 2) ∷ (Do 1 (Fetch missing), Absent) ∷ (Do 2 (Insert missing 1), Die) ∷ (Do 2 (Insert missing 1), Refused must_roll_back) ∷ []) told
   pub never_put : (w : View) → Moves read (Do 2 (Insert missing 1)) Inserted w → ⊥

@@ -2,8 +2,7 @@
 use Rattle.std.proofs.Common.{zero, suc, ◌≡◌, ℕ, ◌+◌, ◌-◌, ◌<◌, ◌≤◌, Bool, List, [], ◌∷◌, Ok, Err, length, drop, refl, inl, inr, arith}
 use Rattle.im_theory_page.specs.Entry.{entry_at, IsPlace, Rises}
 use Rattle.im_base_types.specs.Keys.{IsBelow}
-use Rattle.im_base_types.specs.Pages.{Entry}
-use Rattle.im_base_types.specs.Pages.{Body}
+use Rattle.im_base_types.specs.Pages.{Entry, Body}
 use Rattle.im_theory_page.specs.Child.{StartAbove, IsChild}
 use Rattle.im_theory_page.specs.Form.{entries_of, KeysRise}
 use Rattle.im_theory_page.proofs.EntryLemmas.{length-entries_of, key-entries_of}

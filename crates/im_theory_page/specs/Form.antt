@@ -25,12 +25,12 @@ abbrev pub key_from : List ℕ → ℕ → List ℕ
 key_from bytes at = slice_range bytes (at + 1) (at + 1 + slice_index bytes at)
 
 -- a value, in eight bytes in a leaf and in four in an inner page
-abbrev pub number_at : Bool → List ℕ → ℕ → ℕ
-number_at leaf bytes at = if leaf then u64_at bytes at else u32_at bytes at
+abbrev pub value_at : Bool → List ℕ → ℕ → ℕ
+value_at leaf bytes at = if leaf then u64_at bytes at else u32_at bytes at
 
 -- the entry of the cell that begins at `at`
 unfoldable pub entry_from : Bool → List ℕ → ℕ → Entry
-entry_from leaf bytes at = (key_from bytes at, number_at leaf bytes (at + 1 + slice_index bytes at))
+entry_from leaf bytes at = (key_from bytes at, value_at leaf bytes (at + 1 + slice_index bytes at))
 
 -- the entries, in the order of their slots
 unfoldable pub entries_of : Bool → List ℕ → List Entry
@@ -41,8 +41,8 @@ abbrev pub KeysRise : List ℕ → Type 0
 KeysRise bytes = (i j : ℕ) → i < j → j < count_of bytes → IsBelow (key_from bytes (slot_at bytes i)) (key_from bytes (slot_at bytes j))
 
 -- no two cells share a byte
-abbrev pub AreApart : Bool → List ℕ → Type 0
-AreApart leaf bytes = (i j : ℕ) → i < count_of bytes → j < count_of bytes → i ≢ j
+abbrev pub CellsAreApart : Bool → List ℕ → Type 0
+CellsAreApart leaf bytes = (i j : ℕ) → i < count_of bytes → j < count_of bytes → i ≢ j
     → (slot_at bytes i + cell_size leaf bytes (slot_at bytes i) ≤ slot_at bytes j)
     ⊎ (slot_at bytes j + cell_size leaf bytes (slot_at bytes j) ≤ slot_at bytes i)
 
@@ -54,7 +54,7 @@ pub record IsPacked (leaf : Bool) (bytes : List ℕ) : Type 0 where
   pub low : (i : ℕ) → i < count_of bytes → start_of bytes ≤ slot_at bytes i
   pub high : (i : ℕ) → i < count_of bytes → slot_at bytes i + cell_size leaf bytes (slot_at bytes i) ≤ 4096
   pub keyed : (i : ℕ) → i < count_of bytes → 1 ≤ slice_index bytes (slot_at bytes i)
-  pub apart : AreApart leaf bytes
+  pub apart : CellsAreApart leaf bytes
   pub full : start_of bytes + sum_by (size leaf) (entries_of leaf bytes) ≡ 4096
   pub clear : (k : ℕ) → 32 + 2 * count_of bytes ≤ k → k < start_of bytes → slice_index bytes k ≡ 0
   pub rises : KeysRise bytes

@@ -1,8 +1,8 @@
 -- The fields of a page's header that its kind names, and pages with no entry.
-use Rattle.std.specs.Prelude.{◌≡◌, ◌⊎◌, ℕ, ◌≤◌, Bool, false, [], ◌==◌, nat_le, ◌&&◌, if◌then◌else◌}
+use Rattle.std.specs.Prelude.{◌≡◌, ◌⊎◌, ℕ, ◌≤◌, Bool, false, [], ◌==◌, nat_le, ◌&&◌, if◌then◌else◌, List}
 use Rattle.im_base_types.specs.declared.page_kind.PageKind.{PageKind}
 use Rattle.im_base_types.specs.declared.page_kind.PageKind.TheVariants.{Free, Meta, Leaf, Inner}
-use Rattle.im_base_types.specs.Pages.{Body, Page}
+use Rattle.im_base_types.specs.Pages.{Body, Page, Entry}
 
 -- the fields that the kind does not name are 0. Only an inner page has a level, of 1 or more
 abbrev pub FitsKind : PageKind → ℕ → ℕ → ℕ → ℕ → ℕ → Type 0
@@ -31,6 +31,10 @@ HasLeftmost kind = (kind ≡ Meta) ⊎ (kind ≡ Inner)
 -- a body with no entry and no mark
 abbrev pub empty_body : PageKind → ℕ → ℕ → ℕ → ℕ → Body
 empty_body kind level prev next leftmost = record { kind = kind; level = level; marked = false; prev = prev; next = next; leftmost = leftmost; entries = [] }
+
+-- a leaf with these entries
+abbrev pub leaf_body : (prev next : ℕ) → List Entry → Body
+leaf_body prev next es = record (empty_body Leaf 0 prev next 0) { entries = es }
 
 -- the page of a number before anything was put: page 0 is meta with two pages and no free one, page 1 an empty leaf, any other free
 abbrev pub initial : ℕ → Page

@@ -32,8 +32,8 @@ said_by bytes = record {
 }
 
 -- the header's fields are those of its kind
-abbrev pub IsHeader : List ℕ → Type 0
-IsHeader bytes = FitsKind (kind_of (slice_index bytes 8)) (slice_index bytes 9) (u32_at bytes 16) (u32_at bytes 20) (u32_at bytes 24) (count_of bytes)
+abbrev pub IsPageHeader : List ℕ → Type 0
+IsPageHeader bytes = FitsKind (kind_of (slice_index bytes 8)) (slice_index bytes 9) (u32_at bytes 16) (u32_at bytes 20) (u32_at bytes 24) (count_of bytes)
 
 -- bytes are a page: 4,096 of them, a header, slots in key order and packed cells
 pub record IsForm (bytes : List ℕ) : Type 0 where
@@ -41,7 +41,7 @@ pub record IsForm (bytes : List ℕ) : Type 0 where
   pub flags : slice_index bytes 10 ≤ 1
   pub zero : slice_index bytes 11 ≡ 0
   pub zeros : u32_at bytes 28 ≡ 0
-  pub header : IsHeader bytes
+  pub header : IsPageHeader bytes
   pub packed : IsPacked (is_leaf bytes) bytes
 
 -- the same as a test

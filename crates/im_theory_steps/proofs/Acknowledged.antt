@@ -9,10 +9,7 @@ use Rattle.im_base_types.specs.Refusals.{memory, unfinished, failed as has_faile
 use Rattle.im_base_types.specs.Lives.{Asked, Shown, asks, effect_asked, refused, answered, breaks, nothing_shown, shown_by, all_acked, shows, NoneAcked, effects}
 use Rattle.im_theory_machine.specs.View.{View, Puts, Drops, TakesBack, TookBack, pending_of, locked, with_change, change_made, begun, did, marked, committed_by, dropped_by, undid_more, undid_last, broken, Txn, idle, set_txn, did_txn, queued, forced_by, is_among, nets_of, MayRollBack}
 use Rattle.im_theory_machine.specs.Machine.{barred, barred_to, or_else, fault_if, Answers, Goes, Moves, begins, does, waits, dies, commits, queues, drops, turns, undoes, ends, puts_later, puts, drops_first, drops_leaf, takes_later, takes_first, takes_leaf, takes_last, logs_page, tree_blocks, tree_halts, flushes, forces, checkpoints, switches, lacks, breaks as machine_breaks, Run, IsReached, start}
-use Rattle.im_theory_machine.proofs.Bools.{cases_test}
-use Rattle.im_theory_machine.proofs.Queue.{nets_same}
-use Rattle.im_theory_machine.proofs.Runs.{IsQueue, live_at, clear_commit, passes_as}
-use Rattle.im_theory_machine.proofs.Isolates.{queue_marks, next_idle}
+use Rattle.im_theory_machine.proofs.Cited.{cases_test, nets_same, IsQueue, live_at, clear_commit, passes_as, queue_marks, next_idle}
 use Rattle.im_theory_steps.proofs.Together.{nets_append, nets_else, net_marked}
 use Rattle.im_theory_steps.proofs.Promises.{moves_reach}
 use Rattle.im_theory_steps.specs.Acknowledged.{acked_effects, AllAcked, IsCleanBut, Shows, RunsCommitWhatTheyShow}
@@ -101,7 +98,7 @@ none_append : (xs ys : List Asked) → NoneAcked xs → NoneAcked ys → NoneAck
 none_append [] ys a b = b
 none_append (x ∷ xs) ys a b = (a.0, none_append xs ys a.1 b)
 
-unacked_none : (t : ℕ) (m : Mark) (e : Effect) → NoneAcked (effect_asked t false m e)
+pub unacked_none : (t : ℕ) (m : Mark) (e : Effect) → NoneAcked (effect_asked t false m e)
 unacked_none t Idle e = tt
 unacked_none t Going [] = tt
 unacked_none t Going (c ∷ cs) = (refl, tt)

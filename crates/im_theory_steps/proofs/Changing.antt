@@ -1,8 +1,7 @@
 -- Steps of a structure change that is made page by page, and steps of others that it stands in the way of.
-use Rattle.std.proofs.Common.{◌≡◌, ◌≢◌, ◌≤◌, inl, inr, ℕ, nat_eq, List, ◌++◌, [], ◌∷◌, length, map, refl, sym, ◌∙◌, ap, subst, true, false, Bool, Option, is_some, cond, None, Some}
+use Rattle.std.proofs.Common.{◌≡◌, ◌≢◌, ◌≤◌, inl, inr, ℕ, nat_eq, List, ◌++◌, [], ◌∷◌, length, map, refl, sym, ◌∙◌, ap, subst, true, false, Bool, Option, is_some, cond, None, Some, eq-eqb, ne_eqb}
 use Rattle.std.specs.Prelude.{find}
 use Rattle.std.specs.FinMap.{empty, get}
-use Rattle.std.proofs.lemmas.Bool.{eq-eqb, ne_eqb}
 use Rattle.im_base_types.specs.Keys.{Key}
 use Rattle.im_base_types.specs.Maps.{IndexMap}
 use Rattle.im_base_types.specs.Changes.{Change, Effect, Put, Drop, apply_all, undone, seen_effect}
@@ -28,10 +27,7 @@ use Rattle.im_theory_machine.specs.Table.{Table, locks_of, lasting_of}
 use Rattle.im_theory_machine.specs.Changing.{MatchesWithKept}
 use Rattle.im_theory_machine.specs.View.{View, Under, Aim, Puts, Drops, TakesBack, TookBack, Txn, idle, set_txn, owner_of, owner_in, pending_for, pending_of, kept_for, kept_lock, locks_in, own_locks, did, did_txn, locked, undid_more, dropped_by, with_change, change_made, is_among, nets_of}
 use Rattle.im_theory_machine.specs.Machine.{logs_page, drops_leaf, drops_first, takes_later, takes_first, takes_leaf, takes_last, tree_blocks, tree_halts, barred, barred_to_continue, or_else, fault_if}
-use Rattle.im_theory_machine.proofs.Changing.{changes-serve}
-use Rattle.im_theory_machine.proofs.Invariant.{by_txn}
-use Rattle.im_theory_machine.proofs.Isolates.{pending_granted}
-use Rattle.im_theory_machine.proofs.Queue.{nets_same}
+use Rattle.im_theory_machine.proofs.Cited.{changes-serve, by_txn, pending_granted, nets_same}
 use Rattle.im_theory_steps.specs.Seen.{IsSeen, drop_of}
 use Rattle.im_theory_steps.specs.Serving.{IsRow, IsRowOf, IsAt, mark_of, IsServing}
 use Rattle.im_theory_steps.specs.Steps.{key_record, noted, InsertsBegin, PagesAreServed, InsertsStayFree, InsertsEnd, DeletesBegin, DeletesEnd, TurnsBegin, TurnsEmpty, TurnsDrop, TurnsEnd, TreesBlock, TreesHalt}

@@ -1,7 +1,6 @@
 -- What a stop leaves of the Commits of a life.
-use Rattle.std.proofs.Common.{◌≡◌, ◌≢◌, inl, ℕ, Bool, true, false, List, [], ◌∷◌, ◌++◌, length, Option, None, refl, sym, ap, subst, ◌∙◌, append_assoc, append-nil}
+use Rattle.std.proofs.Common.{◌≡◌, ◌≢◌, inl, ℕ, Bool, true, false, List, [], ◌∷◌, ◌++◌, length, Option, None, refl, sym, ap, subst, ◌∙◌, append_assoc, append-nil, ne_eqb}
 use Rattle.std.specs.Prelude.{find, if◌then◌else◌, ◌==◌, ◌||◌}
-use Rattle.std.proofs.lemmas.Bool.{ne_eqb}
 use Rattle.std.specs.FinMap.{empty}
 use Rattle.im_base_types.specs.Maps.{IndexMap}
 use Rattle.im_base_types.specs.Changes.{Effect, apply_all, seen, seen_effect}
@@ -9,7 +8,7 @@ use Rattle.im_theory_log.specs.Tree.{Tree}
 use Rattle.im_theory_log.specs.Histories.{Base, History}
 use Rattle.im_theory_log.specs.Transactions.{committed, net}
 use Rattle.im_theory_log.specs.Writer.{IsLeft}
-use Rattle.im_base_types.specs.Answers.{Mark, Idle, Going, MustRollBack, RollingBack, Committing, Step, Begin, Do, Commit, Rollback, Continue, FlushPage, Force, Checkpoint, Switch}
+use Rattle.im_base_types.specs.Answers.{Mark, Idle, Going, Committing, Step, Begin, Do, Commit, Rollback, Continue, FlushPage, Force, Checkpoint, Switch}
 use Rattle.im_base_types.specs.Refusals.{memory, unfinished}
 use Rattle.im_base_types.specs.Lives.{Asked, Shown, NoneAcked, all_acked, asks, breaks, cut_off, effects, effect_asked}
 use Rattle.im_base_types.proofs.Changes.{seen_append}
@@ -19,16 +18,14 @@ use Rattle.im_base_txn.specs.Rows.{is_of}
 use Rattle.im_theory_machine.specs.Locks.{Lock, SameLocks}
 use Rattle.im_theory_machine.specs.Table.{Table, locks_of}
 use Rattle.im_theory_machine.specs.View.{View, owner_in, kept_lock, Txn, idle, is_among, nets_of}
-use Rattle.im_theory_machine.proofs.Queue.{among_one}
+use Rattle.im_theory_machine.proofs.Cited.{among_one, isolates, nothing_goes_on, queue_marks, unowned_clear}
 use Rattle.im_theory_machine.specs.Machine.{start}
-use Rattle.im_theory_machine.proofs.Isolates.{isolates, nothing_goes_on, queue_marks}
 use Rattle.im_theory_steps.specs.Serving.{IsServing, IsAt, mark_of}
 use Rattle.im_theory_steps.specs.Durable.{AreCommitted, StopsAllow, CommitsStand, CutCommitsStand, OthersAskNothing, QuietLivesSettle, Settled}
 use Rattle.im_theory_steps.specs.Acknowledged.{AllAcked}
 use Rattle.im_theory_steps.proofs.Asking.{effects_append, effects_acked}
-use Rattle.im_theory_steps.proofs.Acknowledged.{no_effects}
+use Rattle.im_theory_steps.proofs.Acknowledged.{no_effects, unacked_none}
 use Rattle.im_theory_steps.proofs.Showing.{shown_is, effect_shown}
-use Rattle.im_theory_machine.proofs.Under.{unowned_clear}
 use Rattle.im_theory_steps.proofs.Holding.{kept_none}
 use Rattle.im_base_txn.specs.declared.transaction.Mark.TheVariants.{Going as RowGoing}
 use Rattle.im_theory_steps.proofs.Steps.{at, has_changed, mark_free, new_by, map_made}
@@ -161,14 +158,6 @@ commits_stand = record {
 
 -- ---- what a Commit asks
 
-unacked : (t : ℕ) (m : Mark) (e : Effect) → NoneAcked (effect_asked t false m e)
-unacked t Idle e = tt
-unacked t Going [] = tt
-unacked t Going (c ∷ cs) = (refl, tt)
-unacked t MustRollBack e = tt
-unacked t RollingBack e = tt
-unacked t Committing e = tt
-
 asked_one : (t : ℕ) (e : Effect) → e ≢ [] → effects (effect_asked t false Going e) ≡ e ∷ []
 asked_one t [] some = absurd (some refl)
 asked_one t (c ∷ cs) some = refl
@@ -195,7 +184,7 @@ cut_commits_stand b earlier before s v older longer durable rows next held t row
       front = are.front;
       rest = are.rest ++ more;
       all = sym (append_assoc are.front are.rest more) ∙ ap (λ (l : List Asked). l ++ more) are.all ∙ sym now;
-      waiting = waits_more are.rest more are.waiting (unacked t (s.running t).mark (s.running t).effect);
+      waiting = waits_more are.rest more are.waiting (unacked_none t (s.running t).mark (s.running t).effect);
       forced = are.forced;
       whole = ap (λ (es : List Effect). earlier ++ seen es) on.commits
           ∙ ap (λ (es : List Effect). earlier ++ es) (seen_append (committed older) (net t older ∷ []))
@@ -224,7 +213,7 @@ either_failed s t fault false = refl
 
 more_asked : (s : Shown) (t : ℕ) (failed : Bool) → (more : List Asked) × NoneAcked more × ((if failed then s else asks t false s).asked ≡ s.asked ++ more)
 more_asked s t true = ([], tt, sym (append-nil s.asked))
-more_asked s t false = (effect_asked t false (s.running t).mark (s.running t).effect, unacked t (s.running t).mark (s.running t).effect, refl)
+more_asked s t false = (effect_asked t false (s.running t).mark (s.running t).effect, unacked_none t (s.running t).mark (s.running t).effect, refl)
 
 pub others_ask_nothing : OthersAskNothing
 others_ask_nothing = record {

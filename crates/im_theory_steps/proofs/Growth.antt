@@ -10,16 +10,14 @@ use Rattle.im_theory_log.specs.Histories.{History, Base, Rises, end_of, page_aft
 use Rattle.im_theory_log.specs.Structure.{open_after, open_smo}
 use Rattle.im_theory_log.specs.Copies as copies
 use Rattle.im_theory_log.specs.Lawful.{IsLawful, MayCome, has_owner}
-use Rattle.im_theory_log.proofs.Appends.{append_checkpoint}
-use Rattle.im_theory_log.proofs.Histories.{page_same}
-use Rattle.im_theory_log.proofs.Images.{images_open, lawful_images}
+use Rattle.im_theory_log.proofs.Cited.{append_checkpoint, page_same, images_open, lawful_images}
 use Rattle.im_theory_log.specs.Transactions.{committed, committed_after, contents, contents_after, net, change_of, changes_of, without_smo, is_smo, last_of, undo_next_of, undo_from, to_undo, stack_after, is_finished, is_rolling_back, is_end, is_compensation}
-use Rattle.im_theory_steps.specs.Growth.{Stays, IsSameOf, HasNone, IsImage, IsCheckpoint, IsUnowned, IsWithin, AreWithin, AreImages, AreUnowned, GrowthWithinLeavesOthers, ImagesChangeNothing, UnownedChangeNothing, CheckpointsChangeNothing, AreBelow, AreStructural, CopiesAreImages, IsRestructured, IsStructural, NumbersStayNew, StructureChangesNoKey, is_structural}
+use Rattle.im_theory_steps.specs.Growth.{Stays, SaysSameOf, HasNone, IsImageRecord, IsCheckpoint, IsUnowned, IsWithin, AreWithin, AreImageRecords, AreUnowned, GrowthWithinLeavesOthers, ImagesChangeNothing, UnownedChangeNothing, CheckpointsChangeNothing, AreBelow, AreStructural, CopiesAreImages, IsRestructured, IsStructural, NumbersStayNew, StructureChangesNoKey, is_structural}
 
 -- ---- one record
 
 -- a record of another
-pub same_by : (u : ℕ) (r : Logged) (older : History) → r.txn ≢ u → IsSameOf u older (r ∷ older)
+pub same_by : (u : ℕ) (r : Logged) (older : History) → r.txn ≢ u → SaysSameOf u older (r ∷ older)
 same_by u r older other = record {
   last = λ le. cond-false (r.txn == u) r.lsn (last_of u older) (ne_eqb r.txn u other);
   undo = λ le. cond-false (r.txn == u) (undo_from r r.what) (undo_next_of u older) (ne_eqb r.txn u other);
@@ -42,7 +40,7 @@ pub record SaysNothing (r : Logged) : Type 0 where
   pub commits : (e : Effect) (es : List Effect) → committed_after r.what e es ≡ es
   pub walk : (m : IndexMap) → contents_after r.what m ≡ m
 
-pub image_says_nothing : (r : Logged) → IsImage r → SaysNothing r
+pub image_says_nothing : (r : Logged) → IsImageRecord r → SaysNothing r
 image_says_nothing r image = record {
   no_owner = image.no_owner;
   end = ap is_end image.what;
@@ -66,7 +64,7 @@ unowned_says_nothing : (r : Logged) → IsUnowned r → SaysNothing r
 unowned_says_nothing r (inl image) = image_says_nothing r image
 unowned_says_nothing r (inr is) = checkpoint_says_nothing r is
 
-pub same_by_none : (u : ℕ) (r : Logged) (older : History) → SaysNothing r → IsSameOf u older (r ∷ older)
+pub same_by_none : (u : ℕ) (r : Logged) (older : History) → SaysNothing r → SaysSameOf u older (r ∷ older)
 same_by_none u r older says = record {
   last = λ le. cond-false (r.txn == u) r.lsn (last_of u older) (ne_eqb r.txn u (other le));
   undo = λ le. cond-false (r.txn == u) (undo_from r r.what) (undo_next_of u older) (ne_eqb r.txn u (other le));
@@ -78,12 +76,12 @@ same_by_none u r older says = record {
     other : 1 ≤ u → r.txn ≡ u → ⊥
     other le e = let zero_is : r.txn ≡ 0 = says.no_owner in omega (arith, le, e, zero_is)
 
-pub same_by_image : (u : ℕ) (r : Logged) (older : History) → IsImage r → IsSameOf u older (r ∷ older)
+pub same_by_image : (u : ℕ) (r : Logged) (older : History) → IsImageRecord r → SaysSameOf u older (r ∷ older)
 same_by_image u r older image = same_by_none u r older (image_says_nothing r image)
 
 -- ---- one after another
 
-pub same_then : (u : ℕ) (a b c : History) → IsSameOf u a b → IsSameOf u b c → IsSameOf u a c
+pub same_then : (u : ℕ) (a b c : History) → SaysSameOf u a b → SaysSameOf u b c → SaysSameOf u a c
 same_then u a b c one two = record {
   last = λ le. two.last le ∙ one.last le;
   undo = λ le. two.undo le ∙ one.undo le;
@@ -92,14 +90,14 @@ same_then u a b c one two = record {
   stack = two.stack ∙ one.stack;
 }
 
-pub same_here : (u : ℕ) (log : History) → IsSameOf u log log
+pub same_here : (u : ℕ) (log : History) → SaysSameOf u log log
 same_here u log = record { last = λ le. refl; undo = λ le. refl; finished = refl; rolling = refl; stack = refl }
 
-within_same : (t u : ℕ) (more older : History) → u ≢ t → AreWithin t more → IsSameOf u older (more ++ older)
+within_same : (t u : ℕ) (more older : History) → u ≢ t → AreWithin t more → SaysSameOf u older (more ++ older)
 within_same t u [] older differ all = same_here u older
 within_same t u (r ∷ more) older differ all = same_then u older (more ++ older) (r ∷ (more ++ older)) (within_same t u more older differ all.1) (step all.0)
   where
-    step : IsWithin t r → IsSameOf u (more ++ older) (r ∷ (more ++ older))
+    step : IsWithin t r → SaysSameOf u (more ++ older) (r ∷ (more ++ older))
     step (inl image) = same_by_image u r (more ++ older) image
     step (inr own) = same_by u r (more ++ older) (λ e. differ (sym e ∙ own.0))
 
@@ -127,13 +125,13 @@ within_committed t (r ∷ more) older all = uncommitted r.what (net r.txn (more 
 
 pub within_leaves_others : GrowthWithinLeavesOthers
 within_leaves_others t older longer grows = (
-  λ u differ. subst (λ (l : History). IsSameOf u older l) grows.is (within_same t u grows.more older differ grows.within),
+  λ u differ. subst (λ (l : History). SaysSameOf u older l) grows.is (within_same t u grows.more older differ grows.within),
   subst (λ (l : History). committed l ≡ committed older) grows.is (within_committed t grows.more older grows.within),
 )
 
 -- ---- Images and Checkpoints
 
-unowned_same : (u : ℕ) (more older : History) → AreUnowned more → IsSameOf u older (more ++ older)
+unowned_same : (u : ℕ) (more older : History) → AreUnowned more → SaysSameOf u older (more ++ older)
 unowned_same u [] older all = same_here u older
 unowned_same u (r ∷ more) older all = same_then u older (more ++ older) (r ∷ (more ++ older)) (unowned_same u more older all.1) (same_by_none u r (more ++ older) (unowned_says_nothing r all.0))
 
@@ -151,10 +149,10 @@ unowned_stay b (r ∷ more) older all =
 pub unowned_change_nothing : UnownedChangeNothing
 unowned_change_nothing b older longer grows = (
   subst (λ (l : History). Stays b older l) grows.is (unowned_stay b grows.more older grows.unowned),
-  λ u. subst (λ (l : History). IsSameOf u older l) grows.is (unowned_same u grows.more older grows.unowned),
+  λ u. subst (λ (l : History). SaysSameOf u older l) grows.is (unowned_same u grows.more older grows.unowned),
 )
 
-images_unowned : (more : History) → AreImages more → AreUnowned more
+images_unowned : (more : History) → AreImageRecords more → AreUnowned more
 images_unowned [] all = tt
 images_unowned (r ∷ more) all = (inl all.0, images_unowned more all.1)
 
@@ -310,7 +308,7 @@ module _ (b : Base) (t : ℕ) where
         | inr other ↦ ap changes_of (same_by u r older other).stack
       ]
 
-  image_record : (r : Logged) (older : History) → IsImage r → IsRestructured b t older (r ∷ older)
+  image_record : (r : Logged) (older : History) → IsImageRecord r → IsRestructured b t older (r ∷ older)
   image_record r older image = record {
     stays = unowned_stay b (r ∷ []) older (inl image, tt);
     others = λ u differ. same_by_image u r older image;
@@ -364,7 +362,7 @@ numbers_stay_new = record {
 
 -- ---- full copies
 
-copies_images : (b : Base) (images older : History) → copies.AreImages b images older → AreImages images
+copies_images : (b : Base) (images older : History) → copies.AreImages b images older → AreImageRecords images
 copies_images b [] older all = tt
 copies_images b (r ∷ images) older all = (record { copy = all.0.copy; what = all.0.what; no_owner = all.0.no_owner }, copies_images b images older all.1)
 

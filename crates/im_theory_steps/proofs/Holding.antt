@@ -1,7 +1,6 @@
 -- Who holds which locks, beside an Insert that goes on and keeps one.
 use Rattle.std.specs.FinMap.{get}
-use Rattle.std.proofs.Common.{is_some, ◌≡◌, ◌≢◌, inl, inr, ℕ, nat_eq, Bool, true, false, cond, List, [], ◌∷◌, ◌++◌, Option, None, Some, refl, sym, ◌∙◌, ap, subst}
-use Rattle.std.proofs.lemmas.Bool.{eq-eqb}
+use Rattle.std.proofs.Common.{is_some, ◌≡◌, ◌≢◌, inl, inr, ℕ, nat_eq, Bool, true, false, cond, List, [], ◌∷◌, ◌++◌, Option, None, Some, refl, sym, ◌∙◌, ap, subst, eq-eqb}
 use Rattle.im_base_types.specs.Keys.{Key}
 use Rattle.im_base_types.specs.Maps.{IndexMap}
 use Rattle.im_base_types.specs.Changes.{Change, Touches, key_of, undone}
@@ -17,14 +16,7 @@ use Rattle.im_theory_machine.specs.View.{View, Under, Aim, Puts, Drops, TakesBac
 use Rattle.im_theory_machine.specs.Kept.{IsPending}
 use Rattle.im_theory_machine.specs.Machine.{IsReached}
 use Rattle.im_theory_machine.specs.Changing.{MatchesWithKept, asked_begun}
-use Rattle.im_theory_machine.proofs.Bools.{cases_test}
-use Rattle.im_theory_machine.proofs.Guards.{guard}
-use Rattle.im_theory_machine.proofs.Invariant.{by_txn, Chain-guards}
-use Rattle.im_theory_machine.proofs.Isolates.{nothing_goes_on, pending_granted, queue_marks}
-use Rattle.im_theory_machine.proofs.Pending.{undo_stays}
-use Rattle.im_theory_machine.proofs.Queue.{by_force_txn}
-use Rattle.im_theory_machine.proofs.Runs.{nothing_told, tells, run_upheld, stands_of}
-use Rattle.im_theory_machine.proofs.Under.{IsFor, IsUnder}
+use Rattle.im_theory_machine.proofs.Cited.{cases_test, guard, by_txn, Chain-guards, nothing_goes_on, pending_granted, queue_marks, undo_stays, by_force_txn, nothing_told, tells, run_upheld, stands_of, IsFor, IsUnder}
 
 pub same_itself : (ls : List Lock) → SameLocks ls ls
 same_itself ls n m = (λ h. h, λ h. h)

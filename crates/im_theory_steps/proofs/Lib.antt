@@ -1,3 +1,4 @@
+pub mod Cited
 pub mod Together
 pub mod Records
 pub mod Growth

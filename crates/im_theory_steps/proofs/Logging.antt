@@ -8,7 +8,7 @@ use Rattle.im_base_types.specs.Changes.{Change, Effect, Put, Drop, applied, key_
 use Rattle.im_base_types.specs.Records.{What, InsertKey, DeleteKey, Commit as CommitRecord, Logged}
 use Rattle.im_theory_log.specs.Tree.{Tree, TreeLaws}
 use Rattle.im_theory_log.specs.Histories.{History, Base}
-use Rattle.im_theory_log.specs.Lawful.{Follows, IsChained, IsOutside, IsNotIn}
+use Rattle.im_theory_log.specs.Lawful.{Follows, IsChained}
 use Rattle.im_theory_log.specs.Lawful as lawful
 use Rattle.im_theory_log.proofs.LogLaws.{logs_stay_lawful}
 use Rattle.im_theory_log.specs.Transactions.{last_of, undo_next_of, undo_from, to_undo, stack_after, is_finished, is_rolling_back, is_end, is_compensation, net, change_of, changes_of}

@@ -1,16 +1,11 @@
 -- Whose structure change is under way is going, or rolls back, as the change is for.
-use Rattle.std.proofs.Common.{◌≡◌, ◌≢◌, ◌⊎◌, inl, inr, ℕ, nat_eq, Bool, true, false, cond, List, [], ◌∷◌, Option, Some, None, refl, sym, ◌∙◌, ap, subst}
-use Rattle.std.proofs.lemmas.Bool.{eq-eqb}
+use Rattle.std.proofs.Common.{◌≡◌, ◌≢◌, ◌⊎◌, inl, inr, ℕ, nat_eq, Bool, true, false, cond, List, [], ◌∷◌, Option, Some, None, refl, sym, ◌∙◌, ap, subst, eq-eqb}
 use Rattle.im_base_types.specs.Maps.{IndexMap}
 use Rattle.im_base_types.specs.Answers.{Access, Insert, Delete, Step, Reply, Do, Commit, Rollback, Mark, Idle, Going, MustRollBack, RollingBack, Committing}
 use Rattle.im_theory_machine.specs.Locks.{Lock}
 use Rattle.im_theory_machine.specs.View.{View, Under, Aim, Puts, Drops, TakesBack, TookBack, Txn, set_txn, owner_of, pending_for, pending_of, of_others, is_among, idle_all, MayRollBack}
 use Rattle.im_theory_machine.specs.Machine.{Moves, Answers, Goes, begins, does, waits, dies, commits, queues, drops, turns, undoes, ends, puts_later, puts, drops_first, drops_leaf, takes_later, takes_first, takes_leaf, takes_last, logs_page, tree_blocks, tree_halts, flushes, forces, checkpoints, switches, lacks, breaks, barred, start, Run, IsReached}
-use Rattle.im_theory_machine.proofs.Bools.{cases_number, cases_test}
-use Rattle.im_theory_machine.proofs.Invariant.{set_txn-same, set_txn-other}
-use Rattle.im_theory_machine.proofs.Isolates.{next_is_idle, queue_marks}
-use Rattle.im_theory_machine.proofs.Queue.{idle_others}
-use Rattle.im_theory_machine.proofs.Runs.{clear_do, clear_commit, clear_rollback}
+use Rattle.im_theory_machine.proofs.Cited.{cases_number, cases_test, set_txn-same, set_txn-other, next_is_idle, queue_marks, idle_others, clear_do, clear_commit, clear_rollback}
 use Rattle.im_theory_steps.specs.Steps.{mark_for_aim, OwnersAreMarked}
 use Rattle.im_theory_steps.proofs.Promises.{moves_reach}
 

@@ -1,11 +1,9 @@
 -- Granted keys are free in the log, and a machine that was reached is reached after a step.
 use Rattle.std.proofs.Common.{◌++◌, [], ◌∷◌, inl, inr, sym, subst}
 use Rattle.im_theory_machine.specs.View.{is_among}
-use Rattle.im_theory_machine.proofs.Bools.{cases_test}
+use Rattle.im_theory_machine.proofs.Cited.{cases_test, Run-push, granted_free}
 use Rattle.im_base_types.specs.Changes.{Effect, Touches, key_of}
 use Rattle.im_theory_machine.specs.Machine.{start}
-use Rattle.im_theory_machine.proofs.Callers.{Run-push}
-use Rattle.im_theory_machine.proofs.Isolates.{granted_free}
 use Rattle.im_theory_steps.specs.Laws.{GrantedKeysAreFree, MovesReach}
 
 pub granted_keys_free : GrantedKeysAreFree

@@ -1,12 +1,10 @@
 -- In a run of the machine, a transaction that rolls back has a change to take back, but while the leaf still goes that its last one left empty.
-use Rattle.std.proofs.Common.{◌≡◌, ◌≢◌, ℕ, Bool, true, false, cond, List, [], ◌∷◌, Option, None, Some, refl, sym, ap, subst, ◌∙◌}
-use Rattle.std.proofs.lemmas.Bool.{ne_eqb}
+use Rattle.std.proofs.Common.{◌≡◌, ◌≢◌, ℕ, Bool, true, false, cond, List, [], ◌∷◌, Option, None, Some, refl, sym, ap, subst, ◌∙◌, ne_eqb}
 use Rattle.im_base_types.specs.Maps.{IndexMap}
 use Rattle.im_base_types.specs.Answers.{Insert, Delete, Step, Reply, Going, MustRollBack, RollingBack, Committing}
 use Rattle.im_theory_machine.specs.View.{View, Aim, Under, owner_of, Puts, Drops, TakesBack, TookBack, of_others, Txn, idle, set_txn, did_txn}
 use Rattle.im_theory_machine.specs.Machine.{Answers, Goes, Run, IsReached, start, barred, begins, does, waits, dies, commits, queues, drops, turns, undoes, ends, puts_later, puts, drops_first, drops_leaf, takes_later, takes_first, takes_leaf, takes_last, logs_page, tree_blocks, tree_halts, flushes, forces, checkpoints, switches, lacks, breaks}
-use Rattle.im_theory_machine.proofs.Invariant.{by_txn}
-use Rattle.im_theory_machine.proofs.Queue.{by_force_txn}
+use Rattle.im_theory_machine.proofs.Cited.{by_txn, by_force_txn}
 
 abbrev pub Rolls : Option Under → ℕ → Txn → Type 0
 Rolls under t x = x.mark ≡ RollingBack → x.net ≡ [] → under ≡ Some (record { owner = t; aim = TookBack })

@@ -1,7 +1,6 @@
 -- Rows of the table behind a step.
-use Rattle.std.proofs.Common.{◌≡◌, ◌≢◌, ◌≤◌, ◌+◌, ◌-◌, suc, ℕ, Bool, cond, List, [], ◌∷◌, length, map, refl, sym, ◌∙◌, ap, subst, Option, None, Some, inl, inr, arith}
+use Rattle.std.proofs.Common.{◌≡◌, ◌≢◌, ◌≤◌, ◌+◌, ◌-◌, suc, ℕ, Bool, cond, List, [], ◌∷◌, length, map, refl, sym, ◌∙◌, ap, subst, Option, None, Some, inl, inr, arith, eq-eqb, ne_eqb}
 use Rattle.std.specs.Prelude.{find}
-use Rattle.std.proofs.lemmas.Bool.{eq-eqb, ne_eqb}
 use Rattle.im_theory_log.specs.Histories.{History}
 use Rattle.im_theory_log.specs.Transactions.{changes_of, net}
 use Rattle.im_base_txn.specs.declared.transaction.Mark.{Mark}
@@ -11,13 +10,12 @@ use Rattle.im_base_txn.specs.Rows.{is_of, changed, with_mark}
 use Rattle.im_base_txn.specs.LookUps.{Keeps, without}
 use Rattle.im_base_txn.proofs.LookUps.{look_ups_follow}
 use Rattle.im_theory_machine.specs.View.{Txn, Under, owner_of, of_others, idle, set_txn}
-use Rattle.im_theory_machine.proofs.Bools.{cases_number}
-use Rattle.im_theory_machine.proofs.Invariant.{by_txn}
-use Rattle.im_theory_steps.specs.Growth.{IsSameOf, IsOfOthers}
+use Rattle.im_theory_machine.proofs.Cited.{cases_number, by_txn}
+use Rattle.im_theory_steps.specs.Growth.{SaysSameOf, IsOfOthers}
 use Rattle.im_theory_steps.specs.Serving.{IsRow, IsRowOf, IsAt, mark_of}
 
 -- a row is as it was where the log says of its transaction what it said
-pub row_on : {who : Option ℕ} (row : Transaction) (next : ℕ) (older longer : History) → IsSameOf row.number older longer → IsRow row next older who → IsRow row next longer who
+pub row_on : {who : Option ℕ} (row : Transaction) (next : ℕ) (older longer : History) → SaysSameOf row.number older longer → IsRow row next older who → IsRow row next longer who
 row_on {who} row next older longer on r = record {
   number = r.number;
   below = r.below;
@@ -29,7 +27,7 @@ row_on {who} row next older longer on r = record {
 }
 
 -- whatever its mark
-row_of_on : (who : Option ℕ) (m : Mark) (row : Transaction) (next : ℕ) (older longer : History) → IsSameOf row.number older longer → IsRowOf m row next older who → IsRowOf m row next longer who
+row_of_on : (who : Option ℕ) (m : Mark) (row : Transaction) (next : ℕ) (older longer : History) → SaysSameOf row.number older longer → IsRowOf m row next older who → IsRowOf m row next longer who
 row_of_on who Committing row next older longer on r = record { number = r.number; below = r.below; over = on.finished ∙ r.over; stack = on.stack ∙ r.stack }
 row_of_on who Going row next older longer on r = row_on row next older longer on r
 row_of_on who MustRollBack row next older longer on r = row_on row next older longer on r
@@ -49,9 +47,9 @@ as_row {who} MustRollBack row next log free r = r
 as_row {who} RollingBack row next log free r = r
 
 -- and so is a transaction
-pub same_at : (who : Option ℕ) (u next : ℕ) (older longer : History) → IsSameOf u older longer → (o : Option Transaction) (x : Txn) → IsAt u o next older who x → IsAt u o next longer who x
+pub same_at : (who : Option ℕ) (u next : ℕ) (older longer : History) → SaysSameOf u older longer → (o : Option Transaction) (x : Txn) → IsAt u o next older who x → IsAt u o next longer who x
 same_at who u next older longer on None x is = (λ one le. on.finished ∙ is.0 one (subst (λ (n : ℕ). 1 ≤ n) (on.last one) le), on.stack ∙ is.1, is.2)
-same_at who u next older longer on (Some row) x is = (is.0, row_of_on who row.mark row next older longer (subst (λ (n : ℕ). IsSameOf n older longer) (sym is.0) on) is.1, is.2)
+same_at who u next older longer on (Some row) x is = (is.0, row_of_on who row.mark row next older longer (subst (λ (n : ℕ). SaysSameOf n older longer) (sym is.0) on) is.1, is.2)
 
 -- what is known of a row that is found
 pub row_of_found : (who : Option ℕ) (t next : ℕ) (log : History) (x : Txn) (o : Option Transaction) (row : Transaction) → o ≡ Some row → IsAt t o next log who x → IsAt t (Some row) next log who x
@@ -132,7 +130,7 @@ rows_ended who t next older longer rows txns on each gone =
     (subst (λ (o : Option Transaction). IsAt t o next longer who idle) (sym (look_ups_follow.ended_own t rows)) gone)
 
 -- all rows stay
-pub rows_stay : (who : Option ℕ) (t next : ℕ) (older longer : History) (rows : List Transaction) (txns : ℕ → Txn) (x : Txn) (row : Transaction) → ((u : ℕ) → IsSameOf u older longer)
+pub rows_stay : (who : Option ℕ) (t next : ℕ) (older longer : History) (rows : List Transaction) (txns : ℕ → Txn) (x : Txn) (row : Transaction) → ((u : ℕ) → SaysSameOf u older longer)
     → ((u : ℕ) → IsAt u (find (is_of u) rows) next older who (txns u)) → find (is_of t) rows ≡ Some row → x.mark ≡ mark_of row.mark
     → (u : ℕ) → IsAt u (find (is_of u) rows) next longer who (set_txn txns t x u)
 rows_stay who t next older longer rows txns x row on each found mark =

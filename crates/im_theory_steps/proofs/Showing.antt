@@ -8,18 +8,13 @@ use Rattle.im_base_types.specs.Maps.{From, Above, first, last_below}
 use Rattle.im_base_types.specs.Changes.{Change, Put, Drop, Effect, seen_effect, seen_change}
 use Rattle.im_base_types.specs.Answers.{Access, Fetch, Seek, Next, Prev, Scan, Insert, Delete, Step, Begin, Do, Commit, Rollback, Continue, FlushPage, Force, Checkpoint, Switch, Reply, Started, Absent, BlockedTree, Committed, RolledBack, More, Blocked, Die, Done, Refused, Duplicate, Inserted, Deleted, Mark, Idle, Going, MustRollBack, RollingBack, Committing, answer, changes, dropped, found, entry}
 use Rattle.im_base_types.specs.Refusals.{memory, unfinished, failed as has_failed, no_transaction, must_roll_back, rolling_back, key_length, too_many, busy}
-use Rattle.im_base_types.specs.Lives.{Shown, Running, Asked, idle, with_running, marks, adds, shown_change, asks, refused, answered, breaks}
+use Rattle.im_base_types.specs.Lives.{Shown, Running, Asked, idle, with_running, shows_mark, adds, shown_change, asks, refused, answered, breaks}
 use Rattle.im_theory_machine.specs.Locks.{Lock}
-use Rattle.im_theory_machine.specs.View.{Txn, View, Under, Puts, Drops, TakesBack, TookBack, pending_of, of_others, locked, with_change, change_made, set_txn, begun, did, did_txn, marked, committed_by, dropped_by, undid_more, undid_last, broken, MayRollBack, queued, forced_by}
+use Rattle.im_theory_machine.specs.View.{Txn, View, Under, Puts, Drops, TakesBack, TookBack, pending_of, locked, with_change, change_made, set_txn, begun, did, did_txn, marked, committed_by, dropped_by, undid_more, undid_last, broken, MayRollBack, queued, forced_by}
 use Rattle.im_theory_machine.specs.View as views
 use Rattle.im_theory_machine.specs.Machine.{barred, barred_to, barred_to_rollback, barred_to_continue, or_else, fault_if, keys_fit, Answers, Goes, begins, does, waits, dies, commits, queues, drops, turns, undoes, ends, puts_later, puts, drops_first, drops_leaf, takes_later, takes_first, takes_leaf, takes_last, logs_page, tree_blocks, tree_halts, flushes, forces, checkpoints, switches, lacks, breaks as machine_breaks, Wants, Breaks}
-use Rattle.im_theory_machine.proofs.Bools.{cases_number}
-use Rattle.im_theory_machine.proofs.Invariant.{by_txn}
+use Rattle.im_theory_machine.proofs.Cited.{cases_number, by_txn, by_force_txn, IsQueue, clear_do, clear_commit, clear_rollback, passes_as, none_either, others_pending, queue_marks, next_is_idle, nothing_goes_on, pending_absent}
 use Rattle.im_theory_steps.specs.Seen.{drop_of, IsMarkShown, IsShownBy}
-use Rattle.im_theory_machine.proofs.Queue.{by_force_txn}
-use Rattle.im_theory_machine.proofs.Runs.{IsQueue, clear_do, clear_commit, clear_rollback, passes_as}
-use Rattle.im_theory_machine.proofs.Under.{none_either, others_pending}
-use Rattle.im_theory_machine.proofs.Isolates.{queue_marks, next_is_idle, nothing_goes_on, pending_absent}
 use Rattle.im_theory_steps.specs.Laws.{MovesAreShown}
 
 -- ---- marks that are shown
@@ -316,7 +311,7 @@ module _ (s : Shown) (v : View) (queue : IsQueue v.queue v.txns) (fresh : (v.txn
   gone : (t : ℕ) (a : List Asked) (w : View) → w.failed ≡ v.failed → ((u : ℕ) → w.txns u ≡ set_txn v.txns t views.idle u) → ((u : ℕ) → pending_of w.under u ≡ pending_of v.under u) → pending_of v.under t ≡ None → IsShownBy (record (with_running t idle s) { asked = a }) w
   gone t a w failed txns same none = shown_set s v h w t idle views.idle a failed txns (λ u differ. same u) (subst (Fits idle views.idle) (sym (same t ∙ none)) idle_fits)
 
-  remarked : (t : ℕ) (m : Mark) → (MayRollBack m → MayRollBack ((v.txns t).mark)) → IsShownBy (marks t m s) (marked v t m)
+  remarked : (t : ℕ) (m : Mark) → (MayRollBack m → MayRollBack ((v.txns t).mark)) → IsShownBy (shows_mark t m s) (marked v t m)
   remarked t m may = shown_set s v h (marked v t m) t (record (s.running t) { mark = m }) (record (v.txns t) { mark = m }) s.asked refl (λ u. refl) (λ u differ. refl) (record {
     mark = inl refl;
     pending = h.pending t;
@@ -370,7 +365,7 @@ module _ (s : Shown) (v : View) (queue : IsQueue v.queue v.txns) (fresh : (v.txn
       waited (Delete k) = h
   goes_shown step reply w free (dies t a b is must d e) = put_in step (Do t a) reply Die w (marked v t MustRollBack) b d e (died a)
     where
-      here : IsShownBy (marks t MustRollBack s) (marked v t MustRollBack)
+      here : IsShownBy (shows_mark t MustRollBack s) (marked v t MustRollBack)
       here = remarked t MustRollBack (λ may. inl is)
 
       died : (a : Access) → Is (Do t a) Die (marked v t MustRollBack)

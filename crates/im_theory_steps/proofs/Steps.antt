@@ -1,8 +1,7 @@
 -- Each kind of step keeps what holds between steps.
-use Rattle.std.proofs.Common.{◌≡◌, ◌≢◌, ◌≤◌, ◌<◌, ◌^◌, ◌+◌, suc, inl, inr, ◌⊎◌, ℕ, nat_lt, List, ◌++◌, [], ◌∷◌, length, length-append, map, refl, sym, ◌∙◌, ap, subst, true, false, Bool, not, Option, is_some, cond, None, Some, append-nil, append_assoc, arith}
+use Rattle.std.proofs.Common.{◌≡◌, ◌≢◌, ◌≤◌, ◌<◌, ◌^◌, ◌+◌, suc, inl, inr, ◌⊎◌, ℕ, nat_lt, List, ◌++◌, [], ◌∷◌, length, length-append, map, refl, sym, ◌∙◌, ap, subst, true, false, Bool, not, Option, is_some, cond, None, Some, append-nil, append_assoc, arith, lt-ltb, ne_eqb}
 use Rattle.std.specs.Prelude.{find, ◌||◌}
 use Rattle.std.specs.FinMap.{empty}
-use Rattle.std.proofs.lemmas.Bool.{lt-ltb, ne_eqb}
 use Rattle.im_base_types.specs.Keys.{Key}
 use Rattle.im_base_types.specs.Maps.{IndexMap}
 use Rattle.im_base_types.specs.Changes.{Change, Effect, apply_all, seen, seen_effect, undone}
@@ -28,11 +27,7 @@ use Rattle.im_theory_machine.specs.Changing.{MatchesWithKept}
 use Rattle.im_theory_machine.specs.View.{View, Puts, kept_lock, owner_of, owner_in, pending_of, of_others, Txn, idle, set_txn, begun, did, did_txn, marked, committed_by, dropped_by, undid_more, undid_last, queued, forced_by, is_among, MayRollBack}
 use Rattle.im_theory_machine.specs.Kept.{IsPending}
 use Rattle.im_theory_machine.specs.Machine.{Moves, Answers, Goes, begins, commits, queues, drops, turns, undoes, ends, flushes, forces, checkpoints, lacks, barred, barred_to, barred_to_rollback, barred_to_continue, or_else, fault_if, keys_fit, start}
-use Rattle.im_theory_machine.proofs.Changing.{changes-serve}
-use Rattle.im_theory_machine.proofs.Bools.{cases_number, cases_test}
-use Rattle.im_theory_machine.proofs.Queue.{among_other, by_force_txn}
-use Rattle.im_theory_machine.proofs.Isolates.{nothing_goes_on, queue_marks}
-use Rattle.im_theory_machine.proofs.Invariant.{by_txn}
+use Rattle.im_theory_machine.proofs.Cited.{changes-serve, cases_number, cases_test, among_other, by_force_txn, nothing_goes_on, queue_marks, by_txn, unowned_clear}
 use Rattle.im_theory_steps.specs.Growth.{Stays, IsOver, HasNone}
 use Rattle.im_theory_steps.specs.Seen.{IsSeen}
 use Rattle.im_theory_steps.specs.Serving.{IsRow, IsRowOf, IsWaitingRow, IsAt, AreRows, mark_of, IsServing, IsServed}
@@ -43,7 +38,6 @@ use Rattle.im_theory_steps.proofs.Holding.{same_itself, kept_none, kept_undone, 
 use Rattle.im_theory_steps.proofs.Promises.{moves_reach}
 use Rattle.im_theory_steps.proofs.Asking.{asks_nothing, waits_ask_nothing, dies_ask_nothing, effects_append, effects_acked, asked_effect, empty_asked, refusals_ask_nothing, commit_wants}
 use Rattle.im_theory_steps.proofs.Showing.{shown_is, is_shown_so, effect_shown}
-use Rattle.im_theory_machine.proofs.Under.{unowned_clear}
 use Rattle.im_theory_steps.proofs.Acknowledged.{going_free, step_shows}
 use Rattle.im_theory_steps.proofs.Rows.{same_at, row_on, row_as, as_row, row_of_found, rows_after, rows_after_as, others_at, row_has, rows_changed, rows_ended, rows_stay, row_marked, length_map, one_fewer}
 

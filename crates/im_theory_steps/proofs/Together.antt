@@ -1,7 +1,6 @@
 -- The log and the view go together.
-use Rattle.std.proofs.Common.{◌≡◌, ◌≢◌, ◌⊎◌, inl, inr, ℕ, true, false, List, [], ◌∷◌, ◌++◌, refl, sym, ◌∙◌, ap, subst, append_assoc, append-nil}
+use Rattle.std.proofs.Common.{◌≡◌, ◌≢◌, ◌⊎◌, inl, inr, ℕ, true, false, List, [], ◌∷◌, ◌++◌, refl, sym, ◌∙◌, ap, subst, append_assoc, append-nil, ne_eqb}
 use Rattle.std.specs.Prelude.{◌==◌}
-use Rattle.std.proofs.lemmas.Bool.{ne_eqb}
 use Rattle.im_base_types.specs.Maps.{IndexMap}
 use Rattle.im_base_types.specs.Changes.{Change, Effect, applied, undone, apply, apply_all}
 use Rattle.im_base_types.specs.Answers.{Mark, Going, Committing}
@@ -9,9 +8,7 @@ use Rattle.im_theory_log.specs.Histories.{History, Base}
 use Rattle.im_theory_log.specs.Transactions.{committed, net}
 use Rattle.im_base_types.proofs.Changes.{apply_all_append, apply_all_push}
 use Rattle.im_theory_machine.specs.View.{Txn, View, idle, set_txn, did_txn, begun, marked, committed_by, dropped_by, queued, is_among, nets_of}
-use Rattle.im_theory_machine.proofs.Bools.{cases_number, cases_test, neither, or_true}
-use Rattle.im_theory_machine.proofs.Invariant.{by_txn, set_txn-other}
-use Rattle.im_theory_machine.proofs.Queue.{among_one, among_other, among_pushed, idle_gone, idle_others}
+use Rattle.im_theory_machine.proofs.Cited.{cases_number, cases_test, neither, or_true, by_txn, set_txn-other, among_one, among_other, among_pushed, idle_gone, idle_others}
 use Rattle.im_theory_steps.specs.Seen.{IsSeen}
 use Rattle.im_theory_steps.specs.Laws.{LogAndViewGoTogether}
 

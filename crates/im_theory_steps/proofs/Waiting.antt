@@ -11,8 +11,7 @@ use Rattle.im_base_txn.proofs.LookUps.{look_ups_follow, rising_left, found_here,
 use Rattle.im_base_txn.proofs.Waiting.{AreTold, told_each, none_above, waiting_counts}
 use Rattle.im_theory_machine.specs.Table.{Table, all_of, locks_of, IsReleased, AreReleased}
 use Rattle.im_theory_machine.specs.View.{is_among, AreDifferent}
-use Rattle.im_theory_machine.proofs.Bools.{cases_test, or_true}
-use Rattle.im_theory_machine.proofs.Queue.{among_one, among_pushed, pushed_last, pushed_more}
+use Rattle.im_theory_machine.proofs.Cited.{cases_test, or_true, among_one, among_pushed, pushed_last, pushed_more}
 use Rattle.im_theory_steps.specs.Steps.{without_all}
 
 some_row : (o : Option Transaction) → o ≢ None → (row : Transaction) × (o ≡ Some row)

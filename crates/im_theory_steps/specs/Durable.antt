@@ -29,7 +29,7 @@ pub record AreCommitted (earlier before : List Effect) (asked : List Asked) (dur
   pub whole : earlier ++ seen (committed log) ≡ before ++ effects asked
 
 -- what a stop left: a lawful log, whose Commits, behind the earlier ones, are what the life may make of the effects before it
-pub record IsAllowed (b : Base) (tree : Tree) (earlier before : List Effect) (asked : List Asked) (left : History) : Type 0 where
+pub record IsAllowedLog (b : Base) (tree : Tree) (earlier before : List Effect) (asked : List Asked) (left : History) : Type 0 where
   pub lawful : IsLawful b tree left
   pub after : List Effect
   pub survives : Survives before asked after
@@ -38,7 +38,7 @@ pub record IsAllowed (b : Base) (tree : Tree) (earlier before : List Effect) (as
 -- Whatever front of the log a stop leaves, its Commits are what the life may add.
 abbrev pub StopsAllow : Tree → Type 0
 StopsAllow tree = (b : Base) (earlier before : List Effect) (asked : List Asked) (durable log left : History) → IsLawful b tree log → AreCommitted earlier before asked durable log → IsLeft durable log left
-    → IsAllowed b tree earlier before asked left
+    → IsAllowedLog b tree earlier before asked left
 
 -- How Commits stand from call to call.
 pub record CommitsStand : Type 0 where

@@ -44,7 +44,7 @@ pub record Commits (b : Base) (t : ℕ) (older longer : History) : Type 0 where
 -- ---- what the log says of one transaction
 
 -- of this one it says what it said
-pub record IsSameOf (u : ℕ) (older longer : History) : Type 0 where
+pub record SaysSameOf (u : ℕ) (older longer : History) : Type 0 where
   pub last : 1 ≤ u → last_of u longer ≡ last_of u older
   pub undo : 1 ≤ u → undo_next_of u longer ≡ undo_next_of u older
   pub finished : is_finished u longer ≡ is_finished u older
@@ -53,11 +53,11 @@ pub record IsSameOf (u : ℕ) (older longer : History) : Type 0 where
 
 -- of each but t
 abbrev pub IsOfOthers : ℕ → History → History → Type 0
-IsOfOthers t older longer = (u : ℕ) → u ≢ t → IsSameOf u older longer
+IsOfOthers t older longer = (u : ℕ) → u ≢ t → SaysSameOf u older longer
 
 -- of each
 abbrev pub IsOfAll : History → History → Type 0
-IsOfAll older longer = (u : ℕ) → IsSameOf u older longer
+IsOfAll older longer = (u : ℕ) → SaysSameOf u older longer
 
 -- it has no record, or a Commit or an End
 abbrev pub IsOver : ℕ → History → Type 0
@@ -71,23 +71,23 @@ HasNone t (r ∷ older) = (r.txn ≢ t) × HasNone t older
 -- ---- by which records
 
 -- an Image
-pub record IsImage (r : Logged) : Type 0 where
+pub record IsImageRecord (r : Logged) : Type 0 where
   pub copy : Page
   pub what : r.what ≡ Image copy
   pub no_owner : r.txn ≡ 0
 
 -- an Image, or a record of t that neither commits nor ends it
 abbrev pub IsWithin : ℕ → Logged → Type 0
-IsWithin t r = IsImage r ⊎ ((r.txn ≡ t) × (is_end r.what ≡ false))
+IsWithin t r = IsImageRecord r ⊎ ((r.txn ≡ t) × (is_end r.what ≡ false))
 
 -- these records come on top
 abbrev pub AreWithin : ℕ → History → Type 0
 AreWithin t [] = Unit {0}
 AreWithin t (r ∷ rs) = IsWithin t r × AreWithin t rs
 
-abbrev pub AreImages : History → Type 0
-AreImages [] = Unit {0}
-AreImages (r ∷ rs) = IsImage r × AreImages rs
+abbrev pub AreImageRecords : History → Type 0
+AreImageRecords [] = Unit {0}
+AreImageRecords (r ∷ rs) = IsImageRecord r × AreImageRecords rs
 
 -- a Checkpoint, whatever its tables
 pub record IsCheckpoint (r : Logged) : Type 0 where
@@ -99,7 +99,7 @@ pub record IsCheckpoint (r : Logged) : Type 0 where
 
 -- an Image or a Checkpoint, which are no transaction's
 abbrev pub IsUnowned : Logged → Type 0
-IsUnowned r = IsImage r ⊎ IsCheckpoint r
+IsUnowned r = IsImageRecord r ⊎ IsCheckpoint r
 
 abbrev pub AreUnowned : History → Type 0
 AreUnowned [] = Unit {0}
@@ -121,7 +121,7 @@ pub record GrowsWithin (t : ℕ) (older longer : History) : Type 0 where
 pub record GrowsByImages (older longer : History) : Type 0 where
   pub more : History
   pub is : more ++ older ≡ longer
-  pub images : AreImages more
+  pub images : AreImageRecords more
 
 -- a page of a structure change, or the end of one
 abbrev pub is_structural : What → Bool
@@ -131,7 +131,7 @@ is_structural _ = false
 
 -- an Image, or a record of a structure change of t
 abbrev pub IsStructural : ℕ → Logged → Type 0
-IsStructural t r = IsImage r ⊎ ((r.txn ≡ t) × (is_structural r.what ≡ true))
+IsStructural t r = IsImageRecord r ⊎ ((r.txn ≡ t) × (is_structural r.what ≡ true))
 
 abbrev pub AreStructural : ℕ → History → Type 0
 AreStructural t [] = Unit {0}
@@ -180,7 +180,7 @@ pub record NumbersStayNew : Type 0 where
   pub within : (next t : ℕ) (older longer : History) → t < next → AreBelow next older → GrowsWithin t older longer → AreBelow next longer
 
 -- What the full copies that a writer of pages adds leave of a log.
-pub record IsCopied (b : Base) (tree : Tree) (older longer : History) : Type 0 where
+pub record IsAfterCopies (b : Base) (tree : Tree) (older longer : History) : Type 0 where
   pub images : GrowsByImages older longer
   pub lawful : IsLawful b tree older → IsLawful b tree longer
   pub opened : open_smo longer ≡ open_smo older
@@ -188,7 +188,7 @@ pub record IsCopied (b : Base) (tree : Tree) (older longer : History) : Type 0 w
 
 -- They are Images.
 abbrev pub CopiesAreImages : Tree → Type 0
-CopiesAreImages tree = (b : Base) (older longer : History) → copies.GrowsByImages b older longer → IsCopied b tree older longer
+CopiesAreImages tree = (b : Base) (older longer : History) → copies.GrowsByImages b older longer → IsAfterCopies b tree older longer
 
 -- What a Checkpoint on top leaves of a log: its keys and transactions, its pages, and that it is lawful.
 pub record IsCheckpointed (b : Base) (tree : Tree) (r : Logged) (older : History) : Type 0 where

@@ -9,9 +9,7 @@ use Rattle.im_theory_log.specs.Lawful.{IsLawful, MayCome}
 use Rattle.im_theory_log.specs.PageCounts.{named_to, names_page}
 use Rattle.im_theory_log.specs.Structure.{settled, taken_back}
 use Rattle.im_theory_log.specs.Tree.{Tree}
-use Rattle.im_theory_log.proofs.Fronts.{has_tree, rises}
-use Rattle.im_theory_log.proofs.Histories.{page_here, page_lsn_up, start_low}
-use Rattle.im_theory_log.proofs.LogLaws.{finished_tree}
+use Rattle.im_theory_log.proofs.Cited.{has_tree, rises, page_here, page_lsn_up, start_low, finished_tree}
 use Rattle.im_theory_switch.specs.Switch.{CountsStayInFile}
 
 -- a record that names a page changes it, or is an Image

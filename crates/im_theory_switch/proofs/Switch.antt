@@ -1,7 +1,6 @@
 -- What a switch of logs keeps.
-use Rattle.std.proofs.Common.{◌≡◌, inl, ◌+◌, ◌<◌, ◌≤◌, ℕ, [], true, false, refl, sym, ◌∙◌, ap, subst, arith, None, Some}
+use Rattle.std.proofs.Common.{◌≡◌, inl, ◌+◌, ◌<◌, ◌≤◌, ℕ, [], true, false, refl, sym, ◌∙◌, ap, subst, arith, None, Some, append-nil}
 use Rattle.std.specs.FinMap.{empty}
-use Rattle.std.proofs.lemmas.List.{append-nil}
 use Rattle.im_base_types.proofs.Changes.{apply_all_append, apply_all_seen}
 use Rattle.im_base_types.specs.Changes.{apply_all, seen}
 use Rattle.im_base_types.specs.Maps.{IndexMap}
@@ -12,12 +11,7 @@ use Rattle.im_theory_log.specs.RedoPoints.{redo_point}
 use Rattle.im_theory_log.specs.Transactions.{committed}
 use Rattle.im_theory_log.specs.Tree.{Tree}
 use Rattle.im_theory_log.specs.Writer.{IsLeft, PageKept, PointKept, Writer, WriterKept}
-use Rattle.im_theory_log.proofs.Fronts.{rises}
-use Rattle.im_theory_log.proofs.Histories.{front_self, page_lsn_le, whole_below}
-use Rattle.im_theory_log.proofs.LogLaws.{finished_tree}
-use Rattle.im_theory_log.proofs.PageCounts.{count_low, page_count_le}
-use Rattle.im_theory_log.proofs.RedoPoints.{covers_base}
-use Rattle.im_theory_log.proofs.WriterFronts.{left_all}
+use Rattle.im_theory_log.proofs.Cited.{rises, front_self, page_lsn_le, whole_below, finished_tree, count_low, page_count_le, covers_base, left_all}
 use Rattle.im_theory_switch.specs.Switch.{base_after, StandsSwitched, Switches, CountsGoOn, switched, switched_page, WriterSwitches}
 
 -- no page has an LSN after the place

@@ -18,7 +18,7 @@ pub all_at : (P : Entry → Type 0) (es : List Entry) → ((i : ℕ) → i < len
 all_at P [] h = tt
 all_at P (e ∷ es) h = (h zero (omega arith), all_at P es (λ i lt. h (suc i) (omega arith)))
 
-at_all : (P : Entry → Type 0) (es : List Entry) (i : ℕ) → AllOf P es → i < length es → P (entry_at es i)
+pub at_all : (P : Entry → Type 0) (es : List Entry) (i : ℕ) → AllOf P es → i < length es → P (entry_at es i)
 at_all P [] i h lt = absurd (omega arith)
 at_all P (e ∷ es) zero h lt = h.0
 at_all P (e ∷ es) (suc i) h lt = at_all P es i h.1 (omega arith)

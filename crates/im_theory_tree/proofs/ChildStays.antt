@@ -1,6 +1,5 @@
 -- The child that holds a key is the same in the half of its page that the key belongs to.
-use Rattle.std.proofs.Common.{◌≡◌, ◌⊎◌, ℕ, zero, suc, ◌+◌, ◌-◌, ◌<◌, ◌≤◌, false, List, [], ◌∷◌, length, take, drop, sym, ap, subst, ◌∙◌, inl, inr, ⊎_elim, arith, length-take, length-drop}
-use Rattle.std.proofs.lemmas.List.{get_or-take, get_or-drop, drop-drop}
+use Rattle.std.proofs.Common.{◌≡◌, ◌⊎◌, ℕ, zero, suc, ◌+◌, ◌-◌, ◌<◌, ◌≤◌, false, List, [], ◌∷◌, length, take, drop, sym, ap, subst, ◌∙◌, inl, inr, ⊎_elim, arith, length-take, length-drop, get_or-take, get_or-drop, drop-drop}
 use Rattle.std.proofs.lemmas.Bool.{cases_lt}
 use Rattle.im_base_types.specs.Keys.{Key, IsBelow}
 use Rattle.im_base_types.specs.Pages.{Entry, Body}
@@ -10,7 +9,7 @@ use Rattle.im_theory_page.specs.Split.{HasRoomForAny}
 use Rattle.im_theory_page.proofs.Order.{below_trans, below_irrefl}
 use Rattle.im_theory_tree.specs.Levels.{Pages}
 use Rattle.im_theory_tree.specs.Halves.{SplitsWell}
-use Rattle.im_theory_tree.specs.KeySplits.{SplitsKeyInner, SplitsKeyRootInner, KeepsWay, GoesOn}
+use Rattle.im_theory_tree.specs.KeySplits.{SplitsKeyInner, SplitsKeyRootInner, KeepsWay, HalfGoesOn}
 use Rattle.im_theory_tree.proofs.StepLemmas.{below_or_not}
 use Rattle.im_theory_tree.proofs.InnerSplitWay.{key_inner_split}
 use Rattle.im_theory_tree.proofs.RootSplitWay.{key_root_inner_split}
@@ -103,7 +102,7 @@ child_in_right b c key n child rises within leftmost entries reached is =
 -- THE WAY GOES ON BEHIND A SPLIT OF AN INNER PAGE
 goes_on : (b : Body) (pages new : Pages) (spare : List ℕ) (h : ℕ) (key : Key) (p q n child : ℕ) → Rises b.entries → n < length b.entries
     → (new p).leftmost ≡ b.leftmost → (new p).entries ≡ take n b.entries → (new q).leftmost ≡ (entry_at b.entries n).1 → (new q).entries ≡ drop (n + 1) b.entries
-    → SplitsWell false b.entries n → KeepsWay pages new spare (suc h) key p q (entry_at b.entries n).0 → IsChild b key child → GoesOn new h key child
+    → SplitsWell false b.entries n → KeepsWay pages new spare (suc h) key p q (entry_at b.entries n).0 → IsChild b key child → HalfGoesOn new h key child
 goes_on b pages new spare h key p q n child rises within lp ep lq eq well keeps is =
     let s : Key = (entry_at b.entries n).0 in
     ⊎_elim
@@ -122,14 +121,14 @@ goes_on b pages new spare h key p q n child rises within lp ep lq eq well keeps 
     (below_or_not key s)
 
 pub inner_goes_on : (pages new : Pages) (spare : List ℕ) (h : ℕ) (key : Key) (parent p q n child : ℕ) → SplitsKeyInner pages new spare h key parent p q n → SplitsWell false (pages p).entries n
-    → IsChild (pages p) key child → GoesOn new h key child
+    → IsChild (pages p) key child → HalfGoesOn new h key child
 inner_goes_on pages new spare h key parent p q n child s well is =
     let f = s.pages_split in
     goes_on (pages p) pages new spare h key p q n child s.rises s.within f.left_leftmost f.left_entries f.right_leftmost f.right_entries well
     (key_inner_split pages new spare h key parent p q n s) is
 
 pub root_goes_on : (pages new : Pages) (spare : List ℕ) (h : ℕ) (key : Key) (left right n child : ℕ) → SplitsKeyRootInner pages new spare h left right n → Rises (pages 1).entries
-    → SplitsWell false (pages 1).entries n → IsChild (pages 1) key child → GoesOn new h key child
+    → SplitsWell false (pages 1).entries n → IsChild (pages 1) key child → HalfGoesOn new h key child
 root_goes_on pages new spare h key left right n child s rises well is =
     let f = s.pages_split in
     goes_on (pages 1) pages new spare h key left right n child rises s.within f.left_leftmost f.left_entries f.right_leftmost f.right_entries well

@@ -12,7 +12,7 @@ use Rattle.im_theory_tree.specs.Good.{AllOf, AtOrAbove, IsUnder, InRange, IsAfte
 use Rattle.im_theory_tree.specs.Splits.{Halves}
 use Rattle.im_theory_tree.specs.Halves.{FitsPage, LacksRoom, SplitsWell}
 use Rattle.im_theory_tree.proofs.Way.{split_at}
-use Rattle.im_theory_tree.proofs.Ascent.{Ascends, ascends_from_rises}
+use Rattle.im_theory_tree.proofs.Ascent.{Ascends, ascends_from_rises, at_all}
 
 pub width_small : (leaf : Bool) → width leaf ≤ 8
 width_small true = omega arith
@@ -85,11 +85,6 @@ halves_at es left right n rises lt is_left is_right =
       above = ascends_after (take n es) e (drop (n + 1) es) up;
     }
 
-pub all_place : (P : Entry → Type 0) (es : List Entry) (i : ℕ) → AllOf P es → i < length es → P (entry_at es i)
-all_place P [] i h lt = absurd (omega arith)
-all_place P (e ∷ es) zero h lt = h.0
-all_place P (e ∷ es) (suc i) h lt = all_place P es i h.1 (omega arith)
-
 pub after_from : (low : Option Key) (x s : Key) → AtOrAbove low x → IsBelow x s → IsAfter low (Some s)
 after_from None x s at less = tt
 after_from (Some b) x s at less = ⊎_elim (λ (e : b ≡ x). rw e less) (λ (l : IsBelow b x). below_trans b x s l less) at
@@ -97,4 +92,4 @@ after_from (Some b) x s at less = ⊎_elim (λ (e : b ≡ x). rw e less) (λ (l 
 -- the separator of a split that leaves an entry on the left is above the leaf's bound
 pub separator_after : (low high : Option Key) (es : List Entry) (n : ℕ) → Rises es → InRange low high es → 1 ≤ n → n < length es → IsAfter low (Some (entry_at es n).0)
 separator_after low high es n rises range some lt =
-    after_from low (entry_at es 0).0 (entry_at es n).0 (all_place (λ (e : Entry). AtOrAbove low e.0 × IsUnder e.0 high) es 0 range (omega arith)).0 (rises 0 n (omega arith) lt)
+    after_from low (entry_at es 0).0 (entry_at es n).0 (at_all (λ (e : Entry). AtOrAbove low e.0 × IsUnder e.0 high) es 0 range (omega arith)).0 (rises 0 n (omega arith) lt)

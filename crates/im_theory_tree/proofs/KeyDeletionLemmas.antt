@@ -30,16 +30,16 @@ pub leaf_is : (pages : Pages) (h : ℕ) (c : Node) → (bare_leaf pages h c).pag
 leaf_is pages zero c = refl
 leaf_is pages (suc h) c = leaf_is pages h (first_child pages c)
 
-split_next : (es : List Entry) (i : ℕ) → i < length es → es ≡ take i es ++ entry_at es i ∷ drop (suc i) es
+pub split_next : (es : List Entry) (i : ℕ) → i < length es → es ≡ take i es ++ entry_at es i ∷ drop (suc i) es
 split_next es i lt = let next : i + 1 ≡ suc i = omega arith in split_at es i lt ∙ ap (λ k. take i es ++ entry_at es i ∷ drop k es) next
 
-unlinks_at : (pages new : Pages) (h : ℕ) (c : Node) → HasNone pages h c.page → Unlinks pages new (leaf_down pages h c.page) (chain_down pages h c.page)
+pub unlinks_at : (pages new : Pages) (h : ℕ) (c : Node) → HasNone pages h c.page → Unlinks pages new (leaf_down pages h c.page) (chain_down pages h c.page)
     → Unlinks pages new (bare_leaf pages h c).page (pages_under pages h (c ∷ []))
 unlinks_at pages new h c none u =
     subst (λ x. Unlinks pages new x (pages_under pages h (c ∷ []))) (sym (leaf_is pages h c))
     (subst (Unlinks pages new (leaf_down pages h c.page)) (sym (under_is pages h c none)) u)
 
-others_at : (pages new : Pages) (h parent : ℕ) (c : Node) → HasNone pages h c.page → ((x : ℕ) → times x (parent ∷ chain_down pages h c.page) ≡ 0 → SameTree (pages x) (new x))
+pub others_at : (pages new : Pages) (h parent : ℕ) (c : Node) → HasNone pages h c.page → ((x : ℕ) → times x (parent ∷ chain_down pages h c.page) ≡ 0 → SameTree (pages x) (new x))
     → (x : ℕ) → times x (parent ∷ pages_under pages h (c ∷ [])) ≡ 0 → SameTree (pages x) (new x)
 others_at pages new h parent c none f x t = f x (subst (λ ps. times x (parent ∷ ps) ≡ 0) (under_is pages h c none) t)
 

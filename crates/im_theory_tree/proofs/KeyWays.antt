@@ -9,7 +9,6 @@ use Rattle.im_theory_tree.specs.Levels.{Pages, Node, child_of, children, pages_u
 use Rattle.im_theory_tree.specs.Same.{SameTree}
 use Rattle.im_theory_tree.specs.Good.{times}
 use Rattle.im_theory_tree.specs.Allocations.{TakesFree, TakesCount, GivesFree}
-use Rattle.im_theory_tree.specs.Deletions.{bare_leaf}
 use Rattle.im_theory_tree.specs.KeySplits.{SplitsLeafPages, SplitsKeyLeaf, SplitsInnerPages, SplitsKeyInner, SplitsKeyRootLeaf, SplitsKeyRootInner}
 use Rattle.im_theory_tree.specs.KeyDeletions.{HasNone, chain_down, leaf_down, Unlinks, DropsEntry, DropsLeftmost, DropsAll}
 use Rattle.im_theory_tree.specs.Steps.{DropsChain, FromEntry, FromLeftmost, FromRoot}
@@ -22,7 +21,7 @@ use Rattle.im_theory_tree.proofs.ChildPlaces.{ChildPlace, child_place, first_chi
 use Rattle.im_theory_tree.proofs.HalvesLemmas.{halves_at}
 use Rattle.im_theory_tree.proofs.LeafSplitWay.{leaf_split_at}
 use Rattle.im_theory_tree.proofs.InnerSplitWay.{inner_split_at}
-use Rattle.im_theory_tree.proofs.KeyDeletionLemmas.{bare_of, under_is, leaf_is}
+use Rattle.im_theory_tree.proofs.KeyDeletionLemmas.{bare_of, under_is, leaf_is, split_next, unlinks_at, others_at}
 use Rattle.im_theory_tree.specs.Ways.{KeepsWays, KeepsAllWays, SplitsKeepWays, DeletionsKeepWays}
 use Rattle.im_theory_tree.proofs.WayLeaves.{leaf_split_ways, leaf_root_split_ways, root_split_ways, inner_split_ways, drop_child_ways, drop_first_ways, empty_root_ways}
 
@@ -94,19 +93,6 @@ pub splits_keep_ways : SplitsKeepWays
 splits_keep_ways = record { leaf = key_leaf_ways; inner = key_inner_ways; root_leaf = key_root_leaf_ways; root_inner = key_root_inner_ways }
 
 -- ---- deletions
-
-split_next : (es : List Entry) (i : ℕ) → i < length es → es ≡ take i es ++ entry_at es i ∷ drop (suc i) es
-split_next es i lt = let next : i + 1 ≡ suc i = omega arith in split_at es i lt ∙ ap (λ k. take i es ++ entry_at es i ∷ drop k es) next
-
-unlinks_at : (pages new : Pages) (h : ℕ) (c : Node) → HasNone pages h c.page → Unlinks pages new (leaf_down pages h c.page) (chain_down pages h c.page)
-    → Unlinks pages new (bare_leaf pages h c).page (pages_under pages h (c ∷ []))
-unlinks_at pages new h c none u =
-    subst (λ x. Unlinks pages new x (pages_under pages h (c ∷ []))) (sym (leaf_is pages h c))
-    (subst (Unlinks pages new (leaf_down pages h c.page)) (sym (under_is pages h c none)) u)
-
-others_at : (pages new : Pages) (h parent : ℕ) (c : Node) → HasNone pages h c.page → ((x : ℕ) → times x (parent ∷ chain_down pages h c.page) ≡ 0 → SameTree (pages x) (new x))
-    → (x : ℕ) → times x (parent ∷ pages_under pages h (c ∷ [])) ≡ 0 → SameTree (pages x) (new x)
-others_at pages new h parent c none f x t = f x (subst (λ ps. times x (parent ∷ ps) ≡ 0) (under_is pages h c none) t)
 
 entry_ways : (pages new : Pages) (spare : List ℕ) (h : ℕ) (key : Key) (parent p i : ℕ) → DropsEntry pages new spare h key parent p i → KeepsWays pages new (λ x. x ≢ leaf_down pages h p)
 entry_ways pages new spare h key parent p i s0 =

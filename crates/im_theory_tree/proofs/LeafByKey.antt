@@ -14,8 +14,8 @@ use Rattle.im_theory_tree.proofs.Keeps.{times-append}
 use Rattle.im_theory_tree.proofs.Order.{ordered_right}
 use Rattle.im_theory_tree.proofs.Descent.{leaves_descend}
 use Rattle.im_theory_tree.proofs.LeafChange.{lifted_self}
-use Rattle.im_theory_tree.proofs.HalvesLemmas.{all_place}
 use Rattle.im_theory_tree.proofs.RootSplitWay.{node_on_way}
+use Rattle.im_theory_tree.proofs.Ascent.{at_all as all_place}
 
 -- a page that is no leaf is another page
 other_page : (pages : Pages) (p q : ℕ) (qs : List ℕ) → (pages p).kind ≡ Leaf → ((pages q).kind ≡ Leaf → ⊥) → times p (q ∷ qs) ≡ times p qs
@@ -79,7 +79,7 @@ listed (n ∷ ns) p h =
     omega (arith, h, none)))
 
 -- a leaf is that of each key in its range
-in_range_on_way : (pages : Pages) (k : Key) (left : List Node) (n : Node) (right : List Node) → IsGoodTree pages [] → leaves_under pages (height pages) the_root ≡ left ++ n ∷ right
+pub in_range_on_way : (pages : Pages) (k : Key) (left : List Node) (n : Node) (right : List Node) → IsGoodTree pages [] → leaves_under pages (height pages) the_root ≡ left ++ n ∷ right
     → AtOrAbove n.bound k → IsUnder k (next_bound right) → IsOnWay pages zero k n.page
 in_range_on_way pages k left n right good are at under =
     let d : ℕ = height pages in

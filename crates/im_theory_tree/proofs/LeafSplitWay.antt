@@ -14,9 +14,9 @@ use Rattle.im_theory_tree.proofs.Order.{ordered_right}
 use Rattle.im_theory_tree.proofs.Descent.{pages_above, leaves_descend, descend_same, all_elsewhere}
 use Rattle.im_theory_tree.proofs.LeafSplit.{front, back, the_new, parts, once, height_same, leaf_split}
 use Rattle.im_theory_tree.proofs.Way.{descend_more, lifted_more, under_next}
-use Rattle.im_theory_tree.proofs.Ascent.{ascends_from_rises}
+use Rattle.im_theory_tree.proofs.Ascent.{ascends_from_rises, at_all as all_place}
 use Rattle.im_theory_tree.proofs.RootSplitWay.{node_on_way}
-use Rattle.im_theory_tree.proofs.HalvesLemmas.{halves_at, all_place, separator_after}
+use Rattle.im_theory_tree.proofs.HalvesLemmas.{halves_at, separator_after}
 use Rattle.im_theory_tree.proofs.ChildPlaces.{ChildPlace, child_place, children_were, below_at, separator_put}
 
 -- the level of the leaves behind a split

@@ -1,3 +1,4 @@
+pub mod Cited
 pub mod Frame
 pub mod Split
 pub mod Order

@@ -106,7 +106,7 @@ is_below_no : (a b : Key) → IsBelow b a → is_below a b ≡ false
 unfolding is_below
 is_below_no a b h = ap is_lt (turned b a h)
 
-is_below_itself : (a : Key) → is_below a a ≡ false
+pub is_below_itself : (a : Key) → is_below a a ≡ false
 unfolding is_below
 is_below_itself a = ap is_lt (tied_itself nat_list_cmp_total a)
 
@@ -285,7 +285,7 @@ ahead_is_leaf pages spare s passed p good h some =
 
 -- ---- the pages on the way
 
-level_times : (pages : Pages) (k : ℕ) (ns : List Node) (x : ℕ) → times x (page_numbers ns) ≤ times x (pages_under pages k ns)
+pub level_times : (pages : Pages) (k : ℕ) (ns : List Node) (x : ℕ) → times x (page_numbers ns) ≤ times x (pages_under pages k ns)
 level_times pages zero ns x = omega arith
 level_times pages (suc k) ns x = omega (arith, times-append x (page_numbers ns) (pages_under pages k (below pages ns)))
 

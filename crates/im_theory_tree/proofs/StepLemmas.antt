@@ -84,7 +84,7 @@ below_or_not key s = by (key_order key s) refl
     by Greater e = inr (inr (below_from_greater key s (sym e)))
 
 -- the part of a split leaf that the key belongs to has room
-room_of_parts : (pages new : Pages) (key : Key) (es : List Entry) (p q n : ℕ) (s : Key) → SplitsWell true es n → (new p).entries ≡ take n es → (new q).entries ≡ drop n es
+pub room_of_parts : (pages new : Pages) (key : Key) (es : List Entry) (p q n : ℕ) (s : Key) → SplitsWell true es n → (new p).entries ≡ take n es → (new q).entries ≡ drop n es
     → KeepsWay pages new [] zero key p q s → HasRoomOnWay new zero key
 room_of_parts pages new key es p q n s well left right keeps =
     ⊎_elim

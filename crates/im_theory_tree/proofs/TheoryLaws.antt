@@ -29,7 +29,7 @@ off_leaf pages p es x h =
     let here : times x (x ∷ []) ≡ 0 = subst (λ q. times x (q ∷ []) ≡ 0) (eqb-true p x e) h in
     omega (arith, here, times-here x [])))
 
-same_tree : (b c : Body) → c ≡ b → SameTree b c
+pub same_tree : (b c : Body) → c ≡ b → SameTree b c
 same_tree b c e = record { kind = ap (λ (x : Body). x.kind) e; level = ap (λ (x : Body). x.level) e; entries = ap (λ (x : Body). x.entries) e; leftmost = ap (λ (x : Body). x.leftmost) e }
 
 same_links : (b c : Body) → c ≡ b → SameLinks b c

@@ -1,11 +1,9 @@
 -- One step down on the way to a key.
 use Rattle.std.proofs.Common.{◌+◌, ◌<◌, length, take, drop, ⊎_elim, take-append-drop, ◌≡◌, ◌⊎◌, ℕ, zero, suc, List, [], ◌∷◌, ◌++◌, Some, None, map, refl, sym, ap, subst, ◌∙◌, append_assoc}
-use Rattle.std.proofs.lemmas.List.{map-append}
+use Rattle.std.proofs.lemmas.List.{map-append, drop_more}
 use Rattle.std.proofs.lemmas.List.Concat.{flat_map-append}
-use Rattle.im_theory_page.specs.Child.{StartAbove}
-use Rattle.std.proofs.lemmas.List.{drop_more}
+use Rattle.im_theory_page.specs.Child.{StartAbove, IsChild}
 use Rattle.im_theory_page.specs.Entry.{entry_at, no_entry}
-use Rattle.im_theory_page.specs.Child.{IsChild}
 use Rattle.im_base_types.specs.Keys.{Key, IsBelow}
 use Rattle.im_theory_tree.specs.Good.{HaveLevels, AtOrAbove, IsUnder, next_bound, IsGoodTree}
 use Rattle.im_theory_tree.specs.Levels.{Pages, Node, child_of, children, below, leaves_under, height, descend, lifted, the_root}

@@ -3,25 +3,15 @@ use Rattle.std.proofs.Common.{◌≡◌, ℕ, zero, true, List, [], ◌∷◌, �
 use Rattle.im_base_types.specs.Keys.{Key}
 use Rattle.im_base_types.specs.Pages.{Entry}
 use Rattle.im_base_types.specs.Maps.{with_key, without_key}
-use Rattle.im_theory_tree.specs.Levels.{Pages, Node, leaves_under, the_root, height, lifted}
+use Rattle.im_theory_tree.specs.Levels.{Pages, Node, leaves_under, the_root, height}
 use Rattle.im_theory_tree.specs.Good.{AtOrAbove, IsUnder, InRange, next_bound, AreOrdered, IsGoodTree}
 use Rattle.im_theory_tree.specs.Search.{IsOnWay}
-use Rattle.im_theory_tree.proofs.Descent.{leaves_descend}
-use Rattle.im_theory_tree.proofs.LeafChange.{lifted_self, leaf_change}
+use Rattle.im_theory_tree.proofs.LeafChange.{leaf_change}
 use Rattle.im_theory_tree.proofs.Order.{ordered_right}
-use Rattle.im_theory_tree.proofs.RootSplitWay.{node_on_way}
 use Rattle.im_theory_tree.proofs.KeyLemmas.{all_with, all_without}
 use Rattle.im_theory_tree.proofs.TheoryLaws.{changes_leaf, key_put, key_dropped}
 use Rattle.im_theory_tree.specs.Ways.{StandsFor, IsCarried, KeysKeepWays, with_leaf}
-
--- a leaf is that of each key in its range
-pub in_range_on_way : (pages : Pages) (k : Key) (left : List Node) (n : Node) (right : List Node) → IsGoodTree pages [] → leaves_under pages (height pages) the_root ≡ left ++ n ∷ right
-    → AtOrAbove n.bound k → IsUnder k (next_bound right) → IsOnWay pages zero k n.page
-in_range_on_way pages k left n right good are at under =
-    let d : ℕ = height pages in
-    let self : lifted d zero ≡ d = lifted_self d in
-    node_on_way pages [] d zero k left n right good (sym self)
-    (sym (leaves_descend pages d zero the_root) ∙ ap (λ h. leaves_under pages h the_root) self ∙ are) at under
+use Rattle.im_theory_tree.proofs.LeafByKey.{in_range_on_way}
 
 -- trees with the same leaves have the same ways to them
 pub same_leaves_same_ways : (pages new : Pages) (key : Key) (p : ℕ) → IsGoodTree new [] → leaves_under new (height new) the_root ≡ leaves_under pages (height pages) the_root

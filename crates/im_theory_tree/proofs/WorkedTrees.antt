@@ -1,6 +1,5 @@
 -- A tree of two leaves by computation, and what is wrong with trees that wrong steps leave.
-use Rattle.std.proofs.Common.{◌≡◌, ◌≤◌, ℕ, [], ◌∷◌, Some, None, refl, ap, inl, inr, ⊎_elim, arith, nat_lt, if◌then◌else◌}
-use Rattle.std.proofs.lemmas.Bool.{ne_eqb}
+use Rattle.std.proofs.Common.{◌≡◌, ◌≤◌, ℕ, [], ◌∷◌, Some, None, refl, ap, inl, inr, ⊎_elim, arith, nat_lt, if◌then◌else◌, ne_eqb}
 use Rattle.std.proofs.lemmas.Bool.Decides.{nat_tests}
 use Rattle.im_base_types.specs.declared.page_kind.PageKind.TheVariants.{Free}
 use Rattle.std.specs.FinMap.Entries.{find}

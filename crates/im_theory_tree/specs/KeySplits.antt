@@ -129,7 +129,7 @@ pub record SplitsKeyRootInner (pages new : Pages) (spare : List ℕ) (h left rig
   pub pages_split : SplitsRootInnerPages pages new h left right n
 
 -- Behind a split of inner level h + 1: the half on the key's way has room for a separator of any size, and its child on the way is the one that it was.
-pub record GoesOn (new : Pages) (h : ℕ) (key : Key) (child : ℕ) : Type 0 where
+pub record HalfGoesOn (new : Pages) (h : ℕ) (key : Key) (child : ℕ) : Type 0 where
   pub page : ℕ
   pub way : IsOnWay new (suc h) key page
   pub goes : IsChild (new page) key child

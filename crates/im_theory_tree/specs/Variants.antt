@@ -5,7 +5,7 @@ use Rattle.im_base_types.specs.Pages.{Body, Entry}
 use Rattle.im_theory_log.specs.Tree.{Tree}
 use Rattle.im_base_types.specs.declared.page_kind.PageKind.TheVariants.{Free, Meta, Leaf, Inner}
 use Rattle.im_theory_page.specs.Entry.{entry_at}
-use Rattle.im_theory_page.specs.Header.{empty_body}
+use Rattle.im_theory_page.specs.Header.{empty_body, leaf_body}
 use Rattle.im_theory_page.specs.Split.{HasRoom}
 use Rattle.im_theory_tree.specs.Levels.{Pages, walk}
 use Rattle.im_theory_tree.specs.Good.{IsGoodTree}
@@ -32,10 +32,6 @@ meta_body free first count = empty_body Meta 0 free first count
 -- a root over leaf 2, with further separators
 abbrev pub root_body : List Entry → Body
 root_body es = record (empty_body Inner 1 0 0 2) { entries = es }
-
--- a leaf
-abbrev pub leaf_body : (prev next : ℕ) → List Entry → Body
-leaf_body prev next es = record (empty_body Leaf 0 prev next 0) { entries = es }
 
 -- pages 0 to 3
 abbrev pub four_pages : Body → Body → Body → Body → Pages

@@ -6,7 +6,7 @@ ghost use Rattle.im_theory_page.specs.Entry.{entry_at, Rises};
 ghost use Rattle.im_theory_page.specs.Child.{IsChild};
 ghost use Rattle.im_theory_tree.specs.Halves.{SplitsWell};
 ghost use Rattle.im_theory_tree.specs.Levels.{Pages};
-ghost use Rattle.im_theory_tree.specs.KeySplits.{SplitsKeyLeaf, SplitsKeyInner, SplitsKeyRootLeaf, SplitsKeyRootInner, KeepsWay, GoesOn};
+ghost use Rattle.im_theory_tree.specs.KeySplits.{SplitsKeyLeaf, SplitsKeyInner, SplitsKeyRootLeaf, SplitsKeyRootInner, KeepsWay, HalfGoesOn};
 
 /// A split of the page on a key's way, under its parent or at the root, keeps the tree good and the walk as it was; the
 /// way goes on through the left or the right part, as the key is below the separator or not.
@@ -25,7 +25,7 @@ pub fn key_split_keeps()
 /// way is the one that it was before: so the next level is split under a parent with room.
 pub fn inner_split_goes_on()
     ensures inner { (pages new : Pages) (spare : List ℕ) (h : ℕ) (key : Key) (parent p q n child : ℕ) → SplitsKeyInner pages new spare h key parent p q n
-        → SplitsWell false (pages p).entries n → IsChild (pages p) key child → GoesOn new h key child }
+        → SplitsWell false (pages p).entries n → IsChild (pages p) key child → HalfGoesOn new h key child }
     ensures root { (pages new : Pages) (spare : List ℕ) (h : ℕ) (key : Key) (left right n child : ℕ) → SplitsKeyRootInner pages new spare h left right n → Rises (pages 1).entries
-        → SplitsWell false (pages 1).entries n → IsChild (pages 1) key child → GoesOn new h key child }
+        → SplitsWell false (pages 1).entries n → IsChild (pages 1) key child → HalfGoesOn new h key child }
 {}

@@ -1,9 +1,9 @@
 //! Plans of structure changes, applied image by image and taken back.
 
-ghost use Rattle.std.specs.Prelude.{◌≡◌, ℕ, List, [], ◌∷◌, ◌++◌};
+ghost use Rattle.std.specs.Prelude.{◌≡◌, ℕ, [], ◌∷◌, ◌++◌};
 ghost use Rattle.im_theory_log.specs.Tree.{with_body};
 ghost use Rattle.im_theory_tree.specs.Levels.{Pages};
-ghost use Rattle.im_theory_tree.specs.Good.{AllOf, times};
+ghost use Rattle.im_theory_tree.specs.Good.{times};
 ghost use Rattle.im_theory_tree.specs.Plans.{Image, Plan, planned, applied, restored, KnowsPages, PagesAscend};
 
 /// Pages outside a plan stay; each image goes onto the pages of those before it; and a plan taken back, whole or one

@@ -1,6 +1,6 @@
 //! A tree of two leaves by computation, and trees that wrong steps leave, none of them good.
 
-ghost use Rattle.std.specs.Prelude.{◌≡◌, List, [], ◌∷◌, Some, None};
+ghost use Rattle.std.specs.Prelude.{◌≡◌, [], ◌∷◌, Some, None};
 ghost use Rattle.std.specs.FinMap.Entries.{find};
 ghost use Rattle.im_base_types.specs.Keys.{key_order};
 ghost use Rattle.im_theory_tree.specs.Levels.{walk};

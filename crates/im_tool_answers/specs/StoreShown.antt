@@ -28,12 +28,12 @@ shown_in s [] told = s
 shown_in s (line ∷ rest) [] = s
 
 -- the effects whose Commit a life asked, and which of them were acknowledged
-abbrev pub asked_in : StoreLife → StoreAnswers → List Asked
-asked_in life told = (shown_in nothing_shown life.lines.items told.replies.items).asked
+abbrev pub asked_by_life : StoreLife → StoreAnswers → List Asked
+asked_by_life life told = (shown_in nothing_shown life.lines.items told.replies.items).asked
 
 -- the same of each life
 abbrev pub asked_in_each : List StoreLife → List StoreAnswers → List (List Asked)
-asked_in_each (life ∷ rest) (told ∷ others) = asked_in life told ∷ asked_in_each rest others
+asked_in_each (life ∷ rest) (told ∷ others) = asked_by_life life told ∷ asked_in_each rest others
 asked_in_each [] told = []
 asked_in_each (life ∷ rest) [] = []
 

@@ -4,14 +4,13 @@ use Rattle.std.specs.FinMap.{empty, entries}
 use Rattle.im_base_types.specs.declared.fault.Fault.{Fault}
 use Rattle.im_base_types.specs.declared.fault.Fault.TheVariants.{NotAStore}
 use Rattle.im_base_types.specs.Pages.{Entry}
-use Rattle.im_base_types.specs.Maps.{IndexMap}
 use Rattle.im_base_types.specs.Changes.{Effect, apply_all}
-use Rattle.im_base_types.specs.Lives.{Shown, nothing_shown}
+use Rattle.im_base_types.specs.Lives.{Shown}
 use Rattle.im_base_disk.specs.declared.disk.Disk.{Ghosts}
 use Rattle.im_theory_machine.specs.Locks.{Lock}
 use Rattle.im_theory_machine.specs.View.{View, broken}
 use Rattle.im_engine.specs.declared.engine.Engine.{Engine}
-use Rattle.im_engine.specs.Kept.{LookKept, EntriesKept}
+use Rattle.im_engine.specs.Kept.{LookKept}
 use Rattle.im_engine.specs.Running.{IsLife}
 use Rattle.im_tool_drill.specs.StoreLives.{GoesOn}
 

@@ -1,6 +1,6 @@
 //! A script of lives of a store, run.
 
-ghost use Rattle.std.specs.Prelude.{◌≡◌, ◌≢◌, [], List, IfOk, MatchResult};
+ghost use Rattle.std.specs.Prelude.{◌≡◌, ◌≢◌, List, IfOk, MatchResult};
 ghost use Rattle.std.specs.FinMap.{empty, entries};
 ghost use Rattle.im_base_types.specs.declared.fault.Fault.TheVariants.{NotAStore};
 ghost use Rattle.im_base_types.specs.Changes.{Effect, apply_all};

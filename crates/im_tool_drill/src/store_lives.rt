@@ -10,7 +10,7 @@ ghost use Rattle.im_base_disk.specs.Runs.{IsSynced};
 ghost use Rattle.im_engine.specs.Stands.{StandsFor, Allowed};
 ghost use Rattle.im_tool_answers.specs.declared.store_answers.StoreReply.TheVariants.{Stopped};
 ghost use Rattle.im_tool_raw.specs.Answered.{AnsweredBy};
-ghost use Rattle.im_tool_answers.specs.StoreShown.{asked_in, shown_in, IsStoreReply, StoreAnswered};
+ghost use Rattle.im_tool_answers.specs.StoreShown.{asked_by_life, shown_in, IsStoreReply, StoreAnswered};
 ghost use Rattle.im_tool_drill.specs.StoreLives.{in_32_bits, GoesOn, IsConfigOf, LineKept};
 ghost use Rattle.im_tool_drill.specs.StoreRuns.{IsOpening, IsLifeRun, AreLinesRun, IsLineRun, IsStepRun, IsLookRun, IsLastRun};
 
@@ -45,7 +45,7 @@ pub fn run_store_life<T: Threads + Sync>(
     ensures answered { IfOk result (λ run. StoreAnswered run.0.opening life.now.lines.items run.0.replies.items) }
     ensures opened { IfOk result (λ run. (before : List Effect) → StandsFor before (⟦<ModelDisk as Disk>⟧.seen disk) → run.0.opening ≢ Opening.Refused NotAStore) }
     ensures kept { IfOk result (λ run. (before : List Effect) → StandsFor before (⟦<ModelDisk as Disk>⟧.seen disk)
-        → (c : Files) → ⟦<ModelDisk as Disk>⟧.may_leave run.1 c → StandsForMore StandsFor before (asked_in life.now run.0) c) }
+        → (c : Files) → ⟦<ModelDisk as Disk>⟧.may_leave run.1 c → StandsForMore StandsFor before (asked_by_life life.now run.0) c) }
 {
     let mut disk = disk;
     arm_life(alloc, &mut disk, life)?;

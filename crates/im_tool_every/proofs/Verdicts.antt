@@ -3,7 +3,7 @@ use Rattle.std.proofs.Common.{◌≡◌, ◌↔◌, Bool, true, false, true≢fa
 use Rattle.im_base_guard.specs.declared.folder.Folder.{Folder}
 use Rattle.im_base_guard.specs.declared.folder.Front.{Front}
 use Rattle.im_base_guard.specs.declared.folder.PagesFront.{PagesFront}
-use Rattle.im_tool_every.specs.Guarded.{folder_in, front_in, pages_front_in, AreTaken, AreTogether, HasOlderPages}
+use Rattle.im_tool_every.specs.Guarded.{folder_in, front_in, pages_front_in, FilesAreTaken, AreTogether, HasOlderPages}
 
 abbrev pub folder_of : Front → Front → PagesFront → Folder
 folder_of log log2 pages = record { log = log; log2 = log2; pages = pages; has_part = false }
@@ -17,6 +17,6 @@ module _ (log log2 pages : List ℕ) (log_front log2_front : Front) (pages_front
 
   -- where the files belong together, it is that on the pages
   pub together : AreTogether (folder_of log_front log2_front pages_front) → (older : Bool) → (older ≡ true ↔ HasOlderPages log log2 pages (folder_of log_front log2_front pages_front))
-      → (not older ≡ true) ↔ AreTaken log log2 pages
+      → (not older ≡ true) ↔ FilesAreTaken log log2 pages
   together all true told = (λ e. absurd (true≢false (sym e)), λ t. absurd (t.newer (subst (HasOlderPages log log2 pages) is (told.0 refl))))
   together all false told = (λ e. record { together = subst AreTogether is all; newer = λ older. absurd (true≢false (sym (told.1 (subst (HasOlderPages log log2 pages) (sym is) older)))) }, λ t. refl)

@@ -9,7 +9,7 @@ use Rattle.im_base_guard.specs.declared.folder.Folder.{Folder}
 use Rattle.im_base_guard.specs.declared.folder.Front.{Front}
 use Rattle.im_base_guard.specs.declared.folder.PagesFront.{PagesFront}
 use Rattle.im_base_guard.specs.declared.left_log.LeftLog.{LeftLog}
-use Rattle.im_base_guard.specs.Belonging.{IsTogether}
+use Rattle.im_base_guard.specs.Belonging.{BelongTogether}
 use Rattle.im_base_guard.specs.LeftLog.{current_log_of, left_log_of, walk, IsOlder}
 use Rattle.im_base_model_disk.specs.declared.model_disk.ModelDisk.{ModelDisk}
 use Rattle.im_base_model_disk.specs.Left.{IsLeftBy}
@@ -46,19 +46,19 @@ found_in log log2 f = walked_of log log2 (current_log_of f (walked_of log log2 (
 -- ---- the verdict
 
 -- the LSN of a page, 0 where the file has not the whole page
-abbrev pub lsn_in : List ℕ → ℕ → ℕ
-lsn_in pages p = if nat_lt p (length pages / 4096) then from_be_bytes w64 (take 8 (drop (p * 4096) pages)) else 0
+abbrev pub lsn_of_page : List ℕ → ℕ → ℕ
+lsn_of_page pages p = if nat_lt p (length pages / 4096) then from_be_bytes w64 (take 8 (drop (p * 4096) pages)) else 0
 
 -- A page is older than its newest change in the log that was left, or is lacking.
 abbrev pub HasOlderPages : (log log2 pages : List ℕ) → Folder → Type 0
-HasOlderPages log log2 pages f = IsOlder (found_in log log2 f) (length pages / 4096) (lsn_in pages (found_in log log2 f).page)
+HasOlderPages log log2 pages f = IsOlder (found_in log log2 f) (length pages / 4096) (lsn_of_page pages (found_in log log2 f).page)
 
 -- The files of a folder belong together, whatever the logs say.
 abbrev pub AreTogether : Folder → Type 0
-AreTogether f = (logs : Logs) × IsTogether f logs
+AreTogether f = (logs : Logs) × BelongTogether f logs
 
 -- A folder of these files is opened: they belong together, and no page is older.
-pub record AreTaken (log log2 pages : List ℕ) : Type 0 where
+pub record FilesAreTaken (log log2 pages : List ℕ) : Type 0 where
   pub together : AreTogether (folder_in log log2 pages)
   pub newer : HasOlderPages log log2 pages (folder_in log log2 pages) → ⊥
 
@@ -66,4 +66,4 @@ pub record AreTaken (log log2 pages : List ℕ) : Type 0 where
 pub record IsGuarded (disk : ModelDisk) (taken : Bool) : Type 0 where
   pub files : Files
   pub left : (file : FileId) → IsLeftBy (model_stop disk) (file_of disk file) (files file)
-  pub verdict : taken ≡ true ↔ AreTaken (files Log) (files Log2) (files Pages)
+  pub verdict : taken ≡ true ↔ FilesAreTaken (files Log) (files Log2) (files Pages)

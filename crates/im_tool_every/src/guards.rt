@@ -1,7 +1,7 @@
 //! Whether the guards of real files take what a stop left.
 
 ghost use Rattle.std.specs.Prelude.{◌≡◌, ◌↔◌, ◌≤◌, ◌++◌, true, length, replicate, take, IfOk};
-ghost use Rattle.im_tool_every.specs.Guarded.{front_in, lsn_in, pages_front_in, walked_of, AreTaken, AreTogether, HasOlderPages, IsGuarded};
+ghost use Rattle.im_tool_every.specs.Guarded.{front_in, lsn_of_page, pages_front_in, walked_of, FilesAreTaken, AreTogether, HasOlderPages, IsGuarded};
 
 use crate::judged_opening::left_by;
 use im_base_guard::{FIRST_BYTES, FRONT, Folder, Front, LeftLog, PagesFront, belong, is_older};
@@ -24,7 +24,7 @@ pub(crate) fn is_taken(alloc: Global, disk: &ModelDisk) -> Result<bool, AllocErr
 
 // Whether a folder of these files would be opened.
 fn are_taken(log: &[u8], log2: &[u8], pages: &[u8]) -> bool
-    ensures { (result ≡ true) ↔ AreTaken log.now log2.now pages.now }
+    ensures { (result ≡ true) ↔ FilesAreTaken log.now log2.now pages.now }
 {
     let folder = Folder {
         log: front_of(log),
@@ -117,7 +117,7 @@ fn walked(start: LeftLog, log: &[u8], log2: &[u8]) -> LeftLog
 
 // The LSN of a page, 0 where the file has not the whole page.
 fn lsn_of(pages: &[u8], page: u32) -> u64
-    ensures { result ≡ lsn_in pages.now page }
+    ensures { result ≡ lsn_of_page pages.now page }
 {
     if page as usize >= pages.len() / PAGE_SIZE {
         return 0;

@@ -1,5 +1,5 @@
 //! The files of a copy of a store.
-ghost use Rattle.std.specs.Prelude.{◌≡◌, [], false};
+ghost use Rattle.std.specs.Prelude.{◌≡◌, []};
 
 use crate::telling::tell;
 use im_base_disk::Disk;

@@ -10,11 +10,12 @@ use Rattle.im_base_types.specs.Changes as changes
 use Rattle.im_base_steps.specs.declared.step.Step.{Step}
 use Rattle.im_base_steps.specs.declared.step.Step.TheVariants as steps
 use Rattle.im_base_steps.specs.Calls.{asked_by}
-use Rattle.im_base_types.specs.Lives.{Running, Shown, Asked, idle, with_running, adds, pends, finishes, shown_change, answered, asks, effect_asked, all_acked, refused, breaks, cut_off}
+use Rattle.im_base_types.specs.Lives.{Running, Shown, Asked, idle, with_running, adds, pends, shown_change, answered, asks, effect_asked, all_acked, refused, breaks, cut_off}
 use Rattle.im_base_types.specs.Refusals.{memory, unfinished}
 use Rattle.im_tool_lines.specs.declared.store_life.StoreLine.{StoreLine}
 use Rattle.im_tool_answers.specs.declared.store_answers.StoreReply.{StoreReply}
 use Rattle.im_tool_answers.specs.StoreShown.{shown_after, shown_in}
+use Rattle.im_tool_answers.proofs.StoreShown.{shown_push}
 use Rattle.im_tool_judge.specs.declared.change.Change.{Change}
 use Rattle.im_tool_judge.specs.declared.change.AskedEffect.{AskedEffect}
 use Rattle.im_tool_judge.specs.declared.showing.Event.{Event}
@@ -23,7 +24,7 @@ use Rattle.im_tool_judge.specs.declared.showing.Happened.{Happened}
 use Rattle.im_tool_judge.specs.declared.showing.Happened.TheVariants.{Began, Changed, GoesOn, InsertEnded, DeleteEnded, Died, Turned, Waited, Ended}
 use Rattle.im_tool_judge.specs.declared.showing.Showing.{Showing}
 use Rattle.im_tool_judge.specs.Judged.{asked_of, asked_in, change_of, newest_first}
-use Rattle.im_tool_judge.specs.Shows.{IsShown, IsFound, access_of, maker_of, pending_in, effect_in, behind, is_going, running_from}
+use Rattle.im_tool_judge.specs.Shows.{IsShown, IsFound, transaction_of_access, maker_of, pending_in, effect_in, behind, is_going, running_from}
 
 -- ---- transactions
 
@@ -286,7 +287,7 @@ dies t (answers.Scan lo hi n) new s shown = shown
 dies t (answers.Insert k r) new s shown = shown
 dies t (answers.Delete k) new s shown = shown
 
-pub died : (step : answers.Step) (t : ℕ) (new : Showing) (s : Shown) → access_of step ≡ Some t → IsShown new (with_running t (behind Died (s.running t)) s) → IsShown new (answered step answers.Die s)
+pub died : (step : answers.Step) (t : ℕ) (new : Showing) (s : Shown) → transaction_of_access step ≡ Some t → IsShown new (with_running t (behind Died (s.running t)) s) → IsShown new (answered step answers.Die s)
 died (answers.Do u a) t new s is shown = let same : t ≡ u = cc in dies u a new s (subst (λ (x : ℕ). IsShown new (with_running x (behind Died (s.running x)) s)) same shown)
 died answers.Begin t new s is shown = absurd (cc)
 died (answers.Commit u) t new s is shown = absurd (cc)
@@ -297,7 +298,7 @@ died answers.Force t new s is shown = absurd (cc)
 died answers.Checkpoint t new s is shown = absurd (cc)
 died answers.Switch t new s is shown = absurd (cc)
 
-pub none_died : (step : answers.Step) (w : Showing) (s : Shown) → access_of step ≡ None → IsShown w s → IsShown w (answered step answers.Die s)
+pub none_died : (step : answers.Step) (w : Showing) (s : Shown) → transaction_of_access step ≡ None → IsShown w s → IsShown w (answered step answers.Die s)
 none_died (answers.Do u a) w s is shown = absurd (cc)
 none_died answers.Begin w s is shown = shown
 none_died (answers.Commit u) w s is shown = shown
@@ -344,13 +345,6 @@ acked_push some all a b is txn same acked =
         ∙ ap (λ (x : Bool). record { txn = a.txn; effect = newest_first a.changes.items []; acked = x } ∷ []) acked
 
 -- ---- lines
-
-shown_push : (s : Shown) (some : List StoreLine) (told : List StoreReply) (line : StoreLine) (reply : StoreReply) → length told ≡ length some
-    → shown_in s (some ++ line ∷ []) (told ++ reply ∷ []) ≡ shown_after (shown_in s some told) line reply
-shown_push s [] [] line reply same = refl
-shown_push s [] (other ∷ told) line reply same = absurd (omega arith)
-shown_push s (first ∷ some) [] line reply same = absurd (omega arith)
-shown_push s (first ∷ some) (other ∷ told) line reply same = shown_push (shown_after s first other) some told line reply (omega arith)
 
 -- one line more
 pub shown_more : (s : Shown) (all : List StoreLine) (told : List StoreReply) (i : ℕ) (line : StoreLine) (reply : StoreReply) → i < length all → i < length told → line ≡ get_or all i line → reply ≡ get_or told i reply

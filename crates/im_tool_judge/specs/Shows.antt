@@ -58,9 +58,9 @@ is_going RollingBack = false
 is_going Committing = false
 
 -- the transaction of an access
-abbrev pub access_of : Step → Option ℕ
-access_of (Do t access) = Some t
-access_of _ = None
+abbrev pub transaction_of_access : Step → Option ℕ
+transaction_of_access (Do t access) = Some t
+transaction_of_access _ = None
 
 -- A transaction is found as it is.
 pub record IsFound (f : Found) (r : Running) : Type 0 where

@@ -1,6 +1,6 @@
 //! What the lines and replies of a life show, read off them by the definition of lives.
 
-ghost use Rattle.std.specs.Prelude.{◌≡◌, ◌≢◌, ◌⊎◌, ◌||◌, ◌==◌, ◌≤◌, ◌<◌, ◌++◌, ℕ, false, [], None, length, get_or, IfOk, OnOk};
+ghost use Rattle.std.specs.Prelude.{◌≡◌, ◌⊎◌, ◌||◌, ◌==◌, ◌≤◌, ◌<◌, ◌++◌, ℕ, false, [], None, IfOk, OnOk};
 ghost use Rattle.im_base_types.specs.Answers.{Force, Commit};
 ghost use Rattle.im_base_types.specs.Answers as answers;
 ghost use Rattle.im_base_types.specs.Changes as changes;
@@ -11,7 +11,7 @@ ghost use Rattle.im_base_types.specs.Faults.{number_of};
 ghost use Rattle.im_tool_lines.specs.declared.store_life.StoreLine.TheVariants as lines;
 ghost use Rattle.im_tool_answers.specs.StoreShown.{shown_after, shown_in};
 ghost use Rattle.im_tool_judge.specs.Judged.{asked_in, change_of, newest_first};
-ghost use Rattle.im_tool_judge.specs.Shows.{IsShown, IsFound, access_of, behind, effect_in, pending_in, running_from};
+ghost use Rattle.im_tool_judge.specs.Shows.{IsShown, IsFound, transaction_of_access, behind, effect_in, pending_in, running_from};
 
 use crate::change::{AskedEffect, Change};
 use im_base_steps::{Reply, Step};
@@ -579,7 +579,7 @@ fn stopped(found: Found) -> Found
 
 // The transaction of an access.
 fn access_of(step: &Step) -> Option<TxnId>
-    ensures { result ≡ access_of (asked_by step.now) }
+    ensures { result ≡ transaction_of_access (asked_by step.now) }
 {
     match step {
         Step::Fetch(txn, _) => Some(*txn),

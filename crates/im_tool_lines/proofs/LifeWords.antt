@@ -1,12 +1,10 @@
 -- The options of a life, and what stands behind each.
-use Rattle.std.proofs.Common.{◌≡◌, ◌≢◌, inl, inr, ℕ, List, [], ◌∷◌, ◌++◌, Bool, Option, None, Some, Bor, MatchOption, is_some, true, false, codes, refl, sym, ◌∙◌, ap, subst, append_assoc, arith}
-use Rattle.std.proofs.lemmas.List.{append-nil}
+use Rattle.std.proofs.Common.{◌≡◌, ◌≢◌, inl, inr, ℕ, List, [], ◌∷◌, ◌++◌, Bool, Option, None, Some, Bor, MatchOption, is_some, true, false, codes, refl, sym, ◌∙◌, ap, subst, append_assoc, arith, append-nil}
 use Rattle.im_tool_words.specs.Words.{Lacks, IsNumber}
 use Rattle.im_tool_lines.specs.Lines.{behind_word}
 use Rattle.im_tool_lines.specs.StoreScripts.{OptionSaid, Number, Word, SpellsOption, SpellsOptions, SpellsLife, IsTail, IsBehindOption, IsOption, named_options}
 use Rattle.im_tool_lines.specs.declared.store_life.LifeOptions.{LifeOptions}
-use Rattle.im_tool_words.proofs.Texts.{lacks_mid, cut_once}
-use Rattle.im_tool_words.proofs.Texts.{digits_lack}
+use Rattle.im_tool_words.proofs.Texts.{lacks_mid, cut_once, digits_lack}
 use Rattle.im_tool_words.proofs.KeyWords.{number_once}
 
 pub life_lacks : Lacks 32 (codes "life")

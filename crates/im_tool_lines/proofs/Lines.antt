@@ -2,7 +2,7 @@
 use Rattle.std.proofs.Common.{◌≡◌, ◌≢◌, ℕ, ◌+◌, ◌<◌, ◌≤◌, List, [], ◌∷◌, ◌++◌, length, Option, Some, None, Bor, MatchOption, if◌then◌else◌, ◌==◌, IfSome, Bool, true, false, suc, refl, sym, ◌∙◌, ap, subst, arith}
 use Rattle.std.proofs.lemmas.Bool.Decides.{nat_tests}
 use Rattle.im_tool_words.specs.Words.{Lacks}
-use Rattle.im_tool_lines.specs.Scripts.{lines_of, in_front}
+use Rattle.im_tool_lines.specs.Scripts.{lines_of, before_first_line}
 
 -- the lines that are left
 abbrev pub lines_left : Option (Bor (List ℕ)) → List (List ℕ)
@@ -14,11 +14,11 @@ other b n x y = grind (arith, nat_tests)
 
 lone_line : (line : List ℕ) → Lacks 10 line → lines_of line ≡ line ∷ []
 lone_line [] l = refl
-lone_line (b ∷ line) l = other b l.0 ([] ∷ lines_of line) (in_front b (lines_of line)) ∙ ap (in_front b) (lone_line line l.1)
+lone_line (b ∷ line) l = other b l.0 ([] ∷ lines_of line) (before_first_line b (lines_of line)) ∙ ap (before_first_line b) (lone_line line l.1)
 
 first_line : (line rest : List ℕ) → Lacks 10 line → lines_of (line ++ 10 ∷ rest) ≡ line ∷ lines_of rest
 first_line [] rest l = refl
-first_line (b ∷ line) rest l = other b l.0 ([] ∷ lines_of (line ++ 10 ∷ rest)) (in_front b (lines_of (line ++ 10 ∷ rest))) ∙ ap (in_front b) (first_line line rest l.1)
+first_line (b ∷ line) rest l = other b l.0 ([] ∷ lines_of (line ++ 10 ∷ rest)) (before_first_line b (lines_of (line ++ 10 ∷ rest))) ∙ ap (before_first_line b) (first_line line rest l.1)
 
 -- the first line and the others
 pub cut_lines : (text line : List ℕ) (more : Option (Bor (List ℕ))) → MatchOption more (line ≡ text) (λ rest. text ≡ line ++ 10 ∷ rest.now) → Lacks 10 line → lines_of text ≡ line ∷ lines_left more

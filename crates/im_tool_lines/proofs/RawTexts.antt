@@ -1,9 +1,9 @@
 -- Which sort of lives a text has.
-use Rattle.std.proofs.Common.{◌≡◌, ◌≢◌, inl, inr, ⊎_elim, ℕ, List, [], ◌∷◌, ◌++◌, slice_index, codes, Option, None, Some, Bor, refl, sym, ◌∙◌, ap, subst, arith, append_assoc}
+use Rattle.std.proofs.Common.{◌≡◌, ◌≢◌, inl, inr, ⊎_elim, ℕ, List, [], ◌∷◌, ◌++◌, slice_index, codes, Option, None, Some, Bor, refl, sym, ◌∙◌, ap, subst, arith, append_assoc, append-nil}
 use Rattle.std.specs.Prelude.{MatchOption}
-use Rattle.std.proofs.lemmas.List.{append-nil}
 use Rattle.im_tool_words.specs.Words.{Lacks}
 use Rattle.im_tool_lines.specs.StoreScripts.{BeginsLife, NoLife, IsRaw}
+use Rattle.im_tool_lines.proofs.LifeWords.{life_lacks}
 use Rattle.im_tool_words.proofs.Texts.{cut_once, lacks_mid}
 
 -- none of the lines is this one
@@ -58,9 +58,6 @@ clash (f ∷ front) rest (o ∷ other) more line is r l e = let others : front +
 
 pub found_life : (all : List (List ℕ)) (line : List ℕ) (left : List (List ℕ)) → Sought all (line ∷ left) → BeginsLife line → IsRaw all → ⊥
 found_life all line left s is raw = clash s.front left raw.front raw.rest line is s.no_raw raw.lives (sym s.is ∙ raw.is)
-
-life_lacks : Lacks 32 (codes "life")
-life_lacks = (λ x. omega arith, (λ x. omega arith, (λ x. omega arith, (λ x. omega arith, tt))))
 
 pub found_none : (all : List (List ℕ)) → Sought all [] → IsRaw all → ⊥
 found_none all s raw = no_mid (codes "raw") raw.front raw.rest (subst (λ (l : List (List ℕ)). NoLine (codes "raw") l) (sym (append-nil s.front) ∙ sym s.is ∙ raw.is) s.no_raw)

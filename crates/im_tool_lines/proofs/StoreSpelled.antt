@@ -88,9 +88,6 @@ no_store_line text (lines.Within within.Log) s plain o t = plain
 no_store_line text (lines.Within (within.Step step)) s plain o t = t step s
 no_store_line text (lines.Stop stop) s plain o t = o (raws.Stop stop) s
 
-life_lacks : Lacks 32 (codes "life")
-life_lacks = (λ x. omega arith, (λ x. omega arith, (λ x. omega arith, (λ x. omega arith, tt))))
-
 page_lacks : Lacks 32 (codes "page")
 page_lacks = (λ x. omega arith, (λ x. omega arith, (λ x. omega arith, (λ x. omega arith, tt))))
 

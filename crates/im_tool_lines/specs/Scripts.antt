@@ -14,14 +14,14 @@ use Rattle.im_tool_lines.specs.declared.script.Script.{Script}
 use Rattle.im_tool_lines.specs.Lines.{Spells}
 
 -- this byte in front of the first line
-abbrev pub in_front : ℕ → List (List ℕ) → List (List ℕ)
-in_front b [] = (b ∷ []) ∷ []
-in_front b (line ∷ others) = (b ∷ line) ∷ others
+abbrev pub before_first_line : ℕ → List (List ℕ) → List (List ℕ)
+before_first_line b [] = (b ∷ []) ∷ []
+before_first_line b (line ∷ others) = (b ∷ line) ∷ others
 
 -- The lines of a text, cut at newlines: one more than it has newlines.
 abbrev pub lines_of : List ℕ → List (List ℕ)
 lines_of [] = [] ∷ []
-lines_of (b ∷ rest) = if b == 10 then [] ∷ lines_of rest else in_front b (lines_of rest)
+lines_of (b ∷ rest) = if b == 10 then [] ∷ lines_of rest else before_first_line b (lines_of rest)
 
 -- The lines of a text say these, one for one, where a line says what it spells. An empty line says nothing.
 abbrev pub SaysBy : {L : Type 0} → (List ℕ → L → Type 0) → List (List ℕ) → List L → Type 0

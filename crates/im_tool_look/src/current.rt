@@ -1,7 +1,6 @@
 //! Which of the two logs of the files is the current one.
 ghost use Rattle.std.specs.Prelude.{◌≡◌, ◌≢◌, ◌≤◌, ◌↔◌, true, false};
 ghost use Rattle.im_base_types.specs.declared.file_id.FileId.TheVariants.{Pages};
-ghost use Rattle.im_base_disk.specs.declared.disk.Disk.{Ghosts};
 ghost use Rattle.im_tool_look.specs.Least.{least_said};
 
 use crate::files::Files;

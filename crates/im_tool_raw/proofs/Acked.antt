@@ -7,7 +7,7 @@ use Rattle.im_tool_raw.specs.declared.life_answers.RawReply.{RawReply}
 use Rattle.im_tool_raw.specs.declared.life_answers.RawReply.TheVariants as replies
 use Rattle.im_tool_lines.specs.declared.raw_life.RawLife.{RawLife}
 use Rattle.im_tool_raw.specs.declared.life_answers.LifeAnswers.{LifeAnswers}
-use Rattle.im_tool_raw.specs.Lives.{asked_of, acked_of, Survives, Lives}
+use Rattle.im_tool_raw.specs.Lives.{asked_of, acked_of, Survives, RawLives}
 use Rattle.im_tool_raw.proofs.Stands.{survives_more}
 
 pub asked-append : (some more : List RawLine) → asked_of (some ++ more) ≡ asked_of some ++ asked_of more
@@ -56,8 +56,8 @@ whole_life all told n count within before after s =
     (survives_more before (asked_of (take n all)) (acked_of (take n all) told) after (asked_of (drop n all)) s))
 
 -- one life more
-pub lives_push : (some : List RawLife) (told : List LifeAnswers) (life : RawLife) (answers : LifeAnswers) (before mid after : List (List ℕ)) → Lives some told before mid
-    → Survives mid (asked_of life.lines.items) (acked_of life.lines.items answers.replies.items) after → Lives (some ++ life ∷ []) (told ++ answers ∷ []) before after
+pub lives_push : (some : List RawLife) (told : List LifeAnswers) (life : RawLife) (answers : LifeAnswers) (before mid after : List (List ℕ)) → RawLives some told before mid
+    → Survives mid (asked_of life.lines.items) (acked_of life.lines.items answers.replies.items) after → RawLives (some ++ life ∷ []) (told ++ answers ∷ []) before after
 lives_push [] [] life answers before mid after is s = (after, subst (λ (l : List (List ℕ)). Survives l (asked_of life.lines.items) (acked_of life.lines.items answers.replies.items) after) is s, refl)
 lives_push [] (first ∷ told) life answers before mid after is s = absurd is
 lives_push (first ∷ some) [] life answers before mid after is s = absurd is

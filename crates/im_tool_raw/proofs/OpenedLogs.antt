@@ -1,6 +1,5 @@
 -- What is known of a log once it is open.
-use Rattle.std.proofs.Common.{◌≡◌, ◌≢◌, inl, inr, ℕ, ◌≤◌, List, [], ◌++◌, length, map, Some, Result, Ok, Err, IfOk, Vec, Global, refl, sym, ◌∙◌, ap, subst}
-use Rattle.std.proofs.lemmas.List.{append-nil}
+use Rattle.std.proofs.Common.{◌≡◌, ◌≢◌, inl, inr, ℕ, ◌≤◌, List, [], ◌++◌, length, map, Some, Result, Ok, Err, IfOk, Vec, Global, refl, sym, ◌∙◌, ap, subst, append-nil}
 use Rattle.im_base_types.specs.declared.fault.Fault.{Fault}
 use Rattle.im_base_disk.proofs.Runs.{reads_then}
 use Rattle.im_log_gate.specs.declared.gate.Gate.{Gate}

@@ -11,15 +11,15 @@ use Rattle.im_tool_raw.specs.declared.life_answers.Opening.TheVariants as openin
 use Rattle.im_tool_raw.specs.declared.life_answers.LifeAnswers.{LifeAnswers}
 
 -- A put is done or refused, and `calls` answers a number.
-abbrev pub IsReply : RawLine → RawReply → Type 0
-IsReply (lines.Put batch) replies.Put = Unit {0}
-IsReply (lines.Put batch) (replies.Refused fault) = Unit {0}
-IsReply (lines.Put batch) (replies.Calls n) = ⊥
-IsReply (lines.Put batch) replies.Stopped = ⊥
-IsReply lines.Calls (replies.Calls n) = Unit {0}
-IsReply lines.Calls replies.Put = ⊥
-IsReply lines.Calls (replies.Refused fault) = ⊥
-IsReply lines.Calls replies.Stopped = ⊥
+abbrev pub IsRawReply : RawLine → RawReply → Type 0
+IsRawReply (lines.Put batch) replies.Put = Unit {0}
+IsRawReply (lines.Put batch) (replies.Refused fault) = Unit {0}
+IsRawReply (lines.Put batch) (replies.Calls n) = ⊥
+IsRawReply (lines.Put batch) replies.Stopped = ⊥
+IsRawReply lines.Calls (replies.Calls n) = Unit {0}
+IsRawReply lines.Calls replies.Put = ⊥
+IsRawReply lines.Calls (replies.Refused fault) = ⊥
+IsRawReply lines.Calls replies.Stopped = ⊥
 
 -- each line has its reply, one for one
 abbrev pub RepliedBy : {L R : Type 0} → (L → R → Type 0) → List L → List R → Type 0
@@ -42,10 +42,10 @@ AnsweredBy fits stopped all told = RepliedBy fits all told ⊎ StoppedWithin fit
 
 -- of a life over the gate alone
 abbrev pub Replied : List RawLine → List RawReply → Type 0
-Replied all told = RepliedBy IsReply all told
+Replied all told = RepliedBy IsRawReply all told
 
 abbrev pub Answered : List RawLine → List RawReply → Type 0
-Answered all told = AnsweredBy IsReply replies.Stopped all told
+Answered all told = AnsweredBy IsRawReply replies.Stopped all told
 
 -- Behind an opening that did not succeed no line is answered.
 abbrev pub AnsweredBehind : Opening → List RawLine → List RawReply → Type 0

@@ -43,9 +43,9 @@ acked_of [] answers = []
 acked_of (line ∷ rest) [] = []
 
 -- Life after life, each on what the one before has left: the batches before the first and after the last.
-abbrev pub Lives : List RawLife → List LifeAnswers → List (List ℕ) → List (List ℕ) → Type 0
-Lives [] [] before after = after ≡ before
-Lives (life ∷ rest) (told ∷ others) before after =
-    (mid : List (List ℕ)) × Survives before (asked_of life.lines.items) (acked_of life.lines.items told.replies.items) mid × Lives rest others mid after
-Lives [] (told ∷ others) before after = ⊥
-Lives (life ∷ rest) [] before after = ⊥
+abbrev pub RawLives : List RawLife → List LifeAnswers → List (List ℕ) → List (List ℕ) → Type 0
+RawLives [] [] before after = after ≡ before
+RawLives (life ∷ rest) (told ∷ others) before after =
+    (mid : List (List ℕ)) × Survives before (asked_of life.lines.items) (acked_of life.lines.items told.replies.items) mid × RawLives rest others mid after
+RawLives [] (told ∷ others) before after = ⊥
+RawLives (life ∷ rest) [] before after = ⊥

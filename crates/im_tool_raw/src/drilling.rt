@@ -1,9 +1,9 @@
 //! A script, run.
 
-ghost use Rattle.std.specs.Prelude.{◌≡◌, ◌≢◌, [], ℕ, List, map, IfOk, MatchResult};
+ghost use Rattle.std.specs.Prelude.{◌≡◌, ◌≢◌, ℕ, List, map, IfOk, MatchResult};
 ghost use Rattle.im_base_types.specs.declared.fault.Fault.TheVariants.{NotAStore};
 ghost use Rattle.im_base_disk.specs.Disk.{three};
-ghost use Rattle.im_tool_raw.specs.Lives.{StandsFor, Lives};
+ghost use Rattle.im_tool_raw.specs.Lives.{StandsFor, RawLives};
 ghost use Rattle.im_tool_raw.specs.Answered.{EachAnswered, AreRawStores};
 ghost use Rattle.im_tool_raw.specs.RawRuns.{IsRawRun};
 
@@ -30,7 +30,7 @@ pub fn drill(alloc: Global, script: &Script) -> Result<Drilled, AllocError>
     ensures run { IfOk result (λ told. IsRawRun ⟦<ModelDisk as Disk>⟧ script.now told) }
     ensures answered { IfOk result (λ told. EachAnswered script.now.lives.items told.lives.items) }
     ensures kept { IfOk result (λ told. (before : List (List ℕ)) → StandsFor (three script.now.log.items script.now.pages.items script.now.log2.items) before
-        → (after : List (List ℕ)) × Lives script.now.lives.items told.lives.items before after
+        → (after : List (List ℕ)) × RawLives script.now.lives.items told.lives.items before after
         × MatchResult told.last (λ found. map (λ batch. batch.items) found.items ≡ after) (λ fault. fault ≢ NotAStore)) }
     ensures stores { IfOk result (λ told. (before : List (List ℕ)) → StandsFor (three script.now.log.items script.now.pages.items script.now.log2.items) before → AreRawStores told.lives.items) }
 {

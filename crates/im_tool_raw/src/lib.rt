@@ -2,7 +2,7 @@
 //!
 //! `drill` promises, of a script whose files stand for some batches at first (`StandsFor`): each life leaves the batches
 //! from before it and after them a front of those that it asked to put, in order, with every one that was answered `put ok`
-//! (`Survives`, `Lives`), whatever the stop leaves of the places that were not synced; and the last opening finds what the
+//! (`Survives`, `RawLives`), whatever the stop leaves of the places that were not synced; and the last opening finds what the
 //! last life left, or was refused for want of memory or by the disk. Each life has its answers and each line its reply, up to a
 //! line into which the stop fell (`EachAnswered`). Every answer comes from a call of a gate (`IsRawRun`).
 //!

@@ -10,9 +10,8 @@ ghost use Rattle.im_log_gate.specs.Gate.{IsReady, logged};
 ghost use Rattle.im_log_gate.specs.Outcome.{MovesBy, PutOutcome};
 ghost use Rattle.im_tool_raw.specs.Lives.{StandsFor, Survives, asked_of, acked_of};
 ghost use Rattle.im_tool_raw.specs.Living.{IsLiving};
-ghost use Rattle.im_tool_raw.specs.Stops.{HasCome};
-ghost use Rattle.im_tool_raw.specs.RawRuns.{IsPutRun, IsRawLineRun, AreRawLinesRun, IsRawLifeRun};
-ghost use Rattle.im_tool_raw.specs.Answered.{IsReply, Answered, AnsweredBehind};
+ghost use Rattle.im_tool_raw.specs.RawRuns.{IsRawLineRun, AreRawLinesRun, IsRawLifeRun};
+ghost use Rattle.im_tool_raw.specs.Answered.{IsRawReply, Answered, AnsweredBehind};
 
 use crate::opened_batches::open_batches;
 use crate::stop::{arm, has_come, refused_opening};
@@ -85,7 +84,7 @@ fn run_lines(
 fn run_line(disk: &mut ModelDisk, gate: &mut Gate, line: &RawLine, stop: &Option<Stop>) -> RawReply
     requires { IsReady ⟦<ModelDisk as Disk>⟧ gate.old disk.old }
     ensures run { IsRawLineRun ⟦<ModelDisk as Disk>⟧ stop.now line.now result gate.old gate.new disk.old disk.new }
-    ensures fits { (result ≡ RawReply.Stopped) ⊎ IsReply line.now result }
+    ensures fits { (result ≡ RawReply.Stopped) ⊎ IsRawReply line.now result }
     ensures ready { IsReady ⟦<ModelDisk as Disk>⟧ gate.new disk.new }
     ensures living { (before asked acked : List (List ℕ)) → IsLiving ⟦<ModelDisk as Disk>⟧ before asked acked gate.old disk.old
         → IsLiving ⟦<ModelDisk as Disk>⟧ before (asked ++ asked_of (line.now ∷ [])) (acked ++ acked_of (line.now ∷ []) (result ∷ [])) gate.new disk.new }

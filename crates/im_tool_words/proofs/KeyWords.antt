@@ -4,8 +4,7 @@ use Rattle.std.specs.Prelude.{◌&&◌}
 use Rattle.std.specs.Char.{IsAsciiAlphanumeric}
 use Rattle.im_tool_words.specs.Words.{Lacks, IsNumber}
 use Rattle.im_tool_words.specs.Steps.{is_plain, is_text, IsRepeated, IsRepeating, IsPlainKey, IsKeyWord}
-use Rattle.im_tool_words.proofs.Texts.{lacks_mid, cut_once}
-use Rattle.im_tool_words.proofs.Texts.{digits_lack}
+use Rattle.im_tool_words.proofs.Texts.{lacks_mid, cut_once, digits_lack}
 
 both_first : (a b : Bool) → (a && b) ≡ true → a ≡ true
 both_first true b e = refl

@@ -4,7 +4,7 @@ ghost use Rattle.std.specs.Prelude.{◌≡◌, ◌≢◌, ◌⊎◌, ◌++◌, �
 ghost use Rattle.im_base_types.specs.declared.fault.Fault.TheVariants.{BadScript, Memory};
 ghost use Rattle.im_base_steps.specs.declared.step.Step.{Step};
 ghost use Rattle.im_tool_words.specs.Words.{Lacks, IsNumber, IsPageNumber};
-ghost use Rattle.im_tool_words.specs.Steps.{SpellsStep, IsNumbered, IsKeyed, IsKeyedWith, IsBehindKey};
+ghost use Rattle.im_tool_words.specs.Steps.{SpellsStep, IsNumbered, IsKeyed, IsBehindKey};
 
 use crate::key_word::key_of;
 use crate::number::number_of;

@@ -1,5 +1,5 @@
 -- What a call answers or refuses of its own, behind a get.
-use Rattle.std.proofs.Common.{◌≡◌, Bool, true, Option, None, Some, refl, sym, subst}
+use Rattle.std.proofs.Common.{◌≡◌, None, Some, refl, sym, subst}
 use Rattle.std.specs.Prelude.{Result, Ok, Err, IfErr, IfOk}
 use Rattle.im_base_types.specs.declared.fault.Fault.{Fault}
 use Rattle.im_base_types.specs.declared.fault.Fault.TheVariants.{NotAStore}

@@ -9,9 +9,7 @@ use Rattle.im_theory_tree.specs.Good.{AllOf, AreChained, AreOrdered, IsGoodTree}
 use Rattle.im_theory_tree.specs.Levels.{Pages, Node, leaves_under, entries_in, the_root, height, walk}
 use Rattle.im_theory_tree.specs.Lookups.{last_page, IsBehind, IsLeafAhead}
 use Rattle.im_theory_tree.specs.Search.{IsOnWay}
-use Rattle.im_theory_tree.proofs.BehindLemmas.{last_under, last_over, split_last, page_last, chained_last, behind_answers, behind_ends, behind_is_leaf}
-use Rattle.im_theory_tree.proofs.LookupLemmas.{way_known}
-use Rattle.im_theory_tree.proofs.Order.{after_above, ordered_right}
+use Rattle.im_theory_tree.proofs.Cited.{last_under, last_over, split_last, page_last, chained_last, behind_answers, behind_ends, behind_is_leaf, way_known, after_above, ordered_right}
 use Rattle.im_tree_search.specs.Backward.{ComesBack, GoesBack, IsAround, SearchesGoBack}
 use Rattle.im_tree_search.specs.Levels.{HasLevel}
 use Rattle.im_tree_search.specs.Ranges.{IsParted}

@@ -1,6 +1,5 @@
 -- A search beside a structure change.
-use Rattle.std.proofs.Common.{◌≡◌, ◌≤◌, ℕ, Bool, true, List, [], ◌∷◌, ◌++◌, Some, None, refl, sym, ◌∙◌, ap, subst, arith, append_assoc}
-use Rattle.std.proofs.lemmas.List.{append-nil}
+use Rattle.std.proofs.Common.{◌≡◌, ◌≤◌, ℕ, Bool, true, List, [], ◌∷◌, ◌++◌, Some, None, refl, sym, ◌∙◌, ap, subst, arith, append_assoc, append-nil}
 use Rattle.std.proofs.lemmas.List.Concat.{flat_map-append}
 use Rattle.im_base_types.specs.Keys.{Key}
 use Rattle.im_base_types.specs.Pages.{Body, Entry, Page}
@@ -10,11 +9,7 @@ use Rattle.im_theory_tree.specs.Good.{AllOf, AreChained, AreOrdered, first_page,
 use Rattle.im_theory_tree.specs.Levels.{Pages, Node, leaves_under, entries_in, the_root, height, walk}
 use Rattle.im_theory_tree.specs.Lookups.{key_of}
 use Rattle.im_theory_tree.specs.Search.{IsOnWay}
-use Rattle.im_theory_tree.proofs.Frame.{AllOf-append}
-use Rattle.im_theory_tree.proofs.LeafSplit.{chained_right}
-use Rattle.im_theory_tree.proofs.LookupLemmas.{first_behind, first_over, first_within, leaf_in_tree, way_known}
-use Rattle.im_theory_tree.proofs.Order.{before_below}
-use Rattle.im_theory_tree.proofs.Way.{step_way}
+use Rattle.im_theory_tree.proofs.Cited.{AllOf-append, chained_right, first_behind, first_over, first_within, leaf_in_tree, way_known, before_below, step_way}
 use Rattle.im_tree_search.specs.Beside.{Comes, MeetsDone, on_way, SearchesGoOn}
 use Rattle.im_tree_search.specs.Levels.{start_at}
 use Rattle.im_tree_search.proofs.Chain.{start_key}

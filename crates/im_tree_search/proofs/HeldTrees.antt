@@ -5,7 +5,6 @@ use Rattle.std.proofs.lemmas.Bool.Decides.{nat_tests}
 use Rattle.std.proofs.lemmas.List.{map-append}
 use Rattle.im_base_types.specs.Keys.{Key}
 use Rattle.im_base_types.specs.Pages.{Body, Entry}
-use Rattle.im_base_types.specs.declared.page_kind.PageKind.{PageKind}
 use Rattle.im_base_types.specs.declared.page_kind.PageKind.TheVariants.{Free, Meta, Leaf, Inner}
 use Rattle.im_theory_page.specs.Child.{IsChild, StartAbove}
 use Rattle.im_theory_page.specs.Entry.{entry_at}
@@ -14,15 +13,8 @@ use Rattle.im_page_writer.specs.Outcome.{AllPages}
 use Rattle.im_theory_tree.specs.Levels.{Pages, Node, children, child_of, below, leaves_under, pages_under, the_root, height, page_numbers}
 use Rattle.im_theory_tree.specs.Good.{AllOf, IsLeafPage, HaveLevels, AreChained, AreFree, first_page, free_from, times, IsGoodTree}
 use Rattle.im_theory_tree.specs.Lookups.{last_page}
-use Rattle.im_theory_tree.proofs.BehindLemmas.{split_last, page_last, chained_last}
-use Rattle.im_theory_tree.proofs.Counting.{below_count}
-use Rattle.im_theory_tree.proofs.Descent.{times-here}
-use Rattle.im_theory_tree.proofs.Keeps.{times-append}
-use Rattle.im_theory_tree.proofs.LeafByKey.{leaf_in_leaves, listed}
-use Rattle.im_theory_tree.proofs.LeafSplit.{chained_right}
-use Rattle.im_theory_tree.proofs.LookupLemmas.{leaf_in_tree, way_known}
-use Rattle.im_theory_tree.proofs.Way.{way_begins}
-use Rattle.im_tree_search.specs.HeldPages.{HoldsWay, HoldsOn, HoldsBack}
+use Rattle.im_theory_tree.proofs.Cited.{split_last, page_last, chained_last, below_count, times-here, times-append, leaf_in_leaves, listed, chained_right, leaf_in_tree, way_known, level_times, way_begins}
+use Rattle.im_tree_search.specs.HeldPages.{HoldsOn, HoldsBack}
 use Rattle.im_tree_search.specs.Levels.{bodies_of}
 
 -- a page of another kind is another page
@@ -72,10 +64,6 @@ child_below pages (n ∷ ns) p c key is some = by (p == n.page) refl (child_belo
         let none : times p (n.page ∷ page_numbers ns) ≡ times p (page_numbers ns) = ap (λ (t : Bool). (if t then 1 else 0) + times p (page_numbers ns)) e ∙ omega arith in
         let more = on (omega (arith, some, none)) in
         omega (arith, more, both)
-
-level_times : (pages : Pages) (k : ℕ) (ns : List Node) (x : ℕ) → times x (page_numbers ns) ≤ times x (pages_under pages k ns)
-level_times pages zero ns x = omega arith
-level_times pages (suc k) ns x = omega (arith, times-append x (page_numbers ns) (pages_under pages k (below pages ns)))
 
 child_under : (pages : Pages) (h : ℕ) (ns : List Node) (p c : ℕ) (key : Key) → (pages p).kind ≡ Inner → IsChild (pages p) key c → HaveLevels pages h ns → 1 ≤ times p (pages_under pages h ns) → 1 ≤ times c (pages_under pages h ns)
 child_under pages zero ns p c key inner is have some = absurd (let none = none_a_leaf pages p ns inner have in omega (arith, some, none))

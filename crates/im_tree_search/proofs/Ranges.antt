@@ -3,13 +3,11 @@ use Rattle.std.proofs.Common.{◌≡◌, ◌≤◌, ◌<◌, ◌+◌, ◌-◌, �
 use Rattle.std.specs.Prelude.{IfSome}
 use Rattle.std.specs.Ordering.{is_lt}
 use Rattle.std.specs.List.{filter}
-use Rattle.std.proofs.lemmas.Cmp.{nat_list_cmp_total, tied_itself}
-use Rattle.std.proofs.lemmas.List.{append-nil, length-append, length-take, length-take-le, drop-append-le, take-append-le}
+use Rattle.std.proofs.lemmas.List.{append-nil, length-append, length-take, length-take-le, drop-append-le, take-append-le, take-append-drop}
 use Rattle.std.proofs.lemmas.List.Concat.{flat_map-append}
 use Rattle.std.proofs.lemmas.List.Elements.{filter-append}
 use Rattle.std.proofs.Math.ListN.{drop_of_length-le}
 use Rattle.std.proofs.Math.Seq.{drop-nil, take-suc, take-add, take-append_seam}
-use Rattle.std.proofs.lemmas.List.{take-append-drop}
 use Rattle.im_base_types.specs.Keys.{Key, key_order, IsBelow}
 use Rattle.im_base_types.specs.Pages.{Body, Entry, Page}
 use Rattle.im_base_types.specs.Maps.{Start, From, Above, is_below, is_past, first_in}
@@ -19,13 +17,9 @@ use Rattle.im_theory_tree.specs.Levels.{Pages, Node, leaves_under, entries_in, t
 use Rattle.im_theory_tree.specs.Good.{AllOf, AtOrAbove, IsUnder, next_bound, AreOrdered, AreChained, first_page, IsGoodTree}
 use Rattle.im_theory_tree.specs.Search.{IsOnWay}
 use Rattle.im_theory_tree.specs.Lookups.{key_of, IsLeafAhead}
-use Rattle.im_theory_tree.proofs.Order.{AllOf-from, before_below, after_above, ordered_right}
-use Rattle.im_theory_tree.proofs.LeafWalk.{entries_around}
+use Rattle.im_theory_tree.proofs.Cited.{AllOf-from, before_below, after_above, ordered_right, entries_around, AllOf-append, chained_right, past, not_past, first_over, first_within, leaf_in_tree, is_below_itself}
 use Rattle.std.specs.declared.cmp.Ordering.{Ordering}
 use Rattle.std.specs.declared.cmp.Ordering.TheVariants.{Less, Equal, Greater}
-use Rattle.im_theory_tree.proofs.Frame.{AllOf-append}
-use Rattle.im_theory_tree.proofs.LeafSplit.{chained_right}
-use Rattle.im_theory_tree.proofs.LookupLemmas.{past, not_past, first_over, first_within, leaf_in_tree}
 use Rattle.im_tree_search.specs.declared.next_key.NextKey.{NextKey}
 use Rattle.im_tree_search.specs.declared.next_key.NextKey.TheVariants.{End}
 use Rattle.im_tree_search.specs.Levels.{HasLevel, start_at}
@@ -34,10 +28,6 @@ use Rattle.im_tree_search.specs.Ranges.{IsParted, is_within, within, key_if, IsP
 use Rattle.im_tree_search.proofs.Walks.{leaf_facts}
 
 -- ---- where a page parts at a key
-
-below_itself : (a : Key) → is_below a a ≡ false
-unfolding is_below
-below_itself a = ap is_lt (tied_itself nat_list_cmp_total a)
 
 -- at the key
 pub parted_from : (es : List Entry) (key : Key) (i : ℕ) → Rises es → IsPlace es key (Ok i) → IsParted (From key) es i
@@ -48,7 +38,7 @@ parted_from es key i rises here = record {
 }
   where
     is_here : is_past (From key) (entry_at es i).0 ≡ true
-    is_here = subst (λ (k : Key). is_past (From k) (entry_at es i).0 ≡ true) here.1 (ap not (below_itself (entry_at es i).0))
+    is_here = subst (λ (k : Key). is_past (From k) (entry_at es i).0 ≡ true) here.1 (ap not (is_below_itself (entry_at es i).0))
 
     at : (j : ℕ) → i ≤ j → j < length es → is_past (From key) (entry_at es j).0 ≡ true
     at j le lt = by (j - i) (omega arith)
@@ -66,7 +56,7 @@ parted_above es key i rises here = record {
 }
   where
     is_here : is_past (Above key) (entry_at es i).0 ≡ false
-    is_here = subst (λ (k : Key). is_past (Above k) (entry_at es i).0 ≡ false) here.1 (below_itself (entry_at es i).0)
+    is_here = subst (λ (k : Key). is_past (Above k) (entry_at es i).0 ≡ false) here.1 (is_below_itself (entry_at es i).0)
 
     at : (j : ℕ) → j < i + 1 → is_past (Above key) (entry_at es j).0 ≡ false
     at j lt = by (i - j) (omega arith)

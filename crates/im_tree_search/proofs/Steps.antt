@@ -12,8 +12,7 @@ use Rattle.im_page_writer.specs.Outcome.{AllPages, IsSound}
 use Rattle.im_theory_tree.specs.Levels.{Pages, height}
 use Rattle.im_theory_tree.specs.Good.{IsGoodTree}
 use Rattle.im_theory_tree.specs.Search.{IsOnWay}
-use Rattle.im_theory_tree.proofs.LookupLemmas.{way_leaf, way_inner}
-use Rattle.im_theory_tree.proofs.Way.{step_way, way_begins}
+use Rattle.im_theory_tree.proofs.Cited.{way_leaf, way_inner, step_way, way_begins}
 use Rattle.im_tree_search.specs.Levels.{HasLevel, bodies_of, kind_at}
 use Rattle.im_tree_search.specs.Found.{IsReached}
 

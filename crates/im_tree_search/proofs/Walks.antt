@@ -1,6 +1,5 @@
 -- The list of all entries, along the leaf chain.
-use Rattle.std.proofs.Common.{◌≡◌, ◌≢◌, ◌≤◌, ◌<◌, ◌+◌, ℕ, suc, List, [], ◌∷◌, ◌++◌, length, refl, sym, ◌∙◌, ap, ap₂, subst, arith, append_assoc}
-use Rattle.std.proofs.lemmas.List.{append-nil, length-append}
+use Rattle.std.proofs.Common.{◌≡◌, ◌≢◌, ◌≤◌, ◌<◌, ◌+◌, ℕ, suc, List, [], ◌∷◌, ◌++◌, length, refl, sym, ◌∙◌, ap, ap₂, subst, arith, append_assoc, append-nil, length-append}
 use Rattle.std.proofs.lemmas.List.Concat.{flat_map-append}
 use Rattle.im_base_types.specs.declared.fault.Fault.{Fault}
 use Rattle.im_base_types.specs.declared.fault.Fault.TheVariants.{Memory, NotAStore}
@@ -11,11 +10,7 @@ use Rattle.im_theory_tree.specs.Levels.{Pages, Node, leaves_under, entries_in, t
 use Rattle.im_theory_tree.specs.Good.{AllOf, AreOrdered, AreChained, IsLeafPage, first_page, IsGoodTree}
 use Rattle.im_theory_tree.specs.Search.{IsOnWay}
 use Rattle.im_theory_tree.specs.Lookups.{IsLeafAhead}
-use Rattle.im_theory_tree.proofs.Order.{before_below}
-use Rattle.im_theory_tree.proofs.Frame.{AllOf-right}
-use Rattle.im_theory_tree.proofs.LeafSplit.{chained_right}
-use Rattle.im_theory_tree.proofs.Counting.{leaves_counted}
-use Rattle.im_theory_tree.proofs.LookupLemmas.{leaf_in_tree, leaves_are_leaves}
+use Rattle.im_theory_tree.proofs.Cited.{before_below, AllOf-right, chained_right, leaves_counted, leaf_in_tree, leaves_are_leaves}
 use Rattle.im_tree_search.specs.Levels.{HasLevel}
 use Rattle.im_tree_search.specs.Found.{IsListed}
 

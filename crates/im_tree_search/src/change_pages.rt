@@ -1,6 +1,6 @@
 //! Which pages a structure change beside a search has made.
 
-ghost use Rattle.std.specs.Prelude.{◌≡◌, ◌≢◌, ◌≤◌, ◌==◌, [], length, true, false};
+ghost use Rattle.std.specs.Prelude.{◌≡◌, ◌≢◌, ◌==◌, [], true, false};
 ghost use Rattle.std.specs.List.{list_any};
 ghost use Rattle.im_tree_search.specs.Sights.{is_done};
 

@@ -8,11 +8,10 @@ ghost use Rattle.im_page_pool.specs.Pool.{page_at, Holds, IsAt};
 ghost use Rattle.im_page_writer.specs.PageWriter.{IsReadyWriter};
 ghost use Rattle.im_page_writer.specs.Outcome.{fault_of, AllPages, AreLoaded, HasPages, IsSound, Reads};
 ghost use Rattle.im_theory_tree.specs.Levels.{height};
-ghost use Rattle.im_theory_tree.specs.Search.{IsOnWay};
 ghost use Rattle.im_tree_search.specs.Levels.{HasLevel, bodies_of};
 ghost use Rattle.im_tree_search.specs.Found.{HasTree, IsReached, IsLeafFor, IsTreePage};
 ghost use Rattle.im_tree_search.specs.HeldPages.{HoldsWay, IsQuiet};
-ghost use Rattle.im_tree_search.specs.Sights.{HasTreeBut, IfSeen, IsSettled, IsWayMade, is_done};
+ghost use Rattle.im_tree_search.specs.Sights.{HasTreeBut, IfSeen, IsSettled, IsWayMade};
 
 use crate::change_beside::Beside;
 use crate::levels::{has_level, page_beside};

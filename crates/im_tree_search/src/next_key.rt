@@ -13,7 +13,7 @@ ghost use Rattle.im_tree_search.specs.HeldPages.{HoldsOn, IsQuiet};
 ghost use Rattle.im_tree_search.specs.NextKeys.{far_name, name_above, IsFar, IsWithinLeaf, IsNextInLeaf, IsLeafAndNext};
 ghost use Rattle.im_tree_search.specs.declared.next_key.NextKey.TheVariants.{There};
 ghost use Rattle.im_tree_search.specs.Beside.{Comes, MeetsDone};
-ghost use Rattle.im_tree_search.specs.Sights.{HasTreeBut, IfSeen, IsSettled, is_done};
+ghost use Rattle.im_tree_search.specs.Sights.{HasTreeBut, IfSeen, is_done};
 
 use crate::change_beside::Beside;
 use crate::descent::leaf_beside;

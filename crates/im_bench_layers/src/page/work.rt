@@ -1,6 +1,5 @@
 //! The works that are timed.
 
-ghost use Rattle.im_theory_page.specs.Page.{HoldsEntries};
 ghost use Rattle.std.specs.Prelude.{◌≡◌};
 ghost use Rattle.im_base_types.specs.declared.page_kind.PageKind.TheVariants.{Leaf};
 

@@ -1,6 +1,6 @@
 //! The end of a structure change of a rollback.
 
-ghost use Rattle.std.specs.Prelude.{◌≡◌, None, Some, false, true, length};
+ghost use Rattle.std.specs.Prelude.{◌≡◌, None, Some, false, true};
 
 use crate::accesses::{breaks, told};
 use crate::engine::Engine;

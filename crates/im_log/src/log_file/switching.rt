@@ -1,6 +1,6 @@
 //! The log goes on in the other file.
 
-ghost use Rattle.std.specs.Prelude.{◌≡◌, ◌+◌, ◌^◌, ◌<◌, ◌≤◌, ◌↔◌, ◌⊎◌, false, true, length, IfErr, OnErr, OnOk, List, ℕ};
+ghost use Rattle.std.specs.Prelude.{◌≡◌, ◌+◌, ◌^◌, ◌<◌, ◌≤◌, ◌↔◌, ◌⊎◌, false, true, length, IfErr, OnOk, List, ℕ};
 
 use crate::LogFile;
 use im_base_two_logs::TwoLogs;
@@ -18,7 +18,7 @@ impl LogFile {
     ghost use Rattle.im_base_types.specs.Records.{Logged};
     ghost use Rattle.im_base_types.specs.declared.file_id.FileId.TheVariants.{Log2, Pages};
     ghost use Rattle.im_base_disk.specs.Disk.{Only};
-    ghost use Rattle.im_log_gate.specs.Gate.{base_at, generation_at, place_of};
+    ghost use Rattle.im_log_gate.specs.Gate.{generation_at, place_of};
     ghost use Rattle.im_log.specs.LogFile.{IsOpen, IsLog};
     ghost use Rattle.im_log.specs.Outcome.{SwitchOutcome};
     ghost use Rattle.im_log.specs.Switching.{next_gate, LogSwitchKept};

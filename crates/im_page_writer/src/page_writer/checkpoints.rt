@@ -1,11 +1,10 @@
 //! Checkpoints: the rows of both tables in a record of the log, after a sync of the file of pages.
 ghost use Rattle.std.specs.Prelude.{◌≡◌, ◌≤◌, ◌<◌, ◌^◌, ◌↔◌, ℕ, List, None, Some, Ok, Err, false, true, length, OnOk};
 ghost use Rattle.im_base_types.specs.declared.fault.Fault.TheVariants.{LogFull};
-ghost use Rattle.im_base_types.specs.declared.file_id.FileId.TheVariants.{Log};
 ghost use Rattle.im_theory_log.specs.Histories.{Base};
 ghost use Rattle.im_base_types.specs.Records.{Logged};
 ghost use Rattle.im_theory_log.specs.Writer.{Writer};
-ghost use Rattle.im_base_disk.specs.Runs.{ChangesOnly, CostsAtMost};
+ghost use Rattle.im_base_disk.specs.Runs.{CostsAtMost};
 ghost use Rattle.im_log_record.specs.Entry.{Checkpoint};
 ghost use Rattle.im_log_record.specs.Spelling.{Rise, size_of};
 ghost use Rattle.im_log.specs.LogFile.{end_with, IsOpen, IsLog};

@@ -1,6 +1,6 @@
 //! Redo: noted copies loaded, records applied to their pages by LSN, and records read again.
-ghost use Rattle.std.specs.Prelude.{◌≡◌, ◌≤◌, ◌<◌, ◌^◌, ◌⊎◌, ◌↔◌, ◌++◌, ◌∷◌, ℕ, None, Some, Ok, Err, true, false, not, is_ok, length, IfErr, IfOk, OnOk};
-ghost use Rattle.im_base_types.specs.declared.fault.Fault.TheVariants.{Device, Failed, LogFull, NotAStore};
+ghost use Rattle.std.specs.Prelude.{◌≡◌, ◌≤◌, ◌<◌, ◌⊎◌, ◌↔◌, ◌++◌, ◌∷◌, ℕ, None, Some, Ok, Err, true, false, not, is_ok, length, IfErr, IfOk, OnOk};
+ghost use Rattle.im_base_types.specs.declared.fault.Fault.TheVariants.{Device, Failed, NotAStore};
 ghost use Rattle.im_theory_log.specs.Histories.{Base, History, changes_page};
 ghost use Rattle.im_theory_log.specs.Writer.{Writer};
 ghost use Rattle.im_log_record.specs.Entry.{view};
@@ -20,7 +20,6 @@ impl PageWriter {
     ghost use Rattle.im_theory_log.specs.Histories.{IsRecordOf, end_of};
     ghost use Rattle.im_log_record.specs.Entry.{view, page_of};
     ghost use Rattle.im_log_record.specs.Spelling.{IsEntry};
-    ghost use Rattle.im_log.specs.LogFile.{HasNoRoom, end_with};
     ghost use Rattle.im_log.specs.Spelled.{logged_at};
     ghost use Rattle.im_log.specs.Whats.{what_of};
     ghost use Rattle.im_log.specs.Reading.{FoundKept};

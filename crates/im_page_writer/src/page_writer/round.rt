@@ -42,7 +42,6 @@ impl PageWriter {
     ghost use Rattle.im_page_writer.specs.Outcome.{fault_of, no_page, AllPages, AreLoaded, Flushes, HasPages, Reads, Redoes};
     ghost use Rattle.im_page_writer.specs.PageWriter.{IsReadyWriter, StandsAs, Evicted, GoesOn};
     ghost use Rattle.im_page_writer.specs.Rounds.{AreHeld, AreOfThose, AreShown, IsBack, Lends, LendsAll, RoundHere, RoundKept, TakesBack, entry_after};
-    ghost use Rattle.im_page_writer.specs.Writing.{SameHeld};
 
     // Flushes the changed pages that are written next, with others that go next, until none is left.
     fn flush_all<D: Disk>(&mut self, disk: &mut D) -> Result<(), Fault>

@@ -1,5 +1,4 @@
-use Rattle.std.proofs.Common.{List, subst}
-use Rattle.std.proofs.lemmas.List.{take_all}
+use Rattle.std.proofs.Common.{List, subst, take_all}
 use Rattle.im_base_turns.specs.declared.going.Going.{Going}
 use Rattle.im_base_turns.specs.Turns.{IsAwaitedBy, IsLeastOf}
 use Rattle.im_base_turns.proofs.Least.{one_more, at_none}

@@ -1,4 +1,4 @@
-use Rattle.std.proofs.Common.{◌≡◌, ◌⊎◌, inl, inr, ◌<◌, ◌≤◌, ◌^◌, ℕ, arith}
+use Rattle.std.proofs.Common.{◌⊎◌, inl, inr, ◌<◌, ◌≤◌, ◌^◌, ℕ, arith}
 use Rattle.im_calls.proofs.session.opened.Goals as goal
 
 -- numbers that descriptors have are no others

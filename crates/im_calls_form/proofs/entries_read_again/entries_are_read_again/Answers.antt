@@ -1,6 +1,5 @@
-use Rattle.std.proofs.Common.{◌≡◌, ◌≤◌, ◌∷◌, [], List, ℕ, length, sym, subst, arith}
-use Rattle.im_base_types.specs.Pages.{Entry}
-use Rattle.im_calls_form.specs.Calls.{BeginsWith, entries_bytes}
+use Rattle.std.proofs.Common.{◌≡◌, ◌∷◌, [], List, ℕ, sym, subst, arith}
+use Rattle.im_calls_form.specs.Calls.{BeginsWith}
 use Rattle.im_calls_form.specs.Entries.{read_entries}
 use Rattle.im_calls_form.proofs.Entries.{read_again, entries_fit, told_again, alone}
 use Rattle.im_calls_form.proofs.entries_read_again.entries_are_read_again.Goals as goal

@@ -1,5 +1,4 @@
-use Rattle.std.proofs.Common.{◌+◌, ◌<◌, length, take, refl, sym, subst, ◌∙◌, arith}
-use Rattle.std.proofs.lemmas.List.{take_all}
+use Rattle.std.proofs.Common.{◌+◌, ◌<◌, length, take, refl, sym, subst, ◌∙◌, arith, take_all}
 use Rattle.im_base_txn.specs.Rows.{begun, waiting_numbers}
 use Rattle.im_theory_machine.specs.Table.{Table, AreReleased}
 use Rattle.im_theory_machine.specs.View.{is_among}

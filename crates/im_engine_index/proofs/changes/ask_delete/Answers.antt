@@ -9,13 +9,14 @@ use Rattle.im_page_writer.proofs.Outcomes.{out_of_memory, refused, sound_on, rea
 use Rattle.im_theory_tree.specs.Levels.{walk}
 use Rattle.im_theory_tree.proofs.LookupLemmas.{leaf_value}
 use Rattle.im_tree_search.specs.Levels.{HasLevel, bodies_of}
+use Rattle.im_tree_search.proofs.Walks.{memory_not}
 use Rattle.im_theory_machine.specs.Rows.{asked, next_name}
 use Rattle.im_engine_locks.specs.Requests.{named, row}
 use Rattle.im_engine_index.specs.declared.place.Place.{Place}
 use Rattle.im_engine_index.specs.Asks.{IsPlace}
 use Rattle.im_engine_index.specs.LockAnswers.{name_in}
 use Rattle.im_engine_index.proofs.Names.{finds_both, found_is, next_is}
-use Rattle.im_engine_index.proofs.Calls.{decided_as, granted_as, memory_not}
+use Rattle.im_engine_index.proofs.Calls.{decided_as, granted_as}
 use Rattle.im_page_writer.specs.Outcome.{mild}
 use Rattle.im_engine_index.proofs.changes.ask_delete.Goals as goal
 

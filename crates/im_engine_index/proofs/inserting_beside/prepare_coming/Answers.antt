@@ -6,13 +6,13 @@ use Rattle.im_page_writer.proofs.Outcomes.{out_of_memory, refused, then, with_mo
 use Rattle.im_theory_page.specs.Split.{HasRoom}
 use Rattle.im_tree_search.specs.Levels.{bodies_of}
 use Rattle.im_tree_search.proofs.Sighted.{at_hidden, at_seen, but_still}
+use Rattle.im_tree_search.proofs.Walks.{memory_not}
 use Rattle.im_smo_split.specs.Kept.{mild_to_split}
 use Rattle.im_smo_split.specs.Tops.{LacksRoomFor}
 use Rattle.im_smo_split.proofs.Reasons.{mild_splits, never_capacity, never_pages_full}
 use Rattle.im_engine_index.specs.Barred.{barred, meets, IsBarred}
 use Rattle.im_engine_index.specs.ChangePlans.{KeyFits}
 use Rattle.im_engine_index.specs.declared.change_plan.Coming.TheVariants.{Fits}
-use Rattle.im_engine_index.proofs.Calls.{memory_not}
 use Rattle.im_engine_index.proofs.Comings.{apart_bars, coming_hidden, coming_refused, coming_seen, files_refused, leaf_has_it, memory_full, memory_numbers, room_not, some_never, there_kept}
 use Rattle.im_engine_index.proofs.Planning.{none_used_up, not_there, some_of}
 use Rattle.im_engine_index.proofs.inserting_beside.prepare_coming.Goals as goal

@@ -13,9 +13,10 @@ use Rattle.im_theory_machine.specs.Locks.{PastAll}
 use Rattle.im_theory_machine.specs.Rows.{asked}
 use Rattle.im_engine_locks.specs.Requests.{row}
 use Rattle.im_engine_index.proofs.Names.{finds_there, found_is, option_none}
-use Rattle.im_engine_index.proofs.Calls.{decided_as, memory_not, says_as}
+use Rattle.im_engine_index.proofs.Calls.{decided_as, says_as}
 use Rattle.im_page_writer.specs.Outcome.{mild}
 use Rattle.im_tree_search.proofs.Quiet.{on_still, quiet_then}
+use Rattle.im_tree_search.proofs.Walks.{memory_not}
 use Rattle.im_engine_index.proofs.reads.fetch.Goals as goal
 
 pub returns-in_err-leaf-clause-outcome : goal.returns-in_err-leaf-clause-outcome

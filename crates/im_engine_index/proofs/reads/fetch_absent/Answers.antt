@@ -4,11 +4,12 @@ use Rattle.im_base_types.specs.Answers.{Fetch, found}
 use Rattle.im_page_writer.proofs.Outcomes.{out_of_memory, refused, sound_on, read_more}
 use Rattle.im_theory_tree.specs.Levels.{walk}
 use Rattle.im_tree_search.specs.Levels.{bodies_of}
+use Rattle.im_tree_search.proofs.Walks.{memory_not}
 use Rattle.im_theory_machine.specs.Rows.{asked, next_name}
 use Rattle.im_engine_locks.specs.Requests.{named, row}
 use Rattle.im_engine_index.specs.LockAnswers.{name_in}
 use Rattle.im_engine_index.proofs.Names.{finds_gap, next_is}
-use Rattle.im_engine_index.proofs.Calls.{decided_as, memory_not, says_as}
+use Rattle.im_engine_index.proofs.Calls.{decided_as, says_as}
 use Rattle.im_page_writer.specs.Outcome.{mild}
 use Rattle.im_engine_index.proofs.reads.fetch_absent.Goals as goal
 

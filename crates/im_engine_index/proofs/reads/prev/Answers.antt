@@ -3,10 +3,11 @@ use Rattle.im_base_types.specs.Answers.{Prev, answer, entry}
 use Rattle.im_page_writer.proofs.Outcomes.{out_of_memory, refused, sound_on, read_more}
 use Rattle.im_theory_tree.specs.Levels.{walk}
 use Rattle.im_tree_search.specs.Levels.{bodies_of}
+use Rattle.im_tree_search.proofs.Walks.{memory_not}
 use Rattle.im_theory_machine.specs.Rows.{asked}
 use Rattle.im_engine_locks.specs.Requests.{named, named_if, row}
 use Rattle.im_engine_index.proofs.Names.{finds_below, last_is}
-use Rattle.im_engine_index.proofs.Calls.{decided_as, memory_not, says_as}
+use Rattle.im_engine_index.proofs.Calls.{decided_as, says_as}
 use Rattle.im_page_writer.specs.Outcome.{mild}
 use Rattle.im_engine_index.proofs.reads.prev.Goals as goal
 

@@ -4,11 +4,12 @@ use Rattle.im_base_types.specs.Maps.{first}
 use Rattle.im_page_writer.proofs.Outcomes.{out_of_memory, refused, sound_on, read_more}
 use Rattle.im_theory_tree.specs.Levels.{walk}
 use Rattle.im_tree_search.specs.Levels.{bodies_of, start_at}
+use Rattle.im_tree_search.proofs.Walks.{memory_not}
 use Rattle.im_theory_machine.specs.Rows.{asked}
 use Rattle.im_engine_locks.specs.Requests.{named, row}
 use Rattle.im_engine_index.specs.LockAnswers.{seek_at}
 use Rattle.im_engine_index.proofs.Names.{first_is, seek_asks, seek_says}
-use Rattle.im_engine_index.proofs.Calls.{decided_as, memory_not, says_as}
+use Rattle.im_engine_index.proofs.Calls.{decided_as, says_as}
 use Rattle.im_page_writer.specs.Outcome.{mild}
 use Rattle.im_engine_index.proofs.reads.seek.Goals as goal
 

@@ -9,8 +9,8 @@ use Rattle.im_theory_tree.specs.Levels.{walk}
 use Rattle.im_theory_tree.proofs.LookupLemmas.{leaf_value}
 use Rattle.im_tree_search.specs.Levels.{bodies_of}
 use Rattle.im_tree_search.proofs.Sighted.{at_hidden, at_seen, but_still}
+use Rattle.im_tree_search.proofs.Walks.{memory_not}
 use Rattle.im_engine_index.proofs.Names.{found_is, option_none}
-use Rattle.im_engine_index.proofs.Calls.{memory_not}
 use Rattle.im_engine_index.proofs.reads_beside.fetch_beside.Goals as goal
 
 pub returns-in_err-held-clause-outcome : goal.returns-in_err-held-clause-outcome

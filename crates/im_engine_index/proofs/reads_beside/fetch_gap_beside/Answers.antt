@@ -6,9 +6,9 @@ use Rattle.im_theory_tree.specs.Levels.{walk}
 use Rattle.im_theory_machine.specs.Rows.{next_name}
 use Rattle.im_tree_search.specs.Levels.{bodies_of}
 use Rattle.im_tree_search.proofs.Sighted.{at_hidden, at_seen}
+use Rattle.im_tree_search.proofs.Walks.{memory_not}
 use Rattle.im_engine_index.specs.LockAnswers.{name_in}
 use Rattle.im_engine_index.proofs.Names.{next_is}
-use Rattle.im_engine_index.proofs.Calls.{memory_not}
 use Rattle.im_engine_index.proofs.reads_beside.fetch_gap_beside.Goals as goal
 
 pub returns-in_err-leaf-clause-outcome : goal.returns-in_err-leaf-clause-outcome

@@ -5,9 +5,9 @@ use Rattle.im_page_writer.specs.Outcome.{mild}
 use Rattle.im_theory_tree.specs.Levels.{walk}
 use Rattle.im_tree_search.specs.Levels.{bodies_of, start_at}
 use Rattle.im_tree_search.proofs.Sighted.{at_hidden, at_seen}
+use Rattle.im_tree_search.proofs.Walks.{memory_not}
 use Rattle.im_engine_index.proofs.Beside.{seek_meets}
 use Rattle.im_engine_index.proofs.Names.{first_is}
-use Rattle.im_engine_index.proofs.Calls.{memory_not}
 use Rattle.im_engine_index.proofs.reads_beside.seek_beside.Goals as goal
 
 pub returns-in_err-found-clause-outcome : goal.returns-in_err-found-clause-outcome

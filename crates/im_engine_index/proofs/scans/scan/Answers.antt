@@ -4,11 +4,12 @@ use Rattle.im_base_types.specs.Pages.{Entry}
 use Rattle.im_page_writer.proofs.Outcomes.{out_of_memory, refused, sound_on}
 use Rattle.im_theory_tree.specs.Levels.{walk}
 use Rattle.im_tree_search.specs.Levels.{bodies_of}
+use Rattle.im_tree_search.proofs.Walks.{memory_not}
 use Rattle.im_theory_machine.specs.Rows.{asked}
 use Rattle.im_engine_locks.specs.Found.{IsScanOf}
 use Rattle.im_engine_index.specs.LockAnswers.{entries_found, name_behind}
 use Rattle.im_engine_index.proofs.Names.{scan_is}
-use Rattle.im_engine_index.proofs.Calls.{decided_as, granted_as, memory_not, says_as}
+use Rattle.im_engine_index.proofs.Calls.{decided_as, granted_as, says_as}
 use Rattle.im_engine_index.proofs.scans.scan.Goals as goal
 
 pub returns-in_err-list-clause-kept : goal.returns-in_err-list-clause-kept

@@ -1,7 +1,6 @@
-use Rattle.std.proofs.Common.{rules, ◌≡◌, ℕ, List, ◌++◌, ◌∙◌, sym, ap, subst, map, Some, nat_eq}
+use Rattle.std.proofs.Common.{rules, ◌≡◌, ℕ, List, ◌++◌, ◌∙◌, sym, ap, subst, map, Some, nat_eq, append-nil}
 use Rattle.std.specs.HashMap.{HashMap, UpdatesBy}
 use Rattle.std.specs.Option.{option_copied_mut}
-use Rattle.std.proofs.lemmas.List.{append-nil}
 use Rattle.im_theory_machine.specs.Table.{Held, HasFallen, all_of, lasting_of}
 use Rattle.im_engine_locks.specs.Index.{seen, seen_all}
 use Rattle.im_engine_locks.specs.Owned.{held_in, IsKnown}

@@ -1,6 +1,6 @@
 use Rattle.std.proofs.Common.{◌≡◌, ℕ, Option, None, Some, refl, ◌∙◌, subst}
 use Rattle.im_page_writer.proofs.Outcomes.{sound_on}
-use Rattle.im_engine_rollback.specs.Going.{Leads}
+use Rattle.im_engine_rollback.specs.Going.{LeadsUndo}
 use Rattle.im_base_disk.proofs.Runs.{reads_none, reads_then}
 use Rattle.im_theory_tree.specs.Theory.{page_tree}
 use Rattle.im_theory_tree.proofs.TheoryLaws.{page_tree_laws}
@@ -43,7 +43,7 @@ returns-in_default-clause-kept g c b base s e last going =
     let so = l.invariant.kept b base s e last going in
     let still = beside_read g.D.Disk b base s e t last c.args.from c.args.writer.now l.writer c.args.disk.now l.disk going so.0 in
     let r = (c.in_ok-next.ensures.kept b base s e last c.args.from still so.1 c.loop-lsn-test.true) in
-    (r.0, found_here t l.lsn s.log c.loop-lsn-test.true (subst (λ (o : Option ℕ). Leads t l.lsn s.log o) (option_none c.in_ok-next.field-0 c.in_default.not-Some) r.1))
+    (r.0, found_here t l.lsn s.log c.loop-lsn-test.true (subst (λ (o : Option ℕ). LeadsUndo t l.lsn s.log o) (option_none c.in_ok-next.field-0 c.in_default.not-Some) r.1))
 
 pub loop-lsn-preserved : goal.loop-lsn-preserved
 loop-lsn-preserved g c =
@@ -58,7 +58,7 @@ loop-lsn-preserved g c =
           let so = l.invariant.kept b base s n last going in
           let still = beside_read g.D.Disk b base s n t last c.args.from c.args.writer.now l.writer c.args.disk.now l.disk going so.0 in
           let r = (e.kept b base s n last c.args.from still so.1 c.loop-lsn-test.true) in
-          (r.0, subst (λ (o : Option ℕ). Leads t l.lsn s.log o) c.in-Some.is r.1);
+          (r.0, subst (λ (o : Option ℕ). LeadsUndo t l.lsn s.log o) c.in-Some.is r.1);
     }
 
 pub returns-clause-kept : goal.returns-clause-kept

@@ -1,9 +1,8 @@
-use Rattle.std.proofs.Common.{Ok, ◌∙◌, ap, arith}
+use Rattle.std.proofs.Common.{Ok, ◌∙◌, ap, arith, ◌⊎◌, subst}
 use Rattle.im_base_types.specs.declared.file_id.FileId.TheVariants.{Log2}
 use Rattle.im_base_types.specs.declared.fault.Fault.TheVariants.{NotAStore}
 use Rattle.im_base_disk.specs.Disk.{Files}
 use Rattle.im_log_header.specs.Header.{generation_of, IsMade, IsUnmade}
-use Rattle.std.proofs.Common.{◌⊎◌, subst}
 use Rattle.im_log_choice.proofs.Names.{handed_on, has_by, has_none, log_current, no_log, no_other_then, other_current}
 use Rattle.im_log_choice.proofs.choosing.is_other_current.Goals as goal
 

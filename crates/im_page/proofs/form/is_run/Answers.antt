@@ -2,7 +2,7 @@ use Rattle.std.proofs.Common.{◌≡◌, ℕ, ◌+◌, ◌-◌, ◌<◌, ◌≤�
 use Rattle.std.proofs.lemmas.Bool.{cases_lt}
 use Rattle.im_base_types.specs.Keys.{IsBelow}
 use Rattle.im_theory_page.specs.Form.{count_of, start_of, slot_at, cell_size, key_from}
-use Rattle.im_page.specs.Sound.{IsRun, IsTopOf, IsFootOf}
+use Rattle.im_page.specs.Sound.{ArePacked, IsTopOf, IsFootOf}
 use Rattle.im_page.proofs.SoundLemmas.{run_begins, run_more, run_sound}
 use Rattle.im_page.proofs.WordLemmas.{by_words, key_bytes}
 use Rattle.im_page.proofs.form.is_run.Goals.{else-foot_of-top-via-then-foot_of-top+else-not-is_next, else-foot_of-top-via-else-foot_of-top}
@@ -62,5 +62,5 @@ returns c =
     let bytes : List ℕ = c.args.bytes.now in
     let all : c.loop-i.i ≡ count_of bytes = omega (arith, c.loop-i-test.false, c.loop-i.auto.i-end, c.get_u16-count.ensures.value) in
     let start : c.loop-i.before ≡ start_of bytes = omega (arith, c.if-before-start.false, c.get_u16-start.ensures.value) in
-    λ t. run_sound leaf bytes (subst (IsRun leaf bytes (count_of bytes)) start (subst (λ n. IsRun leaf bytes n c.loop-i.before) all c.loop-i.invariant.run))
+    λ t. run_sound leaf bytes (subst (ArePacked leaf bytes (count_of bytes)) start (subst (λ n. ArePacked leaf bytes n c.loop-i.before) all c.loop-i.invariant.run))
     (λ i lt. c.loop-i.invariant.keyed i (omega (arith, all, lt))) (λ i some lt. c.loop-i.invariant.below i some (omega (arith, all, lt)))

@@ -1,12 +1,12 @@
 use Rattle.std.proofs.Common.{ℕ, ◌+◌, ◌-◌, ◌<◌, ◌≤◌, ◌≡◌, slice_index}
 use Rattle.im_base_types.specs.Keys.{IsBelow}
 use Rattle.im_theory_page.specs.Form.{slot_at, key_from}
-use Rattle.im_page.specs.Sound.{IsRun, IsTopOf}
+use Rattle.im_page.specs.Sound.{ArePacked, IsTopOf}
 use Rattle.im_page.proofs.form.is_run.Given as goal
 
 abbrev pub invariant-loop-i : goal.invariant-loop-i
 invariant-loop-i l = record {
-  run : IsRun l.leaf l.bytes l.i l.before;
+  run : ArePacked l.leaf l.bytes l.i l.before;
   within : l.before ≤ 4096;
   below : (k : ℕ) → 0 < k → k < l.i → IsBelow (key_from l.bytes (slot_at l.bytes (k - 1))) (key_from l.bytes (slot_at l.bytes k));
   keyed : (k : ℕ) → k < l.i → 1 ≤ slice_index l.bytes (slot_at l.bytes k);

@@ -1,5 +1,4 @@
-use Rattle.std.proofs.Common.{◌≡◌, ℕ, suc, ◌+◌, ◌-◌, ◌<◌, List, [], ◌∷◌, ◌++◌, Bool, cond, length, take, reverse, slice_get, Option, Some, refl, sym, ap, subst, ◌∙◌, arith}
-use Rattle.std.proofs.lemmas.List.{length-set}
+use Rattle.std.proofs.Common.{◌≡◌, ℕ, suc, ◌+◌, ◌-◌, ◌<◌, List, [], ◌∷◌, ◌++◌, Bool, cond, length, take, reverse, slice_get, Option, Some, refl, sym, ap, subst, ◌∙◌, arith, length-set}
 use Rattle.im_page_pool.specs.Inside.{marked_numbers}
 use Rattle.im_page_places.specs.Places.{taken_in}
 use Rattle.im_page_places.proofs.UseLemmas.{option_none, taken_push}

@@ -1,7 +1,8 @@
 use Rattle.std.proofs.Common.{insert}
 use Rattle.im_page_pool.specs.Pool.{page_at}
-use Rattle.im_page_writer.proofs.LeafChanges.{put_is, three_sets}
+use Rattle.im_page_writer.proofs.LeafChanges.{three_sets}
 use Rattle.im_page_writer.proofs.leaf_change.put_key.Goals as goal
+use Rattle.im_page_rounds.proofs.OnePage.{put_is}
 
 pub returns-in-Ok : goal.returns-in-Ok
 returns-in-Ok c =

@@ -1,7 +1,8 @@
 use Rattle.std.proofs.Common.{remove}
 use Rattle.im_page_pool.specs.Pool.{page_at}
-use Rattle.im_page_writer.proofs.LeafChanges.{take_is, three_sets}
+use Rattle.im_page_writer.proofs.LeafChanges.{three_sets}
 use Rattle.im_page_writer.proofs.leaf_change.take_key.Goals as goal
+use Rattle.im_page_rounds.proofs.OnePage.{take_is}
 
 pub returns : goal.returns
 returns c =

@@ -1,4 +1,4 @@
-use Rattle.std.proofs.Common.{◌≡◌, ◌≢◌, inr, false, refl, sym, ap, subst}
+use Rattle.std.proofs.Common.{◌≡◌, ◌≢◌, false, refl, sym, ap, subst}
 use Rattle.im_base_types.specs.declared.fault.Fault.TheVariants.{Capacity, NotAStore}
 use Rattle.im_base_types.specs.declared.file_id.FileId.TheVariants.{Log, Pages, Log2}
 use Rattle.im_base_disk.specs.Disk.{Files}

@@ -1,4 +1,4 @@
-use Rattle.std.proofs.Common.{rules, ◌≡◌, ◌≢◌, ◌≤◌, ◌<◌, ◌*◌, ◌+◌, Err, Option, length, sym, ◌∙◌, ap, subst, arith}
+use Rattle.std.proofs.Common.{rules, ◌≢◌, ◌≤◌, Err, Option, sym, ◌∙◌, ap, subst, arith}
 use Rattle.im_base_types.specs.declared.fault.Fault.TheVariants.{NotAStore}
 use Rattle.im_base_types.specs.declared.file_id.FileId.TheVariants.{Pages}
 use Rattle.im_base_types.specs.Pages.{Page}

@@ -2,12 +2,13 @@ use Rattle.std.proofs.Common.{◌≡◌, ap, refl, sym, ◌∙◌}
 use Rattle.im_base_types.specs.declared.fault.Fault.TheVariants.{Capacity, Device, NotAStore}
 use Rattle.im_log_record.specs.Entry.{view}
 use Rattle.im_smo_alloc.specs.Kept.{mild_to_take}
+use Rattle.im_smo_alloc.proofs.Goings.{take_mildly as take_mild}
 use Rattle.im_page_writer.specs.Outcome.{mild}
 use Rattle.im_page_writer.proofs.LoggedChanges.{err_on}
 use Rattle.im_page_writer.proofs.Outcomes.{sound_on}
 use Rattle.im_restart_redo.proofs.Recoveries.{moved, read_refused, recovers_more, recovers_then, recovery_own, recovery_refused}
 use Rattle.im_restart.specs.Restart.{RunsOut}
-use Rattle.im_restart.proofs.Ends.{other_cause, take_mild}
+use Rattle.im_restart.proofs.Ends.{other_cause}
 use Rattle.im_restart.proofs.Others.{spares_none}
 use Rattle.im_restart_analysis.proofs.RecordsRead.{spelled_here, spelled_none}
 use Rattle.im_restart.proofs.Undos.{read_stops, step_then, undo_read}

@@ -4,13 +4,14 @@ use Rattle.im_restart_redo.proofs.Recoveries.{recovers_more, recovers_then}
 use Rattle.im_base_types.specs.declared.fault.Fault.TheVariants.{Capacity}
 use Rattle.im_page_writer.proofs.LoggedChanges.{err_on}
 use Rattle.im_restart.specs.Restart.{RunsOut}
-use Rattle.im_restart.proofs.Ends.{no_numbers, take_mild}
+use Rattle.im_restart.proofs.Ends.{no_numbers}
 use Rattle.im_log_record.specs.Entry.{view, prev_of}
 use Rattle.im_theory_tree.specs.Theory.{page_tree}
 use Rattle.im_restart.specs.LoserChains.{GoesOnAt, chain_of}
 use Rattle.im_restart.proofs.Readings.{goes_behind}
 use Rattle.im_restart.proofs.Undos.{chains_then, step_then}
 use Rattle.im_restart.proofs.undo.undo_key.Goals as goal
+use Rattle.im_smo_alloc.proofs.Goings.{take_mildly as take_mild}
 
 pub returns-clause-outcome : goal.returns-clause-outcome
 returns-clause-outcome g c = recovers_then g.D.Disk c.in_ok-last.ensures.outcome (recovers_more g.D.Disk take_mild c.put_or_end.ensures.outcome)

@@ -1,11 +1,12 @@
 use Rattle.std.proofs.Common.{◌≡◌, ap, refl, sym, ◌∙◌, subst}
 use Rattle.im_smo_alloc.specs.Kept.{mild_to_take}
+use Rattle.im_smo_alloc.proofs.Goings.{take_mildly as take_mild}
 use Rattle.im_page_writer.specs.Outcome.{mild}
 use Rattle.im_page_writer.proofs.LoggedChanges.{err_on}
 use Rattle.im_restart_redo.proofs.Recoveries.{recovers_more, recovery_own, unmoved}
 use Rattle.im_base_types.specs.declared.fault.Fault.TheVariants.{Capacity, NotAStore}
 use Rattle.im_restart.specs.Restart.{RunsOut}
-use Rattle.im_restart.proofs.Ends.{no_numbers, no_store, other_cause, take_mild}
+use Rattle.im_restart.proofs.Ends.{no_numbers, no_store, other_cause}
 use Rattle.im_theory_tree.specs.Theory.{page_tree}
 use Rattle.im_theory_tree.proofs.TheoryLaws.{page_tree_laws}
 use Rattle.im_restart.specs.LoserChains.{GoesOnAt}

@@ -1,13 +1,13 @@
 use Rattle.std.proofs.Common.{ℕ, zero, List, [], ◌∷◌, refl, ◌∙◌, subst}
 use Rattle.im_page_writer.specs.Outcome.{mild}
 use Rattle.im_page_writer.proofs.Outcomes.{ends_own, pages_still, refused, sound_own, sound_on, then}
+use Rattle.im_page_writer.proofs.Structure.{refused_not as not_refused}
 use Rattle.im_smo_alloc.specs.Seen.{seen}
 use Rattle.im_smo_alloc.proofs.Goings.{mildly}
 use Rattle.im_smo_split.specs.PendingSplits.{IsPending}
 use Rattle.im_smo_split.proofs.Downs.{ended}
 use Rattle.im_smo_split.proofs.TakenOut.{beneath}
 use Rattle.im_smo_split.proofs.Ends.{last_one, leaf_ended, leaf_partable}
-use Rattle.im_smo_split.proofs.AfterSplit.{not_refused}
 use Rattle.im_smo_split.proofs.leaves.split_pending_leaf.Goals as goal
 
 pub returns-in_err-bring_both-clause-kept : goal.returns-in_err-bring_both-clause-kept

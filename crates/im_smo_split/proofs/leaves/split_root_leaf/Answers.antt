@@ -1,12 +1,12 @@
 use Rattle.std.proofs.Common.{ℕ, zero, List, [], ◌∷◌, refl, ◌∙◌, subst}
 use Rattle.im_page_writer.specs.Outcome.{mild}
 use Rattle.im_page_writer.proofs.Outcomes.{ends_own, sound_own, sound_on}
+use Rattle.im_page_writer.proofs.Structure.{refused_not as not_refused}
 use Rattle.im_smo_alloc.specs.Seen.{seen}
 use Rattle.im_smo_alloc.proofs.Goings.{mildly}
 use Rattle.im_smo_split.specs.PendingSplits.{IsRootPending}
 use Rattle.im_smo_split.proofs.Downs.{ended}
 use Rattle.im_smo_split.proofs.Ends.{last_two, root_ended, root_leaf, can_part_root}
-use Rattle.im_smo_split.proofs.AfterSplit.{not_refused}
 use Rattle.im_smo_split.proofs.leaves.split_root_leaf.Goals as goal
 
 pub returns-in_err-page-clause-kept : goal.returns-in_err-page-clause-kept

@@ -1,4 +1,4 @@
-use Rattle.std.proofs.Common.{◌∙◌, refl, subst, sym}
+use Rattle.std.proofs.Common.{subst, sym}
 use Rattle.im_base_disk.specs.Disk.{Files}
 use Rattle.im_engine.specs.Stands.{StandsFor}
 use Rattle.im_tool_drill.proofs.NamedDisk.{named_ghosts, own_seen, own_synced, own_working}

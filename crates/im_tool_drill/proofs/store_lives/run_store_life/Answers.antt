@@ -1,4 +1,4 @@
-use Rattle.std.proofs.Common.{ℕ, List, refl, sym, ap, subst, ◌∙◌, inl}
+use Rattle.std.proofs.Common.{ℕ, List, sym, ap, subst, ◌∙◌, inl}
 use Rattle.im_base_types.specs.Lives.{Shown, nothing_shown}
 use Rattle.im_base_model_disk.specs.contracts.model_disk.ModelDiskDisk.TheImpl.{ghosts}
 use Rattle.im_base_model_disk.specs.declared.model_disk.ModelDisk.{ModelDisk}

@@ -1,5 +1,5 @@
 use Rattle.std.proofs.Common.{◌≡◌, ◌∙◌, ap, rules}
-use Rattle.im_base_types.specs.declared.file_id.FileId.TheVariants.{Log, Pages, Log2}
+use Rattle.im_base_types.specs.declared.file_id.FileId.TheVariants.{Pages, Log2}
 use Rattle.im_base_disk.specs.Disk.{three, Files}
 use Rattle.im_base_model_disk.specs.contracts.model_disk.ModelDiskDisk.TheImpl.{ghosts}
 use Rattle.im_tool_every.proofs.LeftFiles.{left_files}

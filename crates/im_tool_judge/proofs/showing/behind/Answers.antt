@@ -1,5 +1,5 @@
 use Rattle.std.proofs.Common.{refl}
-use Rattle.im_tool_judge.proofs.Shows.{found_change, found_goes_on, found_insert_ended, found_delete_ended, found_died, found_turned, found_waited}
+use Rattle.im_tool_judge.proofs.Shows.{found_change, found_died, found_turned, found_waited}
 use Rattle.im_tool_judge.proofs.showing.behind.Goals as goal
 
 pub returns-in_ok-push-in-Changed : goal.returns-in_ok-push-in-Changed

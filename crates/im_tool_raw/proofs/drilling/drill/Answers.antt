@@ -5,7 +5,7 @@ use Rattle.im_base_model_disk.specs.contracts.model_disk.ModelDiskDisk.TheImpl.{
 use Rattle.im_base_disk.specs.Disk.{Files, three}
 use Rattle.im_tool_lines.specs.declared.raw_life.RawLife.{RawLife}
 use Rattle.im_tool_raw.specs.declared.life_answers.LifeAnswers.{LifeAnswers}
-use Rattle.im_tool_raw.specs.Lives.{StandsFor, Lives}
+use Rattle.im_tool_raw.specs.Lives.{StandsFor, RawLives}
 use Rattle.im_tool_raw.specs.Answered.{EachAnswered, AreRawStores}
 use Rattle.im_tool_raw.specs.RawRuns.{AreRawLivesRun}
 use Rattle.im_tool_raw.proofs.RawRunning.{raw_lives_run_push, raw_stores_push}
@@ -25,7 +25,7 @@ loop-life-init c = record {
       let pages = c.in_ok-pages.ensures.items ∙ c.deref-2.ensures.value in
       let log2 = c.in_ok-log2.ensures.items ∙ c.deref-3.ensures.value in
       let seen = c.with_log2-disk.ensures.seen ∙ ap (λ (l : List ℕ). three l c.in_ok-pages.pages.items c.in_ok-log2.log2.items) log ∙ ap (λ (l : List ℕ). three c.args.script.now.log.items l c.in_ok-log2.log2.items) pages ∙ ap (λ (l : List ℕ). three c.args.script.now.log.items c.args.script.now.pages.items l) log2 in
-      (before, subst (λ (s : Files). StandsFor s before) (sym seen) stands, subst (λ (l : List LifeAnswers). Lives [] l before before) (sym c.new-lives.ensures.items) refl);
+      (before, subst (λ (s : Files). StandsFor s before) (sym seen) stands, subst (λ (l : List LifeAnswers). RawLives [] l before before) (sym c.new-lives.ensures.items) refl);
 }
 
 pub loop-life-preserved : goal.loop-life-preserved
@@ -65,8 +65,8 @@ loop-life-preserved c = record {
       take_more c.args.script.now.lives.items c.loop-life.life-index c.life-item.result within ∙ ap (λ (l : RawLife). take c.loop-life.life-index c.args.script.now.lives.items ++ l ∷ []) (sym is) in (
         s.0,
         s.1,
-        subst (λ (l : List RawLife). Lives l c.push.new.self.items before s.0) (sym more)
-            (subst (λ (l : List LifeAnswers). Lives (take c.loop-life.life-index c.args.script.now.lives.items ++ c.life-item.result ∷ []) l before s.0) (sym c.in_ok-push.ensures.items)
+        subst (λ (l : List RawLife). RawLives l c.push.new.self.items before s.0) (sym more)
+            (subst (λ (l : List LifeAnswers). RawLives (take c.loop-life.life-index c.args.script.now.lives.items ++ c.life-item.result ∷ []) l before s.0) (sym c.in_ok-push.ensures.items)
             (lives_push (take c.loop-life.life-index c.args.script.now.lives.items) c.loop-life.lives.items c.life-item.result c.in_ok-told.told before k.0 s.0 k.2 s.2)),
       );
 }
@@ -75,7 +75,7 @@ pub returns-clause-kept : goal.returns-clause-kept
 returns-clause-kept c before stands =
     let k = c.loop-life.invariant.kept before stands in
     let all : take c.loop-life.life-index c.args.script.now.lives.items ≡ c.args.script.now.lives.items = grind (arith, common_steps) in
-    (k.0, subst (λ (l : List RawLife). Lives l c.loop-life.lives.items before k.0) all k.2, c.last_batches-last.ensures.found k.0 k.1)
+    (k.0, subst (λ (l : List RawLife). RawLives l c.loop-life.lives.items before k.0) all k.2, c.last_batches-last.ensures.found k.0 k.1)
 
 pub returns-clause-answered : goal.returns-clause-answered
 returns-clause-answered c =

@@ -2,7 +2,7 @@ use Rattle.std.proofs.Common.{◌≡◌, List, ℕ, false, take}
 use Rattle.im_base_model_disk.specs.contracts.model_disk.ModelDiskDisk.TheImpl.{ghosts}
 use Rattle.im_base_disk.specs.Disk.{three}
 use Rattle.im_base_disk.specs.Runs.{IsSynced}
-use Rattle.im_tool_raw.specs.Lives.{StandsFor, Lives}
+use Rattle.im_tool_raw.specs.Lives.{StandsFor, RawLives}
 use Rattle.im_tool_raw.specs.Answered.{EachAnswered, AreRawStores}
 use Rattle.im_tool_raw.specs.RawRuns.{AreRawLivesRun}
 use Rattle.im_tool_raw.proofs.drilling.drill.Given as goal
@@ -15,5 +15,5 @@ invariant-loop-life l = record {
   run : AreRawLivesRun ghosts (take l.life-index l.script.lives.items) l.lives.items l.initial.disk l.disk;
   answered : EachAnswered (take l.life-index l.script.lives.items) l.lives.items;
   stores : (before : List (List ℕ)) → StandsFor (three l.script.log.items l.script.pages.items l.script.log2.items) before → AreRawStores l.lives.items;
-  kept : (before : List (List ℕ)) → StandsFor (three l.script.log.items l.script.pages.items l.script.log2.items) before → (mid : List (List ℕ)) × StandsFor (ghosts.seen l.disk) mid × Lives (take l.life-index l.script.lives.items) l.lives.items before mid;
+  kept : (before : List (List ℕ)) → StandsFor (three l.script.log.items l.script.pages.items l.script.log2.items) before → (mid : List (List ℕ)) × StandsFor (ghosts.seen l.disk) mid × RawLives (take l.life-index l.script.lives.items) l.lives.items before mid;
 }

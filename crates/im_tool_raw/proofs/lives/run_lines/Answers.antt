@@ -7,7 +7,7 @@ use Rattle.im_tool_raw.specs.Lives.{asked_of, acked_of}
 use Rattle.im_tool_raw.specs.Living.{IsLiving}
 use Rattle.im_tool_lines.specs.declared.raw_line.RawLine.{RawLine}
 use Rattle.im_tool_raw.specs.declared.life_answers.RawReply.TheVariants as replies
-use Rattle.im_tool_raw.specs.Answered.{IsReply, Replied}
+use Rattle.im_tool_raw.specs.Answered.{IsRawReply, Replied}
 use Rattle.im_tool_raw.proofs.Replied.{replied_push}
 use Rattle.im_tool_raw.specs.RawRuns.{AreRawLinesRun}
 use Rattle.im_tool_raw.proofs.RawRunning.{no_raw_line_run, raw_lines_run_push}
@@ -32,12 +32,12 @@ loop-line-preserved c = record {
   ready = c.run_line-reply.ensures.ready;
   replied =
       let some : ¬ (c.run_line-reply.result ≡ replies.Stopped) = grind (arith, common_steps) in
-      let fits : IsReply c.line-item.result c.run_line-reply.result = elim c.run_line-reply.ensures.fits [ inl e ↦ absurd (some e) | inr is ↦ is ] in
+      let fits : IsRawReply c.line-item.result c.run_line-reply.result = elim c.run_line-reply.ensures.fits [ inl e ↦ absurd (some e) | inr is ↦ is ] in
       let more : take (c.loop-line.line-index + 1) c.args.lines.now ≡ take c.loop-line.line-index c.args.lines.now ++ c.line-item.result ∷ [] =
       take_more c.args.lines.now c.loop-line.line-index c.line-item.result c.loop-line-test.true ∙ ap (λ (l : RawLine). take c.loop-line.line-index c.args.lines.now ++ l ∷ []) (sym c.line-item.is) in
       subst (λ (l : List RawLine). Replied l c.push.new.self.items) (sym more)
       (subst (λ (l : List RawReply). Replied (take c.loop-line.line-index c.args.lines.now ++ c.line-item.result ∷ []) l) (sym c.in_ok-push.ensures.items)
-      (replied_push IsReply (take c.loop-line.line-index c.args.lines.now) c.loop-line.replies.items c.line-item.result c.run_line-reply.result c.loop-line.invariant.replied fits));
+      (replied_push IsRawReply (take c.loop-line.line-index c.args.lines.now) c.loop-line.replies.items c.line-item.result c.run_line-reply.result c.loop-line.invariant.replied fits));
   count = ap length c.in_ok-push.ensures.items ∙ length-append c.loop-line.replies.items (c.run_line-reply.result ∷ []) ∙ ap (λ (n : ℕ). n + 1) c.loop-line.invariant.count;
   living = λ before living.
       subst (λ (l : List RawReply). IsLiving ghosts before (asked_of (take (c.loop-line.line-index + 1) c.args.lines.now)) (acked_of (take (c.loop-line.line-index + 1) c.args.lines.now) l) c.run_line-reply.new.gate c.run_line-reply.new.disk) (sym c.in_ok-push.ensures.items)

@@ -1,6 +1,6 @@
-use Rattle.std.proofs.Common.{rules, ◌≡◌, ◌<◌, ◌++◌, length, filter, take, drop, get_or, true, false, not, sym, ◌∙◌, ap, arith}
+use Rattle.std.proofs.Common.{rules, ◌≡◌, ◌<◌, ◌++◌, length, filter, take, drop, get_or, true, not, sym, ◌∙◌, ap, arith}
 use Rattle.std.proofs.lemmas.Grind.{common_steps}
-use Rattle.im_base_txn.specs.Rows.{begun, is_committing, is_waiting}
+use Rattle.im_base_txn.specs.Rows.{begun, is_waiting}
 use Rattle.im_base_txn.proofs.LookUps.{table_part}
 use Rattle.im_base_txn.proofs.RowLemmas.{removed}
 use Rattle.im_base_txn.proofs.table.Table.end_waiting.Goals as goal

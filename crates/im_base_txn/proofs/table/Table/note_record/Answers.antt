@@ -1,6 +1,6 @@
 use Rattle.std.proofs.Common.{rules, refl, ◌<◌, length, get_or, sym, ◌∙◌, ap, arith}
 use Rattle.std.proofs.lemmas.Grind.{common_steps}
-use Rattle.im_base_txn.specs.Rows.{begun, changed, with_record, with_mark}
+use Rattle.im_base_txn.specs.Rows.{begun, changed, with_record}
 use Rattle.im_base_txn.proofs.LookUps.{table_changed}
 use Rattle.im_base_txn.proofs.RowLemmas.{map_step, changed_here, changed_other}
 use Rattle.im_base_txn.proofs.table.Table.note_record.Goals as goal

@@ -1,5 +1,4 @@
-use Rattle.std.proofs.Common.{◌≡◌, ℕ, length, take, subst, arith, rules}
-use Rattle.std.proofs.lemmas.List.{length-take-le}
+use Rattle.std.proofs.Common.{◌≡◌, ℕ, length, take, subst, arith, rules, length-take-le}
 use Rattle.im_store.specs.Copies.{IsCopied}
 use Rattle.im_calls.proofs.copies.Opened+Mirrored+D+T.copy_piece.Goals as goal
 

@@ -4,10 +4,11 @@ use Rattle.im_base_types.specs.declared.fault.Fault.TheVariants.{Capacity}
 use Rattle.im_base_types.specs.declared.fault.Fault.TheVariants as faults
 use Rattle.im_base_steps.specs.declared.reply.Reply.TheVariants as replies
 use Rattle.im_engine.specs.Numbered.{besides_rows}
-use Rattle.im_engine.proofs.Telling.{alive_now, not_true, told_started, told_refused}
+use Rattle.im_engine.proofs.Telling.{alive_now, told_started, told_refused}
 use Rattle.im_engine.proofs.Causes.{begin_made, begin_full}
 use Rattle.im_engine.proofs.Paced.{paced_beside}
 use Rattle.im_engine.proofs.engine.Engine.begin.Goals as goal
+use Rattle.im_engine.proofs.Looked.{not_true}
 
 pub returns-in-Some : goal.returns-in-Some
 returns-in-Some g c =

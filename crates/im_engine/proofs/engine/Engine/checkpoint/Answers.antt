@@ -11,10 +11,11 @@ use Rattle.im_engine_checkpoint.specs.Rows.{listed}
 use Rattle.im_base_steps.specs.declared.reply.Reply.TheVariants as replies
 use Rattle.im_engine.proofs.Ending.{of_log}
 use Rattle.im_engine.proofs.Forcing.{checkpoint_refused, checkpoint_taken}
-use Rattle.im_engine.proofs.Telling.{not_true, told_answered, told_refused, log_ends, log_lost}
+use Rattle.im_engine.proofs.Telling.{told_answered, told_refused, log_ends, log_lost}
 use Rattle.im_engine.proofs.Causes.{behind, checkpoint_made, checkpoint_lost, tables_cause}
 use Rattle.im_engine.proofs.Paced.{paced_beside}
 use Rattle.im_engine.proofs.engine.Engine.checkpoint.Goals as goal
+use Rattle.im_engine.proofs.Looked.{not_true}
 
 pub returns-in-Ok : goal.returns-in-Ok
 returns-in-Ok g c =

@@ -6,22 +6,21 @@ use Rattle.im_theory_log.specs.WriterSteps.{appended}
 use Rattle.im_log_record.specs.Entry.{Commit}
 use Rattle.im_log.specs.Spelled.{logged_at}
 use Rattle.im_engine.specs.Numbered.{Numbered, besides_rows}
-use Rattle.im_engine.proofs.Checked.{commit_mark}
-use Rattle.im_engine.proofs.Running.{covered_stops}
+use Rattle.im_engine.proofs.Checked.{commit_mark, commit_unowned}
+use Rattle.im_engine.proofs.Running.{covered_stops, none_if}
 use Rattle.im_engine.proofs.Ending.{of_log, cut_leaves, ended, commit_stops, committed_on, queued_on, commit_refused}
 use Rattle.im_engine.proofs.Waits.{not_waiting}
 use Rattle.im_page_writer.specs.Outcome.{none_mild}
 use Rattle.im_base_steps.specs.declared.reply.Reply.TheVariants as replies
-use Rattle.im_engine.proofs.Telling.{alive_now, not_true, told_committed, told_queued, told_refused, log_lost, log_ends}
+use Rattle.im_engine.proofs.Telling.{alive_now, told_committed, told_queued, told_refused, log_lost, log_ends}
 use Rattle.im_engine.proofs.Causes.{append_cause, force_cause, commit_empty, commit_made, commit_append, commit_lost, logged, unlogged}
 use Rattle.im_base_disk.proofs.Costs.{forces_by, forces_none, most_as, most_none, most_then}
 use Rattle.im_engine.proofs.Costs.{commit_costs}
 use Rattle.im_theory_machine.specs.View.{pending_of}
 use Rattle.im_engine.specs.Aims.{under_of}
-use Rattle.im_engine.proofs.Checked.{commit_unowned}
-use Rattle.im_engine.proofs.Running.{none_if}
 use Rattle.im_engine.proofs.Paced.{paced_beside}
 use Rattle.im_engine.proofs.engine.Engine.commit.Goals as goal
+use Rattle.im_engine.proofs.Looked.{not_true}
 
 fits_so : (used : ℕ) → (16384 < used + 33 → ⊥) → used + 33 ≤ 16384
 fits_so used not_full = omega (arith, not_full)

@@ -12,10 +12,11 @@ use Rattle.im_engine.proofs.SteppedBackPaces.{ends_pace, ends_some, ends_want}
 use Rattle.im_engine_rollback.proofs.Ends.{full_may, turn_more}
 use Rattle.im_engine.proofs.SteppedCloses.{drop_ended, drop_kept, drop_more, drop_never}
 use Rattle.im_engine.proofs.SteppedTurns.{back_refused}
-use Rattle.im_engine.proofs.Telling.{not_true, told_answered, told_refused, told_rolled_back}
+use Rattle.im_engine.proofs.Telling.{told_answered, told_refused, told_rolled_back}
 use Rattle.im_engine.proofs.Turning.{continue_made, continue_mark, continue_refused, told_capacity, told_failed, turn_lost}
 use Rattle.im_engine.proofs.Waits.{not_waiting}
 use Rattle.im_engine.proofs.engine.Engine.end_drop.Goals as goal
+use Rattle.im_engine.proofs.Looked.{not_true}
 
 pub end-requires : goal.end-requires
 end-requires g c =

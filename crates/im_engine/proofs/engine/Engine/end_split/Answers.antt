@@ -11,10 +11,11 @@ use Rattle.im_engine.proofs.SteppedBacks.{continue_row, ends_checked, ends_free}
 use Rattle.im_engine.proofs.SteppedBackPaces.{ends_pace, ends_some, ends_want}
 use Rattle.im_engine.proofs.SteppedCloses.{split_ended, split_kept, split_more}
 use Rattle.im_engine.proofs.SteppedTurns.{back_refused}
-use Rattle.im_engine.proofs.Telling.{not_true, told_answered, told_refused, told_rolled_back}
+use Rattle.im_engine.proofs.Telling.{told_answered, told_refused, told_rolled_back}
 use Rattle.im_engine.proofs.Turning.{continue_made, continue_mark, continue_refused, told_capacity, told_failed, turn_lost}
 use Rattle.im_engine.proofs.Waits.{not_waiting}
 use Rattle.im_engine.proofs.engine.Engine.end_split.Goals as goal
+use Rattle.im_engine.proofs.Looked.{not_true}
 
 pub end-requires : goal.end-requires
 end-requires g c =

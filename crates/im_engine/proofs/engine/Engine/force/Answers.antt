@@ -8,10 +8,11 @@ use Rattle.im_engine.specs.Numbered.{Numbered, besides_rows}
 use Rattle.im_engine.proofs.Ending.{of_log, log_forced, force_refused}
 use Rattle.im_base_types.specs.Answers as answers
 use Rattle.im_base_steps.specs.declared.reply.Reply.TheVariants as replies
-use Rattle.im_engine.proofs.Telling.{not_true, told_forced, told_refused, ends_as}
+use Rattle.im_engine.proofs.Telling.{told_forced, told_refused, ends_as}
 use Rattle.im_engine.proofs.Causes.{behind, force_made, force_lost, force_cause}
 use Rattle.im_engine.proofs.Paced.{paced_beside}
 use Rattle.im_engine.proofs.engine.Engine.force.Goals as goal
+use Rattle.im_engine.proofs.Looked.{not_true}
 
 pub returns-in-Ok : goal.returns-in-Ok
 returns-in-Ok g c =

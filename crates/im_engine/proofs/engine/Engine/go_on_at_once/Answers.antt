@@ -6,11 +6,12 @@ use Rattle.im_base_steps.specs.declared.reply.Reply.TheVariants as replies
 use Rattle.im_engine.specs.Numbered.{Numbered, besides_rows}
 use Rattle.im_base_types.specs.declared.fault.Fault.TheVariants as faults
 use Rattle.im_engine.proofs.Causes.{refused_inj}
-use Rattle.im_engine.proofs.Telling.{not_true, told_answered, told_refused, told_rolled_back}
+use Rattle.im_engine.proofs.Telling.{told_answered, told_refused, told_rolled_back}
 use Rattle.im_engine.proofs.Running.{plain_under}
 use Rattle.im_engine.proofs.Turning.{alone_checked, continue_found, continue_made, continue_mark, continue_refused, has_ended, has_more, has_more_to_undo, lacks_way, stands_going, told_capacity, told_failed, turn_lost, turn_refused, lacks_room, told_memory}
 use Rattle.im_engine.proofs.Paced.{paced_alone}
 use Rattle.im_engine.proofs.engine.Engine.go_on_at_once.Goals as goal
+use Rattle.im_engine.proofs.Looked.{not_true}
 
 pub end-requires : goal.end-requires
 end-requires g c =

@@ -1,5 +1,4 @@
-use Rattle.std.proofs.Common.{rules, ◌≡◌, List, take, arith, subst, refl, ◌∙◌}
-use Rattle.std.proofs.lemmas.List.{take_all}
+use Rattle.std.proofs.Common.{rules, ◌≡◌, List, take, arith, subst, refl, ◌∙◌, take_all}
 use Rattle.im_base_two_logs.specs.Runs.{LeavesNamed}
 use Rattle.im_base_two_logs.proofs.Runs.{unnamed}
 use Rattle.im_base_disk.proofs.Runs.{started}

@@ -1,6 +1,6 @@
 use Rattle.std.proofs.Common.{◌≡◌, ◌⊎◌, inl, inr, false, refl, sym, ap, ◌∙◌, ◌+◌, length, arith, rules}
 use Rattle.im_engine.specs.Numbered.{Numbered, besides_rows}
-use Rattle.im_engine.proofs.Checked.{back_mark}
+use Rattle.im_engine.proofs.Checked.{back_mark, back_unowned}
 use Rattle.im_engine.proofs.Waits.{not_waiting}
 use Rattle.im_engine.proofs.Ending.{dropped, turned}
 use Rattle.std.proofs.lemmas.List.{length-map}
@@ -8,14 +8,14 @@ use Rattle.im_base_steps.specs.declared.reply.Reply.TheVariants as replies
 use Rattle.im_base_txn.specs.Rows.{changed, is_committing, with_mark}
 use Rattle.im_base_txn.specs.declared.transaction.Mark.{Mark}
 use Rattle.im_base_txn.specs.declared.transaction.Mark.TheVariants.{Going, MustRollBack, RollingBack}
-use Rattle.im_engine.proofs.Telling.{alive_now, not_true, told_answered, told_rolled_back}
+use Rattle.im_engine.proofs.Telling.{alive_now, told_answered, told_rolled_back}
 use Rattle.im_engine.proofs.Causes.{rollback_made}
 use Rattle.im_theory_machine.specs.View.{pending_of}
 use Rattle.im_engine.specs.Aims.{under_of}
-use Rattle.im_engine.proofs.Checked.{back_unowned}
 use Rattle.im_engine.proofs.Running.{none_if}
 use Rattle.im_engine.proofs.Paced.{paced_beside}
 use Rattle.im_engine.proofs.engine.Engine.roll_back.Goals as goal
+use Rattle.im_engine.proofs.Looked.{not_true}
 
 free_mark : (m : Mark) → (m ≡ Going) ⊎ (m ≡ MustRollBack) → is_committing m ≡ false
 free_mark m (inl e) = ap is_committing e

@@ -14,10 +14,11 @@ use Rattle.im_engine.proofs.SteppedBacks.{continue_row, other_checked, owns_othe
 use Rattle.im_engine.proofs.SteppedBackPaces.{answered_want, begins_pace, blocked, first_refused, lacks_numbers, needs_memory, needs_next, never_barred, some_told, stays_pace}
 use Rattle.im_engine.proofs.SteppedTold.{none_under, told_of}
 use Rattle.im_engine.proofs.SteppedTurns.{back_refused, kept_as, dropping, going_beside, halted, some_left, splitting, turned_ended, turned_more}
-use Rattle.im_engine.proofs.Telling.{not_true, told_answered, told_refused, told_rolled_back}
+use Rattle.im_engine.proofs.Telling.{told_answered, told_refused, told_rolled_back}
 use Rattle.im_engine.proofs.Turning.{continue_made, continue_mark, continue_refused, told_capacity, told_failed, told_memory, turn_lost}
 use Rattle.im_engine.proofs.Waits.{not_waiting}
 use Rattle.im_engine.proofs.engine.Engine.take_back.Goals as goal
+use Rattle.im_engine.proofs.Looked.{not_true}
 
 pub end-requires : goal.end-requires
 end-requires g c =

@@ -1,8 +1,8 @@
 use Rattle.std.proofs.Common.{◌<◌, length, sym, ap, subst, ◌∙◌}
 use Rattle.im_smo_log.specs.declared.change.Change.{Change}
-use Rattle.im_engine.proofs.Telling.{not_true}
 use Rattle.im_engine.proofs.SteppedParts.{all_made}
 use Rattle.im_engine.proofs.stepped.steps.next_part.Goals as goal
+use Rattle.im_engine.proofs.Looked.{not_true}
 
 pub returns-then-is_left : goal.returns-then-is_left
 returns-then-is_left c = record {

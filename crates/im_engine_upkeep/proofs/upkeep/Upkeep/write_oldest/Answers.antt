@@ -1,5 +1,4 @@
-use Rattle.std.proofs.Common.{◌≡◌, ◌+◌, ◌-◌, ◌^◌, ℕ, inl, min, max, refl, rules, sym, ◌∙◌}
-use Rattle.im_base_types.specs.declared.tables.DirtyPage.{DirtyPage}
+use Rattle.std.proofs.Common.{◌-◌, inl, refl, rules}
 use Rattle.im_engine_upkeep.specs.Rule as rule
 use Rattle.im_engine_upkeep.proofs.Keeping.{knows_more, page_refused, page_still, page_written, written_kept}
 use Rattle.im_engine_upkeep.proofs.upkeep.Upkeep.write_oldest.Goals as goal

@@ -1,4 +1,4 @@
-use Rattle.std.proofs.Common.{rules, ◌≡◌, ◌⊎◌, inl, inr, true, false, Err, Result, IfOk, ℕ, refl, sym, ap, subst, ◌∙◌}
+use Rattle.std.proofs.Common.{◌≡◌, ◌⊎◌, inl, inr, false, Result, IfOk, ℕ, refl, sym, ap, subst, ◌∙◌}
 use Rattle.im_base_types.specs.declared.fault.Fault.{Fault}
 use Rattle.im_base_types.specs.declared.fault.Fault.TheVariants.{Memory}
 use Rattle.std.specs.Prelude.{IfErr}
@@ -6,7 +6,7 @@ use Rattle.im_base_steps.specs.declared.step.Step.TheVariants as steps
 use Rattle.im_base_steps.specs.Calls.{told_by, is_blocked}
 use Rattle.im_base_steps.specs.Replies.{is_full, lacks_memory}
 use Rattle.im_front.specs.Traces.{trace_of}
-use Rattle.im_front.specs.Acknowledged.{IsForced, IsNotAcknowledged, IsNotForced, IsStepOf, IsAcknowledged}
+use Rattle.im_front.specs.Acknowledged.{IsForced, IsNotAcknowledged, IsAcknowledged}
 use Rattle.im_front.specs.Acknowledged.IsAcknowledged.{at_once, by_force}
 use Rattle.im_front.proofs.Acknowledging.{not_acknowledged_whole, refused_whole, map_err, held_whole, last_whole, map_ok}
 use Rattle.im_front.proofs.front.Front.commit.Goals as goal

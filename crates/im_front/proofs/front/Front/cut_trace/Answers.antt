@@ -1,4 +1,4 @@
-use Rattle.std.proofs.Common.{◌≡◌, sym, subst, ◌∙◌}
+use Rattle.std.proofs.Common.{sym, subst, ◌∙◌}
 use Rattle.im_front.specs.Held.{State}
 use Rattle.im_front.specs.Acknowledged.{point_in, IsHeld}
 use Rattle.im_front.proofs.Acknowledging.{both_ok, held_whole}

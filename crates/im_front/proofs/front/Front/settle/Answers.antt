@@ -1,6 +1,5 @@
-use Rattle.std.proofs.Common.{rules, ◌≡◌, ◌<◌, true, false, true≢false, Err, Result, IfOk, ℕ, refl, sym, ap, subst, ◌∙◌, arith}
+use Rattle.std.proofs.Common.{true≢false, ℕ, sym, ap, subst, ◌∙◌, arith}
 use mathlib.Core.Bool.{not}
-use Rattle.im_base_types.specs.declared.fault.Fault.{Fault}
 use Rattle.im_front.specs.Acknowledged.{IsForced, IsSettled}
 use Rattle.im_front.specs.Acknowledged.IsSettled.{none_waits, by_force}
 use Rattle.im_front.proofs.Acknowledging.{held_whole, map_ok}

@@ -1,11 +1,10 @@
-use Rattle.std.proofs.Common.{rules, ◌≡◌, ◌<◌, ◌⊎◌, inl, inr, true, false, Err, Result, IfOk, ℕ, refl, sym, ap, subst, ◌∙◌}
+use Rattle.std.proofs.Common.{◌<◌, inl, inr, Result, IfOk, refl, sym, ap, subst, ◌∙◌}
 use Rattle.im_base_types.specs.declared.fault.Fault.{Fault}
-use Rattle.im_base_types.specs.declared.fault.Fault.TheVariants.{Memory}
 use Rattle.std.specs.Prelude.{IfErr}
 use Rattle.im_base_steps.specs.declared.step.Step.TheVariants as steps
 use Rattle.im_base_steps.specs.Calls.{told_by}
 use Rattle.im_base_steps.specs.Replies.{is_full}
-use Rattle.im_front.specs.Acknowledged.{IsForced, IsNotForced, IsStepOf}
+use Rattle.im_front.specs.Acknowledged.{IsForced, IsNotForced}
 use Rattle.im_front.specs.Acknowledged.IsForced.{by_another, by_caller}
 use Rattle.im_front.proofs.Acknowledging.{not_forced, refused_plain, held_plain}
 use Rattle.im_front.proofs.open.Open.settle_all.Goals as goal

@@ -1,4 +1,4 @@
-use Rattle.std.proofs.Common.{of_calls, Result, Ok, subst}
+use Rattle.std.proofs.Common.{of_calls, Result, subst}
 use Rattle.im_front.specs.declared.stop.Stop.{Stop}
 use Rattle.im_front.specs.Writing.IsWritten.{committed, made_again}
 use Rattle.im_front.proofs.open.Open.write.Goals as goal

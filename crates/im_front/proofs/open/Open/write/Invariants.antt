@@ -1,4 +1,3 @@
-use Rattle.std.proofs.Common.{◌≡◌}
 use Rattle.im_front.specs.Writing.{IsWritten}
 use Rattle.im_front.proofs.open.Open.write.Given as goal
 

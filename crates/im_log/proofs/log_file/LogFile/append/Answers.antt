@@ -2,14 +2,13 @@ use Rattle.std.proofs.Common.{List, ℕ, [], ap, refl, sym, ◌∙◌, take, rul
 use Rattle.std.specs.Int.{w32, from_be_bytes}
 use Rattle.im_base_types.specs.declared.file_id.FileId.TheVariants.{Log}
 use Rattle.im_log_record.specs.Entry.{view}
-use Rattle.im_log_record.specs.Spelling.{spelling}
+use Rattle.im_log_record.specs.Spelling.{spelling, size_of}
 use Rattle.im_log.proofs.Spells.{whole}
 use Rattle.im_log.proofs.Runs.{unmoved, appended, batch_begun, no_more}
 use Rattle.im_base_disk.proofs.Costs.{forces_by, forces_none, most_none}
 use Rattle.im_base_types.specs.Outcomes.{none_own}
 use Rattle.im_base_types.proofs.Outcomes.{end_on}
 use Rattle.im_log.proofs.Outcomes.{end_broken, end_cause}
-use Rattle.im_log_record.specs.Spelling.{size_of}
 use Rattle.im_log.specs.Outcome.{LacksRoom}
 use Rattle.im_log.proofs.log_file.LogFile.append.Goals as goal
 

@@ -1,5 +1,4 @@
-use Rattle.std.proofs.Common.{rules, ◌≡◌, ◌≤◌, Ok, ℕ, ◌+◌, ◌∙◌, sym, ap, arith, length, take, drop}
-use Rattle.std.proofs.lemmas.List.{length-take-le}
+use Rattle.std.proofs.Common.{rules, ◌≡◌, ◌≤◌, Ok, ℕ, ◌+◌, ◌∙◌, sym, ap, arith, length, take, drop, length-take-le}
 use Rattle.im_base_disk.specs.Disk.{Files}
 use Rattle.im_base_disk.proofs.Runs.{reads_then}
 use Rattle.im_log_gate.proofs.Reading.{read_at, ends_here, next_in_front, moves_on}

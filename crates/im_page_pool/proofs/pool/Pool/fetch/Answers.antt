@@ -1,5 +1,4 @@
-use Rattle.std.proofs.Common.{ℕ, List, ◌∷◌, false, length, sym, ap, subst, ◌∙◌}
-use Rattle.std.proofs.lemmas.List.{length-set}
+use Rattle.std.proofs.Common.{ℕ, List, ◌∷◌, false, length, sym, ap, subst, ◌∙◌, length-set}
 use Rattle.im_page_pool.specs.Frames.{Stored, stored_at}
 use Rattle.im_page_places.specs.Places.{PlacesView}
 use Rattle.im_page_pool.specs.declared.frame.Frame.{Frame}

@@ -1,5 +1,4 @@
-use Rattle.std.proofs.Common.{◌≡◌, ◌≤◌, List, [], None, length, take, sym, ap, subst, ◌∙◌, arith}
-use Rattle.std.proofs.lemmas.List.{take_all}
+use Rattle.std.proofs.Common.{◌≡◌, ◌≤◌, List, [], None, length, take, sym, ap, subst, ◌∙◌, arith, take_all}
 use Rattle.im_base_types.specs.declared.tables.DirtyPage.{DirtyPage}
 use Rattle.im_log_record.specs.Spelling.{Rise}
 use Rattle.im_theory_log.specs.WriterSteps.{Lists}

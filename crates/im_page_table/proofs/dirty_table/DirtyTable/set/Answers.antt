@@ -1,5 +1,4 @@
-use Rattle.std.proofs.Common.{List, refl, sym, ap, subst, ◌∙◌, arith}
-use Rattle.std.proofs.lemmas.List.{length-set}
+use Rattle.std.proofs.Common.{List, refl, sym, ap, subst, ◌∙◌, arith, length-set}
 use Rattle.im_page_table.specs.declared.table_entry.TableEntry.{TableEntry}
 use Rattle.im_page_table.specs.DirtyTable.{TableView, IsFound}
 use Rattle.im_page_table.proofs.Tables.{apart_set, place_set}

@@ -11,7 +11,7 @@ use Rattle.im_page_table.specs.DirtyTable.{TableView}
 use Rattle.im_page_file.specs.LogEnds.{EndsNoSooner}
 use Rattle.im_page_pool.specs.Pool.{Held, held_of, page_at}
 use Rattle.im_page_writer.specs.declared.known.Known.{Known}
-use Rattle.im_page_writer.specs.Synced.{IsForeign, IsKnown, IsOwn}
+use Rattle.im_page_writer.specs.Synced.{IsForeign, IsKnown, IsUnderLog}
 use Rattle.im_page_writer.specs.Writing.{Goes, IsShown}
 use Rattle.im_page_writer.proofs.Flushing.{leaves_read}
 use Rattle.im_page_writer.proofs.Outcomes.{read_ends}
@@ -153,5 +153,5 @@ returns-else-is_own-clause-kept g c pages has =
     let done : IsWritten (s.pages p).entry = subst (λ (o : Option Held). IsShown o (s.pages p)) c.requires.absent (writing.pooled.shows p) in
     let own = own_page g.D.Disk has.b has.base s w.log c.args.disk.now writing.based writing.stands.kept writing.stands.ready writing.stands.log_is w.known p has.stands.known (has.asked p (omega arith)) done in
     let shown = got_page g.D.Disk has.b has.base s w.log w.table w.pool c.args.disk.now writing p has.asked c.get_absent.new.self (e.page writing.stands.log_is.tells) in
-    let here : IsOwn w.log w.known p (page_at c.get_absent.new.self p) = subst (λ (x : Page). IsOwn w.log w.known p x) (sym shown) own in
-    λ same. c.is_own.ensures.foreign c.if-is_own.false (subst (λ (n : ℕ). IsOwn w.log w.known n (page_at c.get_absent.new.self n)) (sym e.frame) here)
+    let here : IsUnderLog w.log w.known p (page_at c.get_absent.new.self p) = subst (λ (x : Page). IsUnderLog w.log w.known p x) (sym shown) own in
+    λ same. c.is_own.ensures.foreign c.if-is_own.false (subst (λ (n : ℕ). IsUnderLog w.log w.known n (page_at c.get_absent.new.self n)) (sym e.frame) here)

@@ -8,14 +8,15 @@ use Rattle.im_log.specs.Spelled.{logged_at}
 use Rattle.im_page_table.specs.KnownCopies.{redone_as}
 use Rattle.im_page_writer.specs.Synced.{IsKnown}
 use Rattle.im_page_writer.specs.declared.known.Known.{Known}
-use Rattle.im_page_writer.specs.Redoing.{TakesRecord}
+use Rattle.im_page_rounds.specs.OnePage.{PageTakes}
+use Rattle.im_page_rounds.proofs.OnePage.{applies_below as applies_is}
 use Rattle.im_page_writer.proofs.SyncedPages.{known_redone}
 use Rattle.im_page_writer.proofs.Goings.{leaves_so_far}
 use Rattle.im_page_table.proofs.Growing.{if_ok}
 use Rattle.im_page_writer.proofs.LoggedChanges.{err_on}
 use Rattle.im_page_writer.proofs.Outcomes.{flush_sound, leaves_of_end, none_mildly, redo_of, redo_own, redo_refused}
 use Rattle.im_page_writer.proofs.Redoing.{has_taker, not_no_store}
-use Rattle.im_page_writer.proofs.RedoneRecords.{applies_is, copy_still, on_of, redone_here, ready_still, taker_there, there_still}
+use Rattle.im_page_writer.proofs.RedoneRecords.{copy_still, on_of, redone_here, ready_still, taker_there, there_still}
 use Rattle.im_page_writer.proofs.page_writer.PageWriter.redo_with_room.Goals as goal
 
 pub returns-in_err-make_entry_room-clause-outcome : goal.returns-in_err-make_entry_room-clause-outcome
@@ -62,5 +63,5 @@ returns-clause-kept g c b base s newer older is over at there from ready below h
       stops = leaves_so_far g.D.Disk b base s c.args.disk.now t mid.log mid.table mid.pool disk room.on.goes;
       cause = λ takes. not_no_store c.redo_held.result _
           (has_taker _ (length mid.table.entries) mid.table.most (held_of mid.pool n) (taker_there r mid.pool n (t.pages n) number (room.on.goes.writing.pooled.shows n) (subst (λ (g : Page). g.lsn < c.args.lsn) (sym page_is) below_s)
-          (subst (λ (g : Page). applies r r.page g ≡ true → TakesRecord r.what g) (sym page_is) takes)) room.room (c.in_ok-make_entry_room.ensures.held.held n ∙ c.requires.held)) c.redo_held.ensures.refused;
+          (subst (λ (g : Page). applies r r.page g ≡ true → PageTakes r.what g) (sym page_is) takes)) room.room (c.in_ok-make_entry_room.ensures.held.held n ∙ c.requires.held)) c.redo_held.ensures.refused;
     }

@@ -1,6 +1,6 @@
 use Rattle.std.proofs.Common.{ap, []}
 use Rattle.im_base_types.specs.Pages.{Page}
-use Rattle.im_smo_pages.specs.Bodies.{leaf_body}
+use Rattle.im_theory_page.specs.Header.{leaf_body}
 use Rattle.im_smo_pages.proofs.Becoming.{becomes_this}
 use Rattle.im_smo_pages.proofs.images.Images.empty_root.Goals as goal
 

@@ -1,8 +1,7 @@
-use Rattle.std.proofs.Common.{sym, ◌∙◌, ap}
+use Rattle.std.proofs.Common.{sym, ◌∙◌, ap, take}
 use Rattle.std.specs.FinMap.{entries}
 use Rattle.im_base_types.specs.Maps.{IndexMap}
 use Rattle.im_tool_judge.specs.Judged.{made_in_turn}
-use Rattle.std.proofs.Common.{take}
 use Rattle.im_tool_judge.proofs.Entries.{made_more}
 use Rattle.im_tool_judge.proofs.sorted.Sorted.make_all.Goals as goal
 

@@ -1,10 +1,9 @@
 -- What the head of a record says of it.
-use Rattle.std.proofs.Common.{◌≡◌, ℕ, ◌≤◌, ◌==◌, ◌&&◌, Bool, true, false, List, [], ◌∷◌, length, slice_index, take, drop, Option, Some, None, refl, sym, ◌∙◌, ap, subst, arith, length-drop}
+use Rattle.std.proofs.Common.{◌≡◌, ℕ, ◌≤◌, ◌==◌, ◌&&◌, Bool, true, false, List, [], ◌∷◌, length, slice_index, take, drop, Option, Some, None, refl, sym, ◌∙◌, ap, subst, arith, length-drop, drop-drop, get_or-drop}
 use Rattle.std.specs.Prelude.{nat_le, if◌then◌else◌}
 use Rattle.std.specs.Int.{w32, from_be_bytes}
 use Rattle.std.proofs.lemmas.Bool.{eqb-true, leb-true, and_parts}
 use Rattle.std.proofs.lemmas.Option.{cond_some, same_Some}
-use Rattle.std.proofs.lemmas.List.{drop-drop, get_or-drop}
 use Rattle.im_log_record.specs.declared.kind.Kind.{Kind}
 use Rattle.im_log_record.specs.declared.kind.Kind.TheVariants as kinds
 use Rattle.im_log_record.specs.Entry.{Entry, page_of}

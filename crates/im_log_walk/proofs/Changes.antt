@@ -13,9 +13,9 @@ use Rattle.im_log.specs.Whats.{smo_of, undo_smo_of, page_behind, what_of}
 use Rattle.im_theory_log.specs.Copies.{copy_in}
 use Rattle.im_theory_log.specs.Histories.{History, IsRecordOf, changes_page}
 use Rattle.im_theory_left.specs.Left.{AreReadable}
-use Rattle.im_theory_walk.specs.Walks.{CurrentIsRead, HasNoCopy, IsChange, LeftIsRead, NamesChanges, PassesCopied, walked}
-use Rattle.im_theory_walk.proofs.Pieces.{passed}
-use Rattle.im_theory_walk.proofs.Positions.{begun, walks_all, walks_on, walks_within}
+use Rattle.im_log_walk.specs.Walks.{CurrentIsRead, HasNoCopy, IsPageChange, LeftIsRead, NamesChanges, PassesCopied, walked}
+use Rattle.im_log_walk.proofs.Pieces.{passed}
+use Rattle.im_log_walk.proofs.Positions.{begun, walks_all, walks_on, walks_within}
 
 -- ---- kinds
 
@@ -74,14 +74,14 @@ names_wider lsn page pages older log within names = record {
   none = names.none;
 }
   where
-    wider : (s : Logged) → IsChange s older → IsChange s log
+    wider : (s : Logged) → IsPageChange s older → IsPageChange s log
     wider s is = record { of = within s is.of; changes = is.changes }
 
 names_more : (lsn page pages : ℕ) (r : Logged) (older : History) → NamesChanges lsn page pages older → NamesChanges lsn page pages (r ∷ older)
 names_more lsn page pages r older names = names_wider lsn page pages older (r ∷ older) (λ s of. inr of) names
 
 module _ (lsn page pages : ℕ) (r : Logged) (older : History) (changes : changes_page r.what ≡ true) (some : 1 ≤ r.lsn) (names : NamesChanges lsn page pages older) where
-  change : IsChange r (r ∷ older)
+  change : IsPageChange r (r ∷ older)
   change = record { of = inl refl; changes = changes }
 
   names_this : (t : Bool) → NamesChanges r.lsn r.page (if t then r.page + 1 else pages) (r ∷ older)

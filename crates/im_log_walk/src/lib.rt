@@ -5,7 +5,7 @@
 //! no full copy there. Stands on `im_log`, for what bytes spell; it knows of no file and of no page.
 #![tactic(auto)]
 
-ghost use Rattle.im_theory_walk.specs.Walks.{CurrentIsRead, LeftIsRead};
+ghost use Rattle.im_log_walk.specs.Walks.{CurrentIsRead, LeftIsRead};
 
 /// A walk over a log that was left names its changes, in whatever pieces its bytes are read, however far. One that has come to the end of the current log has passed over each full copy.
 pub fn walks_say()

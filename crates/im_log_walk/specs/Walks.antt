@@ -28,21 +28,21 @@ pub record Begins (base : ℕ) (file : List ℕ) (l : LeftLog) : Type 0 where
 -- ---- over the log that was left
 
 -- a record of the log that changes its page
-pub record IsChange (s : Logged) (log : History) : Type 0 where
+pub record IsPageChange (s : Logged) (log : History) : Type 0 where
   pub of : IsRecordOf s log
   pub changes : changes_page s.what ≡ true
 
 -- One has this LSN, and is of this page.
 pub record HasNewest (lsn page : ℕ) (log : History) : Type 0 where
   pub newest : Logged
-  pub change : IsChange newest log
+  pub change : IsPageChange newest log
   pub at : newest.lsn ≡ lsn
   pub on : newest.page ≡ page
 
 -- One is of the page below this number.
 pub record HasGreatest (pages : ℕ) (log : History) : Type 0 where
   pub greatest : Logged
-  pub change : IsChange greatest log
+  pub change : IsPageChange greatest log
   pub some : 1 ≤ greatest.lsn
   pub last : greatest.page + 1 ≡ pages
 

@@ -1,9 +1,8 @@
 -- Where a walk stands in a file whose bytes spell a log, and which records lie before that.
-use Rattle.std.proofs.Common.{◌≡◌, ◌≢◌, ◌⊎◌, inl, inr, ℕ, zero, suc, ◌+◌, ◌-◌, ◌^◌, ◌<◌, ◌≤◌, ◌==◌, ◌||◌, if◌then◌else◌, Bool, true, false, not, List, [], ◌∷◌, length, get_or, slice_index, take, drop, Option, Some, None, refl, sym, ◌∙◌, ap, subst, arith, length-drop, length-take}
+use Rattle.std.proofs.Common.{◌≡◌, ◌≢◌, ◌⊎◌, inl, inr, ℕ, zero, suc, ◌+◌, ◌-◌, ◌^◌, ◌<◌, ◌≤◌, ◌==◌, ◌||◌, if◌then◌else◌, Bool, true, false, not, List, [], ◌∷◌, length, get_or, slice_index, take, drop, Option, Some, None, refl, sym, ◌∙◌, ap, subst, arith, length-drop, length-take, drop-drop, get_or-take, get_or-drop, take-take, length-take-le}
 use Rattle.std.specs.Prelude.{nat_lt}
 use Rattle.std.specs.Int.{w32, from_be_bytes}
 use Rattle.std.proofs.lemmas.Bool.{cases_Bool, cases_eq, cases_lt, cond-true, cond-false, eq-eqb, ne_eqb, le-ltb}
-use Rattle.std.proofs.lemmas.List.{drop-drop, get_or-take, get_or-drop, take-take, length-take-le}
 use Rattle.im_base_types.specs.Records.{Logged}
 use Rattle.im_base_guard.specs.declared.left_log.LeftLog.{LeftLog}
 use Rattle.im_base_guard.specs.LeftLog.{copied_step, leaves_batch, noted_step, number, over, says_nothing, step_of, sum}
@@ -18,9 +17,9 @@ use Rattle.im_log.specs.Kept.{HasLog}
 use Rattle.im_log.specs.Spelled.{batches_records, first_record, logged_at, record_size, records_from}
 use Rattle.im_log.proofs.Spells.{First, batch_none, batch_step, first, log_records, log_room, none, not_refused, step}
 use Rattle.im_theory_log.specs.Histories.{History, IsRecordOf}
-use Rattle.im_theory_walk.specs.Walks.{Begins, IsAtEnd, walked}
-use Rattle.im_theory_walk.proofs.Heads.{Heads, heads}
-use Rattle.im_theory_walk.proofs.Pieces.{at_gate, at_head, at_over, drop_taken, gate_by, gate_short, passed, record_by, take_in, take_none, walked_on}
+use Rattle.im_log_walk.specs.Walks.{Begins, IsAtEnd, walked}
+use Rattle.im_log_walk.proofs.Heads.{Heads, heads}
+use Rattle.im_log_walk.proofs.Pieces.{at_gate, at_head, at_over, drop_taken, gate_by, gate_short, passed, record_by, take_in, take_none, walked_on}
 
 -- ---- records that bytes spell
 
