@@ -206,7 +206,7 @@ class Life:
         if kind in ENDS and reply in (ENDS[kind], "more"):
             if reply == "more":
                 self.under = number, ENDS[kind], words
-            # a delete's record comes before its pages, that of an insert behind them
+            # a delete's record comes before its pages, that of an insert after them
             if kind == "delete" or reply != "more":
                 self.change(txn, words)
         elif kind == "continue" and number == self.under[0]:

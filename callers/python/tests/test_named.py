@@ -151,7 +151,7 @@ class Named(Case):
         texts = self.store.blob("b")
         with self.store.begin() as txn:
             texts.within(txn)[b"a"] = b"A" * 700
-        # a younger transaction holds what lies behind all parts: so one of the old parts is not taken out, when others were
+        # a younger transaction holds what lies after all parts: so one of the old parts is not taken out, when others were
         with self.store.begin(wait=False) as older, self.store.begin() as younger:
             younger.get(b"\x01bz")
             for change in (lambda: texts.within(older).put(b"a", b"B" * 3000), lambda: texts.within(older).delete(b"a")):
@@ -177,7 +177,7 @@ class Named(Case):
 
         def insert(key, rid):
             if key.startswith(b"\x01ba\0\0\0\3"):
-                younger.get(b"\x01bz")  # holds what lies behind the parts, so that they are neither put on nor taken out again
+                younger.get(b"\x01bz")  # holds what lies after the parts, so that they are neither put on nor taken out again
             return vahondrisa.Transaction.insert(older, key, rid)
 
         for ends in (lambda: older.commit(), lambda: older.__exit__(None, None, None)):
@@ -201,7 +201,7 @@ class Named(Case):
                 put = lambda value: texts.within(txn).put(b"a", value)
                 self.assertEqual(together(*(lambda it=it: put(it * 5000) for it in (b"A", b"B", b"C"))), [None] * 3)
                 self.assertIn(texts.within(txn)[b"a"][:1] * 5000, [texts.within(txn)[b"a"]])
-            # a commit beside a change comes before it, or behind it
+            # a commit beside a change comes before it, or after it
             txn = self.store.begin()
             raised = together(lambda: put(b"D" * 9000), lambda: txn.commit())
             self.assertTrue(raised[0] is None or str(raised[0]) == "the transaction has ended", raised)
@@ -214,7 +214,7 @@ class Named(Case):
         with self.store.begin() as txn:
             texts.within(txn)[b"a"] = b"one" * 1000
             parts = [key for key, _ in txn.prefix(b"\5texts")]
-            for part in (0, 3, -2):  # (behind the last one is the guard)
+            for part in (0, 3, -2):  # (after the last one is the guard)
                 rid = txn.pop(parts[part])
                 self.assertRaisesRegex(ValueError, "^the parts of a long value do not agree$", texts.within(txn).get, b"a")
                 moved = parts[part][:8] + b"\1" + parts[part][9:]  # as a later part

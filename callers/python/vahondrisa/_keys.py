@@ -230,7 +230,7 @@ class Range:
     """
 
     _edge: Optional[bytes] = None  # the key that was read last, which is not given again
-    _is_done = False  # nothing is left behind what was read
+    _is_done = False  # nothing is left after what was read
     _read: Iterator[Entry] = iter(())
 
     def __init__(self, keys: Keys, lo: bytes, hi: bytes, batch: int, reverse: bool) -> None:

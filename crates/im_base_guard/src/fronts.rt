@@ -125,7 +125,7 @@ fn has_open_gate(front: &Front, other: &Front) -> bool
 
 /// The log may have been made, and be the newer one, though its first byte does not say so: it has a whole header of a later generation than the other log and of a
 /// greater base, its first gate is open, and the record after it is of a transaction that the header allows, which is not older than the other log. A first byte that
-/// was damaged leaves that. So does a stop, though hardly ever: where the file had a log without a record, behind whose gate a cut put left such bytes, and the header
+/// was damaged leaves that. So does a stop, though hardly ever: where the file had a log without a record, after whose gate a cut put left such bytes, and the header
 /// of the next log was cut to such a one with an open gate. Nothing in the files tells the two apart, so no opening is refused for it.
 pub fn may_lack_first_byte(front: &Front, other: &Front) -> bool
     ensures { (result ≡ true) ↔ LacksFirstByte front.now other.now }

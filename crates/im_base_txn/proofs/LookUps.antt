@@ -198,7 +198,7 @@ below_part next p (r ∷ rs) h = go (p r) (below_part next p rs h.1)
 pub numbers_stay_below : NumbersStayBelow
 numbers_stay_below = record { begins = below_begun; changes = below_changed; ends = below_left; forces = λ next rows below. below_part next (λ row. not (is_waiting row)) rows below }
 
--- ---- the invariant of the table, behind each change of its rows
+-- ---- the invariant of the table, after each change of its rows
 
 abbrev pub IsTable : List Transaction → Type 0
 IsTable rows = (length rows ≤ 64) × AreRising rows

@@ -57,7 +57,7 @@ opposite false = refl
 pub waiting_counts : (rows : List Transaction) → length (without_waiting rows) + waiting_in rows ≡ length rows
 waiting_counts rows = length-filter_both (λ row. not (is_waiting row)) is_waiting (λ row. opposite (is_waiting row)) rows
 
--- ---- how many wait behind each change of the rows
+-- ---- how many wait after each change of the rows
 
 abbrev pub one_if : Bool → ℕ
 one_if true = 1

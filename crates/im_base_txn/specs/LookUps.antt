@@ -1,4 +1,4 @@
--- What is found in a table behind each of its changes.
+-- What is found in a table after each of its changes.
 use Rattle.std.specs.Prelude.{◌≡◌, ◌≢◌, ℕ, suc, ◌+◌, List, [], ◌∷◌, ◌++◌, length, map, not, None, Some}
 use Rattle.std.specs.List.{filter, find}
 use Rattle.im_base_txn.specs.declared.transaction.Transaction.{Transaction}

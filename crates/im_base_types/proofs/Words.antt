@@ -14,7 +14,7 @@ use Rattle.std.proofs.lemmas.List.{take-append-drop, length-take, length-take-le
 abbrev pub IsBytes : List ℕ → Type 0
 IsBytes bytes = (i : ℕ) → get_or bytes i 0 < 256
 
--- the number of the bytes behind those of n
+-- the number of the bytes after those of n
 abbrev number : ℕ → List ℕ → ℕ
 number n [] = n
 number n (b ∷ bs) = number (n * 256 + b) bs
@@ -46,7 +46,7 @@ is_greater x y Less h l = let e : x < y = h in absurd (omega arith)
 is_greater x y Equal h l = let e : x ≡ y = h in absurd (omega arith)
 is_greater x y Greater h l = refl
 
--- equal lengths: the numbers lie as the lists do, whatever stands behind them
+-- equal lengths: the numbers lie as the lists do, whatever stands after them
 lies : (n : ℕ) (us vs xs ys : List ℕ) → length us ≡ length vs → IsBytes us → IsBytes vs
     → Decides (number n us) (number n vs) (slice_cmp nat_cmp (us ++ xs) (vs ++ ys)) (slice_cmp nat_cmp xs ys)
 lies n [] [] xs ys e h k = record { same = λ _. refl; apart = λ differ. absurd (differ refl) }

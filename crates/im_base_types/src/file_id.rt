@@ -3,7 +3,7 @@
 /// A file of a store.
 #[derive(Clone, Copy, Debug, PartialEq, Eq)]
 pub enum FileId {
-    /// The records, in batches behind gates.
+    /// The records, in batches after gates.
     Log,
     /// The pages, in place.
     Pages,

@@ -29,7 +29,7 @@ impl<D: TwoLogs + Drop> Opened<D> {
     /// this one may have to redo, and `out_len` bytes that it may have to read, or with the greatest number the usual bounds, which grow with the file of pages;
     /// with 1 as `word` a Commit waits for a Force. The log's buffer is of the size that programs take.
     ///
-    /// Refused, with no device call, `Capacity` where more pages are asked for than have numbers, and behind that `PoolSize` where the frames more are above
+    /// Refused, with no device call, `Capacity` where more pages are asked for than have numbers, and after that `PoolSize` where the frames more are above
     /// 261,120; and else as `OpenStore::open_alone` is with one worker: a library that is called from C can start no threads.
     pub fn open(alloc: Global, disk: D, call: &mut Call) -> Option<Opened<D>>
         requires working { D.failed disk ≡ false }

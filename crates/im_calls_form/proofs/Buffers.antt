@@ -6,7 +6,7 @@ use Rattle.std.proofs.lemmas.List.{length-append, take_all, take-append-le, appe
 use Rattle.std.proofs.Math.Seq.{take-append-add}
 use Rattle.im_calls_form.specs.Calls.{BeginsWith}
 
--- a front, and a front of what comes behind it, where the first is whole or the second empty
+-- a front, and a front of what comes after it, where the first is whole or the second empty
 joined : (before bytes : List ℕ) (at count : ℕ) → (at ≡ length before) ⊎ ((at ≤ length before) × (count ≡ 0))
     → take at before ++ take count bytes ≡ take (at + count) (before ++ bytes)
 joined before bytes at count = ⊎_elim

@@ -97,7 +97,7 @@ module _ {D : Type 0} (d : Ghosts D) (before : List Effect) (s : Shown) (v : Vie
   pub counted : (e : Engine D d) → IsLife d before s v e → e.failed ≡ false → IsStoreLife d before s v e
   counted e life works = record { life = life; active = sym (life.running works).1.serving.table.active }
 
-  -- behind a step
+  -- after a step
   pub still_counted : (step : steps.Step) (reply : Reply) (old new : Engine D d) → IsStep d step reply old new → IsStoreLife d before s v old → (made : StepKept d before s v (asked_by step) (told_by reply) old new) → length new.txns.rows ≡ made.next.active
   still_counted step reply old new one was made = elim (cases_Bool new.failed) [
     | inl broke ↦
@@ -116,7 +116,7 @@ module _ {D : Type 0} (d : Ghosts D) (before : List Effect) (s : Shown) (v : Vie
       subst_moves : (fault : Fault) × (reply ≡ replies.Refused fault) → made.next.active ≡ v.active
       subst_moves why = refused_active v made.next (asked_by step) (number_of why.0) (subst (λ (r : Reply). Moves v (asked_by step) (told_by r) made.next) why.1 made.moves)
 
-  -- behind a look
+  -- after a look
   module _ (old new : Engine D d) {why : Option Fault} (looks : Looks d why old new) (was : IsStoreLife d before s v old) where
     rows_are : length new.txns.rows ≡ v.active
     rows_are = ap (λ (x : Numbered). length x.rows) (looks_txns d why old new looks) ∙ was.active

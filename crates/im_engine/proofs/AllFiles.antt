@@ -24,7 +24,7 @@ module _ {D : Type 0} (d : Ghosts D) where
       → ((c : Files) → d.may_leave mid c → d.may_leave old c) → LeavesOnly d old mid (d.may_leave old)
   sync_stops only_now old mid time fewer = goes_on d old old mid (d.may_leave old) (d.may_leave mid) (started d old (d.may_leave old) (λ told c left. only_now old c left)) time (λ told c left. fewer c left)
 
-  -- and another behind it
+  -- and another after it
   pub syncs_stop : (old mid new : D) → LeavesOnly d old mid (d.may_leave old) → Elapses (d.moment mid) (d.moment new) (d.left_since mid) (d.left_since new) (d.may_leave new) → ((c : Files) → d.may_leave new c → d.may_leave mid c)
       → ((c : Files) → d.may_leave mid c → d.may_leave old c) → LeavesOnly d old new (d.may_leave old)
   syncs_stop old mid new first time fewer earlier = goes_on d old mid new (d.may_leave old) (d.may_leave new) first time (λ told c left. earlier c (fewer c left))

@@ -121,7 +121,7 @@ all_of l c =
 
 -- ---- an access that a later step ends
 
--- what goes on behind a trace
+-- what goes on after a trace
 abbrev pend_all : (ℕ → Option Access) → List (Step × Reply) → ℕ → Option Access
 pend_all pend [] = pend
 pend_all pend (e ∷ es) = pend_all (λ s. pending_after s (pend s) e.0 e.1) es
@@ -239,7 +239,7 @@ module _ (v w : View) (t : ℕ) (a : Access) (reply : Reply) (is : is_answer rep
     ended_by (breaks fault ls broke told next) = no_answer reply (Refused fault) told refl is
 
 module _ (before : List Effect) (s : Shown) (v w : View) (lived : IsLived (apply_all empty before) s v) (works : v.failed ≡ false) where
-  -- on the map behind a force, with its own net
+  -- on the map after a force, with its own net
   on_net : (t : ℕ) (a : Access) (reply : Reply) → Moves v (Do t a) reply w → is_answer reply ≡ true → IsGranted v w t → reply ≡ answer a (apply (forced_by v).committed ((v.txns t).net))
   on_net t a reply moves is granted =
       let base = apply_all empty before in
@@ -266,7 +266,7 @@ module _ (before : List Effect) (s : Shown) (v w : View) (lived : IsLived (apply
       ap (λ (x : Txn). apply (forced_by v).committed x.net) (sym idle_is) ∙ story ∙ ap (λ (l : List (Access × Reply)). map_after_all (forced_by v).committed (map (λ f. f.0) l)) (nothing_more t r.trace) in
       last_reply (forced_by v).committed (finished t r.trace) a reply here ∙ ap (answer a) (sym story_is)
 
-  -- behind a force all that was asked is committed
+  -- after a force all that was asked is committed
   committed_is : (forced_by v).committed ≡ apply_all empty (before ++ effects s.asked)
   committed_is =
       let base = apply_all empty before in

@@ -1,4 +1,4 @@
--- A store behind a restart: how its log goes on in the other file, and the engine that it makes.
+-- A store after a restart: how its log goes on in the other file, and the engine that it makes.
 use Rattle.std.proofs.Common.{◌≡◌, ◌⊎◌, inl, inr, ℕ, ◌<◌, ◌≤◌, ◌^◌, List, [], ◌++◌, append-nil, Option, false, nat_le, refl, sym, ◌∙◌, ap, subst, arith, None}
 use Rattle.std.specs.FinMap.{empty}
 use Rattle.std.proofs.lemmas.Bool.{and_right}
@@ -66,7 +66,7 @@ module _ {D : Type 0} (d : Ghosts D) (before : List Effect) where
     running = λ _. (b, r);
   }
 
-  -- behind a restart all is undone
+  -- after a restart all is undone
   pub rest_restarted : (old : D) (l : StandsFor before (d.seen old)) (lowest : ℕ) (r : Restarted) (new : D) → IsRestarted d l.b l.base l.log r new → IsNextNumber lowest r.next l.log → IsAtRest d before r.next r.writer new
   rest_restarted old l lowest r new is number =
       let left = leaves_logs l.log is.now.log is.grown in
@@ -147,7 +147,7 @@ module _ {D : Type 0} (d : Ghosts D) (before : List Effect) where
     switch_left new leaves = named_weakened d disk new (LeftSwitching x.b x.base x.now) (Allowed before nothing_shown) leaves
         (λ told c left. by_names (Allowed before nothing_shown) (allowed_nameless before nothing_shown) left.swapped c (left_either left.high left.grows left.place left.end (named left.swapped c) left.covered))
 
-    -- behind it the store is at rest with the next log
+    -- after it the store is at rest with the next log
     pub rest_switched : (v : PageWriter) (new : D) → Switched d x.b x.base x.now next v new → IsAtRest d before next v new
     rest_switched v new done =
         let longer = done.now.log in

@@ -117,7 +117,7 @@ abbrev pub Answers : {D : Type 0} (d : Ghosts D) → Engine D d → LogFile → 
 Answers d old log disk step reply = (fault : Fault) → (reply ≡ Refused fault) ↔ Checked (check_of d step old) fault (Refuses d reply old log disk fault step)
 
 module _ {D : Type 0} (d : Ghosts D) (old : Engine D d) (log : LogFile) (disk : D) (works : old.failed ≡ false) where
-  -- behind the checks
+  -- after the checks
   pub behind : (step : answers.Step) (reply : Reply) → checked_by old.txns.rows (owns_in (under_of old.under) step) step ≡ None → ((fault : Fault) → (reply ≡ Refused fault) ↔ Refuses d reply old log disk fault step) → Answers d old log disk step reply
   behind step reply checked h fault =
       let is : check_of d step old ≡ None = ap (λ (b : Bool). first_check b (length old.txns.rows) (mark_for (marks_in old.txns.rows) step) (owns_in (under_of old.under) step) step) works ∙ checked in
@@ -198,7 +198,7 @@ module _ {D : Type 0} (d : Ghosts D) (old : Engine D d) (log : LogFile) (disk : 
     pub commit_full : (told : Fault) → told ≡ faults.LogFull → 2 ^ 62 < end_with old.writer.log 33 → Answers d old log disk (answers.Commit t) (Refused told)
     commit_full told is over = behind d old log disk works (answers.Commit t) (Refused told) checked (λ fault. here (logged some) (here over (named told fault faults.LogFull is)))
 
-    -- one behind which the disk has failed
+    -- one after which the disk has failed
     pub commit_lost : (told : Fault) → told ≡ faults.Device → (2 ^ 62 < end_with old.writer.log 33 → ⊥) → d.failed disk ≡ true → Answers d old log disk (answers.Commit t) (Refused told)
     commit_lost told is fits broken = behind d old log disk works (answers.Commit t) (Refused told) checked (λ fault. here (logged some) (past fits (here broken (named told fault faults.Device is))))
 

@@ -1,4 +1,4 @@
--- What a Commit costs, by what its record and the force behind it cost.
+-- What a Commit costs, by what its record and the force after it cost.
 use Rattle.std.proofs.Common.{◌≡◌, ◌≤◌, ◌+◌, ℕ, subst}
 use Rattle.im_base_disk.specs.declared.disk.Disk.{Ghosts}
 use Rattle.im_base_disk.specs.Runs.{Costs, CostsAtMost, Forces}

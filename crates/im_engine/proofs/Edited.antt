@@ -1,4 +1,4 @@
--- Steps that change a key: what their calls below ask, what a stop within them leaves, and the engine behind them.
+-- Steps that change a key: what their calls below ask, what a stop within them leaves, and the engine after them.
 use Rattle.std.proofs.Common.{◌≡◌, ◌≢◌, inl, inr, ℕ, ◌≤◌, ◌<◌, ◌^◌, List, [], ◌∷◌, Bool, true, false, cond, is_some, Option, Some, None, map, refl, sym, ap, subst, ◌∙◌, arith}
 use Rattle.std.specs.Prelude.{find, if◌then◌else◌, ◌==◌}
 use Rattle.im_base_types.specs.Answers as answers
@@ -184,7 +184,7 @@ module _ {D : Type 0} (d : Ghosts D) {b : Base} (before : List Effect) (s : Show
         forward = (on.1 t).rolling ∙ way.forward;
       }
 
-  -- ---- the engine behind a change
+  -- ---- the engine after a change
 
   module _ (a : Access) (new : Engine D d) (now : Writer) (e last undo_next : ℕ) (is : IsUnfinished d b r.base now e t last undo_next new.writer new.disk) (durable : IsFront r.now.durable now.durable) (grows : GrowsWithin t r.now.log now.log)
       (rows : List Transaction) (table : new.txns ≡ record old.txns { rows = rows }) (w : View) (served : IsServed b r.earlier before s v (Do t a) (answer a v.walk) w now.log rows old.txns.next new.locks) (goes_on : w.under ≡ v.under) (plain : old.under ≡ None) (stays : new.under ≡ old.under) where

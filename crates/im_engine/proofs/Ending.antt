@@ -281,7 +281,7 @@ module _ {D : Type 0} (d : Ghosts D) (before : List Effect) (s : Shown) (v : Vie
         then_on d old.disk mid last (Allowed before (shows s (Commit t) None)) (IsCovered run.0 r.base logged.durable longer) (cut_leaves d before s t old.disk mid (covered_stops d before s v old r mid first)) second
         (λ told c is. covered_allowed run.0 r.base r.earlier before (shows s (Commit t) None) logged.durable longer r.start r.counted r.serving.made lawful_on asked_on c is)
 
-    -- behind them, where nobody waits
+    -- after them, where nobody waits
     pub committed_on : AreRising old.txns.rows → waiting_in old.txns.rows ≡ 0 → GoesOn d run.0 run.1.base with_commit mid (forced with_commit) new.writer new.disk → LeavesOnly d old.disk new.disk (Allowed before (shows s (Commit t) None))
         → IsReleased old.locks t new.locks → length old.txns.rows ≡ length (without t old.txns.rows) + 1 → new.txns ≡ record old.txns { rows = without t old.txns.rows } → new.failed ≡ false → new.under ≡ old.under → StepKept d before s v (Commit t) Committed old new
     committed_on rising alone on stops released once table works_on stays =
@@ -310,7 +310,7 @@ module _ {D : Type 0} (d : Ghosts D) (before : List Effect) (s : Shown) (v : Vie
         step_made d before s v (Commit t) Committed old new w law.served.0 running works_on stops tt r
         (with_records lsn (subst (λ (n : ℕ). 1 ≤ n) last_is some) (ap (λ (n : ℕ). commit_record t n lsn ∷ r.now.log) last_is))
 
-    -- behind the record alone: it waits
+    -- after the record alone: it waits
     pub queued_on : new.writer ≡ x → new.disk ≡ mid → LeavesCovered d run.0 run.1.base run.1.now.durable run.1.now.log old.disk new.disk → new.locks ≡ old.locks → new.txns ≡ record old.txns { rows = map (changed t (with_mark Committing)) old.txns.rows; waiting = old.txns.waiting + 1 } → new.failed ≡ false → new.under ≡ old.under
         → StepKept d before s v (Commit t) More old new
     queued_on writer disk run_stops locks table works_on stays =
@@ -373,7 +373,7 @@ module _ {D : Type 0} (d : Ghosts D) (before : List Effect) (s : Shown) (v : Vie
       breaks_with d before s v Begin (λ u e. cc e) (checks_tell d before s v old run.1 Begin ∙ checked) old new life works counts_now 6 (inl refl) fails
       (subst (λ (x : D). LeavesOnly d old.disk x (Allowed before s)) (sym disk) (idle_stops d before s v old run.1 only_now))
 
-  -- a page was written, behind Images
+  -- a page was written, after Images
   pub flushed : (p : ℕ) → Flushes d old.writer old.disk new.writer new.disk None → FlushedOne d run.0 run.1.base run.1.now p old.disk new.writer new.disk → new.txns ≡ old.txns → new.locks ≡ old.locks → new.failed ≡ false → new.under ≡ old.under
       → StepKept d before s v (FlushPage p) Done old new
   unfolding runs_on

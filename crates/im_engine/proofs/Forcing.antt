@@ -1,4 +1,4 @@
--- A Checkpoint: its record joins the log behind a sync of the file of pages, before which pages may have been written, and every record is durable.
+-- A Checkpoint: its record joins the log after a sync of the file of pages, before which pages may have been written, and every record is durable.
 use Rattle.std.proofs.Common.{◌≡◌, inl, inr, ℕ, ◌≤◌, ◌<◌, ◌^◌, List, ◌∷◌, true, false, Option, Some, None, Result, Ok, Err, refl, sym, ap, subst, ◌∙◌, arith}
 use Rattle.std.specs.Prelude.{◌⊎◌}
 use Rattle.im_base_types.specs.Answers.{Checkpoint, Done, Refused}
@@ -44,7 +44,7 @@ use Rattle.im_engine.proofs.Made.{step_made}
 use Rattle.im_engine.proofs.Refused.{breaks_with}
 use Rattle.im_engine.proofs.Ending.{IsOfLog}
 
--- the list says the same of the pages behind its record, of which no copy counts as known
+-- the list says the same of the pages after its record, of which no copy counts as known
 lists_on : (lsn : ℕ) (pages : ℕ → PageState) (dirty : List DirtyPage) → Lists pages dirty → Lists (λ (q : ℕ). passed lsn (forgotten_page (pages q))) dirty
 lists_on lsn pages dirty lists = record {
   all = λ p e is. of p (pages p).entry refl e is;
@@ -99,7 +99,7 @@ module _ {D : Type 0} (d : Ghosts D) (before : List Effect) (s : Shown) (v : Vie
         let law = left_log high is in
         weakened d old.disk new.disk (IsCovered run.0 r.base r.now.durable high) (Allowed before s) leaves (λ told c is. left_on d before s v old r high law.0 law.1 c is)
 
-  -- it was taken, behind such writes as left the writer so
+  -- it was taken, after such writes as left the writer so
   checkpointed : (mid : Writer) → Keeps run.0 run.1.now mid → (FitsRecord old.writer.table → mid.log ≡ run.1.now.log) → (lsn : ℕ) → Checkpointed d run.0 run.1.base mid old.txns.next (listed old.txns.rows) dirty lsn new.writer new.disk
       → LeavesOnly d old.disk new.disk (Allowed before s) → new.txns ≡ old.txns → new.locks ≡ old.locks → new.failed ≡ false → new.under ≡ old.under → StepKept d before s v Checkpoint Done old new
   checkpointed mid keeps alone lsn taken leaves table locks works_on stays =

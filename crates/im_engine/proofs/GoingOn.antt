@@ -1,4 +1,4 @@
--- The structure change under way stands behind what others log.
+-- The structure change under way stands after what others log.
 use Rattle.std.proofs.Common.{◌≡◌, ◌≢◌, ◌≤◌, ℕ, zero, suc, true, false, List, [], ◌∷◌, ◌++◌, Option, None, Some, refl, sym, ap, subst, ◌∙◌, arith, eq-eqb}
 use Rattle.std.specs.Prelude.{if◌then◌else◌}
 use Rattle.im_base_types.specs.Pages.{Page, Body}
@@ -32,7 +32,7 @@ module _ (b : Base) where
   aims_go t undo_next images done prev more older goes law all on TakesBack is = others_leave_splits_back b t undo_next images done prev more older goes law all is
   aims_go t undo_next images done prev more older goes law all on TookBack is = tt
 
-  -- behind records of others on no page of it
+  -- after records of others on no page of it
   pub others_go : (u : Under) (more older : History) → IsGoing b u older → IsLawful b page_tree (more ++ older) → AreBeside u.begun.change.transaction u.begun.change.images more → IsGoing b u (more ++ older)
   others_go u more older is law all =
       let c = u.begun.change in
@@ -62,14 +62,14 @@ module _ (b : Base) where
     images_beside t owned images more older all.1,
   )
 
-  -- behind Images
+  -- after Images
   pub images_go : (under : Option Under) (older longer : History) → GrowsByImages b older longer → IsLawful b page_tree longer → open_smo longer ≡ open_smo older → IsChanging b under older → IsChanging b under longer
   images_go None older longer grows law opened is = opened ∙ is
   images_go (Some u) older longer grows law opened is =
       subst (λ (l : History). IsGoing b u l) (sym grows.is)
       (others_go u grows.images older is (subst (λ (l : History). IsLawful b page_tree l) grows.is law) (images_beside u.begun.change.transaction u.begun.change.owned u.begun.change.images grows.images older grows.all))
 
-  -- behind one record that changes no page, of another than its owner or of nobody
+  -- after one record that changes no page, of another than its owner or of nobody
   pub record_goes : (under : Option Under) (r : Logged) (older : History) → IsLawful b page_tree (r ∷ older) → open_smo (r ∷ older) ≡ open_smo older → ((u : Under) → under ≡ Some u → r.txn ≢ u.begun.change.transaction) → is_structural r.what ≡ false → changes_page r.what ≡ false
       → IsChanging b under older → IsChanging b under (r ∷ older)
   record_goes None r older law opened other plain none is = opened ∙ is

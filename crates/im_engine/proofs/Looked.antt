@@ -203,7 +203,7 @@ module _ {D : Type 0} (d : Ghosts D) (before : List Effect) (s : Shown) (v : Vie
     abbrev run : (b : Base) × IsRunning d b before s v old
     run = life.running works
 
-    -- behind calls that added no more than Images
+    -- after calls that added no more than Images
     pub still_runs : Evicted d run.0 run.1.base run.1.now old.disk new.writer new.disk → new.txns ≡ old.txns → new.locks ≡ old.locks → new.under ≡ old.under → IsRunning d run.0 before s v new
     still_runs is table locks stays =
         let b = run.0 in

@@ -38,7 +38,7 @@ module _ {D : Type 0} (d : Ghosts D) (before : List Effect) where
   leaves_as s t old new same run = weakened d old new (Allowed before s) (Allowed before t) run (λ told c h. allowed_as before s t c same h)
 
   module _ (s : Shown) (v : View) (step : Step) (reply : Reply) (old new : Engine D d) where
-    -- a step behind which the engine works
+    -- a step after which the engine works
     pub step_made : {b : Base} (w : View) → Moves v step reply w → (running : IsRunning d b before (shows s step (Some reply)) w new) → new.failed ≡ false → LeavesOnly d old.disk new.disk (Allowed before (shows s step None))
         → IsDone d before (shows s step (Some reply)) w step reply new → (was : IsRunning d b before s v old) → GrowsAs b (FitsRecord old.writer.table) (under_of old.under) (under_of new.under) reply step was.now.log running.now.log → StepKept d before s v step reply old new
     step_made {b = b} w moves running works stops done was grows = record {
@@ -55,7 +55,7 @@ module _ {D : Type 0} (d : Ghosts D) (before : List Effect) where
       grown = λ _. inl (record { b = b; was = was; now = running; grows = grows });
     }
 
-  -- a step behind calls that added no more than Images, which asks no effect
+  -- a step after calls that added no more than Images, which asks no effect
   module _ {b : Base} (s : Shown) (v w : View) (step : Step) (reply : Reply) (old new : Engine D d) (r : IsRunning d b before s v old) (txns : Numbered) (goes_on : w.under ≡ v.under) where
     pub grown_made : Evicted d b r.base r.now old.disk new.writer new.disk
         → ((longer : History) → Stays b r.now.log longer → IsOfAll r.now.log longer → IsServed b r.earlier before s v step reply w longer txns.rows txns.next new.locks)

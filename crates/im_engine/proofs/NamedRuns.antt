@@ -40,7 +40,7 @@ module _ {D : Type 0} (d : Ghosts D) where
         by t c true left = inr left
         by t c false left = inl left
 
-    -- and reads behind it
+    -- and reads after it
     pub names_then : (new : D) → Reads d mid new → ReadsNamed d old new
     names_then new more = record {
       swapped = reads.swapped;

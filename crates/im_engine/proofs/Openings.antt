@@ -87,7 +87,7 @@ module _ {D : Type 0} (d : Ghosts D) (before : List Effect) (old : D) (l : Stand
     pages_same = ap (λ (f : Files). f Pages) reads.seen ∙ same_pages reads.swapped (d.seen old)
 
     module _ (r : Restarted) (new : D) (is : IsOpened d l.b l.base l.log mid r new) where
-      -- the store behind it
+      -- the store after it
       pub opened_rest : IsAtRest d before r.next r.writer new
       opened_rest = rest_restarted d before old l (least_number (d.seen mid Log)) r new is.restarted is.next
 

@@ -1,4 +1,4 @@
--- What is known of an engine that works, of its tree, of stops within calls that log nothing of their own, and of the engine behind them.
+-- What is known of an engine that works, of its tree, of stops within calls that log nothing of their own, and of the engine after them.
 use Rattle.std.proofs.Common.{◌≡◌, ◌≢◌, ◌⊎◌, inl, inr, ℕ, ◌≤◌, ◌^◌, List, [], false, is_some, Option, None, Some, refl, sym, ap, subst, ◌∙◌}
 use Rattle.std.proofs.Math.Path.{fun_ext}
 use Rattle.std.specs.Prelude.{find}

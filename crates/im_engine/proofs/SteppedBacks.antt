@@ -121,7 +121,7 @@ turn_changing b (Some u) beside t p older longer grows is clear planned other sa
     (others_go b u grows.more older changing (subst (λ (l : History). IsLawful b page_tree l) grows.is law)
     (turn_beside t u.begun.change.transaction p u.begun.change.images grows.more grows.all planned (not_owner u t other) (owner_some u) (none_of u.begun.change.images p (ap (λ (ps : List ℕ). list_any (λ (q : ℕ). q == p) ps) (sym is.pages) ∙ clear))))
 
--- and so does the End behind it
+-- and so does the End after it
 pub end_changing : (b : Base) (under : Option Under) (t lsn last : ℕ) (older : History) → owner_of (under_of under) ≢ Some t → IsLawful b page_tree (logged_at lsn (entries.End t last) ∷ older) → IsChanging b under older → IsChanging b under (logged_at lsn (entries.End t last) ∷ older)
 end_changing b None t lsn last older other law changing = changing
 end_changing b (Some u) t lsn last older other law changing =
@@ -146,7 +146,7 @@ module _ {D : Type 0} (d : Ghosts D) (b : Base) (base : ℕ) (s : Writer) (e t :
         walk = taken.map ∙ made.2 (contents b s.log);
       }
 
-  -- behind which its row says so
+  -- after which its row says so
   pub taken_last : last_of t taken.now.log ≡ last
   taken_last = ap (λ (x : Loser). x.last) taken.going.row
 

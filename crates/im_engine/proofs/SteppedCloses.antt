@@ -1,4 +1,4 @@
--- The end of a structure change of a rollback, and the turn behind it.
+-- The end of a structure change of a rollback, and the turn after it.
 use Rattle.std.proofs.Common.{◌≡◌, ◌⊎◌, inl, inr, ℕ, suc, ◌+◌, ◌≤◌, ◌<◌, ◌^◌, List, [], ◌∷◌, Bool, true, false, not, Option, Some, None, Result, length, map, refl, sym, ap, subst, ◌∙◌}
 use Rattle.std.specs.Prelude.{find, ◌==◌}
 use Rattle.std.proofs.lemmas.Bool.{cases_Bool, cases_eq, cond-false, cond-true, eq-eqb}
@@ -93,7 +93,7 @@ length_noted f (row ∷ rows) = ap (λ (n : ℕ). suc n) (length_noted f rows)
 pub of_own : (t : ℕ) (u : views.Under) → u.owner ≡ t → of_others t (Some u) ≡ None
 of_own t u own = cond-true (u.owner == t) None (Some u) (eq-eqb u.owner t own)
 
--- the End behind the record that closes it leaves nothing of the transaction
+-- the End after the record that closes it leaves nothing of the transaction
 module _ (b : Base) (t lsn last : ℕ) (older log : History) (stays : Stays b older log) (others : IsOfOthers t older log) (none : net t log ≡ []) where
   abbrev newest : Logged
   newest = logged_at lsn (entries.End t last)
@@ -307,7 +307,7 @@ module _ {D : Type 0} (d : Ghosts D) {b : Base} (before : List Effect) (s : Show
           behind = record { between = middle; one = takes_one d b r.base closed r.redo_end t turned.entry to (Plain took.page) turned.last is.mid turned.between turned.mid taken; last = turned.last; lsn = turned.end.lsn; is = turned.end.log };
         }))
 
-    -- ---- a deletion is closed, behind which others are left
+    -- ---- a deletion is closed, after which others are left
 
     pub drop_more : (took : ends.u.aim ≡ TookBack) (last undo_next : ℕ) → DropClosed d b r.base r.now r.redo_end t ends.u.begun.change.last ends.u.begun.change.undo_next new.writer new.disk (turns.More last undo_next) → new.locks ≡ old.locks
         → new.txns ≡ record old.txns { rows = map (changed t (with_record last undo_next)) old.txns.rows } → StepKept d before s v (Continue t) More old new

@@ -1,4 +1,4 @@
--- Steps that change a key beside a structure change: what their calls below ask, and the log behind the key's record.
+-- Steps that change a key beside a structure change: what their calls below ask, and the log after the key's record.
 use Rattle.std.proofs.Common.{◌≡◌, ◌≢◌, inr, ℕ, zero, suc, ◌≤◌, ◌<◌, List, ◌∷◌, ◌++◌, Bool, true, false, Option, Some, None, Result, Ok, Err, refl, sym, ap, subst, ◌∙◌, arith, ltb-true}
 use Rattle.std.specs.Prelude.{◌↔◌, IsOk, find, ◌==◌, ◌&&◌, nat_lt, not, length}
 use Rattle.std.specs.List.{list_any}
@@ -99,7 +99,7 @@ module _ {D : Type 0} (d : Ghosts D) (t : ℕ) (a : Access) (old : Engine D d) (
             (ap (changes a) walk_of ∙ one);
       }
 
-      -- ---- behind the record of its key, on a page that is none of the change's
+      -- ---- after the record of its key, on a page that is none of the change's
 
       module _ (page : ℕ) (what : What) (lsn : ℕ) (w : PageWriter) (disk : D) (k : KeyLogged d b r.base r.now r.redo_end t row.last page what lsn w disk) where
         abbrev pub newest : Logged

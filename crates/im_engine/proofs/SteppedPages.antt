@@ -67,7 +67,7 @@ page_cause d v old w new LogFull x = x.2
 page_cause d v old w new PagesFull x = absurd (let never = x.0 in cc never)
 page_cause d v old w new e x = tt
 
--- never for page numbers, and for want of memory not behind a record
+-- never for page numbers, and for want of memory not after a record
 never_used_up : {D : Type 0} (d : Ghosts D) (v : PageWriter) (old : D) (w : PageWriter) (new : D) (f : Fault) → LogEnds d false mild v old w new (Some f) → told_as f ≡ faults.Capacity → ⊥
 never_used_up d v old w new Capacity x is = let never = x.0 in cc never
 never_used_up d v old w new PagesFull x is = cc is

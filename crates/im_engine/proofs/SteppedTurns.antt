@@ -72,7 +72,7 @@ use Rattle.im_engine.proofs.Turning.{continue_mark, undo_grows}
 
 -- ---- the last record of a transaction
 
--- behind later records a transaction that has one has one still
+-- after later records a transaction that has one has one still
 pub last_some : (b : Base) (t : ℕ) (more older : History) → Rises b (more ++ older) → 1 ≤ last_of t older → 1 ≤ last_of t (more ++ older)
 last_some b t [] older up some = some
 last_some b t (r ∷ more) older up some = elim (cases_Bool (r.txn == t)) [

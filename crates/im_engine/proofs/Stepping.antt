@@ -1,4 +1,4 @@
--- A step behind its checks, and one that a check refuses.
+-- A step after its checks, and one that a check refuses.
 use Rattle.std.proofs.Common.{◌≡◌, ◌≢◌, inl, inr, ⊎_elim, ℕ, Bool, true, false, List, length, Option, None, Some, refl, sym, ap, subst, ◌∙◌, cond}
 use Rattle.std.specs.Prelude.{◌||◌, ◌==◌, ◌+◌, ◌-◌, if◌then◌else◌, ◌↔◌, nat_lt, not}
 use Rattle.im_base_types.specs.Answers as answers
@@ -260,7 +260,7 @@ alone_so d step reply old new kept told before s v life = by old.failed refl
         let k = kept before s v life in
         answers_alone before s v k.next life.lived (life.failed ∙ works) step (told_by reply) k.moves
 
--- behind the checks
+-- after the checks
 pub step_made_of : {D : Type 0} (d : Ghosts D) (step : Asked) (reply : Reply) (old new : Engine D d) → None ≡ check_of d (asked_by step) old → IsMade d (asked_by step) reply old new → IsStep d step reply old new
 step_made_of d step reply old new none m = record {
   kept = m.kept;

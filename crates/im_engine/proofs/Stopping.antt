@@ -1,4 +1,4 @@
--- What a stop leaves that falls behind some of the replies of a life.
+-- What a stop leaves that falls after some of the replies of a life.
 use Rattle.std.proofs.Common.{◌≡◌, ◌≢◌, inl, inr, ℕ, zero, suc, ◌≤◌, Bool, true, false, List, [], ◌∷◌, length, take, None, Some, refl, sym, ap, subst, ◌∙◌, arith}
 use Rattle.std.specs.Prelude.{◌||◌}
 use Rattle.im_base_types.specs.Answers as answers
@@ -35,7 +35,7 @@ module _ {D : Type 0} (d : Ghosts D) where
       by true was = ap (λ (e : Engine D d). d.failed e.disk) (told.same (ap (λ (b : Bool). b || is_early reply) was)) ∙ alive
       by false works = of_disk (d.failed new.disk) refl works
 
-  -- the disk behind the last step
+  -- the disk after the last step
   pub alive_at_end : (steps : List Step) (replies : List Reply) (old new : Engine D d) → AreSteps d steps replies old new → d.failed old.disk ≡ false → NoneIsLost replies → d.failed new.disk ≡ false
   alive_at_end [] [] old new turns alive none = ap (λ (e : Engine D d). d.failed e.disk) turns ∙ alive
   alive_at_end [] (r ∷ replies) old new turns alive none = absurd turns
@@ -47,7 +47,7 @@ module _ {D : Type 0} (d : Ghosts D) (only_now : (disk : D) (c : Files) → d.le
   here : (s : Shown) (v : View) (e : Engine D d) → IsLife d before s v e → LeavesNamed d e.disk e.disk (Allowed before s)
   here s v e life = unnamed d (Allowed before s) (allowed_nameless before s) e.disk e.disk (started d e.disk (Allowed before s) (λ told c left. life.stops c (only_now e.disk c left)))
 
-  -- behind the first n steps, and behind the last of them all
+  -- after the first n steps, and after the last of them all
   pub cut_behind : (steps : List Step) (replies : List Reply) (s : Shown) (v : View) (old new : Engine D d) (turns : AreSteps d steps replies old new) → IsLife d before s v old → (n : ℕ) → n ≤ length replies
       → LeavesNamed d (behind d n steps replies old new turns).disk new.disk (IsCutOffBehind n before s steps replies)
   cut_behind [] [] s v old new turns life zero le = subst (λ (e : Engine D d). LeavesNamed d old.disk e.disk (Allowed before s)) (sym turns) (here s v old life)
@@ -65,7 +65,7 @@ module _ {D : Type 0} (d : Ghosts D) (only_now : (disk : D) (c : Files) → d.le
       let kept = turns.1.kept before s v life in
       cut_behind steps replies (shows s (asked_by step) (Some (told_by reply))) kept.next turns.0 new turns.2 kept.after n (omega (arith, le))
 
-  -- behind the first n steps, and no later than the reply to the m-th
+  -- after the first n steps, and no later than the reply to the m-th
   pub cut_between : (steps : List Step) (replies : List Reply) (s : Shown) (v : View) (old new : Engine D d) (turns : AreSteps d steps replies old new) → IsLife d before s v old → (n m : ℕ) → n ≤ m → m ≤ length replies
       → LeavesNamed d (behind d n steps replies old new turns).disk (behind d m steps replies old new turns).disk (IsCutOffBehind n before s (take m steps) (take m replies))
   cut_between [] [] s v old new turns life zero zero le most = here s v old life
@@ -88,7 +88,7 @@ module _ {D : Type 0} (d : Ghosts D) (only_now : (disk : D) (c : Files) → d.le
       let kept = turns.1.kept before s v life in
       cut_between steps replies (shows s (asked_by step) (Some (told_by reply))) kept.next turns.0 new turns.2 kept.after n m (omega (arith, le)) (omega (arith, most))
 
-  -- behind the last
+  -- after the last
   pub cut_at_end : (steps : List Step) (replies : List Reply) (s : Shown) (v : View) (old new : Engine D d) (turns : AreSteps d steps replies old new) → IsLife d before s v old → (c : Files) → d.may_leave new.disk c
       → IsCutOffBehind (length replies) before s steps replies c
   cut_at_end [] [] s v old new turns life c left = life.stops c (subst (λ (e : Engine D d). d.may_leave e.disk c) turns left)

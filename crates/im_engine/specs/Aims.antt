@@ -33,7 +33,7 @@ under_of (Some u) = Some (owned u)
 
 -- ---- in the log, between two steps
 
--- The key's leaf behind the change is this page of it, which has room for the key.
+-- The key's leaf after the change is this page of it, which has room for the key.
 pub record PutsInto (b : Base) (images : List Numbered) (key : Key) (leaf : ℕ) (log : History) : Type 0 where
   pub way : IsOnWay (held (settled b log) images) 0 key leaf
   pub image : Page
@@ -47,7 +47,7 @@ Aims b (Drops key) undo_next images log = Unit {0}
 Aims b TakesBack undo_next images log = IsSplitBack b undo_next images log
 Aims b TookBack undo_next images log = Unit {0}
 
--- It is under way in the log, whatever others logged meanwhile, behind a record of its owner; its page count is the settled one, and it can do what it is for.
+-- It is under way in the log, whatever others logged meanwhile, after a record of its owner; its page count is the settled one, and it can do what it is for.
 pub record IsGoing (b : Base) (u : Under) (log : History) : Type 0 where
   pub goes : Goes b u.begun.change log
   pub some : 1 ≤ u.begun.change.last

@@ -12,7 +12,7 @@ told_as faults.Memory = faults.Memory
 told_as faults.NotAStore = faults.NotAStore
 told_as e = faults.Failed
 
--- whether the engine has failed behind it
+-- whether the engine has failed after it
 abbrev pub ends_engine : Fault → Bool
 ends_engine faults.PagesFull = false
 ends_engine faults.Memory = false

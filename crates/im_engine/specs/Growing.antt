@@ -22,7 +22,7 @@ use Rattle.im_restart_undo.specs.Records.{GrowsByUndo, compensations}
 use Rattle.im_theory_steps.specs.Growth.{IsCheckpoint}
 use Rattle.im_theory_steps.specs.Steps.{commit_record, key_record}
 
--- A key came: its record is the newest, behind Images and, just where its leaf lacked room, a structure change of the transaction.
+-- A key came: its record is the newest, after Images and, just where its leaf lacked room, a structure change of the transaction.
 pub record PutsKey (b : Base) (t : ℕ) (key : Key) (rid : ℕ) (older longer : History) : Type 0 where
   pub between : History
   pub change : GrowsByChange t older between
@@ -33,7 +33,7 @@ pub record PutsKey (b : Base) (t : ℕ) (key : Key) (rid : ℕ) (older longer : 
   pub page : ℕ
   pub is : longer ≡ key_record t last lsn page (InsertKey key rid) ∷ between
 
--- A key went: its record is behind Images, and in front of Images and, only where it left the key's leaf empty, a structure change of the transaction.
+-- A key went: its record is after Images, and in front of Images and, only where it left the key's leaf empty, a structure change of the transaction.
 pub record DropsKey (b : Base) (t : ℕ) (key : Key) (older longer : History) : Type 0 where
   pub before : History
   pub images : GrowsByImages b older before
@@ -49,7 +49,7 @@ pub record TakesOneBack (t : ℕ) (older longer : History) : Type 0 where
   pub grows : GrowsByUndo t older longer
   pub once : length (compensations grows.more) ≡ 1
 
--- It was the last one: behind it the transaction has its End.
+-- It was the last one: after it the transaction has its End.
 pub record TakesLastBack (t : ℕ) (older longer : History) : Type 0 where
   pub between : History
   pub one : TakesOneBack t older between
@@ -57,12 +57,12 @@ pub record TakesLastBack (t : ℕ) (older longer : History) : Type 0 where
   pub lsn : ℕ
   pub is : longer ≡ logged_at lsn (entries.End t last) ∷ between
 
--- The transaction has its Commit, behind its last record; one without a record has none.
+-- The transaction has its Commit, after its last record; one without a record has none.
 pub data AddsCommit (t : ℕ) (older longer : History) : Type 0 where
   without_records : last_of t older ≡ 0 → longer ≡ older → AddsCommit t older longer
   with_records : (lsn : ℕ) → 1 ≤ last_of t older → longer ≡ commit_record t (last_of t older) lsn ∷ older → AddsCommit t older longer
 
--- One Checkpoint joined: its record is the newest, behind Images where pages were written first, and behind none where the changed pages were few.
+-- One Checkpoint joined: its record is the newest, after Images where pages were written first, and after none where the changed pages were few.
 pub record AddsCheckpoint (b : Base) (Few : Type 0) (older longer : History) : Type 0 where
   pub between : History
   pub images : GrowsByImages b older between
@@ -73,7 +73,7 @@ pub record AddsCheckpoint (b : Base) (Few : Type 0) (older longer : History) : T
 
 -- ---- structure changes that are made page by page
 
--- One page of a structure change of the transaction, with the mark of one under way, as others have to see it: its record is the newest, behind Images.
+-- One page of a structure change of the transaction, with the mark of one under way, as others have to see it: its record is the newest, after Images.
 pub record LogsPage (b : Base) (t : ℕ) (older longer : History) : Type 0 where
   pub between : History
   pub images : GrowsByImages b older between
@@ -92,7 +92,7 @@ pub record Closes (t : ℕ) (older longer : History) : Type 0 where
   pub undo_next : ℕ
   pub is : longer ≡ dummy_at lsn t last undo_next ∷ older
 
--- The record of a key, behind Images alone: no structure change is made.
+-- The record of a key, after Images alone: no structure change is made.
 pub record PutsAlone (b : Base) (t : ℕ) (key : Key) (rid : ℕ) (older longer : History) : Type 0 where
   pub between : History
   pub images : GrowsByImages b older between
@@ -110,12 +110,12 @@ pub record DropsAlone (b : Base) (t : ℕ) (key : Key) (older longer : History) 
   pub page : ℕ
   pub is : longer ≡ key_record t last lsn page (DeleteKey key rid) ∷ between
 
--- The compensation of one change, behind Images alone.
+-- The compensation of one change, after Images alone.
 pub record TakesAlone (t : ℕ) (older longer : History) : Type 0 where
   pub one : TakesOneBack t older longer
   pub plain : AllOf (λ (r : Logged). is_structural r.what ≡ false) one.grows.more
 
--- The End, behind which nothing is left.
+-- The End, after which nothing is left.
 pub record EndsAlone (t : ℕ) (older longer : History) : Type 0 where
   pub last : ℕ
   pub lsn : ℕ
@@ -140,7 +140,7 @@ pub record ClosesThen (t : ℕ) (Behind : History → Type 0) (older : History) 
 pub data GoesOnBy (b : Base) (was now : Option Under) (t : ℕ) (older longer : History) : Type 0 where
   -- a change is taken back, beside the structure change of another or none
   turns : owner_of was ≢ Some t → owner_of now ≢ Some t → TakesOneBack t older longer → GoesOnBy b was now t older longer
-  -- a structure change begins with its first page, behind which a change is taken back; or a change is taken back, and behind it one begins
+  -- a structure change begins with its first page, after which a change is taken back; or a change is taken back, and after it one begins
   splits : was ≡ None → now ≡ Some (record { owner = t; aim = TakesBack }) → LogsPage b t older longer → GoesOnBy b was now t older longer
   empties : was ≡ None → now ≡ Some (record { owner = t; aim = TookBack }) → TakesAlone t older longer → GoesOnBy b was now t older longer
   -- the next page of its own
@@ -155,7 +155,7 @@ pub data EndsBy (was : Option Under) (t : ℕ) (older longer : History) : Type 0
   ends_behind : was ≡ Some (record { owner = t; aim = TakesBack }) → ClosesThen t (λ between. TakesLastBack t between longer) older → EndsBy was t older longer
   ends_drop : was ≡ Some (record { owner = t; aim = TookBack }) → ClosesThen t (λ between. EndsAlone t between longer) older → EndsBy was t older longer
 
--- By the reply and the step, by whether a Checkpoint may list each changed page, and by the structure change that was under way before the step and is behind it. A step that is not named here adds Images alone, which writes of pages want, and a Begin, a Rollback and a Force add nothing.
+-- By the reply and the step, by whether a Checkpoint may list each changed page, and by the structure change that was under way before the step and is after it. A step that is not named here adds Images alone, which writes of pages want, and a Begin, a Rollback and a Force add nothing.
 abbrev pub GrowsAs : Base → (Few : Type 0) → (was now : Option Under) → Reply → Step → History → History → Type 0
 GrowsAs b Few was now Inserted (Do t (Insert key rid)) older longer = PutsKey b t key rid older longer
 GrowsAs b Few was now Inserted (Continue t) older longer = ClosesThen t (λ between. PutsPending b was between longer) older

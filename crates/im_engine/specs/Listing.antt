@@ -22,7 +22,7 @@ handed_out (Ok list) = Some list.items
 handed_out (Err fault) = None
 
 module _ {D : Type 0} (d : Ghosts D) where
-  -- An engine was asked for all its entries, and is the new one behind that: it handed these out, or refused so.
+  -- An engine was asked for all its entries, and is the new one after that: it handed these out, or refused so.
   pub record IsListing (found : Result (Vec Entry) Fault) (old new : Engine D d) : Type 0 where
     -- why it refuses, and what it is then: one that had failed says so alone, and one that is refused memory, or finds bytes that are no store's, goes on
     pub outcome : Looks d (fault_of found) old new

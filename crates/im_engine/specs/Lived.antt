@@ -54,7 +54,7 @@ module _ {D : Type 0} (d : Ghosts D) where
     -- with it, it is a life of those that the promise speaks of, which had asked no step after the m-th
     pub run : d.tells → (n m : ℕ) → n ≤ m → m ≤ length replies → (c : Files) → d.left_since (behind d m steps replies opened last turns).disk (d.moment (disk_at old n steps replies opened last turns)) c
         → IsRunOn StandsFor (d.seen old) (record { steps = take m steps; replies = take m replies; answered = n; shown = None; left = c })
-    -- a stop behind the last
+    -- a stop after the last
     pub ends : d.tells → (c : Files) → d.may_leave new c → TakesFiles steps replies (length replies) (d.seen old) c
     -- the disk has failed only where a reply says so
     pub alive : NoneIsLost replies → d.failed new ≡ false

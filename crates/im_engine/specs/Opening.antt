@@ -14,7 +14,7 @@ use Rattle.im_engine.specs.Stands.{StandsFor, SpellsCurrent}
 
 module _ {D : Type 0} (d : Ghosts D) where
   -- What an opening with these limits answers: an engine that works, with no transaction and no lock, and a pool of as many frames as the limits say in all, or the disk and why there is none. It is refused
-  -- by the number of its frames just where they are too few or too many, and behind that by the number of workers just where those are, by the disk just where that has failed, for want of room only where the log's file is full,
+  -- by the number of its frames just where they are too few or too many, and after that by the number of workers just where those are, by the disk just where that has failed, for want of room only where the log's file is full,
   -- and else only for want of memory or of page numbers, or because the files are no store. Where the current log's bytes are no log's it only reads.
   pub record IsOpening (config : Config) (old : D) (result : Result (Engine D d) (Fault × D)) : Type 0 where
     pub kept : (before : List Effect) → d.tells → (stands : StandsFor before (d.seen old)) → OpenKept d before old stands result

@@ -76,7 +76,7 @@ EndsAs (Drops key) reply = reply ≡ Deleted
 EndsAs TakesBack reply = (reply ≡ More) ⊎ (reply ≡ RolledBack)
 EndsAs TookBack reply = (reply ≡ More) ⊎ (reply ≡ RolledBack)
 
--- Its owner's Continue makes one page of it, as long as one is left, and behind the last one ends it. Refused at a page, it is as it was.
+-- Its owner's Continue makes one page of it, as long as one is left, and after the last one ends it. Refused at a page, it is as it was.
 pub record GoesOnWith (u : Under) (reply : Reply) (new : Option Under) : Type 0 where
   pub page : u.begun.change.done < length u.begun.change.images → ((reply ≡ More) × (x : Under) × (new ≡ Some x) × IsSameChange suc u x) ⊎ (IsRefusal reply × IsSameUnder (Some u) new)
   pub end : u.begun.change.done ≡ length u.begun.change.images → (EndsAs u.aim reply × (new ≡ None)) ⊎ IsRefusal reply

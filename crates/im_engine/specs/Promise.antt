@@ -33,7 +33,7 @@ abbrev pub answered_by : List Step → List Reply → List (answers.Step × answ
 answered_by (step ∷ steps) (reply ∷ replies) = (asked_by step, told_by reply) ∷ answered_by steps replies
 answered_by _ _ = []
 
--- What a life had asked when it stopped behind its nth reply or later: within a step, whose reply is then not known, or behind the last.
+-- What a life had asked when it stopped after its nth reply or later: within a step, whose reply is then not known, or after the last.
 abbrev pub HadAsked : ℕ → Shown → List Step → List Reply → List Asked → Type 0
 HadAsked zero s (step ∷ steps) (reply ∷ replies) asked = (asked ≡ (shows s (asked_by step) None).asked) ⊎ HadAsked zero (shows s (asked_by step) (Some (told_by reply))) steps replies asked
 HadAsked zero s _ _ asked = asked ≡ s.asked

@@ -127,7 +127,7 @@ module _ {D : Type 0} (d : Ghosts D) where
     pub failed : old.failed ≡ true → reply ≡ Refused Failed
     -- the whole engine is as it was where it had failed, or was asked what no page had to be read to refuse
     pub same : (old.failed || is_early reply) ≡ true → new ≡ old
-    -- behind a want of memory or of pages every transaction has the mark and the records that it had, and holds the locks that it held
+    -- after a want of memory or of pages every transaction has the mark and the records that it had, and holds the locks that it held
     pub mild : (reply ≡ Refused Memory) ⊎ (reply ≡ Refused PagesFull) → (new.txns ≡ old.txns) × SameTable old.locks new.locks
     -- a disk that fails is told, whatever else would refuse the step
     pub device : old.failed ≡ false → d.failed new.disk ≡ true → reply ≡ Refused Device
@@ -169,7 +169,7 @@ module _ {D : Type 0} (d : Ghosts D) (log : LogFile) (disk : D) where
   FlushCause LogFull = HasNoRoom log
   FlushCause _ = ⊥
 
-  -- why a delete is: it fails for want of memory behind the grant of its locks
+  -- why a delete is: it fails for want of memory after the grant of its locks
   abbrev pub DeleteCause : Fault → Type 0
   DeleteCause Failed = Unit {0}
   DeleteCause fault = ReadCause fault
@@ -212,7 +212,7 @@ module _ {D : Type 0} (d : Ghosts D) where
   CallsDevice answers.Checkpoint e = Unit {0}
   CallsDevice answers.Switch e = (EndsNearTop e → ⊥) × (IsLastLog e → ⊥)
 
-  -- What a step costs that is asked for to bring records or a page to the disk. A Checkpoint costs so little where it need write no page first, as its record has room for each that was changed since its last write, and else no more behind these writes.
+  -- What a step costs that is asked for to bring records or a page to the disk. A Checkpoint costs so little where it need write no page first, as its record has room for each that was changed since its last write, and else no more after these writes.
   abbrev pub StepCosts : answers.Step → Reply → Engine D d → Engine D d → Type 0
   StepCosts (answers.Commit t) reply old new = CommitCosts d old.writer.log.used (HasLogged (find (is_of t) old.txns.rows)) reply old.disk new.disk
   StepCosts answers.Force reply old new = ForceCosts d old.writer.log.used reply old.disk new.disk
@@ -239,7 +239,7 @@ module _ {D : Type 0} (d : Ghosts D) where
     abbrev pub OfForce : Type 0
     OfForce = Where (d.failed disk ≡ true) (fault ≡ Device) ⊥
 
-    -- Behind the checks, why this fault refuses a step that left this log and this disk. The record of a Commit takes 33 bytes. A Checkpoint syncs the file of pages before its record joins the log, so a disk that fails is told first; where it writes pages before that, it may be refused as a flush is, or for its record, and the log is full either way. A Rollback that was let through is never refused.
+    -- After the checks, why this fault refuses a step that left this log and this disk. The record of a Commit takes 33 bytes. A Checkpoint syncs the file of pages before its record joins the log, so a disk that fails is told first; where it writes pages before that, it may be refused as a flush is, or for its record, and the log is full either way. A Rollback that was let through is never refused.
     abbrev pub Refuses : answers.Step → Type 0
     Refuses answers.Begin = Where (2 ^ 62 < old.txns.next) (fault ≡ Capacity) ⊥
     Refuses (answers.Do t (answers.Fetch key)) = IsFor (ReadCause d log disk)
@@ -263,7 +263,7 @@ module _ {D : Type 0} (d : Ghosts D) where
 
 -- ---- what a step asks of the pages that users see
 
--- refused for pages, for page numbers, or for want of memory behind the grant of its locks
+-- refused for pages, for page numbers, or for want of memory after the grant of its locks
 pub data AsksChange (reply : Reply) : Type 0 where
   wants_pages : reply ≡ Refused PagesFull → AsksChange reply
   wants_numbers : reply ≡ Refused Capacity → AsksChange reply
@@ -285,7 +285,7 @@ module _ (pages : Pages) (map : IndexMap) where
   NeedsBack (Put k r ∷ older) = HoldsOneKey pages k
   NeedsBack (Drop k r ∷ older) = LacksRoomFor pages k
 
-  -- A change that is taken back is refused `Memory` only where a key comes back that finds its leaf without room, so that its split is planned, or, by a store that makes its structure changes page by page, where it needs one, `Capacity` only where a split can't be had, and `Failed` only behind a record of the
+  -- A change that is taken back is refused `Memory` only where a key comes back that finds its leaf without room, so that its split is planned, or, by a store that makes its structure changes page by page, where it needs one, `Capacity` only where a split can't be had, and `Failed` only after a record of the
   -- transaction (`Begun`). By such a store, with none under way, one that needs a structure change begins it and is not made at once. `t` is its transaction.
   pub record TurnWants (stepped : Bool) (was now : Option views.Under) (t : ℕ) (net : Effect) (Begun : Type 0) (reply : Reply) : Type 0 where
     pub short : reply ≡ Refused Memory → owner_of was ≢ Some t → LacksRoom net ⊎ ((stepped ≡ true) × NeedsBack net)
@@ -309,7 +309,7 @@ module _ (pages : Pages) (map : IndexMap) (Idle : Type 0) where
     pub absent : AsksChange reply → get map key ≡ None
     pub broken : reply ≡ Refused Failed → LacksRoomFor pages key ⊎ Idle
 
-  -- A delete fails late only of a key that is there, behind the grant of its locks, and only where it is its leaf's only one or nothing but Images joined the log.
+  -- A delete fails late only of a key that is there, after the grant of its locks, and only where it is its leaf's only one or nothing but Images joined the log.
   pub record DeleteFails (locks : ℕ → List Lock) (t : ℕ) (key : Key) : Type 0 where
     pub there : get map key ≢ None
     pub granted : IsFree locks t (asked (answers.Delete key) map)
@@ -352,7 +352,7 @@ module _ {D : Type 0} (d : Ghosts D) where
     pub other : is_of_owner (u.begun.change.transaction) step ≡ false
     pub cause : TreeCause (settled b r.now.log) beside v.walk r.now.log step
 
-  -- How a step goes on with the structure change under way, or beside it. It is told that the tree is blocked only for a cause; and behind the checks nothing else is told it first, where the change bars it, but that the device failed or the log is full. By its owner's Continue a page of it is made, or it ends; any
+  -- How a step goes on with the structure change under way, or beside it. It is told that the tree is blocked only for a cause; and after the checks nothing else is told it first, where the change bars it, but that the device failed or the log is full. By its owner's Continue a page of it is made, or it ends; any
   -- other step leaves it as it was, or begins it where there was none, by a store that makes its structure changes page by page.
   pub record IsPaced (step : answers.Step) (reply : Reply) (old new : Engine D d) : Type 0 where
     pub tree : told_by reply ≡ answers.BlockedTree → (b : Base) (before : List Effect) (s : Shown) (v : View) (r : IsRunning d b before s v old) → IsBlockedBy b before s v step old r
@@ -363,7 +363,7 @@ module _ {D : Type 0} (d : Ghosts D) where
     pub own : check_of d step old ≡ None → (b : Base) (before : List Effect) (s : Shown) (v : View) (r : IsRunning d b before s v old) (u : Under) → old.under ≡ Some u → step ≡ answers.Continue u.begun.change.transaction → GoesOnWith u reply new.under
     pub others : (b : Base) (before : List Effect) (s : Shown) (v : View) (r : IsRunning d b before s v old) → ((u : Under) → old.under ≡ Some u → step ≢ answers.Continue u.begun.change.transaction) → IsSameUnder old.under new.under ⊎ ((old.under ≡ None) × (old.stepped ≡ true) × (reply ≡ More) × (is_some new.under ≡ true))
 
-  -- a step of what was asked so, behind the checks
+  -- a step of what was asked so, after the checks
   pub record IsMade (step : answers.Step) (reply : Reply) (old new : Engine D d) : Type 0 where
     pub kept : (before : List Effect) (s : Shown) (v : View) → IsLife d before s v old → StepKept d before s v step (told_by reply) old new
     pub told : IsTold d step reply old new

@@ -48,7 +48,7 @@ abbrev pub NoneIsLost : List Reply → Type 0
 NoneIsLost [] = Unit {0}
 NoneIsLost (reply ∷ replies) = (reply ≢ Refused Device) × NoneIsLost replies
 
--- A stop within steps that have these replies: it fell within one of them, whose reply is then not known, or behind the last.
+-- A stop within steps that have these replies: it fell within one of them, whose reply is then not known, or after the last.
 abbrev pub IsCutOff : List Effect → Shown → List Step → List Reply → Files → Type 0
 IsCutOff before s (step ∷ steps) (reply ∷ replies) c = Allowed before (shows s (asked_by step) None) c ⊎ IsCutOff before (shows s (asked_by step) (Some (told_by reply))) steps replies c
 IsCutOff before s _ _ c = Allowed before s c

@@ -40,7 +40,7 @@ impl<D: TwoLogs> Engine<D> {
     /// shared by the workers of the configuration, in threads that the runtime starts. The pool has the frames of the configuration and those that it has
     /// more, and takes the memory of all of them. Gives the disk back with a refusal.
     ///
-    /// Refused, with no device call, `PoolSize` where the frames are not 8 to 1,024, and behind that `Workers` where the workers are not 1 to 16;
+    /// Refused, with no device call, `PoolSize` where the frames are not 8 to 1,024, and after that `Workers` where the workers are not 1 to 16;
     /// `NotAStore` where the bytes are no store, or nothing says which of two logs is the current one;
     /// `LogFull` only where the log's file then ends less than 32,778 bytes below LSN 2^62; `Capacity` where what is taken back needs
     /// a page and page numbers or levels are used up; `Memory`; `Device`. Where the current log's bytes are no log's, one of its records leads to a

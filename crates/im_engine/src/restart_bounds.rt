@@ -18,7 +18,7 @@ impl<D: Disk> Engine<D> {
         self.writer.durable_end()
     }
 
-    /// How many bytes of the current log's file are durable records with their gates: an opening reads so many, and begins anew with them behind a
+    /// How many bytes of the current log's file are durable records with their gates: an opening reads so many, and begins anew with them after a
     /// `Switch`.
     pub fn log_length(&self) -> u64
         ensures { result ≡ place_of self.now.writer.log.gate }

@@ -38,7 +38,7 @@ onto_below b from (r ∷ older) up = elim (cases_lt r.lsn from) [
       ∙ ap (λ (l : History). r ∷ l) (onto_below b from older up.0)
 ]
 
--- every record stands behind the base's start
+-- every record stands after the base's start
 all_from : (b : Base) (from : ℕ) (log : History) → Rises b log → from ≤ b.start + 1 → records_since from log ≡ records_since 0 log
 all_from b from [] up low = refl
 all_from b from (r ∷ older) up low =

@@ -42,7 +42,7 @@ pub record IsLeastPoint (point lsn : ℕ) (dirty : List DirtyPage) : Type 0 wher
   pub each : (x : DirtyPage) → IsIn x dirty → point ≤ x.rec_lsn
   pub one : (point ≡ lsn) ⊎ HasRecLsn point dirty
 
--- Behind a Checkpoint the redo point is that of its LSN and its list.
+-- After a Checkpoint the redo point is that of its LSN and its list.
 abbrev pub RedoPointIsTheLeast : Type 0
 RedoPointIsTheLeast = (r : Logged) (older : History) (next : ℕ) (active : List ActiveTransaction) (dirty : List DirtyPage) → r.what ≡ Checkpoint next active dirty
     → IsLeastPoint (redo_point (r ∷ older)) r.lsn dirty

@@ -5,7 +5,7 @@
 //! `take` syncs the file of pages, adds one record with both tables, and forces. Where more pages were changed than a record has room for, 1,024,
 //! it writes pages first, for which Images may join the log. The one list is `rows_of`: the transactions that have
 //! logged a record, in rising number, as the format asks (`listed`). The other is the dirty table's own after the sync (`dirty_pages` of
-//! `im_page_writer`). A stop within leaves the log as it was, or with such Images, or with that one record behind them, and files that it covers; after it all of the log is
+//! `im_page_writer`). A stop within leaves the log as it was, or with such Images, or with that one record after them, and files that it covers; after it all of the log is
 //! durable and no page was written since the last sync.
 //!
 //! `laws` says why a restart may begin at the redo point: for every log whose LSNs rise and every file that it covers, redo from the redo

@@ -31,7 +31,7 @@ use Rattle.im_engine_guards.specs.Guards.{cut_files, shorter, CutsKeep, IsFolder
 use Rattle.im_engine_guards.proofs.LogFronts.{byte, gate_by, unmade_says}
 use Rattle.im_engine_guards.proofs.Sound.{known, other_is}
 
--- ---- a log whose end was cut off behind its header
+-- ---- a log whose end was cut off after its header
 
 -- the first gate is at 47 at most
 gate_most : (file : List ℕ) → first_gate file ≤ 47

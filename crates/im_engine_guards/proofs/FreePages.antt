@@ -48,7 +48,7 @@ listed_free pages p good is known =
       tree_none pages (height pages) the_root p is good.levels,
     )
 
--- behind the end of the list there is nothing
+-- after the end of the list there is nothing
 none_behind : (pages : Pages) (n q x : ℕ) → (pages 0).kind ≡ Meta → q ≡ 0 → AreFree pages n q → times x (free_from pages n q) ≡ 0
 none_behind pages zero q x meta end free = refl
 none_behind pages (suc n) q x meta end free = absurd (let clash : Free ≡ Meta = sym free.0 ∙ ap (λ (p : ℕ). (pages p).kind) end ∙ meta in let never : ⊥ = cc in never)

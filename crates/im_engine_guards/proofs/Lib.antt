@@ -1,3 +1,7 @@
+mod Heads
+mod Pieces
+mod Positions
+mod Changes
 mod FreePages
 mod LogFronts
 mod PageFronts

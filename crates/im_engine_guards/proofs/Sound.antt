@@ -33,7 +33,7 @@ use Rattle.im_engine_guards.specs.Guards.{IsFolder, IsFront, IsLeft, IsPagesFron
 use Rattle.im_engine_guards.proofs.Counts.{never_counted}
 use Rattle.im_engine_guards.proofs.LogFronts.{byte, gate_by, generation_same, second_made, second_same, unmade_by}
 
--- a log of the second format behind whose header no gate is open has no record
+-- a log of the second format after whose header no gate is open has no record
 no_record : (base : ℕ) (all : History) (file : List ℕ) (front : Front) → IsFront file front → guard.front_says_second front ≡ true → slice_index front.bytes 47 ≢ 1 → IsLogOf base all file → all ≡ []
 no_record base all file front is second closed (inl none) = absurd (second_made file front is (sym (second_same file front is) ∙ second) none.0)
 no_record base all file front is second closed (inr has) =

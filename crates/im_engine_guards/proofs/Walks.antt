@@ -17,9 +17,9 @@ use Rattle.im_log_header.proofs.Saying.{unmade}
 use Rattle.im_log_gate.specs.Header.{IsUnmade, base_of, first_gate}
 use Rattle.im_log.specs.Kept.{HasLog, IsLogOf}
 use Rattle.im_log.proofs.Creations.{not_both}
-use Rattle.im_log_walk.specs.Walks.{Begins, HasNoCopy, IsAtEnd, NamesChanges, PassesCopied, walked}
-use Rattle.im_log_walk.proofs.Changes.{current_is_read, left_is_read}
-use Rattle.im_log_walk.proofs.Pieces.{at_over, walked_cut, walked_on}
+use Rattle.im_engine_guards.specs.Walks.{Begins, HasNoCopy, IsAtEnd, NamesChanges, PassesCopied, walked}
+use Rattle.im_engine_guards.proofs.Changes.{current_is_read, left_is_read}
+use Rattle.im_engine_guards.proofs.Pieces.{at_over, walked_cut, walked_on}
 use Rattle.im_page_file.specs.OtherLog.{IsNewest, LeftSays, SaysLeft}
 use Rattle.im_theory_log.specs.Histories.{History}
 use Rattle.im_theory_log.specs.RedoPoints.{Covers}

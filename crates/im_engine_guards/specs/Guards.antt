@@ -19,7 +19,7 @@ use Rattle.im_base_guard.specs.declared.belonging.Logs.{Logs}
 use Rattle.im_log_choice.specs.Current.{IsCurrent}
 use Rattle.im_engine.specs.Stands.{StandsFor}
 use Rattle.im_log_gate.specs.Header.{IsUnmade}
-use Rattle.im_log_walk.specs.Walks.{IsAtEnd, walked}
+use Rattle.im_engine_guards.specs.Walks.{IsAtEnd, walked}
 use Rattle.im_theory_page.specs.PageFile.{page_count}
 use Rattle.im_theory_tree.specs.Levels.{Pages}
 use Rattle.im_theory_tree.specs.Good.{IsGoodTree}

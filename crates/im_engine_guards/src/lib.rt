@@ -7,12 +7,23 @@
 //! (`IsLeft`): where no log was made, neither is longer than a creation leaves it; and where the log that was left begins with a record that changes a page, the first two
 //! pages are in the file. Whether a file is there at all is no part of files as the theory has them.
 //!
+//! It is so as of what the walks over the heads of logs say, which read lengths and kinds alone (`walks_say`): where the bytes of a log spell a list of records, in whatever
+//! pieces they are read, what the walk over a log that was left names is so of these records; and once the walk over the current log is at its end, the pages that it did not
+//! pass over have no full copy there.
+//!
 //! And `cuts_keep_stores`: what a close cuts of the logs takes nothing away, so that the next life begins with what this one left.
 #![tactic(auto)]
 
 ghost use Rattle.im_engine_guards.specs.Guards.{CutsKeep, NeverOlder, NeverRefused, IsSparing, TakesCurrent};
+ghost use Rattle.im_engine_guards.specs.Walks.{CurrentIsRead, LeftIsRead};
 
 use im_base_guard::{Apart, Folder, Logs, belong};
+
+/// A walk over a log that was left names its changes, in whatever pieces its bytes are read, however far. One that has come to the end of the current log has passed over each full copy.
+pub fn walks_say()
+    ensures left { LeftIsRead }
+    ensures current { CurrentIsRead }
+{}
 
 /// The guard of a folder refuses no files that stand for effects, and takes the log that is the current one. Nor do the walks over the log that was left and the current one, in
 /// whatever pieces these are read, find older pages beside them.

@@ -1,4 +1,4 @@
--- A delete: the key's record, and behind it the leaf that it left empty.
+-- A delete: the key's record, and after it the leaf that it left empty.
 use Rattle.std.proofs.Common.{◌≡◌, ◌≢◌, inl, inr, ⊎_elim, ◌≤◌, ℕ, Bool, true, false, [], ◌∷◌, ◌++◌, length, Option, None, Some, Result, Ok, Err, refl, sym, ◌∙◌, ap, subst, append_assoc}
 use Rattle.std.specs.Prelude.{◌⊎◌, IsErrAnd}
 use Rattle.std.specs.FinMap.{entries, get}
@@ -82,7 +82,7 @@ module _ {D : Type 0} (d : Ghosts D) (b : Base) (base : ℕ) (s : Writer) (e t l
         within = (inr (refl, refl), images.within);
       }
 
-  -- a stop behind the record
+  -- a stop after the record
   pub stops_behind : (lsn : ℕ) (old : D) (w : PageWriter) (mid new : D) (k : KeyLogged d b base s e t last page (DeleteKey key rid) lsn w mid) → LeavesEdit d b base s t old mid → LeavesChange d b base k.now t mid new → LeavesEdit d b base s t old new
   stops_behind lsn old w mid new k first stops =
       then_on d old mid new (LeftByEdit d b base s t) (LeftByEdit d b base s t) first
@@ -187,7 +187,7 @@ module _ {D : Type 0} (d : Ghosts D) (b : Base) (base : ℕ) (s : Writer) (e t l
       by (inl root) = inl root
       by (inr other) = inr (λ one. other (ap length entries_are ∙ one))
 
--- ---- behind the search and the grant of its locks
+-- ---- after the search and the grant of its locks
 
 module _ {D : Type 0} (d : Ghosts D) (b : Base) (base : ℕ) (s : Writer) (e t last undo_next : ℕ) (v : PageWriter) (old : D) (u : IsUnfinished d b base s e t last undo_next v old) (owner : 1 ≤ t) where
   -- what a stop within the search leaves, however it ended
@@ -273,7 +273,7 @@ log_works {D} d {m} {v} {old} {w} {new} {f} works one is =
     let ends : (v.failed ≡ true) × (w.failed ≡ true) = (subst (λ (x : Fault). Logs d false m v old w new (Some x)) is one).ends in
     (let clash : false ≡ true = sym works ∙ ends.0 in cc clash)
 
--- a refusal behind the key's record, of a call that is not refused for want of memory
+-- a refusal after the key's record, of a call that is not refused for want of memory
 pub dropped_late : {D : Type 0} (d : Ghosts D) {last : Bool} {m n : Fault → Bool} {v : PageWriter} {old : D} {w : PageWriter} {mid : D} {x : PageWriter} {new : D} {f : Fault} → Logs d last m v old w mid None → Logs d true none_mild w mid x new (Some f) → Logs d true n v old x new (Some f)
 dropped_late {D} d {last} {m} {n} {v} {old} {w} {mid} {x} {new} {f} one two = late_behind d one (logs_for_more d (none_mildly mild) two) (λ is. absurd (short is)) (λ other. refl)
   where

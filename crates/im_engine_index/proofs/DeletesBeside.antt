@@ -1,4 +1,4 @@
--- A delete beside a structure change of another, by how it goes on behind what was laid down.
+-- A delete beside a structure change of another, by how it goes on after what was laid down.
 use Rattle.std.proofs.Common.{◌≡◌, ◌≢◌, ◌≤◌, ℕ, true, false, Option, None, Some, Result, Ok, Err, refl, sym, ◌∙◌, ap, subst}
 use Rattle.std.specs.Prelude.{IsErrAnd}
 use Rattle.std.specs.FinMap.{entries, get}

@@ -75,7 +75,7 @@ module _ {D : Type 0} (d : Ghosts D) (b : Base) (base : ℕ) (s : Writer) (e t l
   pub going_tree : (beside : Beside) → IsToldOf b beside s.log → HasWholeTreeBut d (settled_pages b s) beside v old
   going_tree beside told = plans_have_trees d b base s e beside v old g.stands g.over g.lawful told
 
-  -- behind calls that change no page
+  -- after calls that change no page
   pub going_evicted : {m : Fault → Bool} {w : PageWriter} {disk : D} → Ends d AreLoaded m v old w disk None → Evicted d b base s old w disk
   going_evicted {m} {w} {disk} one = one.ends.goes b base s g.stands going_loaded
 
@@ -136,7 +136,7 @@ module _ {D : Type 0} (d : Ghosts D) (b : Base) (base : ℕ) (s : Writer) (e t l
         way = subst (λ (f : Pages). IsOnWay f 0 key page) (sym settled_on) way;
       }
 
-    -- a record behind them is one behind the older log
+    -- a record after them is one after the older log
     pub logged_on : (page : ℕ) (what : What) (lsn : ℕ) (x : PageWriter) (new : D) → KeyLogged d b base now e t last page what lsn x new → KeyLogged d b base s e t last page what lsn x new
     logged_on page what lsn x new k = record {
       now = k.now;

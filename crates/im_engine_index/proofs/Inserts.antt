@@ -1,4 +1,4 @@
--- An insert: planned, granted, and then logged behind the structure change that its leaf wants.
+-- An insert: planned, granted, and then logged after the structure change that its leaf wants.
 use Rattle.std.proofs.Common.{◌≡◌, ◌≢◌, ◌⊎◌, inl, inr, ⊎_elim, ◌≤◌, ℕ, Bool, true, false, List, [], ◌∷◌, ◌++◌, length, Option, None, Some, Result, Ok, Err, refl, sym, ◌∙◌, ap, subst, arith}
 use Rattle.std.specs.Prelude.{IsErrAnd}
 use Rattle.std.proofs.Math.Path.{fun_ext}
@@ -132,7 +132,7 @@ module _ {D : Type 0} (d : Ghosts D) (b : Base) (base : ℕ) where
     pub loaded : AreLoaded s
     loaded p = ((u.stands.writing.stands.kept.pages p).run e u.over).0
 
-    -- where it stands behind calls that change no page
+    -- where it stands after calls that change no page
     pub stands_behind : {m : Fault → Bool} {x : PageWriter} {new : D} → Ends d AreLoaded m w disk x new None → Evicted d b base s disk x new
     stands_behind {m} {x} {new} one = one.ends.goes b base s u.stands loaded
 
@@ -147,7 +147,7 @@ module _ {D : Type 0} (d : Ghosts D) (b : Base) (base : ℕ) where
     pub stays : IsRestructured b t s.log to.made.now.log
     stays = structure_changes_no_key b t s.log to.made.now.log (grows_structure t s.log to.made.now.log to.made.grows)
 
-    -- what was left behind it
+    -- what was left after it
     pub left_behind : (new : D) → LeavesEdit d b base to.made.now t disk new → LeavesEdit d b base s t to.since new
     left_behind new stops = edit_then s to.made.now t to.since disk new (grows_within t s.log to.made.now.log to.made.grows) to.made.durable to.stops stops
 

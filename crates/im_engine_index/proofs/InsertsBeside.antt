@@ -1,4 +1,4 @@
--- An insert beside a structure change of another, by how it goes on behind what was laid down.
+-- An insert beside a structure change of another, by how it goes on after what was laid down.
 use Rattle.std.proofs.Common.{◌≡◌, ◌≢◌, ◌⊎◌, inl, inr, ◌∷◌, ◌≤◌, ℕ, Bool, true, false, [], is_some, Option, None, Some, Result, Ok, Err, refl, sym, ◌∙◌, ap, subst, cond}
 use Rattle.std.specs.Prelude.{IsErrAnd, IfErr}
 use Rattle.std.specs.FinMap.{entries, get}
@@ -69,7 +69,7 @@ hidden_is Hidden not = refl
 
 -- ---- refusals
 
--- the record of a key behind the one that closes a change
+-- the record of a key after the one that closes a change
 pub end_logs : {D : Type 0} (d : Ghosts D) {v : PageWriter} {old : D} {w : PageWriter} {mid : D} {x : PageWriter} {new : D} (why : Option Fault) → Logs d false none_mild v old w mid None → Logs d false no_page w mid x new why → Logs d true none_mild v old x new why
 end_logs {D} d {v} {old} {w} {mid} {x} {new} why one two = record { ready = two.ready; frames = two.frames ∙ one.frames; ends = by why two.ends }
   where
@@ -81,7 +81,7 @@ end_logs {D} d {v} {old} {w} {mid} {x} {new} why one two = record { ready = two.
     by (Some LogFull) ends = (record { began = one.ends.began; broken = ends.0.broken }, ends.1, ends.2)
     by (Some f) ends = absurd (let clash : false ≡ true = ends.0 in let never : ⊥ = cc clash in never)
 
--- a call with none behind which it goes on
+-- a call with none after which it goes on
 pub none_more : (e : Fault) → none_mild e ≡ true → wants_numbers e ≡ true
 none_more e is = absurd (let clash : false ≡ true = is in cc clash)
 

@@ -154,7 +154,7 @@ module _ (older : History) (t last lsn page : ℕ) (w : What) where
   finished_is : is_end w ≡ false → is_finished t older ≡ false → is_finished t (key_record t last lsn page w ∷ older) ≡ false
   finished_is no_end unfinished = own (is_end w || is_finished t older) (is_finished t older) ∙ ap (λ (x : Bool). x || is_finished t older) no_end ∙ unfinished
 
--- ---- behind Images
+-- ---- after Images
 
 module _ (b : Base) (older longer : History) (by : GrowsByImages b older longer) where
   pub unchanged : Stays b older longer × IsOfAll older longer
@@ -216,7 +216,7 @@ module _ {D : Type 0} (d : Ghosts D) (b : Base) (base : ℕ) where
         pub walk_says : (key : Key) → find key_order key (walk (bodies s)) ≡ get (contents b s.log) key
         walk_says key = ap (λ (f : Pages). find key_order key (walk f)) (sym settled_are) ∙ sym (get_is b s.log u.lawful key)
 
-  -- behind the record none is open either
+  -- after the record none is open either
   pub still_closed : (s : Writer) (e t last page : ℕ) (what : What) (lsn : ℕ) (w : PageWriter) (disk : D) → open_smo s.log ≡ [] → (k : KeyLogged d b base s e t last page what lsn w disk) → IsUnfinished d b base k.now e t lsn lsn w disk
   still_closed s e t last page what lsn w disk closed k = is_unfinished k.now e t lsn lsn w disk k.stands (k.opened ∙ closed)
 

@@ -77,7 +77,7 @@ finds_below m es key below next found name same last first found_is next_is = re
   next_is = next_is ∙ ap name_of (first ∙ first_is (From key) m es same);
 }
 
--- the name behind a range
+-- the name after a range
 same_behind : (o : Option Entry) (behind : Option NextKey) → IfSome behind IsFar → option_map far_name behind ≡ Some (key_if o) → name_behind behind ≡ Some (name_of o)
 same_behind o None far is = cc
 same_behind o (Some (Here i)) far is = absurd far

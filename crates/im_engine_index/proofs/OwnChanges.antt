@@ -1,4 +1,4 @@
--- A structure change of its own that an insert or a delete begins, and the end of an insert behind one.
+-- A structure change of its own that an insert or a delete begins, and the end of an insert after one.
 use Rattle.std.proofs.Common.{◌≡◌, ◌≢◌, inl, inr, ◌≤◌, ℕ, suc, true, List, [], ◌∷◌, length, None, Some, Option, Result, Ok, Err, refl, sym, ◌∙◌, ap, subst, arith}
 use Rattle.std.specs.Prelude.{IsSome, ◌⊎◌, ◌==◌}
 use Rattle.std.specs.FinMap.{get}
@@ -166,7 +166,7 @@ module _ {D : Type 0} (d : Ghosts D) (b : Base) (base : ℕ) (s : Writer) (e t l
         to = goes_to;
       }
 
-  -- ---- a leaf that leaves the tree, behind its last key
+  -- ---- a leaf that leaves the tree, after its last key
 
   module _ (key : Key) (page rid : ℕ) (plan : PlannedChange) (empties : KeyEmpties (settled_pages b s) beside key (contents b s.log) page rid plan) (lsn : ℕ) (x : PageWriter) (new : D) (k : KeyLogged d b base s e t last page (DeleteKey key rid) lsn x new)
       (begun : BegunChange) (same : begun.change.images ≡ plan.images) (none : begun.change.done ≡ 0) (whose : begun.change.transaction ≡ t) (newest : begun.change.last ≡ lsn) (leads : begun.change.undo_next ≡ lsn) (counts : begun.count ≡ plan.count) where

@@ -1,4 +1,4 @@
--- The plan of an insert, and the grant of its locks behind it.
+-- The plan of an insert, and the grant of its locks after it.
 use Rattle.std.proofs.Common.{◌≡◌, ◌≢◌, ◌⊎◌, inl, inr, ⊎_elim, ◌∷◌, ◌≤◌, ℕ, Bool, true, false, [], List, length, is_some, Option, None, Some, Result, Ok, Err, refl, sym, ◌∙◌, ap, subst, cond, arith}
 use Rattle.std.specs.Prelude.{IsErrAnd, IfOk, IfErr}
 use Rattle.std.specs.FinMap.{entries, get}
@@ -263,7 +263,7 @@ module _ {D : Type 0} (d : Ghosts D) (b : Base) (base : ℕ) (s : Writer) (e t l
         lacks_or_none y end (Split images) is none = let planned = subst (IsInsertPlan (pages_of s) key max) is ready.1 in inl (planned.1.lacks planned.0)
         lacks_or_none y end UsedUp is none = inl (subst (IsInsertPlan (pages_of s) key max) is ready.1).lacks
 
-        -- behind the grant a want of memory is answered late
+        -- after the grant a want of memory is answered late
         pub insert_fails : (y : PageWriter) (end : D) (f g : Fault) → (f ≡ Memory → g ≡ Failed) → (f ≢ Memory → g ≡ f) → f ≢ PagesFull → (f ≡ Capacity → x.plan ≡ UsedUp) → ((f ≡ Memory) ⊎ (f ≡ Failed) → x.plan ≡ Fits → Stays d AreLoaded w disk y end) → PutKept d b base s e t key rid max old y end (Err f)
             → InsertKept d b base s e t key rid max held new old y end (Err g)
         insert_fails y end f g memory other never used none kept =
@@ -304,7 +304,7 @@ never_used_up {A} d {late} {m} {v} {old} {w} {new} none P (Err y) one = λ is.
     let moved : Logs d late m v old w new (Some Capacity) = subst (λ (x : Fault). Logs d late m v old w new (Some x)) is one in
     absurd (let clash : false ≡ true = sym none ∙ moved.ends.0 in cc clash)
 
--- behind the grant there is neither refusal behind which nobody holds another lock
+-- after the grant there is neither refusal after which nobody holds another lock
 pub late_table : (f g : Fault) (P : Type 0) → (f ≡ Memory → g ≡ Failed) → (f ≢ Memory → g ≡ f) → f ≢ PagesFull → (g ≡ Memory) ⊎ (g ≡ PagesFull) → P
 late_table f g P memory other never (inl is) =
     let short : f ≡ Memory = late_is f g Memory memory other (λ clash. let no_such : ⊥ = cc clash in no_such) is in

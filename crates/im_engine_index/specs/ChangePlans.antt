@@ -45,7 +45,7 @@ pub record KeyFits (pages : AllPages) (beside : Beside) (key : Key) (m : IndexMa
   pub way : IsOnWay (bodies_of pages) 0 key page
   pub room : HasRoom true (bodies_of pages page).entries (key, 0)
 
--- The key is not there, its leaf lacks room for it, and no change is under way: these pages are the split of that leaf, this one the key's leaf behind it.
+-- The key is not there, its leaf lacks room for it, and no change is under way: these pages are the split of that leaf, this one the key's leaf after it.
 pub record KeySplits (pages : AllPages) (beside : Beside) (key : Key) (max : ℕ) (m : IndexMap) (plan : PlannedChange) (leaf : ℕ) : Type 0 where
   pub absent : get m key ≡ None
   pub alone : beside.pages.now ≡ []
@@ -151,7 +151,7 @@ pub record LeavingKept (pages : AllPages) (beside : Beside) (t : ℕ) (key : Key
   pub sound : IsSound result (IfSeen (IsLeavingDecided (IsLeaving pages beside key m) old t key m new) (TreeCause (bodies_of pages) beside (Delete key) m × (new ≡ old)))
   pub first : Bars (bodies_of pages) beside (Delete key) m → IsBarredOff result
 
--- refusals of what is laid down behind the grant: page numbers are used up
+-- refusals of what is laid down after the grant: page numbers are used up
 abbrev pub wants_numbers : Fault → Bool
 wants_numbers Capacity = true
 wants_numbers e = false

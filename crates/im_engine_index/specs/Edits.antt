@@ -67,7 +67,7 @@ module _ {D : Type 0} (d : Ghosts D) (b : Base) (base : ℕ) where
 
   -- ---- a key that comes
 
-  -- Its record joined the log, behind Images and, just where its leaf lacked room, a structure change of the transaction, which then kept the limit of pages.
+  -- Its record joined the log, after Images and, just where its leaf lacked room, a structure change of the transaction, which then kept the limit of pages.
   pub record Inserted (s : Writer) (e t : ℕ) (key : Key) (rid max : ℕ) (noted : Noted) (w : PageWriter) (disk : D) : Type 0 where
     pub absent : get (contents b s.log) key ≡ None
     pub now : Writer
@@ -91,7 +91,7 @@ module _ {D : Type 0} (d : Ghosts D) (b : Base) (base : ℕ) where
   IsInsert s e t key rid max old w disk (Wait holder) = Evicted d b base s old w disk
   IsInsert s e t key rid max old w disk Die = Evicted d b base s old w disk
 
-  -- What an insert keeps. Pages are wanted before a lock is asked, page numbers behind the grant, both only where the key is absent and its leaf lacks room for it: so an absent key has an answer, a lock that stands in the way included, only within the limit of pages. `Failed` comes behind the grant of
+  -- What an insert keeps. Pages are wanted before a lock is asked, page numbers after the grant, both only where the key is absent and its leaf lacks room for it: so an absent key has an answer, a lock that stands in the way included, only within the limit of pages. `Failed` comes after the grant of
   -- the locks of a key that is absent, where its leaf lacks room or nothing but Images joined the log.
   pub record InsertKept (s : Writer) (e t : ℕ) (key : Key) (rid max : ℕ) (held new : Table) (old : D) (w : PageWriter) (disk : D) (result : Result (LockAnswer (Option Noted)) Fault) : Type 0 where
     pub sound : IsSound result (λ outcome. Decides held t (asked (Insert key rid) (contents b s.log)) (verdict_of outcome) new × IsInsert s e t key rid max old w disk outcome)
@@ -103,7 +103,7 @@ module _ {D : Type 0} (d : Ghosts D) (b : Base) (base : ℕ) where
 
   -- ---- a key that goes
 
-  -- Its record joined the log, behind Images; behind it Images and a structure change of the transaction, where that took the key's leaf out of the tree, which it had left empty. No leaf
+  -- Its record joined the log, after Images; after it Images and a structure change of the transaction, where that took the key's leaf out of the tree, which it had left empty. No leaf
   -- stays that it left empty, unless the answer says so.
   pub record Deleted (s : Writer) (e t last : ℕ) (key : Key) (taken : Taken) (w : PageWriter) (disk : D) : Type 0 where
     pub rid : ℕ
@@ -132,7 +132,7 @@ module _ {D : Type 0} (d : Ghosts D) (b : Base) (base : ℕ) where
   IsDelete s e t last key old w disk (Wait holder) = Evicted d b base s old w disk
   IsDelete s e t last key old w disk Die = Evicted d b base s old w disk
 
-  -- What a delete keeps. `Failed` comes behind the grant of the locks of a key that is there, where it was its leaf's only one or nothing but Images joined the log.
+  -- What a delete keeps. `Failed` comes after the grant of the locks of a key that is there, where it was its leaf's only one or nothing but Images joined the log.
   pub record DeleteKept (s : Writer) (e t last : ℕ) (key : Key) (held new : Table) (old : D) (w : PageWriter) (disk : D) (result : Result (LockAnswer (Option Taken)) Fault) : Type 0 where
     pub sound : IsSound result (λ outcome. Decides held t (asked (Delete key) (contents b s.log)) (verdict_of outcome) new × IsDelete s e t last key old w disk outcome)
     pub stops : LeavesEdit d b base s t old disk

@@ -56,7 +56,7 @@ use Rattle.im_engine_index.specs.ChangePlans.{begins, IsComing, IsLeaving}
 use Rattle.im_engine_index.specs.Edits.{HasMore, HasOne, IsLimited}
 use Rattle.im_engine_index.specs.KeyLogs.{IsGoingOn, KeyLogged, LeavesEdit}
 
--- Behind the change the key's leaf is this page, which is an image of it with room for the key.
+-- After the change the key's leaf is this page, which is an image of it with room for the key.
 pub record KeyGoesTo (b : Base) (log : History) (images : List Numbered) (key : Key) (leaf : ℕ) : Type 0 where
   pub way : IsOnWay (held (settled b log) images) 0 key leaf
   pub image : Page
@@ -85,7 +85,7 @@ module _ {D : Type 0} (d : Ghosts D) (b : Base) (base : ℕ) where
 
   -- ---- a key that comes
 
-  -- Its record joined the log, behind Images, on its leaf, which had room and is none of the pages of the change beside.
+  -- Its record joined the log, after Images, on its leaf, which had room and is none of the pages of the change beside.
   pub record PutBeside (s : Writer) (e t last : ℕ) (key : Key) (rid : ℕ) (beside : Beside) (lsn : ℕ) (w : PageWriter) (disk : D) : Type 0 where
     pub absent : get (contents b s.log) key ≡ None
     pub page : ℕ
@@ -93,7 +93,7 @@ module _ {D : Type 0} (d : Ghosts D) (b : Base) (base : ℕ) where
     pub room : HasRoomFor (settled b s.log) key
     pub logged : KeyLogged d b base s e t last page (InsertKey key rid) lsn w disk
 
-  -- A change of the transaction began, with none under way, since the key's leaf lacked room: its first page joined the log, behind Images; the key goes into this leaf behind it. It takes no page over the limit.
+  -- A change of the transaction began, with none under way, since the key's leaf lacked room: its first page joined the log, after Images; the key goes into this leaf after it. It takes no page over the limit.
   pub record InsertBegun (s : Writer) (e t last undo_next : ℕ) (key : Key) (max : ℕ) (beside : Beside) (begun : BegunChange) (leaf : ℕ) (w : PageWriter) (disk : D) : Type 0 where
     pub absent : get (contents b s.log) key ≡ None
     pub alone : beside.pages.now ≡ []
@@ -133,7 +133,7 @@ module _ {D : Type 0} (d : Ghosts D) (b : Base) (base : ℕ) where
   IsInsertBeside s e t last undo_next key rid max beside table new old w disk (Seen Die) = Decides table t (asked (Insert key rid) (contents b s.log)) MustDie new × Evicted d b base s old w disk
   IsInsertBeside s e t last undo_next key rid max beside table new old w disk Hidden = TreeCause (settled b s.log) beside (Insert key rid) (contents b s.log) × (new ≡ table) × Evicted d b base s old w disk
 
-  -- What an insert keeps. Pages are wanted before a lock is asked, page numbers behind the grant, both only where the key is absent and its leaf lacks room for it. `Failed` comes behind the grant, in front of the first page of the change that it begins. A change beside that bars it is told before anything is locked.
+  -- What an insert keeps. Pages are wanted before a lock is asked, page numbers after the grant, both only where the key is absent and its leaf lacks room for it. `Failed` comes after the grant, in front of the first page of the change that it begins. A change beside that bars it is told before anything is locked.
   pub record InsertBesideKept (s : Writer) (e t last undo_next : ℕ) (key : Key) (rid max : ℕ) (beside : Beside) (table new : Table) (old : D) (w : PageWriter) (disk : D) (result : Result (Sight (LockAnswer Inserting)) Fault) : Type 0 where
     pub sound : IsSound result (IsInsertBeside s e t last undo_next key rid max beside table new old w disk)
     pub stops : LeavesEdit d b base s t old disk
@@ -143,7 +143,7 @@ module _ {D : Type 0} (d : Ghosts D) (b : Base) (base : ℕ) where
     pub begun : IfErr result (λ e. e ≡ Failed → (get (contents b s.log) key ≡ None) × LacksRoomFor (settled b s.log) key × Decides table t (asked_begun key (contents b s.log)) GrantedAll new × Evicted d b base s old w disk)
     pub first : Bars (settled b s.log) beside (Insert key rid) (contents b s.log) → IsBarredOff result
 
-  -- ---- where it goes on: what was laid down, behind calls that change no page
+  -- ---- where it goes on: what was laid down, after calls that change no page
 
   pub record MayCome (s : Writer) (e t last undo_next : ℕ) (key : Key) (max : ℕ) (beside : Beside) (coming : Coming) (w : PageWriter) (disk : D) : Type 0 where
     pub start : PageWriter
@@ -172,7 +172,7 @@ module _ {D : Type 0} (d : Ghosts D) (b : Base) (base : ℕ) where
 
   -- ---- the end of an insert whose leaf was split first
 
-  -- All pages of the transaction's change are logged, and its key goes into this leaf behind it; the transaction takes nothing back, no other net has the key, and the tree lacks it.
+  -- All pages of the transaction's change are logged, and its key goes into this leaf after it; the transaction takes nothing back, no other net has the key, and the tree lacks it.
   pub record MayEnd (s : Writer) (e : ℕ) (change : Structure) (page : ℕ) (key : Key) (w : PageWriter) (disk : D) : Type 0 where
     pub stands : StandsAs d b base s w disk
     pub over : s.redo_end ≡ Some e
@@ -182,7 +182,7 @@ module _ {D : Type 0} (d : Ghosts D) (b : Base) (base : ℕ) where
     pub free : lawful.IsFree change.transaction key s.log
     pub absent : get (contents b s.log) key ≡ None
 
-  -- The record that closes the change joined the log and, behind Images, that of the key: no change is open.
+  -- The record that closes the change joined the log and, after Images, that of the key: no change is open.
   pub record InsertEnded (s : Writer) (e : ℕ) (change : Structure) (page : ℕ) (key : Key) (rid lsn : ℕ) (w : PageWriter) (disk : D) : Type 0 where
     pub now : Writer
     pub stands : IsUnfinished d b base now e change.transaction lsn lsn w disk
@@ -200,7 +200,7 @@ module _ {D : Type 0} (d : Ghosts D) (b : Base) (base : ℕ) where
 
   -- ---- a key that goes
 
-  -- Its record joined the log, behind Images, on its leaf, which it does not leave empty, or which is the root, and which is none of the pages of the change beside.
+  -- Its record joined the log, after Images, on its leaf, which it does not leave empty, or which is the root, and which is none of the pages of the change beside.
   pub record TakenBeside (s : Writer) (e t last : ℕ) (key : Key) (beside : Beside) (lsn : ℕ) (w : PageWriter) (disk : D) : Type 0 where
     pub rid : ℕ
     pub there : get (contents b s.log) key ≡ Some rid
@@ -209,7 +209,7 @@ module _ {D : Type 0} (d : Ghosts D) (b : Base) (base : ℕ) where
     pub more : HasMore (settled b s.log) key
     pub logged : KeyLogged d b base s e t last page (DeleteKey key rid) lsn w disk
 
-  -- Its record joined the log, behind Images, with no change under way, and left its leaf empty: a change of the transaction begins that takes the leaf out of the tree, no page of which is logged.
+  -- Its record joined the log, after Images, with no change under way, and left its leaf empty: a change of the transaction begins that takes the leaf out of the tree, no page of which is logged.
   pub record DeleteBegun (s : Writer) (e t last : ℕ) (key : Key) (beside : Beside) (begun : BegunChange) (w : PageWriter) (disk : D) : Type 0 where
     pub rid : ℕ
     pub there : get (contents b s.log) key ≡ Some rid
@@ -245,7 +245,7 @@ module _ {D : Type 0} (d : Ghosts D) (b : Base) (base : ℕ) where
     pub stops : LeavesEdit d b base s t old disk
     pub first : Bars (settled b s.log) beside (Delete key) (contents b s.log) → IsBarredOff result
 
-  -- where it goes on: what was laid down, behind calls that change no page
+  -- where it goes on: what was laid down, after calls that change no page
   pub record MayLeave (s : Writer) (e t last undo_next : ℕ) (key : Key) (beside : Beside) (leaving : Leaving) (w : PageWriter) (disk : D) : Type 0 where
     pub start : PageWriter
     pub since : D

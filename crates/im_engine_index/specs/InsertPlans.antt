@@ -1,4 +1,4 @@
--- What an insert prepares in front of the grant of its locks, and how it comes to its record behind it.
+-- What an insert prepares in front of the grant of its locks, and how it comes to its record after it.
 use Rattle.std.specs.Prelude.{◌≡◌, ◌≢◌, ◌≤◌, ◌⊎◌, ℕ, false, length, None, Some, Result, IfErr}
 use Rattle.std.specs.FinMap.{get}
 use Rattle.std.specs.FinMap.Entries.{find}
@@ -80,7 +80,7 @@ pub record PreparedKept (pages : AllPages) (t : ℕ) (key : Key) (rid max : ℕ)
   pub sound : IsSound result (IsPrepared pages t key rid max m old new pool)
   pub full : IfErr result (λ e. e ≡ PagesFull → IsFullForKey pages key max)
 
--- ---- behind it
+-- ---- after it
 
 module _ {D : Type 0} (d : Ghosts D) (b : Base) (base : ℕ) where
   -- The locks of the insert are granted, the tree lacks the key, and calls that change no page have planned it: the key's leaf is this page.

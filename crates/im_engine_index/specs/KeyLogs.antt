@@ -64,7 +64,7 @@ module _ {D : Type 0} (d : Ghosts D) (b : Base) (base : ℕ) where
     pub apart : IsNotIn page (open_smo s.log)
     pub way : IsOnWay (settled b s.log) 0 key page
 
-  -- The record joined the log, behind Images, and its leaf is changed by it: the transaction's records end there, and its undo begins there. The same structure change is open as before, or none.
+  -- The record joined the log, after Images, and its leaf is changed by it: the transaction's records end there, and its undo begins there. The same structure change is open as before, or none.
   pub record KeyLogged (s : Writer) (e t last page : ℕ) (what : What) (lsn : ℕ) (w : PageWriter) (disk : D) : Type 0 where
     pub now : Writer
     pub stands : IsGoingOn now e t lsn lsn w disk

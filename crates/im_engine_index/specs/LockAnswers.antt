@@ -12,7 +12,7 @@ use Rattle.im_tree_search.specs.declared.next_key.NextKey.TheVariants.{Here, The
 use Rattle.im_engine_index.specs.declared.lock_answer.LockAnswer.{LockAnswer}
 use Rattle.im_engine_index.specs.declared.lock_answer.LockAnswer.TheVariants.{Granted, Wait, Die}
 
--- the lock table's verdict behind an outcome
+-- the lock table's verdict after an outcome
 abbrev pub verdict_of : {X : Type 0} → LockAnswer X → Verdict
 verdict_of (Granted x) = GrantedAll
 verdict_of (Wait holder) = MustWait holder
@@ -35,7 +35,7 @@ abbrev pub seek_at : Bool → Key → Access
 seek_at true key = Seek key
 seek_at false key = Next key
 
--- the name behind a range, where something is said of it
+-- the name after a range, where something is said of it
 abbrev pub name_behind : Option NextKey → Option Name
 name_behind None = None
 name_behind (Some next) = Some (name_in [] next)

@@ -10,7 +10,7 @@ pub enum Inserting {
     There,
     /// It is put; its record is the transaction's newest, from which its undo goes on.
     Put(Lsn),
-    /// Its leaf is split first: the first page of that change is logged, and behind the change the key goes into this page.
+    /// Its leaf is split first: the first page of that change is logged, and after the change the key goes into this page.
     Split(BegunChange, PageNo),
 }
 

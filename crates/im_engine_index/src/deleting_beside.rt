@@ -81,7 +81,7 @@ fn ask_leaving<D: Disk>(
     Ok(Sight::Seen(outcome_of(verdict, leaving)))
 }
 
-// Plans that the leaf of a key, which has nothing else, leaves the tree, with no change under way, and asks the key's locks behind it.
+// Plans that the leaf of a key, which has nothing else, leaves the tree, with no change under way, and asks the key's locks after it.
 fn prepare_emptying<D: Disk>(
     alloc: Global,
     writer: &mut PageWriter,
@@ -160,7 +160,7 @@ fn prepare_leaving<D: Disk>(
     )
 }
 
-// ---- behind it
+// ---- after it
 
 // Logs what was laid down.
 fn log_leaving<D: Disk>(

@@ -132,7 +132,7 @@ fn plan_coming<D: Disk>(
     Ok(Coming::Splits(plan, leaf))
 }
 
-// The same, and asks the key's locks behind it. After a refusal nobody holds another lock than before.
+// The same, and asks the key's locks after it. After a refusal nobody holds another lock than before.
 fn prepare_coming_split<D: Disk>(
     alloc: Global,
     writer: &mut PageWriter,
@@ -214,9 +214,9 @@ fn prepare_coming<D: Disk>(
     )
 }
 
-// ---- behind it
+// ---- after it
 
-// Logs the first page of a change that begins, with the mark of one under way. A want of memory in front of it is `Failed`, behind the
+// Logs the first page of a change that begins, with the mark of one under way. A want of memory in front of it is `Failed`, after the
 // grant.
 fn log_first<D: Disk>(
     writer: &mut PageWriter,
@@ -279,7 +279,7 @@ fn log_coming<D: Disk>(
 /// It is hidden where a page that is made stands on the key's way or, of a key that is not there, where the walk to the next one comes to;
 /// where the key would go into a page of the change beside; and where its leaf lacks room beside one. Then no lock was asked.
 ///
-/// Refused as `insert` is; `Failed` where memory is wanted for the first page, behind the grant. After `Memory`, `PagesFull`, `Wait` and `Die`
+/// Refused as `insert` is; `Failed` where memory is wanted for the first page, after the grant. After `Memory`, `PagesFull`, `Wait` and `Die`
 /// nobody holds another lock than before.
 pub fn insert_beside<D: Disk>(
     alloc: Global,
@@ -320,7 +320,7 @@ pub fn insert_beside<D: Disk>(
 /// Ends an insert whose leaf was split first: all pages of its change are logged. It closes the change, and puts the key into the page that
 /// `insert_beside` answered beside it. It answers the LSN of the key's record, the transaction's newest, from which its undo goes on.
 ///
-/// It wants no memory, and a writer that works refuses it `LogFull` or `Device` alone; or, where a page's bytes are none, `NotAStore` behind the
+/// It wants no memory, and a writer that works refuses it `LogFull` or `Device` alone; or, where a page's bytes are none, `NotAStore` after the
 /// record that closes the change.
 pub fn insert_end<D: Disk>(
     writer: &mut PageWriter,

@@ -28,12 +28,12 @@ pub record FindsBelow (m : IndexMap) (key : Key) (found : Option Name) (next : N
   pub found_is : found ≡ name_below (last_below key m)
   pub next_is : next ≡ name_of (first (From key) m)
 
--- what is asked of the name behind a scan's entries
+-- what is asked of the name after a scan's entries
 abbrev pub end_row : Option Name → List Asked
 end_row None = []
 end_row (Some name) = shared name ∷ []
 
--- These are the entries that a scan answers, and this is the name behind them, where they are fewer than its limit. Where lo is above hi there is neither.
+-- These are the entries that a scan answers, and this is the name after them, where they are fewer than its limit. Where lo is above hi there is neither.
 pub record IsScanOf (m : IndexMap) (lo hi : Key) (n : ℕ) (answered : List (Key × ℕ)) (end : Option Name) : Type 0 where
   pub entries : answered ≡ scan lo hi (limit_of n) m
   pub none : is_below hi lo ≡ true → end ≡ None

@@ -24,7 +24,7 @@ pub record KeepsFront (old new : OwnLocks) : Type 0 where
   pub lasting : take (length old.lasting.items) new.lasting.items ≡ old.lasting.items
   pub falling : take (length old.falling.items) new.falling.items ≡ old.falling.items
 
--- locks may have been added behind those that last; those that fall are as they were
+-- locks may have been added after those that last; those that fall are as they were
 pub record GrowsLasting (old new : OwnLocks) : Type 0 where
   pub front : take (length old.lasting.items) new.lasting.items ≡ old.lasting.items
   pub falling : new.falling.items ≡ old.falling.items

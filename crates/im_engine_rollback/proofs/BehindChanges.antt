@@ -1,4 +1,4 @@
--- What comes behind a structure change of a rollback.
+-- What comes after a structure change of a rollback.
 use Rattle.std.proofs.Common.{◌≡◌, ◌≢◌, ℕ, Bool, true, false, List, [], ◌∷◌, length, Option, None, Some, Result, Ok, Err, inl, inr, refl, sym, ◌∙◌, ap, subst, ◌==◌}
 use Rattle.std.specs.Prelude.{◌||◌, IfErr, IfOk, IsErrAnd}
 use Rattle.std.proofs.lemmas.Bool.{cond-true, eq-eqb}
@@ -137,7 +137,7 @@ module _ {D : Type 0} (d : Ghosts D) (b : Base) (base : ℕ) where
 
   -- ---- the record that closes a change
 
-  -- how the writer stands behind it
+  -- how the writer stands after it
   pub record Shut (s : Writer) (e t last undo_next lsn : ℕ) (w : PageWriter) (disk : D) : Type 0 where
     pub closed : Writer
     pub shut : ClosedBack d b base s e t last undo_next lsn closed w disk
@@ -165,7 +165,7 @@ module _ {D : Type 0} (d : Ghosts D) (b : Base) (base : ℕ) where
       }
 
   module _ (s : Writer) (e t last undo_next lsn : ℕ) (closed : Writer) (between : PageWriter) (mid : D) (shut : ClosedBack d b base s e t last undo_next lsn closed between mid) where
-    -- what a stop leaves of calls behind it
+    -- what a stop leaves of calls after it
     pub left_closed : (old new : D) → LeavesUndo d b base s t old mid → LeavesUndo d b base closed t mid new → LeavesUndo d b base s t old new
     unfolding grows_one
     left_closed old new one two =
@@ -222,7 +222,7 @@ module _ {D : Type 0} (d : Ghosts D) (b : Base) (base : ℕ) where
       pub never_used : (entry : Entry) → IsToUndo d b base closed t entry → UsesUp (settled b closed.log) (what_of entry) → ⊥
       never_used entry to used = never_lacks (subst (λ (w : What). UsesUp (settled b closed.log) w) (dropped entry to) used).lacks
 
-      -- ---- the turn behind it
+      -- ---- the turn after it
 
       module _ (beside : Beside) (none : beside.pages.now ≡ []) (w : PageWriter) (new : D) where
         -- what is seen is made

@@ -24,7 +24,7 @@ module _ {D : Type 0} (d : Ghosts D) where
   ends_behind m n may v w mid one x new (Some NotAStore) two = (one.began, two.1)
   ends_behind m n may v w mid one x new (Some e) two = (may e two.0, works_then one two.1)
 
-  -- a call behind another, which may be refused for more causes
+  -- a call after another, which may be refused for more causes
   pub turn_behind : {l m n : Fault → Bool} {v w : PageWriter} {mid : D} {x : PageWriter} {new : D} {why : Option Fault} → ((e : Fault) → m e ≡ true → n e ≡ true) → TurnOutcome d l v w mid None → TurnOutcome d m w x new why → TurnOutcome d n v x new why
   turn_behind {l} {m} {n} {v} {w} {mid} {x} {new} {why} may one two = record { ready = two.ready; frames = two.frames ∙ one.frames; ends = ends_behind m n may v w mid one.ends x new why two.ends }
 
@@ -44,7 +44,7 @@ module _ {D : Type 0} (d : Ghosts D) where
   turn_refused_on {A} {m} {v} {w} {new} {f} (Ok a) is one = absurd is
   turn_refused_on {A} {m} {v} {w} {new} {f} (Err e) is one = subst (λ (x : Fault). TurnOutcome d m v w new (Some x)) (sym is) one
 
-  -- bytes that are none of a record, behind other calls
+  -- bytes that are none of a record, after other calls
   pub not_a_store : {m n : Fault → Bool} {v w : PageWriter} {new : D} → TurnOutcome d m v w new None → TurnOutcome d n v w new (Some NotAStore)
   not_a_store {m} {n} {v} {w} {new} one = record { ready = one.ready; frames = one.frames; ends = (one.ends.began, one.ends.alive) }
 

@@ -168,7 +168,7 @@ module _ {D : Type 0} (d : Ghosts D) (b : Base) (base : ℕ) where
       (first_logged s e start old stands over c none (goes_first b c t undo_next last plan.images s.log pages none owner at leads way)
       (subst (λ (xs : List Numbered). IsSplitBack b c.undo_next xs s.log) (sym pages) (subst (λ (n : ℕ). IsSplitBack b n plan.images s.log) (sym leads) back)) new w disk step count)
 
-  -- behind calls that logged Images
+  -- after calls that logged Images
   first_behind : (s : Writer) (e t last undo_next : ℕ) (old : D) (now : Writer) (v : PageWriter) (mid : D) → GoesOn d b base s old now v mid → (new : BegunChange) (w : PageWriter) (disk : D) → FirstLogged d b base now e t last undo_next new w disk
       → FirstLogged d b base s e t last undo_next new w disk
   first_behind s e t last undo_next old now v mid on new w disk is = record {

@@ -70,7 +70,7 @@ leftmost_stays pages p es = elim (cases_eq p 0) [
 -- ---- what is logged of a plan
 
 module _ {D : Type 0} (d : Ghosts D) (b : Base) (base : ℕ) where
-  -- behind a refusal for want of memory all is as it was
+  -- after a refusal for want of memory all is as it was
   pub evicted_short : {m : Fault → Bool} {v : PageWriter} {old : D} {w : PageWriter} {new : D} (f : Fault) → f ≡ Memory → Outcome d AreLoaded m v old w new (Some f) → (s : Writer) → StandsAs d b base s v old → AreLoaded s → Evicted d b base s old w new
   evicted_short {m} {v} {old} {w} {new} f is one s stands loaded =
       let here : Outcome d AreLoaded m v old w new (Some Memory) = subst (λ (e : Fault). Outcome d AreLoaded m v old w new (Some e)) is one in
@@ -181,9 +181,9 @@ module _ {D : Type 0} (d : Ghosts D) (b : Base) (base : ℕ) where
               subst (λ (f : Pages). StandsFor f (held f change.images) (IsApart change.images)) (sym pages)
               (subst (λ (xs : List Numbered). StandsFor (settled b s.log) (held (settled b s.log) xs) (IsApart xs)) (sym same) here)
 
-      -- ---- a deletion behind the compensation
+      -- ---- a deletion after the compensation
 
-      -- the compensation, behind the plan of the change
+      -- the compensation, after the plan of the change
       pub drop_back : (page : ℕ) (images : List Numbered) → IsBack (settled_pages b s) beside (what_of entry) (Drop page images) → IsToldOf b beside s.log → (w : PageWriter) (new : D) (r : Result ℕ Fault)
           → ((x : Writer) → IsGoingBeside d b base x e t last undo_next v mid → IsToUndo d b base x t entry → CanBack (settled_pages b x) (what_of entry) (Plain page) → IsOutOf (open_smo x.log) (Plain page) → BackKept d b base x e t entry (Plain page) mid w new r)
           → BackKept d b base now e t entry (Plain page) mid w new r

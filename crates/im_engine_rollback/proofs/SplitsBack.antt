@@ -32,7 +32,7 @@ use Rattle.im_restart_undo.proofs.Behind.{split_of}
 use Rattle.im_restart_undo.proofs.Beside.{beside_images, settled_longer, to_undo_beside}
 use Rattle.im_engine_rollback.specs.SplitsBack.{OthersLeaveSplitsBack, PagesLeaveSplitsBack, SplitsBackBegin}
 
--- ---- reading, behind later records
+-- ---- reading, after later records
 
 reads_low : (b : Base) (l : ℕ) (log : History) (x : Logged) → Rises b log → undo_reads l log ≡ Some x → l ≤ end_of b log
 reads_low b l [] x up is = absurd (let clash : None ≡ Some x = is in cc clash)

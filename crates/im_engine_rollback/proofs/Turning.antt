@@ -55,7 +55,7 @@ module _ {D : Type 0} (d : Ghosts D) (b : Base) (base : ℕ) where
   pub read_stops : (s : Writer) (e t last undo_next : ℕ) (w : PageWriter) (old new : D) → ((c : Files) → d.left_since old (d.moment old) c → d.may_leave old c) → IsGoing d b base s e t last undo_next w old → Reads d old new → LeavesUndo d b base s t old new
   read_stops s e t last undo_next w old new only_now g reads = read_stops_beside s e t last undo_next w old new only_now (closed_beside d b base s e t last undo_next w old g) reads
 
-  -- the transaction is as it was behind calls that only read
+  -- the transaction is as it was after calls that only read
   pub beside_read : (s : Writer) (e t last undo_next : ℕ) (w x : PageWriter) (old new : D) → IsGoingBeside d b base s e t last undo_next w old → StandsAs d b base s x new → IsGoingBeside d b base s e t last undo_next x new
   beside_read s e t last undo_next w x old new g after = record { stands = after; over = g.over; lawful = g.lawful; outside = g.outside; owner = g.owner; unfinished = g.unfinished; row = g.row }
 
@@ -96,7 +96,7 @@ module _ {D : Type 0} (d : Ghosts D) (b : Base) (base : ℕ) where
   end_closed s e t last undo_next old w new (Ok undone) closed k = record { sound = went_closed s e t last undo_next w new undone closed k.sound; stops = k.stops }
   end_closed s e t last undo_next old w new (Err f) closed k = record { sound = k.sound; stops = k.stops }
 
-  -- a change that was taken back behind calls that only read
+  -- a change that was taken back after calls that only read
   pub took_behind : (s : Writer) (e t m n : ℕ) (old mid : D) (w : PageWriter) (new : D) → LeavesUndo d b base s t old mid → Took d b base s e t m n mid w new → Took d b base s e t m n old w new
   took_behind s e t m n old mid w new stops took =
       let taken = took.taken in
@@ -157,7 +157,7 @@ module _ {D : Type 0} (d : Ghosts D) (b : Base) (base : ℕ) where
         let ev = here.ends.1.goes b base s (stands_on d b base s old s v mid on) loaded in
         record { now = ev.now; on = goes_on_then d b base s old s v mid on ev.now w new ev.on }
 
-    -- a compensation behind calls that only read
+    -- a compensation after calls that only read
     pub take_refused : (f : Fault) → Logs d true mild_to_take v mid w new (Some f) → CompensateKept d b base s e t entry mid w new (Err f) → TakeKept d b base s e t old w new (Err f)
     take_refused f one k = record {
       sound = k.sound;
@@ -178,7 +178,7 @@ module _ {D : Type 0} (d : Ghosts D) (b : Base) (base : ℕ) where
       begun = tt;
     }
 
-  -- a turn that was refused as its one change was, behind calls that only read
+  -- a turn that was refused as its one change was, after calls that only read
   pub turn_refused : (s : Writer) (e t : ℕ) (old : D) (v : PageWriter) (mid : D) → GoesOn d b base s old s v mid → LeavesUndo d b base s t old mid → (w : PageWriter) (new : D) (f : Fault) → TakeKept d b base s e t mid w new (Err f)
       → TurnKept d b base s e t old w new (Err f)
   turn_refused s e t old v mid on left w new f k = record {
@@ -201,7 +201,7 @@ module _ {D : Type 0} (d : Ghosts D) (b : Base) (base : ℕ) where
   pub going_on : (s : Writer) (e t m n : ℕ) (old : D) (w : PageWriter) (disk : D) (took : Took d b base s e t m n old w disk) → IsGoing d b base took.taken.now e t m n w disk
   going_on s e t m n old w disk took = subst (λ (x : ℕ). IsGoing d b base took.taken.now e t m x w disk) (sym took.leads) took.taken.goes.going
 
-  -- calls behind a change that was taken back
+  -- calls after a change that was taken back
   pub turn_then : (s : Writer) (e t m n : ℕ) (old : D) (v : PageWriter) (mid : D) (took : Took d b base s e t m n old v mid) (w : PageWriter) (new : D) (result : Result Undone Fault) → TurnOutcome d may_be_full v w new (fault_of result)
       → EndIfUndoneKept d b base took.taken.now e t m n mid w new result → TurnKept d b base s e t old w new result
   turn_then s e t m n old v mid took w new result one k = by result one k

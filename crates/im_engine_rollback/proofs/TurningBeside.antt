@@ -68,7 +68,7 @@ hidden_is (Seen back) not = absurd (not back refl)
 hidden_is Hidden not = refl
 
 module _ {D : Type 0} (d : Ghosts D) (b : Base) (base : ℕ) where
-  -- ---- behind calls that only read, or that logged Images
+  -- ---- after calls that only read, or that logged Images
 
   logged_behind : (s : Writer) (old : D) (now : Writer) (v : PageWriter) (mid : D) → GoesOn d b base s old now v mid → (e t last undo_next : ℕ) (beside : Beside) (entry : Entry) → t ≢ 0 → IsLawful b page_tree s.log
       → (w : PageWriter) (new : D) (back : LoggedBack) → IsLoggedBack d b base now e t last undo_next beside entry mid w new back → IsLoggedBack d b base s e t last undo_next beside entry old w new back
@@ -128,7 +128,7 @@ module _ {D : Type 0} (d : Ghosts D) (b : Base) (base : ℕ) where
       early = λ is. never_failed d f g.stands.working one is;
     }
 
-    -- and what is logged behind it
+    -- and what is logged after it
     module _ (v : PageWriter) (mid : D) (ev : Evicted d b base s old v mid) (w : PageWriter) (new : D) where
       by : GrowsByImages b s.log ev.now.log
       by = ev.on.goes.keeps.log
@@ -224,7 +224,7 @@ module _ {D : Type 0} (d : Ghosts D) (b : Base) (base : ℕ) where
     pub turn_drops : (change : PlannedChange) (l n : ℕ) → BackBesideKept d b base s e t last undo_next beside old v mid (Ok (Seen (backs.Drops change l n))) → TurnBesideKept d b base s e t last undo_next beside old v mid (Ok (Seen (Drops change l n)))
     turn_drops change l n k = record { sound = record { entry = k.sound.entry; next = k.sound.next; drops = k.sound.logged }; stops = k.stops; again = tt; short = tt; used_up = tt; alone = tt; early = tt }
 
-    -- ---- the end behind a compensation
+    -- ---- the end after a compensation
 
     module _ (l n : ℕ) (k : BackBesideKept d b base s e t last undo_next beside old v mid (Ok (Seen (backs.Taken l n)))) where
       abbrev pub took : TakesPlain d b base s e t l n beside k.sound.entry old v mid

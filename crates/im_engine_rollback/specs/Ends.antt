@@ -1,4 +1,4 @@
--- How a call ends that reads records of the log, and takes back or logs one behind them.
+-- How a call ends that reads records of the log, and takes back or logs one after them.
 use Rattle.std.specs.Prelude.{◌≡◌, Bool, true, false, Option, None, Some}
 use Rattle.im_base_types.specs.declared.fault.Fault.{Fault}
 use Rattle.im_base_types.specs.declared.fault.Fault.TheVariants.{Capacity, Device, Failed, LogFull, Memory, NotAStore}
@@ -15,7 +15,7 @@ abbrev pub may_be_full : Fault → Bool
 may_be_full LogFull = true
 may_be_full e = false
 
--- those of a change that is taken back, and of an End behind it
+-- those of a change that is taken back, and of an End after it
 abbrev pub may_turn : Fault → Bool
 may_turn Capacity = true
 may_turn Failed = true
@@ -24,7 +24,7 @@ may_turn Memory = true
 may_turn e = false
 
 module _ {D : Type 0} (d : Ghosts D) where
-  -- How it ends. The writer goes on behind any refusal but `Device` and `LogFull`; of `NotAStore` that is not said, since a record that could not be read leaves the writer failed.
+  -- How it ends. The writer goes on after any refusal but `Device` and `LogFull`; of `NotAStore` that is not said, since a record that could not be read leaves the writer failed.
   abbrev pub TurnEnds : (Fault → Bool) → PageWriter → PageWriter → D → Option Fault → Type 0
   TurnEnds may v w new None = Works d v w new
   TurnEnds may v w new (Some Device) = Fails d v w × (d.failed new ≡ true)

@@ -36,7 +36,7 @@ module _ {D : Type 0} (d : Ghosts D) (b : Base) (base : ℕ) where
     pub sound : IsSound result (λ _. EndedBeside s e t last w disk)
     pub stops : LeavesUndo d b base s t old disk
 
-  -- behind a change that was taken back: others are left, or the transaction has ended
+  -- after a change that was taken back: others are left, or the transaction has ended
   abbrev pub WentOnBeside : (s : Writer) (e t last undo_next : ℕ) (w : PageWriter) (disk : D) → Undone → Type 0
   WentOnBeside s e t last undo_next w disk (More l n) = (l ≡ last) × (n ≡ undo_next) × (net t s.log ≢ []) × StandsAs d b base s w disk
   WentOnBeside s e t last undo_next w disk Ended = (net t s.log ≡ []) × EndedBeside s e t last w disk

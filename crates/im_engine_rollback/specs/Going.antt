@@ -31,7 +31,7 @@ pub record IsFound (t l : ℕ) (log : History) : Type 0 where
   pub none : l ≡ 0 → to_undo t log ≡ []
 
 module _ {D : Type 0} (d : Ghosts D) (b : Base) (base : ℕ) where
-  -- what reading one record comes to, behind which the writer stands as it did
+  -- what reading one record comes to, after which the writer stands as it did
   abbrev pub ReadOne : Writer → ℕ → ℕ → PageWriter → D → Option ℕ → Type 0
   ReadOne s t l w disk next = StandsAs d b base s w disk × LeadsUndo t l s.log next
 

@@ -29,14 +29,14 @@ use Rattle.im_engine_rollback.specs.declared.undone_in_steps.UndoneInSteps.TheVa
 use Rattle.im_engine_rollback.specs.SplitsBack.{IsSplitBack}
 use Rattle.im_engine_rollback.specs.TurnsBeside.{HasEndedBeside, HasMoreBeside, HasNoWayBack, IsHiddenBack, IsSeenNext, NeedsChangeBack}
 
--- The change is this transaction's, behind which its undo goes on there, and so many of its pages are logged.
+-- The change is this transaction's, after which its undo goes on there, and so many of its pages are logged.
 pub record IsBegunBy (t undo_next made : ℕ) (begun : BegunChange) : Type 0 where
   pub owner : begun.change.transaction ≡ t
   pub leads : begun.change.undo_next ≡ undo_next
   pub done : begun.change.done ≡ made
 
 module _ {D : Type 0} (d : Ghosts D) (b : Base) (base : ℕ) where
-  -- Behind Images the first page of a split joined the log: the change is under way, and goes on to be for the record that is undone next.
+  -- After Images the first page of a split joined the log: the change is under way, and goes on to be for the record that is undone next.
   pub record FirstLogged (s : Writer) (e t last undo_next : ℕ) (begun : BegunChange) (w : PageWriter) (disk : D) : Type 0 where
     pub now : Writer
     pub stands : StandsAs d b base now w disk
@@ -68,7 +68,7 @@ module _ {D : Type 0} (d : Ghosts D) (b : Base) (base : ℕ) where
     pub alone : beside.pages.now ≡ []
     pub first : FirstLogged s e t last undo_next begun w disk
 
-  -- The change is taken back by its compensation, behind which the transaction's records end and its undo goes on as the change that takes the leaf out of the tree says, beside none.
+  -- The change is taken back by its compensation, after which the transaction's records end and its undo goes on as the change that takes the leaf out of the tree says, beside none.
   pub record IsDropping (s : Writer) (e t : ℕ) (beside : Beside) (begun : BegunChange) (old : D) (w : PageWriter) (disk : D) : Type 0 where
     pub entry : Entry
     pub next : IsSeenNext d b base s t beside entry

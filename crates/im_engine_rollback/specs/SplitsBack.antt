@@ -1,4 +1,4 @@
--- A key that comes back into a leaf that is split first, over several steps; and what comes behind a structure change of a rollback.
+-- A key that comes back into a leaf that is split first, over several steps; and what comes after a structure change of a rollback.
 use Rattle.std.specs.Prelude.{◌≡◌, ◌⊎◌, ◌++◌, ℕ, true, List, [], ◌∷◌, Some, Result, IfErr}
 use Rattle.im_base_types.specs.declared.fault.Fault.{Fault}
 use Rattle.im_base_types.specs.declared.fault.Fault.TheVariants.{Capacity, Failed, Memory}
@@ -30,7 +30,7 @@ use Rattle.im_engine_rollback.specs.declared.undone_beside.UndoneBeside.TheVaria
 use Rattle.im_engine_rollback.specs.Turns.{WentOn}
 use Rattle.im_engine_rollback.specs.TurnsBeside.{SplitsFirst, TurnedBeside}
 
--- What the split is for: reading from where undo goes on behind it comes to a record that dropped this key, and the key's leaf behind it is this page, one of its images, with room for the key.
+-- What the split is for: reading from where undo goes on after it comes to a record that dropped this key, and the key's leaf after it is this page, one of its images, with room for the key.
 pub record IsSplitBack (b : Base) (undo_next : ℕ) (images : List Numbered) (log : History) : Type 0 where
   pub found : Logged
   pub reads : undo_reads undo_next log ≡ Some found
@@ -50,17 +50,17 @@ abbrev pub SplitsBackBegin : {D : Type 0} → Ghosts D → Type 0
 SplitsBackBegin {D} d = (b : Base) (base : ℕ) (s : Writer) (e t last undo_next : ℕ) (beside : Beside) (entry : Entry) (change : PlannedChange) (start : PageWriter) (old : D) (w : PageWriter) (disk : D)
     → IsGoingBeside d b base s e t last undo_next start old → IsToUndo d b base s t entry → (splits : SplitsFirst d b base s e t last undo_next beside entry change old w disk) → IsSplitBack b undo_next change.images splits.now.log
 
--- It is still behind what others log in a step.
+-- It is still after what others log in a step.
 abbrev pub OthersLeaveSplitsBack : Type 0
 OthersLeaveSplitsBack = (b : Base) (t undo_next : ℕ) (images : List Numbered) (done prev : ℕ) (more older : History) → IsUnderWay b t undo_next images done prev older → IsLawful b page_tree (more ++ older) → AreBeside t images more
     → IsSplitBack b undo_next images older → IsSplitBack b undo_next images (more ++ older)
 
--- And behind a page of its own.
+-- And after a page of its own.
 abbrev pub PagesLeaveSplitsBack : Type 0
 PagesLeaveSplitsBack = (b : Base) (undo_next : ℕ) (images : List Numbered) (r : Logged) (older : History) (was new : Body) → IsLawful b page_tree (r ∷ older) → r.what ≡ Smo was new → IsSplitBack b undo_next images older
     → IsSplitBack b undo_next images (r ∷ older)
 
--- ---- behind the change
+-- ---- after the change
 
 module _ {D : Type 0} (d : Ghosts D) (b : Base) (base : ℕ) where
   -- The record that closes the change joined the log, and none is open.

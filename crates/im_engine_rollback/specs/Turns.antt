@@ -39,7 +39,7 @@ module _ {D : Type 0} (d : Ghosts D) (b : Base) (base : ℕ) where
     pub next : IsToUndo d b base s t entry
     pub used_up : UsesUp (bodies s) (what_of entry)
 
-  -- what that keeps; a want of memory leaves all as it was, or is `Failed` behind a record of the transaction; `Memory` comes only where a key that is put back finds its leaf without room, and `Capacity` only where page numbers or levels are used up too
+  -- what that keeps; a want of memory leaves all as it was, or is `Failed` after a record of the transaction; `Memory` comes only where a key that is put back finds its leaf without room, and `Capacity` only where page numbers or levels are used up too
   pub record TakeKept (s : Writer) (e t : ℕ) (old : D) (w : PageWriter) (disk : D) (result : Result (ℕ × ℕ) Fault) : Type 0 where
     pub sound : IsSound result (λ x. Took s e t x.0 x.1 old w disk)
     pub stops : LeavesUndo d b base s t old disk
@@ -61,7 +61,7 @@ module _ {D : Type 0} (d : Ghosts D) (b : Base) (base : ℕ) where
 
   -- ---- a turn
 
-  -- behind a change that was taken back: others are left, or the transaction has ended
+  -- after a change that was taken back: others are left, or the transaction has ended
   abbrev pub WentOn : (s : Writer) (e t last undo_next : ℕ) (w : PageWriter) (disk : D) → Undone → Type 0
   WentOn s e t last undo_next w disk (More l n) = (l ≡ last) × (n ≡ undo_next) × (net t s.log ≢ []) × StandsAs d b base s w disk
   WentOn s e t last undo_next w disk Ended = (net t s.log ≡ []) × EndedNow s e t last w disk

@@ -48,7 +48,7 @@ module _ {D : Type 0} (d : Ghosts D) (b : Base) (base : ℕ) where
     pub begins : IsUnderWay b t undo_next change.images 0 last now.log
     pub count : change.count ≡ (settled b now.log 0).leftmost
 
-  -- It is taken back, and the deletion of its leaf may begin behind it.
+  -- It is taken back, and the deletion of its leaf may begin after it.
   pub record DropsBehind (s : Writer) (e t last undo_next : ℕ) (beside : Beside) (entry : Entry) (change : PlannedChange) (old : D) (w : PageWriter) (disk : D) : Type 0 where
     pub page : ℕ
     pub planned : IsBack (settled_pages b s) beside (what_of entry) (Drop page change.images)

@@ -1,4 +1,4 @@
-//! What comes behind a structure change of a rollback.
+//! What comes after a structure change of a rollback.
 
 ghost use Rattle.std.specs.Prelude.{◌≡◌, ◌≤◌, ℕ, length, false, Some, IfErr, IfOk};
 ghost use Rattle.im_base_types.specs.declared.fault.Fault.TheVariants.{Failed};
@@ -74,7 +74,7 @@ pub fn close_split<D: Disk>(
     }
 }
 
-/// Closes the deletion of a leaf whose pages are all logged, behind the compensation that left it empty; where that took back the last change
+/// Closes the deletion of a leaf whose pages are all logged, after the compensation that left it empty; where that took back the last change
 /// of the transaction, its End is logged. It wants no memory, and is refused only `LogFull`, `Device`, or `NotAStore` where the records are
 /// not as a log of the store has them.
 pub fn close_drop<D: Disk>(

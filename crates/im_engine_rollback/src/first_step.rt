@@ -47,7 +47,7 @@ fn begin_split<D: Disk>(
 
 /// Takes back the newest change that a transaction has left to undo so far as one step goes, beside a structure change of another that may be under
 /// way. It is as `undo_beside` where that makes no structure change. A split that comes first begins, and its first page is logged; a deletion
-/// behind the compensation begins, with no page logged.
+/// after the compensation begins, with no page logged.
 ///
 /// It is hidden where `undo_beside` is. Refused `Memory` only where a structure change is needed, beside none, with all as it was; otherwise as
 /// `undo_beside` is.

@@ -13,7 +13,7 @@ pub(crate) enum LoggedBack {
     },
     /// Nothing: this split comes first.
     Splits(PlannedChange),
-    /// The compensation, behind which this change takes the leaf out of the tree.
+    /// The compensation, after which this change takes the leaf out of the tree.
     Drops {
         change: PlannedChange,
         last: Lsn,

@@ -139,7 +139,7 @@ fn back_at<D: Disk>(
 
 /// Takes back the newest change that a transaction has left to undo, beside a structure change of another that may be under way, and logs
 /// its End where that was the last one. A structure change that it takes is handed out to be made in later steps, with what others are told of it: a
-/// split in front of the compensation, and one that takes an empty leaf out of the tree behind it. Records are read into the room, of 16,384 bytes.
+/// split in front of the compensation, and one that takes an empty leaf out of the tree after it. Records are read into the room, of 16,384 bytes.
 ///
 /// It is hidden, with nothing logged but Images, where the change beside has made the page that the record names, or a page on the way to its key;
 /// where the key's leaf is one of its pages; and where a structure change is needed beside it (`HiddenBack` of im_restart_undo).

@@ -1,4 +1,4 @@
--- Records that were read, and whatever the rest spells behind them.
+-- Records that were read, and whatever the rest spells after them.
 use Rattle.std.proofs.Common.{◌≡◌, ℕ, zero, suc, ◌+◌, ◌-◌, ◌≤◌, false, List, [], ◌∷◌, length, take, drop, Option, Some, None, MatchOption, Ok, refl, sym, ◌∙◌, ap, subst, arith}
 use Rattle.im_base_types.specs.declared.file_id.FileId.{FileId}
 use Rattle.im_base_types.specs.declared.file_id.FileId.TheVariants.{Log}

@@ -53,7 +53,7 @@ module _ {D : Type 0} (d : Ghosts D) (base : ℕ) (all : List Logged) (old mid :
       reads_on d old old mid (Stepped (InFile Log (λ _ bytes. IsLogOf base all bytes)) (d.may_leave old))
       (in_started d Log old (IsLogOf base all) only_now synced (λ told. is)) reads
 
--- and one within a creation behind it a blank file
+-- and one within a creation after it a blank file
 pub creation_stops : {D : Type 0} (d : Ghosts D) (base : ℕ) (all : List Logged) (old mid new : D) → LeavesIn d Log old mid (IsLogOf base all) → Reads d old mid → all ≡ [] → IsUnmade (d.seen old Log) → base_of (d.seen old Log) ≡ base
     → LeavesIn d Log mid new IsBlank → LeavesIn d Log old new (IsLogOf base all)
 creation_stops d base all old mid new first reads none unmade low run =

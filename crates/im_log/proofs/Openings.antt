@@ -173,7 +173,7 @@ module _ {D : Type 0} (d : Ghosts D) (base : ℕ) (all older : List Logged) wher
   pub batch_taken_here : (old : Opening) (disk : D) → IsOpening d base all older old disk → place_of old.gate ≡ old.behind → RefusedBatch old.base (place_of old.gate) (unread d old.gate disk) → ⊥
   batch_taken_here old disk h place refused = omega (arith, refused.refused h.ahead h.unread, h.room, place, h.based)
 
--- behind the last batch, with nothing in the buffer
+-- after the last batch, with nothing in the buffer
 pub opened : {D : Type 0} (d : Ghosts D) (base : ℕ) (all older : List Logged) (opening : Opening) (log : LogFile) (disk : D) → StartsAs opening.gate (d.seen disk Log) → IsReady d opening.gate disk → has_failed opening.gate ≡ false → Ended d base all older opening disk
     → (log.gate ≡ opening.gate) × (log.base ≡ opening.base) × (log.start ≡ 0) × (log.used ≡ 0) × (log.failed ≡ false) → IsLog d base all all log disk
 opened d base all older opening log disk starts ready usable e is =

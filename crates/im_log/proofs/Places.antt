@@ -274,7 +274,7 @@ module _ {D : Type 0} (d : Ghosts D) (base : ℕ) (all durable : List Logged) (l
   pub none_below : r.lsn < log.base → ⊥
   none_below below = let i = in_file (omega (arith, below)) in omega (arith, below, i.lsn_is, h.based)
 
-  -- one behind the gate stands in the buffer
+  -- one after the gate stands in the buffer
   pub buffer_bounds : log.base + place_of log.gate ≤ r.lsn → (first_waiting_lsn log ≤ r.lsn) × (r.lsn < next_lsn log)
   buffer_bounds above =
       let i = in_buffer above in
@@ -307,7 +307,7 @@ size_is size front bytes is front_is = is ∙ ap (big_number 4) front_is ∙ siz
 pub slice_is : (items : List ℕ) (at end : ℕ) → at ≤ end → take (end - at) (drop at items) ≡ drop at (take end items)
 slice_is items at end le = let e : end ≡ at + (end - at) = omega (arith, le) in sym (ap (λ (k : ℕ). drop at (take k items)) e ∙ drop-take at (end - at) items)
 
--- a first record of them, of those that are cut off behind it
+-- a first record of them, of those that are cut off after it
 pub cut_first : (items : List ℕ) (at end n : ℕ) (entry : Entry) → at ≤ end → end ≤ length items → n ≤ end - at → First (drop at (take end items)) entry → record_size (drop at (take end items)) ≤ n → First (take n (drop at items)) entry
 cut_first items at end n entry le within few f fits =
     let y : List ℕ = drop at (take end items) in

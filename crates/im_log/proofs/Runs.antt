@@ -49,7 +49,7 @@ nothing_buffered lsn log all none = ap (λ (l : List ℕ). records_from 0 lsn l 
 pub sealed_size : (log : LogFile) (s : Sealed log) → size_of s.batches ≡ log.start
 sealed_size log s = omega (arith, ap length s.filled.is, length-append (gated s.batches) (1 ∷ []), gated_long s.batches, length-take-le log.start log.buffer.items (omega (arith, log.sized)))
 
--- what stands in front of a place stays where bytes come to stand behind it
+-- what stands in front of a place stays where bytes come to stand after it
 pub front_kept : (old new bytes : List ℕ) (start at end : ℕ) → start ≤ at → at ≤ end → at ≤ length old → take end new ≡ take at old ++ bytes → take start new ≡ take start old
 front_kept old new bytes start at end le on within is =
     sym (take-take start end new (omega (arith, le, on)))
@@ -138,7 +138,7 @@ seen_now d file old new P counts_now may_stay run told =
     let left = run.each told (d.seen new) (counts_now (d.moment old) (d.seen new) run.later (may_stay told)) in
     left.2.changed
 
--- behind a put the file says where the log starts as before
+-- after a put the file says where the log starts as before
 pub alike_now : {D : Type 0} (d : Ghosts D) (gate : Gate) (old new : D) → IsOfLog gate → StartsAs gate (d.seen old Log)
     → ((t : ℕ) (c : Files) → t ≤ d.moment new → d.may_leave new c → d.left_since new t c) → (d.tells → d.may_leave new (d.seen new))
     → LeavesIn d (file_of gate) old new (λ c. take (first_of gate) c ≡ take (first_of gate) (d.seen old (file_of gate))) → d.tells → StartsAlike (d.seen old Log) (d.seen new Log)
@@ -170,7 +170,7 @@ pub either_made : (base : ℕ) (durable all : List Logged) (was file : List ℕ)
 either_made base durable all was file has = ⊎_elim (λ (h : HasLog base durable file). h.made) (λ (h : HasLog base all file). h.made) has.0
 
 module _ {D : Type 0} (d : Ghosts D) (base : ℕ) (all durable : List Logged) where
-  -- what waits, as batches behind the gate
+  -- what waits, as batches after the gate
   waits_spell : (log : LogFile) (disk : D) (h : IsLog d base all durable log disk) → batches_records (base + place_of log.gate) (waits log h.sealed) durable ≡ Some all
   waits_spell log disk h =
       ap (λ (k : ℕ). batches_records (k + place_of log.gate) (waits log h.sealed) durable) (sym h.based)
@@ -216,7 +216,7 @@ module _ {D : Type 0} (d : Ghosts D) (base : ℕ) (all durable : List Logged) wh
         front_generation file c left.1,
       ))
 
-  -- behind a force
+  -- after a force
   pub forced : (log new : LogFile) (disk new_disk : D) → 1 ≤ log.used → IsOpen d log disk → (h : IsLog d base all durable log disk)
       → (d.tells → logged d new.gate new_disk ≡ with_batches (waits log h.sealed) (logged d log.gate disk)) → first_of new.gate ≡ first_of log.gate → StartsAlike (d.seen disk Log) (d.seen new_disk Log) → generation_of (d.seen new_disk Log) ≡ generation_of (d.seen disk Log) → IsMade (d.seen new_disk Log)
       → new.failed ≡ false → new.base ≡ log.base → new.start ≡ 0 → new.used ≡ 0 → place_of new.gate ≡ place_of log.gate + (log.start + 4 + log.used + 1) → Forced d base all durable disk new new_disk
@@ -245,7 +245,7 @@ module _ {D : Type 0} (d : Ghosts D) (base : ℕ) (all durable : List Logged) wh
         file = record { more = more; grown = λ bs is. ap (λ (n : ℕ). batches n (d.seen new_disk Log)) alike.gate ∙ put_log ∙ ap (with_batches more) is; generation = as_before };
       }
 
-  -- behind a call that only reads
+  -- after a call that only reads
   pub log_read : (log : LogFile) (old new : D) → d.seen new ≡ d.seen old → IsLog d base all durable log old → IsLog d base all durable log new
   log_read log old new seen h = record {
     tells = h.tells;
@@ -331,7 +331,7 @@ module _ {D : Type 0} (d : Ghosts D) (base : ℕ) (all durable : List Logged) wh
   rises lsn [] below b start = omega (arith, below, start)
   rises lsn (r ∷ older) below b start = below
 
-  -- a record in the buffer, behind a call after which the log has these lists
+  -- a record in the buffer, after a call after which the log has these lists
   pub appended : (was : List Logged) → IsFront was durable → (log new : LogFile) (old disk : D) → HasMoreBatches (d.seen old Log) (d.seen disk Log) → (bytes : List ℕ) (entry : Entry) (lsn : ℕ) → IsLog d base all durable log disk → entry_of bytes ≡ Some entry
       → Whole bytes → lsn ≡ next_lsn log → buffered new ≡ buffered log ++ bytes → new.used ≡ log.used + length bytes → (new.start ≡ log.start) × (take log.start new.buffer.items ≡ take log.start log.buffer.items) → new.base ≡ log.base → new.gate ≡ log.gate → new.failed ≡ log.failed
       → Appended d base all was entry lsn old new disk

@@ -69,7 +69,7 @@ joined lsn byte bytes more older log (Some entry) is_entry is onward =
     ∙ ap (λ (n : ℕ). records_from (n - 1) (suc lsn) (bytes ++ more) now) same
     ∙ onward now (sym (step lsn byte bytes older entry is_entry) ∙ is)
 
--- records behind whole records
+-- records after whole records
 pub carry : (skip lsn : ℕ) (bytes more : List ℕ) (older log : List Logged) → records_from skip lsn bytes older ≡ Some log → records_from skip lsn (bytes ++ more) older ≡ records_from 0 (lsn + length bytes) more log
 carry zero lsn [] more older log is = let e : older ≡ log = cc in let p : lsn ≡ lsn + 0 = omega arith in ap (λ (l : List Logged). records_from 0 lsn more l) e ∙ ap (λ (k : ℕ). records_from 0 k more log) p
 carry (suc skip) lsn [] more older log is = let never : None ≡ Some log = is in cc
@@ -127,7 +127,7 @@ append_by : (lsn : ℕ) (b : List ℕ) (bs more : List (List ℕ)) (older log : 
 append_by lsn b bs more older log None here is onward = let never : None ≡ Some log = sym (batch_none lsn b bs older here) ∙ is in cc
 append_by lsn b bs more older log (Some mid) here is onward = batch_step lsn b (bs ++ more) older mid here ∙ onward mid (sym (batch_step lsn b bs older mid here) ∙ is)
 
--- batches behind batches
+-- batches after batches
 pub batches_append : (lsn : ℕ) (bs more : List (List ℕ)) (older log : List Logged) → batches_records lsn bs older ≡ Some log → batches_records lsn (bs ++ more) older ≡ batches_records (lsn + size_of bs) more log
 batches_append lsn [] more older log is =
     let e : older ≡ log = cc in let p : lsn ≡ lsn + 0 = omega arith in
@@ -162,7 +162,7 @@ pub log_is : (base : ℕ) (file : List ℕ) (bs : List (List ℕ)) (log : List L
     → log_of base file ≡ Some log
 log_is base file bs log is room records = ap (spelled_by base (first_gate file)) is ∙ spelled_is base (first_gate file) bs log room records
 
--- the log of a file with the same batches behind a first gate at the same place
+-- the log of a file with the same batches after a first gate at the same place
 pub log_same : (base : ℕ) (file new : List ℕ) → first_gate new ≡ first_gate file → batches (first_gate new) new ≡ batches (first_gate file) file → log_of base new ≡ log_of base file
 log_same base file new same put = ap (λ (n : ℕ). spelled_by base n (batches (first_gate new) new)) same ∙ ap (spelled_by base (first_gate file)) put
 

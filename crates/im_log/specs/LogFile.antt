@@ -14,7 +14,7 @@ use Rattle.im_log.specs.Spelled.{records_from, batches_records, log_of, last_lsn
 abbrev pub buffered : LogFile → List ℕ
 buffered log = drop (log.start + 4) (take (log.start + 4 + log.used) log.buffer.items)
 
--- The batches that wait in front of it, each laid out behind an open gate.
+-- The batches that wait in front of it, each laid out after an open gate.
 pub record Sealed (log : LogFile) : Type 0 where
   pub batches : List (List ℕ)
   pub filled : IsFilled batches (take log.start log.buffer.items)
@@ -43,11 +43,11 @@ end_with log size = if nat_le (log.used + size) 16384 then next_lsn log + size e
 abbrev pub HasLsnsLeft : LogFile → Type 0
 HasLsnsLeft log = log.base + (place_of log.gate + 1) + (length log.buffer.items + 16388) ≤ 2 ^ 62
 
--- Behind the batch that is being filled a whole one more finds room in the buffer, and its records below LSN 2^62.
+-- After the batch that is being filled a whole one more finds room in the buffer, and its records below LSN 2^62.
 abbrev pub HasNextRoom : LogFile → Type 0
 HasNextRoom log = (log.start + log.used + 16394 ≤ length log.buffer.items) × HasLsnsLeft log
 
--- The log stands behind the same gate.
+-- The log stands after the same gate.
 pub record SameGate (old new : LogFile) : Type 0 where
   pub base : new.base ≡ old.base
   pub gate : new.gate ≡ old.gate

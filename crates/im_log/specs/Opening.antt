@@ -37,7 +37,7 @@ pub record HasNext (old new : Opening) : Type 0 where
 abbrev pub ahead_of : Opening → List ℕ
 ahead_of opening = take (opening.held - opening.end) (drop opening.end opening.bytes.items)
 
--- It read a record, and stands behind it.
+-- It read a record, and stands after it.
 pub record Stepped (old : Opening) (lsn : ℕ) (new : Opening) : Type 0 where
   pub lsn_is : lsn ≡ old.base + position_of old
   pub least : 4 ≤ record_size (rest_of old)
@@ -124,7 +124,7 @@ module _ {D : Type 0} (d : Ghosts D) where
       pub ok : IfOk result (λ next. MatchOption next (Ended new disk) (λ lsn. Next lsn new disk))
       pub cause : IfErr result (λ e. e ≡ Device)
 
-  -- One record more was read where its bytes are a record's; behind the last, the file spells those that were read.
+  -- One record more was read where its bytes are a record's; after the last, the file spells those that were read.
   pub record ReadOn (base : ℕ) (older : List Logged) (new : Opening) (disk : D) (result : Result (Option ℕ) Fault) : Type 0 where
     pub ok : IfOk result (λ next. MatchOption next (Ended base older older new disk)
         (λ lsn. (entry : Entry) → entry_of (current_of new) ≡ Some entry → HasRead base (logged_at lsn entry ∷ older) new disk))

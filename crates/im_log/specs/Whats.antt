@@ -6,7 +6,7 @@ use Rattle.im_base_types.specs.Records.{What, Unreadable}
 use Rattle.im_theory_page.specs.Page.{page_of}
 use Rattle.im_log_record.specs.Entry.{Entry, InsertKey, DeleteKey, UndoInsert, UndoDelete, Smo, UndoSmo, DummyClr, Commit, End, Image, Checkpoint}
 
--- The page whose bytes these are behind an LSN of zero.
+-- The page whose bytes these are after an LSN of zero.
 abbrev pub page_behind : List ℕ → Option Page
 page_behind bytes = page_of (replicate 8 0 ++ bytes)
 

@@ -19,7 +19,7 @@ pub struct LogFile {
     gate: Gate,
     /// The LSN of the file's first byte.
     base: u64,
-    /// What waits for a force stands at its front as it will behind the gate: whole batches, each behind an open gate, and the one that is filled.
+    /// What waits for a force stands at its front as it will after the gate: whole batches, each after an open gate, and the one that is filled.
     buffer: Vec<u8>,
     /// Where the length of that one will stand.
     start: usize,
@@ -48,7 +48,7 @@ impl LogFile {
     ghost use Rattle.im_base_types.specs.Outcomes.{fault_of, none_own};
     ghost use Rattle.im_log.specs.Reading.{FoundKept};
 
-    // A log with nothing buffered, behind this gate.
+    // A log with nothing buffered, after this gate.
     pub(crate) fn at_end(gate: Gate, buffer: Vec<u8>) -> LogFile
         requires of_log { IsOfLog gate }
         requires room { 16389 ≤ length buffer.items }
@@ -238,7 +238,7 @@ impl LogFile {
     /// Brings the record at an LSN to the front of `room`, which has 16,384 bytes or more, and answers its size: from the buffer
     /// where it waits for a force, and otherwise from the file, by two reads. No device call, and no memory is taken.
     ///
-    /// Refused `NotAStore` where no record can be at that LSN, as below the log, at its gate, and at its end or above; `Failed` where the log has failed; `Device`, behind which the log is
+    /// Refused `NotAStore` where no record can be at that LSN, as below the log, at its gate, and at its end or above; `Failed` where the log has failed; `Device`, after which the log is
     /// not used again.
     pub fn read_at<D: Disk>(&self, disk: &mut D, lsn: Lsn, room: &mut [u8]) -> Result<usize, Fault>
         requires room { 16384 ≤ length room.old }

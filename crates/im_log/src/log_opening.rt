@@ -35,7 +35,7 @@ pub struct Opening {
     end: usize,
     /// How many bytes were read.
     held: usize,
-    /// The place behind the batch in the file.
+    /// The place after the batch in the file.
     behind: u64,
     failed: bool,
     ghost of_log: { IsOfLog gate },
@@ -226,7 +226,7 @@ impl Opening {
         Ok(lsn)
     }
 
-    /// Moves on to the next record and answers its LSN, or none behind the last.
+    /// Moves on to the next record and answers its LSN, or none after the last.
     ///
     /// Refused `NotAStore` where the bytes are no log; `Device`. After a refusal every later call answers `Failed`.
     pub fn next<D: Disk>(&mut self, disk: &mut D) -> Result<Option<Lsn>, Fault>
@@ -258,7 +258,7 @@ impl Opening {
         decode(&self.bytes[self.from..self.at])
     }
 
-    /// The log behind its last record, with nothing buffered.
+    /// The log after its last record, with nothing buffered.
     pub fn finish<D: Disk>(self, disk: &D) -> LogFile
         requires usable { self.failed ≡ false }
         requires begun { IsBegun D.Disk self disk.now }

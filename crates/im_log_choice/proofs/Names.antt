@@ -84,7 +84,7 @@ module _ {D : Type 0} (d : Ghosts D) (old mid : D) (reads : Reads d old mid) whe
     syncs = reads.syncs;
   }
 
-  -- names that are changed behind the reads
+  -- names that are changed after the reads
   module _ (new : D) (seen : d.seen new ≡ named true (d.seen mid)) where
     pub reads_turned : ((c : Files) → d.may_leave new c ↔ d.may_leave mid (named true c)) → d.moment new ≡ d.moment mid
         → ((t : ℕ) (c : Files) → d.left_since new t c ↔ d.left_since mid t (named true c)) → d.writes new ≡ d.writes mid → d.syncs new ≡ d.syncs mid → ReadsNamed d old new

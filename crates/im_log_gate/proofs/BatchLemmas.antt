@@ -72,7 +72,7 @@ module _ (behind : List ℕ) (s : Sizes behind) where
       ∙ take_all n (drop 4 front) (omega (arith, inner_long))
       ∙ inner
 
-  -- a whole batch counts, whatever comes behind it
+  -- a whole batch counts, whatever comes after it
   pub whole_front : (rest : List ℕ) → batches_from 0 (1 ∷ front ++ rest) ≡ in_front (batch behind ∷ []) (batches_from 0 rest)
   whole_front [] = refused 1 (front ++ []) refl (too_short (front ++ []) (batch_length behind) (front_length []) (omega (arith, length-append front [], front_long)))
   whole_front (next ∷ rest) =

@@ -12,7 +12,7 @@ front_of : (n at : ℕ) (some other : List ℕ) → n ≤ at → take at other �
 front_of n at some other le same = sym (take-take n at other le) ∙ ap (λ (l : List ℕ). take n l) same ∙ take-take n at some le
 
 module _ {D : Type 0} (d : Ghosts D) (file : FileId) (old mid : D) (place size n : ℕ) (within : d.tells → n ≤ place) (synced : Only file (d.seen old) (d.may_leave old)) where
-  -- a write behind it
+  -- a write after it
   pub first_front : LeavesOnly d old mid (Stepped (InFile file (Torn (place + 1) size)) (d.may_leave old)) → LeavesIn d file old mid (λ c. take n c ≡ take n (d.seen old file))
   first_front run = step_in d file old mid (λ c. take n c ≡ take n (d.seen old file)) (place + 1) size synced run
       (λ told c torn. let le = within told in front_of n (place + 1) (d.seen old file) c (omega arith) torn.before)

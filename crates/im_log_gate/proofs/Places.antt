@@ -1,4 +1,4 @@
--- Gates behind whole batches, through writes that a stop may tear.
+-- Gates after whole batches, through writes that a stop may tear.
 use Rattle.std.proofs.Common.{◌≡◌, ◌≢◌, ℕ, suc, ◌+◌, ◌<◌, ◌≤◌, List, [], ◌∷◌, ◌++◌, length, take, drop, get_or, Some, refl, sym, ◌∙◌, ap, arith, append_assoc, length-append, length-drop, take-append-drop}
 use Rattle.std.proofs.lemmas.List.{append-nil, take_at, drop_more, length-take-le, get_or_at, get_or-drop}
 use Rattle.std.proofs.lemmas.Nat.{from_be_bytes-to_be_bytes_4}
@@ -69,7 +69,7 @@ module _ (first : ℕ) (file : List ℕ) (place : ℕ) (r : Reaches first file p
   pub passes_before : get_or file place 0 ≡ 1 → Sizes behind → in_front_of first (place + (5 + batch_length behind)) file ≡ before ++ batch behind ∷ []
   passes_before is_open s = before_is first file (place + (5 + batch_length behind)) (before ++ batch behind ∷ []) (passes_front is_open s)
 
--- what stands behind a gate once a batch is written there
+-- what stands after a gate once a batch is written there
 unfoldable pub put : List ℕ → List ℕ → List ℕ
 put records junk = spelled records ++ junk
 
@@ -85,7 +85,7 @@ module _ (records junk : List ℕ) (some : 1 ≤ length records) (most : length 
   pub put_sizes : Sizes (put records junk)
   put_sizes = record { some = omega (arith, put_length, some); most = omega (arith, put_length, most); room = omega (arith, put_length, put_long) }
 
-  -- the records and what comes after them, behind the length
+  -- the records and what comes after them, after the length
   put_parts : drop 4 (put records junk) ≡ records ++ 0 ∷ junk
   unfolding put
   put_parts = append_assoc records (0 ∷ []) junk

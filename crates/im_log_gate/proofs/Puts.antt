@@ -11,7 +11,7 @@ use Rattle.im_log_gate.specs.Batches.{batches, HasPut, IsBeforeOrWith, IsBeforeO
 use Rattle.im_log_gate.specs.Gate.{file_of, first_of, place_of, IsReady}
 use Rattle.im_log_gate.proofs.Several.{torn_behind, torn_gate, written_behind, written_gate, staged, adds, moves, next_closed, laid_one, laid_long, with_one}
 
--- one batch is laid out in the room, whatever the room has behind it
+-- one batch is laid out in the room, whatever the room has after it
 pub lays_one : (records room : List ℕ) (size : ℕ) → 1 ≤ length records → length records ≤ 16384 → length records + 5 ≤ size → take (length records + 5) room ≡ spelled records → Lays (records ∷ []) (take size room)
 lays_one records room size some most le is = record {
   some = omega arith;
@@ -22,7 +22,7 @@ lays_one records room size some most le is = record {
       ∙ ap (λ (l : List ℕ). l ++ drop (length records + 5) (take size room)) (take-take (length records + 5) size room le ∙ is ∙ sym (laid_one records));
 }
 
--- several are, behind a clearing of what comes after them
+-- several are, after a clearing of what comes after them
 pub lays_all : (bs : List (List ℕ)) (room cleared : List ℕ) (used size : ℕ) → IsLaid bs (take used room) → take used cleared ≡ take used room → used ≤ size → Lays bs (take size cleared)
 lays_all bs room cleared used size l same le = record {
   some = l.some;
@@ -70,7 +70,7 @@ module _ {D : Type 0} (d : Ghosts D) (file : FileId) (first : ℕ) (old mid : D)
           written_gate first (d.seen old file) place (reaches told) (closed told) bs content l (get_or (d.seen old file) place 0) (d.seen new file)
           (subst (λ (k : List ℕ). Holds place (1 ∷ []) k (d.seen new file)) (is_staged told) (second_holds told))
 
-      -- they stand behind the gate
+      -- they stand after the gate
       pub has_put : d.tells → HasPut first bs place (d.seen old file) (d.seen new file)
       has_put told = record {
         added = ap (batches first) (is_put told) ∙ adds first (d.seen old file) place (reaches told) (closed told) bs content l;
@@ -78,7 +78,7 @@ module _ {D : Type 0} (d : Ghosts D) (file : FileId) (first : ℕ) (old mid : D)
         closed = subst (λ (k : List ℕ). get_or k (place + size_of bs) 0 ≢ 1) (sym (is_put told)) (next_closed first (d.seen old file) place (reaches told) (closed told) bs content l (place + size_of bs) refl);
       }
 
--- the gate behind batches that were put
+-- the gate after batches that were put
 pub ready_behind : {D : Type 0} (d : Ghosts D) (gate : Gate) (disk : D) (first place : ℕ) (bs : List (List ℕ)) (was : List ℕ) → first_of gate ≡ first → place_of gate ≡ place + size_of bs → d.failed disk ≡ false
     → (d.tells → HasPut first bs place was (d.seen disk (file_of gate))) → Only (file_of gate) (d.seen disk) (d.may_leave disk) → IsReady d gate disk
 ready_behind d gate disk first place bs was at moved works put durable = record {

@@ -1,4 +1,4 @@
--- Several batches behind one gate, through writes that a stop may tear.
+-- Several batches after one gate, through writes that a stop may tear.
 use Rattle.std.proofs.Common.{◌≡◌, ◌≢◌, inl, inr, ℕ, ◌+◌, ◌<◌, ◌≤◌, List, [], ◌∷◌, ◌++◌, length, take, drop, get_or, Option, Some, None, refl, sym, ◌∙◌, ap, subst, arith, append_assoc, length-append, take-append-drop, All}
 use Rattle.std.proofs.lemmas.Bool.{cases_eq}
 use Rattle.std.proofs.lemmas.List.{append-nil, take_at, drop_at, drop_more, take_more, take-take, length-take-le, get_or_at, get_or-take}
@@ -13,7 +13,7 @@ none_in_front : (bs : Option (List (List ℕ))) → bs ≡ in_front [] bs
 none_in_front None = refl
 none_in_front (Some bs) = refl
 
--- one batch behind an open gate, whatever comes behind it
+-- one batch after an open gate, whatever comes after it
 one_counts : (records : List ℕ) → Fits records → (rest : List ℕ) → batches_from 0 (1 ∷ to_be_bytes w32 (length records) ++ records ++ rest) ≡ in_front (records ∷ []) (batches_from 0 rest)
 one_counts records f rest =
     ap (λ (l : List ℕ). batches_from 0 (1 ∷ l ++ rest)) (sym (put_front records [] f.some f.most))
@@ -59,9 +59,9 @@ pub with_one : (last : List ℕ) (before : Option (List (List ℕ))) → with_ba
 with_one last None = refl
 with_one last (Some before) = refl
 
--- the two writes, behind the gate and then over it
+-- the two writes, after the gate and then over it
 module _ (first : ℕ) (file : List ℕ) (place : ℕ) (r : Reaches first file place) (closed : get_or file place 0 ≢ 1) where
-  -- the closed gate stands in each outcome of a write behind it
+  -- the closed gate stands in each outcome of a write after it
   pub torn_behind : (n : ℕ) (c : List ℕ) → Torn (place + 1) n file c → batches first c ≡ batches first file
   torn_behind n c torn =
       let long = r.within in
@@ -77,11 +77,11 @@ module _ (first : ℕ) (file : List ℕ) (place : ℕ) (r : Reaches first file p
     abbrev last : List ℕ
     last = drop (place + 1 + length content) file
 
-    -- what comes behind the last gate
+    -- what comes after the last gate
     abbrev pub junk : List ℕ
     junk = l.rest ++ last
 
-    -- the file with the batches behind this gate
+    -- the file with the batches after this gate
     abbrev pub staged : ℕ → List ℕ
     staged gate = take place file ++ gate ∷ (laid bs ++ junk)
 
@@ -111,7 +111,7 @@ module _ (first : ℕ) (file : List ℕ) (place : ℕ) (r : Reaches first file p
     staged_gate : (gate : ℕ) → get_or (staged gate) place 0 ≡ gate
     staged_gate gate = get_or_at (take place file) gate (laid bs ++ junk) 0 place front_is
 
-    -- behind the open gate stand the batches and then the closed one
+    -- after the open gate stand the batches and then the closed one
     opened_is : staged 1 ≡ take place file ++ (gated bs ++ 0 ∷ junk)
     opened_is =
         ap (λ (c : List ℕ). take place file ++ 1 ∷ c) (append_assoc (drop 1 (gated bs)) (0 ∷ []) junk)

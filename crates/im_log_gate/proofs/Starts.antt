@@ -31,7 +31,7 @@ blank_starts file c none (inr made) =
     let is = made.2 in
     record { gate = is.gate ∙ sym was.gate; base = is.base ∙ sym was.base; number = is.number ∙ sym was.number }
 
--- A first gate stands behind the made byte, and not above LSN 2^62.
+-- A first gate stands after the made byte, and not above LSN 2^62.
 pub gate_behind : (file : List ℕ) → 2 ≤ first_gate file
 gate_behind file = let least = least_gate file in omega (arith, least)
 

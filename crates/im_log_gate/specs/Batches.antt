@@ -1,13 +1,13 @@
--- What the bytes of a log file stand for. A gate is a byte; behind it stand four bytes of length, the records of its batch
+-- What the bytes of a log file stand for. A gate is a byte; after it stand four bytes of length, the records of its batch
 -- and the next gate.
 use Rattle.std.specs.Prelude.{All, ◌≤◌, ◌≡◌, ◌≢◌, ◌⊎◌, ℕ, zero, suc, ◌+◌, ◌<◌, ◌==◌, nat_le, nat_lt, Bool, ◌&&◌, if◌then◌else◌, List, [], ◌∷◌, ◌++◌, length, take, drop, slice_index, Option, Some, None}
 use Rattle.std.specs.Int.{w32, from_be_bytes, to_be_bytes}
 
--- The length that the four bytes behind a gate give. Here and below, `behind` is all that stands behind the gate.
+-- The length that the four bytes after a gate give. Here and below, `behind` is all that stands after the gate.
 unfoldable pub batch_length : List ℕ → ℕ
 batch_length behind = from_be_bytes w32 (take 4 behind)
 
--- The records of the batch behind a gate.
+-- The records of the batch after a gate.
 abbrev pub batch : List ℕ → List ℕ
 batch behind = take (batch_length behind) (drop 4 behind)
 
@@ -48,7 +48,7 @@ with_batch last (Some before) = Some (before ++ last ∷ [])
 abbrev pub IsBeforeOrWith : ℕ → List ℕ → Option (List (List ℕ)) → List ℕ → Type 0
 IsBeforeOrWith first last before file = (batches first file ≡ before) ⊎ (batches first file ≡ with_batch last before)
 
--- What is written behind a gate: the length, the records and the next gate, closed.
+-- What is written after a gate: the length, the records and the next gate, closed.
 abbrev pub spelled : List ℕ → List ℕ
 spelled records = to_be_bytes w32 (length records) ++ records ++ 0 ∷ []
 
@@ -73,24 +73,24 @@ pub record Reaches (first : ℕ) (file : List ℕ) (place : ℕ) : Type 0 where
   pub placed : place ≡ first + size_of (in_front_of first place file)
   pub front : (rest : List ℕ) → batches first (take place file ++ rest) ≡ in_front (in_front_of first place file) (batches_from 0 rest)
 
--- ---- several batches behind one gate
+-- ---- several batches after one gate
 
 -- As many records as one batch may have.
 pub record Fits (records : List ℕ) : Type 0 where
   pub some : 1 ≤ length records
   pub most : length records ≤ 16384
 
--- Batches as they stand in a file, each behind an open gate.
+-- Batches as they stand in a file, each after an open gate.
 abbrev pub gated : List (List ℕ) → List ℕ
 gated [] = []
 gated (records ∷ rest) = 1 ∷ to_be_bytes w32 (length records) ++ records ++ gated rest
 
--- What is written behind a closed gate so that these stand behind it once it is open: all but the first gate, and the closed gate
--- behind the last. Of one batch it is what `spelled` says.
+-- What is written after a closed gate so that these stand after it once it is open: all but the first gate, and the closed gate
+-- after the last. Of one batch it is what `spelled` says.
 abbrev pub laid : List (List ℕ) → List ℕ
 laid bs = drop 1 (gated bs) ++ 0 ∷ []
 
--- These bytes are the batches laid out, with an open gate behind the last; no bytes are no batches.
+-- These bytes are the batches laid out, with an open gate after the last; no bytes are no batches.
 pub record IsFilled (bs : List (List ℕ)) (bytes : List ℕ) : Type 0 where
   pub fit : All Fits bs
   pub is : 1 ∷ bytes ≡ gated bs ++ 1 ∷ []
@@ -117,7 +117,7 @@ with_batches more (Some before) = Some (before ++ more)
 abbrev pub IsBeforeOrWithAll : ℕ → List (List ℕ) → Option (List (List ℕ)) → List ℕ → Type 0
 IsBeforeOrWithAll first more before file = (batches first file ≡ before) ⊎ (batches first file ≡ with_batches more before)
 
--- These batches came to stand behind the gate at this place, and a closed gate behind them.
+-- These batches came to stand after the gate at this place, and a closed gate after them.
 pub record HasPut (first : ℕ) (bs : List (List ℕ)) (place : ℕ) (was file : List ℕ) : Type 0 where
   pub added : batches first file ≡ with_batches bs (batches first was)
   pub reaches : Reaches first file (place + size_of bs)

@@ -18,7 +18,7 @@ pub record MovesBy (size : ℕ) (v w : Gate) (result : Result Unit Fault) : Type
 abbrev pub PassesBatch : Gate → Option ℕ → Gate → Type 0
 PassesBatch v next w = MatchOption next (place_of w ≡ place_of v) (λ size. (1 ≤ size) × (size ≤ 16384) × (place_of w ≡ place_of v + (size + 5)))
 
--- The same in bytes that were read from the gate on, which go on behind that batch; where they do not have all of it, nothing changes.
+-- The same in bytes that were read from the gate on, which go on after that batch; where they do not have all of it, nothing changes.
 abbrev pub PassesIn : List ℕ → Gate → Option ℕ → Gate → Type 0
 PassesIn ahead v next w = MatchOption next (w ≡ v) (λ size. (1 ≤ size) × (size ≤ 16384) × (size + 5 < length ahead) × (place_of w ≡ place_of v + (size + 5)))
 
@@ -38,7 +38,7 @@ module _ {D : Type 0} (d : Ghosts D) where
     pub failed : has_failed w ≡ not (is_ok result)
     pub refusals : Refusals (λ e. e ≡ LogFull) (has_failed v) (d.failed new) result
 
-  -- The outcome of a call that reads on behind the gate.
+  -- The outcome of a call that reads on after the gate.
   pub record BatchRead {A : Type 0} (own : Fault → Type 0) (v : Gate) (old : D) (w : Gate) (new : D) (result : Result A Fault) : Type 0 where
     pub reading : IsReading d w new
     pub same : InOneFile v w

@@ -14,7 +14,7 @@ use std::alloc::Global;
 mod ahead;
 mod switching;
 
-/// Where a log file of the first format has its first gate, in bytes from its start: behind the header.
+/// Where a log file of the first format has its first gate, in bytes from its start: after the header.
 pub const FIRST_GATE: u64 = 31;
 
 /// A gate of a log file, with the room from which every batch is written. It carries its file and what that file says of where its
@@ -249,9 +249,9 @@ impl Gate {
         Ok(Some(size as usize))
     }
 
-    /// Puts a batch of 1 to 16,384 bytes behind the closed gate and opens it, by two writes and two syncs. Where the file may end before the
-    /// batch does, zeros follow the next gate, 16,389 bytes in all behind the one that is opened: most syncs then find the file as long as it
-    /// was, and bytes behind a closed gate mean nothing. It takes no memory.
+    /// Puts a batch of 1 to 16,384 bytes after the closed gate and opens it, by two writes and two syncs. Where the file may end before the
+    /// batch does, zeros follow the next gate, 16,389 bytes in all after the one that is opened: most syncs then find the file as long as it
+    /// was, and bytes after a closed gate mean nothing. It takes no memory.
     ///
     /// Refused `LogFull`, with no device call made, where the records would end past place 2^62; `Device`. After a refusal every
     /// later call answers `Failed` until the file is opened again.
@@ -296,9 +296,9 @@ impl Gate {
         Ok(())
     }
 
-    /// Puts several batches behind the closed gate and opens it, by two writes and two syncs: a stop leaves none of them or all. They stand at
+    /// Puts several batches after the closed gate and opens it, by two writes and two syncs: a stop leaves none of them or all. They stand at
     /// the front of `room`, so many bytes of it, as they will in the file: length, records and an open gate, and so on, and a closed gate
-    /// behind the last. Where the file may end before they do, zeros follow, `most` bytes in all behind the gate that is opened. It takes no memory.
+    /// after the last. Where the file may end before they do, zeros follow, `most` bytes in all after the gate that is opened. It takes no memory.
     ///
     /// Refused `LogFull`, with no device call made, where the last gate would stand above place 2^62; `Device`. After a refusal every
     /// later call answers `Failed` until the file is opened again.

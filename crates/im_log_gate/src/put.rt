@@ -33,8 +33,8 @@ pub(crate) fn clear(room: &mut [u8], from: usize, to: usize)
     room[from..to].fill(0);
 }
 
-// Writes these bytes behind the closed gate at this place, and opens it: whichever first gate this one is reached from. They begin with batches
-// whose inner gates are open, and with a closed gate behind the last; so all of these batches come to stand behind the gate, or none.
+// Writes these bytes after the closed gate at this place, and opens it: whichever first gate this one is reached from. They begin with batches
+// whose inner gates are open, and with a closed gate after the last; so all of these batches come to stand after the gate, or none.
 pub(crate) fn put_laid<D: Disk>(
     disk: &mut D,
     file: FileId,
@@ -60,8 +60,8 @@ pub(crate) fn put_laid<D: Disk>(
     Ok(())
 }
 
-// Puts a batch behind the closed gate at this place, and opens it: whichever first gate this one is reached from. So many bytes are
-// written behind the gate: the batch, and zeros behind it.
+// Puts a batch after the closed gate at this place, and opens it: whichever first gate this one is reached from. So many bytes are
+// written after the gate: the batch, and zeros after it.
 pub(crate) fn put_behind<D: Disk>(
     disk: &mut D,
     file: FileId,
@@ -94,8 +94,8 @@ pub(crate) fn put_behind<D: Disk>(
     Ok(())
 }
 
-/// Ends a batch of a room in which several are laid out: its length comes to stand in front of its records, which lie four bytes behind `start` and up
-/// to `end`, and a gate behind them, open where another batch is to follow. In front of it stand whole batches, each behind an open gate.
+/// Ends a batch of a room in which several are laid out: its length comes to stand in front of its records, which lie four bytes after `start` and up
+/// to `end`, and a gate after them, open where another batch is to follow. In front of it stand whole batches, each after an open gate.
 pub fn seal(room: &mut [u8], start: usize, end: usize, more: bool)
     requires some { start + 5 ≤ end }
     requires most { end ≤ start + 16388 }

@@ -1,4 +1,4 @@
-//! What stands behind a gate.
+//! What stands after a gate.
 
 ghost use Rattle.std.specs.Prelude.{◌≡◌, ◌≢◌, ◌+◌, ◌^◌, ◌<◌, ◌≤◌, true, false, length, drop, slice_index, IfOk, MatchOption};
 ghost use Rattle.im_base_types.specs.declared.fault.Fault.TheVariants.{NotAStore};
@@ -11,7 +11,7 @@ use im_base_types::{Fault, FileId, LONGEST_BATCH};
 
 const BATCH: u64 = LONGEST_BATCH as u64;
 
-// How many bytes the batch behind the gate at this place has; none behind a closed gate.
+// How many bytes the batch after the gate at this place has; none after a closed gate.
 pub(crate) fn batch_size<D: Disk>(
     disk: &mut D,
     file: FileId,

@@ -75,7 +75,7 @@ module _ (file : List ℕ) (long : 31 < length file) (made : slice_index file 0 
   pub first_is_made : IsMade file
   first_is_made = let says = first_says in record { within = omega (arith, says.gate, long); made = made; named = inl is }
 
--- byte 0 and what stands behind it
+-- byte 0 and what stands after it
 pub front_second : (file h : List ℕ) → 1 ≤ length file → slice_index file 0 ≡ 1 → take 46 (drop 1 file) ≡ h → take 47 file ≡ 1 ∷ h
 front_second [] h long made is = absurd (omega (arith, long))
 front_second (x ∷ l) h long made is = ap (λ (y : ℕ). y ∷ take 46 l) made ∙ ap (λ (t : List ℕ). 1 ∷ t) is

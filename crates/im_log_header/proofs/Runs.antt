@@ -33,7 +33,7 @@ module _ {D : Type 0} (d : Ghosts D) (file : FileId) (old mid new : D) where
     abbrev pub IsOpening : List ℕ → Type 0
     IsOpening c = IsUnmade c ⊎ IsEmptyLog g b n c
 
-    -- the header behind a closed byte 0
+    -- the header after a closed byte 0
     pub header_run : (bytes : List ℕ) (begun : d.tells → 1 ≤ length (d.seen old file)) (closed : d.tells → slice_index (d.seen old file) 0 ≢ 1) → Only file (d.seen old) (d.may_leave old)
         → LeavesOnly d old mid (Stepped (InFile file (Torn 1 (length bytes))) (d.may_leave old)) → LeavesIn d file old mid IsOpening
     header_run bytes begun closed synced run =

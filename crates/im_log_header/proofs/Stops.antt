@@ -21,7 +21,7 @@ closed_long old new holds = let e = ap length holds in omega (arith, e)
 pub closed_byte : (old new : List ℕ) → Holds 0 (0 ∷ []) old new → slice_index new 0 ≢ 1
 closed_byte old new holds one = let clash : 0 ≡ 1 = sym (ap (λ (l : List ℕ). slice_index l 0) holds) ∙ one in omega (arith, clash)
 
--- ---- the header behind a closed byte 0, and then that byte
+-- ---- the header after a closed byte 0, and then that byte
 
 module _ (g b n : ℕ) (old : List ℕ) (begun : 1 ≤ length old) (closed : slice_index old 0 ≢ 1) where
   pub torn_closed : (k : ℕ) (c : List ℕ) → Torn 1 k old c → IsUnmade c

@@ -1,4 +1,4 @@
--- The front of a buffer after a write behind it.
+-- The front of a buffer after a write after it.
 use Rattle.std.proofs.Common.{◌≡◌, ℕ, ◌+◌, ◌≤◌, List, ◌++◌, length, take, sym, ap, ◌∙◌, append_assoc, take_at, length-append, length-take-le}
 use Rattle.im_log_record.specs.Spelling.{front, whole}
 
@@ -7,7 +7,7 @@ take_put old bytes rest at end le e =
     let l : length (take at old ++ bytes) ≡ end = length-append (take at old) bytes ∙ ap (λ (n : ℕ). n + length bytes) (length-take-le at old le) ∙ sym e in
     ap (take end) (sym (append_assoc (take at old) bytes rest)) ∙ take_at (take at old ++ bytes) rest end l
 
--- two and six writes, one behind the other
+-- two and six writes, one after the other
 pub two_puts : (t0 t1 t2 a b : List ℕ) → t1 ≡ t0 ++ a → t2 ≡ t1 ++ b → t2 ≡ t0 ++ (a ++ b)
 two_puts t0 t1 t2 a b e1 e2 = rw (e2, e1) (append_assoc t0 a b)
 

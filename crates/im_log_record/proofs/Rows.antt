@@ -34,7 +34,7 @@ rise_again : {X : Type 0} (number : X → ℕ) (last : Option ℕ) (xs : List X)
 rise_again number last [] h = refl
 rise_again number last (x ∷ xs) h = rw (above_again last (number x) h.0) (rise_again number (Some (number x)) xs h.1)
 
--- a loop over the rows tests one and goes on behind it
+-- a loop over the rows tests one and goes on after it
 pub rises_from : {X Y : Type 0} (row : Y → X) (number : X → ℕ) (list : List Y) (i : ℕ) (x : Y) (last : Option ℕ) → i < length list → x ≡ get_or list i x
     → rises number last (map row (drop i list)) ≡ (is_above last (number (row x)) && rises number (Some (number (row x))) (map row (drop (i + 1) list)))
 rises_from row number list i x last lt is =

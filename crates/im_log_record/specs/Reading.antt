@@ -182,7 +182,7 @@ entry_of bytes = do
   kind ← kind_at head.0.kind
   if head.0.size == length bytes then entry_at head.0 kind head.1 else None
 
--- the record at the front of the bytes, and the bytes behind it
+-- the record at the front of the bytes, and the bytes after it
 unfoldable pub first_entry : List ℕ → Option (Entry × List ℕ)
 first_entry bytes = do
   size ← word32_at bytes

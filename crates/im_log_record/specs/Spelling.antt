@@ -105,7 +105,7 @@ IsPage bytes = length bytes ≡ 4096
 abbrev pub IsKey : List ℕ → Type 0
 IsKey key = (1 ≤ length key) × (length key ≤ 255)
 
--- what a transaction wrote, behind its record before and with a next record to undo, about a page
+-- what a transaction wrote, after its record before and with a next record to undo, about a page
 pub record IsOwnedHead (t p u g : ℕ) : Type 0 where
   pub transaction : IsOwner t
   pub prev : Is64 p
@@ -117,7 +117,7 @@ abbrev pub IsAbove : Option ℕ → ℕ → Type 0
 IsAbove None n = Unit {0}
 IsAbove (Some last) n = last < n
 
--- the numbers strictly rise, behind this one
+-- the numbers strictly rise, after this one
 abbrev pub Rise : {A : Type 0} → (A → ℕ) → Option ℕ → List A → Type 0
 Rise number last [] = Unit {0}
 Rise number last (x ∷ xs) = IsAbove last (number x) × Rise number (Some (number x)) xs

@@ -1,4 +1,4 @@
--- Batches behind gates, as they stand in a file.
+-- Batches after gates, as they stand in a file.
 use Rattle.std.proofs.Common.{◌≡◌, ◌≢◌, ℕ, zero, suc, ◌+◌, ◌^◌, ◌≤◌, Bool, true, false, List, [], ◌∷◌, ◌++◌, length, map, take, drop, Option, Some, None, refl, sym, ◌∙◌, ap, subst, arith, append-nil, append_assoc, length-append, length-drop, take-append-drop, length-take-le, drop_at, drop-drop}
 use Rattle.std.proofs.lemmas.List.Elements.{All-cons, All-nil}
 use Rattle.std.specs.Prelude.{All}
@@ -63,7 +63,7 @@ length_back : (behind : List ℕ) → IsBytes behind → 4 ≤ length behind →
 unfolding batch_length word32
 length_back behind small long = (word32_back (take 4 behind) (length-take-le 4 behind long) (IsBytes-take 4 behind small)).0
 
--- a whole batch behind its gate
+-- a whole batch after its gate
 parts_of : (behind : List ℕ) → IsBytes behind → (s : Sizes behind) → behind ≡ to_be_bytes w32 (length (batch behind)) ++ batch behind ++ drop (4 + batch_length behind) behind
 parts_of behind small s =
     let n = batch_length behind in

@@ -9,7 +9,7 @@ use Rattle.im_log_record.specs.Reading.{IsBytes}
 use Rattle.im_log_record.specs.Spelling.{spelling, IsEntry}
 use Rattle.im_log.specs.Spelled.{logged_at, log_of}
 
--- the spellings of these records, one behind another
+-- the spellings of these records, one after another
 abbrev pub spelt : List Entry → List ℕ
 spelt [] = []
 spelt (said ∷ rest) = spelling said ++ spelt rest
@@ -19,7 +19,7 @@ pub record IsBatch (said : List Entry) : Type 0 where
   pub entries : AllByRecursion IsEntry said
   pub fits : Fits (spelt said)
 
--- the log behind these records, the first of which stands at this LSN, on top of an older one
+-- the log after these records, the first of which stands at this LSN, on top of an older one
 abbrev pub joined : ℕ → List Entry → List Logged → List Logged
 joined lsn [] older = older
 joined lsn (said ∷ rest) older = joined (lsn + length (spelling said)) rest (logged_at lsn said ∷ older)
@@ -29,8 +29,8 @@ abbrev pub joined_all : ℕ → List (List Entry) → List Logged → List Logge
 joined_all lsn [] older = older
 joined_all lsn (said ∷ rest) older = joined_all (lsn + (5 + length (spelt said))) rest (joined (lsn + 5) said older)
 
--- A file has a log whose first byte has this LSN: behind what stands in front of its first gate there are batches, each behind an open gate, then a closed gate, no higher than LSN 2^62, and
--- anything behind that. The log has the records of these batches, the newest first.
+-- A file has a log whose first byte has this LSN: after what stands in front of its first gate there are batches, each after an open gate, then a closed gate, no higher than LSN 2^62, and
+-- anything after that. The log has the records of these batches, the newest first.
 pub record HasLogAt (base : ℕ) (file : List ℕ) (log : List Logged) : Type 0 where
   pub said : List (List Entry)
   pub batches : AllByRecursion IsBatch said

@@ -58,7 +58,7 @@ unchanged_below xs ys from to s n h le = record { same = λ k lt. h.below (s + k
 pub unchanged_above : (xs ys : List ℕ) (from to s n : ℕ) → SameOutside xs ys from to → to ≤ s → SameBytes xs ys s s n
 unchanged_above xs ys from to s n h le = record { same = λ k lt. h.above (s + k) (omega arith) }
 
--- a key that was written, and a value behind it
+-- a key that was written, and a value after it
 pub written_entry : (leaf : Bool) (mid new : List ℕ) (at to : ℕ) (key : List ℕ) (value : ℕ) → slice_index mid at ≡ length key → key_from mid at ≡ key
     → at + 1 + length key ≤ length mid → SameOutside mid new (at + 1 + length key) to → value_at leaf new (at + 1 + length key) ≡ value
     → entry_from leaf new at ≡ (key, value)

@@ -36,7 +36,7 @@ multiple b each c some most small is_c below =
         product q r d e g is_b is_d is_g by_d = ap (λ k. k * c) (sym is_b) ∙ ap (λ k. (q * each + r) * k) by_d
             ∙ omega (arith, ap (λ k. q * k) is_d, ap (λ k. q * k) is_g, ap (λ k. r * k) by_d)
 
--- .. so a cell that lies so far behind where the cells begin lies whole sizes behind it
+-- .. so a cell that lies so far after where the cells begin lies whole sizes after it
 pub place_at : (at start each c : ℕ) → at < 4294967296 → start + each ≤ 4096 → 2 ≤ each → each ≤ 264 → c ≡ 4294967295 / each + 1
     → (at + (4294967296 - start)) % 4294967296 ≤ 4096 - each - start → (at + (4294967296 - start)) % 4294967296 * c % 4294967296 < c → IsPlace start each at
 place_at at start each c fits room some most is_c near below =

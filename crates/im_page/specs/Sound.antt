@@ -64,7 +64,7 @@ pub record ArePacked (leaf : Bool) (bytes : List ℕ) (n from : ℕ) : Type 0 wh
   pub high : (i : ℕ) → i < n → slot_at bytes i + cell_size leaf bytes (slot_at bytes i) ≤ 4096
   pub full : from + total_of leaf bytes n ≡ 4096
 
--- a cell of this size is in the page, a whole number of such cells behind where the cells begin
+-- a cell of this size is in the page, a whole number of such cells after where the cells begin
 pub record IsPlace (start each at : ℕ) : Type 0 where
   pub high : at + each ≤ 4096
   pub behind : (k : ℕ) × (start + k * each ≡ at)

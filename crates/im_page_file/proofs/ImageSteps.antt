@@ -68,7 +68,7 @@ module _ (b : Base) (s : Writer) (lsn p : ℕ) (more : History) (k : WriterKept 
           (imaged_kept b s (image_at lsn p (s.pages p).page) k going last (s.pages p).page refl ready refl (point_stays (image_at lsn p (s.pages p).page) (s.pages p).page s.log (begun going)))
       by (Some e) over = grown_kept b (appended (image_at lsn p (s.pages p).page) s) more below above (appended_kept b s (image_at lsn p (s.pages p).page) k (may e over) same_page)
 
--- what stays of each page behind an Image
+-- what stays of each page after an Image
 file_imaged : {D : Type 0} (d : Ghosts D) (o : Option ℕ) (lsn : ℕ) (pages : ℕ → PageState) (disk : D) → IsPageFile d pages disk → IsPageFile d (image_pages o lsn pages) disk
 file_imaged d None lsn pages disk is = is
 file_imaged d (Some e) lsn pages disk is = record { reads = is.reads; leaves = is.leaves }
@@ -85,7 +85,7 @@ knows_imaged b s lsn p more kept k last below = by s.redo_end refl
     by (Some e) over = knows_grown (appended (image_at lsn p (s.pages p).page) s) more below (knows_joined b s (image_at lsn p (s.pages p).page) kept k last (λ q. passed lsn (s.pages q)) (λ q none. (none, refl)))
 
 module _ {D : Type 0} (d : Ghosts D) (b : Base) (base : ℕ) (s : Writer) (log : LogFile) (table : TableView) (old : D) (st : Stands d b base s log table old) where
-  -- how it stands behind an append of the Image
+  -- how it stands after an append of the Image
   pub stands_imaged : (p lsn : ℕ) (bytes : List ℕ) (new_log : LogFile) (new : D) → b.start ≤ base → MayLogImage s p bytes → Appended d base s.log s.durable (entries.Image p bytes) lsn old new_log new
       → IsOpen d new_log new → ChangesOnly d Log old new → Imaged d b base s p lsn new_log table new
   stands_imaged p lsn bytes new_log new starts may put ready changes =

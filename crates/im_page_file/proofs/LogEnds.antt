@@ -26,14 +26,14 @@ ends_same log = record { each = λ size. omega arith; generation = refl }
 pub ends_as : (old new : LogFile) → new ≡ old → EndsNoSooner old new
 ends_as old new is = subst (λ (log : LogFile). EndsNoSooner old log) (sym is) (ends_same old)
 
--- a call behind another
+-- a call after another
 pub ends_then : (old mid new : LogFile) → EndsNoSooner old mid → EndsNoSooner mid new → EndsNoSooner old new
 ends_then old mid new one two = record {
   each = λ size. (let a : end_with old size ≤ end_with mid size = one.each size in let b : end_with mid size ≤ end_with new size = two.each size in omega (arith, a, b));
   generation = two.generation ∙ one.generation;
 }
 
--- behind an Image
+-- after an Image
 pub ends_imaged : (old new : LogFile) → next_lsn new ≡ end_with old 4129 → generation_at new.gate ≡ generation_at old.gate → EndsNoSooner old new
 ends_imaged old new is same = record {
   each = λ size.
@@ -44,7 +44,7 @@ ends_imaged old new is same = record {
   generation = same;
 }
 
--- behind a force
+-- after a force
 pub ends_forced : (old new : LogFile) → (1 ≤ old.used → next_lsn new ≡ next_lsn old + 5) → (old.used ≡ 0 → new ≡ old) → generation_at new.gate ≡ generation_at old.gate → EndsNoSooner old new
 ends_forced old new some none same = by old.used some none
   where

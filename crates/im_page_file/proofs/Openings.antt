@@ -1,4 +1,4 @@
--- How a writer of pages stands at an opening, and behind steps that change no byte of the file of pages.
+-- How a writer of pages stands at an opening, and after steps that change no byte of the file of pages.
 use Rattle.std.proofs.Common.{◌≡◌, inl, ℕ, [], refl, sym, ◌∙◌, ap, List}
 use Rattle.im_base_types.specs.declared.file_id.FileId.TheVariants.{Pages, Log2}
 use Rattle.im_theory_log.specs.Histories.{Base, History, Rises}

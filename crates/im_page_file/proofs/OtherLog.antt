@@ -27,7 +27,7 @@ pub newest_as : {b : Base} (old new : Files) → new Log ≡ old Log → new Log
 newest_as {b} old new log other (inl older) = inl (older_as old new (ap generation_of log) other older)
 newest_as {b} old new log other (inr none) = inr (subst IsUnmade (sym log) none.0, subst IsUnmade (sym other) none.1)
 
--- behind the making of a log, or with nothing done
+-- after the making of a log, or with nothing done
 pub newest_made : {b : Base} (old new : Files) → (IsUnmade (old Log) → new Log2 ≡ old Log2) → gates.IsMade (new Log) → (¬ (IsUnmade (old Log)) → IsNewest b new) → IsNewest b old → IsOlder b new
 newest_made {b} old new other made still (inl older) = by (still not_unmade)
   where

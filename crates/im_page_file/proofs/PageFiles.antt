@@ -15,7 +15,7 @@ use Rattle.im_page_file.specs.PageFile.{KeepsSynced, IsPageFile}
 
 -- ---- the bytes
 
--- where the bytes before and behind a page stay, each other page does
+-- where the bytes before and after a page stay, each other page does
 same_others : (old new : List ℕ) (p q : ℕ) → take (p * 4096) new ≡ take (p * 4096) old → drop (p * 4096 + 4096) new ≡ drop (p * 4096 + 4096) old → (p ≡ q → ⊥) → file_page new q ≡ file_page old q
 same_others old new p q before behind other = elim (cases_order p q) [
   | inl here ↦ absurd (other here)
@@ -32,7 +32,7 @@ pub written_others : (old bytes new : List ℕ) (p q : ℕ) → p * 4096 ≤ len
 written_others old bytes new p q place whole is other =
     same_others old new p q (written_before old bytes new p place whole is) (written_behind old bytes new p place whole is) other
 
--- what a stop within a write of a page leaves is what it may leave behind the write
+-- what a stop within a write of a page leaves is what it may leave after the write
 pub torn_keeps : (pages : ℕ → PageState) (p l : ℕ) (old new : List ℕ) → KeepsSynced pages old → Torn (p * 4096) 4096 old new → KeepsSynced (only p (written_page l) pages) new
 torn_keeps pages p l old new keeps torn q still = elim (cases_eq p q) [
   | inl here ↦
@@ -43,7 +43,7 @@ torn_keeps pages p l old new keeps torn q still = elim (cases_eq p q) [
       torn_others old new p q torn other ∙ keeps q (ap (λ (x : PageState). x.unsynced) (sym is) ∙ still) ∙ ap (λ (x : PageState). x.synced) (sym is)
 ]
 
--- what a read gives behind the write of a page
+-- what a read gives after the write of a page
 written_reads : (pages : ℕ → PageState) (p l : ℕ) (old bytes new : List ℕ) → ((q : ℕ) → file_page old q ≡ (pages q).reads) → p * 4096 ≤ length old → length bytes ≡ 4096 → page_of bytes ≡ Some (pages p).page
     → Holds (p * 4096) bytes old new → (q : ℕ) → file_page new q ≡ (only p (written_page l) pages q).reads
 written_reads pages p l old bytes new reads place whole page is q = elim (cases_eq p q) [

@@ -1,4 +1,4 @@
--- How a writer of pages stands behind each of its calls, and what a stop within one leaves.
+-- How a writer of pages stands after each of its calls, and what a stop within one leaves.
 use Rattle.std.proofs.Common.{◌≡◌, inl, ⊎_elim, ℕ, ◌*◌, ◌≤◌, false, true, List, length, refl, sym, ◌∙◌, ap, subst}
 use Rattle.im_base_types.specs.declared.file_id.FileId.{FileId}
 use Rattle.im_base_types.specs.declared.file_id.FileId.TheVariants.{Log, Pages, Log2}
@@ -28,7 +28,7 @@ use Rattle.im_page_file.proofs.PageFiles.{page_file_spared, page_file_synced, pa
 
 -- ---- the log's file
 
--- a log stays open behind a call on the file of pages that succeeded
+-- a log stays open after a call on the file of pages that succeeded
 pub open_written : {D : Type 0} (d : Ghosts D) (log : LogFile) (old new : D) → ChangesOnly d Pages old new → d.failed new ≡ false → IsOpen d log old → IsOpen d log new
 open_written d log old new changes works is_open = open_spared d log old new (spared d Pages Log old new (λ same. cc) changes) works is_open
 

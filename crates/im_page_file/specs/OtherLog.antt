@@ -8,7 +8,7 @@ use Rattle.im_log.specs.Kept.{HasLog}
 use Rattle.im_theory_left.specs.Left.{AreReadable, IsPast}
 use Rattle.im_theory_log.specs.Histories.{Base, History}
 
--- What a log that was left says of what the log is over: its bytes, with what was cut off behind its header since, spell records that can be read, and each of their changes is in those pages.
+-- What a log that was left says of what the log is over: its bytes, with what was cut off after its header since, spell records that can be read, and each of their changes is in those pages.
 pub record SaysLeft (b : Base) (file : List ℕ) : Type 0 where
   pub before : History
   pub cut : List ℕ

@@ -44,7 +44,7 @@ known_same s t from same log is = known_by s t from same (ap checkpoint_lsn log)
 pub known_grown : (b : Base) (s t : Writer) (from : Option ℕ) → t.redo_end ≡ s.redo_end → GrowsByImages b s.log t.log → IsKnownFrom s from → IsKnownFrom t from
 known_grown b s t from same grows is = known_by s t from same (grown_checkpoint b s.log t.log grows) is
 
--- behind a record that is no Checkpoint
+-- after a record that is no Checkpoint
 pub known_more : (r : Logged) (s t : Writer) (from : Option ℕ) → t.redo_end ≡ s.redo_end → t.log ≡ r ∷ s.log → is_checkpoint r.what ≡ false → IsKnownFrom s from → IsKnownFrom t from
 known_more r s t from same log plain is = known_by s t from same (ap checkpoint_lsn log ∙ plain_checkpoint r s.log plain) is
 
@@ -59,7 +59,7 @@ known_first b r s t e None k over same log plain last is = record {
   checkpoint = omega (arith, ap checkpoint_lsn log, plain_checkpoint r s.log plain, checkpoint_low b s.log k.rises, last);
 }
 
--- while redo goes on none is, and so behind it
+-- while redo goes on none is, and so after it
 pub known_ended : (s t : Writer) (from : Option ℕ) → s.redo_end ≡ None → IsKnownFrom s from → IsKnownFrom t from
 known_ended s t None going is = tt
 known_ended s t (Some n) going is = absurd (let clash : None ≡ Some is.redo_end = sym going ∙ is.over in cc clash)
@@ -138,7 +138,7 @@ module _ (b : Base) (s : Writer) (r : Logged) (kept : WriterKept b s) (k : Knows
           now (t ∷ older) is old = subst (λ (m : ℕ). HasCopy s.durable p m) (sym (subst (λ (l : History). redo_point (r ∷ l) ≡ redo_point l) (sym is) (point_same r t older plain))) (old s.log (whole s.durable s.log kept.front))
           now [] is old = absurd (nothing p (redo_point s.log) (subst (λ (l : History). HasCopy l p (redo_point s.log)) is (copy_grows s.durable s.log p (redo_point s.log) kept.front (old s.log (whole s.durable s.log kept.front)))))
 
-  -- a copy that is known serves behind the record too
+  -- a copy that is known serves after the record too
   pub known_copy : (e : ℕ) → s.redo_end ≡ Some e → is_checkpoint r.what ≡ false → (p : ℕ) → (s.pages p).entry ≡ None → (from : Option ℕ) → IsKnownFrom s from → IsAtOrAfter from (s.pages p).page.lsn
       → HasCopy (r ∷ s.log) p (redo_point (r ∷ s.log))
   known_copy e over plain p none None is low = absurd low

@@ -34,7 +34,7 @@ module _ (pages : ℕ → PageState) (p l : ℕ) (old new : TableView) (entry : 
   unmoved : has_room p old ≡ false → new ≡ old
   unmoved full = is ∙ cond-false (has_room p old) (put p (written_entry l) old) old full
 
-  -- behind a write the table has the entries, where it had them and has room
+  -- after a write the table has the entries, where it had them and has room
   pub entries_written : has_room p old ≡ true → HasEntries old pages → HasEntries new (only p (written_page l) pages)
   entries_written room has q = elim (cases_eq p q) [
     | inl here ↦ entered_here room q here

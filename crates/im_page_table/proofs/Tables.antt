@@ -165,7 +165,7 @@ pub put_absent : (f : Option DirtyEntry → DirtyEntry) (xs : List TableEntry) (
 put_absent f [] p none = refl
 put_absent f (x ∷ xs) p none = put_later f p x xs (not_first x xs p none) ∙ ap (λ (l : List TableEntry). x ∷ l) (put_absent f xs p (not_later x xs p none))
 
--- ---- the places behind that
+-- ---- the places after that
 
 pub place_set : (xs : List TableEntry) (i p : ℕ) (new : TableEntry) → IsFound xs p i → new.page ≡ p → (q : ℕ) → place_among q (set xs i new) ≡ place_among q xs
 place_set [] i p new found page q = refl
@@ -209,7 +209,7 @@ pub apart_push : (xs : List TableEntry) (y : TableEntry) → AreApart xs → ent
 apart_push [] y up none = (refl, tt)
 apart_push (x ∷ xs) y up none = (entry_push xs y x.page up.0 (λ same. not_first x xs y.page none (sym same)), apart_push xs y up.1 (not_later x xs y.page none))
 
--- the front of a list, with the entry behind it
+-- the front of a list, with the entry after it
 pub apart_next : (xs : List TableEntry) (i : ℕ) (d : TableEntry) → AreApart xs → i < length xs → entry_among (take i xs) (get_or xs i d).page ≡ None
 apart_next [] i d up within = absurd (omega (arith, within))
 apart_next (x ∷ xs) zero d up within = refl

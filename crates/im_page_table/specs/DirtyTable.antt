@@ -134,7 +134,7 @@ dirty_pages t = with_rows [] t.entries
 
 -- ---- the oldest change
 
--- a page's first change since its last write, where it has one: the row that a Checkpoint has of it behind its sync
+-- a page's first change since its last write, where it has one: the row that a Checkpoint has of it after its sync
 abbrev pub dirty_page_of : TableEntry → Option DirtyPage
 dirty_page_of x = option_map (λ l. record { page = x.page; rec_lsn = l }) x.since
 

@@ -29,11 +29,11 @@ pub record Keeps (b : Base) (s t : Writer) : Type 0 where
 abbrev pub image_at : ℕ → ℕ → Page → Logged
 image_at lsn p page = record { lsn = lsn; txn = 0; prev = 0; undo_next = 0; page = p; what = Image page }
 
--- the pages behind it: after redo each has had it
+-- the pages after it: after redo each has had it
 abbrev pub image_pages : Option ℕ → ℕ → (ℕ → PageState) → ℕ → PageState
 image_pages None lsn pages = pages
 image_pages (Some e) lsn pages = λ q. passed lsn (pages q)
 
--- the writer behind it, with this much of its log durable
+-- the writer after it, with this much of its log durable
 abbrev pub with_image : ℕ → ℕ → History → Writer → Writer
 with_image lsn p durable s = record s { log = image_at lsn p (s.pages p).page ∷ s.log; durable = durable; pages = image_pages s.redo_end lsn s.pages }

@@ -213,6 +213,6 @@ module _ {D : Type 0} (d : Ghosts D) where
   on_ends late m v old w mid one x new (Some LogFull) two = (record { began = one.began; broken = two.0.broken }, two.1, two.2)
   on_ends late m v old w mid one x new (Some e) two = absurd (let clash : false ≡ true = two.0 in cc clash)
 
-  -- a call behind which the writer goes on for no refusal, behind one that logged its records
+  -- a call after which the writer goes on for no refusal, after one that logged its records
   pub logs_on : {late : Bool} {m : Fault → Bool} {v : PageWriter} {old : D} {w : PageWriter} {mid : D} {x : PageWriter} {new : D} {why : Option Fault} → Logs d late m v old w mid None → Logs d false none_mild w mid x new why → Logs d false none_mild v old x new why
   logs_on {late} {m} {v} {old} {w} {mid} {x} {new} {why} one two = record { ready = two.ready; frames = two.frames ∙ one.frames; ends = on_ends late m v old w mid one.ends x new why two.ends }

@@ -16,7 +16,7 @@ module _ {D : Type 0} (d : Ghosts D) where
   pub costs_entered : (n : ℕ) (HasRoom : Type 0) (old new : D) → Costs d n 0 old new → WriteCosts d n HasRoom old new
   costs_entered n HasRoom old new writes = record { syncs = 0; once = omega arith; none = λ room. refl; costs = writes }
 
-  -- pages behind which the file is synced, since the table had no room
+  -- pages after which the file is synced, since the table had no room
   pub costs_synced : (n : ℕ) (HasRoom : Type 0) (old mid new : D) → (HasRoom → ⊥) → Costs d n 0 old mid → Costs d 0 1 mid new → WriteCosts d n HasRoom old new
   costs_synced n HasRoom old mid new none writes synced = record {
     syncs = 1;

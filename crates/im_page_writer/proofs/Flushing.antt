@@ -75,7 +75,7 @@ module _ {D : Type 0} (d : Ghosts D) (b : Base) (base : ℕ) where
   may_write s first last lsns old log table pool disk so all q low high =
       record { may = so.may q low high; entry = so.goes.writing.entries q; past = λ none. (so.goes.keeps.pages q).page ∙ (all q low high).past none }
 
-  -- a flush behind other calls
+  -- a flush after other calls
   pub flushed_then : (s t : Writer) (first last : ℕ) (old mid new : D) (log new_log : LogFile) (table new_table : TableView) (pool new_pool : PoolView) → Goes d b base s old t log table pool mid
       → Flushed d b base t first last mid new_log new_table new_pool new → Flushed d b base s first last old new_log new_table new_pool new
   flushed_then s t first last old mid new log new_log table new_table pool new_pool goes done = record {

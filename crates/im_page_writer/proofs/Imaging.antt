@@ -190,7 +190,7 @@ module _ {D : Type 0} (d : Ghosts D) (b : Base) (base : ℕ) (s : Writer) (log n
     keeps = record { log = grows_none b s.log; durable = w.stands.kept.front; point = refl; redo_end = refl; pages = λ p. same_page (s.pages p) };
   }
 
--- Behind it each page of the range may be written.
+-- After it each page of the range may be written.
 pub images_durable : {D : Type 0} (d : Ghosts D) (b : Base) (base : ℕ) (s : Writer) (first last : ℕ) (lsns : List ℕ) (old : D) (log new_log : LogFile) (table : TableView) (pool : PoolView) (mid new : D)
     → (so : ImagesTo d b base s first (last + 1) lsns old log table pool mid) → Goes d b base so.now mid (forced so.now) new_log table pool new → ImagesDurable d b base s first last lsns old new_log table pool new
 images_durable d b base s first last lsns old log new_log table pool mid new so goes = record {

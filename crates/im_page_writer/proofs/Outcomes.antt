@@ -37,7 +37,7 @@ loaded_still b s t keeps ready q = (keeps.pages q).waits ∙ ready q
 pub loaded_to_still : (p : ℕ) (b : Base) (s t : Writer) → Keeps b s t → AreLoadedTo p s → AreLoadedTo p t
 loaded_to_still p b s t keeps ready q le = (keeps.pages q).waits ∙ ready q le
 
--- where it stands behind calls in a row
+-- where it stands after calls in a row
 pub stands_on : {D : Type 0} (d : Ghosts D) (b : Base) (base : ℕ) (s : Writer) (old : D) (t : Writer) (w : PageWriter) (mid : D) → GoesOn d b base s old t w mid → StandsAs d b base t w mid
 stands_on d b base s old t w mid on = record { working = on.working; writing = on.goes.writing; known = on.known }
 
@@ -45,7 +45,7 @@ stands_on d b base s old t w mid on = record { working = on.working; writing = o
 
 module _ {D : Type 0} (d : Ghosts D) (asks : Writer → Type 0) (still : (b : Base) (s t : Writer) → Keeps b s t → asks s → asks t) where
   module _ (v : PageWriter) (old : D) (w : PageWriter) (mid : D) (one : Stays d asks v old w mid) where
-    -- a call behind another that changed no page
+    -- a call after another that changed no page
     pub stays_then : (x : PageWriter) (new : D) → Stays d asks w mid x new → Stays d asks v old x new
     stays_then x new two = record {
       began = one.began;
@@ -96,11 +96,11 @@ module _ {D : Type 0} (d : Ghosts D) (asks less : Writer → Type 0) (to : (s : 
 pub none_still : (b : Base) (s t : Writer) → Keeps b s t → AsksNothing s → AsksNothing t
 none_still b s t keeps asked = tt
 
--- none of the refusals behind which such a call goes on, which has none
+-- none of the refusals after which such a call goes on, which has none
 pub none_mildly : (m : Fault → Bool) (e : Fault) → none_mild e ≡ true → m e ≡ true
 none_mildly m e is = absurd (let clash : false ≡ true = is in cc clash)
 
--- one for bytes that are no store's, of a call that goes on behind these
+-- one for bytes that are no store's, of a call that goes on after these
 pub no_page_for : (m : Fault → Bool) → m NotAStore ≡ true → (e : Fault) → no_page e ≡ true → m e ≡ true
 no_page_for m may NotAStore is = may
 no_page_for m may e is = absurd (let clash : false ≡ true = is in cc clash)
@@ -129,7 +129,7 @@ module _ {D : Type 0} (d : Ghosts D) where
   handed_on {A} {asks} {m} {v} {old} {w} {new} {f} (Ok a) is one = absurd is
   handed_on {A} {asks} {m} {v} {old} {w} {new} {f} (Err e) is one = subst (λ (x : Fault). Outcome d asks m v old w new (Some x)) (sym is) one
 
-  -- a refusal for bytes that are no store's, behind calls that were not refused
+  -- a refusal for bytes that are no store's, after calls that were not refused
   pub own_bytes : {A : Type 0} {asks : Writer → Type 0} {v : PageWriter} {old : D} {w : PageWriter} {new : D} (X : Type 0) (r : Result A Fault) → IfErr r (λ e. (e ≡ NotAStore) × X) → Outcome d asks no_page v old w new None → Outcome d asks no_page v old w new (fault_of r)
   own_bytes {A} {asks} {v} {old} {w} {new} X (Ok a) is one = one
   own_bytes {A} {asks} {v} {old} {w} {new} X (Err e) is one = subst (λ (x : Fault). Outcome d asks no_page v old w new (Some x)) (sym is.0) (record { ready = one.ready; frames = one.frames; ends = (refl, one.ends) })
@@ -197,7 +197,7 @@ module _ {D : Type 0} (d : Ghosts D) where
   pages_as {asks} b base s w disk is asked = record { b = b; base = base; now = s; stands = is; asked = asked; shows = λ p. refl }
 
 module _ {D : Type 0} (d : Ghosts D) (asks : Writer → Type 0) (still : (b : Base) (s t : Writer) → Keeps b s t → asks s → asks t) where
-  -- a call behind another
+  -- a call after another
   pub behind : {m n : Fault → Bool} {v : PageWriter} {old : D} {w : PageWriter} {mid : D} {x : PageWriter} {new : D} {why : Option Fault} → Outcome d asks m v old w mid None → Outcome d asks n w mid x new why → Outcome d asks n v old x new why
   behind {m} {n} {v} {old} {w} {mid} {x} {new} {why} one two = record { ready = two.ready; frames = two.frames ∙ one.frames; ends = ends_behind d asks still v old w mid one.ends n x new why two.ends }
 
@@ -238,7 +238,7 @@ module _ {D : Type 0} (d : Ghosts D) where
   redo_behind m v w mid one x new (Some LogFull) two = (record { began = one.began; broken = two.0.broken }, two.1, two.2, two.3)
   redo_behind m v w mid one x new (Some e) two = (two.0, record { began = one.began; works = two.1.works; alive = two.1.alive })
 
-  -- a call of redo behind another, or behind one that changed no page
+  -- a call of redo after another, or after one that changed no page
   pub redo_then : {m : Fault → Bool} {v w : PageWriter} {mid : D} {x : PageWriter} {new : D} {why : Option Fault} → Redoes d m v w mid None → Redoes d m w x new why → Redoes d m v x new why
   redo_then {m} {v} {w} {mid} {x} {new} {why} one two = record { ready = two.ready; frames = two.frames ∙ one.frames; ends = redo_behind m v w mid one.ends x new why two.ends }
 
@@ -263,7 +263,7 @@ module _ {D : Type 0} (d : Ghosts D) where
   refused {A} {m} {v} {old} {w} {new} {f} (Ok a) is one = absurd is
   refused {A} {m} {v} {old} {w} {new} {f} (Err e) is one = subst (λ (x : Fault). Outcome d AreLoaded m v old w new (Some x)) (sym is) one
 
-  -- a refusal of its own behind a call: the writer goes on
+  -- a refusal of its own after a call: the writer goes on
   pub refuses : {n m : Fault → Bool} {v : PageWriter} {old : D} {w : PageWriter} {new : D} (f : Fault) → mild f ≡ true → m f ≡ true → Outcome d AreLoaded n v old w new None → Outcome d AreLoaded m v old w new (Some f)
   refuses {n} {m} {v} {old} {w} {new} Memory mildly is one = record { ready = one.ready; frames = one.frames; ends = (is, one.ends) }
   refuses {n} {m} {v} {old} {w} {new} NotAStore mildly is one = record { ready = one.ready; frames = one.frames; ends = (is, one.ends) }
@@ -276,7 +276,7 @@ module _ {D : Type 0} (d : Ghosts D) where
   pub search_of : {p : ℕ} {v : PageWriter} {old : D} {w : PageWriter} {new : D} {why : Option Fault} → Outcome d (AreLoadedTo p) no_page v old w new why → Reads d v old w new why
   search_of {p} {v} {old} {w} {new} {why} one = record { ready = one.ready; frames = one.frames; ends = ends_asking d AreLoaded (AreLoadedTo p) (λ s ready q le. ready q) no_page v old w new why one.ends }
 
--- ---- calls behind which the writer goes on for more causes
+-- ---- calls after which the writer goes on for more causes
 
 module _ {D : Type 0} (d : Ghosts D) (m : Fault → Bool) where
   more_ends : (n : Fault → Bool) → ((e : Fault) → n e ≡ true → m e ≡ true) → (v : PageWriter) (old : D) (w : PageWriter) (new : D) (why : Option Fault) → Ends d AreLoaded n v old w new why → Ends d AreLoaded m v old w new why
@@ -286,7 +286,7 @@ module _ {D : Type 0} (d : Ghosts D) (m : Fault → Bool) where
   more_ends n may v old w new (Some LogFull) one = one
   more_ends n may v old w new (Some e) one = (may e one.0, one.1)
 
-  -- a search is such a call, and so is one behind which the writer goes on for fewer causes
+  -- a search is such a call, and so is one after which the writer goes on for fewer causes
   pub with_more : {n : Fault → Bool} → ((e : Fault) → n e ≡ true → m e ≡ true) → {v : PageWriter} {old : D} {w : PageWriter} {new : D} {why : Option Fault} → Outcome d AreLoaded n v old w new why → Outcome d AreLoaded m v old w new why
   with_more {n} may {v} {old} {w} {new} {why} one = record { ready = one.ready; frames = one.frames; ends = more_ends n may v old w new why one.ends }
 
@@ -300,13 +300,13 @@ module _ {D : Type 0} (d : Ghosts D) (m : Fault → Bool) where
   own_end failed device full v old w new LogFull is one = absurd (let clash : false ≡ true = sym full ∙ is in cc clash)
   own_end failed device full v old w new e is one = (is, one)
 
-  -- what a call answers or refuses of its own, behind calls that were not refused
+  -- what a call answers or refuses of its own, after calls that were not refused
   pub ends_own : m Failed ≡ false → m Device ≡ false → m LogFull ≡ false → {A : Type 0} {n : Fault → Bool} {v : PageWriter} {old : D} {w : PageWriter} {new : D} (r : Result A Fault) → Outcome d AreLoaded n v old w new None → IfErr r (λ e. m e ≡ true)
       → Outcome d AreLoaded m v old w new (fault_of r)
   ends_own failed device full {A} {n} {v} {old} {w} {new} (Ok a) one may = record { ready = one.ready; frames = one.frames; ends = one.ends }
   ends_own failed device full {A} {n} {v} {old} {w} {new} (Err e) one may = record { ready = one.ready; frames = one.frames; ends = own_end failed device full v old w new e may one.ends }
 
--- ---- pages behind calls that change none
+-- ---- pages after calls that change none
 
 -- a refusal that is handed on is for no bytes that are no store's
 pub sound_on : {A : Type 0} (r : Result A Fault) (f : Fault) (P : A → Type 0) → IsErrAnd r (λ e. e ≡ f) → f ≢ NotAStore → IsSound r P
@@ -392,7 +392,7 @@ module _ {D : Type 0} (d : Ghosts D) where
   logs_so n m may v old w new (Some LogFull) one = (record { began = one.0.began; broken = one.0.broken }, one.1, one.2)
   logs_so n m may v old w new (Some e) one = (may e one.0, one.1)
 
-  -- a call that logs, refused late or not, behind one that changed no page
+  -- a call that logs, refused late or not, after one that changed no page
   pub logs_then : {n : Fault → Bool} {late : Bool} {m : Fault → Bool} {v : PageWriter} {old : D} {w : PageWriter} {mid : D} {x : PageWriter} {new : D} {why : Option Fault} → Outcome d AreLoaded n v old w mid None → Logs d late m w mid x new why → Logs d late m v old x new why
   logs_then {n} {late} {m} {v} {old} {w} {mid} {x} {new} {why} one two = record { ready = two.ready; frames = two.frames ∙ one.frames; ends = logs_behind late m v old w mid one.ends x new why two.ends }
 
@@ -417,7 +417,7 @@ module _ {D : Type 0} (d : Ghosts D) where
   logs_more late n m may v old w new (Some LogFull) one = one
   logs_more late n m may v old w new (Some e) one = (may e one.0, one.1)
 
-  -- one behind which the writer goes on for fewer causes
+  -- one after which the writer goes on for fewer causes
   pub logs_for_more : {late : Bool} {n m : Fault → Bool} → ((e : Fault) → n e ≡ true → m e ≡ true) → {v : PageWriter} {old : D} {w : PageWriter} {new : D} {why : Option Fault} → Logs d late n v old w new why → Logs d late m v old w new why
   logs_for_more {late} {n} {m} may {v} {old} {w} {new} {why} one = record { ready = one.ready; frames = one.frames; ends = logs_more late n m may v old w new why one.ends }
 
@@ -433,11 +433,11 @@ module _ {D : Type 0} (d : Ghosts D) where
   ends_late late m n may v old w new works (Some LogFull) one = one
   ends_late late m n may v old w new works (Some e) one = (may e one.0, one.1)
 
-  -- a call over a writer that works ends as one that may be refused late, and behind which it goes on for more causes
+  -- a call over a writer that works ends as one that may be refused late, and after which it goes on for more causes
   pub logs_late : {late : Bool} {m n : Fault → Bool} {v : PageWriter} {old : D} {w : PageWriter} {new : D} {why : Option Fault} → ((e : Fault) → m e ≡ true → n e ≡ true) → v.failed ≡ false → Logs d late m v old w new why → Logs d true n v old w new why
   logs_late {late} {m} {n} {v} {old} {w} {new} {why} may works one = record { ready = one.ready; frames = one.frames; ends = ends_late late m n may v old w new works why one.ends }
 
-  -- a call behind one that logged its records, neither refused
+  -- a call after one that logged its records, neither refused
   pub logs_both : {late next : Bool} {l m n : Fault → Bool} {v : PageWriter} {old : D} {w : PageWriter} {mid : D} {x : PageWriter} {new : D} → Logs d late m v old w mid None → Logs d next n w mid x new None → {last : Bool} → Logs d last l v old x new None
   logs_both {late} {next} {l} {m} {n} {v} {old} {w} {mid} {x} {new} one two {last} = record { ready = two.ready; frames = two.frames ∙ one.frames; ends = record { began = one.ends.began; works = two.ends.works; alive = two.ends.alive } }
 
@@ -460,7 +460,7 @@ module _ {D : Type 0} (d : Ghosts D) where
       subst (λ (e : Fault). LogEnds d true n v old x new (Some e)) (sym (other (λ is. let never : ⊥ = cc is in never))) (record { began = one.began; broken = two.0.broken }, two.1, two.2)
   late_ends late n v old w mid one x new f g memory other two = absurd (let clash = two.0 in cc clash)
 
-  -- a refusal behind a record of one's own: want of memory is answered `Failed`, any other as it came
+  -- a refusal after a record of one's own: want of memory is answered `Failed`, any other as it came
   pub late_behind : {last late : Bool} {m n : Fault → Bool} {v : PageWriter} {old : D} {w : PageWriter} {mid : D} {x : PageWriter} {new : D} {f g : Fault} → Logs d last m v old w mid None → Logs d late mild w mid x new (Some f) → (f ≡ Memory → g ≡ Failed) → (f ≢ Memory → g ≡ f)
       → Logs d true n v old x new (Some g)
   late_behind {last} {late} {m} {n} {v} {old} {w} {mid} {x} {new} {f} {g} one two memory other = record { ready = two.ready; frames = two.frames ∙ one.frames; ends = late_ends late n v old w mid one.ends x new f g memory other two.ends }
@@ -548,7 +548,7 @@ module _ {D : Type 0} (d : Ghosts D) (only_now : (disk : D) (c : Files) → d.le
         };
   }
 
-  -- a refusal for bytes that are no page's, behind which nothing that pages are read from has changed
+  -- a refusal for bytes that are no page's, after which nothing that pages are read from has changed
   pub same_logs : {v : PageWriter} {old : D} {w : PageWriter} → v.failed ≡ false → w.failed ≡ false → IsReadyWriter d w old → w.log ≡ v.log → w.table ≡ v.table → w.pool ≡ v.pool → w.known ≡ v.known → Logs d false no_page v old w old (Some NotAStore)
   same_logs {v} {old} {w} began works ready log table pool known =
       let opened = ready.opened works in

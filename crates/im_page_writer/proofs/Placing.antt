@@ -62,7 +62,7 @@ still_held : (o : Option Held) → is_some (option_map unmarked o) ≡ is_some o
 still_held None = refl
 still_held (Some h) = refl
 
--- behind the write of a page it counts as unchanged
+-- after the write of a page it counts as unchanged
 pub pooled_written : (pool new : PoolView) (pages : ℕ → PageState) (p l : ℕ) → IsPooled pool pages → Unmarks p pool new → IsPooled new (only p (written_page l) pages)
 pooled_written pool new pages p l is un = record {
   shows = λ q. elim (cases_eq p q) [
@@ -142,7 +142,7 @@ module _ {D : Type 0} (d : Ghosts D) (b : Base) (base : ℕ) (s : Writer) (log :
     | inr other ↦ writes.others q (λ e. other (sym e)) ∙ st.file.reads q ∙ ap (λ (x : PageState). x.reads) (sym (only_other (written_page l) s.pages p q other))
   ]
 
-  -- behind it
+  -- after it
   pub placed : (new_table : TableView) (new_pool : PoolView) (new : D) (entered : Bool) → WritesPage p (pool_page pool p) (d.seen old Pages) (d.seen new Pages)
       → Follows (InFile Pages (TearsPage p)) (d.may_leave old) (d.may_leave new) → ChangesOnly d Pages old new → d.failed new ≡ false → Unmarks p pool new_pool
       → new_table ≡ written_in p l table → entered ≡ has_room p table → (entered ≡ true → ChangesEntry p (written_entry l) table new_table) → WrittenHere d b base s p l log table new_table new_pool new entered

@@ -195,7 +195,7 @@ taker_there r pool n x number shown lt takes lacks = lacks.lacks (subst (λ (g :
       | inr plain ↦ takes_none r.what x.page plain
     ]
 
--- ---- behind other calls
+-- ---- after other calls
 
 module _ {D : Type 0} (d : Ghosts D) (b : Base) (base : ℕ) (s : Writer) (r : Logged) (old : D) (t : Writer) (log : LogFile) (table : TableView) (pool : PoolView) (mid : D) (goes : Goes d b base s old t log table pool mid) where
   pub redo_kept_then : (w : PageWriter) (disk : D) (result : Result Bool Fault) → RedoKept d b base t r mid w disk result → RedoKept d b base s r old w disk result
@@ -208,7 +208,7 @@ module _ {D : Type 0} (d : Ghosts D) (b : Base) (base : ℕ) (s : Writer) (r : L
         cause = subst (λ (g : Page). (applies r r.page g ≡ true → PageTakes r.what g) → IfErr result (λ e. e ≢ NotAStore)) same kept.cause;
       }
 
--- what redo asks of the writer, behind other calls
+-- what redo asks of the writer, after other calls
 module _ (b : Base) (s t : Writer) (keeps : Keeps b s t) (r : Logged) (newer older : History) where
   pub there_still : newer ++ r ∷ older ≡ s.durable → (keeps.durable.newer ++ newer) ++ r ∷ older ≡ t.durable
   there_still at = append_assoc keeps.durable.newer newer (r ∷ older) ∙ ap (λ (l : History). keeps.durable.newer ++ l) at ∙ keeps.durable.is
@@ -216,6 +216,6 @@ module _ (b : Base) (s t : Writer) (keeps : Keeps b s t) (r : Logged) (newer old
   pub ready_still : ((p : ℕ) → ((s.pages p).waits ≡ false) × (end_of b older < (s.pages p).upto)) → (p : ℕ) → ((t.pages p).waits ≡ false) × (end_of b older < (t.pages p).upto)
   ready_still ready p = ((keeps.pages p).waits ∙ (ready p).0, (let had : end_of b older < (s.pages p).upto = (ready p).1 in let up : (s.pages p).upto ≤ (t.pages p).upto = (keeps.pages p).upto in omega (arith, had, up)))
 
--- a copy that was there is there behind other calls
+-- a copy that was there is there after other calls
 pub copy_still : (b : Base) (s t : Writer) → Keeps b s t → (p : ℕ) → HasCopy s.durable p s.point → HasCopy t.durable p t.point
 copy_still b s t keeps p has = subst (λ (m : ℕ). HasCopy t.durable p m) (sym keeps.point) (copy_grows s.durable t.durable p s.point keeps.durable has)

@@ -86,7 +86,7 @@ refused_not (Ok a) never = tt
 refused_not (Err e) never = λ same. never (ap (λ (f : Fault). Err f) same)
 
 module _ {D : Type 0} (d : Ghosts D) (b : Base) (base : ℕ) where
-  -- a call behind others that left the writer as it was
+  -- a call after others that left the writer as it was
   pub stays_then : (s : Writer) (old : D) (t : Writer) (v : PageWriter) (mid : D) → GoesOn d b base s old t v mid → (w : PageWriter) (disk : D) → LeavesCovered d b base t.durable t.log mid disk → StandsAs d b base t w disk
       → Evicted d b base s old w disk
   stays_then s old t v mid one w disk stops is =

@@ -144,7 +144,7 @@ module _ {D : Type 0} (d : Ghosts D) (b : Base) (base : ℕ) where
       unnamed d (LeftSwitching b base s) (switching_nameless b base s) old new
       (weakened d old new (IsCovered b base s.durable leaves.high) (LeftSwitching b base s) leaves.stops (λ told c is. left_before b base s leaves.high leaves.grows c is))
 
-  -- the last call behind such calls
+  -- the last call after such calls
   pub switching_then : (s : Writer) (old : D) (t : Writer) (w : PageWriter) (mid : D) → (on : GoesOn d b base s old t w mid) → (new : D) → LeavesNamed d mid new (LeftSwitching b base t) → LeavesNamed d old new (LeftSwitching b base s)
   switching_then s old t w mid on new stops =
       then_named d (LeftSwitching b base s) (switching_nameless b base s) old mid new

@@ -47,7 +47,7 @@ known_grown ahead b s t known same grows point copies is = record {
   copies = copies;
 }
 
--- behind a record that is no Checkpoint
+-- after a record that is no Checkpoint
 pub known_more : (r : Logged) (s t : Writer) (known : Known) → t.redo_end ≡ s.redo_end → t.log ≡ r ∷ s.log → t.point ≡ s.point → is_checkpoint r.what ≡ false → (KnowsDurable s → KnowsDurable t) → IsKnown s known → IsKnown t known
 known_more r s t known same log point plain copies is =
     record { from = from_lsn.known_more r s t known.from same log plain is.from; synced = synced_more r s t known.synced log point is.synced; copies = λ none. copies (is.copies none) }
@@ -61,7 +61,7 @@ known_first b r s t e known k over same log point plain last copies is = record 
   copies = λ none. copies (is.copies none);
 }
 
--- while redo goes on no copy is, and so behind it
+-- while redo goes on no copy is, and so after it
 pub known_ended : (s t : Writer) (known : Known) → s.redo_end ≡ None → t.log ≡ s.log → t.point ≡ s.point → KnowsDurable t → IsKnown s known → IsKnown t known
 known_ended s t known going log point copies is = record { from = from_lsn.known_ended s t known.from going is.from; synced = synced_same s t known.synced log point is.synced; copies = λ none. copies }
 

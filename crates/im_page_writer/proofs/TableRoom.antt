@@ -1,4 +1,4 @@
--- Behind the flush of the page that is written next and a sync, the dirty table has room.
+-- After the flush of the page that is written next and a sync, the dirty table has room.
 use Rattle.std.proofs.Common.{◌≡◌, inl, inr, ℕ, ◌+◌, ◌<◌, ◌≤◌, false, true, Bool, List, [], ◌∷◌, length, Option, None, Some, refl, sym, ◌∙◌, ap, subst, arith}
 use Rattle.std.specs.Prelude.{is_some, map, option_map, if◌then◌else◌, nat_eq, nat_lt, IfSome}
 use Rattle.std.specs.Option.{option_map_or}
@@ -121,7 +121,7 @@ next_large w large = cond-true (nat_lt 1024 w.pool.frames) (option_map (λ r. r.
 pub next_small : (w : PageWriter) → nat_lt 1024 w.pool.frames ≡ false → next_written w ≡ option_map (λ e. e.0) (last_changed w.pool.held)
 next_small w small = cond-false (nat_lt 1024 w.pool.frames) (option_map (λ r. r.page) (oldest w.table)) (option_map (λ e. e.0) (last_changed w.pool.held)) small
 
--- ---- behind a sync
+-- ---- after a sync
 
 -- a table in which no page has an entry has none
 pub no_entries : (xs : List TableEntry) → ((p : ℕ) → entry_among xs p ≡ None) → length xs ≡ 0

@@ -79,7 +79,7 @@ nothing_held : (o : Option Held) → is_some o ≡ false → o ≡ None
 nothing_held None none = refl
 nothing_held (Some h) none = absurd (let clash : true ≡ false = none in cc clash)
 
--- a page that is not held is not held behind an eviction either
+-- a page that is not held is not held after an eviction either
 pub absent_still : (old mid new : PoolView) (p : ℕ) → SameHeld old mid → Evicts p mid new → (q : ℕ) → held_of old q ≡ None → held_of new q ≡ None
 absent_still old mid new p same gone q none = elim (cases_eq q p) [
   | inl here ↦ subst (λ (n : ℕ). held_of new n ≡ None) (sym here) gone.gone
@@ -124,7 +124,7 @@ module _ {D : Type 0} (d : Ghosts D) (b : Base) (base : ℕ) where
       | inr works ↦ let clash : None ≡ Some (s.pages p).page = sym (none works) ∙ page_is_seen in cc clash
     ]
 
-    -- behind a get that was refused, without a failure of the disk
+    -- after a get that was refused, without a failure of the disk
     pub goes_refused : (new_pool : PoolView) (new : D) → ((c : Files) → d.left_since old (d.moment old) c → d.may_leave old c) → Reads d old new → d.failed new ≡ false → new_pool.held ≡ pool.held → Goes d b base s old s log table new_pool new
     goes_refused new_pool new only_now reads works same =
         let goes = goes_read d b base s log table pool old new only_now w reads works in

@@ -64,7 +64,7 @@ module _ {D : Type 0} (d : Ghosts D) (b : Base) (base : ℕ) (s : Writer) (next 
     pub stops : LeavesCheckpointed old disk
 
 module _ {D : Type 0} (d : Ghosts D) where
-  -- What a Checkpoint costs: pages are written first, none where its record has room for the rows that a sync leaves; behind them four writes at most, and five syncs.
+  -- What a Checkpoint costs: pages are written first, none where its record has room for the rows that a sync leaves; after them four writes at most, and five syncs.
   pub record CheckpointCosts (v : PageWriter) (old new : D) : Type 0 where
     pub w : PageWriter
     pub mid : D

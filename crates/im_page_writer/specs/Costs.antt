@@ -4,14 +4,14 @@ use Rattle.im_base_disk.specs.declared.disk.Disk.{Ghosts}
 use Rattle.im_base_disk.specs.Runs.{Costs}
 
 module _ {D : Type 0} (d : Ghosts D) where
-  -- So many pages are written, one write each, and the file is synced at most once behind them; not where there is room.
+  -- So many pages are written, one write each, and the file is synced at most once after them; not where there is room.
   pub record WriteCosts (pages : ℕ) (HasRoom : Type 0) (old new : D) : Type 0 where
     pub syncs : ℕ
     pub once : syncs ≤ 1
     pub none : HasRoom → syncs ≡ 0
     pub costs : Costs d pages syncs old new
 
-  -- The log is forced at most once, and at most once more for each of so many pages; then they are written, one write each, and the file is synced at most once behind them; not where there is room.
+  -- The log is forced at most once, and at most once more for each of so many pages; then they are written, one write each, and the file is synced at most once after them; not where there is room.
   pub record FlushCosts (pages : ℕ) (HasRoom : Type 0) (old new : D) : Type 0 where
     pub forces : ℕ
     pub few : forces ≤ pages + 1

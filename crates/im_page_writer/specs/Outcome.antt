@@ -25,7 +25,7 @@ AllPages = ℕ → Page
 abbrev pub pages_of : Writer → AllPages
 pages_of s = λ p. (s.pages p).page
 
--- ---- refusals behind which the writer goes on
+-- ---- refusals after which the writer goes on
 
 -- for bytes that are no store's alone: of a call that makes nothing grow
 abbrev pub no_page : Fault → Bool
@@ -99,7 +99,7 @@ module _ {D : Type 0} (d : Ghosts D) where
     pub frames : w.pool.frames ≡ v.pool.frames
     pub ends : Ends asks goes_on v old w new why
 
-  -- The outcome of a search: it changes no page, asks that each page has its copy, and makes nothing grow. Behind a refusal for bytes that are no store's the writer goes on; it is never refused for want of memory.
+  -- The outcome of a search: it changes no page, asks that each page has its copy, and makes nothing grow. After a refusal for bytes that are no store's the writer goes on; it is never refused for want of memory.
   abbrev pub Reads : PageWriter → D → PageWriter → D → Option Fault → Type 0
   Reads v old w new why = Outcome AreLoaded no_page v old w new why
 
@@ -107,7 +107,7 @@ module _ {D : Type 0} (d : Ghosts D) where
   abbrev pub Lists : PageWriter → D → PageWriter → D → Option Fault → Type 0
   Lists v old w new why = Outcome AreLoaded mild v old w new why
 
-  -- The outcome of a call that writes pages, or none: it changes no page, asks nothing of them, and has no refusal behind which the writer goes on.
+  -- The outcome of a call that writes pages, or none: it changes no page, asks nothing of them, and has no refusal after which the writer goes on.
   abbrev pub Flushes : PageWriter → D → PageWriter → D → Option Fault → Type 0
   Flushes v old w new why = Outcome AsksNothing none_mild v old w new why
 
@@ -124,7 +124,7 @@ module _ {D : Type 0} (d : Ghosts D) where
     pub began : v.failed ≡ false
     pub broken : w.failed ≡ true
 
-  -- How a call ends that logs records of its own. What it logged, and what a stop within it leaves, another clause says; where the writer goes on behind a refusal, nothing of its own was logged.
+  -- How a call ends that logs records of its own. What it logged, and what a stop within it leaves, another clause says; where the writer goes on after a refusal, nothing of its own was logged.
   -- A call that is refused late may have logged some of its records where it is refused `Failed`, for want of memory, or `NotAStore`, for a page's bytes: the writer worked, and works.
   abbrev pub LogEnds : Bool → (Fault → Bool) → PageWriter → D → PageWriter → D → Option Fault → Type 0
   LogEnds late goes_on v old w new None = Works v w new

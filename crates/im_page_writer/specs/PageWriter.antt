@@ -83,7 +83,7 @@ module _ {D : Type 0} (d : Ghosts D) where
       pub now : Writer
       pub on : GoesOn s old now w disk
 
-    -- behind a refusal for want of memory, or for bytes that are no store's, it goes on
+    -- after a refusal for want of memory, or for bytes that are no store's, it goes on
     abbrev pub StaysOn : {A : Type 0} → Writer → D → PageWriter → D → Result A Fault → Type 0
     StaysOn s old w disk result = IfErr result (λ e. (e ≡ Memory) ⊎ (e ≡ NotAStore) → Evicted s old w disk)
 

@@ -13,7 +13,7 @@ use Rattle.im_page_file.specs.PageCopy.{after_in}
 use Rattle.im_page_writer.specs.declared.known.Synced.{Synced}
 use Rattle.im_page_writer.specs.declared.known.Known.{Known}
 
--- behind a record of this kind its page, if it is page 0, says this page count
+-- after a record of this kind its page, if it is page 0, says this page count
 pub record SaysCount (w : What) (n : ℕ) : Type 0 where
   pub body : Body
   pub after : after_in w ≡ Some body

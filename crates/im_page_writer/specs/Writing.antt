@@ -60,13 +60,13 @@ pub record SameHeld (old new : PoolView) : Type 0 where
 abbrev pub with_lsn : ℕ → List ℕ → List ℕ
 with_lsn lsn lsns = if nat_lt (length lsns) 1024 then lsns ++ (lsn ∷ []) else lsns
 
--- that of the page at a place of the flush; behind the last one that is noted, the last one, which is no later than its own
+-- that of the page at a place of the flush; after the last one that is noted, the last one, which is no later than its own
 abbrev pub lsn_for : List ℕ → ℕ → ℕ
 lsn_for lsns place = slice_index_or lsns (min place 1023) 0
 
 -- ---- the whole
 
--- what the Image of a page asks: that the page has its copy, that the log has begun and names it or a page behind it, and that the page is the initial one where it is not held
+-- what the Image of a page asks: that the page has its copy, that the log has begun and names it or a page after it, and that the page is the initial one where it is not held
 pub record MayCopy (s : Writer) (pool : PoolView) (p : ℕ) : Type 0 where
   pub ready : (s.pages p).waits ≡ false
   pub begun : s.log ≢ []

@@ -123,17 +123,18 @@ fn note_copy<D: Disk>(
     Ok(())
 }
 
-/// Adds the Image of a changed page to the log, by which a full copy of it is known, where the file has the page. Nothing is done for a
-/// page that was not changed, or that stands past the file's end.
+/// Adds the Image of a changed page to the log, by which a full copy of it is known, where the file has the page, or `anywhere`. Nothing is
+/// done for a page that was not changed, or that stands past the file's end and is wanted in the file alone.
 ///
 /// Refused `LogFull` or `Device`.
-pub(crate) fn note_in_file<D: Disk>(
+pub(crate) fn note_changed<D: Disk>(
     disk: &mut D,
     log: &mut LogFile,
     table: &mut DirtyTable,
     pool: &Pool,
     spare: &mut Page,
     number: PageNo,
+    anywhere: bool,
 ) -> Result<(), Fault>
     requires ready { IsOpen D.Disk log.old disk.old }
     requires working { log.old.failed ≡ false }
@@ -144,7 +145,7 @@ pub(crate) fn note_in_file<D: Disk>(
     ensures most { table.new.most ≡ table.old.most }
 {
     let count = count_pages(disk)?;
-    if number as u64 >= count {
+    if !anywhere && number as u64 >= count {
         return Ok(());
     }
     note_copy(disk, log, table, pool, spare, number)

@@ -114,7 +114,7 @@ module _ {D : Type 0} (d : Ghosts D) where
   settled_end v w new works ready LogFull one = (one.1, full_log d w new ready (λ lost. let clash : false ≡ true = sym one.1 ∙ lost in cc clash) one.2)
   settled_end v w new works ready e one = (one.0, one.2)
 
-  -- behind the calls over the writer
+  -- after the calls over the writer
   pub opens_settled : {v w : PageWriter} {new : D} {f : Fault} → v.failed ≡ false → Recovers d mild_to_take v w new (Some f) → Opens d new (Some f)
   opens_settled {v} {w} {new} {f} works one = record { ends = settled_end v w new works one.ready f one.ends }
 
@@ -123,7 +123,7 @@ module _ {D : Type 0} (d : Ghosts D) where
   read_end new f (inr (inl is)) lost = subst (λ (x : Fault). OpeningEnds d new (Some x)) (sym is) (lost.0 is)
   read_end new f (inr (inr is)) lost = subst (λ (x : Fault). OpeningEnds d new (Some x)) (sym is) (refl, still_working (d.failed new) (λ gone. let clash : NotAStore ≡ Device = sym is ∙ lost.1 gone in cc clash))
 
-  -- behind the reading of the log
+  -- after the reading of the log
   pub opens_read : {A : Type 0} {new : D} (r : Result A Fault) (f : Fault) → r ≡ Err f → (f ≡ Memory) ⊎ (f ≡ Device) ⊎ (f ≡ NotAStore) → (r ≡ Err Device) ↔ (d.failed new ≡ true) → Opens d new (Some f)
   opens_read {A} {new} r f is causes device = record { ends = read_end new f causes ((λ e. device.0 (is ∙ ap Err e)), (λ lost. let same = sym is ∙ device.1 lost in cc same)) }
 

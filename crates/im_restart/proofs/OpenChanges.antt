@@ -149,7 +149,7 @@ module _ {D : Type 0} (d : Ghosts D) (b : Base) (base : ℕ) (all : History) whe
   change_read s w x old new only_now stands is reads after =
       record { stands = after; taking = is; stops = reads_on d old old new (IsLeftUndoing b base all) (change_start s w old only_now stands is).stops reads; on = front_none s.log }
 
-  -- a page behind calls in a row
+  -- a page after calls in a row
   pub page_then : (s : Writer) (old : D) (t : Writer) (w : PageWriter) (mid : D) (rest : History) (x : PageWriter) (losers : LoserMap) (new : D) (result : Result Unit Fault) → ChangeGoes d b base all s old t w mid
       → PageKept d b base all t rest mid x losers new result → PageKept d b base all s rest old x losers new result
   page_then s old t w mid rest x losers new result goes k = record {

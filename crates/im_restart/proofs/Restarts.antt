@@ -109,7 +109,7 @@ module _ {D : Type 0} (d : Ghosts D) (b : Base) (base : ℕ) (all : History) whe
       by (inr made) =
           reads_on d old old mid (IsLeftUndoing b base all) (left_unmoved old only_now log pages other may.has may.lawful) (reads told (λ fresh. not_both (d.seen old Log) made.made fresh.0))
 
-  -- what the restart finds behind it
+  -- what the restart finds after it
   has_behind : (old mid : D) (file : LogFile) → HasStore b base all (d.seen old) → ChangesOnly d Log old mid → (d.tells → ¬ (IsFresh (d.seen old)) → Reads d old mid) → IsLog d base all all file mid → HasStore b base all (d.seen mid)
   has_behind old mid file has changes reads log = record {
     log = inr (record { made = log.made; starts = log.starts; spells = log.on_disk });
@@ -221,7 +221,7 @@ module _ {D : Type 0} (d : Ghosts D) (b : Base) (base : ℕ) (all : History) whe
 pub next_least : (lowest next : ℕ) (log : History) → 1 ≤ lowest → IsNextNumber lowest next log → 1 ≤ next
 next_least lowest next log some is = let least : lowest ≤ is.number = is.new.least in let same : next ≡ min is.number (2 ^ 64 - 1) = is.is in omega (arith, some, least, same)
 
--- an opening behind the making of the log: it starts as it did before, and the file of pages is as it was
+-- an opening after the making of the log: it starts as it did before, and the file of pages is as it was
 pub opened_behind : {D : Type 0} (d : Ghosts D) (b : Base) (base : ℕ) (all : History) (old mid new : D) (r : Restarted) → least_number (d.seen mid Log) ≡ least_number (d.seen old Log) → d.seen mid Pages ≡ d.seen old Pages
     → IsOpened d b base all mid r new → IsOpened d b base all old r new
 opened_behind d b base all old mid new r number file is = record {

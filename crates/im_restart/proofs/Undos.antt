@@ -21,7 +21,7 @@ use Rattle.im_restart.proofs.Others.{spares_none, spares_then}
 use Rattle.im_restart.proofs.Steps.{left_then, undo_start, undo_then}
 
 module _ {D : Type 0} (d : Ghosts D) (b : Base) (base : ℕ) (all : History) where
-  -- the map of the others' chains behind calls in a row
+  -- the map of the others' chains after calls in a row
   pub chains_then : (s : Writer) (t : ℕ) (out : ℕ → Bool) (chains : ChainMap) (old : D) (now : Writer) (w : PageWriter) (disk : D) → IsUndoing b all s → UndoGoes d b base all s old now w disk → SparesOthers t s.log now.log
       → AreChains (and_also t out) chains s.log → AreChains (and_also t out) chains now.log
   chains_then s t out chains old now w disk is goes others are =
@@ -44,7 +44,7 @@ module _ {D : Type 0} (d : Ghosts D) (b : Base) (base : ℕ) (all : History) whe
         stops = start.stops;
       }
 
-  -- a step behind calls in a row
+  -- a step after calls in a row
   pub step_then : (s : Writer) (t : ℕ) (out : ℕ → Bool) (old : D) (now : Writer) (w : PageWriter) (mid : D) (x : PageWriter) (chains : ChainMap) (new : D) (result : Result Unit Fault) → UndoGoes d b base all s old now w mid
       → SparesOthers t s.log now.log → StepKept d b base all now t out mid x chains new result → StepKept d b base all s t out old x chains new result
   step_then s t out old now w mid x chains new result goes others k = record {
@@ -66,7 +66,7 @@ module _ {D : Type 0} (d : Ghosts D) (b : Base) (base : ℕ) (all : History) whe
   pub read_stops : (s : Writer) (w : PageWriter) (old new : D) → ((c : Files) → d.left_since old (d.moment old) c → d.may_leave old c) → StandsAs d b base s w old → IsUndoing b all s → Reads d old new → LeavesOnly d old new (IsLeftUndoing b base all)
   read_stops s w old new only_now stands is reads = reads_on d old old new (IsLeftUndoing b base all) (undo_start d b base all s w old only_now stands is).stops reads
 
-  -- all of undo behind calls in a row
+  -- all of undo after calls in a row
   pub undo_behind : (s : Writer) (old : D) (now : Writer) (w : PageWriter) (mid : D) (x : PageWriter) (new : D) (result : Result Unit Fault) → UndoGoes d b base all s old now w mid → UndoKept d b base all now mid x new result
       → UndoKept d b base all s old x new result
   undo_behind s old now w mid x new result goes k = record {

@@ -26,7 +26,7 @@ module _ {D : Type 0} (d : Ghosts D) (base : ℕ) (all : History) where
     pub stops : LeavesIn d Log old new (IsLogOf base all)
     pub cause : IfErr result (λ e. e ≢ NotAStore)
 
-  -- The log is open behind all its records, which are durable, and this is what they say.
+  -- The log is open after all its records, which are durable, and this is what they say.
   pub record IsFound (found : Found) (disk : D) : Type 0 where
     pub log : IsLog d base all all found.log disk
     pub analysis : IsAnalysis (least_number (d.seen disk Log)) all found.analysed

@@ -59,7 +59,7 @@ pub record LeavesNoUndo (log : History) : Type 0 where
   pub ended : (t : ℕ) → is_loser t log ≡ false
   pub closed : open_smo log ≡ []
 
--- Less than 32,778 bytes are left below LSN 2^62 behind the log's file: a full buffer, the longest record, and what stands round them.
+-- Less than 32,778 bytes are left below LSN 2^62 after the log's file: a full buffer, the longest record, and what stands round them.
 abbrev pub IsFullLog : Files → Type 0
 IsFullLog files = 2 ^ 62 < base_of (files Log) + (length (files Log) + 32778)
 

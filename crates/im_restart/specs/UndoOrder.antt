@@ -36,7 +36,7 @@ pub record GoesFirst (t : ℕ) (log : History) : Type 0 where
   pub stack : to_undo t log ≡ next ∷ rest
   pub latest : IsLatest next.lsn log
 
--- The log is in order up to some place; the records behind it were to take back what this transaction had left there, which was the latest of all.
+-- The log is in order up to some place; the records after it were to take back what this transaction had left there, which was the latest of all.
 pub record IsInTurn (older longer : History) : Type 0 where
   pub before : History
   pub order : IsInOrder older before

@@ -64,7 +64,7 @@ module _ {D : Type 0} (d : Ghosts D) (b : Base) (base : ℕ) (all : History) whe
 
   -- ---- a step
 
-  -- The map is right behind the calls.
+  -- The map is right after the calls.
   pub record Stepped (s : Writer) (t : ℕ) (out : ℕ → Bool) (old : D) (w : PageWriter) (chains : ChainMap) (disk : D) : Type 0 where
     pub now : Writer
     pub goes : UndoGoes s old now w disk

@@ -15,7 +15,7 @@ use Rattle.im_restart_analysis.proofs.CopyLsns.{inserted_at}
 change_more : (r : Logged) (older : History) (x : Change) → IsChange older x → IsChange (r ∷ older) x
 change_more r older x is = record { logged = is.logged; there = inr is.there; page = is.page; changes = is.changes; lsn = is.lsn; says = is.says }
 
--- behind a record more they are changes still
+-- after a record more they are changes still
 changes_more : (r : Logged) (older : History) (xs : List Change) → All (IsChange older) xs → All (IsChange (r ∷ older)) xs
 changes_more r older xs all = All-weaker (IsChange older) (IsChange (r ∷ older)) (change_more r older) xs all
 
@@ -96,7 +96,7 @@ changes_logged point (r ∷ older) = logged_by point r older (nat_le point r.lsn
 
 -- ---- the last one of each page
 
--- behind a record more
+-- after a record more
 pub changed_still : (r : Logged) (older : History) (point : ℕ) (count : Option ℕ) (m : LastMap) → AreChangedAt older point count m → AreChangedAt (r ∷ older) point count m
 changed_still r older point count m all p l has =
     let old = all p l has in

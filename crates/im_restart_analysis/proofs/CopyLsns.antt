@@ -86,7 +86,7 @@ pub inserted : {E : Type 0} (result : Result (Option ℕ) E) (P : Type 0) (found
 inserted (Ok x) P found lsn done absent is = done
 inserted (Err e) P found lsn done absent is = let clash : None ≡ Some lsn = sym absent ∙ is in absurd (cc clash)
 
--- what a map has behind an insert: the new pair, and the old ones at other keys
+-- what a map has after an insert: the new pair, and the old ones at other keys
 pub inserted_at : (m n : CopyMap) (p l : ℕ) → Updates nat_cmp m n p (Some l) → (q k : ℕ) → get nat_cmp n q ≡ Some k → ((q ≡ p) × (k ≡ l)) ⊎ ((q ≢ p) × (get nat_cmp m q ≡ Some k))
 inserted_at m n p l up q k has = elim (cases_eq q p) [
   | inl here ↦ let same : Some k ≡ Some l = sym has ∙ ap (λ (x : ℕ). get nat_cmp n x) here ∙ up.1 in inl (here, (let e : k ≡ l = cc same in e))

@@ -22,7 +22,7 @@ counted_by b base counted = elim (cases_eq base 0) [
   | inr other ↦ (let is : pages_at_first base ≡ 2 ^ 32 - 1 = cond-false (base == 0) first_count (2 ^ 32 - 1) (ne_eqb base 0 other) in inr (omega (arith, is)))
 ]
 
--- ---- what page 0 says, by the bytes behind its LSN
+-- ---- what page 0 says, by the bytes after its LSN
 
 said_is : (bytes : List ℕ) (g : Page) → page_of bytes ≡ Some g → said_by bytes ≡ g
 unfolding page_of

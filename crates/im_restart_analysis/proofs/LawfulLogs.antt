@@ -10,7 +10,7 @@ use Rattle.im_theory_log.proofs.Fronts.{rises}
 use Rattle.im_restart_analysis.specs.OpenChange.{OpensAnother, IsOfAnother, IsSmo}
 use Rattle.im_restart_analysis.specs.Analysis.{Continues}
 
--- no record stands behind the last
+-- no record stands after the last
 pub low : (b : Base) (log : History) (s : Logged) → Rises b log → IsRecordOf s log → s.lsn ≤ end_of b log
 low b [] s up is = absurd is
 low b (r ∷ older) s up (inl same) = let e : r.lsn ≡ s.lsn = ap (λ (x : Logged). x.lsn) same in omega (arith, e)

@@ -14,13 +14,13 @@ use Rattle.im_restart_analysis.specs.CopyLsns.{AreCopies, IsAbove, LsnsRise}
 use Rattle.im_restart_analysis.specs.OpenChange.{IsOpenChange, OpensAnother}
 use Rattle.im_restart_analysis.specs.Orderly.{Knows}
 
--- The record may stand behind these: its LSN is above theirs, its page images are pages, and its transaction is not finished.
+-- The record may stand after these: its LSN is above theirs, its page images are pages, and its transaction is not finished.
 pub record Continues (r : Logged) (older : History) : Type 0 where
   pub rises : IsAbove r.lsn older
   pub readable : r.what ≢ Unreadable
   pub unfinished : 1 ≤ r.txn → is_finished r.txn older ≡ false
 
--- Behind these records of a log whose transaction numbers begin at the lowest, and whose page counts begin at n.
+-- After these records of a log whose transaction numbers begin at the lowest, and whose page counts begin at n.
 pub record IsAnalysed (lowest n : ℕ) (log : History) (a : Analysis) : Type 0 where
   pub rises : LsnsRise log
   pub next : IsNextNumber lowest a.next log

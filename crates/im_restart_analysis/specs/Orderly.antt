@@ -49,12 +49,12 @@ abbrev pub IsReadable : History → Type 0
 IsReadable [] = Unit {0}
 IsReadable (r ∷ older) = (r.what ≢ Unreadable) × IsReadable older
 
--- What is known behind records of any log: the structure change that is open, and the greatest page count.
+-- What is known after records of any log: the structure change that is open, and the greatest page count.
 pub record Knows (n : ℕ) (log : History) (a : Analysis) : Type 0 where
   pub open_change : IsOpenChange a.open_change.items log
   pub count : a.count ≡ greatest_count n log
 
--- On any records: one is taken only where it fits, with what is known behind it, and refused as no store only where it does not fit.
+-- On any records: one is taken only where it fits, with what is known after it, and refused as no store only where it does not fit.
 pub record FitKept (n : ℕ) (older : History) (r : Logged) (new : Analysis) (result : Result Unit Fault) : Type 0 where
   pub ok : OnOk result (FitsBehind n r older × Knows n (r ∷ older) new)
   pub refused : result ≡ Err NotAStore → FitsBehind n r older → ⊥

@@ -18,7 +18,7 @@ pub lsns_are : (point : ℕ) (log : History) → lsns_of (changes_from point log
 lsns_are point [] = refl
 lsns_are point (r ∷ older) = one_more (nat_le point r.lsn && changes_page r.what) (changes_from point older) r (lsns_from point older) (lsns_are point older)
 
--- the next one, and those behind it
+-- the next one, and those after it
 pub next_lsn : (xs : List Change) (i : ℕ) (d : Change) → i < length xs → drop i (lsns_of xs) ≡ (get_or xs i d).lsn ∷ drop (i + 1) (lsns_of xs)
 next_lsn xs i d within =
     drop-map (λ (x : Change). x.lsn) i xs
@@ -40,7 +40,7 @@ sliced xs i = ap (λ (n : ℕ). take n (drop i xs)) (sym (length-drop i xs)) ∙
 pub sliced_lsns : (xs : List Change) (i : ℕ) → lsns_of (take (length xs - i) (drop i xs)) ≡ drop i (lsns_of xs)
 sliced_lsns xs i = ap lsns_of (sliced xs i) ∙ dropped_lsns xs i
 
--- those behind some of these
+-- those after some of these
 pub sliced_more : (xs : List Change) (i n : ℕ) → drop n (lsns_of (take (length xs - i) (drop i xs))) ≡ drop (i + n) (lsns_of xs)
 sliced_more xs i n = ap (λ (l : List ℕ). drop n l) (sliced_lsns xs i) ∙ drop-drop n i (lsns_of xs)
 

@@ -53,14 +53,14 @@ is_other p q other = by (nat_cmp p q) refl
     by Equal is = absurd (other (exact_unsigned p q is))
 
 module _ (k v : ℕ) (left : List (ℕ × ℕ)) (rising : IsStrictlySortedBy nat_cmp (keys_of ((k, v) ∷ left))) where
-  -- the first page has its LSN, and none behind it
+  -- the first page has its LSN, and none after it
   lsn_first : lsn_at ((k, v) ∷ left) k ≡ Some v
   lsn_first = lookup_head (is_at (nat_cmp k)) (k, v) left (is_here k)
 
   lsn_gone : lsn_at left k ≡ None
   lsn_gone = lookup-none (is_at (nat_cmp k)) left (none_past_head (eq_by_cmp_equiv nat_cmp_total) k (k, v) left (IsDistinct-from_sorted nat_cmp (keys_of ((k, v) ∷ left)) rising) (is_here k))
 
-  -- each other page has what it has behind it
+  -- each other page has what it has after it
   lsn_other : (p : ℕ) → (p ≡ k → ⊥) → lsn_at ((k, v) ∷ left) p ≡ lsn_at left p
   lsn_other p other = lookup_tail (is_at (nat_cmp p)) (k, v) left (is_other p k other)
 
@@ -118,7 +118,7 @@ waiting_opened b begun file all are = record {
         let same : Some x ≡ Some (l, x.1) = ap (λ (n : ℕ). Some (n, x.1)) first in
         record { waits = ap is_found is; copy = x.1; found = is ∙ same; noted = is ∙ same }
 
--- those behind the load of the first
+-- those after the load of the first
 waiting_loaded : (begun : History) (k v : ℕ) (left : List (ℕ × ℕ)) (pages new : ℕ → PageState) → IsStrictlySortedBy nat_cmp (keys_of ((k, v) ∷ left)) → AreWaiting begun ((k, v) ∷ left) pages
     → (new k).waits ≡ false → ((p : ℕ) → (p ≡ k → ⊥) → ((new p).waits ≡ (pages p).waits) × ((new p).found ≡ (pages p).found)) → AreWaiting begun left new
 waiting_loaded begun k v left pages new rising old here rest = record {

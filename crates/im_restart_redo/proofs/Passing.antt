@@ -37,7 +37,7 @@ passed_newest point r older none = by (nat_le point r.lsn && changes_page r.what
     by false is none = (is, none)
     by true is none = absurd (none_pushed (lsns_from point older) r.lsn none)
 
--- The first of them is this record's: those behind it are the others, and those before it are passed by.
+-- The first of them is this record's: those after it are the others, and those before it are passed by.
 pub record IsFirstOf (point lsn : ℕ) (rest : List ℕ) (newer : History) : Type 0 where
   pub after : History
   pub first : Logged

@@ -44,7 +44,7 @@ module _ {D : Type 0} (d : Ghosts D) where
   own_end may failed device full v w new LogFull is one = absurd (let clash : false ≡ true = sym full ∙ is in cc clash)
   own_end may failed device full v w new e is one = (is, one.began, one.alive)
 
-  -- what a call answers or refuses of its own, behind calls that were not refused
+  -- what a call answers or refuses of its own, after calls that were not refused
   pub recovery_own : {A : Type 0} {may m : Fault → Bool} {v w : PageWriter} {new : D} → may Failed ≡ false → may Device ≡ false → may LogFull ≡ false → (r : Result A Fault) → Recovers d m v w new None → IfErr r (λ e. may e ≡ true) → Recovers d may v w new (fault_of r)
   recovery_own {A} {may} {m} {v} {w} {new} failed device full (Ok a) one of = record { ready = one.ready; frames = one.frames; ends = one.ends }
   recovery_own {A} {may} {m} {v} {w} {new} failed device full (Err e) one of = record { ready = one.ready; frames = one.frames; ends = own_end may failed device full v w new e of one.ends }

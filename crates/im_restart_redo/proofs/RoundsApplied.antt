@@ -78,7 +78,7 @@ onto_front (r ∷ rs) f g = onto_front rs (r ∷ f) g
 
 -- ---- a read
 
--- redo stands behind a read as before
+-- redo stands after a read as before
 pub applying_read : {D : Type 0} (d : Ghosts D) (b : Base) (base : ℕ) (begun : History) (file : ℕ → Option Page) (from : D) (lsns : List ℕ) (count : ℕ) (w : PageWriter) (disk : D) (so : IsApplying d b base begun file lsns count from w disk) (t : PageWriter) (new : D)
     → StandsAs d b base so.passed.now t new → Reads d disk new → IsApplying d b base begun file lsns count from t new
 applying_read d b base begun file from lsns count w disk so t new stands reads = record {

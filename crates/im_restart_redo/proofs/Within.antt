@@ -69,7 +69,7 @@ module _ {D : Type 0} (d : Ghosts D) (b : Base) (base : ℕ) (begun : History) (
     stops = covered_then d b base begun s.log s.durable more.high from mid new so.stops more.stops so.durable (grown_front b s.log more.high more.grows);
   }
 
-  -- behind a read
+  -- after a read
   pub within_read : (v : PageWriter) (new : D) → StandsAs d b base s v new → Reads d mid new → IsWithinRedo d b base begun from s v new
   within_read v new stands reads = record {
     stands = stands;
@@ -80,7 +80,7 @@ module _ {D : Type 0} (d : Ghosts D) (b : Base) (base : ℕ) (begun : History) (
     going = so.going;
   }
 
-  -- behind a call that added Images, and then changed pages alone
+  -- after a call that added Images, and then changed pages alone
   pub within_more : (before t : Writer) (v : PageWriter) (new : D) → Keeps b s before → LeavesCovered d b base s.durable before.log mid new → StandsAs d b base t v new
       → t.log ≡ before.log → t.durable ≡ before.durable → t.point ≡ before.point → t.redo_end ≡ before.redo_end → IsWithinRedo d b base begun from t v new
   within_more before t v new keeps stops stands log durable point redo_end = record {

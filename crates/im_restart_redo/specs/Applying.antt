@@ -24,7 +24,7 @@ module _ {D : Type 0} (d : Ghosts D) (b : Base) (base : ℕ) (begun : History) (
     pub had : HaveHad b front now.pages
     pub lsns : (p : ℕ) → IsLsnBehind b (first_lsn b begun file p) front (now.pages p).page.lsn
 
-  -- Redo has gone past a front of the log, and applied so many records; behind it these LSNs are those of the records from the redo point
+  -- Redo has gone past a front of the log, and applied so many records; after it these LSNs are those of the records from the redo point
   -- on that change a page.
   pub record IsApplying (left : List ℕ) (count : ℕ) (from : D) (w : PageWriter) (disk : D) : Type 0 where
     pub newer : History

@@ -9,7 +9,7 @@ use Rattle.im_page_writer.specs.PageWriter.{IsReadyWriter}
 use Rattle.im_page_writer.specs.Outcome.{Fails, Works}
 
 module _ {D : Type 0} (d : Ghosts D) where
-  -- How it ends, by its refusal, if it was refused. Behind a refusal the store is to be opened again, so nothing is said of where the writer goes on then.
+  -- How it ends, by its refusal, if it was refused. After a refusal the store is to be opened again, so nothing is said of where the writer goes on then.
   abbrev pub RecoveryEnds : (Fault → Bool) → PageWriter → PageWriter → D → Option Fault → Type 0
   RecoveryEnds may v w new None = Works d v w new
   RecoveryEnds may v w new (Some Failed) = (v.failed ≡ true) × (w.failed ≡ true)

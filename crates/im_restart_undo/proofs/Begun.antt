@@ -11,7 +11,7 @@ use Rattle.im_restart_undo.specs.Records.{GrowsByUndo}
 use Rattle.im_restart_undo.specs.Undoing.{HasBegun}
 use Rattle.im_restart_undo.proofs.Growth.{grows_images, grows_then}
 
--- ---- behind calls in a row
+-- ---- after calls in a row
 
 module _ {D : Type 0} (d : Ghosts D) (b : Base) (base : ℕ) where
   -- a record joined since

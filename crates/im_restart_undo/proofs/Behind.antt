@@ -94,7 +94,7 @@ drop_takes pages w p images is = let parts = drop_of pages w p images is in subs
 
 module _ {D : Type 0} (d : Ghosts D) (b : Base) (base : ℕ) where
   module _ (s : Writer) (e t : ℕ) (entry : Entry) (old : D) (last undo_next : ℕ) (start : PageWriter) (g : IsGoing d b base s e t last undo_next start old) (to : IsToUndo d b base s t entry) where
-    -- ---- behind a split
+    -- ---- after a split
 
     module _ (plan : SplitPlan) (splits : SplitsFor (settled_pages b s) (what_of entry) plan) (u : ℕ) (owner : u ≡ t) (v : PageWriter) (mid : D) where
       parts : IsSplitOf (settled_pages b s) (what_of entry) plan

@@ -81,7 +81,7 @@ module _ (b : Base) (t : ℕ) (old new : History) (by : GrowsByImages b old new)
       falls = next.falls;
     }
 
--- ---- how it stands behind them
+-- ---- how it stands after them
 
 module _ {D : Type 0} (d : Ghosts D) (b : Base) (base : ℕ) (s : Writer) (e t last undo_next : ℕ) (w : PageWriter) (disk : D) (g : IsGoingBeside d b base s e t last undo_next w disk) where
   pub beside_images : (old : D) (now : Writer) (v : PageWriter) (new : D) → GoesOn d b base s old now v new → IsGoingBeside d b base now e t last undo_next v new
@@ -114,10 +114,10 @@ told_longer b beside old new by told =
       none = λ none. opens ∙ told.none none;
     }
 
--- ---- a plan, and a compensation behind it
+-- ---- a plan, and a compensation after it
 
 module _ {D : Type 0} (d : Ghosts D) (b : Base) (base : ℕ) (s : Writer) (old : D) (now : Writer) (v : PageWriter) (mid : D) (on : GoesOn d b base s old now v mid) where
-  -- a plan over the settled pages is one still behind calls that changed none
+  -- a plan over the settled pages is one still after calls that changed none
   pub settled_pages_stay : settled_pages b now ≡ settled_pages b s
   settled_pages_stay =
       fun_ext
@@ -127,12 +127,12 @@ module _ {D : Type 0} (d : Ghosts D) (b : Base) (base : ℕ) (s : Writer) (old :
   pub left_beside : (t : ℕ) → IsLawful b page_tree s.log → LeavesUndo d b base s t old mid
   left_beside t law = left_images d b base s t old mid law (leaves_so_far d b base s old now v.log v.table v.pool mid on.goes)
 
-  -- and of calls behind them
+  -- and of calls after them
   pub left_behind : (t : ℕ) → IsLawful b page_tree s.log → (new : D) → LeavesUndo d b base now t mid new → LeavesUndo d b base s t old new
   left_behind t law new stops =
       left_both d b base s t old mid new (left_beside t law) (left_from d b base s t now mid new on.goes.keeps.durable (grows_images b t s.log now.log on.goes.keeps.log) stops)
 
-  -- a compensation behind them
+  -- a compensation after them
   unfoldable pub taken_behind : (e t : ℕ) (entry : Entry) (p last : ℕ) (w : PageWriter) (new : D) → t ≢ 0 → IsLawful b page_tree s.log → TakenBeside d b base now e t entry (Plain p) last mid w new → TakenBeside d b base s e t entry (Plain p) last old w new
   unfolding grows_images grows_then
   taken_behind e t entry p last w new some law taken =

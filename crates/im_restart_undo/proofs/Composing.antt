@@ -80,7 +80,7 @@ module _ {D : Type 0} (d : Ghosts D) (b : Base) (base : ℕ) where
     to_undo_on entry now w disk on to = still_to_undo entry last w disk (images_made now w disk on) to
 
   module _ (s : Writer) (e t : ℕ) (entry : Entry) (old : D) where
-    -- a compensation behind a structure change
+    -- a compensation after a structure change
     pub restructured_then : (l m undo_next : ℕ) (v : PageWriter) (mid : D) (w : PageWriter) (new : D) (made : Restructured d b base s e t l undo_next old v mid) → TakenBack d b base made.now e t entry m mid w new
         → TakenBack d b base s e t entry m old w new
     restructured_then l m undo_next v mid w new made taken =
@@ -97,7 +97,7 @@ module _ {D : Type 0} (d : Ghosts D) (b : Base) (base : ℕ) where
               ∙ ap (λ (rs : History). compensations next.grows.more ++ rs) made.none ∙ append-nil (compensations next.grows.more)) ∙ taken.once;
         }
 
-    -- and a structure change behind a compensation
+    -- and a structure change after a compensation
     pub taken_then : (l m : ℕ) (v : PageWriter) (mid : D) (w : PageWriter) (new : D) (taken : TakenBack d b base s e t entry l old v mid) → Restructured d b base taken.now e t m (prev_of entry) mid w new
         → TakenBack d b base s e t entry m old w new
     taken_then l m v mid w new taken made =
@@ -127,7 +127,7 @@ module _ {D : Type 0} (d : Ghosts D) (b : Base) (base : ℕ) where
       begun = err_on result f (λ x. x ≡ Failed → HasBegun d b base s t w new) here (λ failed. absurd (never_failed d f g.stands.working one failed));
     }
 
-    -- behind it the key record is taken back
+    -- after it the key record is taken back
     pub plan_then : (l undo_next : ℕ) (start v : PageWriter) (mid : D) (w : PageWriter) (new : D) (g : IsGoing d b base s e t l undo_next start old) (now : Writer) → GoesOn d b base s old now v mid
         → (result : Result ℕ Fault) → CompensateKept d b base now e t entry mid w new result → CompensateKept d b base s e t entry old w new result
     unfolding images_made

@@ -30,7 +30,7 @@ module _ {D : Type 0} (d : Ghosts D) (b : Base) (base : ℕ) (s : Writer) where
   pub left_reading : {m : Fault → Bool} {v : PageWriter} {old : D} {w : PageWriter} {new : D} {why : Option Fault} → StandsAs d b base s v old → AreLoaded s → Outcome d AreLoaded m v old w new why → LeavesGrown d b base s old new
   left_reading {m} {v} {old} {w} {new} {why} stands loaded one = left_ends m v old w new why stands loaded one.ends
 
--- ---- refusals behind a record
+-- ---- refusals after a record
 
 -- what is answered is not as no store, where the refusal was not
 pub late_cause : (f answer : Fault) → (f ≡ Memory → answer ≡ Failed) → (f ≢ Memory → answer ≡ f) → f ≢ NotAStore → answer ≢ NotAStore
@@ -73,7 +73,7 @@ module _ {D : Type 0} (d : Ghosts D) where
   wants_nothing {A} {late} {m} {v} {old} {w} {new} (Ok a) short none one = tt
   wants_nothing {A} {late} {m} {v} {old} {w} {new} (Err e) short none one = λ why. elim why [ inl is ↦ no_memory short one is | inr is ↦ no_capacity {A = Unit} ⊥ (Err e) none one is ]
 
-  -- a refusal behind a record, of a call that is not refused for want of memory
+  -- a refusal after a record, of a call that is not refused for want of memory
   pub none_late : {last late : Bool} {m n : Fault → Bool} {v : PageWriter} {old : D} {w : PageWriter} {mid : D} {x : PageWriter} {new : D} {f : Fault} → Logs d last m v old w mid None → Logs d late none_mild w mid x new (Some f) → Logs d true n v old x new (Some f)
   none_late {last} {late} {m} {n} {v} {old} {w} {mid} {x} {new} {f} one two =
       late_behind d one (logs_late d (λ e is. let never : ⊥ = cc is in absurd never) one.ends.works two) (λ is. absurd (no_memory refl two is)) (λ other. refl)

@@ -186,7 +186,7 @@ pub loser_has : (t : ℕ) (log : History) → is_loser t log ≡ true → has_re
 loser_has t log is =
     (and_parts (has_record t log) (not (is_finished t log)) (and_parts (nat_le 1 t) (has_record t log && not (is_finished t log)) is).1).0
 
--- a loser that is not finished behind such records is one still
+-- a loser that is not finished after such records is one still
 pub loser_still : (t : ℕ) (older longer : History) → GrowsByUndo t older longer → is_loser t older ≡ true → is_finished t longer ≡ false → is_loser t longer ≡ true
 loser_still t older longer grows is going =
     loser_from t longer (loser_number t older is) (ap (has_record t) grows.is ∙ has_more t grows.more older (loser_has t older is)) going
@@ -296,11 +296,11 @@ module _ {D : Type 0} (d : Ghosts D) (b : Base) (base : ℕ) where
   }
 
   module _ (s : Writer) (e t last undo_next : ℕ) (old : D) (m : Writer) (v : PageWriter) (mid : D) (one : GoesTo d b base s e t last undo_next old m v mid) where
-    -- what a stop leaves of calls behind these
+    -- what a stop leaves of calls after these
     pub left_then : (new : D) → LeavesUndo d b base m t mid new → LeavesUndo d b base s t old new
     left_then new stops = left_both s t old mid new one.stops (left_from s t m mid new one.durable one.grows stops)
 
-    -- calls behind these
+    -- calls after these
     unfoldable pub goes_then : (new_last new_next : ℕ) (now : Writer) (w : PageWriter) (new : D) → GoesTo d b base m e t new_last new_next mid now w new → GoesTo d b base s e t new_last new_next old now w new
     goes_then new_last new_next now w new two = record {
       going = two.going;

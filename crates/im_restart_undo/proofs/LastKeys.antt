@@ -1,4 +1,4 @@
--- The last key of a leaf that goes, and the change behind it that takes the leaf out of the tree.
+-- The last key of a leaf that goes, and the change after it that takes the leaf out of the tree.
 use Rattle.std.proofs.Common.{◌≡◌, ℕ, Bool, List, [], ◌∷◌, length, None, Some, inl, inr, sym, ◌∙◌, ap, subst, arith}
 use Rattle.std.specs.Prelude.{not, cond, ◌==◌}
 use Rattle.std.specs.Ordering.{eq_by_cmp}
@@ -65,7 +65,7 @@ module _ {D : Type 0} (d : Ghosts D) (b : Base) (base : ℕ) where
     has_key : find key_order key (settled b s.log p).entries ≡ Some rid
     has_key = settled_has b s.log law key p leaf.leaf ∙ subst (λ (w : What). ShowsChange (settled b s.log) w) same (settled_shows b s.log law t (logged_at to.lsn said) to.next)
 
-    -- behind the compensation it has none
+    -- after the compensation it has none
     pub emptied_behind : settled b taken.now.log ≡ bodies_of (emptied (settled_pages b s) p)
     emptied_behind =
         sym taken.pages

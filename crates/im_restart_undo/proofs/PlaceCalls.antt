@@ -17,7 +17,7 @@ use Rattle.im_restart_undo.specs.Place.{IsKnownLeaf, IsHeldPage, FindsPage, HasW
 
 -- ---- the tree
 
--- it is there still behind a call that changed no page
+-- it is there still after a call that changed no page
 pub whole_still : {D : Type 0} (d : Ghosts D) {m : Fault → Bool} {pages : AllPages} {v : PageWriter} {old : D} {w : PageWriter} {mid : D} → HasWholeTree d pages v old → Outcome d AreLoaded m v old w mid None → HasWholeTree d pages w mid
 whole_still {D} d {m} {pages} {v} {old} {w} {mid} tree one = record { has = pages_still d tree.has one; good = tree.good }
 

@@ -41,7 +41,7 @@ key_absent es key i gap has =
 pub key_tells : (es : List Entry) (key : Key) (i : ℕ) → IsPlace es key (Err i) → IsTrue false ↔ HasKey es key
 key_tells es key i gap = (λ clash. absurd (let never : ⊥ = cc clash in never), λ has. absurd (key_absent es key i gap has))
 
--- a smaller key stands in front of its place, and a greater behind it
+-- a smaller key stands in front of its place, and a greater after it
 pub gap_begins : (es : List Entry) (key : Key) (i : ℕ) → IsPlace es key (Err i) → Surrounds es key → 0 < i
 gap_begins es key i gap has =
     ⊎_elim

@@ -48,7 +48,7 @@ use Rattle.im_restart_undo.specs.Planning.{BackPlanned, HiddenBack, page_made, w
 
 -- ---- trees
 
--- it is there still behind a call that changed no page
+-- it is there still after a call that changed no page
 pub whole_but_still : {D : Type 0} (d : Ghosts D) {m : Fault → Bool} {pages : AllPages} {beside : Beside} {v : PageWriter} {old : D} {w : PageWriter} {mid : D} → HasWholeTreeBut d pages beside v old → Outcome d AreLoaded m v old w mid None
     → HasWholeTreeBut d pages beside w mid
 whole_but_still {D} d {m} {pages} {beside} {v} {old} {w} {mid} whole one = record { tree = but_still d whole.tree one; good = whole.good }
@@ -154,7 +154,7 @@ reads_never_full d {v} {old} {w} {new} {f} reads full =
     let clash : false ≡ true = ends.0 in
     cc clash
 
--- a call behind which the writer goes on changed no page
+-- a call after which the writer goes on changed no page
 pub goes_on_short : {D : Type 0} (d : Ghosts D) {m : Fault → Bool} {v : PageWriter} {old : D} {w : PageWriter} {mid : D} (f : Fault) → f ≡ Memory → Outcome d AreLoaded m v old w mid (Some f) → Outcome d AreLoaded m v old w mid None
 goes_on_short {D} d {m} {v} {old} {w} {mid} f is one =
     let here : Outcome d AreLoaded m v old w mid (Some Memory) = subst (λ (x : Fault). Outcome d AreLoaded m v old w mid (Some x)) is one in

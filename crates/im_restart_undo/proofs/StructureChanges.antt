@@ -64,7 +64,7 @@ module _ {D : Type 0} (d : Ghosts D) (b : Base) (base : ℕ) where
 
     -- ---- the change
 
-    -- it is undone still behind a structure change
+    -- it is undone still after a structure change
     unfoldable restructured : (images : List Numbered) (l : ℕ) (w : PageWriter) (disk : D) → Changed d b base s e images t undo_next l old w disk → LeavesChange d b base s t old disk → Restructured d b base s e t l undo_next old w disk
     restructured images l w disk made stops = record {
       now = made.now;

@@ -38,7 +38,7 @@ IsAsPlanned (Plain p) r = (is_structural r.what ≡ false) × (changes_page r.wh
 IsAsPlanned (Split plan) r = Unit {0}
 IsAsPlanned (Drop p images) r = Unit {0}
 
--- the entries of a leaf behind the compensation of a record on it
+-- the entries of a leaf after the compensation of a record on it
 abbrev pub entries_behind : What → List Entry → List Entry
 entries_behind (InsertKey k i) es = without_key k es
 entries_behind (DeleteKey k i) es = with_key k i es
@@ -89,7 +89,7 @@ module _ {D : Type 0} (d : Ghosts D) (b : Base) (base : ℕ) where
     pub planned : AllOf (IsAsPlanned back) grows.more
     pub pages : HasLeafBehind back (what_of entry) (settled b s.log) (settled b now.log)
 
-  -- What that keeps. It is refused `Memory` only for a split, with all as it was, and `Failed` behind a record of the transaction.
+  -- What that keeps. It is refused `Memory` only for a split, with all as it was, and `Failed` after a record of the transaction.
   pub record BackKept (s : Writer) (e t : ℕ) (entry : Said) (back : Back) (old : D) (w : PageWriter) (disk : D) (result : Result ℕ Fault) : Type 0 where
     pub sound : IsSound result (λ last. TakenBeside s e t entry back last old w disk)
     pub stops : LeavesUndo d b base s t old disk

@@ -96,7 +96,7 @@ module _ {D : Type 0} (d : Ghosts D) (b : Base) (base : ℕ) where
 
   -- ---- structure changes on the way
 
-  -- Behind them the transaction has the same left to undo, and the tree the same entries.
+  -- After them the transaction has the same left to undo, and the tree the same entries.
   pub record Restructured (s : Writer) (e t last undo_next : ℕ) (old : D) (w : PageWriter) (disk : D) : Type 0 where
     pub now : Writer
     pub goes : GoesTo s e t last undo_next old now w disk
@@ -117,7 +117,7 @@ module _ {D : Type 0} (d : Ghosts D) (b : Base) (base : ℕ) where
     pub room : HasRoom true (bodies made.now leaf).entries (key, 0)
     pub some : HasRecordOf t made.goes.grows.more
 
-  -- what the split of a key's leaf keeps; it is refused `Failed` behind a record of the transaction
+  -- what the split of a key's leaf keeps; it is refused `Failed` after a record of the transaction
   pub record SplitKept (s : Writer) (e t undo_next : ℕ) (key : Key) (leaf : ℕ) (old : D) (w : PageWriter) (disk : D) (result : Result ℕ Fault) : Type 0 where
     pub sound : IsSound result (λ last. HasMadeRoom s e t last undo_next key leaf old w disk)
     pub stops : LeavesUndo s t old disk
@@ -139,7 +139,7 @@ module _ {D : Type 0} (d : Ghosts D) (b : Base) (base : ℕ) where
     pub map : contents b now.log ≡ contents_after (inverse_of (what_of entry)) (contents b s.log)
     pub once : length (compensations goes.grows.more) ≡ 1
 
-  -- What a compensation keeps. It is refused `Failed` behind a record of the transaction; `Memory` comes only where a key that is put back finds its leaf without room, and `Capacity` only where page numbers or levels are used up too.
+  -- What a compensation keeps. It is refused `Failed` after a record of the transaction; `Memory` comes only where a key that is put back finds its leaf without room, and `Capacity` only where page numbers or levels are used up too.
   pub record CompensateKept (s : Writer) (e t : ℕ) (entry : Entry) (old : D) (w : PageWriter) (disk : D) (result : Result ℕ Fault) : Type 0 where
     pub sound : IsSound result (λ last. TakenBack s e t entry last old w disk)
     pub stops : LeavesUndo s t old disk

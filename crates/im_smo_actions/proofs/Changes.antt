@@ -95,7 +95,7 @@ module _ {D : Type 0} (d : Ghosts D) (b : Base) (base : ℕ) (s : Writer) (e t l
       planned_stops : (new : D) → LeavesChange d b base now t mid new → LeavesChange d b base s t old new
       planned_stops new stops = left_then d b base s t old now w mid u.lawful on new stops
 
-      -- a refusal as failed comes behind a record of the change
+      -- a refusal as failed comes after a record of the change
       planned_begun : (x : PageWriter) (new : D) → Begun d b base now t x new → Begun d b base s t x new
       planned_begun x new begun = record {
         now = begun.now;
@@ -131,7 +131,7 @@ module _ {D : Type 0} (d : Ghosts D) (b : Base) (base : ℕ) (s : Writer) (e t l
         planned_joined : HasRecordOf t planned_made.grows.more
         planned_joined = record_front t made.grows.more on.goes.keeps.log.images (marked_is t made.grows.more None (image_marks (length images) images) made.grows.all made.order)
 
-  -- where it goes on behind a plan
+  -- where it goes on after a plan
   abbrev planned_at : {m : Fault → Bool} {w : PageWriter} {mid : D} → Outcome d AreLoaded m v old w mid None → Evicted d b base s old w mid
   planned_at {m} {w} {mid} plan = plan.ends.goes b base s u.stands (still_ready d b base s e t last undo_next v old u)
 

@@ -34,7 +34,7 @@ pub pages_stay : (b : Base) (s t : Writer) → Keeps b s t → pages_of t ≡ pa
 pages_stay b s t keeps = fun_ext (λ (p : ℕ). (keeps.pages p).page)
 
 module _ {D : Type 0} (d : Ghosts D) (b : Base) (base : ℕ) where
-  -- ---- how a writer stands behind redo
+  -- ---- how a writer stands after redo
 
   module _ (s : Writer) (e : ℕ) (w : PageWriter) (disk : D) (stands : StandsAs d b base s w disk) (over : s.redo_end ≡ Some e) where
     writer_kept : WriterKept b s
@@ -105,7 +105,7 @@ module _ {D : Type 0} (d : Ghosts D) (b : Base) (base : ℕ) where
   pub left_images : (s : Writer) (t : ℕ) (old new : D) → IsLawful b page_tree s.log → LeavesGrown d b base s old new → LeavesChange d b base s t old new
   left_images s t old new law stops = left_grown d b base s t s old new (front_self s.durable) law (change_none t s.log) stops
 
-  -- behind calls that add Images
+  -- after calls that add Images
   pub left_then : (s : Writer) (t : ℕ) (old : D) (now : Writer) (w : PageWriter) (mid : D) → IsLawful b page_tree s.log → GoesOn d b base s old now w mid → (new : D) → LeavesChange d b base now t mid new → LeavesChange d b base s t old new
   left_then s t old now w mid law on new stops =
       then_on d old mid new (LeftByChange d b base s t) (LeftByChange d b base s t)

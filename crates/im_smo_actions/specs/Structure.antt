@@ -48,13 +48,13 @@ module _ {D : Type 0} (d : Ghosts D) (b : Base) (base : ℕ) where
 
   -- ---- an empty leaf
 
-  -- The key's leaf was spare, and its page is free behind a structure change; or it was not, and Images alone joined.
+  -- The key's leaf was spare, and its page is free after a structure change; or it was not, and Images alone joined.
   pub record Dropped (s : Writer) (e t last undo_next : ℕ) (key : Key) (w : PageWriter) (disk : D) : Type 0 where
     pub made : Restructured s e t last undo_next w disk
     pub gone : (spare : IsSpare (bodies s) key) → (bodies made.now spare.page).kind ≡ Free
     pub either : (IsKept (bodies s) key × GrowsByImages b s.log made.now.log) ⊎ (IsSpare (bodies s) key × HasRecordOf t made.grows.more)
 
-  -- what the deletion of a key's leaf keeps; `Failed` comes behind a record, and `Memory` only where the leaf is to go
+  -- what the deletion of a key's leaf keeps; `Failed` comes after a record, and `Memory` only where the leaf is to go
   pub record SpareKept (s : Writer) (e t undo_next : ℕ) (key : Key) (old : D) (w : PageWriter) (disk : D) (result : Result ℕ Fault) : Type 0 where
     pub sound : IsSound result (λ last. Dropped s e t last undo_next key w disk)
     pub stops : LeavesChange d b base s t old disk
@@ -66,7 +66,7 @@ module _ {D : Type 0} (d : Ghosts D) (b : Base) (base : ℕ) where
   IsDropped s e t undo_next key old w disk None = Evicted d b base s old w disk
   IsDropped s e t undo_next key old w disk (Some last) = Dropped s e t last undo_next key w disk
 
-  -- What that keeps where it may stay for want of memory, which is so only of a leaf that is to go. `Failed` comes behind a record.
+  -- What that keeps where it may stay for want of memory, which is so only of a leaf that is to go. `Failed` comes after a record.
   pub record DropKept (s : Writer) (e t undo_next : ℕ) (key : Key) (old : D) (w : PageWriter) (disk : D) (result : Result (Option ℕ) Fault) : Type 0 where
     pub sound : IsSound result (IsDropped s e t undo_next key old w disk)
     pub stops : LeavesChange d b base s t old disk

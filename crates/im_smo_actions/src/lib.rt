@@ -4,7 +4,7 @@
 //!
 //! - `drop_empty_leaf` takes the leaf of a key out of the tree where it is empty and not the root; for want of memory it stays.
 //! - `has_room` and `is_last_entry` say of a held leaf whether a key more fits, and whether one less would leave it empty.
-//! - `plan_change` takes what others have to be told of a planned change, in front of any record; behind that it begins (`BegunChange`), and is never refused.
+//! - `plan_change` takes what others have to be told of a planned change, in front of any record; after that it begins (`BegunChange`), and is never refused.
 //! - `told_beside` is the law by which others search and plan while a structure change goes on over several steps (`IsToldOf`, `HasWholeTreeBut`).
 //!
 //! Each plans first, in front of any record (`im_smo_split`, `im_smo_drop_leaf`), and then logs the plan and closes it (`im_smo_log`). So what is

@@ -19,7 +19,7 @@ use im_smo_pages::Images;
 use std::alloc::Global;
 
 /// A structure change of which no page is logged, with all that others are told of it once it has begun. So what wants memory is had in
-/// front of a lock or a record, and it can begin behind one.
+/// front of a lock or a record, and it can begin after one.
 #[derive(Drop)]
 pub struct PlannedChange {
     pub(crate) images: Images,
@@ -79,7 +79,7 @@ pub fn plan_change<D: Disk>(
 }
 
 impl PlannedChange {
-    /// It begins, as a change of this transaction, whose records end at `last`; undo goes on at `undo_next` behind it. It takes no
+    /// It begins, as a change of this transaction, whose records end at `last`; undo goes on at `undo_next` after it. It takes no
     /// memory, and is never refused.
     pub fn begin(self, transaction: TxnId, last: Lsn, undo_next: Lsn) -> BegunChange
         requires owner { 1 ≤ transaction }

@@ -1,4 +1,4 @@
--- Pages of a structure change behind calls that change none.
+-- Pages of a structure change after calls that change none.
 use Rattle.std.proofs.Common.{◌≡◌, ◌⊎◌, inl, inr, Bool, None, Some, true, ap, List, ℕ, refl, subst, sym}
 use Rattle.std.specs.Prelude.{Result, Ok, Err, IfErr}
 use Rattle.im_base_types.specs.declared.fault.Fault.{Fault}
@@ -21,7 +21,7 @@ take_mildly Memory is = refl
 take_mildly NotAStore is = refl
 take_mildly e is = absurd (cc is)
 
--- an allocation that is refused for bytes that are no store's behind calls that succeeded
+-- an allocation that is refused for bytes that are no store's after calls that succeeded
 pub no_store : {D : Type 0} (d : Ghosts D) {m : Fault → Bool} {v : PageWriter} {old : D} {w : PageWriter} {mid : D} (e : Fault) → e ≡ NotAStore → Outcome d AreLoaded m v old w mid None → Outcome d AreLoaded mild_to_take v old w mid (Some e)
 no_store d {m} {v} {old} {w} {mid} e is one = subst (λ (x : Fault). Outcome d AreLoaded mild_to_take v old w mid (Some x)) (sym is) (record { ready = one.ready; frames = one.frames; ends = (refl, one.ends) })
 

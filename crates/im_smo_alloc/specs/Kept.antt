@@ -14,7 +14,7 @@ pub record HasImages {D : Type 0} (d : Ghosts D) (pages : AllPages) (images : Li
   pub has : HasPages d AreLoaded pages w disk
   pub good : IsGoodTree (seen pages images) spare
 
--- refusals of an allocation behind which the writer goes on: for want of memory or of page numbers, or for bytes that are no store's
+-- refusals of an allocation after which the writer goes on: for want of memory or of page numbers, or for bytes that are no store's
 abbrev pub mild_to_take : Fault → Bool
 mild_to_take Memory = true
 mild_to_take NotAStore = true

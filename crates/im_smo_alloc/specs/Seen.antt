@@ -32,7 +32,7 @@ page_in pages images n = image_or (image_of images n) (pages n)
 abbrev pub next_page : Body → ℕ
 next_page meta = if meta.prev == 0 then meta.leftmost else meta.next
 
--- page 0 behind that, from what the page that is taken says
+-- page 0 after that, from what the page that is taken says
 abbrev pub meta_behind : Body → Body → Body
 meta_behind meta page = if meta.prev == 0 then meta_with_count meta else meta_without_first meta page
 

@@ -80,7 +80,7 @@ module _ {D : Type 0} (d : Ghosts D) where
   pub last_first : (pages : AllPages) (images : List Numbered) (xs : List ℕ) (q : ℕ) (w : PageWriter) (disk : D) → HasImages d pages images (xs ++ q ∷ []) w disk → HasImages d pages images (q ∷ xs) w disk
   last_first pages images xs q w disk tree = record { has = tree.has; good = last_good (seen pages images) xs q tree.good }
 
-  -- and the next one behind it
+  -- and the next one after it
   pub next_given : (pages : AllPages) (images mid : List Numbered) (leaf : ℕ) (above spare rest all : List ℕ) (q : ℕ) {v : PageWriter} {old : D} {w : PageWriter} {disk : D} → HasImages d pages images all v old → Plans d v old w disk None
       → IsGiven pages images mid leaf above spare → spare ≡ rest ++ q ∷ [] → HasImages d pages mid (q ∷ rest) w disk
   next_given pages images mid leaf above spare rest all q {v} {old} {w} {disk} tree one given is = record {

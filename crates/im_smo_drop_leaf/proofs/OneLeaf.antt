@@ -13,7 +13,7 @@ reached_not_under key low None after at under = absurd after
 reached_not_under key low (Some b) after at under =
     ⊎_elim (λ (e : b ≡ key). below_irrefl key (subst (λ (x : Key). IsBelow key x) e under)) (λ (l : IsBelow b key). below_irrefl key (below_trans key b key under l)) at
 
--- no leaf behind that of a key is the key's
+-- no leaf after that of a key is the key's
 none_behind : (pages : Pages) (key : Key) (n : Node) (c : List Node) (m : Node) (d : List Node) → AreOrdered pages (n ∷ c ++ m ∷ d) → IsUnder key (next_bound (c ++ m ∷ d)) → AtOrAbove m.bound key → ⊥
 none_behind pages key n [] m d ordered under at = reached_not_under key n.bound m.bound ordered.1 at under
 none_behind pages key n (y ∷ c) m d ordered under at = reached_not_under key n.bound y.bound ordered.1 (bound_reached pages y m c d key ordered.2 at) under

@@ -10,7 +10,7 @@ pub never_err : {A E : Type 0} (r : Result A E) (P : E → Type 0) → IfErr r (
 never_err (Ok a) P never = tt
 never_err (Err e) P never = absurd never
 
--- behind a refusal for bytes that are no store's the writer goes on
+-- after a refusal for bytes that are no store's the writer goes on
 pub only_bytes : {A : Type 0} (r : Result A Fault) → IfErr r (λ e. e ≡ NotAStore) → IfErr r (λ e. no_page e ≡ true)
 only_bytes (Ok a) is = tt
 only_bytes (Err e) is = ap no_page is

@@ -99,7 +99,7 @@ emptied_but pages p leaf = record { leaf = leaf; others = λ q other. sym (empti
 
 -- ---- images over pages that differ in one leaf
 
--- where that leaf's page is free among the images, the pages behind them are the same
+-- where that leaf's page is free among the images, the pages after them are the same
 pub seen_same : (pages now : AllPages) (n : ℕ) (images : List Numbered) → SameBut n (bodies pages) (bodies now) → (seen pages images n).kind ≡ Free → seen now images ≡ seen pages images
 seen_same pages now n images same free = fun_ext (λ (x : ℕ). applied_image (bodies now) images x ∙ at x ∙ sym (applied_image (bodies pages) images x))
   where

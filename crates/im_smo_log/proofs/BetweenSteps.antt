@@ -1,4 +1,4 @@
--- A structure change that goes on over several steps: behind records of others, behind a page of its own, and behind its end.
+-- A structure change that goes on over several steps: after records of others, after a page of its own, and after its end.
 use Rattle.std.proofs.Common.{◌≡◌, ℕ, Bool, true, false, List, [], ◌∷◌, ◌++◌, Option, Some, None, refl, sym, ap, subst, ◌∙◌}
 use Rattle.std.proofs.Math.Path.{fun_ext}
 use Rattle.im_base_types.specs.Keys.{Key}
@@ -71,7 +71,7 @@ module _ (b : Base) (r : Logged) (log : History) (is : r.what ≡ DummyClr) wher
       ap (λ (l : History). taken_back l p (page_at b (r ∷ log) p).body) (ap (λ (w : What). open_after r w (open_smo log)) is)
       ∙ ap (λ (q : Page). q.body) (page_same b r log (λ q. ap (λ (w : What). page_after r.lsn w q) is ∙ no_change r.lsn DummyClr q refl) p)
 
-  -- behind the record that closes a change the pages are settled as they stand
+  -- after the record that closes a change the pages are settled as they stand
   closed_pages : settled b (r ∷ log) ≡ bodies b log
   closed_pages = fun_ext closed_page
 

@@ -57,7 +57,7 @@ none_open : (going : History) → length going ≡ 0 → going ≡ []
 none_open [] none = refl
 none_open (u ∷ rest) none = absurd (omega (arith, none))
 
--- where no structure change is open, page 0 says a page count that the base said, or no more than behind all that the log has named
+-- where no structure change is open, page 0 says a page count that the base said, or no more than after all that the log has named
 count_named : (b : Base) (log : History) → IsLawful b page_tree log → open_smo log ≡ [] → (page_at b log 0).body.leftmost ≤ max (count_of b) (named_to log)
 count_named b log law closed =
     let same : (settled b log 0).leftmost ≡ (page_at b log 0).body.leftmost = ap (λ (l : History). (taken_back l 0 (page_at b log 0).body).leftmost) closed in

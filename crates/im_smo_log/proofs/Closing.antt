@@ -82,7 +82,7 @@ closes b t undo_next xs older i prev lsn log some any w high was closed good sam
     r : Logged
     r = dummy_at lsn t prev undo_next
 
-    -- the last page is logged, so that the page count is no more than behind all that the log has named
+    -- the last page is logged, so that the page count is no more than after all that the log has named
     named : (page_at b log 0).body.leftmost ≤ max (count_of b) (named_to log)
     named =
         let last_named = w.named (length xs - 1) (omega (arith, any, whole)) in

@@ -27,7 +27,7 @@ use Rattle.im_smo_log.proofs.ChangeLogs.{rising_lt}
 use Rattle.im_smo_log.proofs.ImagePlaces.{image_place, image_there}
 use Rattle.im_smo_log.proofs.Others.{logged_wider}
 
--- undo goes on, behind the change, where it stood
+-- undo goes on, after the change, where it stood
 resumes_newer : (b : Base) (t : ℕ) (images : List Numbered) (i : ℕ) (r : Logged) (older : History) (s : Logged) (rest : History) → end_of b older < r.lsn → AreLogged t images (end_of b older) i (s ∷ rest)
     → resumes (r ∷ older) t (s ∷ rest) ≡ resumes older t (s ∷ rest)
 resumes_newer b t images zero r older s rest high is = absurd is

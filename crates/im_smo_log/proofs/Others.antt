@@ -48,7 +48,7 @@ logged_wider t images l m (suc i) [] up is = absurd is
 logged_wider t images l m (suc i) (s ∷ rest) up is =
     (is.0, is.1, (let low : s.lsn ≤ l = is.2 in omega (arith, low, up)), logged_wider t images l m i rest up is.3)
 
--- where undo goes on behind the change: a later record of another says nothing of it
+-- where undo goes on after the change: a later record of another says nothing of it
 resumes_other : (b : Base) (t : ℕ) (images : List Numbered) (i : ℕ) (r : Logged) (older going : History) → r.txn ≢ t → end_of b older < r.lsn → AreLogged t images (end_of b older) i going
     → resumes (r ∷ older) t going ≡ resumes older t going
 resumes_other b t images i r older [] other high is = cond-false (r.txn == t) (undo_from r r.what) (undo_next_of t older) (ne_eqb r.txn t other)
@@ -57,7 +57,7 @@ resumes_other b t images (suc i) r older (s ∷ []) other high is =
     let low : s.lsn ≤ end_of b older = is.2 in ap (undo_next_of t) (below_older s.lsn r older (omega (arith, low, high)))
 resumes_other b t images (suc i) r older (s ∷ u ∷ rest) other high is = resumes_other b t images i r older (u ∷ rest) other high is.3
 
--- the settled pages behind a key record on a page that the open change leaves alone
+-- the settled pages after a key record on a page that the open change leaves alone
 pub key_pages : (b : Base) (r : Logged) (older : History) (f : List Entry → List Entry) (w : What) → ((l : ℕ) (g : Page) → page_after l w g ≡ record { lsn = l; body = with_entries g.body (f g.body.entries) })
     → open_smo (r ∷ older) ≡ open_smo older → r.what ≡ w → IsNotIn r.page (open_smo older)
     → with_leaf (settled b older) r.page (f (settled b older r.page).entries) ≡ settled b (r ∷ older)
@@ -159,6 +159,6 @@ module _ (b : Base) (t undo_next : ℕ) (images : List Numbered) (done prev : �
     stands = (stands_on r.what refl).stands;
   }
 
-  -- THE WAYS behind the change stay too
+  -- THE WAYS after the change stay too
   pub ways_keep : (key : Key) (x : ℕ) → IsOnWay (held (settled b older) images) 0 key x → IsOnWay (held (settled b (r ∷ older)) images) 0 key x
   ways_keep key x to = (stands_on r.what refl).ways key x to tt

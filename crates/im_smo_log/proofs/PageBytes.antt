@@ -1,4 +1,4 @@
--- The bytes of a page behind its LSN.
+-- The bytes of a page after its LSN.
 use Rattle.std.proofs.Common.{◌≡◌, ℕ, ◌+◌, ◌-◌, Bool, true, false, List, ◌++◌, length, take, drop, replicate, get_or, Some, None, refl, ap, subst, ◌∙◌, arith, if◌then◌else◌, get_or-append-add, get_or-drop, length-drop, length-append, take_all}
 use Rattle.std.specs.Bool.{Decides}
 use Rattle.im_base_types.specs.Pages.{Page}

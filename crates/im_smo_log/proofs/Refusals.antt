@@ -24,7 +24,7 @@ module _ (i : ℕ) (f answer : Fault) (first : i ≡ 0 → answer ≡ f) (late :
   pub memory_first : answer ≡ Memory → i ≡ 0
   memory_first is = ⊎_elim (λ (some : 0 < i). absurd (never_behind is some)) (λ (none : i ≤ 0). omega (arith, none)) (cases_lt 0 i)
 
-  -- and what did not fail, but is told so, came behind it
+  -- and what did not fail, but is told so, came after it
   pub failed_later : f ≢ Failed → answer ≡ Failed → 1 ≤ i
   failed_later other is = ⊎_elim (λ (some : 0 < i). omega (arith, some)) (λ (none : i ≤ 0). absurd (other (sym (first (omega (arith, none))) ∙ is))) (cases_lt 0 i)
 
@@ -87,7 +87,7 @@ module _ {D : Type 0} (d : Ghosts D) where
   behind_ends v old w mid one x new LogFull same two = (record { began = one.began; broken = two.0.broken }, two.1, two.2)
   behind_ends v old w mid one x new f same two = absurd (let clash = two.0 in cc clash)
 
-  -- a page that is not logged behind others: a want of memory came at the first one
+  -- a page that is not logged after others: a want of memory came at the first one
   pub behind_pages : {v : PageWriter} {old : D} {w : PageWriter} {mid : D} {x : PageWriter} {new : D} (f : Fault) → (f ≡ Memory → (w ≡ v) × (mid ≡ old)) → Logs d true mild v old w mid None → Logs d true mild w mid x new (Some f) → Logs d true mild v old x new (Some f)
   behind_pages {v} {old} {w} {mid} {x} {new} f same one two = record { ready = two.ready; frames = two.frames ∙ one.frames; ends = behind_ends v old w mid one.ends x new f same two.ends }
 
@@ -97,7 +97,7 @@ module _ {D : Type 0} (d : Ghosts D) where
   closing_ends v old w mid one x new LogFull two = (record { began = one.began; broken = two.0.broken }, two.1, two.2)
   closing_ends v old w mid one x new f two = absurd (let clash = two.0 in cc clash)
 
-  -- the record that closes the change, behind all pages
+  -- the record that closes the change, after all pages
   pub closing : {v : PageWriter} {old : D} {w : PageWriter} {mid : D} {x : PageWriter} {new : D} (r : Result ℕ Fault) → Logs d true mild v old w mid None → Logs d false none_mild w mid x new (fault_of r) → Logs d true mild v old x new (fault_of r)
   closing {v} {old} {w} {mid} {x} {new} (Ok lsn) one two = record { ready = two.ready; frames = two.frames ∙ one.frames; ends = record { began = one.ends.began; works = two.ends.works; alive = two.ends.alive } }
   closing {v} {old} {w} {mid} {x} {new} (Err f) one two = record { ready = two.ready; frames = two.frames ∙ one.frames; ends = closing_ends v old w mid one.ends x new f two.ends }

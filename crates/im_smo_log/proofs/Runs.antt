@@ -42,7 +42,7 @@ use Rattle.im_smo_log.proofs.Closing.{logged_bodies, closes}
 
 -- ---- records of the change
 
--- the record is one of the transaction, or a mark stands behind it
+-- the record is one of the transaction, or a mark stands after it
 has_one : (t : ℕ) (r : Logged) (w : What) (older : History) (m : Option ℕ) (ms : List (Option ℕ)) → IsOfChange t r w → with_mark r w (marks older) ≡ m ∷ ms → (marks older ≡ m ∷ ms → HasRecordOf t older)
     → (r.txn ≡ t) ⊎ HasRecordOf t older
 has_one t r (Smo was now) older m ms is marked rest = inl is
@@ -212,7 +212,7 @@ module _ {D : Type 0} (d : Ghosts D) (b : Base) (base : ℕ) where
             changed_bodies done.known lsn t prev p (now.pages p).page.body x.1.body done.before q
             ∙ ap (λ (c : Body). if p == q then x.1.body else c) (ap (λ (g : Page). g.body) (done.keeps.pages q).page)
 
-    -- a page was not logged, behind the first one
+    -- a page was not logged, after the first one
     pub pages_begun : (i prev : ℕ) (old : D) (w : PageWriter) (mid : D) (v : PageWriter) (new : D) → t ≢ 0 → 1 ≤ i → (so : PagesLogged d b base s e xs t undo_next i prev old w mid)
         → Evicted d b base so.now mid v new → Begun d b base s t v new
     pages_begun i prev old w mid v new some first so ev =

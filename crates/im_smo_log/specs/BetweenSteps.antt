@@ -25,7 +25,7 @@ abbrev pub AreBeside : ℕ → List Numbered → History → Type 0
 AreBeside t images [] = Unit {0}
 AreBeside t images (r ∷ rs) = IsRecordBeside t images r × AreBeside t images rs
 
--- A change goes on behind such records: it is under way, a key's leaf behind it is that still, the open records are the same, and each page of the plan is settled as it was, so page 0, whose count others are told.
+-- A change goes on after such records: it is under way, a key's leaf after it is that still, the open records are the same, and each page of the plan is settled as it was, so page 0, whose count others are told.
 pub record GoesOnBeside (b : Base) (t undo_next : ℕ) (images : List Numbered) (done prev : ℕ) (older longer : History) : Type 0 where
   pub under : IsUnderWay b t undo_next images done prev longer
   pub ways : (key : Key) (p : ℕ) → IsOnWay (held (settled b older) images) 0 key p → IsOnWay (held (settled b longer) images) 0 key p
@@ -42,7 +42,7 @@ OthersGoOn = (b : Base) (t undo_next : ℕ) (images : List Numbered) (done prev 
 abbrev pub PagesKeepSettled : Type 0
 PagesKeepSettled = (b : Base) (r : Logged) (older : History) (old new : Body) → IsLawful b page_tree (r ∷ older) → r.what ≡ Smo old new → (p : ℕ) → settled b (r ∷ older) p ≡ settled b older p
 
--- Behind the record that closes the change, a key's leaf is the one that the plan named, and has the room that its image has.
+-- After the record that closes the change, a key's leaf is the one that the plan named, and has the room that its image has.
 abbrev pub InsertsMayEnd : Type 0
 InsertsMayEnd = (b : Base) (t undo_next : ℕ) (images : List Numbered) (prev : ℕ) (r : Logged) (log : History) (key : Key) (leaf : ℕ) (g : Page)
     → IsUnderWay b t undo_next images (length images) prev log → r.what ≡ DummyClr → IsOnWay (held (settled b log) images) 0 key leaf → image_of images leaf ≡ Some g → HasRoom true g.body.entries (key, 0)

@@ -95,7 +95,7 @@ pub record IsLoggedTo (b : Base) (t undo_next : ℕ) (images : List Numbered) (o
   pub resume : resumes log t (open_smo log) ≡ undo_next
   -- the first of them is logged, and the log has said its page count
   pub counted : 1 ≤ i → (image_at images 0).1.body.leftmost ≤ greatest_count (count_of b) log
-  -- it is page 0, with a page count that the base said, or that is no more than behind all that the log has named, or will
+  -- it is page 0, with a page count that the base said, or that is no more than after all that the log has named, or will
   pub zeroth : 1 ≤ i → (image_at images 0).0 ≡ 0
   pub named : (k : ℕ) → k < i → (image_at images k).0 < named_to log
   pub bounded : 1 ≤ i → (image_at images 0).1.body.leftmost ≤ max (count_of b) (max (named_to log) ((image_at images (length images - 1)).0 + 1))

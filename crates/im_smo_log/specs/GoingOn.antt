@@ -23,7 +23,7 @@ OthersKeepChange = (b : Base) (t undo_next : ℕ) (images : List Numbered) (done
     → IsLawful b page_tree (r ∷ older) → r.txn ≢ t → is_structural r.what ≡ false → (changes_page r.what ≡ true → IsApart images r.page)
     → IsUnderWay b t undo_next images done prev (r ∷ older)
 
--- And a key's leaf as it will be behind the change is its leaf still.
+-- And a key's leaf as it will be after the change is its leaf still.
 abbrev pub OthersKeepWays : Type 0
 OthersKeepWays = (b : Base) (t undo_next : ℕ) (images : List Numbered) (done prev : ℕ) (r : Logged) (older : History) → IsUnderWay b t undo_next images done prev older
     → IsLawful b page_tree (r ∷ older) → r.txn ≢ t → is_structural r.what ≡ false → (changes_page r.what ≡ true → IsApart images r.page)
@@ -44,7 +44,7 @@ OtherPagesAreSettled = (b : Base) (t undo_next : ℕ) (images : List Numbered) (
 abbrev pub PagesAgree : Type 0
 PagesAgree = (b : Base) (t undo_next : ℕ) (images : List Numbered) (done prev : ℕ) (log : History) (p : ℕ) → IsUnderWay b t undo_next images done prev log → is_done images done p ≡ false → bodies b log p ≡ settled b log p
 
--- Behind its last page the pages are a good tree with the settled walk: the record that closes it may come.
+-- After its last page the pages are a good tree with the settled walk: the record that closes it may come.
 abbrev pub ClosesWell : Type 0
 ClosesWell = (b : Base) (t undo_next : ℕ) (images : List Numbered) (prev : ℕ) (log : History) → IsUnderWay b t undo_next images (length images) prev log → IsRebuilt b page_tree log
 
@@ -59,7 +59,7 @@ PagesMayCome = (b : Base) (t undo_next : ℕ) (images : List Numbered) (done pre
     → (image_at images 0).0 ≡ 0 → (image_at images (length images - 1)).0 < (image_at images 0).1.body.leftmost → end_of b log < lsn → SameButMark (image_at images done).1.body new
     → IsLawful b page_tree (smo_at lsn t prev (image_at images done).0 (page_at b log (image_at images done).0).body new ∷ log)
 
--- Behind the last page the record that closes it may come next, and undo goes on where it stood.
+-- After the last page the record that closes it may come next, and undo goes on where it stood.
 pub record HasClosed (b : Base) (t undo_next lsn : ℕ) (log : History) : Type 0 where
   pub lawful : IsLawful b page_tree log
   pub closed : open_smo log ≡ []

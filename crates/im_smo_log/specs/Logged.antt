@@ -30,7 +30,7 @@ module _ {D : Type 0} (d : Ghosts D) (b : Base) (base : ℕ) where
     pub durable : History
     pub grows : IsFront before.durable durable
     pub high : end_of b before.log < lsn
-    -- the page count is no more than before, or than the one behind the highest page
+    -- the page count is no more than before, or than the one after the highest page
     pub counted : p ≡ 0 → after.leftmost ≤ max (s.pages p).page.body.leftmost (highest + 1)
     -- whether a full copy of the page is known
     pub known : Bool

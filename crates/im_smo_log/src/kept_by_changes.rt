@@ -34,8 +34,8 @@ pub fn changes_go_on()
     ensures ends { ClosesMayCome }
 {}
 
-/// A structure change that goes on over several steps stands, between two of them, as it did: behind all that others log in a step, and
-/// behind a page of its own, which leaves the settled pages as they were. Behind its end the leaf of a key is the one that
+/// A structure change that goes on over several steps stands, between two of them, as it did: after all that others log in a step, and
+/// after a page of its own, which leaves the settled pages as they were. After its end the leaf of a key is the one that
 /// the plan named, with the room that its image has.
 pub fn changes_outlast_steps()
     ensures others { OthersGoOn }

@@ -106,7 +106,7 @@ next_same new pages (suc n) v h x =
 pub unlinked_same : (new pages : Pages) (prev next : ℕ) → SamePages new pages → SamePages (unlinked_pages new prev next) (unlinked_pages pages prev next)
 unlinked_same new pages prev next h = prev_same (linked_next new prev next) (linked_next pages prev next) next prev (next_same new pages prev next h)
 
--- a leaf that is parted, and the link behind it
+-- a leaf that is parted, and the link after it
 pub leaf_then_link : (a b c : List Numbered) (page : Body) (parent p q n : ℕ) (pages : Pages) → PartsLeaf a b page parent p q n → Becomes b c (λ h. linked_prev h page.next q)
     → held pages a p ≡ page → SamePages (held pages c) (leaf_split_pages (held pages a) parent p q n)
 leaf_then_link a b c page parent p q n pages parts linked page_is =

@@ -1,4 +1,4 @@
--- Behind a split of a key's leaf among the images: its way leads to a leaf with room.
+-- After a split of a key's leaf among the images: its way leads to a leaf with room.
 use Rattle.std.proofs.Common.{◌≡◌, ◌≢◌, ℕ, zero, suc, ◌≤◌, true, List, ◌∷◌, take, drop, Some, refl, sym, ap, subst, ◌∙◌, ⊎_elim}
 use Rattle.im_base_types.specs.Keys.{Key, IsBelow}
 use Rattle.im_base_types.specs.Pages.{Entry, Body}
@@ -77,7 +77,7 @@ root_has_room a b page l r n m key pages spare parts rises half good tall page_i
     (key_root_leaf_split (held pages a) (held pages b) spare key l r n split) 1 (key_root_leaf_ways (held pages a) (held pages b) spare l r n split) half0)
     parts rises half
 
--- the leaf behind a leaf that is split is a leaf still
+-- the leaf after a leaf that is split is a leaf still
 pub next_still_leaf : (a b : List Numbered) (page : Body) (parent p q n : ℕ) (key : Key) (pages : Pages) (spare : List ℕ) → PartsLeaf a b page parent p q n
     → IsGoodTree (held pages a) (q ∷ spare) → IsOnWay (held pages a) (suc zero) key parent → IsChild (held pages a parent) key p → held pages a p ≡ page
     → 1 ≤ page.next → (held pages b page.next).kind ≡ Leaf

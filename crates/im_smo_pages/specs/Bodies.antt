@@ -15,7 +15,7 @@ says p b = record p { body = b }
 abbrev pub inner_body : ℕ → ℕ → List Entry → Body
 inner_body level leftmost es = record (empty_body Inner level 0 0 leftmost) { entries = es }
 
--- an inner page with one separator more, in its place, and the page behind it
+-- an inner page with one separator more, in its place, and the page after it
 abbrev pub with_separator : Body → Key → ℕ → Body
 with_separator b s q = record b { entries = with_key s q b.entries }
 

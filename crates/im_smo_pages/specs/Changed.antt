@@ -1,4 +1,4 @@
--- What pages hold behind each step of a structure change, as updates of what they held before.
+-- What pages hold after each step of a structure change, as updates of what they held before.
 use Rattle.std.specs.Prelude.{◌≡◌, ℕ, zero, suc, ◌+◌, [], ◌∷◌, take, drop}
 use Rattle.im_theory_log.specs.Tree.{with_body, with_entries}
 use Rattle.im_base_types.specs.declared.page_kind.PageKind.TheVariants.{Free}
@@ -11,7 +11,7 @@ use Rattle.im_smo_pages.specs.Bodies.{inner_body, raised, with_separator, with_p
 abbrev pub SamePages : Pages → Pages → Type 0
 SamePages new pages = (x : ℕ) → new x ≡ pages x
 
--- a leaf with another leaf before it, and one with another behind it; page 0 stands for no leaf
+-- a leaf with another leaf before it, and one with another after it; page 0 stands for no leaf
 abbrev pub linked_prev : Pages → ℕ → ℕ → Pages
 linked_prev pages zero v x = pages x
 linked_prev pages (suc r) v x = with_body pages (suc r) (with_prev (pages (suc r)) v) x
@@ -31,11 +31,11 @@ leaf_parted_pages pages parent p q n =
     q (leaf_body p (pages p).next (drop n (pages p).entries)))
     p (leaf_body (pages p).prev q (take n (pages p).entries))
 
--- and the leaf behind names q
+-- and the leaf after names q
 abbrev pub leaf_split_pages : Pages → (parent p q n : ℕ) → Pages
 leaf_split_pages pages parent p q n = linked_prev (leaf_parted_pages pages parent p q n) (pages p).next q
 
--- inner page p keeps its first n entries, the next key moves up to the parent, and q has what is behind it
+-- inner page p keeps its first n entries, the next key moves up to the parent, and q has what is after it
 abbrev pub inner_split_pages : Pages → (parent p q n : ℕ) → Pages
 inner_split_pages pages parent p q n =
     with_body

@@ -8,7 +8,7 @@ use Rattle.im_smo_pages.specs.Parts.{SplitsAt}
 use Rattle.im_smo_pages.specs.Images.{Numbered, held, Has, KeepsAll}
 use Rattle.im_smo_pages.specs.Changed.{SamePages, leaf_parted_pages, inner_split_pages, root_leaf_split_pages, root_inner_split_pages, free_taken_pages, count_taken_pages}
 
--- leaf p, which held this body, is split at place n; the leaf behind it is not told of q yet
+-- leaf p, which held this body, is split at place n; the leaf after it is not told of q yet
 pub record PartsLeaf (old new : List Numbered) (page : Body) (parent p q n : ℕ) : Type 0 where
   pub at : SplitsAt Leaf page n
   pub kept : KeepsAll old new

@@ -12,7 +12,7 @@ use Rattle.im_smo_pages.specs.Images.{Numbered, image_of, Has, KeepsAll}
 abbrev pub IsHalf : Key → Key → (p q m : ℕ) → Type 0
 IsHalf s key p q m = ((m ≡ p) × IsBelow key s) ⊎ ((m ≡ q) × AtOrAbove (Some s) key)
 
--- behind a split of leaf p the tree is good, with the same walk, and the key's leaf, m, has room for an entry of any size
+-- after a split of leaf p the tree is good, with the same walk, and the key's leaf, m, has room for an entry of any size
 pub record HasRoomIn (old new : Pages) (spare : List ℕ) (key : Key) (p m : ℕ) : Type 0 where
   pub good : IsGoodTree new spare
   pub walks : walk new ≡ walk old
@@ -20,7 +20,7 @@ pub record HasRoomIn (old new : Pages) (spare : List ℕ) (key : Key) (p m : ℕ
   pub way : IsOnWay new zero key m
   pub room : HasRoomForAny true (new m).entries
 
--- Behind an allocation the tree is good, with the same walk; each way is as it was, and each page but the meta page.
+-- After an allocation the tree is good, with the same walk; each way is as it was, and each page but the meta page.
 pub record KeepsTree (old new : Pages) (spare : List ℕ) : Type 0 where
   pub good : IsGoodTree new spare
   pub walks : walk new ≡ walk old

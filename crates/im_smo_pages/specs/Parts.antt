@@ -33,7 +33,7 @@ pub record CanSplit (of : PageKind) (page parent : Body) (q : ℕ) : Type 0 wher
   pub halves : CanHalve of page
   pub takes : (n : ℕ) → IsSplitPoint (is_leaf_kind of) page.entries n → TakesSeparator page parent q n
 
--- Leaf `page`, of number p, is split at place n: `left` has its first n entries, `right`, of number q and behind it in the chain, the others, and the parent the first of these keys with q.
+-- Leaf `page`, of number p, is split at place n: `left` has its first n entries, `right`, of number q and after it in the chain, the others, and the parent the first of these keys with q.
 pub record LeafSplit (page old_left old_right old_parent new_left new_right new_parent : Page) (p q n : ℕ) : Type 0 where
   pub at : SplitsAt Leaf page.body n
   pub takes : TakesSeparator page.body old_parent.body q n
@@ -41,7 +41,7 @@ pub record LeafSplit (page old_left old_right old_parent new_left new_right new_
   pub right : new_right ≡ says old_right (leaf_body p page.body.next (drop n page.body.entries))
   pub parent : new_parent ≡ says old_parent (with_separator old_parent.body (entry_at page.body.entries n).0 q)
 
--- Inner `page` is split at place n: `left` has its first n entries, the next key moves up to the parent, with q, and `right`, of number q, has the others, behind that key's child.
+-- Inner `page` is split at place n: `left` has its first n entries, the next key moves up to the parent, with q, and `right`, of number q, has the others, after that key's child.
 pub record InnerSplit (page old_left old_right old_parent new_left new_right new_parent : Page) (q n : ℕ) : Type 0 where
   pub at : SplitsAt Inner page.body n
   pub takes : TakesSeparator page.body old_parent.body q n

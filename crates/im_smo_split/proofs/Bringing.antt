@@ -28,11 +28,11 @@ module _ (s : AllPages) (images : List Numbered) (number : ℕ) where
     next_was : (next : ℕ) → next ≡ (seen s mid number).next → next ≡ (seen s images number).next
     next_was next is = is ∙ ap (λ (pages : Pages). (pages number).next) one.same
 
-    -- no leaf is behind it
+    -- no leaf is after it
     pub both_here : (next : ℕ) → next ≡ (seen s mid number).next → next ≡ 0 → BroughtBoth s images number mid
     both_here next is none = record { one = one; next = λ some. absurd (omega (arith, some, next_was next is, none)) }
 
-    -- the leaf behind it joins too
+    -- the leaf after it joins too
     pub both_then : (next : ℕ) → next ≡ (seen s mid number).next → (new : List Numbered) → Brought s mid next new → BroughtBoth s images number new
     both_then next is new more = record {
       one = record { there = more.kept number one.there; kept = λ n has. more.kept n (one.kept n has); same = more.same ∙ one.same };

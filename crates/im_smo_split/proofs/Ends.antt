@@ -1,4 +1,4 @@
--- The key's leaf split, the last step: what is seen behind it.
+-- The key's leaf split, the last step: what is seen after it.
 use Rattle.std.proofs.Common.{◌≡◌, ◌≢◌, ℕ, zero, suc, ◌≤◌, ◌<◌, true, List, [], ◌∷◌, ◌++◌, length, refl, sym, ap, subst, ◌∙◌, arith, length-append}
 use Rattle.im_base_types.specs.Keys.{Key}
 use Rattle.im_base_types.specs.Pages.{Body, Page}
@@ -48,7 +48,7 @@ last_two ns mid new l r is more two =
 
 -- ---- a leaf
 
--- what is seen behind the leaf's split
+-- what is seen after the leaf's split
 pub record IsEnd (old new : Pages) (key : Key) (split leaf : ℕ) : Type 0 where
   pub good : IsGoodTree new []
   pub same : walk new ≡ walk old

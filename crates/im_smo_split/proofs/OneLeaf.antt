@@ -30,7 +30,7 @@ none_later pages key (m ∷ []) n r ordered some under at =
 none_later pages key (m ∷ k ∷ l) n r ordered some under at =
     none_later pages key (k ∷ l) n r ordered.2 (after_some m.bound k.bound ordered.1) (after_under key m.bound k.bound some under ordered.1) at
 
--- the bound behind a node is a separator
+-- the bound after a node is a separator
 follows_some : (low : Option Key) (l : List Node) (n : Node) (r : List Node) → BoundsFollow low (l ++ n ∷ r) → next_bound (l ++ n ∷ r) ≡ None → ⊥
 follows_some low [] n r after = after_some low n.bound after
 follows_some low (m ∷ l) n r after = after_some low m.bound after

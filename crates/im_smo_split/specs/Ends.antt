@@ -14,7 +14,7 @@ use Rattle.im_smo_pages.specs.OnWay.{HasRoomIn, IsApart}
 use Rattle.im_smo_alloc.specs.Seen.{seen}
 use Rattle.im_smo_split.specs.Steps.{Brought}
 
--- Leaf p, which held this body, is split, and the leaf behind it is told; `half` is the part that the key belongs to.
+-- Leaf p, which held this body, is split, and the leaf after it is told; `half` is the part that the key belongs to.
 pub record HalvesLeaf (old new : List Numbered) (page : Body) (key : Key) (parent p q half : ℕ) : Type 0 where
   pub there : Has new p
   pub part : Has new half
@@ -28,7 +28,7 @@ pub record HalvesRootLeaf (old new : List Numbered) (page : Body) (key : Key) (l
   pub goes : (pages : Pages) (spare : List ℕ) → IsGoodTree (held pages old) (l ∷ r ∷ spare) → height (held pages old) ≡ zero → held pages old 1 ≡ page
       → HasRoomIn (held pages old) (held pages new) spare key 1 half
 
--- The leaf of this number is among the images, and the one behind it, if there is one; and what is seen of each page is as it was.
+-- The leaf of this number is among the images, and the one after it, if there is one; and what is seen of each page is as it was.
 pub record BroughtBoth (store : AllPages) (images : List Numbered) (number : ℕ) (new : List Numbered) : Type 0 where
   pub one : Brought store images number new
   pub next : 1 ≤ (seen store images number).next → Has new (seen store images number).next

@@ -1,4 +1,4 @@
--- Refusals of a split behind which the writer goes on.
+-- Refusals of a split after which the writer goes on.
 use Rattle.std.specs.Prelude.{ℕ, Bool, true, false, Option, is_some}
 use Rattle.im_base_types.specs.declared.fault.Fault.{Fault}
 use Rattle.im_base_types.specs.declared.fault.Fault.TheVariants.{Capacity, Memory, NotAStore, PagesFull}

@@ -21,7 +21,7 @@ abbrev pub SplitsDown : Pages → Key → ℕ → ℕ → Type 0
 SplitsDown pages key zero p = LacksRoom true (pages p).entries (key, 0)
 SplitsDown pages key (suc k) p = (c : ℕ) → IsChild (pages p) key c → PassesUp pages (is_leaf_level k) c p × SplitsDown pages key k c
 
--- Page p of level k is the next to be split: its parent has room for its separator, and each page under p on the key's way is to be split behind it.
+-- Page p of level k is the next to be split: its parent has room for its separator, and each page under p on the key's way is to be split after it.
 pub record IsPending (pages : Pages) (spare : List ℕ) (key : Key) (k parent p : ℕ) : Type 0 where
   pub good : IsGoodTree pages spare
   pub way : IsOnWay pages (suc k) key parent

@@ -1,4 +1,4 @@
-//! Openings behind a loser, each stopped within each of its device calls, scripts whose life is stopped everywhere, and lives in
+//! Openings after a loser, each stopped within each of its device calls, scripts whose life is stopped everywhere, and lives in
 //! which each device call fails once, and each read.
 
 use crate::texts::Part::{Each, Text};
@@ -39,7 +39,7 @@ static LOSERS: [(&str, &[Part]); 2] = [
     ),
 ];
 
-// What comes of every stop of the opening behind the one life of a script.
+// What comes of every stop of the opening after the one life of a script.
 fn restarts<R: Threads + Sync>(rt: &R, alloc: Global, script: &[u8]) -> Result<Counts, AllocError> {
     let mut counts = Counts::default();
     let Ok(script) = StoreScript::parse(alloc, script) else {
@@ -364,7 +364,7 @@ fn of_first_format(alloc: Global) -> io::Result<Vec<u8>> {
     Ok(script)
 }
 
-// The upgrade's calls are stopped, and those of the life behind it.
+// The upgrade's calls are stopped, and those of the life after it.
 #[test]
 fn a_store_of_the_first_format_is_swept(rt: HostRuntime) -> Result<(), Fail> {
     let script = of_first_format(rt.alloc())?;

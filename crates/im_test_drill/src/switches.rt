@@ -23,7 +23,7 @@ static NEW: [(&str, &[Part]); 4] = [
         "a_switch_after_one_insert",
         &[Text("life\nbegin\ninsert 1 a 7\nswitch\ncommit 1\nswitch\n")],
     ),
-    // Behind the first switch a leaf that fifteen keys fill is split, and the key that split it is taken back.
+    // After the first switch a leaf that fifteen keys fill is split, and the key that split it is taken back.
     (
         "a_split_and_a_rollback_after_a_switch",
         &[
@@ -54,7 +54,7 @@ static NEW: [(&str, &[Part]); 4] = [
     ),
 ];
 
-// What comes of every stop of the one life of a script, and of every stop of the openings behind.
+// What comes of every stop of the one life of a script, and of every stop of the openings after.
 fn stops<R: Threads + Sync>(rt: &R, alloc: Global, script: &[u8]) -> Result<Counts, AllocError> {
     let mut counts = Counts::default();
     let Ok(script) = StoreScript::parse(alloc, script) else {
@@ -177,7 +177,7 @@ const WAYS: [&str; 6] = [
     "long 00", "long 01", "long FF", "short 00", "short 01", "short FF",
 ];
 
-// Of the stops of an opening behind a stop, these alone are tried: no byte of the call is there, or each.
+// Of the stops of an opening after a stop, these alone are tried: no byte of the call is there, or each.
 const FEW_WAYS: [&str; 2] = ["short 00", "long 01"];
 
 // A life makes fewer device calls.
@@ -223,7 +223,7 @@ fn with_stop(alloc: Global, script: &[u8], call: u64, way: &str) -> io::Result<V
     Ok(text)
 }
 
-// Stops a life within each of its device calls, and the opening behind each.
+// Stops a life within each of its device calls, and the opening after each.
 fn every_upgrade<R: Threads + Sync>(
     rt: &R,
     alloc: Global,

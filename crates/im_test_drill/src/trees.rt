@@ -18,7 +18,7 @@ enum Prints {
     Last(&'static [Part]),
 }
 
-// Keys of two digits with `z` behind them: they are put in, or taken out, and stand there in the end.
+// Keys of two digits with `z` after them: they are put in, or taken out, and stand there in the end.
 const PUT: &str = "insert 1 DU+z*253 N\n";
 
 const TAKE: &str = "delete 1 DU+z*253\n";
@@ -223,7 +223,7 @@ fn each_stop<R: Abort + Threads + Sync>(
     Ok(())
 }
 
-// A script, and an opening behind it that is stopped within this call.
+// A script, and an opening after it that is stopped within this call.
 fn stopped(alloc: Global, parts: &[Part], call: u32) -> io::Result<Vec<u8>> {
     let mut script = text_of(alloc, parts)?;
     writeln!(script, "life frames 8\nstop {call} long 00")?;

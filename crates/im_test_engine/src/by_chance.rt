@@ -36,7 +36,7 @@ pub struct Shape {
     pub last: Last,
 }
 
-/// What the last step of a life is, behind a Commit of each transaction that is active.
+/// What the last step of a life is, after a Commit of each transaction that is active.
 #[derive(Clone, Copy, PartialEq, Eq)]
 pub enum Last {
     /// A Checkpoint, a Switch, or neither, by chance; in the last case, in half of such lives, there is no Commit.

@@ -66,7 +66,7 @@ pub fn pool_of(others: usize, batches: usize) -> Result<Config, Fail> {
 }
 
 /// Makes a life whose last step is a Checkpoint or a Switch, and then makes it again with a stop within a device call of that step, so many times, at calls
-/// that lie evenly among them; each time the opening behind it has to find what the table has. Answers whether all was so, how many stops came within the
+/// that lie evenly among them; each time the opening after it has to find what the table has. Answers whether all was so, how many stops came within the
 /// step, and how many device calls it made.
 pub fn stopped_last<R: Threads + Sync>(
     rt: &R,

@@ -59,7 +59,7 @@ fn one_insert_is_committed(rt: HostRuntime) -> Result<(), Fail> {
     let told = commit_one(&rt, alloc, &mut engine);
     let left = left_on(engine.into_disk().into_disk());
     told?;
-    // The log is 129 bytes; its first batch makes the file longer by the room of a batch, from behind its gate on.
+    // The log is 129 bytes; its first batch makes the file longer by the room of a batch, from after its gate on.
     assert!(rt; left == (10, 48 + 16_389));
     Ok(())
 }
@@ -129,7 +129,7 @@ fn count_of<D: TwoLogs>(
     Ok(count)
 }
 
-// What there is behind a thousand inserts, how many of them put a key, and what a Fetch finds.
+// What there is after a thousand inserts, how many of them put a key, and what a Fetch finds.
 fn a_thousand_come<D: TwoLogs>(
     alloc: Global,
     engine: &mut Engine<D>,
@@ -141,7 +141,7 @@ fn a_thousand_come<D: TwoLogs>(
     Ok((count, entries, make(engine, Step::Fetch(1, key))))
 }
 
-// What there is behind a thousand deletes, how many of them took a key out, and what page 1 is for.
+// What there is after a thousand deletes, how many of them took a key out, and what page 1 is for.
 fn a_thousand_go<D: TwoLogs>(
     alloc: Global,
     engine: &mut Engine<D>,

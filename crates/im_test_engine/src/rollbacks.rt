@@ -14,7 +14,7 @@ use std::thread::Threads;
 // How many keys the first transaction commits, and the second inserts between them.
 const KEYS: u64 = 40;
 
-// The key of a number below 100: its two digits, and 253 bytes behind them, so that a page has room for fifteen.
+// The key of a number below 100: its two digits, and 253 bytes after them, so that a page has room for fifteen.
 fn key_of(alloc: Global, number: u64) -> Result<Vec<u8>, Fail> {
     let mut key = Vec::new(alloc);
     key.push(b'0' + (number / 10 % 10) as u8)?;
@@ -93,8 +93,8 @@ fn are_committed<D: Disk>(alloc: Global, engine: &mut Engine<D>) -> Result<(usiz
     Ok((entries.len(), is_same))
 }
 
-// What came of a disk that fails: whether the rollback began, whether it failed behind its first key record and in front of its last, the reply
-// to the step within which it failed, and to two behind it, and what the next opening finds.
+// What came of a disk that fails: whether the rollback began, whether it failed after its first key record and in front of its last, the reply
+// to the step within which it failed, and to two after it, and what the next opening finds.
 #[derive(Clone, Copy, PartialEq, Eq)]
 struct Came {
     begun: Said,
@@ -148,7 +148,7 @@ fn roll_back<R: Threads + Sync>(
     })
 }
 
-// What there is behind a stop, and the reply to a Begin then.
+// What there is after a stop, and the reply to a Begin then.
 fn found_after_stop<R: Threads + Sync>(
     rt: &R,
     alloc: Global,
@@ -161,7 +161,7 @@ fn found_after_stop<R: Threads + Sync>(
     Ok((found?, said))
 }
 
-// How many device calls there are before the first Continue, and behind the last, where none fails.
+// How many device calls there are before the first Continue, and after the last, where none fails.
 fn calls_within<R: Threads + Sync>(rt: &R, alloc: Global) -> Result<(u64, u64), Fail> {
     let mut engine = created(rt, alloc, few_frames())?;
     let begun = many_to_undo(alloc, &mut engine);

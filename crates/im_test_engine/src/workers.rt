@@ -31,7 +31,7 @@ fn key_of(alloc: Global, number: u64) -> Result<Vec<u8>, Fail> {
     Ok(key)
 }
 
-// Makes a transaction that inserts the keys behind a number, and answers the last one; none where a step is answered otherwise.
+// Makes a transaction that inserts the keys after a number, and answers the last one; none where a step is answered otherwise.
 fn commit(
     alloc: Global,
     engine: &mut Engine<Renamed<ModelDisk>>,

@@ -78,7 +78,7 @@ fn the_greater_generation_is_current(rt: HostRuntime) -> Result<(), Fail> {
     assert!(rt; chosen(alloc, &FIRST, &[])? == Ok(Some(1)));
     assert!(rt; chosen(alloc, &FIRST, &changed(23, 2))? == Ok(Some(2)));
     assert!(rt; chosen(alloc, &changed(23, 9), &changed(23, 8))? == Ok(Some(9)));
-    // A file whose byte 0 is not 1 says nothing, whatever stands behind it.
+    // A file whose byte 0 is not 1 says nothing, whatever stands after it.
     assert!(rt; chosen(alloc, &FIRST, &changed(0, 0))? == Ok(Some(1)));
     Ok(())
 }

@@ -228,7 +228,7 @@ fn cut_at(alloc: Global, copies: &Copies, gate: usize) -> Result<Copies, Fail> {
     Ok(cut)
 }
 
-// The place of the gate behind the open one at a place.
+// The place of the gate after the open one at a place.
 fn next_gate(log: &[u8], gate: usize) -> Option<usize> {
     let from = gate.checked_add(5)?;
     let Some([1, a, b, c, d]) = log.get(gate..from) else {

@@ -76,7 +76,7 @@ fn left(alloc: Global, disk: &ModelDisk) -> Result<(Lsn, Lsn, usize), Fault> {
 fn a_writer_goes_on_in_the_other_log(rt: HostRuntime) -> Result<(), Fail> {
     let alloc = rt.alloc();
     let (disk, told) = turned(alloc, new_disk(alloc));
-    // The record of the insert has LSN 52 and 43 bytes. The Images of pages 0 and 1, 4,129 bytes each, join it, and the gate behind them has LSN 8,353, where the
+    // The record of the insert has LSN 52 and 43 bytes. The Images of pages 0 and 1, 4,129 bytes each, join it, and the gate after them has LSN 8,353, where the
     // second log begins, with its first gate at 47.
     assert!(rt; told? == 8_405);
     // The log is synced, made and forced, two pages are written and synced, the other log is made, and forced.

@@ -52,7 +52,7 @@ onto (r ∷ newer) older = onto newer (r ∷ older)
 
 -- ---- Images, as evictions append them
 
--- the record is an Image of a page as the page's own LSN says that it was; it, or a page behind it, was named before
+-- the record is an Image of a page as the page's own LSN says that it was; it, or a page after it, was named before
 pub record IsImage (b : Base) (r : Logged) (older : History) : Type 0 where
   pub copy : Page
   pub what : r.what ≡ Image copy

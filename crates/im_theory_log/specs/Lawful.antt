@@ -115,7 +115,7 @@ pub record MayEnd (r : Logged) (older : History) : Type 0 where
   pub no_undo_next : r.undo_next ≡ 0
   pub nothing_left : to_undo r.txn older ≡ []
 
--- a full copy: the page as its own LSN says that it was, which may be older than its last record; it, or a page behind it, was named before
+-- a full copy: the page as its own LSN says that it was, which may be older than its last record; it, or a page after it, was named before
 pub record MayImage (b : Base) (r : Logged) (older : History) (copy : Page) : Type 0 where
   pub no_owner : r.txn ≡ 0
   pub exact : copy ≡ page_up_to b older r.page copy.lsn

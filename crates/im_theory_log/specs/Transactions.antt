@@ -150,7 +150,7 @@ pub record IsCounted (log : History) (s : Logged) : Type 0 where
   pub committed : (e : Logged) → IsRecordOf e log → e.txn ≡ s.txn → e.what ≡ Commit → compensated log s.txn s.prev ≡ 0
   pub ended : (e : Logged) → IsRecordOf e log → e.txn ≡ s.txn → e.what ≡ End → compensated log s.txn s.prev ≡ 1
 
--- a Commit puts its transaction's effect behind the others
+-- a Commit puts its transaction's effect after the others
 abbrev pub committed_after : What → Effect → List Effect → List Effect
 committed_after Commit e es = es ++ e ∷ []
 committed_after _ e es = es

@@ -96,7 +96,7 @@ pub record EntryKept (b : Base) (log durable : History) (point : ℕ) (redo_end 
   -- what was written: the page as it is, or as it was before the first change since
   pub written : x.unsynced ≡ true → e.since ≡ None → x.reads ≡ Some x.page
   pub older : x.unsynced ≡ true → (l : ℕ) → e.since ≡ Some l → ReachesInEach b durable log p l x.reads
-  -- it, or a page behind it, is named by a record of the log
+  -- it, or a page after it, is named by a record of the log
   pub named : p < named_to log
 
 -- a page that waits for its copy: it has no entry, and is not written

@@ -50,7 +50,7 @@ different_pushed t (q ∷ qs) each new =
     let out = among_other t q qs new in
     (none_pushed q t qs each.0 (λ e. out.0 (sym e)), different_pushed t qs each.1 out.1)
 
--- ---- who is idle behind a force
+-- ---- who is idle after a force
 
 pub idle_others : (txns : ℕ → Txn) (queue : List ℕ) (t : ℕ) → is_among t queue ≡ false → idle_all txns queue t ≡ txns t
 idle_others txns [] t none = refl
@@ -67,7 +67,7 @@ idle_gone txns (s ∷ ts) t some = elim (cases_number t s) [
   | inr ne ↦ idle_gone (set_txn txns s idle) ts t (ap (λ (b : Bool). b || is_among t ts) (sym (ne_eqb t s ne)) ∙ some)
 ]
 
--- what holds of an idle one and of each as it was holds behind a force
+-- what holds of an idle one and of each as it was holds after a force
 pub by_force_txn : (P : ℕ → Txn → Type 0) (txns : ℕ → Txn) (queue : List ℕ) → ((t : ℕ) → is_among t queue ≡ true → P t idle) → ((t : ℕ) → is_among t queue ≡ false → P t (txns t)) → (t : ℕ) → P t (idle_all txns queue t)
 by_force_txn P txns queue gone rest t = elim (cases_test (is_among t queue)) [
   | inl some ↦ subst (P t) (sym (idle_gone txns queue t some)) (gone t some)

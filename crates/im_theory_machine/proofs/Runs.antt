@@ -580,7 +580,7 @@ module _ (v : View) (told : ℕ → List (Access × Reply)) (h : Stands v told) 
       let failed : Stands (relocked (broken v ls) kept_locks) (tell pend told step reply) = quiet_stands pend (relocked (broken v ls) kept_locks) told step reply (no_answer pend step reply (Refused fault) d refl) (break_stands v told h) in
       subst (λ (u : View). Upheld u (tell pend told step reply)) (sym e) (record { locks = kept_locks; stands = failed; same = λ q. absurd (true≢false q) })
 
-  -- what goes on behind it
+  -- what goes on after it
   pending_at : (step x : Step) (reply y : Reply) (w u : View) → step ≡ x → reply ≡ y → w ≡ u → (s : ℕ) → pending_of u.under s ≡ pending_after s (pend s) x y → pending_of w.under s ≡ pending_after s (pend s) step reply
   pending_at step x reply y w u a d e s is = ap (λ (z : View). pending_of z.under s) e ∙ is ∙ ap (λ (z : Step). pending_after s (pend s) z y) (sym a) ∙ ap (pending_after s (pend s) step) (sym d)
 
@@ -624,7 +624,7 @@ module _ (v : View) (told : ℕ → List (Access × Reply)) (h : Stands v told) 
 quiet_upheld : (v : View) (told : ℕ → List (Access × Reply)) (step : Step) (reply : Reply) → ((s : ℕ) → access_of s (pending_of v.under s) step reply ≡ []) → Upheld v told → Upheld v (tell (pending_of v.under) told step reply)
 quiet_upheld v told step reply none h = record { locks = h.locks; stands = quiet_stands (pending_of v.under) (relocked v h.locks) told step reply none h.stands; same = h.same }
 
--- the stories behind a step, and what goes on there
+-- the stories after a step, and what goes on there
 pub record OnBy (v : View) (told : ℕ → List (Access × Reply)) (step : Step) (reply : Reply) (w : View) : Type 0 where
   pub upheld : Upheld w (tell (pending_of v.under) told step reply)
   pub pending : (s : ℕ) → pending_of w.under s ≡ pending_after s (pending_of v.under s) step reply

@@ -31,7 +31,7 @@ abbrev pub is_more : Reply → Bool
 is_more More = true
 is_more _ = false
 
--- the access of t that goes on behind a step with its reply: More to an access lets it go on, and a later answer ends it
+-- the access of t that goes on after a step with its reply: More to an access lets it go on, and a later answer ends it
 abbrev pub pending_after : ℕ → Option Access → Step → Reply → Option Access
 pending_after t o (Do u a) r = cond (is_more r && u == t) (Some a) o
 pending_after t o (Continue u) r = cond (is_answer r && u == t) None o
@@ -55,13 +55,13 @@ finished t es = finished_from t None es
 abbrev pub IsReplay : IndexMap → List (Access × Reply) → Type 0
 IsReplay base fs = replay base (map (λ f. f.0) fs) ≡ map (λ f. f.1) fs
 
--- the transactions whose Commit waits for a force behind a step with its reply
+-- the transactions whose Commit waits for a force after a step with its reply
 abbrev pub queue_after : List ℕ → Step → Reply → List ℕ
 queue_after queue (Commit t) More = queue ++ t ∷ []
 queue_after queue Force Done = []
 queue_after queue _ _ = queue
 
--- and behind a trace, in the order of their Commits
+-- and after a trace, in the order of their Commits
 abbrev pub queue_after_all : List ℕ → List (Step × Reply) → List ℕ
 queue_after_all queue [] = queue
 queue_after_all queue (e ∷ es) = queue_after_all (queue_after queue e.0 e.1) es
@@ -77,7 +77,7 @@ committed_in front (Commit t) Committed = finished t front
 committed_in front Force Done = finished_all front (queue_after_all [] front)
 committed_in front _ _ = []
 
--- The serial run: behind this front of a trace, the finished accesses of the committed transactions with their replies, one whole transaction after another,
+-- The serial run: after this front of a trace, the finished accesses of the committed transactions with their replies, one whole transaction after another,
 -- in the order of their Commits.
 abbrev pub serial : List (Step × Reply) → List (Step × Reply) → List (Access × Reply)
 serial front [] = []

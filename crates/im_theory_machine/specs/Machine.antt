@@ -117,7 +117,7 @@ pub data Goes (v : View) (step : Step) (reply : Reply) (w : View) : Type 0 where
   drops_first : (t : ℕ) (k : Key) (r : ℕ) (ls : List Lock) → step ≡ Do t (Delete k) → (v.txns t).mark ≡ Going → v.under ≡ None → get v.walk k ≡ Some r → IsFree (locks_in v) t (asked (Delete k) v.walk)
       → SameLocks ls (kept (asked (Delete k) v.walk) ((v.txns t).locks)) → reply ≡ More → w ≡ with_change (did v t (Delete k) ls) t (Drops k) → Goes v step reply w
   drops_leaf : (t : ℕ) (k : Key) → step ≡ Continue t → (v.txns t).mark ≡ Going → v.under ≡ Some (record { owner = t; aim = Drops k }) → reply ≡ Deleted → w ≡ change_made v → Goes v step reply w
-  -- a key that comes back wants a structure change first, behind which it is taken back as above
+  -- a key that comes back wants a structure change first, after which it is taken back as above
   takes_later : (t : ℕ) (c : Change) (cs : List Change) → step ≡ Continue t → (v.txns t).mark ≡ RollingBack → v.under ≡ None → (v.txns t).net ≡ c ∷ cs → reply ≡ More → w ≡ with_change v t TakesBack → Goes v step reply w
   -- a key that goes leaves a leaf empty: the change is taken back, and then the leaf goes
   takes_first : (t : ℕ) (c : Change) (cs : List Change) → step ≡ Continue t → (v.txns t).mark ≡ RollingBack → v.under ≡ None → (v.txns t).net ≡ c ∷ cs → reply ≡ More → w ≡ with_change (undid_more v t c cs) t TookBack → Goes v step reply w

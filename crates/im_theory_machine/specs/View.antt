@@ -135,7 +135,7 @@ abbrev pub nets_of : (ℕ → Txn) → List ℕ → List Effect
 nets_of txns [] = []
 nets_of txns (t ∷ ts) = (txns t).net ∷ nets_of txns ts
 
--- the committed map behind these, one after another
+-- the committed map after these, one after another
 abbrev pub map_behind : IndexMap → (ℕ → Txn) → List ℕ → IndexMap
 map_behind base txns ts = apply_all base (nets_of txns ts)
 

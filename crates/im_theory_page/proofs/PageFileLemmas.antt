@@ -57,7 +57,7 @@ same_before old new p q same less =
     ∙ ap (λ (l : List ℕ). take 4096 (drop (q * 4096) l)) same
     ∙ part_of_front (q * 4096) 4096 (p * 4096) old le)
 
--- where the bytes behind page p stay, each page behind it does
+-- where the bytes after page p stay, each page after it does
 pub same_behind : (old new : List ℕ) (p q : ℕ) → drop (p * 4096 + 4096) new ≡ drop (p * 4096 + 4096) old → p < q → file_page new q ≡ file_page old q
 same_behind old new p q same less =
     let lengths : length new - (p * 4096 + 4096) ≡ length old - (p * 4096 + 4096) = sym (length-drop (p * 4096 + 4096) new) ∙ ap length same ∙ length-drop (p * 4096 + 4096) old in

@@ -64,7 +64,7 @@ range_more es low j le lt =
     ∙ sym (take_more (drop low es) (j - low) no_entry (omega (arith, length-drop low es)))
     ∙ ap (λ n. take n (drop low es)) (sym longer)
 
--- the place of the next entry of a range is behind those that are there
+-- the place of the next entry of a range is after those that are there
 pub next_place : (leaf : Bool) (bytes from : List ℕ) (low j : ℕ) → IsPacked leaf from → low ≤ j → j < count_of from
     → entries_of leaf bytes ≡ slice_range (entries_of leaf from) low j → Parts bytes (key_from from (slot_at from j)) (j - low) (j - low)
 next_place leaf bytes from low j p le lt is =

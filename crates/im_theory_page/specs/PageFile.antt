@@ -4,7 +4,7 @@ use Rattle.im_base_types.specs.Pages.{Page}
 use Rattle.im_theory_page.specs.Header.{initial}
 use Rattle.im_theory_page.specs.Page.{page_of}
 
--- how many pages the file has: bytes behind the last whole one do not count
+-- how many pages the file has: bytes after the last whole one do not count
 abbrev pub page_count : List ℕ → ℕ
 page_count file = length file / 4096
 

@@ -39,12 +39,12 @@ abbrev first_or : Effect → List Effect → Effect
 first_or none [] = none
 first_or none (e ∷ es) = e
 
--- equal behind the same front
+-- equal after the same front
 behind_same : (es xs ys : List Effect) → es ++ xs ≡ es ++ ys → xs ≡ ys
 behind_same [] xs ys is = is
 behind_same (e ∷ es) xs ys is = behind_same es xs ys (ap rest_of is)
 
--- asked effects, cut behind the first of them
+-- asked effects, cut after the first of them
 record IsCut (xs : List Effect) (rest : List Asked) : Type 0 where
   kept : List Asked
   lost : List Asked

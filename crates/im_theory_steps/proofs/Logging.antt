@@ -62,7 +62,7 @@ module _ (older : History) (t last lsn page : ℕ) (w : What) (c : Change) (no_e
       at_number : {A : Type 0} {x : A} (f : ℕ → A) → f t ≡ x → f row.number ≡ x
       at_number f e = ap f is ∙ e
 
--- a change behind records that change no key
+-- a change after records that change no key
 pub adds_behind : (b : Base) (t : ℕ) (c : Change) (older between longer : History) → Stays b older between → Adds b t c between longer → Adds b t c older longer
 adds_behind b t c older between longer stays on = record {
   commits = on.commits ∙ stays.commits;

@@ -1,4 +1,4 @@
--- Rows of the table behind a step.
+-- Rows of the table after a step.
 use Rattle.std.proofs.Common.{◌≡◌, ◌≢◌, ◌≤◌, ◌+◌, ◌-◌, suc, ℕ, Bool, cond, List, [], ◌∷◌, length, map, refl, sym, ◌∙◌, ap, subst, Option, None, Some, inl, inr, arith, eq-eqb, ne_eqb}
 use Rattle.std.specs.Prelude.{find}
 use Rattle.im_theory_log.specs.Histories.{History}

@@ -28,7 +28,7 @@ pub record AreCommitted (earlier before : List Effect) (asked : List Asked) (dur
   pub forced : earlier ++ seen (committed durable) ≡ before ++ effects front
   pub whole : earlier ++ seen (committed log) ≡ before ++ effects asked
 
--- what a stop left: a lawful log, whose Commits, behind the earlier ones, are what the life may make of the effects before it
+-- what a stop left: a lawful log, whose Commits, after the earlier ones, are what the life may make of the effects before it
 pub record IsAllowedLog (b : Base) (tree : Tree) (earlier before : List Effect) (asked : List Asked) (left : History) : Type 0 where
   pub lawful : IsLawful b tree left
   pub after : List Effect
@@ -42,7 +42,7 @@ StopsAllow tree = (b : Base) (earlier before : List Effect) (asked : List Asked)
 
 -- How Commits stand from call to call.
 pub record CommitsStand : Type 0 where
-  -- behind an opening
+  -- after an opening
   pub begins : (earlier before : List Effect) (durable log : History) → earlier ++ seen (committed log) ≡ before → committed durable ≡ committed log → AreCommitted earlier before [] durable log
   -- where records join the log that commit nothing
   pub stay : (earlier before : List Effect) (asked : List Asked) (durable log longer : History) → AreCommitted earlier before asked durable log → committed longer ≡ committed log → AreCommitted earlier before asked durable longer
@@ -54,7 +54,7 @@ pub record CommitsStand : Type 0 where
   -- where more is asked of which nothing is left
   pub lost : (before after : List Effect) (asked more : List Asked) → Survives before asked after → NoneAcked more → Survives before (asked ++ more) after
 
--- A Commit that is in the log is asked, whether a stop fell within its step or its step was refused behind that record: it is left, or nothing of it.
+-- A Commit that is in the log is asked, whether a stop fell within its step or its step was refused after that record: it is left, or nothing of it.
 abbrev pub CutCommitsStand : Type 0
 CutCommitsStand = (b : Base) (earlier before : List Effect) (s : Shown) (v : View) (older longer durable : History) (rows : List Transaction) (next : ℕ) (held : Table) (t : ℕ) (row : Transaction)
     → IsServing b earlier before s v older rows next held → find (is_of t) rows ≡ Some row → row.mark ≡ Going → 1 ≤ row.last → owner_in v ≢ Some t → Commits b t older longer → AreCommitted earlier before s.asked durable older

@@ -57,7 +57,7 @@ StructureKeepsServing = (b : Base) (earlier before : List Effect) (s : Shown) (v
     → IsServing b earlier before s v longer (map (changed t (with_record (last_of t longer) (undo_next_of t longer))) rows) next held
 
 -- The log has grown on the way to a change of t, whose records now end at this LSN: the tree's map, the nets and the other transactions are as they were. Of a
--- transaction whose first change this is, a row of its own says it only behind the change, since its records so far have changed no key.
+-- transaction whose first change this is, a row of its own says it only after the change, since its records so far have changed no key.
 pub record IsOnTheWay (b : Base) (t last : ℕ) (older between : History) : Type 0 where
   pub stays : Stays b older between
   pub others : IsOfOthers t older between
@@ -80,7 +80,7 @@ ChangesAreServed = (b : Base) (earlier before : List Effect) (s : Shown) (v : Vi
     → Decides old t (asked a v.walk) Granted new → Adds b t c older longer → IsOfOthers t older longer → IsRow (with_record last undo_next row) next longer (owner_in v)
     → IsServed b earlier before s v (Do t a) (answer a v.walk) (did v t a (lasting_of new t)) longer (map (changed t (with_record last undo_next)) rows) next new
 
--- the record of a key of t, behind its record at an LSN
+-- the record of a key of t, after its record at an LSN
 abbrev pub key_record : (t last lsn page : ℕ) → What → Logged
 key_record t last lsn page w = record { lsn = lsn; txn = t; prev = last; undo_next = 0; page = page; what = w }
 
@@ -89,7 +89,7 @@ pub record IsLogged (b : Base) (tree : Tree) (earlier before : List Effect) (s :
   pub lawful : IsLawful b tree longer
   pub served : IsServed b earlier before s v step reply w longer rows next new
 
--- An insert of a key that the tree lacks, logged on the page that takes it, behind whatever led there.
+-- An insert of a key that the tree lacks, logged on the page that takes it, after whatever led there.
 abbrev pub InsertsAreServed : Tree → Type 0
 InsertsAreServed tree = (b : Base) (earlier before : List Effect) (s : Shown) (v : View) (older between : History) (rows : List Transaction) (next : ℕ) (old new : Table) (t last lsn page : ℕ) (row : Transaction) (k : Key) (i : ℕ)
     → IsServing b earlier before s v older rows next old → find (is_of t) rows ≡ Some row → row.mark ≡ Going → owner_in v ≢ Some t → keys_fit (Insert k i) ≡ true → IsOnTheWay b t last older between
@@ -139,7 +139,7 @@ CommitsAreServed = (b : Base) (earlier before : List Effect) (s : Shown) (v : Vi
     → IsOver t longer → to_undo t longer ≡ [] → length rows ≡ length (without t rows) + 1
     → IsServed b earlier before s v (Commit t) Committed (committed_by v t) longer (without t rows) next new
 
--- the record of a Commit of t, behind its record at an LSN
+-- the record of a Commit of t, after its record at an LSN
 abbrev pub commit_record : (t last lsn : ℕ) → Logged
 commit_record t last lsn = record { lsn = lsn; txn = t; prev = last; undo_next = 0; page = 0; what = CommitRecord }
 
@@ -200,7 +200,7 @@ abbrev pub without_all : List ℕ → List Transaction → List Transaction
 without_all [] rows = rows
 without_all (t ∷ ts) rows = without_all ts (without t rows)
 
--- A page was written, behind Images.
+-- A page was written, after Images.
 abbrev pub FlushesAreServed : Type 0
 FlushesAreServed = (b : Base) (earlier before : List Effect) (s : Shown) (v : View) (older longer : History) (rows : List Transaction) (next : ℕ) (held : Table) (p : ℕ)
     → IsServing b earlier before s v older rows next held → Stays b older longer → IsOfAll older longer → IsServed b earlier before s v (FlushPage p) Done v longer rows next held
@@ -211,7 +211,7 @@ ForcesAreServed = (b : Base) (earlier before : List Effect) (s : Shown) (v : Vie
     → IsServing b earlier before s v older rows next old → Stays b older longer → IsOfAll older longer → AreReleased old (λ t. is_among t v.queue) new → length rows ≡ length (without_all v.queue rows) + length v.queue
     → IsServed b earlier before s v Force Done (forced_by v) longer (without_all v.queue rows) next new
 
--- A Checkpoint was answered, behind records that are no transaction's.
+-- A Checkpoint was answered, after records that are no transaction's.
 abbrev pub CheckpointsAreServed : Type 0
 CheckpointsAreServed = (b : Base) (earlier before : List Effect) (s : Shown) (v : View) (older longer : History) (rows : List Transaction) (next : ℕ) (held : Table)
     → IsServing b earlier before s v older rows next held → Stays b older longer → IsOfAll older longer → IsServed b earlier before s v Checkpoint Done v longer rows next held

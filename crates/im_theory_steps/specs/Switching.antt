@@ -14,7 +14,7 @@ use Rattle.im_theory_machine.specs.View.{View}
 use Rattle.im_theory_steps.specs.Durable.{AreCommitted}
 use Rattle.im_theory_steps.specs.Serving.{IsServing, IsServed}
 
--- Every transaction of the old log is finished. The empty log serves over this base, behind the effects that made it, and the step is the machine's; each effect that was asked is one of these.
+-- Every transaction of the old log is finished. The empty log serves over this base, after the effects that made it, and the step is the machine's; each effect that was asked is one of these.
 pub record IsSwitched (c : Base) (earlier before : List Effect) (s : Shown) (v : View) (log : History) (rows : List Transaction) (next : ℕ) (held : Table) : Type 0 where
   pub finished : AllFinished log
   pub served : IsServed c (earlier ++ seen (committed log)) before s v Switch Done v [] rows next held

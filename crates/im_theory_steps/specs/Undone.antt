@@ -35,7 +35,7 @@ pub record IsEndedBack (b : Base) (t : ℕ) (c : Change) (older longer : History
   pub over : IsOver t longer
   pub stack : to_undo t longer ≡ []
 
--- The End behind the last change leaves that.
+-- The End after the last change leaves that.
 abbrev pub EndsLeaveNothing : Type 0
 EndsLeaveNothing = (b : Base) (t : ℕ) (c : Change) (older between : History) (last : Logged) → UndoesNewest b t c older between → net t between ≡ [] → last.txn ≡ t → last.what ≡ End → IsEndedBack b t c older (last ∷ between)
 
@@ -50,7 +50,7 @@ UndoneChangesAreServed = (b : Base) (earlier before : List Effect) (s : Shown) (
     → IsServing b earlier before s v older rows next held → find (is_of t) rows ≡ Some row → row.mark ≡ RollingBack → UndoesNewest b t c older longer → net t longer ≢ [] → is_finished t longer ≡ false
     → IsServed b earlier before s v (Continue t) More (undid_more v t c (net t longer)) longer (map (changed t (with_record (last_of t longer) (undo_next_of t longer))) rows) next held
 
--- The last change was taken back, and the End came behind it: row and locks go.
+-- The last change was taken back, and the End came after it: row and locks go.
 abbrev pub LastUndoneChangesAreServed : Type 0
 LastUndoneChangesAreServed = (b : Base) (earlier before : List Effect) (s : Shown) (v : View) (older between : History) (rows : List Transaction) (next : ℕ) (old new : Table) (t : ℕ) (row : Transaction) (c : Change) (last : Logged)
     → IsServing b earlier before s v older rows next old → find (is_of t) rows ≡ Some row → row.mark ≡ RollingBack → UndoesNewest b t c older between → net t between ≡ [] → last.txn ≡ t → last.what ≡ End

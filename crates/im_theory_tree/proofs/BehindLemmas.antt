@@ -48,7 +48,7 @@ pub last_over : (k : Key) (low es : List Entry) → last_in k es ≡ None → la
 last_over k [] es none = none
 last_over k (e ∷ low) es none = ap (λ (o : Option Entry). cond (is_below e.0 k) (or_this e o) None) (last_over k low es none)
 
--- behind entries that are all below it the answer is that of the rest
+-- after entries that are all below it the answer is that of the rest
 pub last_behind : (k : Key) (low es : List Entry) (d : Entry) → AllOf (λ (e : Entry). IsBelow e.0 k) low → last_in k es ≡ Some d → last_in k (low ++ es) ≡ Some d
 last_behind k [] es d h is = is
 last_behind k (e ∷ low) es d h is = rw (below_yes e.0 k h.0) (ap (or_this e) (last_behind k low es d h.1 is))
@@ -81,7 +81,7 @@ pub chained_last : (pages : Pages) (p : ℕ) (b : List Node) (n : Node) (rest : 
 chained_last pages p [] n rest h = h.0
 chained_last pages p (x ∷ b) n rest h = chained_last pages x.page b n rest h.2
 
--- the leaf that stands behind, with what is before and after it
+-- the leaf that stands after, with what is before and after it
 pub record HasLast (pages : Pages) (k : Key) (passed p : ℕ) : Type 0 where
   pub before : List Node
   pub node : Node

@@ -1,4 +1,4 @@
--- The place of a child among its parent's children, and a separator put in behind it.
+-- The place of a child among its parent's children, and a separator put in after it.
 use Rattle.std.proofs.Common.{◌≡◌, ◌⊎◌, ℕ, ◌+◌, ◌<◌, List, [], ◌∷◌, ◌++◌, length, map, take, drop, Some, refl, sym, ap, ap₂, subst, ◌∙◌, append_assoc, ⊎_elim}
 use Rattle.std.proofs.lemmas.List.{map-append}
 use Rattle.std.proofs.lemmas.List.Concat.{flat_map-append}
@@ -23,7 +23,7 @@ use Rattle.im_theory_tree.proofs.HalvesLemmas.{ascends_before, ascends_after}
 abbrev pub first_child : Pages → Node → Node
 first_child pages n = record { bound = n.bound; page = (pages n.page).leftmost }
 
--- child c, on the way of a key, stands behind the entries u of its parent and before the entries v
+-- child c, on the way of a key, stands after the entries u of its parent and before the entries v
 pub record ChildPlace (pages : Pages) (parent : Node) (key : Key) (p : ℕ) : Type 0 where
   pub u : List Entry
   pub v : List Entry
@@ -93,7 +93,7 @@ children_now pages new parent u v before c e entries leftmost front =
     ∙ ap (λ ns. ns ++ child_of e ∷ map child_of v) front
     ∙ append_assoc before (c ∷ []) (child_of e ∷ map child_of v)
 
--- the keys behind a separator that is under the next bound are above it
+-- the keys after a separator that is under the next bound are above it
 pub high_behind : (u v : List Entry) (s : Key) (rest : List Node) → Ascends (u ++ v) → IsUnder s (next_bound (map child_of v ++ rest)) → AllOf (λ (x : Entry). IsBelow s x.0) v
 high_behind u [] s rest up under = tt
 high_behind u (e ∷ v) s rest up under =
@@ -114,7 +114,7 @@ below_at pages a b parent before c after were =
     ∙ ap (λ cs. below pages a ++ cs) (append_assoc before (c ∷ after) (below pages b))
     ∙ sym (append_assoc (below pages a) before (c ∷ (after ++ below pages b)))
 
--- the separator put in behind the child
+-- the separator put in after the child
 pub separator_put : (pages new : Pages) (parent : Node) (key : Key) (p q : ℕ) (s : Key) (b : List Node) (place : ChildPlace pages parent key p) → Ascends (pages parent.page).entries
     → AddsSeparator pages new parent.page s q → IsAfter place.c.bound (Some s) → IsUnder s (next_bound (map child_of place.v ++ below pages b))
     → PutsSeparator pages new parent place.before (map child_of place.v) place.c (s, q)

@@ -72,7 +72,7 @@ chain_over pages new u w m leaf h lu next prev f =
     let here = chained_right pages 0 u (m ∷ leaf ∷ w) h in
     chained_front pages new 0 u (leaf ∷ w) w m lu h (λ p e. (prev ∙ e, next ∙ here.1.2.1, rechained pages new leaf.page m.page w here.1.2.2 f))
 
--- A leaf without entries is gone from behind another: the tree is good, with the same walk.
+-- A leaf without entries is gone from after another: the tree is good, with the same walk.
 pub record IsGone (pages new : Pages) (spare : List ℕ) (leaf : Node) : Type 0 where
   pub good : IsGoodTree new spare
   pub same : walk new ≡ walk pages

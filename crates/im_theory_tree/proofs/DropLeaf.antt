@@ -38,7 +38,7 @@ pub under_follow : (key : List ℕ) (x y : Option (List ℕ)) (b : List Node) �
 under_follow key x y [] u h k = tt
 under_follow key x y (n ∷ b) u h k = under_over key y n.bound x u h k
 
--- ORDER STAYS where a node behind another goes: the range of the one before it grows
+-- ORDER STAYS where a node after another goes: the range of the one before it grows
 pub ordered_drop : (pages new : Pages) (a b : List Node) (m n : Node) → SameOn pages new (page_numbers (a ++ m ∷ [])) → SameOn pages new (page_numbers b)
     → AreOrdered pages (a ++ m ∷ n ∷ b) → AreOrdered new (a ++ m ∷ b)
 ordered_drop pages new [] b m n sa sb h = (

@@ -1,4 +1,4 @@
--- A split of an inner page on the way of a key, and the way behind it.
+-- A split of an inner page on the way of a key, and the way after it.
 use Rattle.std.proofs.Common.{◌≡◌, ℕ, suc, ◌+◌, ◌<◌, List, [], ◌∷◌, ◌++◌, length, map, take, drop, sym, ap, ap₂, subst, ◌∙◌, append_assoc, arith}
 use Rattle.std.proofs.lemmas.List.{map-append}
 use Rattle.im_base_types.specs.Keys.{Key}

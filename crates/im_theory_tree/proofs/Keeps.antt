@@ -15,7 +15,7 @@ pub ordered_same : (pages new : Pages) (ns : List Node) → SameOn pages new (pa
 ordered_same pages new [] s h = tt
 ordered_same pages new (n ∷ ns) s h = (rw s.0.entries h.0, h.1, ordered_same pages new ns s.1 h.2)
 
--- the bound after a front does not depend on what comes behind the node after it
+-- the bound after a front does not depend on what comes after the node after it
 pub next_bound-front : (a t u : List Node) (n : Node) → next_bound (a ++ n ∷ t) ≡ next_bound (a ++ n ∷ u)
 next_bound-front [] t u n = refl
 next_bound-front (x ∷ a) t u n = refl

@@ -88,7 +88,7 @@ height_same pages new zero a b parent at level s =
     subst (λ x. (new x).level ≡ (pages x).level) (sym page) level
 height_same pages new (suc d) a b parent at level s = s.0.level
 
--- levels 1 and 0, where a node comes in behind its left half
+-- levels 1 and 0, where a node comes in after its left half
 pub levels_put : (pages new : Pages) (a b : List Node) (parent : Node) (u v : List Node) (n m : Node) → SameOn pages new (page_numbers a) → SameOn pages new (page_numbers b)
     → SameOn pages new (page_numbers u) → SameOn pages new (page_numbers v)
     → (new parent.page).kind ≡ (pages parent.page).kind → (new parent.page).level ≡ (pages parent.page).level → IsLeafPage new n → IsLeafPage new m

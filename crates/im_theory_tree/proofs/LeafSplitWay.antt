@@ -1,4 +1,4 @@
--- A split of the leaf of a key, and the way of the key behind it.
+-- A split of the leaf of a key, and the way of the key after it.
 use Rattle.std.proofs.Common.{◌≡◌, ℕ, zero, suc, ◌<◌, ◌≤◌, List, [], ◌∷◌, ◌++◌, length, map, Some, sym, ap, subst, ◌∙◌, append_assoc, arith}
 use Rattle.im_base_types.specs.Keys.{Key}
 use Rattle.im_base_types.specs.Pages.{Entry}
@@ -19,7 +19,7 @@ use Rattle.im_theory_tree.proofs.RootSplitWay.{node_on_way}
 use Rattle.im_theory_tree.proofs.HalvesLemmas.{halves_at, separator_after}
 use Rattle.im_theory_tree.proofs.ChildPlaces.{ChildPlace, child_place, children_were, below_at, separator_put}
 
--- the level of the leaves behind a split
+-- the level of the leaves after a split
 pub record LevelAfter (pages new : Pages) (d : ℕ) (fr : List Node) (n m : Node) (bk : List Node) : Type 0 where
   pub tall : height new ≡ height pages
   pub down : descend new (suc d) the_root ≡ fr ++ n ∷ m ∷ bk

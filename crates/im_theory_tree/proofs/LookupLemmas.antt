@@ -198,7 +198,7 @@ ahead_begins pages spare s p good way =
           ∙ first_behind s (entries_in pages left) ((pages n.page).entries ++ entries_in pages right) (before_below pages left right n (key_of s) ordered way.at);
     }
 
--- the leaf that stands ahead, with what is before and behind it
+-- the leaf that stands ahead, with what is before and after it
 pub record HasLeaf (pages : Pages) (s : Start) (passed p : ℕ) : Type 0 where
   pub before : List Node
   pub node : Node
@@ -256,7 +256,7 @@ leaf_in_tree pages spare before n after good leaves =
     below_count pages spare n.page good
     (omega (arith, leaves_among pages (height pages) the_root n.page, ap (λ ns. times n.page (page_numbers ns)) leaves, leaf_times pages before n after n.page refl))
 
--- behind the last leaf nothing is left
+-- after the last leaf nothing is left
 pub ahead_ends : (pages : Pages) (spare : List ℕ) (s : Start) (passed : ℕ) → IsGoodTree pages spare → IsAhead pages s passed 0 → first_in s (walk pages) ≡ None
 ahead_ends pages spare s passed good h = end h.rest h.leaves h.page h.first
   where

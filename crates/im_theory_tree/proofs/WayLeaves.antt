@@ -1,4 +1,4 @@
--- The leaves behind each step of a structure change.
+-- The leaves after each step of a structure change.
 use Rattle.std.proofs.Common.{◌≡◌, ◌≢◌, ℕ, zero, suc, List, [], ◌∷◌, ◌++◌, None, refl, ap, subst, ◌∙◌}
 use Rattle.im_base_types.specs.Pages.{Entry}
 use Rattle.im_theory_tree.specs.Deletions.{bare_leaf, DropsChildOf, DropsFirstOf, EmptiesRoot}
@@ -18,7 +18,7 @@ use Rattle.im_theory_tree.proofs.EmptyRoot.{empty_root}
 use Rattle.im_theory_tree.specs.Ways.{KeepsWays}
 use Rattle.im_theory_tree.proofs.WayRanges.{ways_by_ranges, ways_by_leaves, put_behind, dropped_behind, dropped_first, alone}
 
--- A LEAF IS SPLIT: one node comes in behind its own
+-- A LEAF IS SPLIT: one node comes in after its own
 pub leaf_split_ways : (pages new : Pages) (spare : List ℕ) (d : ℕ) (a b : List Node) (parent : Node) (before after : List Node) (n : Node) (q : ℕ) (s : List ℕ)
     → SplitsLeafOf pages new spare d a b parent before after n q s → KeepsWays pages new (λ x. x ≢ n.page)
 leaf_split_ways pages new spare d a b parent before after n q s h =

@@ -1,4 +1,4 @@
--- Leaves and the keys of their ranges, where a leaf comes in behind another, or goes.
+-- Leaves and the keys of their ranges, where a leaf comes in after another, or goes.
 use Rattle.std.proofs.Common.{◌≡◌, ◌≢◌, ℕ, zero, List, [], ◌∷◌, ◌++◌, refl, sym, ap, subst, ◌∙◌}
 use Rattle.im_base_types.specs.Keys.{Key}
 use Rattle.im_theory_tree.specs.Levels.{Pages, Node, leaves_under, the_root, height, lifted}
@@ -59,7 +59,7 @@ head_is x y xs ys e = cc e
 tail_is : (x y : Node) (xs ys : List Node) → x ∷ xs ≡ y ∷ ys → xs ≡ ys
 tail_is x y xs ys e = cc e
 
--- A LEAF COMES IN behind node n
+-- A LEAF COMES IN after node n
 pub put_behind : (a bk : List Node) (n m : Node) → KeepsRanges (a ++ n ∷ bk) (a ++ n ∷ m ∷ bk) (λ q. q ≢ n.page)
 put_behind a bk n m key q h apart = by a h.left h.are
   where
@@ -79,7 +79,7 @@ put_behind a bk n m key q h apart = by a h.left h.are
         }
     by (x ∷ a) (y ∷ left) e = front x (a ++ n ∷ m ∷ bk) key q (by a left (tail_is x y (a ++ n ∷ bk) (left ++ h.node ∷ h.right) e))
 
--- A LEAF GOES from behind node m, whose range grows
+-- A LEAF GOES from after node m, whose range grows
 pub dropped_behind : (u w : List Node) (m leaf : Node) → IsAfter m.bound leaf.bound → BoundsFollow leaf.bound w → KeepsRanges (u ++ m ∷ leaf ∷ w) (u ++ m ∷ w) (λ q. q ≢ leaf.page)
 dropped_behind u w m leaf after follow key q h apart = by u h.left h.are
   where

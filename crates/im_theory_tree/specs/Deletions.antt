@@ -15,7 +15,7 @@ abbrev pub bare_leaf : Pages → ℕ → Node → Node
 bare_leaf pages zero c = c
 bare_leaf pages (suc h) c = bare_leaf pages h (record { bound = c.bound; page = (pages c.page).leftmost })
 
--- such a page of level h goes, from behind another child of its parent
+-- such a page of level h goes, from after another child of its parent
 pub record DropsChildOf (pages new : Pages) (spare : List ℕ) (d h : ℕ) (a b : List Node) (parent : Node) (before after : List Node) (last c : Node) : Type 0 where
   pub good : IsGoodTree pages spare
   pub tall : height pages ≡ lifted d (suc h)

@@ -69,7 +69,7 @@ abbrev pub first_page : List Node → ℕ
 first_page [] = 0
 first_page (n ∷ ns) = n.page
 
--- the leaf chain is these leaves, left to right, behind page `prev`
+-- the leaf chain is these leaves, left to right, after page `prev`
 abbrev pub AreChained : Pages → ℕ → List Node → Type 0
 AreChained pages prev [] = Unit {0}
 AreChained pages prev (n ∷ ns) = ((pages n.page).prev ≡ prev) × ((pages n.page).next ≡ first_page ns) × AreChained pages n.page ns

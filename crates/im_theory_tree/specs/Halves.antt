@@ -14,7 +14,7 @@ pub record LacksRoom (leaf : Bool) (es : List Entry) (e : Entry) : Type 0 where
   pub key : length e.0 ≤ 255
   pub more : 4064 < taken leaf es + (size leaf e + 2)
 
--- The left part has an entry; behind it stand at least two, of which an inner page moves one up; and each part has room for one more entry of any size.
+-- The left part has an entry; after it stand at least two, of which an inner page moves one up; and each part has room for one more entry of any size.
 pub record SplitsWell (leaf : Bool) (es : List Entry) (n : ℕ) : Type 0 where
   pub left : 1 ≤ n
   pub right : n + 2 ≤ length es

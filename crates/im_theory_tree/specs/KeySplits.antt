@@ -18,7 +18,7 @@ pub record AddsSeparator (pages new : Pages) (parent : ℕ) (s : Key) (q : ℕ) 
   pub leftmost : (new parent).leftmost ≡ (pages parent).leftmost
   pub entries : (new parent).entries ≡ with_key s q (pages parent).entries
 
--- leaf p keeps its first n entries, and page q, behind it in the chain, has the rest
+-- leaf p keeps its first n entries, and page q, after it in the chain, has the rest
 pub record SplitsLeafPages (pages new : Pages) (parent p q n : ℕ) : Type 0 where
   pub left : ((new p).kind ≡ Leaf) × ((new p).level ≡ 0)
   pub left_entries : (new p).entries ≡ take n (pages p).entries
@@ -128,7 +128,7 @@ pub record SplitsKeyRootInner (pages new : Pages) (spare : List ℕ) (h left rig
   pub within : n < length (pages 1).entries
   pub pages_split : SplitsRootInnerPages pages new h left right n
 
--- Behind a split of inner level h + 1: the half on the key's way has room for a separator of any size, and its child on the way is the one that it was.
+-- After a split of inner level h + 1: the half on the key's way has room for a separator of any size, and its child on the way is the one that it was.
 pub record HalfGoesOn (new : Pages) (h : ℕ) (key : Key) (child : ℕ) : Type 0 where
   pub page : ℕ
   pub way : IsOnWay new (suc h) key page

@@ -21,7 +21,7 @@ key_of (Above k) = k
 abbrev pub IsFirstAt : Start → List Entry → ℕ → Type 0
 IsFirstAt s es i = (i < length es → first_in s es ≡ Some (entry_at es i)) × (length es ≤ i → first_in s es ≡ None)
 
--- The first entry past the start stands in the leaves from page p on, or nowhere; p is 0 behind the last leaf. At least `passed` leaves stand before.
+-- The first entry past the start stands in the leaves from page p on, or nowhere; p is 0 after the last leaf. At least `passed` leaves stand before.
 pub record IsAhead (pages : Pages) (s : Start) (passed p : ℕ) : Type 0 where
   pub before : List Node
   pub rest : List Node
@@ -44,7 +44,7 @@ abbrev pub last_page : ℕ → List Node → ℕ
 last_page p [] = p
 last_page p (n ∷ ns) = last_page n.page ns
 
--- The last entry below the key stands in the leaves up to page p, or nowhere; p is 0 before the first leaf. At least `passed` leaves stand behind.
+-- The last entry below the key stands in the leaves up to page p, or nowhere; p is 0 before the first leaf. At least `passed` leaves stand after.
 pub record IsBehind (pages : Pages) (k : Key) (passed p : ℕ) : Type 0 where
   pub before : List Node
   pub rest : List Node

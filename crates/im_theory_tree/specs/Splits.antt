@@ -7,7 +7,7 @@ use Rattle.im_base_types.specs.Keys.{Key, IsBelow}
 use Rattle.im_base_types.specs.Pages.{Entry}
 use Rattle.im_base_types.specs.declared.page_kind.PageKind.TheVariants.{Leaf, Inner}
 
--- the parent has one child more, behind n
+-- the parent has one child more, after n
 pub record PutsSeparator (pages new : Pages) (parent : Node) (before after : List Node) (n : Node) (s : Entry) : Type 0 where
   pub was : children pages parent ≡ before ++ n ∷ after
   pub now : children new parent ≡ before ++ n ∷ child_of s ∷ after

@@ -42,7 +42,7 @@ Leads (DropFirst d h a b parent after c r) pages spare new left = (left ≡ page
 Leads (EmptyRoot h) pages spare new left = (left ≡ pages_under pages h (below pages the_root) ++ spare) × EmptiesRoot pages new spare h
 Leads Relist pages spare new left = ((x : ℕ) → SameButMark (pages x) (new x)) × ((x : ℕ) → times x left ≡ times x spare)
 
--- a step that was made, with the pages and the spare pages behind it
+-- a step that was made, with the pages and the spare pages after it
 pub record Made : Type 0 where
   pub step : Step
   pub pages : Pages
@@ -63,7 +63,7 @@ abbrev pub end_spare : List ℕ → List Made → List ℕ
 end_spare spare [] = spare
 end_spare spare (m ∷ run) = end_spare m.spare run
 
--- A chain of pages without entries goes, from behind another child, as the leftmost child, or from under the root; the pages of the chain are spare behind it.
+-- A chain of pages without entries goes, from after another child, as the leftmost child, or from under the root; the pages of the chain are spare after it.
 pub data DropsChain (pages new : Pages) (gone : List ℕ) : Type 0 where
   FromEntry : (h : ℕ) (key : Key) (parent p i : ℕ) → DropsEntry pages new [] h key parent p i → gone ≡ chain_down pages h p → DropsChain pages new gone
   FromLeftmost : (h : ℕ) (key : Key) (parent p : ℕ) → DropsLeftmost pages new [] h key parent p → gone ≡ chain_down pages h p → DropsChain pages new gone

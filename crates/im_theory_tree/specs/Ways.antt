@@ -35,7 +35,7 @@ pub record SplitsKeepWays : Type 0 where
   pub root_leaf : (pages new : Pages) (spare : List ℕ) (left right n : ℕ) → SplitsKeyRootLeaf pages new spare left right n → KeepsWays pages new (λ x. x ≢ 1)
   pub root_inner : (pages new : Pages) (spare : List ℕ) (h left right n : ℕ) → SplitsKeyRootInner pages new spare h left right n → KeepsAllWays pages new
 
--- Deletions, and what is given back behind them; allocations.
+-- Deletions, and what is given back after them; allocations.
 pub record DeletionsKeepWays : Type 0 where
   pub entry : (pages new : Pages) (spare : List ℕ) (h : ℕ) (key : Key) (parent p i : ℕ) → DropsEntry pages new spare h key parent p i → KeepsWays pages new (λ x. x ≢ leaf_down pages h p)
   pub leftmost : (pages new : Pages) (spare : List ℕ) (h : ℕ) (key : Key) (parent p : ℕ) → DropsLeftmost pages new spare h key parent p → KeepsWays pages new (λ x. x ≢ leaf_down pages h p)

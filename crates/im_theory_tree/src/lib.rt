@@ -12,7 +12,7 @@
 //! # The laws
 //!
 //! - `search`, `lookups`: the way of a key goes down to its leaf, which has of the key what the walk has; the first entry
-//!   past a key stands ahead of it along the leaf chain, and the last below it behind; keys rise along the walk; the pages of
+//!   past a key stands ahead of it along the leaf chain, and the last below it after; keys rise along the walk; the pages of
 //!   a good tree are counted.
 //! - `changes`: a change of one leaf's entries within its range is one of the walk there.
 //! - `allocation`, `splits`, `deletions`: one step each, from a good tree to a good tree with the same walk.

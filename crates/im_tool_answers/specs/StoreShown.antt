@@ -47,7 +47,7 @@ IsStoreReply (lines.Page page) (replies.Page of header) = of ≡ page
 IsStoreReply (lines.Page page) (replies.Refused fault) = Unit {0}
 IsStoreReply _ _ = ⊥
 
--- Each line has its reply, up to one into which the stop fell. Behind an opening that did not succeed no line is answered.
+-- Each line has its reply, up to one into which the stop fell. After an opening that did not succeed no line is answered.
 abbrev pub StoreAnswered : Opening → List StoreLine → List StoreReply → Type 0
 StoreAnswered (openings.Open n) all told = AnsweredBy IsStoreReply replies.Stopped all told
 StoreAnswered (openings.Refused fault) all told = told ≡ []

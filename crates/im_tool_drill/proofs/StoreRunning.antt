@@ -30,7 +30,7 @@ use Rattle.im_tool_drill.specs.StoreLives.{gate_of}
 use Rattle.im_tool_drill.specs.StoreRuns.{AllReport, IsLookRun, IsLineRun, AreLinesRun, IsLifeRun, AreLivesRun}
 
 module _ (d : Ghosts (Renamed ModelDisk)) where
-  -- behind no reply no line was run
+  -- after no reply no line was run
   pub no_line_run : (stop : Option Stop) (all : List StoreLine) (e : Engine (Renamed ModelDisk) d) → AreLinesRun d stop all [] e e
   no_line_run stop [] e = refl
   no_line_run stop (line ∷ all) e = refl

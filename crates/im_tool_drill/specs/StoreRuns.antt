@@ -88,7 +88,7 @@ module _ (d : Ghosts (Renamed ModelDisk)) where
   AreLinesRun stop [] (told ∷ others) old new = ⊥
 
   -- What an engine that is opened with these options answers. It is refused only for want of memory, by the disk, because the files are no store,
-  -- for want of room in the log or of page numbers, or by the number of its frames, and behind that of its workers, and by these exactly where they are too few or too many. Where
+  -- for want of room in the log or of page numbers, or by the number of its frames, and after that of its workers, and by these exactly where they are too few or too many. Where
   -- the current log's bytes are no log's it only reads and is never told that a log is full; that comes only where the log's file is full.
   pub record IsOpening (options : LifeOptions) (old : Renamed ModelDisk) (result : Result (Engine (Renamed ModelDisk) d) (Fault × Renamed ModelDisk)) : Type 0 where
     pub config : Config

@@ -21,14 +21,14 @@ use std::alloc::{AllocError, Global};
 use std::thread::Threads;
 
 /// Runs the lives of a script on a model disk, each on what the stop of the one before has left, and opens once
-/// more behind the last.
+/// more after the last.
 ///
 /// Every answer comes from a call: in each life the stop is armed, an engine is opened with the life's options, and a log's buffer of this
 /// size, on the disk that the stop before has left, and its steps and headers are what the lines answer, up to one into which the stop fell. `Stopped` is told only where the life has a
 /// stop within a device call, and it has come; an opening is refused only for its cause.
 ///
 /// Where the script's files stand for some effects at first, as two empty ones do for none, each life leaves those from before it and
-/// behind them a front of those whose Commit its steps asked, as its own replies show, with all that were acknowledged; the last
+/// after them a front of those whose Commit its steps asked, as its own replies show, with all that were acknowledged; the last
 /// opening finds the entries of just the effects that the last life left; and no opening says that there is no store. So it is of
 /// every store, whether the tree has changed its structure or not, in whichever life.
 ///

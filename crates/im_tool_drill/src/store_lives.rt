@@ -205,7 +205,7 @@ fn is_stopped(reply: &StoreReply) -> bool
     matches!(reply, StoreReply::Stopped)
 }
 
-/// The entries that a look finds, and the disk behind it.
+/// The entries that a look finds, and the disk after it.
 pub(crate) fn last_entries<T: Threads + Sync>(
     rt: &T,
     alloc: Global,

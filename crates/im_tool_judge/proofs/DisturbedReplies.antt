@@ -10,7 +10,7 @@ same_length failed [] (t ∷ told) d = absurd d
 same_length failed (p ∷ plain) [] d = absurd d
 same_length failed (p ∷ plain) (t ∷ told) d = ap suc (same_length (failed || is_by_device t) plain told d.1)
 
--- the replies from a place on, and behind it
+-- the replies from a place on, and after it
 abbrev pub IsStepOn : Bool → List StoreReply → List StoreReply → ℕ → ℕ → StoreReply → StoreReply → Type 0
 IsStepOn failed plain told i next p t = AreDisturbed failed (drop i plain) (drop i told) ↔ IsNext failed p t × AreDisturbed (failed || is_by_device t) (drop next plain) (drop next told)
 
@@ -27,7 +27,7 @@ step_on failed plain told i p t in_plain in_told is_p is_t =
     let next : suc i ≡ i + 1 = omega arith in
     subst (λ (n : ℕ). IsStepOn failed plain told i n p t) next (stepped failed plain told i p t in_plain in_told is_p is_t)
 
--- behind the last place nothing is left to judge
+-- after the last place nothing is left to judge
 pub none_behind : (failed : Bool) (plain told : List StoreReply) (i : ℕ) → length plain ≡ i → length told ≡ i → AreDisturbed failed (drop i plain) (drop i told)
 none_behind failed [] [] zero a b = tt
 none_behind failed [] [] (suc i) a b = absurd (omega (arith, a))

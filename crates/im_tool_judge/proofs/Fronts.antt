@@ -20,7 +20,7 @@ effects_append : (xs ys : List Asked) → effects (xs ++ ys) ≡ effects xs ++ e
 effects_append [] ys = refl
 effects_append (x ∷ xs) ys = ap (λ (l : List Effect). x.effect ∷ l) (effects_append xs ys)
 
--- the map behind the first so many effects
+-- the map after the first so many effects
 abbrev pub map_behind : List AskedEffect → ℕ → IndexMap
 map_behind asked n = apply_all empty (effects (map asked_of (take n asked)))
 
@@ -109,7 +109,7 @@ last_or_before zero i le = inl (omega arith)
 last_or_before (suc n) zero le = inr (omega arith)
 last_or_before (suc n) (suc i) le = elim (last_or_before n i (omega arith)) [ inl less ↦ inl (omega arith) | inr same ↦ inr (omega arith) ]
 
--- the effects behind a place are all that are left
+-- the effects after a place are all that are left
 pub rest_is : {A : Type 0} (xs : List A) (n : ℕ) → take (length xs - n) (drop n xs) ≡ drop n xs
 rest_is xs zero = take_all (length xs - 0) xs (omega arith)
 rest_is [] (suc n) = take_all (0 - suc n) [] (omega arith)

@@ -355,7 +355,7 @@ shown_more s all told i line reply within answered line_is reply_is =
     let long : length (take i told) ≡ length (take i all) = length-take-le i told (omega arith) ∙ sym (length-take-le i all (omega arith)) in
     ap (λ (l : List StoreLine). shown_in s l (take (i + 1) told)) lines ∙ ap (λ (l : List StoreReply). shown_in s (take i all ++ line ∷ []) l) replies ∙ shown_push s (take i all) (take i told) line reply long
 
--- behind the last line, or the last reply, nothing is shown
+-- after the last line, or the last reply, nothing is shown
 pub shown_end : (s : Shown) (all : List StoreLine) (told : List StoreReply) (i : ℕ) → (length all ≤ i) ⊎ (length told ≤ i) → shown_in s (take i all) (take i told) ≡ shown_in s all told
 shown_end s [] told zero e = refl
 shown_end s [] told (suc i) e = refl

@@ -38,7 +38,7 @@ abbrev pub TellsSame : StoreReply → StoreReply → Type 0
 TellsSame (replies.Redo told) (replies.Redo plain) = told ≡ plain
 TellsSame _ _ = ⊥
 
--- Until a device call has failed a line has a reply that says what it says undisturbed, or is refused by the device; behind that, that of an engine which has failed, whose report of its opening stays.
+-- Until a device call has failed a line has a reply that says what it says undisturbed, or is refused by the device; after that, that of an engine which has failed, whose report of its opening stays.
 abbrev pub IsNext : Bool → StoreReply → StoreReply → Type 0
 IsNext true plain told = (is_behind_failure told ≡ true) ⊎ TellsSame told plain
 IsNext false plain told = (is_by_device told ≡ true) ⊎ SaysSame told plain

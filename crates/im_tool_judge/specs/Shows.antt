@@ -26,7 +26,7 @@ abbrev pub effect_in : Option Change → Effect
 effect_in None = []
 effect_in (Some change) = change_of change ∷ []
 
--- a transaction behind what happened to it
+-- a transaction after what happened to it
 abbrev pub behind : Happened → Running → Running
 behind Began r = record { mark = Going; effect = []; pending = None }
 behind (Changed change) r = record r { effect = change_of change ∷ r.effect }
@@ -38,7 +38,7 @@ behind Turned r = record r { mark = RollingBack }
 behind Waited r = record r { mark = Committing }
 behind Ended r = idle
 
--- a transaction behind all that happened, the oldest first
+-- a transaction after all that happened, the oldest first
 abbrev pub running_from : ℕ → Running → List Event → Running
 running_from t r [] = r
 running_from t r (e ∷ more) = running_from t (if t == e.txn then behind e.what r else r) more

@@ -51,7 +51,7 @@ pub fn is_passed_over(fault: Fault) -> bool
     fault == Fault::Device || fault == Fault::PoolSize || fault == Fault::Workers
 }
 
-// Whether none of the effects behind a front was acknowledged, and what was found are the entries of the map behind that front.
+// Whether none of the effects after a front was acknowledged, and what was found are the entries of the map after that front.
 fn is_front(rest: &[AskedEffect], map: &Sorted, found: &[(Key, Rid)]) -> bool
     ensures { result ≡ true ↔ NoneAcked (asked_in rest.now) × (found.now ≡ held map.now.entries.items) }
 {

@@ -1,4 +1,4 @@
--- The options of a life, and what stands behind each.
+-- The options of a life, and what stands after each.
 use Rattle.std.proofs.Common.{◌≡◌, ◌≢◌, inl, inr, ℕ, List, [], ◌∷◌, ◌++◌, Bool, Option, None, Some, Bor, MatchOption, is_some, true, false, codes, refl, sym, ◌∙◌, ap, subst, append_assoc, arith, append-nil}
 use Rattle.im_tool_words.specs.Words.{Lacks, IsNumber}
 use Rattle.im_tool_lines.specs.Lines.{behind_word}
@@ -52,7 +52,7 @@ pub word_tail : (text word : List ℕ) (rest : Option (Bor (List ℕ))) → Matc
 word_tail text word None cut = sym cut ∙ sym (append-nil word)
 word_tail text word (Some r) cut = cut
 
--- what stands behind `life`
+-- what stands after `life`
 pub are_options : (rest : List ℕ) (options : LifeOptions) → SpellsLife (codes "life" ++ rest) options → SpellsOptions (named_options options) rest
 are_options rest options s =
     let e : codes "life" ++ rest ≡ codes "life" ++ s.0 = s.1 in
@@ -75,7 +75,7 @@ abbrev pub AreOthers : List ℕ → List (List ℕ × OptionSaid) → Type 0
 AreOthers name [] = Unit {0}
 AreOthers name (option ∷ more) = Lacks 32 option.0 × (option.0 ≢ name) × AreOthers name more
 
--- what an option of another name begins may stand behind this name's
+-- what an option of another name begins may stand after this name's
 behind_one : (name other : List ℕ) (option : OptionSaid) (text left : List ℕ) → IsOption other text option left → Lacks 32 other → other ≢ name → IsBehindOption name left → IsBehindOption name text
 behind_one name other (Number None) text left o l differ behind = subst (λ (t : List ℕ). IsBehindOption name t) (sym (o.is ∙ ap (λ (x : List ℕ). x ++ left) o.spelled)) behind
 behind_one name other (Number (Some n)) text left o l differ behind =
@@ -92,7 +92,7 @@ pub none_once : (name : List ℕ) (option : Option ℕ) (left : List ℕ) → Is
 none_once name None left o = (refl, sym (o.is ∙ ap (λ (x : List ℕ). x ++ left) o.spelled))
 none_once name (Some n) left o = let e : [] ≡ 32 ∷ ((name ++ 32 ∷ o.spelled.0) ++ left) = o.is ∙ ap (λ (x : List ℕ). x ++ left) o.spelled.1 in absurd (cc)
 
--- a text of this option, behind its first space
+-- a text of this option, after its first space
 some_is : (name text : List ℕ) (n : ℕ) (left : List ℕ) (o : IsOption name (32 ∷ text) (Number (Some n)) left) → text ≡ name ++ 32 ∷ (o.spelled.0 ++ left)
 some_is name text n left o =
     let e : 32 ∷ text ≡ 32 ∷ ((name ++ 32 ∷ o.spelled.0) ++ left) = o.is ∙ ap (λ (x : List ℕ). x ++ left) o.spelled.1 in
@@ -108,7 +108,7 @@ other_once name text word rest None left ln cut l other o = (refl, sym (none_is 
 other_once name text word rest (Some n) left ln cut l other o =
     absurd (other (cut_tail word name (behind_word rest) (32 ∷ (o.spelled.0 ++ left)) l ln (behind_tail rest) (inr (o.spelled.0 ++ left, refl)) (sym cut ∙ some_is name text n left o)).0)
 
--- no option begins with its name alone, nor does what may stand behind it
+-- no option begins with its name alone, nor does what may stand after it
 not_behind : (name text tail : List ℕ) → Lacks 32 name → IsTail tail → text ≡ name ++ tail → IsBehindOption name (32 ∷ text) → ⊥
 not_behind name text tail ln it cut (inl none) = absurd (cc)
 not_behind name text tail ln it cut (inr some) =
@@ -185,7 +185,7 @@ word_lacks name text = record { front = []; is = refl; spelled = refl }
 
 -- ---- a line that spells a life, read option by option
 
--- an option of this name is refused, whatever is left behind it
+-- an option of this name is refused, whatever is left after it
 abbrev pub IsRefused : List ℕ → List ℕ → Type 0
 IsRefused name text = (option : Option ℕ) (left : List ℕ) → IsBehindOption name left → ¬ (IsOption name text (Number option) left)
 

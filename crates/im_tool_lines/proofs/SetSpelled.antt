@@ -11,7 +11,7 @@ use Rattle.im_tool_lines.specs.Scripts.{Sets, Begins, Puts, Counts, Stops}
 use Rattle.im_tool_words.proofs.Texts.{lacks_mid, cut_once}
 use Rattle.im_tool_lines.proofs.Spelled.{spelled_kind}
 
--- What stands behind `set `: a file's name and digits.
+-- What stands after `set `: a file's name and digits.
 pub record SetWords (rest : List ℕ) : Type 0 where
   pub file : FileId
   pub hex : List ℕ
@@ -45,7 +45,7 @@ file_lacks files.Log2 = (λ x. omega arith, (λ x. omega arith, (λ x. omega ari
 set_cut : (rest word more : List ℕ) (said : Line) → Spells (codes "set " ++ rest) said → rest ≡ word ++ 32 ∷ more → Lacks 32 word → (w : SetWords rest) × (word ≡ file_word w.file) × (more ≡ w.hex)
 set_cut rest word more said s cut l = let w = set_said rest said s in let e = cut_once 32 word (file_word w.file) more w.hex l (file_lacks w.file) (sym cut ∙ w.is) in (w, e.0, e.1)
 
--- why the words behind `set ` are bad
+-- why the words after `set ` are bad
 pub set_two : (rest : List ℕ) (said : Line) → Spells (codes "set " ++ rest) said → Lacks 32 rest → ⊥
 set_two rest said s l = let w = set_said rest said s in lacks_mid 32 (file_word w.file) w.hex (subst (λ (x : List ℕ). Lacks 32 x) w.is l)
 

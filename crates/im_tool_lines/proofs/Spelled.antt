@@ -40,7 +40,7 @@ lone_bad word (lines.Put batch) s l r c = lacks_mid 32 (codes "put") s.0 (subst 
 lone_bad word (lines.Set file bytes) s l r c = lacks_mid 32 (codes "set") (file_word file ++ 32 ∷ s.0) (subst (λ (t : List ℕ). Lacks 32 t) s.1 l)
 lone_bad word (lines.Stop stop) s l r c = lacks_mid 32 (codes "stop") (s.0 ++ 32 ∷ (s.1 ++ 32 ∷ s.2)) (subst (λ (t : List ℕ). Lacks 32 t) s.3 l)
 
--- what stands behind `put `
+-- what stands after `put `
 pub put_said : (rest : List ℕ) (said : Line) → Spells (codes "put " ++ rest) said → (bytes : List ℕ) × (decode_of rest ≡ Ok bytes) × (1 ≤ length bytes) × (length bytes ≤ 16384)
 put_said rest lines.Raw s = let e : Begins ≡ Puts = spelled_kind (codes "put " ++ rest) lines.Raw s in absurd (cc)
 put_said rest lines.Calls s = let e : Counts ≡ Puts = spelled_kind (codes "put " ++ rest) lines.Calls s in absurd (cc)
@@ -58,7 +58,7 @@ length_lacks : (word : List ℕ) (size : Length) → IsLengthWord word size → 
 length_lacks word lengths.Long e = subst (λ (t : List ℕ). Lacks 32 t) (sym e) (λ x. omega arith, (λ x. omega arith, (λ x. omega arith, (λ x. omega arith, tt))))
 length_lacks word lengths.Short e = subst (λ (t : List ℕ). Lacks 32 t) (sym e) (λ x. omega arith, (λ x. omega arith, (λ x. omega arith, (λ x. omega arith, (λ x. omega arith, tt)))))
 
--- What stands behind `stop `: three words.
+-- What stands after `stop `: three words.
 pub record StopWords (rest : List ℕ) : Type 0 where
   pub call : List ℕ
   pub size : List ℕ
@@ -100,7 +100,7 @@ word_said word rest (lines.Put batch) s l p t o = p (cut_once 32 word (codes "pu
 word_said word rest (lines.Set file bytes) s l p t o = t (cut_once 32 word (codes "set") rest (file_word file ++ 32 ∷ s.0) l (λ x. omega arith, (λ x. omega arith, (λ x. omega arith, tt))) s.1).0
 word_said word rest (lines.Stop stop) s l p t o = o (cut_once 32 word (codes "stop") rest (s.0 ++ 32 ∷ (s.1 ++ 32 ∷ s.2)) l (λ x. omega arith, (λ x. omega arith, (λ x. omega arith, (λ x. omega arith, tt)))) s.3).0
 
--- why the words behind `stop ` are bad
+-- why the words after `stop ` are bad
 pub stop_one : (rest : List ℕ) (said : Line) → Spells (codes "stop " ++ rest) said → Lacks 32 rest → ⊥
 stop_one rest said s l = let w = stop_said rest said s in lacks_mid 32 w.call (w.size ++ 32 ∷ w.fill) (subst (λ (x : List ℕ). Lacks 32 x) w.is l)
 

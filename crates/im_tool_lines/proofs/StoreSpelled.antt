@@ -119,7 +119,7 @@ no_spaced_line text word rest (lines.Within within.Log) s cut l life page plain 
 no_spaced_line text word rest (lines.Within (within.Step step)) s cut l life page plain = plain (lines.Within (within.Step step)) tt s
 no_spaced_line text word rest (lines.Stop stop) s cut l life page plain = plain (lines.Stop stop) tt s
 
--- what stands behind `life`: its options
+-- what stands after `life`: its options
 pub life_said : (rest : List ℕ) (said : StoreScriptLine) → SpellsStore (codes "life" ++ rest) said → (options : LifeOptions) × SpellsOptions (named_options options) rest
 life_said rest (lines.Life options) s = (options, are_options rest options s)
 life_said rest (lines.Set file bytes) s = let e : Sets ≡ Begins = store_kind (codes "life" ++ rest) (lines.Set file bytes) s in absurd (cc)
@@ -130,7 +130,7 @@ life_said rest (lines.Within within.Log) s = let e : Counts ≡ Begins = store_k
 life_said rest (lines.Within (within.Step step)) s = let e : Steps ≡ Begins = store_kind (codes "life" ++ rest) (lines.Within (within.Step step)) s in absurd (cc)
 life_said rest (lines.Stop stop) s = let e : Stops ≡ Begins = store_kind (codes "life" ++ rest) (lines.Stop stop) s in absurd (cc)
 
--- what stands behind `page `
+-- what stands after `page `
 pub page_said : (rest : List ℕ) (said : StoreScriptLine) → SpellsStore (codes "page " ++ rest) said → (n : ℕ) × IsPageNumber rest n
 page_said rest (lines.Within (within.Page page)) s = let e : codes "page " ++ rest ≡ codes "page " ++ s.0 = s.1 in let same : rest ≡ s.0 = cc in (page, subst (λ (t : List ℕ). IsPageNumber t page) (sym same) s.2)
 page_said rest (lines.Life options) s = let e : Begins ≡ Counts = store_kind (codes "page " ++ rest) (lines.Life options) s in absurd (cc)

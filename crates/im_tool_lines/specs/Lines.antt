@@ -12,7 +12,7 @@ use Rattle.im_tool_words.specs.Words.{IsNumber}
 use Rattle.im_tool_lines.specs.declared.line.Line.{Line}
 use Rattle.im_tool_lines.specs.declared.line.Line.TheVariants as lines
 
--- what is left of a line behind a word: nothing, or a space and what stands behind it
+-- what is left of a line after a word: nothing, or a space and what stands after it
 abbrev pub behind_word : Option (Bor (List ℕ)) → List ℕ
 behind_word None = []
 behind_word (Some rest) = 32 ∷ rest.now

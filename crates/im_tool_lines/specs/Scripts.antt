@@ -47,7 +47,7 @@ kind_of (lines.Put batch) = Puts
 kind_of lines.Calls = Counts
 kind_of (lines.Stop stop) = Stops
 
--- where a line stands: before the first life, within a life, or behind one that was stopped
+-- where a line stands: before the first life, within a life, or after one that was stopped
 pub data Place : Type 0 where
   Before : Place
   Within : Place
@@ -114,7 +114,7 @@ with_file Log bytes files = three bytes (files Pages) (files Log2)
 with_file Pages bytes files = three (files Log) bytes (files Log2)
 with_file Log2 bytes files = three (files Log) (files Pages) bytes
 
--- the files behind the lines that set them, in order
+-- the files after the lines that set them, in order
 abbrev pub files_set : Files → List (FileId × Vec ℕ) → Files
 files_set files [] = files
 files_set files (set ∷ rest) = files_set (with_file set.0 set.1.items files) rest

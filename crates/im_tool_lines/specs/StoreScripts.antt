@@ -21,7 +21,7 @@ pub data OptionSaid : Type 0 where
   Number : Option ℕ → OptionSaid
   Word : Bool → OptionSaid
 
--- An option of a life: nothing, where it is left out, or a space and its name, and behind it, where it has one, a space and its number.
+-- An option of a life: nothing, where it is left out, or a space and its name, and after it, where it has one, a space and its number.
 abbrev pub SpellsOption : List ℕ → List ℕ → OptionSaid → Type 0
 SpellsOption name text (Number None) = text ≡ []
 SpellsOption name text (Number (Some n)) = (word : List ℕ) × (text ≡ 32 ∷ (name ++ 32 ∷ word)) × IsNumber word n
@@ -32,11 +32,11 @@ SpellsOption name text (Word true) = text ≡ 32 ∷ name
 abbrev pub IsTail : List ℕ → Type 0
 IsTail text = (text ≡ []) ⊎ ((rest : List ℕ) × (text ≡ 32 ∷ rest))
 
--- What may stand behind an option of this name: nothing, or what begins with another name.
+-- What may stand after an option of this name: nothing, or what begins with another name.
 abbrev pub IsBehindOption : List ℕ → List ℕ → Type 0
 IsBehindOption name text = (text ≡ []) ⊎ ((other : List ℕ) × (rest : List ℕ) × (text ≡ 32 ∷ (other ++ rest)) × IsTail rest × Lacks 32 other × (other ≢ name))
 
--- The text begins with this option, and this is left behind it.
+-- The text begins with this option, and this is left after it.
 pub record IsOption (name text : List ℕ) (option : OptionSaid) (left : List ℕ) : Type 0 where
   pub front : List ℕ
   pub is : text ≡ front ++ left

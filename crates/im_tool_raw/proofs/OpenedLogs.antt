@@ -19,7 +19,7 @@ pages_not_log : Pages ≢ Log
 pages_not_log e = cc
 
 module _ {D : Type 0} (d : Ghosts D) (old mid : D) (synced : IsSynced d old) (reads : Reads d old mid) where
-  -- a stop behind reads alone leaves what the files stood for
+  -- a stop after reads alone leaves what the files stood for
   pub read_leaves : d.tells → (found : List (List ℕ)) → StandsFor (d.seen old) found → (c : Files) → d.may_leave mid c → StandsFor c found
   read_leaves told found stands c left = stands_same c (d.seen old) (synced Log c (reads.outcomes c left)) (synced Pages c (reads.outcomes c left)) found stands
 

@@ -28,7 +28,7 @@ opened_still stop disk opening fault other (inl s) is = let said : openings.Stop
 opened_still stop disk opening fault other (inr s) is = let said : openings.Refused fault ≡ openings.Refused NotAStore = sym s.1 ∙ is in other (cc)
 
 module _ (d : Ghosts ModelDisk) where
-  -- behind no reply no line was run
+  -- after no reply no line was run
   pub no_raw_line_run : (stop : Option Stop) (all : List RawLine) (gate : Gate) (disk : ModelDisk) → AreRawLinesRun d stop all [] gate gate disk disk
   no_raw_line_run stop [] gate disk = (refl, refl)
   no_raw_line_run stop (line ∷ all) gate disk = (refl, refl)

@@ -64,7 +64,7 @@ survives_with before asked last = record {
   one_more = omega (arith, length-append asked (last ∷ []));
 }
 
--- a file that keeps what stands in front of its first gate, and has batches behind it
+-- a file that keeps what stands in front of its first gate, and has batches after it
 pub stands_front : (c : Files) (file : List ℕ) (found : List (List ℕ)) → IsMade file → take (first_gate file) (c Log) ≡ take (first_gate file) file → batches (first_gate file) (c Log) ≡ Some found → StandsFor c found
 stands_front c file found made same e = inl (front_made file (c Log) same (long (first_gate file) (c Log) found e) made, ap (λ (n : ℕ). batches n (c Log)) (front_starts file (c Log) same).gate ∙ e)
 

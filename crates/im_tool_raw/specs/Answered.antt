@@ -47,7 +47,7 @@ Replied all told = RepliedBy IsRawReply all told
 abbrev pub Answered : List RawLine → List RawReply → Type 0
 Answered all told = AnsweredBy IsRawReply replies.Stopped all told
 
--- Behind an opening that did not succeed no line is answered.
+-- After an opening that did not succeed no line is answered.
 abbrev pub AnsweredBehind : Opening → List RawLine → List RawReply → Type 0
 AnsweredBehind (openings.Open n) all told = Answered all told
 AnsweredBehind (openings.Refused fault) all told = told ≡ []

@@ -20,7 +20,7 @@ pub record IsFront (front whole : List (List ℕ)) : Type 0 where
   pub rest : List (List ℕ)
   pub is : whole ≡ front ++ rest
 
--- What is left of a life: the batches from before and behind them a front of those that it asked to put, in order, with all that
+-- What is left of a life: the batches from before and after them a front of those that it asked to put, in order, with all that
 -- were acknowledged and at most one more.
 pub record Survives (before asked acked after : List (List ℕ)) : Type 0 where
   pub kept : List (List ℕ)

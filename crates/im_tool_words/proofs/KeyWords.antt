@@ -62,7 +62,7 @@ pub empty_bad : (text key : List ℕ) → text ≡ [] → Lacks 43 text → IsKe
 empty_bad text key none l (inl p) = p.some none
 empty_bad text key none l (inr r) = lacks_mid 43 r.text r.more (subst (λ (x : List ℕ). Lacks 43 x) r.is l)
 
--- what stands behind the `+`
+-- what stands after the `+`
 pub repeating_said : (text more key : List ℕ) → Lacks 43 text → IsKeyWord (text ++ 43 ∷ more) key → (letter : ℕ) × (times : ℕ) × IsRepeated more letter times
 repeating_said text more key l (inl p) = absurd (plain_whole text more key p)
 repeating_said text more key l (inr r) = (r.letter, r.times, subst (λ (x : List ℕ). IsRepeated x r.letter r.times) (sym (repeating_cut text more key l r).1) r.repeated)

@@ -25,7 +25,7 @@ word_of steps.Force = codes "force"
 word_of steps.Checkpoint = codes "checkpoint"
 word_of steps.Switch = codes "switch"
 
--- what stands behind the word and a space
+-- what stands after the word and a space
 abbrev pub SpellsRest : Step → List ℕ → Type 0
 SpellsRest steps.Begin rest = ⊥
 SpellsRest (steps.Fetch t key) rest = IsKeyed rest t key.items
@@ -164,7 +164,7 @@ step_word_said word rest steps.Force q l c r o u f s n p a i d = (words_said wor
 step_word_said word rest steps.Checkpoint q l c r o u f s n p a i d = (words_said word rest steps.Checkpoint q l).1
 step_word_said word rest steps.Switch q l c r o u f s n p a i d = (words_said word rest steps.Switch q l).1
 
--- what stands behind the first word
+-- what stands after the first word
 commit_rest : (rest : List ℕ) (step : Step) → codes "commit" ≡ word_of step → SpellsRest step rest → (n : ℕ) × IsNumber rest n
 commit_rest rest steps.Begin w b = absurd b
 commit_rest rest (steps.Fetch t key) w b = let e = ap (λ (x : List ℕ). slice_index x 0) w in absurd (omega (arith, e))
@@ -399,11 +399,11 @@ numbered_cut text word more n rest w cut l =
 pub numbered_once : (text : List ℕ) (n m : ℕ) (rest other : List ℕ) → IsNumbered text n rest → IsNumbered text m other → rest ≡ other
 numbered_once text n m rest other a b = (cut_once 32 a.word b.word rest other (digits_lack a.word a.number.0.1) (digits_lack b.word b.number.0.1) (sym a.is ∙ b.is)).1
 
--- what stands behind the number is the word of the key
+-- what stands after the number is the word of the key
 pub keyed_same : (text : List ℕ) (n t : ℕ) (word key : List ℕ) → IsNumbered text n word → IsKeyed text t key → IsKeyWord word key
 keyed_same text n t word key a k = subst (λ (x : List ℕ). IsKeyWord x key) (sym (numbered_once text n t word k.word a k.numbered)) k.is_key
 
--- what stands behind the number of an insert: the word of the key, and the row id
+-- what stands after the number of an insert: the word of the key, and the row id
 pub insert_cut : (text : List ℕ) (n : ℕ) (more word last : List ℕ) (t : ℕ) (key : List ℕ) (rid : ℕ) → IsNumbered text n more → more ≡ word ++ 32 ∷ last → Lacks 32 word → IsKeyedWith text t key rid → IsKeyWord word key × IsNumber last rid
 insert_cut text n more word last t key rid a cut l k =
     let same = numbered_once text n t more (k.word ++ 32 ∷ k.last) a k.numbered in
@@ -413,7 +413,7 @@ insert_cut text n more word last t key rid a cut l k =
 pub insert_one : (text : List ℕ) (n : ℕ) (more : List ℕ) (t : ℕ) (key : List ℕ) (rid : ℕ) → IsNumbered text n more → Lacks 32 more → IsKeyedWith text t key rid → ⊥
 insert_one text n more t key rid a l k = lacks_mid 32 k.word k.last (subst (λ (x : List ℕ). Lacks 32 x) (numbered_once text n t more (k.word ++ 32 ∷ k.last) a k.numbered) l)
 
--- what stands behind the word of a key
+-- what stands after the word of a key
 pub behind_once : (text : List ℕ) (key other rest more : List ℕ) → IsBehindKey text key rest → IsBehindKey text other more → rest ≡ more
 behind_once text key other rest more a b = (cut_once 32 a.word b.word rest more (key_lacks a.word key a.is_key) (key_lacks b.word other b.is_key) (sym a.is ∙ b.is)).1
 
@@ -426,7 +426,7 @@ behind_cut text word more key rest b cut l =
 pub behind_one : (text key rest : List ℕ) → IsBehindKey text key rest → Lacks 32 text → ⊥
 behind_one text key rest b l = lacks_mid 32 b.word rest (subst (λ (x : List ℕ). Lacks 32 x) b.is l)
 
--- what stands behind the number of a scan
+-- what stands after the number of a scan
 pub scan_low : (text more : List ℕ) (n : ℕ) (t : ℕ) (lo hi : List ℕ) (limit : ℕ) → IsNumbered text n more → (r : IsRanged text t lo hi limit) → IsBehindKey more lo r.rest
 scan_low text more n t lo hi limit a r = subst (λ (x : List ℕ). IsBehindKey x lo r.rest) (sym (numbered_once text n t more r.keys a r.numbered)) r.low
 

@@ -43,7 +43,7 @@ pub record IsPlainKey (word key : List ℕ) : Type 0 where
 abbrev pub IsKeyWord : List ℕ → List ℕ → Type 0
 IsKeyWord word key = IsPlainKey word key ⊎ IsRepeating word key
 
--- a number, a space, and what stands behind them
+-- a number, a space, and what stands after them
 pub record IsNumbered (text : List ℕ) (n : ℕ) (rest : List ℕ) : Type 0 where
   pub word : List ℕ
   pub is : text ≡ word ++ 32 ∷ rest
@@ -63,7 +63,7 @@ pub record IsKeyedWith (text : List ℕ) (t : ℕ) (key : List ℕ) (rid : ℕ) 
   pub is_key : IsKeyWord word key
   pub is_rid : IsNumber last rid
 
--- the word of a key, a space, and what stands behind them
+-- the word of a key, a space, and what stands after them
 pub record IsBehindKey (text key rest : List ℕ) : Type 0 where
   pub word : List ℕ
   pub is : text ≡ word ++ 32 ∷ rest

@@ -1,4 +1,4 @@
--- What a call answers or refuses of its own, behind a get.
+-- What a call answers or refuses of its own, after a get.
 use Rattle.std.proofs.Common.{◌≡◌, None, Some, refl, sym, subst}
 use Rattle.std.specs.Prelude.{Result, Ok, Err, IfErr, IfOk}
 use Rattle.im_base_types.specs.declared.fault.Fault.{Fault}

@@ -45,7 +45,7 @@ ahead_level pages spare s passed p good ahead some = let leaf = ahead_is_leaf pa
 pub chain_ends : (pages : Pages) (spare : List ℕ) (s : Start) (left passed p : ℕ) → IsGoodTree pages spare → IsAhead pages s passed p → 1 ≤ p → left + passed ≡ (pages 0).leftmost → left ≡ 0 → ⊥
 chain_ends pages spare s left passed p good ahead some count none = let few : passed + 1 < (pages 0).leftmost = (ahead_is_leaf pages spare s passed p good ahead some).few in omega (arith, few, count, none)
 
--- where the key's leaf has none, the search goes on behind it
+-- where the key's leaf has none, the search goes on after it
 pub leads_on : (pages : Pages) (spare : List ℕ) (inclusive : Bool) (key : Key) (p : ℕ) (lent held : Page) (next : ℕ) → IsGoodTree pages spare → IsOnWay pages 0 key p → lent ≡ held → held.body ≡ pages p
     → first_in (start_at inclusive key) lent.body.entries ≡ None → next ≡ lent.body.next → IsAhead pages (start_at inclusive key) 0 next
 leads_on pages spare inclusive key p lent held next good way same is none step =

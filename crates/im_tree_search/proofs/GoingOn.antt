@@ -19,7 +19,7 @@ none_in : (pages : Pages) (s : Start) (ns : List Node) → AllOf (λ (m : Node).
 none_in pages s [] none = refl
 none_in pages s (n ∷ ns) none = first_over s (pages n.page).entries (entries_in pages ns) none.0 ∙ none_in pages s ns none.1
 
--- the first leaf of the walk is the key's; the walk's first entry past the start is in it or behind
+-- the first leaf of the walk is the key's; the walk's first entry past the start is in it or after
 behind_way : (pages : Pages) (spare : List ℕ) (s : Start) (p : ℕ) → IsGoodTree pages spare → IsOnWay pages 0 (key_of s) p → Comes pages s p
 behind_way pages spare s p good way = record {
   before = way.left;
@@ -117,7 +117,7 @@ comes_next pages spare s p lent held good comes some same is none =
     let body : lent.body ≡ pages p = ap (λ (g : Page). g.body) same ∙ is in
     subst (λ (x : Body). Comes pages s x.next) (sym body) (goes_on pages spare s p good comes some (subst (λ (x : Body). first_in s x.entries ≡ None) body none))
 
--- behind the leaf of the key
+-- after the leaf of the key
 pub comes_on : (pages : Pages) (spare : List ℕ) (inclusive : Bool) (key : Key) (p : ℕ) (lent held : Page) (next : ℕ) → IsGoodTree pages spare → IsOnWay pages 0 key p → lent ≡ held → held.body ≡ pages p
     → first_in (start_at inclusive key) lent.body.entries ≡ None → next ≡ lent.body.next → Comes pages (start_at inclusive key) next
 comes_on pages spare inclusive key p lent held next good way same is none step =

@@ -99,7 +99,7 @@ child_known pages p c key good inner known is = (below_count pages [] c good (ch
           none_free pages (pages 0).prev p (pages 0).next inner good.free,
         )
 
--- and so is the leaf behind a leaf
+-- and so is the leaf after a leaf
 first_known : (pages : Pages) (before : List Node) (after : List Node) → IsGoodTree pages [] → leaves_under pages (height pages) the_root ≡ before ++ after → 1 ≤ first_page after → first_page after < (pages 0).leftmost
 first_known pages before [] good leaves some = absurd (omega (arith, some))
 first_known pages before (n ∷ after) good leaves some = (leaf_in_tree pages [] before n after good leaves).1

@@ -1,4 +1,4 @@
--- The tree behind calls that change no page, and a page that was got.
+-- The tree after calls that change no page, and a page that was got.
 use Rattle.std.proofs.Common.{◌≡◌, ℕ, Bool, None, ◌∙◌, ap}
 use Rattle.im_base_types.specs.declared.fault.Fault.{Fault}
 use Rattle.im_base_types.specs.Pages.{Page}

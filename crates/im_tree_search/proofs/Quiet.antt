@@ -25,11 +25,11 @@ quiet_then a b = record { disk = b.disk ∙ a.disk; log = b.log ∙ a.log; table
 pub got_quiet : {D : Type 0} {A : Type 0} {v : PageWriter} {old : D} {w : PageWriter} {new : D} {p : ℕ} → A × MovesFirst p v.pool w.pool → (new ≡ old) × (w.log ≡ v.log) × (w.table ≡ v.table) → IsQuiet v old w new
 got_quiet first quiet = record { disk = quiet.0; log = quiet.1; table = quiet.2; held = first.1.all }
 
--- a page behind it
+-- a page after it
 pub page_still : {D : Type 0} {v : PageWriter} {old : D} {w : PageWriter} {new : D} → IsQuiet v old w new → (p : ℕ) → page_at w.pool p ≡ page_at v.pool p
 page_still quiet p = ap (λ (o : Option Held). option_map_or (λ (h : Held). h.page) o (initial 0)) (quiet.held p)
 
--- the sets behind it
+-- the sets after it
 pub way_still : {D : Type 0} {v : PageWriter} {old : D} {w : PageWriter} {new : D} (key : Key) (set : ℕ → Bool) → HoldsWay key v.pool set → IsQuiet v old w new → HoldsWay key w.pool set
 way_still {D} {v} {old} {w} {new} key set way quiet = record {
   root = way.root;
@@ -66,7 +66,7 @@ level_inner (suc k) b some level = level.kind ∙ inner_kind k
 pub child_in_set : (key : Key) (set : ℕ → Bool) (pool : PoolView) (h p c : ℕ) (lent : Page) → HoldsWay key pool set → set p ≡ true → 1 ≤ h → HasLevel h (page_at pool p).body → lent ≡ page_at pool p → IsChild lent.body key c → set c ≡ true
 child_in_set key set pool h p c lent way in_set some level same is = way.child p c in_set (level_inner h (page_at pool p).body some level) (subst (λ (x : Page). IsChild x.body key c) same is)
 
--- and so is the leaf behind a leaf
+-- and so is the leaf after a leaf
 pub next_in_set : (key : Key) (set : ℕ → Bool) (pool : PoolView) (p n : ℕ) (lent : Page) → HoldsOn key pool set → set p ≡ true → HasLevel 0 (page_at pool p).body → lent ≡ page_at pool p → n ≡ lent.body.next → 1 ≤ n → set n ≡ true
 next_in_set key set pool p n lent on in_set level same is some =
     let to : n ≡ (page_at pool p).body.next = is ∙ ap (λ (x : Page). x.body.next) same in

@@ -135,7 +135,7 @@ part_full lo hi limit es old new from to i h k le lt is full = (whole, full)
     whole : new ≡ take limit (old ++ within lo hi es)
     whole = sym (ap (take limit) all ∙ ap (λ (n : ℕ). take n (new ++ rest)) (sym full) ∙ take-append_seam new rest)
 
--- all of them are taken: the loop has come to its end, or begins behind it
+-- all of them are taken: the loop has come to its end, or begins after it
 pub part_whole : (lo hi : Key) (es old new : List Entry) (from to i : ℕ) → IsParted (From lo) es from → IsParted (Above hi) es to → to ≤ i → (i ≤ to) ⊎ (i ≡ from)
     → new ≡ Taken old es from i → new ≡ old ++ within lo hi es
 part_whole lo hi es old new from to i h k le where_ is = is ∙ ap (λ (xs : List Entry). old ++ xs) (⊎_elim at_end behind where_ ∙ sym (within_parted lo hi es from to h k))
@@ -213,7 +213,7 @@ along_begins pages spare lo hi p good way not_less =
       first = ap (λ (ns : List Node). first_in (Above hi) (entries_in pages ns)) (append-nil way.left) ∙ none_above lo hi (entries_in pages way.left) not_less low;
     }
 
--- the leaf ahead, with what is before and behind it
+-- the leaf ahead, with what is before and after it
 pub record HasLeafAhead (pages : Pages) (lo hi : Key) (list : List Entry) (n p : ℕ) : Type 0 where
   pub before : List Node
   pub passed : List Node
@@ -280,7 +280,7 @@ module _ (pages : Pages) (spare : List ℕ) (lo hi : Key) (list : List Entry) (n
   is_leaf : IsLeafAhead pages n p
   is_leaf = leaf_facts pages spare front x.node x.after n p good leaves x.page (omega (arith, x.count, length-append x.before x.passed))
 
-  -- the leaf has no key above hi: the range goes on behind it
+  -- the leaf has no key above hi: the range goes on after it
   goes_on : first_in (Above hi) (pages p).entries ≡ None → IsAlong pages lo hi (list ++ within lo hi (pages p).entries) (suc n) (pages p).next
   goes_on none =
       let test : Entry → Bool = λ (e : Entry). is_within lo hi e.0 in
@@ -317,7 +317,7 @@ module _ (pages : Pages) (spare : List ℕ) (lo hi : Key) (list : List Entry) (n
         full = λ e. refl;
       }
 
-  -- the leaf has a key above hi, and all behind it are above that
+  -- the leaf has a key above hi, and all after it are above that
   ends_at : (limit : ℕ) (new : List Entry) (e : Entry) (behind : NextKey) → is_below hi lo ≡ false → new ≡ list ++ within lo hi (pages p).entries → length new < limit → first_in (Above hi) (pages p).entries ≡ Some e
       → far_name behind ≡ Some e.0 → IsRange (walk pages) lo hi limit new (Some behind)
   ends_at limit new e behind not_less is few found named =
@@ -372,7 +372,7 @@ along_stops pages spare lo hi limit list new n p good not_less h some lent held 
     by None here = full pages spare lo hi list n p good x limit new here.0 here.1
     by (Some next) here = ends_at pages spare lo hi list n p good x limit new here.2.0 next not_less here.0 here.1 here.2.1 here.2.2
 
--- behind the last leaf the range ends
+-- after the last leaf the range ends
 pub along_ends : (pages : Pages) (spare : List ℕ) (lo hi : Key) (limit : ℕ) (list : List Entry) (n p : ℕ) → IsGoodTree pages spare → is_below hi lo ≡ false → IsAlong pages lo hi list n p → p ≡ 0 → length list < limit
     → IsRange (walk pages) lo hi limit list (Some End)
 along_ends pages spare lo hi limit list n p good not_less h end few = by h.passes.rest h.passes.leaves h.page

@@ -63,7 +63,7 @@ listed_level pages spare list passed p good h some = let leaf = listed_leaf page
 pub listed_within : (pages : Pages) (spare : List ℕ) (list : List Entry) (left passed p : ℕ) → IsGoodTree pages spare → IsListed pages list passed p → 1 ≤ p → left + passed ≡ (pages 0).leftmost → left ≡ 0 → ⊥
 listed_within pages spare list left passed p good h some count none = let few : passed + 1 < (pages 0).leftmost = (listed_leaf pages spare list passed p good h some).few in omega (arith, few, count, none)
 
--- it goes on behind the leaf, whose entries join
+-- it goes on after the leaf, whose entries join
 listed_on : (pages : Pages) (spare : List ℕ) (list : List Entry) (passed p : ℕ) → IsGoodTree pages spare → IsListed pages list passed p → 1 ≤ p → IsListed pages (list ++ (pages p).entries) (suc passed) (pages p).next
 listed_on pages spare list passed p good h some = by h.rest h.leaves h.page
   where
@@ -90,7 +90,7 @@ listed_next pages spare list new passed p lent held good h some same is joins =
     subst (λ (x : Body). IsListed pages (list ++ x.entries) (suc passed) x.next) (sym body) (listed_on pages spare list passed p good h some) in
     subst (λ (es : List Entry). IsListed pages es (suc passed) lent.body.next) (sym joins) on
 
--- behind the last leaf the list is the walk
+-- after the last leaf the list is the walk
 pub listed_ends : (pages : Pages) (spare : List ℕ) (list : List Entry) (passed p : ℕ) → IsGoodTree pages spare → IsListed pages list passed p → p ≡ 0 → list ≡ walk pages
 listed_ends pages spare list passed p good h end = by h.rest h.leaves h.page
   where

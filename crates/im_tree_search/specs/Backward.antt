@@ -26,7 +26,7 @@ pub record IsAround (key : Key) (es : List Entry) (place : ℕ) : Type 0 where
   pub last : last_in key es ≡ Some (entry_at es (place - 1))
   pub first : first_in (From key) es ≡ Some (entry_at es place)
 
--- The walk back for a key comes to page p, 0 before the first leaf: of the leaves behind it, up to that of the key, none has an entry below the key, nor has one behind that.
+-- The walk back for a key comes to page p, 0 before the first leaf: of the leaves after it, up to that of the key, none has an entry below the key, nor has one after that.
 pub record ComesBack (pages : Pages) (key : Key) (p : ℕ) : Type 0 where
   pub before : List Node
   pub passed : List Node

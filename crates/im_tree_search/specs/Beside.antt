@@ -9,7 +9,7 @@ use Rattle.im_theory_tree.specs.Levels.{Pages, Node, leaves_under, entries_in, t
 use Rattle.im_theory_tree.specs.Lookups.{key_of}
 use Rattle.im_theory_tree.specs.Search.{IsOnWay}
 
--- The walk for a start comes to page p, 0 behind the last leaf: from the leaf of its key on, no leaf before has an entry past it.
+-- The walk for a start comes to page p, 0 after the last leaf: from the leaf of its key on, no leaf before has an entry past it.
 pub record Comes (pages : Pages) (s : Start) (p : ℕ) : Type 0 where
   pub before : List Node
   pub passed : List Node

@@ -38,7 +38,7 @@ pub record IsFirstOf (start : Start) (pool : PoolView) (place : EntryPlace) : Ty
   pub within : place.at < length (entries_of pool place.frame.number)
   pub first : first_in start (entries_of pool place.frame.number) ≡ Some (entry_of pool place)
 
--- The list has the entries of the leaves before page p, which is 0 behind the last leaf. At least `passed` leaves stand before.
+-- The list has the entries of the leaves before page p, which is 0 after the last leaf. At least `passed` leaves stand before.
 pub record IsListed (pages : Pages) (list : List Entry) (passed p : ℕ) : Type 0 where
   pub before : List Node
   pub rest : List Node

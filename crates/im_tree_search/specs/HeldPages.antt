@@ -12,7 +12,7 @@ pub record HoldsWay (key : Key) (pool : PoolView) (set : ℕ → Bool) : Type 0 
   pub held : (p : ℕ) → set p ≡ true → Holds pool p
   pub child : (p c : ℕ) → set p ≡ true → (page_at pool p).body.kind ≡ Inner → IsChild (page_at pool p).body key c → set c ≡ true
 
--- It has page 0 too and, with a leaf, the one behind it.
+-- It has page 0 too and, with a leaf, the one after it.
 pub record HoldsOn (key : Key) (pool : PoolView) (set : ℕ → Bool) : Type 0 where
   pub way : HoldsWay key pool set
   pub meta : set 0 ≡ true

@@ -1,4 +1,4 @@
--- The key behind a key.
+-- The key after a key.
 use Rattle.std.specs.Prelude.{◌≡◌, ◌+◌, ◌<◌, ℕ, List, length, Option, Some, None, option_map}
 use Rattle.im_base_types.specs.Keys.{Key}
 use Rattle.im_base_types.specs.Pages.{Entry}

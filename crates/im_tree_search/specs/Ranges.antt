@@ -38,7 +38,7 @@ IsPart lo hi limit es old new (Some None) = (new ≡ take limit (old ++ within l
 IsPart lo hi limit es old new (Some (Some behind)) =
     (new ≡ old ++ within lo hi es) × (length new < limit) × ((e : Entry) × (first_in (Above hi) es ≡ Some e) × (far_name behind ≡ Some e.0)) × IsFar behind
 
--- These are the entries from lo to hi, the first so many of them. Where they are fewer than the limit, and hi is not below lo, the key behind them is the first above hi, or there is none; otherwise nothing is said to stand behind them.
+-- These are the entries from lo to hi, the first so many of them. Where they are fewer than the limit, and hi is not below lo, the key after them is the first above hi, or there is none; otherwise nothing is said to stand after them.
 pub record IsRange (es : List Entry) (lo hi : Key) (limit : ℕ) (list : List Entry) (behind : Option NextKey) : Type 0 where
   pub entries : list ≡ take limit (within lo hi es)
   pub none : is_below hi lo ≡ true → behind ≡ None
@@ -57,7 +57,7 @@ pub record Passes (pages : Pages) (lo hi : Key) (n : ℕ) : Type 0 where
   pub none : AllOf (λ (m : Node). first_in (Above hi) (pages m.page).entries ≡ None) passed
   pub count : n ≡ length passed
 
--- The list has the entries of the range in the leaves before page p, which is 0 behind the last leaf: those before the leaf of lo, which have none, and n more, none of which has a key above hi.
+-- The list has the entries of the range in the leaves before page p, which is 0 after the last leaf: those before the leaf of lo, which have none, and n more, none of which has a key above hi.
 pub record IsAlong (pages : Pages) (lo hi : Key) (list : List Entry) (n p : ℕ) : Type 0 where
   pub passes : Passes pages lo hi n
   pub page : first_page passes.rest ≡ p
@@ -71,14 +71,14 @@ pub record PassesOn (pages : Pages) (lo hi : Key) (n old_gets gets : ℕ) : Type
   pub some : 1 ≤ m
   pub count : gets + n ≤ old_gets + 2 + m
 
--- The gets of a range: one for each level down to the leaf of lo and, where that leaf does not end it, one for the page count and one for each leaf behind.
+-- The gets of a range: one for each level down to the leaf of lo and, where that leaf does not end it, one for the page count and one for each leaf after.
 pub record GetsOf (pages : Pages) (lo hi : Key) (old_gets gets : ℕ) : Type 0 where
   pub n : ℕ
   pub passes : Passes pages lo hi n
   pub one : n ≡ 0 → gets ≡ old_gets + (height pages + 1)
   pub more : gets ≤ old_gets + (height pages + 2) + n
 
--- What the search along the leaf chain answers, which has n leaves behind it: the entries are those of the range on the walk, the gets are those of its leaves.
+-- What the search along the leaf chain answers, which has n leaves after it: the entries are those of the range on the walk, the gets are those of its leaves.
 pub record RangesAlong (pages : Pages) (lo hi : Key) (limit n : ℕ) (list : List Entry) (behind : Option NextKey) (old_gets new_gets : ℕ) : Type 0 where
   pub range : IsRange (walk pages) lo hi limit list behind
   pub gets : PassesOn pages lo hi n old_gets new_gets

@@ -167,7 +167,7 @@ fn parts_of<'t, 's>(txn: &'t Transaction<'s>, front: &[u8]) -> Range<'t, 's> {
     Range::new(txn, (Bound::Included(front), Bound::Excluded(&past(front))))
 }
 
-/// The least key behind all parts of a value.
+/// The least key after all parts of a value.
 fn past(front: &[u8]) -> Vec<u8> {
     [front, &[0xff]].concat()
 }
@@ -194,7 +194,7 @@ fn not_whole(txn: &Transaction<'_>) -> Error {
 pub struct BlobKeys<'t, 's> {
     txn: &'t Transaction<'s>,
     prefix: Vec<u8>,
-    /// The next key lies here or behind it; nowhere after the last one.
+    /// The next key lies here or after it; nowhere after the last one.
     at: Option<Vec<u8>>,
     refusal: Option<Error>,
 }

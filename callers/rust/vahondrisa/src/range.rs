@@ -36,7 +36,7 @@ pub struct Range<'t, 's> {
     /// What was read last from the front, and how many of these were given.
     read: Vec<sys::vah_entry>,
     given: usize,
-    /// Nothing is left behind what was read.
+    /// Nothing is left after what was read.
     is_read: bool,
     /// To be given first, and then nothing more.
     refusal: Option<Error>,
@@ -166,7 +166,7 @@ impl<'t, 's> Range<'t, 's> {
         }
     }
 
-    /// Whether a key lies behind all that the front has given, or the range's beginning.
+    /// Whether a key lies after all that the front has given, or the range's beginning.
     fn is_behind_front(&self, key: &[u8]) -> bool {
         match self.given.checked_sub(1).and_then(|it| self.read.get(it)) {
             Some(last) => key > key_of(last),

@@ -266,7 +266,7 @@ fn long_values() {
     // a part that is gone is told
     texts.put(&txn, b"a", &[1; 1_000]).unwrap();
     let parts: Vec<_> = txn.prefix(b"\x05texts").map(|it| it.unwrap().0).collect();
-    // (behind the last one is the guard)
+    // (after the last one is the guard)
     for part in [&parts[0], &parts[2], &parts[parts.len() - 2]] {
         let rid = txn.get(part).unwrap().unwrap();
         assert!(txn.remove(part).unwrap());
@@ -288,7 +288,7 @@ fn a_value_that_is_refused_half_way_is_not_kept_half() {
     let store = Store::open(&dir.0).unwrap();
     let texts = store.blob("b").unwrap();
     store.write(|txn| texts.put(txn, b"a", &[1; 700])).unwrap();
-    // a younger transaction holds what lies behind all parts: so one of the old parts is not taken out, when others were
+    // a younger transaction holds what lies after all parts: so one of the old parts is not taken out, when others were
     let (older, younger) = (store.try_begin().unwrap(), store.begin().unwrap());
     assert_eq!(younger.get(b"\x01bz").unwrap(), None);
     assert_eq!(texts.put(&older, b"a", &[2; 3_000]).unwrap_err().kind(), ErrorKind::Busy);
@@ -306,7 +306,7 @@ fn a_value_that_stays_half_is_not_committed() {
     let dir = Folder::new("stays-half");
     let store = Store::open(&dir.0).unwrap();
     let texts = store.blob("b").unwrap();
-    // the younger one comes between two parts, and holds what lies behind them: so they are neither put on nor taken out again
+    // the younger one comes between two parts, and holds what lies after them: so they are neither put on nor taken out again
     let mut halves = 0;
     for round in 0..200 {
         let (older, younger) = (store.try_begin().unwrap(), store.begin().unwrap());

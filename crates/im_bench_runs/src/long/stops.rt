@@ -1,8 +1,8 @@
-//! A store whose loser stands behind splits on two levels and behind a page deletion, and its openings behind a stop at each device call.
+//! A store whose loser stands after splits on two levels and after a page deletion, and its openings after a stop at each device call.
 //!
 //! The store has so many keys that its root has no room for another leaf. A transaction then inserts keys, so that a leaf and the root
 //! split, deletes all keys of another leaf, so that this leaf leaves the tree, and never commits. Its life is stopped at each device call in
-//! turn, and so is the opening that takes it back; behind each stop the next opening has to find just what was committed.
+//! turn, and so is the opening that takes it back; after each stop the next opening has to find just what was committed.
 
 ghost use Rattle.std.specs.Prelude.{◌≡◌, false, IfOk};
 ghost use Rattle.im_base_disk.specs.Runs.{IsSynced};
@@ -27,7 +27,7 @@ const FOUNDED: Span = Span {
     order: Order::Rising,
 };
 
-// The keys that the transaction inserts behind them.
+// The keys that the transaction inserts after them.
 const INSERTED: Span = Span {
     first: 256,
     keys: 12,
@@ -80,7 +80,7 @@ pub enum Doubt {
 pub struct Stops {
     /// How many device calls had their stop.
     pub calls: u64,
-    /// Behind how many of them the next opening found just what was committed.
+    /// After how many of them the next opening found just what was committed.
     pub right: u64,
 }
 
@@ -93,7 +93,7 @@ pub fn founded<R: Threads + Sync>(rt: &R, alloc: Global) -> Result<ModelDisk, Fa
     Ok(engine.into_disk().into_disk())
 }
 
-/// What the transaction's steps came to, and what the pages are for behind them.
+/// What the transaction's steps came to, and what the pages are for after them.
 pub fn losing<R: Threads + Sync>(
     rt: &R,
     alloc: Global,

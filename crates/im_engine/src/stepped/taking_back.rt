@@ -19,7 +19,7 @@ impl<D: Disk> Engine<D> {
     ghost use Rattle.im_engine.specs.Told.{IsMade};
 
     // Takes back the newest change that a transaction has left, so far as one step goes, and ends it where that was the last. A split that
-    // comes first begins with its first page (`turns_begin`), a deletion behind it with none (`turns_empty`); the structure change of another may
+    // comes first begins with its first page (`turns_begin`), a deletion after it with none (`turns_empty`); the structure change of another may
     // stand in the way (`trees_halt`).
     pub(crate) fn take_back(&mut self, t: TxnId) -> Reply
         requires works { self.old.failed ≡ false }

@@ -56,7 +56,7 @@ impl<D: Disk> Engine<D> {
         }
     }
 
-    // Ends the deletion behind a compensation: closes it, and ends the transaction where it has nothing left to take back.
+    // Ends the deletion after a compensation: closes it, and ends the transaction where it has nothing left to take back.
     pub(crate) fn end_drop(&mut self, t: TxnId) -> Reply
         requires works { self.old.failed ≡ false }
         requires end { EndsBack TookBack t self.old.under }

@@ -17,7 +17,7 @@ impl LogFile {
     /// Brings the bytes of the durable log from an LSN on to the front of `room`, as many as it takes, and answers how many: by one read, and
     /// none, with no device call, where nothing durable stands there. No memory is taken.
     ///
-    /// Refused `Failed` where the log has failed; `Device`, behind which the log is not used again.
+    /// Refused `Failed` where the log has failed; `Device`, after which the log is not used again.
     pub fn read_span<D: Disk>(
         &self,
         disk: &mut D,

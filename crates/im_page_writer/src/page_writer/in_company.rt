@@ -68,7 +68,7 @@ impl PageWriter {
         if !self.wants_force(number) {
             return Ok(());
         }
-        self.note_with_room(disk, number)?;
+        self.note_with_room(disk, number, false)?;
         self.note_oldest(disk)
     }
 
@@ -115,7 +115,7 @@ impl PageWriter {
             if !self.log.takes(IMAGE_SIZE) {
                 return Ok(false);
             }
-            self.note_with_room(disk, next[at].page)?;
+            self.note_with_room(disk, next[at].page, true)?;
         }
         Ok(true)
     }

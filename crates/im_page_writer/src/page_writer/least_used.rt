@@ -4,7 +4,7 @@ ghost use Rattle.im_theory_log.specs.Histories.{Base};
 ghost use Rattle.im_theory_log.specs.Writer.{Writer};
 
 use crate::PageWriter;
-use crate::image_range::note_in_file;
+use crate::image_range::note_changed;
 use crate::page_writer::by_age::oldest_changes;
 use im_base_disk::Disk;
 use im_base_types::{Fault, IMAGE_SIZE, LONGEST_BATCH, MOST_DIRTY, PageNo};
@@ -29,7 +29,7 @@ impl PageWriter {
     /// Flushes a held page, as `flush_one` does. Where that forces the log, other changed pages go with it, of the half of the frames that
     /// were used least recently: the first eight, or 64 where the log's buffer holds several batches, without those whose Image is wanted
     /// and does not fit into the buffer any more, or that the file does not have. So one force serves them all. The order of use stays. In a
-    /// pool of more than 1,024 frames they are those of the oldest changes.
+    /// pool of more than 1,024 frames they are those of the oldest changes, also past the file's end.
     pub(crate) fn flush_with_others<D: Disk>(
         &mut self,
         disk: &mut D,
@@ -221,17 +221,19 @@ impl PageWriter {
         ensures outcome { Flushes D.Disk self.old disk.old self.new disk.new (fault_of result) }
         ensures pool { self.new.pool ≡ self.old.pool }
     {
+        let anywhere = self.is_large();
         for i in 0..numbers.len() {
-            self.note_with_room(disk, numbers[i])?;
+            self.note_with_room(disk, numbers[i], anywhere)?;
         }
         Ok(())
     }
 
-    // The same of one page, of which none may be known.
+    // The same of one page, of which none may be known, where the file has it, or anywhere.
     pub(super) fn note_with_room<D: Disk>(
         &mut self,
         disk: &mut D,
         number: PageNo,
+        anywhere: bool,
     ) -> Result<(), Fault>
         requires ready { IsReadyWriter D.Disk self.old disk.old }
         requires working { self.old.failed ≡ false }
@@ -247,11 +249,16 @@ impl PageWriter {
         if self.table.copied(number).is_some() {
             return Ok(());
         }
-        self.note_one(disk, number)
+        self.note_one(disk, number, anywhere)
     }
 
-    // The Image of a changed page that the file has joins the log.
-    fn note_one<D: Disk>(&mut self, disk: &mut D, number: PageNo) -> Result<(), Fault>
+    // The Image of a changed page joins the log, where the file has it, or anywhere.
+    fn note_one<D: Disk>(
+        &mut self,
+        disk: &mut D,
+        number: PageNo,
+        anywhere: bool,
+    ) -> Result<(), Fault>
         requires ready { IsReadyWriter D.Disk self.old disk.old }
         requires working { self.old.failed ≡ false }
         ensures outcome { Flushes D.Disk self.old disk.old self.new disk.new (fault_of result) }
@@ -261,13 +268,14 @@ impl PageWriter {
         ensures numbers { self.new.numbers ≡ self.old.numbers }
     {
         self.failed = true;
-        note_in_file(
+        note_changed(
             disk,
             &mut self.log,
             &mut self.table,
             &self.pool,
             &mut self.spare,
             number,
+            anywhere,
         )?;
         self.known.ahead = true;
         self.failed = false;

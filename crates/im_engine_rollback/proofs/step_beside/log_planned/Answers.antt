@@ -68,7 +68,7 @@ returns-in_ok-change-in-Split-clause-kept g c b base s e beside going to told pl
     split_planned g.D.Disk b base s e t c.args.last c.args.undo_next beside c.args.writer.now c.args.disk.now going entry to c.plan_change.new.writer c.plan_change.new.disk ev c.in-Split.plan c.in_ok-change-in-Split.change c.in_ok-change-in-Split.ensures.planned.0 c.in_ok-change-in-Split.ensures.planned.1 plan told
     (c.in_ok-change-in-Split.ensures.kept (pages_of s) has)
 
--- ---- a deletion comes behind
+-- ---- a deletion comes after
 
 pub returns-in_err-change-in-Drop-clause-outcome : goal.returns-in_err-change-in-Drop-clause-outcome
 returns-in_err-change-in-Drop-clause-outcome g c =

@@ -4,7 +4,7 @@ use Rattle.im_tool_judge.specs.Judged.{IsAllowed, held}
 use Rattle.im_tool_judge.proofs.Fronts.{IsGoodFront, map_behind}
 use Rattle.im_tool_judge.proofs.judge.is_allowed.Given as goal
 
--- the map behind the effects so far, and whether a front of them is one that the life may leave
+-- the map after the effects so far, and whether a front of them is one that the life may leave
 abbrev pub invariant-loop-i : goal.invariant-loop-i
 invariant-loop-i l = record {
   map : held l.map.entries.items ≡ entries (map_behind l.asked l.i);

@@ -3,6 +3,6 @@ use Rattle.im_base_types.specs.Lives.{idle}
 use Rattle.im_tool_judge.specs.Shows.{IsFound, running_from}
 use Rattle.im_tool_judge.proofs.showing.find.Given as goal
 
--- the transaction behind what happened so far
+-- the transaction after what happened so far
 abbrev pub invariant-loop-event : goal.invariant-loop-event
 invariant-loop-event l = IsFound l.found (running_from l.txn idle (take l.event-index l.events))

@@ -4,7 +4,7 @@ use Rattle.im_page_writer.proofs.Goings.{goes_then, leaves_so_far, leaves_then}
 use Rattle.im_page_writer.proofs.Flushing.{goes_read, leaves_read}
 use Rattle.im_page_file.proofs.ImageCalls.{imaging_lost}
 use Rattle.im_page_writer.proofs.InCompany.{reads_still}
-use Rattle.im_page_writer.proofs.image_range.note_in_file.Goals as goal
+use Rattle.im_page_writer.proofs.image_range.note_changed.Goals as goal
 
 pub returns-in_err-count-clause-outcome : goal.returns-in_err-count-clause-outcome
 returns-in_err-count-clause-outcome g c = let e = c.in_err-count.ensures.answers in imaging_lost g.D.Disk c.from_residual.result c.from_residual.ensures.1 e.device e.noted

@@ -1,5 +1,5 @@
-use Rattle.im_log_walk.proofs.Changes.{current_is_read, left_is_read}
-use Rattle.im_log_walk.proofs.walks_say.Goals as goal
+use Rattle.im_engine_guards.proofs.Changes.{current_is_read, left_is_read}
+use Rattle.im_engine_guards.proofs.walks_say.Goals as goal
 
 pub returns-clause-left : goal.returns-clause-left
 returns-clause-left c = left_is_read

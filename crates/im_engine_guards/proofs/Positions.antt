@@ -17,9 +17,9 @@ use Rattle.im_log.specs.Kept.{HasLog}
 use Rattle.im_log.specs.Spelled.{batches_records, first_record, logged_at, record_size, records_from}
 use Rattle.im_log.proofs.Spells.{First, batch_none, batch_step, first, log_records, log_room, none, not_refused, step}
 use Rattle.im_theory_log.specs.Histories.{History, IsRecordOf}
-use Rattle.im_log_walk.specs.Walks.{Begins, IsAtEnd, walked}
-use Rattle.im_log_walk.proofs.Heads.{Heads, heads}
-use Rattle.im_log_walk.proofs.Pieces.{at_gate, at_head, at_over, drop_taken, gate_by, gate_short, passed, record_by, take_in, take_none, walked_on}
+use Rattle.im_engine_guards.specs.Walks.{Begins, IsAtEnd, walked}
+use Rattle.im_engine_guards.proofs.Heads.{Heads, heads}
+use Rattle.im_engine_guards.proofs.Pieces.{at_gate, at_head, at_over, drop_taken, gate_by, gate_short, passed, record_by, take_in, take_none, walked_on}
 
 -- ---- records that bytes spell
 

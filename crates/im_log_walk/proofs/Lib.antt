@@ -1,4 +1,0 @@
-mod Heads
-pub mod Pieces
-mod Positions
-pub mod Changes
