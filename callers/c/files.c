@@ -352,7 +352,7 @@ bool im_is_older(const struct left_log *left, uint64_t pages, uint64_t lsn);
 
 /* What may be cut of the logs of a closed store: how many bytes stay of the one that was left, and how many may go; the same of the current one; and in which file the first
  * is (src/log_cuts.rt). */
-struct log_cuts { uint64_t kept, gone, end, behind; bool is_log2; };
+struct log_cuts { uint64_t kept, gone, end, after; bool is_log2; };
 void im_log_cuts(const struct folder *folder, struct log_cuts *cuts);
 
 /* The number of a folder into which a copy was not finished. */
@@ -627,10 +627,10 @@ int vah_device_cut_logs(struct device *device)
 		|| is_cut_to_fail(device) || read_front(files[PAGES], &pages->len, pages->bytes, sizeof pages->bytes, PAGE_SIZE);
 	if (!failed)
 		im_log_cuts(&folder, &cuts);
-	if (cuts.gone || cuts.behind) {
+	if (cuts.gone || cuts.after) {
 		int left = files[cuts.is_log2 ? LOG2 : LOG], current = files[cuts.is_log2 ? LOG : LOG2];
 		/* The current one is brought to the disk before: a power cut must not leave none of the two. */
-		failed = is_cut_to_fail(device) || fsync(current) || cut_log(device, left, cuts.kept, cuts.gone) || cut_log(device, current, cuts.end, cuts.behind);
+		failed = is_cut_to_fail(device) || fsync(current) || cut_log(device, left, cuts.kept, cuts.gone) || cut_log(device, current, cuts.end, cuts.after);
 	}
 	if (failed)
 		atomic_compare_exchange_strong(&device->why, &none, errno);

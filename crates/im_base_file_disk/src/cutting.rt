@@ -56,7 +56,7 @@ impl FileDisk {
         requires working { ⟦<FileDisk as Disk>⟧.failed self.old ≡ false }
         ensures answers { Answers (⟦<FileDisk as Disk>⟧.failed self.new) result }
     {
-        let gone = cuts.gone.saturating_add(cuts.behind);
+        let gone = cuts.gone.saturating_add(cuts.after);
         if gone == 0 {
             return Ok(0);
         }
@@ -71,7 +71,7 @@ impl FileDisk {
             Ok(()) => {}
             Err(fault) => return Err(fault),
         }
-        match self.cut_where(current, cuts.end, cuts.behind) {
+        match self.cut_where(current, cuts.end, cuts.after) {
             Ok(()) => Ok(gone),
             Err(fault) => Err(fault),
         }

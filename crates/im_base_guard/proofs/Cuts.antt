@@ -394,11 +394,11 @@ together_alike false f l c is of_left of_current said =
     }
 
 -- the folder after the cuts is the one with the shorter logs
-cuts_are : (t : Bool) (f : Folder) (kept gone end behind : ℕ)
-    → cut_folder (record { kept = kept; gone = gone; end = end; behind = behind; is_log2 = not t }) f
-    ≡ put_together t f (shortened kept gone (if t then f.log else f.log2)) (shortened end behind (if t then f.log2 else f.log))
-cuts_are true f kept gone end behind = refl
-cuts_are false f kept gone end behind = refl
+cuts_are : (t : Bool) (f : Folder) (kept gone end after : ℕ)
+    → cut_folder (record { kept = kept; gone = gone; end = end; after = after; is_log2 = not t }) f
+    ≡ put_together t f (shortened kept gone (if t then f.log else f.log2)) (shortened end after (if t then f.log2 else f.log))
+cuts_are true f kept gone end after = refl
+cuts_are false f kept gone end after = refl
 
 cut_folder_alike : (f : Folder) → AreRead f → AlikeFolders f (cut_folder (log_cuts_of f) f)
 cut_folder_alike f read =

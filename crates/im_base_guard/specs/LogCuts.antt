@@ -50,7 +50,7 @@ abbrev pub gone_of : ℕ → Front → ℕ
 gone_of kept front = if kept == 0 then 0 else front.long - kept
 
 abbrev pub log_cuts_of : Folder → LogCuts
-log_cuts_of f = record { kept = kept_of f; gone = gone_of (kept_of f) (left f); end = end_of f; behind = gone_of (end_of f) (current f); is_log2 = not (other_is_current f) }
+log_cuts_of f = record { kept = kept_of f; gone = gone_of (kept_of f) (left f); end = end_of f; after = gone_of (end_of f) (current f); is_log2 = not (other_is_current f) }
 
 -- ---- the folder after the cuts
 
@@ -65,8 +65,8 @@ shortened kept gone front = if gone == 0 then front else cut_front kept front
 -- the folder with its logs cut so
 abbrev pub cut_folder : LogCuts → Folder → Folder
 cut_folder cut f = if cut.is_log2
-    then record f { log = shortened cut.end cut.behind f.log; log2 = shortened cut.kept cut.gone f.log2 }
-    else record f { log = shortened cut.kept cut.gone f.log; log2 = shortened cut.end cut.behind f.log2 }
+    then record f { log = shortened cut.end cut.after f.log; log2 = shortened cut.kept cut.gone f.log2 }
+    else record f { log = shortened cut.kept cut.gone f.log; log2 = shortened cut.end cut.after f.log2 }
 
 -- As many bytes as are read of a log were read of both, zeros where it has no more.
 pub record AreRead (f : Folder) : Type 0 where

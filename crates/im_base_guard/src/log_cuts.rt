@@ -25,7 +25,7 @@ pub struct LogCuts {
     /// So many bytes of the current log stay: its header, and the closed gate. 0 where nothing may go.
     pub end: u64,
     /// So many come after these, and may go. 0 where nothing may.
-    pub behind: u64,
+    pub after: u64,
     /// The log that was left is `log2`.
     pub is_log2: bool,
 }
@@ -155,7 +155,7 @@ impl LogCuts {
             kept,
             gone: gone_bytes(&left_of(folder), kept),
             end,
-            behind: gone_bytes(&current_of(folder), end),
+            after: gone_bytes(&current_of(folder), end),
             is_log2: !has_current_other(folder),
         }
     }

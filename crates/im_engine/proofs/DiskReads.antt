@@ -10,7 +10,7 @@ use Rattle.im_base_disk.proofs.Runs.{reads_none, reads_on, started}
 use Rattle.im_base_two_logs.proofs.Runs.{unnamed}
 use Rattle.im_page_writer.specs.declared.page_writer.PageWriter.{PageWriter}
 use Rattle.im_page_writer.specs.PageWriter.{Evicted}
-use Rattle.im_page_writer.proofs.Flushing.{goes_read}
+use Rattle.im_page_flush.proofs.Flushing.{goes_read}
 use Rattle.im_theory_log.specs.Histories.{Base}
 use Rattle.im_theory_machine.specs.View.{View}
 use Rattle.im_engine.specs.declared.engine.Engine.{Engine}

@@ -4,7 +4,7 @@ use Rattle.std.specs.Prelude.{find, map, nat_lt, not, if◌then◌else◌}
 use Rattle.im_base_types.specs.Faults.{number_of}
 use Rattle.im_base_types.specs.declared.fault.Fault.{Fault}
 use Rattle.im_page_writer.specs.Outcome.{LogEnds, Ends, Flushes, AsksNothing, none_mild}
-use Rattle.im_page_writer.proofs.Outcomes.{flush_asks}
+use Rattle.im_page_writer.proofs.Cited.{flush_asks, goes_on_start}
 use Rattle.im_base_types.specs.Pages.{Page}
 use Rattle.im_engine.specs.Faults.{told_as}
 use Rattle.im_engine.proofs.Refused.{breaks_with}
@@ -31,7 +31,6 @@ use Rattle.im_log.proofs.Above.{left_now}
 use Rattle.im_page_file.specs.Stands.{IsCovered, LeavesCovered}
 use Rattle.im_page_writer.specs.declared.page_writer.PageWriter.{PageWriter}
 use Rattle.im_page_writer.specs.PageWriter.{StandsAs, GoesOn, FlushedOne, LoggedOnly}
-use Rattle.im_page_writer.proofs.Writers.{goes_on_start}
 use Rattle.im_theory_tree.specs.Theory.{page_tree}
 use Rattle.im_theory_tree.proofs.TheoryLaws.{page_tree_laws}
 use Rattle.im_base_txn.specs.Rows.{AreRising, begun as row_begun, is_of, is_committing, changed, with_mark, waiting_in, waiting_numbers, without_waiting}

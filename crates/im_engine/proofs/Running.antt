@@ -26,7 +26,7 @@ use Rattle.im_base_disk.specs.Disk.{Files}
 use Rattle.im_base_disk.specs.Runs.{LeavesOnly}
 use Rattle.im_base_disk.proofs.Runs.{started, weakened}
 use Rattle.im_page_file.specs.Stands.{IsCovered, LeavesCovered}
-use Rattle.im_page_writer.specs.Writing.{LeavesGrown}
+use Rattle.im_page_flush.specs.Writing.{LeavesGrown}
 use Rattle.im_page_writer.specs.declared.page_writer.PageWriter.{PageWriter}
 use Rattle.im_page_writer.specs.PageWriter.{GoesOn, Evicted}
 use Rattle.im_page_file.proofs.Standing.{stop_now}

@@ -21,7 +21,7 @@ use Rattle.im_log_gate.specs.Gate.{generation_at}
 use Rattle.im_theory_page.specs.PageFile.{page_count}
 use Rattle.im_page_pool.specs.Pool.{is_changed}
 use Rattle.im_page_writer.specs.Checkpoints.{CheckpointCosts}
-use Rattle.im_page_writer.specs.Costs.{PageCosts}
+use Rattle.im_page_flush.specs.Costs.{PageCosts}
 use Rattle.im_page_writer.specs.PageWriter.{Evicted}
 use Rattle.im_page_table.specs.DirtyTable.{dirty_pages, has_room, synced_entries, FitsRecord}
 use Rattle.im_engine_checkpoint.specs.Rows.{listed}

@@ -211,12 +211,12 @@ current_cut false files cut one two (inr none) = inr (one ∙ none.0, two ∙ no
 -- ---- by the beginnings of the logs
 
 -- by the names that the current log has
-cut_named : (t : Bool) (kept gone end behind : ℕ) (files : Files)
-    → (named t (cut_files (record { kept = kept; gone = gone; end = end; behind = behind; is_log2 = not t }) files) Log ≡ shorter end behind (named t files Log))
-    × (named t (cut_files (record { kept = kept; gone = gone; end = end; behind = behind; is_log2 = not t }) files) Log2 ≡ shorter kept gone (named t files Log2))
-    × (named t (cut_files (record { kept = kept; gone = gone; end = end; behind = behind; is_log2 = not t }) files) Pages ≡ named t files Pages)
-cut_named true kept gone end behind files = (refl, refl, refl)
-cut_named false kept gone end behind files = (refl, refl, refl)
+cut_named : (t : Bool) (kept gone end after : ℕ) (files : Files)
+    → (named t (cut_files (record { kept = kept; gone = gone; end = end; after = after; is_log2 = not t }) files) Log ≡ shorter end after (named t files Log))
+    × (named t (cut_files (record { kept = kept; gone = gone; end = end; after = after; is_log2 = not t }) files) Log2 ≡ shorter kept gone (named t files Log2))
+    × (named t (cut_files (record { kept = kept; gone = gone; end = end; after = after; is_log2 = not t }) files) Pages ≡ named t files Pages)
+cut_named true kept gone end after files = (refl, refl, refl)
+cut_named false kept gone end after files = (refl, refl, refl)
 
 -- the beginnings of the current log and of the one that was left
 current_front : (t : Bool) (files : Files) (f : Folder) → IsFolder files f → IsFront (named t files Log) (if t then f.log2 else f.log)

@@ -99,8 +99,8 @@ shorter kept gone file = if gone == 0 then file else take kept file
 
 -- the files with their logs cut so
 abbrev pub cut_files : LogCuts → Files → Files
-cut_files cuts files Log = if cuts.is_log2 then shorter cuts.end cuts.behind (files Log) else shorter cuts.kept cuts.gone (files Log)
-cut_files cuts files Log2 = if cuts.is_log2 then shorter cuts.kept cuts.gone (files Log2) else shorter cuts.end cuts.behind (files Log2)
+cut_files cuts files Log = if cuts.is_log2 then shorter cuts.end cuts.after (files Log) else shorter cuts.kept cuts.gone (files Log)
+cut_files cuts files Log2 = if cuts.is_log2 then shorter cuts.kept cuts.gone (files Log2) else shorter cuts.end cuts.after (files Log2)
 cut_files cuts files PagesFile = files PagesFile
 
 -- Files that stand for effects stand for the same once their logs are cut: no opening reads what goes.

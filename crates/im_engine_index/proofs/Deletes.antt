@@ -27,10 +27,9 @@ use Rattle.im_page_writer.specs.declared.page_writer.PageWriter.{PageWriter}
 use Rattle.im_page_writer.specs.Outcome.{pages_of, Logs, mild, none_mild}
 use Rattle.im_engine_index.specs.LockCalls.{AsksLocks}
 use Rattle.im_page_writer.specs.PageWriter.{Evicted}
-use Rattle.im_page_writer.proofs.Goings.{leaves_so_far}
+use Rattle.im_page_flush.proofs.Goings.{leaves_so_far}
 use Rattle.im_page_table.proofs.Growing.{grows_then as images_then}
-use Rattle.im_page_writer.proofs.LoggedChanges.{err_on}
-use Rattle.im_page_writer.proofs.Outcomes.{held_is, leaves_of_end, logs_then, sound_on, late_behind, logs_for_more, none_mildly}
+use Rattle.im_page_writer.proofs.Cited.{err_on, held_is, leaves_of_end, logs_then, sound_on, late_behind, logs_for_more, none_mildly}
 use Rattle.im_page_file.proofs.Standing.{wider_covered}
 use Rattle.im_theory_tree.specs.Levels.{Pages, walk}
 use Rattle.im_theory_tree.specs.Search.{IsOnWay}

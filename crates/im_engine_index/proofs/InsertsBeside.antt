@@ -17,7 +17,7 @@ use Rattle.im_base_disk.specs.declared.disk.Disk.{Ghosts}
 use Rattle.im_page_writer.specs.declared.page_writer.PageWriter.{PageWriter}
 use Rattle.im_page_writer.specs.Outcome.{fault_of, mild, no_page, none_mild, AreLoaded, LogEnds, Logs, Outcome as Ends}
 use Rattle.im_page_writer.specs.PageWriter.{Evicted, StandsAs}
-use Rattle.im_page_writer.specs.Writing.{LeavesGrown}
+use Rattle.im_page_flush.specs.Writing.{LeavesGrown}
 use Rattle.im_page_writer.proofs.Writers.{goes_on_then}
 use Rattle.im_theory_machine.specs.Table.{Table, Decides}
 use Rattle.im_theory_machine.specs.declared.verdict.Verdict.TheVariants.{Granted as GrantedAll}

@@ -29,7 +29,7 @@ use Rattle.im_page_writer.specs.declared.page_writer.PageWriter.{PageWriter}
 use Rattle.im_page_leaf.specs.LeafChange.{CanPutKey, CanTakeKey}
 use Rattle.im_page_writer.specs.LoggedChange.{ChangedFrom, ChangeKept}
 use Rattle.im_page_writer.specs.PageWriter.{StandsAs}
-use Rattle.im_page_writer.specs.Writing.{LeavesGrown}
+use Rattle.im_page_flush.specs.Writing.{LeavesGrown}
 use Rattle.im_page_writer.proofs.Outcomes.{sound_own}
 use Rattle.im_theory_page.specs.Split.{HasRoom}
 use Rattle.im_theory_tree.specs.Levels.{Pages, walk}

@@ -18,7 +18,7 @@ use Rattle.im_base_disk.specs.declared.disk.Disk.{Ghosts}
 use Rattle.im_page_writer.specs.declared.page_writer.PageWriter.{PageWriter}
 use Rattle.im_page_writer.specs.Outcome.{mild, AreLoaded, IsSound, Outcome as Ends}
 use Rattle.im_page_writer.specs.PageWriter.{Evicted, StandsAs}
-use Rattle.im_page_writer.specs.Writing.{LeavesGrown}
+use Rattle.im_page_flush.specs.Writing.{LeavesGrown}
 use Rattle.im_theory_machine.specs.Changing.{asked_begun}
 use Rattle.im_theory_machine.specs.Locks.{IsFree}
 use Rattle.im_theory_machine.specs.Rows.{asked}

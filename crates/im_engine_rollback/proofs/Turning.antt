@@ -19,9 +19,8 @@ use Rattle.im_page_writer.specs.declared.page_writer.PageWriter.{PageWriter}
 use Rattle.im_page_file.specs.Stands.{IsCovered, LeavesCovered}
 use Rattle.im_page_writer.specs.PageWriter.{Evicted, GoesOn, LoggedOnly, StandsAs}
 use Rattle.im_page_writer.specs.Outcome.{fault_of, AreLoaded, Logs}
-use Rattle.im_page_writer.proofs.Goings.{leaves_so_far}
-use Rattle.im_page_writer.proofs.Outcomes.{stands_on}
-use Rattle.im_page_writer.proofs.Writers.{goes_on_start, goes_on_then}
+use Rattle.im_page_flush.proofs.Goings.{leaves_so_far}
+use Rattle.im_page_writer.proofs.Cited.{stands_on, goes_on_start, goes_on_then}
 use Rattle.im_theory_tree.specs.Theory.{page_tree}
 use Rattle.im_theory_tree.proofs.TheoryLaws.{page_tree_laws}
 use Rattle.im_restart_analysis.specs.declared.rows.Loser.{Loser}

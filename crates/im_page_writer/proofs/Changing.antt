@@ -27,13 +27,13 @@ use Rattle.im_page_pool.specs.Pool.{Held, PoolView, held_of, Sets}
 use Rattle.im_page_table.specs.DirtyTable.{TableView, ChangesEntry, HasEntries, is_changed}
 use Rattle.im_page_file.proofs.OtherLog.{older_as, only_spared}
 use Rattle.im_page_file.specs.PageFile.{IsPageFile}
-use Rattle.im_page_writer.specs.Writing.{IsShown, IsPooled, IsWriting}
+use Rattle.im_page_flush.specs.Writing.{IsShown, IsPooled, IsWriting}
 use Rattle.im_page_table.specs.KnownCopies.{changed_as, changed_page_as, IsAtOrAfter, IsKnownFrom}
 use Rattle.im_page_table.proofs.KnownCopies.{changed_as_kept, known_copy, knows_grown, knows_joined, others_none}
 use Rattle.im_page_table.proofs.OnePage.{only_here, only_other}
 use Rattle.im_page_file.proofs.PageFiles.{page_file_spared}
 use Rattle.im_page_table.proofs.TableSteps.{entries_put}
-use Rattle.im_page_writer.proofs.Goings.{pooled_same}
+use Rattle.im_page_flush.proofs.Goings.{pooled_same}
 
 -- ---- one page
 

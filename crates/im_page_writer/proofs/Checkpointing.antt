@@ -22,11 +22,11 @@ use Rattle.im_page_table.specs.DirtyTable.{TableView, dirty_pages, entry_in, Are
 use Rattle.im_page_table.specs.KnownCopies.{KnowsCopies}
 use Rattle.im_page_file.proofs.OtherLog.{older_as, only_spared}
 use Rattle.im_page_file.specs.Stands.{LeavesCovered}
-use Rattle.im_page_writer.specs.Writing.{IsPooled, IsShown, IsWriting, LeavesGrown}
+use Rattle.im_page_flush.specs.Writing.{IsPooled, IsShown, IsWriting, LeavesGrown}
 use Rattle.im_page_writer.specs.PageWriter.{GoesOn}
 use Rattle.im_page_writer.specs.Checkpoints.{checkpoint_at, Checkpointed, CheckpointedFrom, HasCheckpoint, LeavesCheckpointed, LeavesCheckpointedFrom, RowsFit, TablesLogged}
 use Rattle.im_page_writer.specs.Outcome.{none_mild, Flushes, LogEnds, Logs}
-use Rattle.im_page_writer.proofs.Goings.{covered_last, pooled_same}
+use Rattle.im_page_flush.proofs.Goings.{covered_last, pooled_same}
 use Rattle.im_page_file.proofs.Standing.{covered_then}
 use Rattle.im_page_table.proofs.KnownCopies.{knows_grown, knows_joined}
 use Rattle.im_page_table.proofs.Lists.{rows_count}

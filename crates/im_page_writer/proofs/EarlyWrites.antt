@@ -12,7 +12,7 @@ use Rattle.im_page_table.specs.KnownCopies.{AreAbove, IsAtOrAfter, IsKnownFrom}
 use Rattle.im_page_table.proofs.DurableCopies.{early_kept}
 use Rattle.im_page_file.proofs.WaitingRecords.{waits_above}
 use Rattle.im_page_writer.specs.declared.page_writer.PageWriter.{PageWriter}
-use Rattle.im_page_writer.specs.Writing.{IsShown, MayPlaceEarly}
+use Rattle.im_page_flush.specs.Writing.{IsShown, MayPlaceEarly}
 use Rattle.im_page_writer.specs.PageWriter.{IsUnforced, StandsAs}
 
 -- redo ended below the LSN

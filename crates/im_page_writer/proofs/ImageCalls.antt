@@ -12,7 +12,7 @@ use Rattle.im_page_file.specs.LogEnds.{fault_of}
 use Rattle.im_page_writer.specs.declared.page_writer.PageWriter.{PageWriter}
 use Rattle.im_page_writer.specs.Outcome.{Breaks, Ends, Outcome}
 use Rattle.im_page_writer.specs.PageWriter.{StandsAs}
-use Rattle.im_page_writer.specs.Writing.{LeavesGrown}
+use Rattle.im_page_flush.specs.Writing.{LeavesGrown}
 use Rattle.im_page_writer.proofs.Outcomes.{handed_on}
 
 module _ {D : Type 0} (d : Ghosts D) where

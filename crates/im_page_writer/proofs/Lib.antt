@@ -1,14 +1,9 @@
+pub mod Cited
 pub mod ImageCalls
 pub mod LogCalls
-pub mod Costs
 pub mod SyncedPages
 pub mod ChangedPages
 pub mod OwnPages
-pub mod Goings
-pub mod Imaging
-pub mod Placing
-pub mod NotedCopies
-pub mod Flushing
 pub mod Writers
 mod OldestChanges
 pub mod TableRoom
@@ -29,4 +24,3 @@ pub mod Switching
 mod Loans
 mod SameWriter
 pub mod RoundsDone
-pub mod InCompany

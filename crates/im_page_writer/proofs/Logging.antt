@@ -16,12 +16,12 @@ use Rattle.im_log.specs.Whats.{what_of}
 use Rattle.im_log.specs.Kept.{Appended}
 use Rattle.im_page_pool.specs.Pool.{PoolView}
 use Rattle.im_page_table.specs.DirtyTable.{TableView}
-use Rattle.im_page_writer.specs.Writing.{IsWriting}
+use Rattle.im_page_flush.specs.Writing.{IsWriting}
 use Rattle.im_page_writer.specs.PageWriter.{IsPlain}
 use Rattle.im_page_table.proofs.KnownCopies.{knows_grown, knows_joined}
 use Rattle.im_page_file.proofs.OtherLog.{older_as, only_spared}
 use Rattle.im_page_file.proofs.PageFiles.{page_file_spared}
-use Rattle.im_page_writer.proofs.Goings.{pooled_same}
+use Rattle.im_page_flush.proofs.Goings.{pooled_same}
 
 module _ {D : Type 0} (d : Ghosts D) (b : Base) (base : ℕ) (s : Writer) (e : ℕ) (log new_log : LogFile) (table : TableView) (pool : PoolView) (old new : D) (entry : Entry) (lsn : ℕ)
     (w : IsWriting d b base s log table pool old) (over : s.redo_end ≡ Some e) (plain : IsPlain (what_of entry)) (done : Appended d base s.log s.durable entry lsn old new_log new) where

@@ -18,10 +18,10 @@ use Rattle.im_page_table.specs.Growth.{Keeps}
 use Rattle.im_page_writer.specs.Synced.{IsKnown}
 use Rattle.im_page_writer.specs.declared.known.Known.{Known}
 use Rattle.im_page_file.specs.LogEnds.{EndsNoSooner}
-use Rattle.im_page_writer.specs.Writing.{Goes, LeavesGrown}
+use Rattle.im_page_flush.specs.Writing.{Goes, LeavesGrown}
 use Rattle.im_page_writer.specs.PageWriter.{IsReadyWriter, StandsAs, GoesOn, Evicted}
 use Rattle.im_page_writer.specs.Outcome.{fault_of, mild, no_page, none_mild, AllPages, pages_of, AsksNothing, AreLoaded, AreLoadedTo, HasPages, IsSound, Stays, Breaks, Ends, Outcome, Reads, Lists, Flushes, Works, LogEnds, Logs, RedoEnds, Redoes}
-use Rattle.im_page_writer.proofs.Goings.{leaves_then, leaves_so_far}
+use Rattle.im_page_flush.proofs.Goings.{leaves_then, leaves_so_far}
 use Rattle.im_page_file.proofs.LogEnds.{ends_then, still_working}
 use Rattle.im_page_writer.proofs.LoggedChanges.{at_shows}
 use Rattle.im_page_writer.proofs.Writers.{goes_on_start, goes_on_then}

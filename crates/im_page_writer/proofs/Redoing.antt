@@ -17,7 +17,7 @@ use Rattle.im_log.specs.declared.log_file.LogFile.{LogFile}
 use Rattle.im_page_pool.specs.declared.frame.Frame.{Frame}
 use Rattle.im_page_pool.specs.Pool.{Held, Holds, PoolView, held_of, page_at, Takes}
 use Rattle.im_page_table.specs.DirtyTable.{TableView, ChangesEntry, HasEntries}
-use Rattle.im_page_writer.specs.Writing.{IsShown, IsPooled, IsWriting, SameHeld}
+use Rattle.im_page_flush.specs.Writing.{IsShown, IsPooled, IsWriting, SameHeld}
 use Rattle.im_page_writer.specs.declared.page_writer.PageWriter.{PageWriter}
 use Rattle.im_page_writer.specs.Redoing.{HasRooms, LoadedHere}
 use Rattle.im_page_table.proofs.KnownCopies.{knows_redoing}

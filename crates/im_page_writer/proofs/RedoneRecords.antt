@@ -20,7 +20,7 @@ use Rattle.im_page_pool.specs.Pool.{Held, PoolView, held_of, page_at, Sets}
 use Rattle.im_page_writer.specs.declared.page_writer.PageWriter.{PageWriter}
 use Rattle.im_page_table.specs.DirtyTable.{TableView, ChangesEntry, HasEntries}
 use Rattle.im_page_table.specs.Growth.{Keeps}
-use Rattle.im_page_writer.specs.Writing.{IsShown, IsPooled, IsWriting, Goes}
+use Rattle.im_page_flush.specs.Writing.{IsShown, IsPooled, IsWriting, Goes}
 use Rattle.im_page_table.specs.KnownCopies.{every_page, redone_as, redone_page_as}
 use Rattle.im_page_writer.specs.Redoing.{LacksTaker, RedoneHere, RedoKept}
 use Rattle.im_page_rounds.specs.OnePage.{PageTakes}
@@ -28,7 +28,7 @@ use Rattle.im_page_rounds.proofs.Changes.{if_none}
 use Rattle.im_page_rounds.proofs.OnePage.{applies_below}
 use Rattle.im_page_writer.proofs.Changing.{pooled_set}
 use Rattle.im_page_file.proofs.Standing.{covered_then}
-use Rattle.im_page_writer.proofs.Goings.{leaves_then, pooled_same}
+use Rattle.im_page_flush.proofs.Goings.{leaves_then, pooled_same}
 use Rattle.im_page_table.proofs.Growing.{grown_front, keeps_then, on_ok}
 use Rattle.im_page_table.proofs.KnownCopies.{knows_redoing, redo_copy, redone_as_kept}
 use Rattle.im_page_writer.proofs.LoggedChanges.{at_held, at_shows}

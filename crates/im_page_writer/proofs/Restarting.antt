@@ -16,14 +16,14 @@ use Rattle.im_page_pool.specs.Pool.{PoolView}
 use Rattle.im_page_table.specs.declared.table_entry.TableEntry.{TableEntry}
 use Rattle.im_page_table.specs.DirtyTable.{entry_among}
 use Rattle.im_page_writer.specs.declared.page_writer.PageWriter.{PageWriter}
-use Rattle.im_page_writer.specs.Writing.{IsPooled, IsWriting}
+use Rattle.im_page_flush.specs.Writing.{IsPooled, IsWriting}
 use Rattle.im_page_writer.specs.PageWriter.{StandsAs}
 use Rattle.im_page_table.specs.KnownCopies.{IsKnownFrom, every_page}
 use Rattle.im_page_writer.specs.Synced.{AreSyncedWith}
 use Rattle.im_page_table.proofs.KnownCopies.{knows_ended}
 use Rattle.im_page_table.proofs.DurableCopies.{durable_ended, durable_redoing}
 use Rattle.im_page_writer.proofs.SyncedPages.{known_ended, known_redone}
-use Rattle.im_page_writer.proofs.Goings.{pooled_same}
+use Rattle.im_page_flush.proofs.Goings.{pooled_same}
 use Rattle.im_page_file.specs.OtherLog.{IsOlder}
 use Rattle.im_page_file.proofs.Openings.{page_file_as, stands_opened}
 use Rattle.im_page_writer.proofs.RedoneRecords.{applies_none, redone_none}

@@ -24,7 +24,7 @@ use Rattle.im_page_rounds.proofs.Rounds.{round_leaves, rounds_kept}
 use Rattle.im_page_rounds.proofs.Sums.{entries_follow}
 use Rattle.im_page_writer.specs.declared.page_writer.PageWriter.{PageWriter}
 use Rattle.im_page_writer.specs.Rounds.{AreOfThose, AreShown, IsOther, RoundHere, entry_after, redone_of}
-use Rattle.im_page_writer.specs.Writing.{IsPooled, IsShown, IsWriting}
+use Rattle.im_page_flush.specs.Writing.{IsPooled, IsShown, IsWriting}
 
 -- ---- the writer after a round, with the fields that stay
 

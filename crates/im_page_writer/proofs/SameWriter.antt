@@ -14,7 +14,7 @@ use Rattle.im_page_writer.specs.declared.known.Known.{Known}
 use Rattle.im_page_writer.specs.Outcome.{Breaks, Ends, Outcome, Stays}
 use Rattle.im_page_writer.specs.PageWriter.{StandsAs}
 use Rattle.im_page_writer.specs.Synced.{IsKnown}
-use Rattle.im_page_writer.specs.Writing.{IsWriting}
+use Rattle.im_page_flush.specs.Writing.{IsWriting}
 
 module _ {D : Type 0} (d : Ghosts D) (v u : PageWriter) (old : D) (failed : u.failed ≡ v.failed) (log : u.log ≡ v.log) (table : u.table ≡ v.table) (pool : u.pool ≡ v.pool) (known : u.known ≡ v.known) where
   same_stands : (b : Base) (base : ℕ) (s : Writer) → StandsAs d b base s v old → StandsAs d b base s u old

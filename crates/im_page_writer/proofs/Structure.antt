@@ -32,7 +32,7 @@ use Rattle.im_page_writer.specs.PageWriter.{StandsAs, GoesOn, Evicted}
 use Rattle.im_page_table.specs.DirtyTable.{TableView, ChangesEntry}
 use Rattle.im_page_file.specs.PageCopy.{after_in}
 use Rattle.im_page_file.specs.Stands.{LeavesCovered}
-use Rattle.im_page_writer.specs.Writing.{IsWriting}
+use Rattle.im_page_flush.specs.Writing.{IsWriting}
 use Rattle.im_page_writer.proofs.Changing.{step_by}
 use Rattle.im_page_table.proofs.Growing.{keeps_none}
 use Rattle.im_page_writer.proofs.Writers.{goes_on_then}

@@ -50,8 +50,8 @@ use Rattle.im_page_writer.specs.PageWriter.{GoesOn, IsReadyWriter, StandsAs}
 use Rattle.im_page_writer.specs.Synced.{AreSyncedWith, IsKnown, end_of_log}
 use Rattle.im_page_writer.specs.Switching.{LeftSwitching, MayNotSwitch, RefusesSwitch, Switched, SwitchKept}
 use Rattle.im_page_pool.specs.Pool.{PoolView}
-use Rattle.im_page_writer.specs.Writing.{IsPooled, LeavesGrown}
-use Rattle.im_page_writer.proofs.Goings.{pooled_same}
+use Rattle.im_page_flush.specs.Writing.{IsPooled, LeavesGrown}
+use Rattle.im_page_flush.proofs.Goings.{pooled_same}
 use Rattle.im_page_writer.proofs.OwnPages.{under_end}
 use Rattle.im_page_table.specs.KnownCopies.{IsKnownFrom}
 

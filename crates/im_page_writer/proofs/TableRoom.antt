@@ -16,9 +16,9 @@ use Rattle.im_page_places.proofs.EntryLemmas.{lookup_others}
 use Rattle.im_page_table.specs.declared.table_entry.TableEntry.{TableEntry}
 use Rattle.im_page_table.specs.DirtyTable.{TableView, dirty_entry, entry_among, entry_in, oldest, AreApart, synced_among, HasEntries}
 use Rattle.im_page_writer.specs.declared.page_writer.PageWriter.{PageWriter}
-use Rattle.im_page_writer.specs.Writing.{IsShown, IsPooled, SameHeld}
+use Rattle.im_page_flush.specs.Writing.{IsShown, IsPooled, SameHeld}
 use Rattle.im_page_writer.specs.PageWriter.{next_written, IsNextWritten, StandsAs}
-use Rattle.im_page_writer.proofs.Placing.{written_synced}
+use Rattle.im_page_flush.proofs.Placing.{written_synced}
 use Rattle.im_page_writer.proofs.FlushedRows.{synced_clean}
 use Rattle.im_page_writer.proofs.OldestChanges.{none_changed_in, oldest_there, entry_here, entry_there}
 use Rattle.im_page_writer.proofs.Writers.{none_left}

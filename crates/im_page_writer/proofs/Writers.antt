@@ -21,10 +21,10 @@ use Rattle.im_page_pool.specs.Pool.{Held, PoolView, held_of, page_at, page_seen,
 use Rattle.im_page_pool.specs.Pool as pools
 use Rattle.im_page_writer.specs.declared.page_writer.PageWriter.{PageWriter}
 use Rattle.im_page_table.specs.DirtyTable.{TableView, is_changed}
-use Rattle.im_page_writer.specs.Writing.{IsShown, IsPooled, IsWriting, Goes, SameHeld}
+use Rattle.im_page_flush.specs.Writing.{IsShown, IsPooled, IsWriting, Goes, SameHeld}
 use Rattle.im_page_writer.specs.PageWriter.{StandsAs, GoesOn, FlushedOne}
-use Rattle.im_page_writer.proofs.Goings.{goes_start, goes_then}
-use Rattle.im_page_writer.proofs.Flushing.{goes_read, unchanged_here}
+use Rattle.im_page_flush.proofs.Goings.{goes_start, goes_then}
+use Rattle.im_page_flush.proofs.Flushing.{goes_read, unchanged_here}
 
 -- ---- the pool
 

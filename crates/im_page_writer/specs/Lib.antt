@@ -1,6 +1,4 @@
-pub mod Costs
 pub mod Synced
-pub mod Writing
 pub mod PageWriter
 pub mod LoggedChange
 pub mod Checkpoints
@@ -10,4 +8,3 @@ pub mod Outcome
 pub mod FlushedRows
 pub mod Switching
 pub mod Rounds
-pub mod Rooms

@@ -18,7 +18,7 @@ use Rattle.im_page_table.specs.KnownCopies.{changed_as}
 use Rattle.im_page_file.specs.Stands.{LeavesCovered}
 use Rattle.im_page_table.specs.Growth.{Keeps}
 use Rattle.im_page_leaf.specs.LeafChange.{LeafTakes}
-use Rattle.im_page_writer.specs.Writing.{LeavesGrown}
+use Rattle.im_page_flush.specs.Writing.{LeavesGrown}
 use Rattle.im_page_writer.specs.PageWriter.{StandsAs, Evicted, StaysOn}
 
 -- A record of the one kind changes a page as one of the other does, has no full copy, and does not move the redo point; a leaf that takes the one takes the other.

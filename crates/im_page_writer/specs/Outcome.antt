@@ -8,7 +8,7 @@ use Rattle.im_theory_log.specs.Writer.{Writer}
 use Rattle.im_base_disk.specs.declared.disk.Disk.{Ghosts}
 use Rattle.im_log.specs.LogFile.{HasNoRoom, end_with}
 use Rattle.im_page_writer.specs.declared.page_writer.PageWriter.{PageWriter}
-use Rattle.im_page_writer.specs.Writing.{LeavesGrown}
+use Rattle.im_page_flush.specs.Writing.{LeavesGrown}
 use Rattle.im_page_file.specs.LogEnds.{EndsNoSooner}
 use Rattle.im_page_writer.specs.PageWriter.{IsReadyWriter, StandsAs, Evicted}
 pub use Rattle.im_page_file.specs.LogEnds.{fault_of}

@@ -20,7 +20,7 @@ use Rattle.im_page_pool.specs.Pool.{last_changed, page_at}
 use Rattle.im_page_writer.specs.declared.page_writer.PageWriter.{PageWriter}
 use Rattle.im_page_writer.specs.Synced.{end_of_log, IsKnown}
 use Rattle.im_page_file.specs.Stands.{LeavesCovered}
-use Rattle.im_page_writer.specs.Writing.{Goes, IsWriting, LeavesGrown}
+use Rattle.im_page_flush.specs.Writing.{Goes, IsWriting, LeavesGrown}
 
 -- A record of this kind changes no page, has no full copy, and does not move the redo point.
 pub record IsPlain (w : What) : Type 0 where

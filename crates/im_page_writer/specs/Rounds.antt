@@ -17,7 +17,7 @@ use Rattle.im_page_rounds.specs.Hand.{AllTaken, AreAmong, is_applied}
 use Rattle.im_page_rounds.specs.Rounds.{applied_of_all, changing, of_page, redone_all}
 use Rattle.im_page_file.specs.Stands.{LeavesCovered}
 use Rattle.im_page_writer.specs.declared.page_writer.PageWriter.{PageWriter}
-use Rattle.im_page_writer.specs.Writing.{LeavesGrown}
+use Rattle.im_page_flush.specs.Writing.{LeavesGrown}
 use Rattle.im_page_writer.specs.PageWriter.{StandsAs}
 
 -- ---- the pages of a round

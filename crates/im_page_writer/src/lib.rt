@@ -92,14 +92,11 @@
 //! can start from (`LeavesCovered`), which 1, 2, 5 and 7 give. Each call's clause `kept` says as what the writer stands afterwards. One that flushes on its
 //! way leaves each page as it was, and the log with Images more (`Keeps`); after a refusal that leaves it working it stands so, too (`again`).
 //!
-//! It stands on the log, on pages and their file, on the dirty table, on rounds and their workers, on the pool and on the disk.
+//! It stands on flushes (im_page_flush), on the log, on pages and their file, on the dirty table, on rounds and their workers, on the pool and on the disk.
 #![tactic(auto)]
 
-mod flush;
-mod image_range;
 mod known;
 mod leaf_change;
-mod page_range;
 mod page_writer;
 mod redone_page;
 

@@ -8,8 +8,6 @@ ghost use Rattle.im_log.specs.LogFile.{end_with};
 ghost use Rattle.im_page_table.specs.DirtyTable.{most_entries};
 ghost use Rattle.im_page_table.specs.KnownCopies.{IsAtOrAfter};
 
-use crate::flush::flush_page;
-use crate::image_range::NOTED;
 use crate::known::{Known, Synced};
 use im_base_disk::Disk;
 use im_base_types::{DirtyPage, Fault, Lsn, MOST_DIRTY, PageNo};
@@ -17,6 +15,7 @@ use im_log::LogFile;
 use im_log_record::Record;
 use im_page::Page;
 use im_page_file::sync_pages;
+use im_page_flush::{NOTED, flush_page};
 use im_page_pool::{Frame, Pool};
 use im_page_table::{DirtyTable, entries_for};
 use std::alloc::Global;
@@ -110,14 +109,14 @@ impl PageWriter {
     ghost use Rattle.im_theory_log.specs.WriterSteps.{forced, synced};
     ghost use Rattle.im_base_disk.specs.Disk.{Only};
     ghost use Rattle.im_base_disk.specs.Runs.{Costs, CostsAtMost, Forces};
-    ghost use Rattle.im_page_writer.specs.Costs.{PageCosts};
+    ghost use Rattle.im_page_flush.specs.Costs.{PageCosts};
     ghost use Rattle.im_page_table.specs.DirtyTable.{entry_in, has_room, oldest, synced_entries};
     ghost use Rattle.im_log_record.specs.Entry.{view};
     ghost use Rattle.im_log_record.specs.Spelling.{IsEntry, size_of};
     ghost use Rattle.im_log.specs.Whats.{what_of};
     ghost use Rattle.im_log_gate.specs.Gate.{first_of, generation_at, place_of};
     ghost use Rattle.im_page_writer.specs.Synced.{IsForeign, IsUnderLog};
-    ghost use Rattle.im_page_writer.specs.Writing.{SameHeld};
+    ghost use Rattle.im_page_flush.specs.Writing.{SameHeld};
     ghost use Rattle.im_page_writer.specs.Outcome.{fault_of, no_page, none_mild, AllPages, AreLoadedTo, Flushes, HasPages, IsSound, Logs, Outcome};
     ghost use Rattle.im_page_writer.specs.PageWriter.{IsReadyWriter, IsUnforced, StandsAs, FlushedOne, StepKept, FlushedNext, HasRoom, IsPlain, LogKept};
 

@@ -30,8 +30,8 @@ use Rattle.im_page_file.specs.PageCopy.{after_in}
 use Rattle.im_page_writer.specs.PageWriter.{StandsAs}
 use Rattle.im_page_writer.specs.LoggedChange.{ChangedFrom}
 use Rattle.im_page_writer.specs.StructureChange.{LeftKept}
-use Rattle.im_page_writer.specs.Writing.{LeavesGrown}
-use Rattle.im_page_writer.proofs.Goings.{goes_start}
+use Rattle.im_page_flush.specs.Writing.{LeavesGrown}
+use Rattle.im_page_flush.proofs.Goings.{goes_start}
 use Rattle.im_page_table.proofs.Growing.{grown_front}
 use Rattle.im_page_writer.proofs.Outcomes.{sound_also, sound_done, sound_own}
 use Rattle.im_restart_analysis.specs.declared.rows.Loser.{Loser}

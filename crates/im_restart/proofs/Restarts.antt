@@ -31,11 +31,9 @@ use Rattle.im_page_file.proofs.OtherLog.{newest_as, newest_made, newest_older, n
 use Rattle.im_page_writer.specs.declared.page_writer.PageWriter.{PageWriter}
 use Rattle.im_page_writer.specs.PageWriter.{GoesOn, StandsAs, StepKept}
 use Rattle.im_page_table.proofs.Growing.{grown_front}
-use Rattle.im_page_writer.proofs.Outcomes.{sound_done}
+use Rattle.im_page_writer.proofs.Cited.{sound_done, under_end, writer_opens}
 use Rattle.im_page_writer.specs.declared.known.Synced.{Synced}
 use Rattle.im_page_writer.specs.Synced.{AreSyncedWith, end_of_log}
-use Rattle.im_page_writer.proofs.OwnPages.{under_end}
-use Rattle.im_page_writer.proofs.Restarting.{writer_opens}
 use Rattle.im_restart_analysis.specs.Analysis.{IsAnalysis}
 use Rattle.im_restart_analysis.specs.Numbers.{IsNextNumber}
 use Rattle.im_restart_analysis.specs.Within.{IsWithin, greatest_said}

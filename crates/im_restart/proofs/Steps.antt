@@ -20,9 +20,9 @@ use Rattle.im_log.proofs.Above.{front_none, front_one, front_then}
 use Rattle.im_log.proofs.Creations.{not_both}
 use Rattle.im_page_writer.specs.declared.page_writer.PageWriter.{PageWriter}
 use Rattle.im_page_file.specs.Stands.{IsCovered, LeavesCovered}
-use Rattle.im_page_writer.specs.Writing.{LeavesGrown}
+use Rattle.im_page_flush.specs.Writing.{LeavesGrown}
 use Rattle.im_page_writer.specs.PageWriter.{LoggedOnly, StandsAs}
-use Rattle.im_page_writer.proofs.Goings.{goes_start}
+use Rattle.im_page_flush.proofs.Goings.{goes_start}
 use Rattle.im_restart_analysis.specs.Undo.{ComesTo, Ends, IsUndoable}
 use Rattle.im_restart_analysis.proofs.Undoing.{undo_goes_on}
 use Rattle.im_theory_tree.specs.Theory.{page_tree}

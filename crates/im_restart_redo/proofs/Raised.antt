@@ -9,7 +9,7 @@ use Rattle.im_base_disk.specs.declared.disk.Disk.{Ghosts}
 use Rattle.im_page_writer.specs.declared.page_writer.PageWriter.{PageWriter}
 use Rattle.im_page_writer.specs.PageWriter.{StandsAs}
 use Rattle.im_page_writer.proofs.SyncedPages.{known_same}
-use Rattle.im_page_writer.proofs.Goings.{pooled_same}
+use Rattle.im_page_flush.proofs.Goings.{pooled_same}
 use Rattle.im_page_file.proofs.Openings.{page_file_as}
 
 -- the same writer with another bound for all pages

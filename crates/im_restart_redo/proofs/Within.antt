@@ -18,7 +18,7 @@ use Rattle.im_page_writer.specs.declared.page_writer.PageWriter.{PageWriter}
 use Rattle.im_page_table.specs.Growth.{Keeps}
 use Rattle.im_page_writer.specs.PageWriter.{GoesOn, StandsAs}
 use Rattle.im_page_file.specs.Stands.{IsCovered, LeavesCovered}
-use Rattle.im_page_writer.specs.Writing.{LeavesGrown}
+use Rattle.im_page_flush.specs.Writing.{LeavesGrown}
 use Rattle.im_page_file.proofs.Standing.{covered_then}
 use Rattle.im_page_table.proofs.Growing.{grown_front, grows_none, grows_then}
 use Rattle.im_restart_redo.specs.Redo.{LeavesRedoing}

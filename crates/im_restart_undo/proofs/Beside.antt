@@ -19,7 +19,7 @@ use Rattle.im_log.specs.Whats.{what_of}
 use Rattle.im_log.proofs.Above.{front_then}
 use Rattle.im_page_writer.specs.declared.page_writer.PageWriter.{PageWriter}
 use Rattle.im_page_writer.specs.PageWriter.{GoesOn}
-use Rattle.im_page_writer.proofs.Goings.{leaves_so_far}
+use Rattle.im_page_flush.proofs.Goings.{leaves_so_far}
 use Rattle.im_theory_tree.specs.Good.{AllOf}
 use Rattle.im_theory_tree.specs.Theory.{page_tree}
 use Rattle.im_theory_tree.specs.Ways.{with_leaf}

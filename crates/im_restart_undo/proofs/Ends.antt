@@ -7,10 +7,10 @@ use Rattle.im_theory_log.specs.Histories.{Base}
 use Rattle.im_theory_log.specs.Writer.{Writer}
 use Rattle.im_base_disk.specs.declared.disk.Disk.{Ghosts}
 use Rattle.im_page_writer.specs.declared.page_writer.PageWriter.{PageWriter}
-use Rattle.im_page_writer.specs.Writing.{LeavesGrown}
+use Rattle.im_page_flush.specs.Writing.{LeavesGrown}
 use Rattle.im_page_writer.specs.PageWriter.{StandsAs, Evicted}
 use Rattle.im_page_writer.specs.Outcome.{fault_of, none_mild, AreLoaded, Stays, Ends, Outcome, Logs}
-use Rattle.im_page_writer.proofs.Goings.{leaves_so_far}
+use Rattle.im_page_flush.proofs.Goings.{leaves_so_far}
 use Rattle.im_page_writer.proofs.Outcomes.{late_behind, logs_late}
 
 -- ---- what a stop has left

@@ -18,12 +18,11 @@ use Rattle.im_base_disk.proofs.Runs.{then_on, weakened}
 use Rattle.im_log.proofs.Above.{front_then}
 use Rattle.im_page_writer.specs.declared.page_writer.PageWriter.{PageWriter}
 use Rattle.im_page_file.specs.Stands.{IsCovered}
-use Rattle.im_page_writer.specs.Writing.{LeavesGrown}
+use Rattle.im_page_flush.specs.Writing.{LeavesGrown}
 use Rattle.im_page_writer.specs.PageWriter.{GoesOn}
-use Rattle.im_page_writer.proofs.Goings.{leaves_so_far}
-use Rattle.im_page_writer.proofs.Outcomes.{pages_here}
+use Rattle.im_page_flush.proofs.Goings.{leaves_so_far}
+use Rattle.im_page_writer.proofs.Cited.{pages_here, goes_on_start}
 use Rattle.im_page_file.proofs.Standing.{wider_covered}
-use Rattle.im_page_writer.proofs.Writers.{goes_on_start}
 use Rattle.im_theory_tree.specs.Levels.{Pages}
 use Rattle.im_theory_tree.specs.Good.{AllOf, IsGoodTree}
 use Rattle.im_theory_tree.specs.Theory.{page_tree}

@@ -14,9 +14,9 @@ use Rattle.im_base_disk.proofs.Runs.{then_on, weakened}
 use Rattle.im_page_writer.specs.declared.page_writer.PageWriter.{PageWriter}
 use Rattle.im_page_table.specs.Growth.{Keeps}
 use Rattle.im_page_writer.specs.Outcome.{AllPages, pages_of, AreLoaded, HasPages}
-use Rattle.im_page_writer.specs.Writing.{LeavesGrown}
+use Rattle.im_page_flush.specs.Writing.{LeavesGrown}
 use Rattle.im_page_writer.specs.PageWriter.{GoesOn, StandsAs}
-use Rattle.im_page_writer.proofs.Goings.{leaves_so_far}
+use Rattle.im_page_flush.proofs.Goings.{leaves_so_far}
 use Rattle.im_page_writer.proofs.Outcomes.{pages_here}
 use Rattle.im_page_file.proofs.Standing.{wider_covered}
 use Rattle.im_theory_tree.specs.Levels.{Pages, walk}

@@ -20,10 +20,10 @@ use Rattle.im_theory_page.specs.Header.{initial}
 use Rattle.im_log_record.specs.Entry as entries
 use Rattle.im_page_writer.specs.declared.page_writer.PageWriter.{PageWriter}
 use Rattle.im_page_file.specs.Stands.{IsCovered}
-use Rattle.im_page_writer.specs.Writing.{LeavesGrown}
+use Rattle.im_page_flush.specs.Writing.{LeavesGrown}
 use Rattle.im_page_writer.specs.Outcome.{pages_of}
 use Rattle.im_page_writer.specs.PageWriter.{StandsAs, LoggedOnly, Evicted}
-use Rattle.im_page_writer.proofs.Goings.{leaves_so_far}
+use Rattle.im_page_flush.proofs.Goings.{leaves_so_far}
 use Rattle.im_page_file.proofs.Standing.{wider_covered}
 use Rattle.im_page_writer.proofs.Writers.{goes_on_start}
 use Rattle.im_theory_tree.specs.Levels.{Pages, walk}

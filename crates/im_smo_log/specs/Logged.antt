@@ -10,7 +10,7 @@ use Rattle.im_base_disk.specs.declared.disk.Disk.{Ghosts}
 use Rattle.im_page_writer.specs.declared.page_writer.PageWriter.{PageWriter}
 use Rattle.im_page_table.specs.KnownCopies.{changed_as}
 use Rattle.im_page_table.specs.Growth.{Keeps}
-use Rattle.im_page_writer.specs.Writing.{LeavesGrown}
+use Rattle.im_page_flush.specs.Writing.{LeavesGrown}
 use Rattle.im_page_writer.specs.Outcome.{IsSound}
 use Rattle.im_page_writer.specs.PageWriter.{StandsAs, Evicted}
 

@@ -7,7 +7,7 @@ use Rattle.im_base_disk.specs.declared.disk.Disk.{Ghosts}
 use Rattle.im_log_record.specs.Entry.{DummyClr}
 use Rattle.im_page_writer.specs.declared.page_writer.PageWriter.{PageWriter}
 use Rattle.im_page_file.specs.Stands.{LeavesCovered}
-use Rattle.im_page_writer.specs.Writing.{LeavesGrown}
+use Rattle.im_page_flush.specs.Writing.{LeavesGrown}
 use Rattle.im_page_writer.specs.Outcome.{IsSound}
 use Rattle.im_page_writer.specs.PageWriter.{LoggedOnly}
 use Rattle.im_smo_pages.specs.Images.{image_at}

@@ -11,8 +11,7 @@ use Rattle.im_theory_page.specs.Child.{IsChild}
 use Rattle.im_theory_page.specs.Content.{IsContent}
 use Rattle.im_theory_page.specs.Page.{is_leaf_kind}
 use Rattle.im_page_writer.specs.Outcome.{AllPages, IsSound}
-use Rattle.im_page_writer.proofs.Outcomes.{sound_own}
-use Rattle.im_page_writer.proofs.Structure.{refused_not}
+use Rattle.im_page_writer.proofs.Cited.{sound_own, refused_not}
 use Rattle.im_theory_tree.specs.Levels.{Pages}
 use Rattle.im_theory_tree.specs.Halves.{FitsPage}
 use Rattle.im_tree_search.specs.Levels.{HasLevel}

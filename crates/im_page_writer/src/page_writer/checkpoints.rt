@@ -22,7 +22,7 @@ impl PageWriter {
     ghost use Rattle.im_page_table.specs.DirtyTable.{dirty_pages, forgotten_entries, synced_entries, FitsRecord};
     ghost use Rattle.im_page_writer.specs.Outcome.{none_mild, Flushes, Logs};
     ghost use Rattle.im_page_writer.specs.PageWriter.{IsReadyWriter, StandsAs};
-    ghost use Rattle.im_page_writer.specs.Writing.{SameHeld};
+    ghost use Rattle.im_page_flush.specs.Writing.{SameHeld};
     ghost use Rattle.im_page_writer.specs.Checkpoints.{TablesKept, CheckpointCosts, CheckpointKept, CheckpointFromKept, RowsFit};
 
     // Adds the record of a Checkpoint with the rows of the dirty table, of which no copy counts as known then.

@@ -12,7 +12,7 @@ impl PageWriter {
     ghost use Rattle.im_page_writer.specs.Outcome.{fault_of, Flushes};
     ghost use Rattle.im_page_writer.specs.PageWriter.{IsReadyWriter, StandsAs};
     ghost use Rattle.im_page_writer.specs.FlushedRows.{FlushedNumbers, FlushedAll};
-    ghost use Rattle.im_page_writer.specs.Writing.{SameHeld};
+    ghost use Rattle.im_page_flush.specs.Writing.{SameHeld};
 
     // How many numbers were copied from the dirty table.
     fn number_count(&self) -> usize

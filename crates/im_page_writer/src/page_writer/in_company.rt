@@ -27,11 +27,11 @@ impl PageWriter {
     ghost use Rattle.im_base_disk.specs.Runs.{Reads};
     ghost use Rattle.im_page_pool.specs.Pool.{is_changed};
     ghost use Rattle.im_page_table.specs.DirtyTable.{has_room};
-    ghost use Rattle.im_page_writer.specs.Rooms.{KeepsRoom};
-    ghost use Rattle.im_page_writer.specs.Costs.{PageCosts};
+    ghost use Rattle.im_page_flush.specs.Rooms.{KeepsRoom};
+    ghost use Rattle.im_page_flush.specs.Costs.{PageCosts};
     ghost use Rattle.im_page_writer.specs.Outcome.{fault_of, Flushes};
     ghost use Rattle.im_page_writer.specs.PageWriter.{IsReadyWriter, StandsAs, FlushedOne};
-    ghost use Rattle.im_page_writer.specs.Writing.{SameHeld};
+    ghost use Rattle.im_page_flush.specs.Writing.{SameHeld};
 
     /// Flushes a page, as `flush_one` does. Where that forces the log, whose buffer holds several batches, the Images that other changed pages
     /// want join the log first, those of the oldest changes, as many as its buffer takes: one force serves them all. The flush of such a page
@@ -68,7 +68,7 @@ impl PageWriter {
         if !self.wants_force(number) {
             return Ok(());
         }
-        self.note_with_room(disk, number, false)?;
+        self.note_with_room(disk, number, 1)?;
         self.note_oldest(disk)
     }
 
@@ -115,7 +115,7 @@ impl PageWriter {
             if !self.log.takes(IMAGE_SIZE) {
                 return Ok(false);
             }
-            self.note_with_room(disk, next[at].page, true)?;
+            self.note_with_room(disk, next[at].page, u64::MAX)?;
         }
         Ok(true)
     }

@@ -4,10 +4,10 @@ ghost use Rattle.im_theory_log.specs.Histories.{Base};
 ghost use Rattle.im_theory_log.specs.Writer.{Writer};
 
 use crate::PageWriter;
-use crate::image_range::note_changed;
 use crate::page_writer::by_age::oldest_changes;
 use im_base_disk::Disk;
 use im_base_types::{Fault, IMAGE_SIZE, LONGEST_BATCH, MOST_DIRTY, PageNo};
+use im_page_flush::note_changed;
 use im_page_pool::Frame;
 
 /// How many pages are written at once at most, where the log's buffer holds one batch.
@@ -21,10 +21,10 @@ impl PageWriter {
     ghost use Rattle.im_page_file.specs.Takes.{TakesImage};
     ghost use Rattle.im_page_pool.specs.Pool.{held_of, is_changed, IsAt};
     ghost use Rattle.im_page_table.specs.DirtyTable.{oldest};
-    ghost use Rattle.im_page_writer.specs.Rooms.{KeepsRoom};
+    ghost use Rattle.im_page_flush.specs.Rooms.{KeepsRoom};
     ghost use Rattle.im_page_writer.specs.Outcome.{fault_of, Flushes};
     ghost use Rattle.im_page_writer.specs.PageWriter.{next_written, IsReadyWriter, StandsAs, FlushedOne};
-    ghost use Rattle.im_page_writer.specs.Writing.{SameHeld};
+    ghost use Rattle.im_page_flush.specs.Writing.{SameHeld};
 
     /// Flushes a held page, as `flush_one` does. Where that forces the log, other changed pages go with it, of the half of the frames that
     /// were used least recently: the first eight, or 64 where the log's buffer holds several batches, without those whose Image is wanted
@@ -221,19 +221,19 @@ impl PageWriter {
         ensures outcome { Flushes D.Disk self.old disk.old self.new disk.new (fault_of result) }
         ensures pool { self.new.pool ≡ self.old.pool }
     {
-        let anywhere = self.is_large();
+        let next = if self.is_large() { u64::MAX } else { 0 };
         for i in 0..numbers.len() {
-            self.note_with_room(disk, numbers[i], anywhere)?;
+            self.note_with_room(disk, numbers[i], next)?;
         }
         Ok(())
     }
 
-    // The same of one page, of which none may be known, where the file has it, or anywhere.
+    // The same of one page, of which none may be known, where the file has it, or it is one of so many that come next.
     pub(super) fn note_with_room<D: Disk>(
         &mut self,
         disk: &mut D,
         number: PageNo,
-        anywhere: bool,
+        next: u64,
     ) -> Result<(), Fault>
         requires ready { IsReadyWriter D.Disk self.old disk.old }
         requires working { self.old.failed ≡ false }
@@ -249,16 +249,11 @@ impl PageWriter {
         if self.table.copied(number).is_some() {
             return Ok(());
         }
-        self.note_one(disk, number, anywhere)
+        self.note_one(disk, number, next)
     }
 
-    // The Image of a changed page joins the log, where the file has it, or anywhere.
-    fn note_one<D: Disk>(
-        &mut self,
-        disk: &mut D,
-        number: PageNo,
-        anywhere: bool,
-    ) -> Result<(), Fault>
+    // The Image of a changed page joins the log, where the file has it, or it is one of so many that come next.
+    fn note_one<D: Disk>(&mut self, disk: &mut D, number: PageNo, next: u64) -> Result<(), Fault>
         requires ready { IsReadyWriter D.Disk self.old disk.old }
         requires working { self.old.failed ≡ false }
         ensures outcome { Flushes D.Disk self.old disk.old self.new disk.new (fault_of result) }
@@ -275,7 +270,7 @@ impl PageWriter {
             &self.pool,
             &mut self.spare,
             number,
-            anywhere,
+            next,
         )?;
         self.known.ahead = true;
         self.failed = false;

@@ -1,7 +1,6 @@
 use Rattle.std.proofs.Common.{rules, ◌≡◌, Err, refl, ap}
 use Rattle.im_base_types.specs.declared.fault.Fault.TheVariants.{Capacity}
-use Rattle.im_page_writer.proofs.LoggedChanges.{err_on}
-use Rattle.im_page_writer.proofs.Outcomes.{sound_on}
+use Rattle.im_page_writer.proofs.Cited.{err_on, sound_on}
 use Rattle.im_restart.specs.Restart.{RunsOut}
 use Rattle.im_restart.proofs.Ends.{opens_read, opens_refused}
 use Rattle.im_engine.proofs.Named.{has_current}

@@ -1,7 +1,6 @@
 use Rattle.std.proofs.Common.{◌≡◌, ℕ, Option, Ok, subst}
 use Rattle.im_base_types.specs.declared.fault.Fault.TheVariants.{Failed}
-use Rattle.im_page_writer.proofs.LoggedChanges.{err_on}
-use Rattle.im_page_writer.proofs.Outcomes.{sound_on, log_refused, logs_late, logs_both}
+use Rattle.im_page_writer.proofs.Cited.{err_on, sound_on, log_refused, logs_late, logs_both}
 use Rattle.im_tree_search.specs.Levels.{bodies}
 use Rattle.im_smo_actions.specs.Structure.{DropKept}
 use Rattle.im_engine_index.specs.Edits.{HasOne}

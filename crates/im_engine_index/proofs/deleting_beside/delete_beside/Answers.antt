@@ -1,8 +1,7 @@
 use Rattle.std.proofs.Common.{refl}
 use Rattle.im_theory_log.specs.Transactions.{contents}
 use Rattle.im_page_writer.specs.Outcome.{mild}
-use Rattle.im_page_writer.proofs.LoggedChanges.{err_on}
-use Rattle.im_page_writer.proofs.Outcomes.{changed_none, log_refused, logs_for_more, logs_then, no_page_for}
+use Rattle.im_page_writer.proofs.Cited.{err_on, changed_none, log_refused, logs_for_more, logs_then, no_page_for}
 use Rattle.im_smo_actions.specs.GoingBeside.{settled_pages}
 use Rattle.im_engine_index.proofs.DeletesBeside.{beside_dies, beside_fails, beside_granted, beside_hidden, beside_refused, beside_waits, has_tree_but, map_beside, may_leave, taken_never}
 use Rattle.im_engine_index.proofs.InsertsBeside.{hidden_is}

@@ -1,8 +1,7 @@
 use Rattle.std.proofs.Common.{[], true, Some, refl, sym, ◌∙◌, subst}
 use Rattle.im_base_types.specs.Pages.{Page}
 use Rattle.im_theory_page.specs.Split.{HasRoom}
-use Rattle.im_page_writer.proofs.Outcomes.{pages_still, refused, then, with_more, read_more}
-use Rattle.im_page_writer.proofs.LoggedChanges.{err_on}
+use Rattle.im_page_writer.proofs.Cited.{pages_still, refused, then, with_more, read_more, err_on}
 use Rattle.im_tree_search.specs.Found.{HasTree}
 use Rattle.im_tree_search.proofs.Pages.{tree_still}
 use Rattle.im_smo_split.specs.Kept.{mild_to_split}

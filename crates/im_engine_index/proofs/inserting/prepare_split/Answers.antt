@@ -1,6 +1,5 @@
 use Rattle.std.proofs.Common.{[], None, Some, refl, sym, ◌∙◌, subst}
-use Rattle.im_page_writer.proofs.Outcomes.{pages_still, refused, then, with_more, read_more}
-use Rattle.im_page_writer.proofs.LoggedChanges.{err_on}
+use Rattle.im_page_writer.proofs.Cited.{pages_still, refused, then, with_more, read_more, err_on}
 use Rattle.im_tree_search.specs.Found.{HasTree, IsReached}
 use Rattle.im_tree_search.specs.Levels.{bodies_of}
 use Rattle.im_tree_search.proofs.Pages.{tree_still}

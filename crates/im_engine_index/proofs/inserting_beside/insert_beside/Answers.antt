@@ -1,7 +1,6 @@
 use Rattle.std.proofs.Common.{inr}
 use Rattle.im_theory_log.specs.Transactions.{contents}
-use Rattle.im_page_writer.proofs.Outcomes.{changed_none, log_refused, logs_for_more, logs_late, logs_then}
-use Rattle.im_page_writer.proofs.LoggedChanges.{err_on}
+use Rattle.im_page_writer.proofs.Cited.{changed_none, log_refused, logs_for_more, logs_late, logs_then, err_on}
 use Rattle.im_smo_actions.specs.GoingBeside.{settled_pages}
 use Rattle.im_engine_index.proofs.InsertsBeside.{beside_dies, beside_fails, beside_granted, beside_hidden, beside_refused, beside_waits, has_tree_but, hidden_is, laid_never, map_beside, may_come, numbers_more}
 use Rattle.im_engine_index.proofs.inserting_beside.insert_beside.Goals as goal

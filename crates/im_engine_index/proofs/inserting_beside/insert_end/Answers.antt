@@ -1,9 +1,8 @@
 use Rattle.std.proofs.Common.{ℕ, sym, subst}
 use Rattle.im_base_types.specs.Records.{InsertKey}
 use Rattle.im_page_writer.specs.Outcome.{fault_of}
-use Rattle.im_page_writer.proofs.Outcomes.{log_refused, logs_late, sound_on}
+use Rattle.im_page_writer.proofs.Cited.{log_refused, logs_late, sound_on, err_on}
 use Rattle.im_engine_index.specs.KeyLogs.{KeyLogKept, MayPut}
-use Rattle.im_page_writer.proofs.LoggedChanges.{err_on}
 use Rattle.im_engine_index.proofs.Deletes.{log_works}
 use Rattle.im_engine_index.proofs.InsertsBeside.{end_logs, put_works}
 use Rattle.im_engine_index.proofs.OwnChanges.{close_refused, insert_ended, may_put_end, mid}

@@ -1,8 +1,7 @@
 use Rattle.std.proofs.Common.{◌≡◌, None, Some, true, inl, inr, refl, sym, ◌∙◌, subst}
 use Rattle.std.specs.FinMap.{get}
 use Rattle.im_base_types.specs.Pages.{Page}
-use Rattle.im_page_writer.proofs.LoggedChanges.{err_on}
-use Rattle.im_page_writer.proofs.Outcomes.{out_of_memory, refused, then, with_more, read_more}
+use Rattle.im_page_writer.proofs.Cited.{err_on, out_of_memory, refused, then, with_more, read_more}
 use Rattle.im_theory_page.specs.Split.{HasRoom}
 use Rattle.im_tree_search.specs.Levels.{bodies_of}
 use Rattle.im_tree_search.proofs.Sighted.{at_hidden, at_seen, but_still}

@@ -3,8 +3,7 @@ use Rattle.im_theory_log.specs.Transactions.{is_key}
 use Rattle.im_base_types.specs.Records.{Logged}
 use Rattle.im_log_record.specs.Entry.{view, transaction_of}
 use Rattle.im_log.specs.Whats.{what_of}
-use Rattle.im_page_writer.proofs.LoggedChanges.{err_on}
-use Rattle.im_page_writer.proofs.Outcomes.{sound_on}
+use Rattle.im_page_writer.proofs.Cited.{err_on, sound_on}
 use Rattle.im_restart_undo.specs.Undoing.{IsToUndo}
 use Rattle.im_restart_undo.proofs.Growth.{going_ready}
 use Rattle.im_engine_rollback.specs.Ends.{may_turn}

@@ -1,6 +1,5 @@
 use Rattle.std.proofs.Common.{refl}
-use Rattle.im_page_writer.proofs.LoggedChanges.{err_on}
-use Rattle.im_page_writer.proofs.Outcomes.{sound_on}
+use Rattle.im_page_writer.proofs.Cited.{err_on, sound_on}
 use Rattle.im_restart_undo.proofs.Closed.{closed_beside}
 use Rattle.im_engine_rollback.specs.Turns.{Took}
 use Rattle.im_engine_rollback.specs.Ends.{may_turn}

@@ -5,9 +5,7 @@ use Rattle.im_log_gate.specs.Header.{least_number}
 use Rattle.im_restart_analysis.specs.Numbers.{IsNextNumber}
 use Rattle.im_theory_log.specs.RedoPoints.{redo_point}
 use Rattle.im_theory_log.proofs.Fronts.{rises}
-use Rattle.im_page_writer.proofs.LoggedChanges.{err_on}
-use Rattle.im_page_writer.proofs.Outcomes.{sound_on}
-use Rattle.im_page_writer.proofs.Restarting.{frames_opened}
+use Rattle.im_page_writer.proofs.Cited.{err_on, sound_on, frames_opened}
 use Rattle.im_page_writer.specs.declared.page_writer.PageWriter.{PageWriter}
 use Rattle.im_theory_tree.specs.Theory.{page_tree}
 use Rattle.im_restart.specs.Restart.{RunsOut}

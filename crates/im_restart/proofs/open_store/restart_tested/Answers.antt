@@ -8,8 +8,7 @@ use Rattle.im_theory_log.specs.RedoPoints.{redo_point}
 use Rattle.im_log.proofs.Above.{open_spared}
 use Rattle.im_log_gate.specs.Header.{least_number}
 use Rattle.im_page_file.proofs.LogEnds.{still_working}
-use Rattle.im_page_writer.proofs.LoggedChanges.{err_on}
-use Rattle.im_page_writer.proofs.Outcomes.{sound_also, sound_on}
+use Rattle.im_page_writer.proofs.Cited.{err_on, sound_also, sound_on}
 use Rattle.im_theory_page.specs.PageFile.{file_page}
 use Rattle.im_theory_tree.specs.Theory.{page_tree}
 use Rattle.im_theory_tree.proofs.TheoryLaws.{page_tree_laws}

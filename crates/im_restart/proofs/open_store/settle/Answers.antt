@@ -6,8 +6,7 @@ use Rattle.im_restart_analysis.specs.CopyLsns.{AreCopies}
 use Rattle.im_restart_analysis.specs.OpenChange.{oldest_first}
 use Rattle.im_restart_analysis.specs.Changes.{changes_from}
 use Rattle.im_restart_redo.proofs.Applicable.{lawful_is_applicable}
-use Rattle.im_page_writer.proofs.LoggedChanges.{err_on}
-use Rattle.im_page_writer.proofs.Outcomes.{sound_on}
+use Rattle.im_page_writer.proofs.Cited.{err_on, sound_on}
 use Rattle.im_restart_redo.proofs.Recoveries.{logs_recover, mildly, never_none, recovers_more, recovers_then, recovery_refused}
 use Rattle.im_theory_tree.specs.Theory.{page_tree}
 use Rattle.im_theory_tree.proofs.TheoryLaws.{page_tree_laws}

@@ -2,8 +2,7 @@ use Rattle.std.proofs.Common.{◌≡◌, ◌∷◌, refl, sym, ◌∙◌, ap}
 use Rattle.im_base_types.specs.declared.fault.Fault.TheVariants.{Device, NotAStore}
 use Rattle.im_log_record.specs.Entry.{view}
 use Rattle.im_page_writer.specs.Outcome.{mild}
-use Rattle.im_page_writer.proofs.LoggedChanges.{err_on}
-use Rattle.im_page_writer.proofs.Outcomes.{sound_on}
+use Rattle.im_page_writer.proofs.Cited.{err_on, sound_on}
 use Rattle.im_restart_redo.proofs.Recoveries.{moved, read_refused, recovers_then, recovery_own, recovery_refused}
 use Rattle.im_theory_tree.specs.Theory.{page_tree}
 use Rattle.im_restart.proofs.OpenChanges.{change_read, change_start, open_record, page_then}

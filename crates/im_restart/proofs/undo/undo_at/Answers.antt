@@ -4,8 +4,7 @@ use Rattle.im_log_record.specs.Entry.{view}
 use Rattle.im_smo_alloc.specs.Kept.{mild_to_take}
 use Rattle.im_smo_alloc.proofs.Goings.{take_mildly as take_mild}
 use Rattle.im_page_writer.specs.Outcome.{mild}
-use Rattle.im_page_writer.proofs.LoggedChanges.{err_on}
-use Rattle.im_page_writer.proofs.Outcomes.{sound_on}
+use Rattle.im_page_writer.proofs.Cited.{err_on, sound_on}
 use Rattle.im_restart_redo.proofs.Recoveries.{moved, read_refused, recovers_more, recovers_then, recovery_own, recovery_refused}
 use Rattle.im_restart.specs.Restart.{RunsOut}
 use Rattle.im_restart.proofs.Ends.{other_cause}

@@ -1,8 +1,7 @@
 use Rattle.std.proofs.Common.{◌≡◌, sym, subst}
-use Rattle.im_page_writer.proofs.Outcomes.{sound_on}
+use Rattle.im_page_writer.proofs.Cited.{sound_on, err_on}
 use Rattle.im_restart_redo.proofs.Recoveries.{recovers_more, recovers_then}
 use Rattle.im_base_types.specs.declared.fault.Fault.TheVariants.{Capacity}
-use Rattle.im_page_writer.proofs.LoggedChanges.{err_on}
 use Rattle.im_restart.specs.Restart.{RunsOut}
 use Rattle.im_restart.proofs.Ends.{no_numbers}
 use Rattle.im_log_record.specs.Entry.{view, prev_of}

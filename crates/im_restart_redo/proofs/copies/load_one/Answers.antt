@@ -3,8 +3,7 @@ use Rattle.im_log_record.specs.Entry.{view}
 use Rattle.im_base_types.specs.declared.fault.Fault.TheVariants.{Device, NotAStore}
 use Rattle.im_restart_redo.proofs.Loading.{asks_load, holds_copy, in_log, loads}
 use Rattle.im_page_writer.specs.Outcome.{no_page}
-use Rattle.im_page_writer.proofs.LoggedChanges.{err_on}
-use Rattle.im_page_writer.proofs.Outcomes.{sound_on}
+use Rattle.im_page_writer.proofs.Cited.{err_on, sound_on}
 use Rattle.im_restart_redo.proofs.Recoveries.{moved, read_none, redone, recovers_then, recovery_own, recovery_refused}
 use Rattle.im_restart_redo.proofs.Within.{leaves_read, read_is, read_some, within_read}
 use Rattle.im_restart_redo.proofs.copies.load_one.Goals as goal

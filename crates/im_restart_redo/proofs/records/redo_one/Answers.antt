@@ -8,8 +8,7 @@ use Rattle.im_log.specs.Spelled.{logged_at}
 use Rattle.im_base_types.specs.declared.fault.Fault.TheVariants.{Device, NotAStore}
 use Rattle.im_restart_redo.proofs.Applying.{applied, begun_in_log, next_durable, next_in_begun, next_is, next_record, next_taken, noted_still}
 use Rattle.im_page_writer.specs.Outcome.{no_page}
-use Rattle.im_page_writer.proofs.LoggedChanges.{err_on}
-use Rattle.im_page_writer.proofs.Outcomes.{sound_on}
+use Rattle.im_page_writer.proofs.Cited.{err_on, sound_on}
 use Rattle.im_restart_redo.proofs.Recoveries.{redone, recovers_then, recovery_own, recovery_refused}
 use Rattle.im_restart_redo.proofs.Within.{leaves_more, leaves_read, read_is, read_some, within_read}
 use Rattle.im_restart_redo.proofs.records.redo_one.Goals as goal

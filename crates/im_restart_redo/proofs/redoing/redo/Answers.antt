@@ -5,9 +5,7 @@ use Rattle.im_theory_log.specs.WriterSteps.{opened}
 use Rattle.im_restart_analysis.specs.declared.changes.Change.{Change}
 use Rattle.im_restart_analysis.specs.CopyLsns.{copy_lsn}
 use Rattle.im_page_writer.specs.Outcome.{mild, no_page}
-use Rattle.im_page_writer.proofs.LoggedChanges.{err_on}
-use Rattle.im_page_writer.proofs.Outcomes.{sound_also, sound_on}
-use Rattle.im_page_writer.proofs.Writers.{goes_on_start}
+use Rattle.im_page_writer.proofs.Cited.{err_on, sound_also, sound_on, goes_on_start}
 use Rattle.im_restart_redo.specs.Changes.{AreOwn, lsns_of}
 use Rattle.im_restart_redo.specs.Redo.{lsns_from}
 use Rattle.im_restart_redo.proofs.ChangeLsns.{lsns_are, own_from}

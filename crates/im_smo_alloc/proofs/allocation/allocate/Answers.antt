@@ -1,8 +1,7 @@
 use Rattle.std.proofs.Common.{◌≡◌, ◌+◌, ◌^◌, ◌<◌, ◌≤◌, ℕ, List, refl, sym, ap, subst, ◌∙◌}
 use Rattle.im_base_types.specs.declared.fault.Fault.TheVariants.{Capacity, NotAStore}
 use Rattle.im_base_types.specs.Pages.{Body, Page}
-use Rattle.im_page_writer.proofs.LoggedChanges.{err_on}
-use Rattle.im_page_writer.proofs.Outcomes.{ends_own, never_refused, pages_still, refused, sound_on, sound_own, then, with_more}
+use Rattle.im_page_writer.proofs.Cited.{err_on, ends_own, never_refused, pages_still, refused, sound_on, sound_own, then, with_more}
 use Rattle.im_smo_pages.specs.Bodies.{says}
 use Rattle.im_smo_pages.specs.Images.{Numbered, put_image, without_image}
 use Rattle.im_smo_alloc.specs.Kept.{mild_to_take}

@@ -6,7 +6,7 @@ use Rattle.im_log_record.specs.Entry.{Smo}
 use Rattle.im_log.specs.Whats.{what_of}
 use Rattle.im_page_pool.specs.Pool.{page_at}
 use Rattle.im_page_writer.specs.Outcome.{mild, pages_of}
-use Rattle.im_page_writer.proofs.Goings.{leaves_then}
+use Rattle.im_page_flush.proofs.Goings.{leaves_then}
 use Rattle.im_page_writer.proofs.Outcomes.{changed_none, leaves_of_end, log_refused, logs_for_more, logs_then, no_page_for, out_of_memory, pages_here, pages_to, read_logs, search_of, sound_on, sound_own, stands_on}
 use Rattle.im_smo_log.proofs.Records.{page_logged, smo_is, smo_leaves}
 use Rattle.im_smo_log.proofs.page_record.log_page.Goals as goal

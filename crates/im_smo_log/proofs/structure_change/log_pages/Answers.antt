@@ -1,7 +1,6 @@
 use Rattle.std.proofs.Common.{◌≡◌, ◌≢◌, ◌<◌, ℕ, length, refl, subst, arith}
 use Rattle.im_base_types.specs.declared.fault.Fault.TheVariants.{Failed}
-use Rattle.im_page_writer.proofs.LoggedChanges.{err_on}
-use Rattle.im_page_writer.proofs.Outcomes.{idle, log_refused, logs_both, logs_late, read_logs, sound_on}
+use Rattle.im_page_writer.proofs.Cited.{err_on, idle, log_refused, logs_both, logs_late, read_logs, sound_on}
 use Rattle.im_smo_log.specs.Changes.{PagesLogged, Begun}
 use Rattle.im_smo_log.proofs.Refusals.{behind_pages}
 use Rattle.im_smo_log.proofs.Runs.{pages_begin, pages_next, pages_stops, pages_begun}

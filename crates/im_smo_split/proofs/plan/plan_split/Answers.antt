@@ -1,8 +1,7 @@
 use Rattle.std.proofs.Common.{refl, arith}
 use Rattle.std.specs.Prelude.{Err}
 use Rattle.im_base_types.specs.declared.fault.Fault.TheVariants.{Capacity}
-use Rattle.im_page_writer.proofs.LoggedChanges.{err_on}
-use Rattle.im_page_writer.proofs.Outcomes.{ends_own, pages_still, read_more, refused, sound_also, sound_on, then, with_more}
+use Rattle.im_page_writer.proofs.Cited.{err_on, ends_own, pages_still, read_more, refused, sound_also, sound_on, then, with_more}
 use Rattle.im_smo_split.specs.declared.split_plan.SplitPlan.{SplitPlan}
 use Rattle.im_smo_alloc.specs.Seen.{bodies}
 use Rattle.im_smo_split.specs.Kept.{mild_to_split}

@@ -4,7 +4,7 @@ use Rattle.im_page_table.specs.DirtyTable.{TableView}
 use Rattle.im_page_writer.specs.Synced.{IsKnown}
 use Rattle.im_page_writer.specs.declared.known.Known.{Known}
 use Rattle.im_page_file.specs.LogEnds.{EndsNoSooner}
-use Rattle.im_page_writer.specs.Writing.{Goes}
+use Rattle.im_page_flush.specs.Writing.{Goes}
 use Rattle.im_page_writer.proofs.Writers.{absent_still, goes_evicted}
 use Rattle.im_page_writer.proofs.page_writer.PageWriter.evict_oldest.Goals as goal
 

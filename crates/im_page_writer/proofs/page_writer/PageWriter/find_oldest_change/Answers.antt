@@ -5,7 +5,7 @@ use Rattle.im_base_types.specs.declared.tables.DirtyPage.{DirtyPage}
 use Rattle.im_page_pool.specs.Pool.{held_of}
 use Rattle.im_page_writer.proofs.TableRoom.{if_found}
 use Rattle.im_page_writer.proofs.page_writer.PageWriter.find_oldest_change.Goals as goal
-use Rattle.im_page_writer.proofs.Goings.{found_none as none_found}
+use Rattle.im_page_flush.proofs.Goings.{found_none as none_found}
 
 pub returns-in-Some-clause-next : goal.returns-in-Some-clause-next
 returns-in-Some-clause-next c =

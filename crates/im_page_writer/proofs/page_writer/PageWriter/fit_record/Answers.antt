@@ -1,7 +1,7 @@
 use Rattle.im_page_writer.specs.Outcome.{AsksNothing}
 use Rattle.im_page_writer.proofs.Checkpointing.{all_fit}
 use Rattle.im_page_writer.proofs.Outcomes.{behind, handed_on, idle_any, none_still, stands_on}
-use Rattle.im_page_writer.proofs.Placing.{held_none}
+use Rattle.im_page_flush.proofs.Placing.{held_none}
 use Rattle.im_page_writer.proofs.Writers.{goes_on_start, goes_on_then}
 use Rattle.im_page_writer.proofs.page_writer.PageWriter.fit_record.Goals as goal
 

@@ -1,7 +1,7 @@
 use Rattle.std.proofs.Common.{subst, ◌∙◌}
 use Rattle.im_page_pool.specs.Pool.{PoolView}
 use Rattle.im_page_writer.specs.Outcome.{AsksNothing}
-use Rattle.im_page_writer.specs.Writing.{SameHeld}
+use Rattle.im_page_flush.specs.Writing.{SameHeld}
 use Rattle.im_page_table.proofs.Growing.{on_ok}
 use Rattle.im_page_writer.proofs.Outcomes.{behind, handed_on, none_still}
 use Rattle.im_page_writer.proofs.page_writer.PageWriter.flush_company.Goals as goal

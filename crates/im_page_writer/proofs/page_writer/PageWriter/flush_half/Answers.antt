@@ -1,6 +1,6 @@
 use Rattle.im_page_writer.specs.Outcome.{AsksNothing}
 use Rattle.im_page_writer.proofs.Outcomes.{behind, handed_on, idle_any, none_still}
-use Rattle.im_page_writer.proofs.Placing.{held_none, held_then}
+use Rattle.im_page_flush.proofs.Placing.{held_none, held_then}
 use Rattle.im_page_writer.proofs.page_writer.PageWriter.flush_half.Goals as goal
 
 pub loop-company-init : goal.loop-company-init

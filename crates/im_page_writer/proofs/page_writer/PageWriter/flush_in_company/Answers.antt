@@ -6,9 +6,9 @@ use Rattle.im_theory_page.specs.PageFile.{page_count}
 use Rattle.im_page_pool.specs.Pool.{PoolView, is_changed}
 use Rattle.im_page_table.specs.DirtyTable.{has_room}
 use Rattle.im_page_writer.specs.Outcome.{AsksNothing}
-use Rattle.im_page_writer.specs.Writing.{SameHeld}
+use Rattle.im_page_flush.specs.Writing.{SameHeld}
 use Rattle.im_page_table.proofs.Growing.{on_ok}
-use Rattle.im_page_writer.proofs.InCompany.{page_after}
+use Rattle.im_page_flush.proofs.InCompany.{page_after}
 use Rattle.im_page_writer.proofs.Outcomes.{behind, handed_on, none_still, stands_on}
 use Rattle.im_page_writer.proofs.Writers.{goes_on_then}
 use Rattle.im_page_writer.proofs.page_writer.PageWriter.flush_in_company.Goals as goal

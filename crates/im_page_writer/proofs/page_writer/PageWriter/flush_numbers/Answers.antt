@@ -3,7 +3,7 @@ use Rattle.im_page_writer.specs.Outcome.{AsksNothing}
 use Rattle.im_page_writer.specs.FlushedRows.{FlushedNumbers}
 use Rattle.im_page_writer.proofs.FlushedRows.{numbers_start, numbers_next}
 use Rattle.im_page_writer.proofs.Outcomes.{behind, handed_on, idle_any, none_still, stands_on}
-use Rattle.im_page_writer.proofs.Placing.{held_none, held_then}
+use Rattle.im_page_flush.proofs.Placing.{held_none, held_then}
 use Rattle.im_page_writer.proofs.page_writer.PageWriter.flush_numbers.Goals as goal
 
 pub loop-i-init : goal.loop-i-init

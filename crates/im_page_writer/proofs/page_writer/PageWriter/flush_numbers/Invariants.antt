@@ -4,7 +4,7 @@ use Rattle.im_theory_log.specs.Writer.{Writer}
 use Rattle.im_page_writer.specs.Outcome.{Flushes}
 use Rattle.im_page_writer.specs.PageWriter.{StandsAs}
 use Rattle.im_page_writer.specs.FlushedRows.{FlushedNumbers}
-use Rattle.im_page_writer.specs.Writing.{SameHeld}
+use Rattle.im_page_flush.specs.Writing.{SameHeld}
 use Rattle.im_page_writer.proofs.page_writer.PageWriter.flush_numbers.Given as goal
 
 abbrev pub invariant-loop-i : goal.invariant-loop-i

@@ -1,7 +1,7 @@
 use Rattle.std.proofs.Common.{ℕ, Option, subst, sym, ap, ◌∙◌, rules, ◌≡◌, false, true}
 use Rattle.im_page_pool.specs.Pool.{Held, held_of, is_changed}
-use Rattle.im_page_writer.specs.Writing.{IsShown}
-use Rattle.im_page_writer.proofs.Goings.{found_here, found_none}
+use Rattle.im_page_flush.specs.Writing.{IsShown}
+use Rattle.im_page_flush.proofs.Goings.{found_here, found_none}
 use Rattle.im_page_writer.proofs.Outcomes.{idle_any}
 use Rattle.im_page_writer.proofs.Writers.{flushed_one, goes_on_start, none_left}
 use Rattle.std.specs.Option.{option_map_or}

@@ -1,5 +1,5 @@
 use Rattle.im_page_writer.proofs.Outcomes.{idle_any}
-use Rattle.im_page_writer.proofs.Placing.{held_none}
+use Rattle.im_page_flush.proofs.Placing.{held_none}
 use Rattle.im_page_writer.proofs.page_writer.PageWriter.flush_where_copied.Goals as goal
 
 pub returns-then-is_none-clause-outcome : goal.returns-then-is_none-clause-outcome

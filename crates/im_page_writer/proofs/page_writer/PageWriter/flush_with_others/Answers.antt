@@ -1,7 +1,7 @@
 use Rattle.im_page_writer.specs.Outcome.{AsksNothing}
 use Rattle.im_page_table.proofs.Growing.{on_ok}
 use Rattle.im_page_writer.proofs.Outcomes.{behind, handed_on, none_still, stands_on}
-use Rattle.im_page_writer.proofs.Placing.{held_then}
+use Rattle.im_page_flush.proofs.Placing.{held_then}
 use Rattle.im_page_writer.proofs.Writers.{goes_on_then}
 use Rattle.im_page_writer.proofs.page_writer.PageWriter.flush_with_others.Goals as goal
 

@@ -4,7 +4,7 @@ use Rattle.im_theory_log.proofs.WriterWrites.{forced_kept}
 use Rattle.im_page_table.proofs.DurableCopies.{durable_whole}
 use Rattle.im_page_writer.proofs.SyncedPages.{known_as}
 use Rattle.im_page_file.proofs.Standing.{log_stops}
-use Rattle.im_page_writer.proofs.Imaging.{goes_forced}
+use Rattle.im_page_flush.proofs.Imaging.{goes_forced}
 use Rattle.im_base_disk.proofs.Costs.{most_none}
 use Rattle.im_page_writer.proofs.LogCalls.{force_only, log_broke}
 use Rattle.im_page_writer.proofs.page_writer.PageWriter.force.Goals as goal

@@ -3,7 +3,7 @@ use Rattle.im_base_disk.proofs.Runs.{reads_none}
 use Rattle.im_base_types.specs.declared.file_id.FileId.TheVariants.{Pages}
 use Rattle.im_page_pool.specs.Pool.{Held, PoolView}
 use Rattle.im_page_writer.specs.Outcome.{fault_of, no_page, AreLoadedTo}
-use Rattle.im_page_writer.specs.Writing.{IsWriting}
+use Rattle.im_page_flush.specs.Writing.{IsWriting}
 use Rattle.im_page_writer.proofs.SameWriter.{outcome_as}
 use Rattle.im_page_writer.proofs.Writers.{got_page, goes_got}
 use Rattle.im_page_writer.proofs.page_writer.PageWriter.get.Goals as goal

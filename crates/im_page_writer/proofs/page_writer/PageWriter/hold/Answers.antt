@@ -12,8 +12,8 @@ use Rattle.im_page_file.specs.LogEnds.{EndsNoSooner}
 use Rattle.im_page_pool.specs.Pool.{Held, held_of, page_at}
 use Rattle.im_page_writer.specs.declared.known.Known.{Known}
 use Rattle.im_page_writer.specs.Synced.{IsForeign, IsKnown, IsUnderLog}
-use Rattle.im_page_writer.specs.Writing.{Goes, IsShown}
-use Rattle.im_page_writer.proofs.Flushing.{leaves_read}
+use Rattle.im_page_flush.specs.Writing.{Goes, IsShown}
+use Rattle.im_page_flush.proofs.Flushing.{leaves_read}
 use Rattle.im_page_writer.proofs.Outcomes.{read_ends}
 use Rattle.im_page_writer.proofs.OwnPages.{own_page}
 use Rattle.im_page_writer.proofs.Writers.{got_page, goes_evicted, goes_got, goes_refused, no_page_missing, seen_none}

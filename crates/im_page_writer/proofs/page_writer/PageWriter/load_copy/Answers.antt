@@ -6,7 +6,7 @@ use Rattle.im_page_writer.specs.Synced.{IsKnown}
 use Rattle.im_page_writer.specs.declared.known.Known.{Known}
 use Rattle.im_page_writer.proofs.SyncedPages.{known_redone}
 use Rattle.im_page_table.proofs.Growing.{on_ok}
-use Rattle.im_page_writer.proofs.Goings.{leaves_so_far}
+use Rattle.im_page_flush.proofs.Goings.{leaves_so_far}
 use Rattle.im_page_writer.proofs.LoggedChanges.{err_on}
 use Rattle.im_page_writer.proofs.Outcomes.{flush_sound, leaves_of_end, none_mildly, redo_of, redo_own, redo_refused}
 use Rattle.im_page_writer.proofs.Redoing.{copy_loaded, has_rooms, load_taken, not_no_store}

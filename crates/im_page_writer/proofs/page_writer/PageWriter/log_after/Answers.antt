@@ -1,6 +1,6 @@
 use Rattle.std.proofs.Common.{ℕ, ◌∙◌, rules, refl}
 use Rattle.im_page_table.proofs.Growing.{if_ok}
-use Rattle.im_page_writer.proofs.Goings.{covered_last, leaves_last}
+use Rattle.im_page_flush.proofs.Goings.{covered_last, leaves_last}
 use Rattle.im_page_writer.proofs.LoggedChanges.{err_on}
 use Rattle.im_page_writer.proofs.Outcomes.{leaves_of_end, log_refused, logs_then, read_logs, search_of, stands_on}
 use Rattle.im_page_writer.proofs.Structure.{refused_not}

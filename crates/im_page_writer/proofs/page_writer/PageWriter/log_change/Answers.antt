@@ -1,5 +1,5 @@
 use Rattle.im_log_record.specs.Entry.{page_of, view}
-use Rattle.im_page_writer.proofs.Goings.{leaves_so_far}
+use Rattle.im_page_flush.proofs.Goings.{leaves_so_far}
 use Rattle.im_page_writer.proofs.LoggedChanges.{no_key, none_ok}
 use Rattle.im_page_writer.proofs.Outcomes.{idle_logs}
 use Rattle.im_page_writer.proofs.Writers.{goes_on_start}

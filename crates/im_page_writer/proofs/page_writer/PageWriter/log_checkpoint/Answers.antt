@@ -6,7 +6,7 @@ use Rattle.im_page_writer.specs.Checkpoints.{CheckpointKept}
 use Rattle.im_page_writer.specs.Outcome.{none_mild}
 use Rattle.im_page_writer.specs.PageWriter.{StandsAs}
 use Rattle.im_page_writer.proofs.Checkpointing.{checkpoint_behind, flush_logs, left_behind, left_first}
-use Rattle.im_page_writer.proofs.Costs.{always}
+use Rattle.im_page_flush.proofs.Costs.{always}
 use Rattle.im_page_writer.proofs.Outcomes.{flush_asks, log_refused, logs_then, stands_on}
 use Rattle.im_page_writer.proofs.Switching.{flush_left}
 use Rattle.im_page_writer.proofs.page_writer.PageWriter.log_checkpoint.Goals as goal

@@ -4,7 +4,7 @@ use Rattle.im_theory_page.specs.Header.{initial}
 use Rattle.im_page_pool.specs.Pool.{held_of}
 use Rattle.im_page_leaf.specs.LeafEdits.{MayEdit}
 use Rattle.im_page_table.proofs.Growing.{if_ok}
-use Rattle.im_page_writer.proofs.Goings.{covered_last, leaves_last, leaves_so_far}
+use Rattle.im_page_flush.proofs.Goings.{covered_last, leaves_last, leaves_so_far}
 use Rattle.im_page_writer.proofs.LeafChanges.{may_edit}
 use Rattle.im_page_writer.proofs.LoggedChanges.{at_shows, err_on, failed_cause}
 use Rattle.im_page_writer.proofs.Outcomes.{leaves_of_end, log_refused, logs_then, own_logs, read_logs, search_of, stands_on}

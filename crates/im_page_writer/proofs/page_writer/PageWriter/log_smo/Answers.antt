@@ -1,4 +1,4 @@
-use Rattle.im_page_writer.proofs.Goings.{leaves_so_far}
+use Rattle.im_page_flush.proofs.Goings.{leaves_so_far}
 use Rattle.im_page_writer.proofs.LoggedChanges.{none_ok}
 use Rattle.im_page_writer.proofs.Outcomes.{idle_logs}
 use Rattle.im_page_writer.proofs.Structure.{no_after}

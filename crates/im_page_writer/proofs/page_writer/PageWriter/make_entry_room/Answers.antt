@@ -2,7 +2,7 @@ use Rattle.std.proofs.Common.{◌≡◌, ◌<◌, length, false, true, refl, sub
 use Rattle.im_theory_log.specs.WriterSteps.{synced}
 use Rattle.im_page_table.specs.DirtyTable.{TableView}
 use Rattle.im_page_writer.specs.PageWriter.{next_written}
-use Rattle.im_page_writer.proofs.Goings.{leaves_last}
+use Rattle.im_page_flush.proofs.Goings.{leaves_last}
 use Rattle.im_page_file.proofs.LogEnds.{ends_as}
 use Rattle.im_page_writer.proofs.LoggedChanges.{ok_with}
 use Rattle.im_page_table.proofs.Growing.{on_ok}

@@ -1,7 +1,7 @@
 use Rattle.std.proofs.Common.{◌≡◌, None}
 use Rattle.im_base_disk.specs.Runs.{Reads}
 use Rattle.im_page_writer.specs.Outcome.{Flushes}
-use Rattle.im_page_writer.specs.Rooms.{KeepsRoom}
+use Rattle.im_page_flush.specs.Rooms.{KeepsRoom}
 use Rattle.im_page_writer.proofs.page_writer.PageWriter.note_oldest.Given as goal
 
 abbrev pub invariant-loop-walk : goal.invariant-loop-walk

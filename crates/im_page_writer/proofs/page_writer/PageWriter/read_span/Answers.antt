@@ -1,6 +1,6 @@
 use Rattle.std.proofs.Common.{refl}
 use Rattle.im_page_file.proofs.LogEnds.{still_working}
-use Rattle.im_page_writer.proofs.Flushing.{goes_read}
+use Rattle.im_page_flush.proofs.Flushing.{goes_read}
 use Rattle.im_page_writer.proofs.page_writer.PageWriter.read_span.Goals as goal
 
 pub returns-clause-span : goal.returns-clause-span

@@ -4,7 +4,7 @@ use Rattle.im_log_record.specs.Entry.{view, page_of}
 use Rattle.im_log.specs.Spelled.{logged_at}
 use Rattle.im_page_table.specs.KnownCopies.{redone_as}
 use Rattle.im_page_writer.proofs.SyncedPages.{known_redone}
-use Rattle.im_page_writer.proofs.Goings.{leaves_so_far}
+use Rattle.im_page_flush.proofs.Goings.{leaves_so_far}
 use Rattle.im_page_table.proofs.Growing.{keeps_none}
 use Rattle.im_page_writer.specs.Outcome.{no_page, AsksNothing}
 use Rattle.im_page_writer.proofs.Outcomes.{idle_any, redo_of}

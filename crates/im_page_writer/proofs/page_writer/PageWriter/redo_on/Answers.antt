@@ -7,7 +7,7 @@ use Rattle.im_log.specs.Spelled.{logged_at}
 use Rattle.im_page_pool.specs.Pool.{held_of, page_at}
 use Rattle.im_page_table.specs.KnownCopies.{redone_as}
 use Rattle.im_page_writer.proofs.SyncedPages.{known_redone}
-use Rattle.im_page_writer.proofs.Goings.{leaves_so_far}
+use Rattle.im_page_flush.proofs.Goings.{leaves_so_far}
 use Rattle.im_page_writer.specs.Outcome.{pages_of}
 use Rattle.im_page_writer.proofs.LoggedChanges.{at_held, err_on}
 use Rattle.im_page_writer.proofs.Outcomes.{no_page_for, leaves_of_end, pages_as, redo_of, redo_refused, redo_then}

@@ -9,8 +9,8 @@ use Rattle.im_page_writer.specs.Outcome.{pages_of}
 use Rattle.im_page_writer.specs.Rounds.{RoundHere, redone_of}
 use Rattle.im_page_writer.specs.Synced.{IsKnown}
 use Rattle.im_page_writer.specs.declared.known.Known.{Known}
-use Rattle.im_page_writer.specs.Writing.{IsWriting}
-use Rattle.im_page_writer.proofs.Goings.{leaves_so_far}
+use Rattle.im_page_flush.specs.Writing.{IsWriting}
+use Rattle.im_page_flush.proofs.Goings.{leaves_so_far}
 use Rattle.im_page_writer.proofs.LoggedChanges.{err_on}
 use Rattle.im_page_writer.proofs.Outcomes.{leaves_of_end, no_page_for, pages_as, redo_of, redo_own, redo_refused}
 use Rattle.im_page_writer.proofs.RedoneRecords.{copy_still}

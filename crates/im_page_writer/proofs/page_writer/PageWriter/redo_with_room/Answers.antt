@@ -11,7 +11,7 @@ use Rattle.im_page_writer.specs.declared.known.Known.{Known}
 use Rattle.im_page_rounds.specs.OnePage.{PageTakes}
 use Rattle.im_page_rounds.proofs.OnePage.{applies_below as applies_is}
 use Rattle.im_page_writer.proofs.SyncedPages.{known_redone}
-use Rattle.im_page_writer.proofs.Goings.{leaves_so_far}
+use Rattle.im_page_flush.proofs.Goings.{leaves_so_far}
 use Rattle.im_page_table.proofs.Growing.{if_ok}
 use Rattle.im_page_writer.proofs.LoggedChanges.{err_on}
 use Rattle.im_page_writer.proofs.Outcomes.{flush_sound, leaves_of_end, none_mildly, redo_of, redo_own, redo_refused}

@@ -10,7 +10,7 @@ use Rattle.im_theory_left.proofs.Left.{grown_readable}
 use Rattle.im_theory_log.specs.WriterSteps.{forced, synced}
 use Rattle.im_page_table.proofs.Growing.{grows_none}
 use Rattle.im_page_writer.proofs.FlushedRows.{synced_clean}
-use Rattle.im_page_writer.proofs.Goings.{leaves_of}
+use Rattle.im_page_flush.proofs.Goings.{leaves_of}
 use Rattle.im_page_writer.proofs.Outcomes.{stands_on}
 use Rattle.im_page_writer.proofs.LoggedChanges.{err_on}
 use Rattle.im_page_writer.proofs.Switching.{early_told, flush_left, flush_refused, flush_refuses, gate_fits, grown_switching, if_err, kept_then, log_refused, log_refuses, may_refused, may_refuses, not_early, refused_from, switching_then, told_as, told_device, told_same}

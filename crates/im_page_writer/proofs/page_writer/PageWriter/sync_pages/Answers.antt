@@ -2,7 +2,7 @@ use Rattle.std.proofs.Common.{refl, rules, arith}
 use Rattle.im_theory_log.specs.WriterSteps.{synced}
 use Rattle.im_page_table.proofs.DurableCopies.{durable_synced}
 use Rattle.im_page_writer.proofs.SyncedPages.{known_same}
-use Rattle.im_page_writer.proofs.Placing.{pooled_synced, synced_keeps}
+use Rattle.im_page_flush.proofs.Placing.{pooled_synced, synced_keeps}
 use Rattle.im_base_disk.proofs.Costs.{most_none, most_of}
 use Rattle.im_page_writer.proofs.page_writer.PageWriter.sync_pages.Goals as goal
 

@@ -1,7 +1,7 @@
 use Rattle.im_theory_log.specs.WriterSteps.{synced}
 use Rattle.im_page_file.proofs.LogEnds.{ends_as}
 use Rattle.im_page_table.proofs.Growing.{on_ok}
-use Rattle.im_page_writer.proofs.Goings.{leaves_last}
+use Rattle.im_page_flush.proofs.Goings.{leaves_last}
 use Rattle.im_page_writer.proofs.Outcomes.{step_flushes}
 use Rattle.im_page_writer.proofs.Writers.{goes_on_start}
 use Rattle.im_page_writer.proofs.page_writer.PageWriter.sync_written.Goals as goal
