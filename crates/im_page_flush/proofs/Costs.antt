@@ -48,13 +48,13 @@ module _ {D : Type 0} (d : Ghosts D) where
         (costs_then d 0 0 (2 * flushed.forces + n) (2 * flushed.forces + flushed.syncs) old mid new counted flushed.costs);
   }
 
-  -- a page of which the file has some copy: it alone
-  pub page_within : (number count n : ℕ) (has_room : Bool) (old mid new : D) → (d.tells → n ≡ count) → number < n → Costs d 0 0 old mid
+  -- a page of which the file has some copy, or that comes next after its end: it alone
+  pub page_within : (number count n : ℕ) (has_room : Bool) (old mid new : D) → (d.tells → n ≡ count) → number ≤ n → Costs d 0 0 old mid
       → FlushCosts d (number + 1 - number) ((number ≡ number) × (has_room ≡ true)) mid new → PageCosts d number count has_room old new
   page_within number count n has_room old mid new is below counted flushed = record {
     pages = number + 1 - number;
     within = λ told lt. omega arith;
-    past = λ told le. absurd (omega (arith, is told, below, le));
+    past = λ told le. omega (arith, is told, below, le);
     costs = costs_counted (number + 1 - number) ((number ≡ number) × (has_room ≡ true)) (d.tells × (number ≤ count) × (has_room ≡ true)) old mid new (λ room. (refl, room.2)) counted flushed;
   }
 

@@ -151,7 +151,7 @@ fn flush_in_file<D: Disk>(
 
 /// Flushes a page that was changed since it was read or written: it alone, where the file has it, and past the file's end every page
 /// from the page count up to it. `durable` says of a page with an entry that its last change and full copy are durable: where the file
-/// has it, the log is not forced then.
+/// has it, the log is not forced then; `next`, nor where it comes next after the file's end.
 ///
 /// Refused `LogFull` or `Device`.
 pub fn flush_page<D: Disk>(
@@ -163,6 +163,7 @@ pub fn flush_page<D: Disk>(
     lsns: &mut Vec<Lsn>,
     number: PageNo,
     durable: bool,
+    next: bool,
 ) -> Result<(), Fault>
     requires ready { IsOpen D.Disk log.old disk.old }
     requires working { log.old.failed ≡ false }
@@ -182,6 +183,9 @@ pub fn flush_page<D: Disk>(
 {
     let count = count_pages(disk)?;
     if (number as u64) < count {
+        return flush_in_file(disk, log, table, pool, spare, lsns, number, durable);
+    }
+    if next && number as u64 == count {
         return flush_in_file(disk, log, table, pool, spare, lsns, number, durable);
     }
     flush_range(disk, log, table, pool, spare, lsns, count as u32, number)

@@ -17,7 +17,8 @@
 //!   log of which no full copy is known, in rising page number; then the log is forced, four device calls, and none where nothing
 //!   is buffered; then each page is entered and written, one device call each, in rising number. Where the table has no room for the entry of a page that is written along, the file is synced
 //!   after them. A page that the file has, and whose last change and full copy are durable, is written with no force, whatever waits
-//!   in the log (`IsUnforced`): its LSN is below the log's durable end, and no Image waits that came after the last change of its page.
+//!   in the log (`IsUnforced`): its LSN is below the log's durable end, and no Image waits that came after the last change of its page. So is
+//!   one that comes next after the file's end, where something waits in a buffer that has room for another batch.
 //! - A page that is got (`get`) stays in its frame. Where no frame is free, the least recently used page is flushed, if it was
 //!   changed, and its frame given up. Where that forces the log, changed pages that go next are flushed with it: of the half of the
 //!   frames that were used least recently, the first eight, as far as their Images fit into the log's buffer, in rising number. The log
@@ -25,7 +26,7 @@
 //!   more than 1,024 frames they are those of the oldest changes, which the dirty table tells: a walk by use would go over the unchanged
 //!   pages each time, of which there may be 261,120.
 //! - `flush_in_company` flushes a page; where that forces the log, whose buffer holds several batches, the Images of other changed pages go
-//!   with it, those of the oldest changes, as many as the buffer takes. Those pages are written by flushes of their own, which force nothing
+//!   with it, those of the oldest changes, as many as the buffer takes, whether the file has the pages or not. Those pages are written by flushes of their own, which force nothing
 //!   then. A Switch writes its pages so. A walk over the dirty table finds 64 such changes, so that a Switch of many pages does not go over it
 //!   once a page.
 //! - A change (`log_change`) gets the page, makes room for its entry (`make_entry_room`), appends the record, changes the page,

@@ -184,6 +184,7 @@ impl PageWriter {
         ensures costs { OnOk result (PageCosts D.Disk number (page_count (D.seen disk.old Pages)) (has_room number self.old.table) disk.old disk.new) }
         ensures unforced { D.tells → number < page_count (D.seen disk.old Pages) → durable ≡ true → OnOk result (Costs D.Disk 1 0 disk.old disk.new) }
     {
+        let next = self.takes_more();
         self.failed = true;
         flush_page(
             disk,
@@ -194,6 +195,7 @@ impl PageWriter {
             &mut self.lsns,
             number,
             durable,
+            next,
         )?;
         self.known.ahead = false;
         self.failed = false;

@@ -184,7 +184,8 @@ fn checkpoint_many(
     let calls = disk.calls();
     writer.log_checkpoint(disk, 2, &[])?;
     assert!(rt; changed == (1_100, 0));
-    assert!(rt; (listed, written) == (1_024, 77 * 4_096));
+    // 76 rows were too many. Pages go six at a time, twice as many as a batch takes Images, and page 0 goes along with the first.
+    assert!(rt; (listed, written) == (1_022, 79 * 4_096));
     assert!(rt; (since(disk, calls), disk.end(FileId::Pages)) == (5, written));
     Ok(())
 }
@@ -193,7 +194,7 @@ fn checkpoint_many(
 fn a_page_is_copied_again_behind_a_checkpoint(rt: HostRuntime) -> Result<(), Fail> {
     let alloc = rt.alloc();
     let mut disk = new_disk(alloc);
-    let mut writer = open_over(alloc, &mut disk, Page::initial(0).bytes())?;
+    let mut writer = open_over(alloc, &mut disk, 1, Page::initial(0).bytes())?;
     let told = flush_behind_checkpoint(&rt, &mut writer, &mut disk);
     end(writer, disk);
     told

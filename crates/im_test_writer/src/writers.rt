@@ -1,6 +1,5 @@
 //! Disks, writers of pages and records, as tests begin with them.
 ghost use Rattle.std.specs.Prelude.{◌≡◌, ◌≤◌, false, length, IfOk};
-ghost use Rattle.im_base_disk.specs.Runs.{IsSynced};
 ghost use Rattle.im_log_record.specs.Entry.{view};
 ghost use Rattle.im_log_record.specs.Spelling.{IsEntry};
 ghost use Rattle.im_page_writer.specs.PageWriter.{IsReadyWriter};
@@ -15,7 +14,6 @@ use std::alloc::Global;
 
 /// A disk whose two files are empty.
 pub fn new_disk(alloc: Global) -> ModelDisk
-    ensures synced { IsSynced ⟦<ModelDisk as Disk>⟧ result }
     ensures working { ⟦<ModelDisk as Disk>⟧.failed result ≡ false }
 {
     ModelDisk::new(Vec::new(alloc), Vec::new(alloc))
@@ -31,20 +29,35 @@ pub fn open<D: Disk>(alloc: Global, disk: &mut D) -> Result<PageWriter, Fault>
     requires working { D.failed disk.old ≡ false }
     ensures ready { IfOk result (λ w. IsReadyWriter D.Disk w disk.new) }
 {
+    open_with(alloc, disk, 1)
+}
+
+/// The same with a log's buffer of so many batches.
+pub fn open_with<D: Disk>(alloc: Global, disk: &mut D, batches: usize) -> Result<PageWriter, Fault>
+    requires working { D.failed disk.old ≡ false }
+    requires few { (1 ≤ batches) × (batches ≤ 64) }
+    ensures ready { IfOk result (λ w. IsReadyWriter D.Disk w disk.new) }
+{
     disk.sync(FileId::Log)?;
-    let log = open_or_create(alloc, disk, 1)?;
+    let log = open_or_create(alloc, disk, batches)?;
     PageWriter::new(alloc, log, 8)
 }
 
 /// The same over a new log, and over a file of pages that begins with these bytes.
-pub fn open_over<D: Disk>(alloc: Global, disk: &mut D, pages: &[u8]) -> Result<PageWriter, Fault>
+pub fn open_over<D: Disk>(
+    alloc: Global,
+    disk: &mut D,
+    batches: usize,
+    pages: &[u8],
+) -> Result<PageWriter, Fault>
     requires working { D.failed disk.old ≡ false }
-    requires synced { IsSynced D.Disk disk.old }
+    requires few { (1 ≤ batches) × (batches ≤ 64) }
     ensures ready { IfOk result (λ w. IsReadyWriter D.Disk w disk.new) }
 {
+    disk.sync(FileId::Log)?;
     open_or_create(alloc, disk, 1)?;
     disk.write_at(FileId::Pages, 0, pages)?;
-    open(alloc, disk)
+    open_with(alloc, disk, batches)
 }
 
 /// One with so many frames.

@@ -34,6 +34,19 @@ returns-then-number-count-clause-kept g c b base s w may =
       stops = leaves_then g.D.Disk b base s c.args.disk.now s c.args.log.now c.args.table.now c.args.pool.now c.count_pages.new.disk goes c.flush_in_file.new.disk k.stops;
     }
 
+pub returns-then-number-count-2-clause-kept : goal.returns-then-number-count-2-clause-kept
+returns-then-number-count-2-clause-kept g c b base s w may =
+    let goes =
+    goes_read g.D.Disk b base s c.args.log.now c.args.table.now c.args.pool.now c.args.disk.now c.count_pages.new.disk (g.met.D.Disk.only_now c.args.disk.now) w c.count_pages.ensures.reads c.in_ok-count.ensures.answers.noted in
+    let asks = may_flush g.D.Disk b base s c.args.log.now c.args.table.now c.args.pool.now c.count_pages.new.disk c.args.number c.args.number goes.writing c.requires.changed (inl refl) in
+    let k = c.flush_in_file-then-number-count-2.ensures.kept b base s goes.writing may asks in
+    record {
+      ok = on_ok c.flush_in_file-then-number-count-2.result _ _ k.ok
+          (λ is. flushed_then g.D.Disk b base s s c.args.number c.args.number c.args.disk.now c.count_pages.new.disk c.flush_in_file-then-number-count-2.new.disk c.args.log.now c.flush_in_file-then-number-count-2.new.log c.args.table.now c.flush_in_file-then-number-count-2.new.table c.args.pool.now
+          c.flush_in_file-then-number-count-2.new.pool goes is);
+      stops = leaves_then g.D.Disk b base s c.args.disk.now s c.args.log.now c.args.table.now c.args.pool.now c.count_pages.new.disk goes c.flush_in_file-then-number-count-2.new.disk k.stops;
+    }
+
 pub returns-clause-kept : goal.returns-clause-kept
 returns-clause-kept g c b base s w may =
     let goes =
@@ -64,7 +77,7 @@ returns-clause-stays g c tells within some =
 pub returns-then-number-count-clause-costs : goal.returns-then-number-count-clause-costs
 returns-then-number-count-clause-costs g c = on_ok c.flush_in_file.result _ _ c.flush_in_file.ensures.costs (λ is.
     page_within g.D.Disk c.args.number (page_count (g.D.Disk.seen c.args.disk.now Pages)) c.in_ok-count.count (has_room c.args.number c.args.table.now) c.args.disk.now c.count_pages.new.disk c.flush_in_file.new.disk
-    (λ told. c.in_ok-count.ensures.count told) c.if-number-count.true (costs_reads g.D.Disk c.args.disk.now c.count_pages.new.disk c.count_pages.ensures.reads) is)
+    (λ told. c.in_ok-count.ensures.count told) (omega (arith, c.if-number-count.true)) (costs_reads g.D.Disk c.args.disk.now c.count_pages.new.disk c.count_pages.ensures.reads) is)
 
 pub returns-clause-costs : goal.returns-clause-costs
 returns-clause-costs g c = on_ok c.flush_range.result _ _ c.flush_range.ensures.costs (λ is.

@@ -15,8 +15,8 @@ returns-in_err-count-clause-kept g c b base s w = record {
   stops = leaves_read g.D.Disk b base s c.args.log.now c.args.table.now c.args.pool.now c.args.disk.now c.count_pages.new.disk (g.met.D.Disk.only_now c.args.disk.now) w c.count_pages.ensures.reads;
 }
 
-pub returns-then-number-count-clause-kept : goal.returns-then-number-count-clause-kept
-returns-then-number-count-clause-kept g c b base s w =
+pub returns-then-number-saturating_add-clause-kept : goal.returns-then-number-saturating_add-clause-kept
+returns-then-number-saturating_add-clause-kept g c b base s w =
     let goes =
     goes_read g.D.Disk b base s c.args.log.now c.args.table.now c.args.pool.now c.args.disk.now c.count_pages.new.disk (g.met.D.Disk.only_now c.args.disk.now) w c.count_pages.ensures.reads c.in_ok-count.ensures.answers.noted in
     record { ok = record { now = s; goes = goes }; stops = leaves_so_far g.D.Disk b base s c.args.disk.now s c.args.log.now c.args.table.now c.args.pool.now c.count_pages.new.disk goes }
