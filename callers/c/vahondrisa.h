@@ -62,6 +62,17 @@
  *  A store is not to be used in a child after fork(): its calls are refused there
  *  VAH_FORKED, and vah_close lets go of what the child has of it.
  *
+ *	@section long	Long transactions
+ *
+ *  A transaction costs others while it is active. Its locks keep them from its keys,
+ *  and from what it has read, absent keys and ranges too: the older ones wait, the
+ *  younger ones give way. Each key that it reads or changes is a lock in memory until
+ *  it ends. The log cannot be left for an empty one, so that it grows by all that is
+ *  logged meanwhile, past vah_config.log_bytes; an opening after a crash reads all of
+ *  it, and takes the transaction back. vah_rollback takes back one change at a time.
+ *  So end transactions soon. A load commits each thousand keys or so; who reads the
+ *  whole store reads it in parts, or reads a copy (vah_copy).
+ *
  *	@section files	Files
  *
  *  A store is a folder with the files `log`, `log2` and `pages`. It is open once
@@ -184,12 +195,14 @@ typedef struct vah_info {
  *  called vah_close meanwhile. Nothing was changed, and the transaction goes on:
  *  call again, or roll back. */
 #define VAH_BUSY 103
-/** An argument is NULL or no handle, or a flag or a size is not known. */
+/** An argument is NULL or no handle, or a flag or a size is not known: the call
+ *  has to be mended. Nothing was changed. */
 #define VAH_INVALID 104
 /** Transactions of the store are active, or another thread sleeps in a call of
- *  it, or copies it: it was not closed, or not switched. */
+ *  it, or copies it: it was not closed, or not switched. End them, and call again. */
 #define VAH_ACTIVE 105
-/** The store was opened by the process that this one was forked from. */
+/** The store was opened by the process that this one was forked from: open it after
+ *  the fork, in one of them. */
 #define VAH_FORKED 106
 /** The call would wait for a transaction of this very thread, or for a thread
  *  that waits for this one. Nothing was changed, and the transaction goes on:
@@ -197,33 +210,53 @@ typedef struct vah_info {
 #define VAH_DEADLOCK 107
 /** vah_config.progress gave the opening up. The store is as it was. */
 #define VAH_STOPPED 108
-/** The store was closed. */
+/** The store was closed: open it again. */
 #define VAH_CLOSED 109
-/** The store was opened to be read only. Nothing was changed. */
+/** The store was opened to be read only. Nothing was changed: open it without
+ *  read_only, once nobody else looks at it. */
 #define VAH_READ_ONLY 110
-/** The folder of a copy has something in it, or lies in the store's own. */
+/** The folder of a copy has something in it, or lies in the store's own: name
+ *  another. */
 #define VAH_NOT_EMPTY 111
-/** A call of the system on the folder or the files of a copy failed: there is no
- *  copy. The store goes on. */
+/** A call of the system on the folder or the files of a copy failed, as errno says:
+ *  there is no copy. The store goes on: copy again, where there is room. */
 #define VAH_NOT_COPIED 112
 /* The refusals of the store, by the numbers that its programs print. */
-#define VAH_NO_TRANSACTION 1   /**< the transaction has ended */
-#define VAH_MUST_ROLL_BACK 2   /**< a call of it was answered VAH_GIVE_WAY, or a
-                                *   vah_put of it failed half way */
-#define VAH_KEY_LENGTH 3       /**< a key has 1 to 255 bytes */
-#define VAH_ROLLING_BACK 4     /**< another thread takes it back at this moment */
-#define VAH_PAGES_FULL 5       /**< max_pages are in use */
-#define VAH_CAPACITY 6         /**< numbers are used up; the store has failed */
-#define VAH_LOG_FULL 7         /**< the log is full; the store has failed */
-#define VAH_DEVICE 8           /**< a call of the system failed; so has the store */
-#define VAH_MEMORY 9           /**< out of memory; nothing was changed */
-#define VAH_FAILED 10          /**< an earlier call failed: close, and open again */
-#define VAH_NOT_A_STORE 11     /**< the files are of no store, or are damaged */
-#define VAH_TOO_MANY 12        /**< 64 transactions are active, or 4,096 stores are
-                                *   open */
-#define VAH_POOL_SIZE 13       /**< frames are not 8 to 1024, or cache_bytes above
-                                *   1,020 MiB */
-#define VAH_LOCKED 19          /**< the store is open elsewhere */
+/** The transaction has ended: begin another. */
+#define VAH_NO_TRANSACTION 1
+/** A call of the transaction was answered VAH_GIVE_WAY, or a vah_put of it failed
+ *  half way: vah_again, or vah_rollback. */
+#define VAH_MUST_ROLL_BACK 2
+/** A key has 1 to 255 bytes: shorten it, or keep it elsewhere, by its row id. */
+#define VAH_KEY_LENGTH 3
+/** Another thread takes the transaction back at this moment: begin another. */
+#define VAH_ROLLING_BACK 4
+/** vah_config.max_pages are in use: open the store with more, or delete keys. */
+#define VAH_PAGES_FULL 5
+/** Numbers are used up; the store has failed: dump it, and load a new one. */
+#define VAH_CAPACITY 6
+/** The log is full, at 2^62 bytes of all that was ever logged; the store has
+ *  failed: dump it, and load a new one. */
+#define VAH_LOG_FULL 7
+/** A call of the system failed, and so has the store: see to the disk (errno has
+ *  the reason), close, and open again. What was committed is there; of a commit
+ *  that was answered so, look whether it is. */
+#define VAH_DEVICE 8
+/** Out of memory. Nothing was changed: call again, roll back, or open the store
+ *  with less for its cache. */
+#define VAH_MEMORY 9
+/** An earlier call failed: close, and open again. */
+#define VAH_FAILED 10
+/** The files are of no store, or are damaged: `imstore --check` names what is
+ *  broken. Bring all three back from a copy. */
+#define VAH_NOT_A_STORE 11
+/** 64 transactions are active, or 4,096 stores are open: end one. */
+#define VAH_TOO_MANY 12
+/** frames are not 8 to 1024, or cache_bytes above 1,020 MiB: name others. */
+#define VAH_POOL_SIZE 13
+/** The store is open elsewhere: close it there. A program that was killed has let
+ *  go of it; to look beside one that reads, open it read_only too. */
+#define VAH_LOCKED 19
 /** @} */
 
 /** What a code means, in words. Never NULL; not to be freed. */
