@@ -57,8 +57,8 @@ impl Blob {
     }
 
     /// The value of a key.
-    pub fn get(&self, txn: &Transaction<'_>, key: &[u8]) -> Result<Option<Vec<u8>>> {
-        let front = self.front(txn, key)?;
+    pub fn get(&self, txn: &Transaction<'_>, key: impl AsRef<[u8]>) -> Result<Option<Vec<u8>>> {
+        let front = self.front(txn, key.as_ref())?;
         let (mut value, mut left, mut number) = (Vec::new(), None, 0u32);
         parts_of(txn, &front).each(|at, rid| {
             // each has the next number, and says how many bytes there are from it on
@@ -79,14 +79,14 @@ impl Blob {
     }
 
     /// How many bytes the value of a key has. It reads the first part alone.
-    pub fn len(&self, txn: &Transaction<'_>, key: &[u8]) -> Result<Option<u64>> {
-        let front = self.front(txn, key)?;
+    pub fn len(&self, txn: &Transaction<'_>, key: impl AsRef<[u8]>) -> Result<Option<u64>> {
+        let front = self.front(txn, key.as_ref())?;
         Ok(txn.seek(&front)?.filter(|(at, _)| at.starts_with(&front) && *at < past(&front)).map(|(_, rid)| rid))
     }
 
     /// Puts a value in, in place of the one that was there; whether there was one.
-    pub fn put(&self, txn: &Transaction<'_>, key: &[u8], value: &[u8]) -> Result<bool> {
-        let front = self.front(txn, key)?;
+    pub fn put(&self, txn: &Transaction<'_>, key: impl AsRef<[u8]>, value: &[u8]) -> Result<bool> {
+        let front = self.front(txn, key.as_ref())?;
         let room = sys::VAH_KEY_MAX - 1 - front.len() - NUMBER;
         if value.len() / room >= MOST_PARTS {
             return Err(Error::of(sys::VAH_INVALID, format!("{}: a value of {} bytes has too many parts", txn.store().path().display(), value.len())));
@@ -114,8 +114,8 @@ impl Blob {
     }
 
     /// Takes a value out; false where there is none.
-    pub fn remove(&self, txn: &Transaction<'_>, key: &[u8]) -> Result<bool> {
-        let front = self.front(txn, key)?;
+    pub fn remove(&self, txn: &Transaction<'_>, key: impl AsRef<[u8]>) -> Result<bool> {
+        let front = self.front(txn, key.as_ref())?;
         let old: Vec<Entry> = parts_of(txn, &front).collect::<Result<_>>()?;
         change(txn, &old, &[])?;
         Ok(!old.is_empty())

@@ -35,7 +35,14 @@ pub(crate) fn name(store: &Store, name: &str, kind: Kind) -> Result<Vec<u8>> {
     let row = [CATALOGUE, name.as_bytes()].concat();
     store.write(|txn| match txn.get(&row)? {
         Some(rid) if rid == kind as u64 => Ok(()),
-        Some(_) => Err(Error::of(sys::VAH_INVALID, format!("{}: {name} names no such thing", store.path().display()))),
+        Some(rid) => {
+            let found = match rid {
+                1 => "an index",
+                2 => "a set of long values",
+                _ => "another thing",
+            };
+            Err(Error::of(sys::VAH_INVALID, format!("{}: {name} names {found} already", store.path().display())))
+        }
         None => {
             txn.insert(&guard_of(CATALOGUE), 0)?;
             txn.insert(&guard_of(&prefix), 0)?;

@@ -50,23 +50,23 @@ impl Index {
     }
 
     /// The row id of a key.
-    pub fn get(&self, txn: &Transaction<'_>, key: &[u8]) -> Result<Option<u64>> {
-        txn.get(&self.whole(txn, key)?)
+    pub fn get(&self, txn: &Transaction<'_>, key: impl AsRef<[u8]>) -> Result<Option<u64>> {
+        txn.get(self.whole(txn, key.as_ref())?)
     }
 
     /// Puts a key in that is not there; false where it is there already, and then it stays as it is.
-    pub fn insert(&self, txn: &Transaction<'_>, key: &[u8], rid: u64) -> Result<bool> {
-        txn.insert(&self.whole(txn, key)?, rid)
+    pub fn insert(&self, txn: &Transaction<'_>, key: impl AsRef<[u8]>, rid: u64) -> Result<bool> {
+        txn.insert(self.whole(txn, key.as_ref())?, rid)
     }
 
     /// Puts a key in, or gives one that is there another row id; the one that it had.
-    pub fn put(&self, txn: &Transaction<'_>, key: &[u8], rid: u64) -> Result<Option<u64>> {
-        txn.put(&self.whole(txn, key)?, rid)
+    pub fn put(&self, txn: &Transaction<'_>, key: impl AsRef<[u8]>, rid: u64) -> Result<Option<u64>> {
+        txn.put(self.whole(txn, key.as_ref())?, rid)
     }
 
     /// Takes a key out; false where it is not there.
-    pub fn remove(&self, txn: &Transaction<'_>, key: &[u8]) -> Result<bool> {
-        txn.remove(&self.whole(txn, key)?)
+    pub fn remove(&self, txn: &Transaction<'_>, key: impl AsRef<[u8]>) -> Result<bool> {
+        txn.remove(self.whole(txn, key.as_ref())?)
     }
 
     /// The first entry of all.
@@ -82,18 +82,18 @@ impl Index {
     }
 
     /// The first entry from a key on.
-    pub fn seek(&self, txn: &Transaction<'_>, key: &[u8]) -> Result<Option<Entry>> {
-        Ok(self.own(txn.seek(&self.whole(txn, key)?)?))
+    pub fn seek(&self, txn: &Transaction<'_>, key: impl AsRef<[u8]>) -> Result<Option<Entry>> {
+        Ok(self.own(txn.seek(self.whole(txn, key.as_ref())?)?))
     }
 
     /// The first entry after a key.
-    pub fn next(&self, txn: &Transaction<'_>, key: &[u8]) -> Result<Option<Entry>> {
-        Ok(self.own(txn.next(&self.whole(txn, key)?)?))
+    pub fn next(&self, txn: &Transaction<'_>, key: impl AsRef<[u8]>) -> Result<Option<Entry>> {
+        Ok(self.own(txn.next(self.whole(txn, key.as_ref())?)?))
     }
 
     /// The last entry before a key.
-    pub fn prev(&self, txn: &Transaction<'_>, key: &[u8]) -> Result<Option<Entry>> {
-        Ok(self.own(txn.prev(&self.whole(txn, key)?)?))
+    pub fn prev(&self, txn: &Transaction<'_>, key: impl AsRef<[u8]>) -> Result<Option<Entry>> {
+        Ok(self.own(txn.prev(self.whole(txn, key.as_ref())?)?))
     }
 
     /// The entries of a range, in order.
@@ -107,8 +107,8 @@ impl Index {
     }
 
     /// The entries whose keys begin with a prefix, in order.
-    pub fn prefix<'t, 's>(&self, txn: &'t Transaction<'s>, prefix: &[u8]) -> Range<'t, 's> {
-        let from = [&self.prefix, prefix].concat();
+    pub fn prefix<'t, 's>(&self, txn: &'t Transaction<'s>, prefix: impl AsRef<[u8]>) -> Range<'t, 's> {
+        let from = [&self.prefix, prefix.as_ref()].concat();
         if let Err(error) = self.check(txn).and_then(|()| check_len(from.len())) {
             return Range::refused(txn, error);
         }

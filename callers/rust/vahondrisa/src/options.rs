@@ -3,6 +3,7 @@ use crate::store::{done, Store};
 use crate::transaction::milliseconds;
 use std::any::Any;
 use std::ffi::{c_int, c_void, CString};
+use std::fmt;
 use std::os::unix::ffi::OsStrExt;
 use std::panic::{catch_unwind, resume_unwind, AssertUnwindSafe};
 use std::path::Path;
@@ -21,7 +22,7 @@ use vahondrisa_sys as sys;
 /// # store.close()?; std::fs::remove_dir_all(dir).unwrap();
 /// # Ok::<(), vahondrisa::Error>(())
 /// ```
-#[derive(Clone, Copy, Debug)]
+#[derive(Clone, Copy)]
 pub struct Options {
     frames: u32,
     cache_bytes: u64,
@@ -154,6 +155,22 @@ impl Options {
         // SAFETY: the path ends with 0, all pointers are to what lives over the call, and `with` is what `progress` takes.
         done(unsafe { sys::vah_open(name.as_ptr(), &config, &mut at) })?;
         Ok(Store::of(at, path.to_path_buf()))
+    }
+}
+
+impl fmt::Debug for Options {
+    fn fmt(&self, f: &mut fmt::Formatter<'_>) -> fmt::Result {
+        // the greatest number stands for a bound that goes by the file of pages, and 0 for none
+        let bound = |bytes: u64| if bytes == u64::MAX { "by the file of pages".to_string() } else { bytes.to_string() };
+        f.debug_struct("Options")
+            .field("frames", &self.frames)
+            .field("cache_bytes", &format_args!("{}", bound(self.cache_bytes)))
+            .field("max_pages", &self.max_pages)
+            .field("redo_bytes", &format_args!("{}", bound(self.redo_bytes)))
+            .field("log_bytes", &format_args!("{}", bound(self.log_bytes)))
+            .field("wait_ms", &self.wait_ms)
+            .field("read_only", &self.read_only)
+            .finish()
     }
 }
 

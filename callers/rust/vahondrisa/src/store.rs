@@ -231,6 +231,20 @@ impl Store {
         catalogue::name(self, name, Kind::Blob).map(|prefix| Blob::new(self, name, prefix))
     }
 
+    /// The row id of a key, in a transaction of its own. Within a `write` ask its transaction: this is refused `Deadlock` there, as a `write` is.
+    ///
+    /// ```
+    /// # let dir = std::env::temp_dir().join(format!("vahondrisa-doc-get-{}", std::process::id()));
+    /// # let store = vahondrisa::Store::open(&dir)?;
+    /// store.write(|txn| txn.put("apple", 7))?;
+    /// assert_eq!((store.get("apple")?, store.get("plum")?), (Some(7), None));
+    /// # store.close()?; std::fs::remove_dir_all(dir).unwrap();
+    /// # Ok::<(), vahondrisa::Error>(())
+    /// ```
+    pub fn get(&self, key: impl AsRef<[u8]>) -> Result<Option<u64>> {
+        self.write(|txn| txn.get(&key))
+    }
+
     /// The names of all indexes, in order.
     pub fn indexes(&self) -> Result<Vec<String>> {
         catalogue::names(self, Kind::Index)

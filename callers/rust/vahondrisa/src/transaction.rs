@@ -17,7 +17,7 @@ use vahondrisa_sys as sys;
 /// assert!(txn.insert(b"apple", 7)?);
 /// assert!(!txn.insert(b"apple", 8)?); // it is there, and stays as it is
 /// assert_eq!(txn.put(b"apple", 9)?, Some(7));
-/// assert_eq!(txn.get(b"apple")?, Some(9));
+/// assert_eq!(txn.get("apple")?, Some(9)); // a key is all that is bytes, a text too
 /// assert!(txn.remove(b"apple")?);
 /// txn.commit()?;
 /// # store.close()?; std::fs::remove_dir_all(dir).unwrap();
@@ -59,22 +59,24 @@ impl<'s> Transaction<'s> {
     }
 
     /// The row id of a key.
-    pub fn get(&self, key: &[u8]) -> Result<Option<u64>> {
-        let mut rid = 0;
+    pub fn get(&self, key: impl AsRef<[u8]>) -> Result<Option<u64>> {
+        let (key, mut rid) = (key.as_ref(), 0);
         // SAFETY: here and below the name stands for a transaction that has not ended, and a key is as long as is said.
         let code = unsafe { sys::vah_fetch(self.at, key.as_ptr().cast(), key.len(), &mut rid) };
         Ok(self.unless(code, sys::VAH_NOT_FOUND)?.then_some(rid))
     }
 
     /// Puts a key in that is not there; false where it is there already, and then it stays as it is.
-    pub fn insert(&self, key: &[u8], rid: u64) -> Result<bool> {
+    pub fn insert(&self, key: impl AsRef<[u8]>, rid: u64) -> Result<bool> {
+        let key = key.as_ref();
         self.unless(unsafe { sys::vah_insert(self.at, key.as_ptr().cast(), key.len(), rid) }, sys::VAH_EXISTS)
     }
 
     /// Puts a key in, or gives one that is there another row id; the one that it had.
     ///
     /// After `PagesFull` and `Memory` the transaction may be one that can only be rolled back.
-    pub fn put(&self, key: &[u8], rid: u64) -> Result<Option<u64>> {
+    pub fn put(&self, key: impl AsRef<[u8]>, rid: u64) -> Result<Option<u64>> {
+        let key = key.as_ref();
         let (mut was_there, mut previous) = (0, 0);
         let code = unsafe { sys::vah_put(self.at, key.as_ptr().cast(), key.len(), rid, &mut was_there, &mut previous) };
         self.unless(code, sys::VAH_OK)?;
@@ -82,13 +84,14 @@ impl<'s> Transaction<'s> {
     }
 
     /// Takes a key out; false where it is not there.
-    pub fn remove(&self, key: &[u8]) -> Result<bool> {
+    pub fn remove(&self, key: impl AsRef<[u8]>) -> Result<bool> {
+        let key = key.as_ref();
         self.unless(unsafe { sys::vah_delete(self.at, key.as_ptr().cast(), key.len()) }, sys::VAH_NOT_FOUND)
     }
 
     /// The first entry of all.
     pub fn first(&self) -> Result<Option<(Vec<u8>, u64)>> {
-        self.seek(&[0])
+        self.seek(b"\0")
     }
 
     /// The last entry of all.
@@ -97,17 +100,20 @@ impl<'s> Transaction<'s> {
     }
 
     /// The first entry from a key on.
-    pub fn seek(&self, key: &[u8]) -> Result<Option<(Vec<u8>, u64)>> {
+    pub fn seek(&self, key: impl AsRef<[u8]>) -> Result<Option<(Vec<u8>, u64)>> {
+        let key = key.as_ref();
         self.entry(|entry| unsafe { sys::vah_seek(self.at, key.as_ptr().cast(), key.len(), entry) })
     }
 
     /// The first entry after a key.
-    pub fn next(&self, key: &[u8]) -> Result<Option<(Vec<u8>, u64)>> {
+    pub fn next(&self, key: impl AsRef<[u8]>) -> Result<Option<(Vec<u8>, u64)>> {
+        let key = key.as_ref();
         self.entry(|entry| unsafe { sys::vah_next(self.at, key.as_ptr().cast(), key.len(), entry) })
     }
 
     /// The last entry before a key.
-    pub fn prev(&self, key: &[u8]) -> Result<Option<(Vec<u8>, u64)>> {
+    pub fn prev(&self, key: impl AsRef<[u8]>) -> Result<Option<(Vec<u8>, u64)>> {
+        let key = key.as_ref();
         self.entry(|entry| unsafe { sys::vah_prev(self.at, key.as_ptr().cast(), key.len(), entry) })
     }
 
@@ -117,8 +123,8 @@ impl<'s> Transaction<'s> {
     }
 
     /// The entries whose keys begin with a prefix, in order. No key has more than 255 bytes, and so has the prefix.
-    pub fn prefix<'t>(&'t self, prefix: &[u8]) -> Range<'t, 's> {
-        Range::of_prefix(self, prefix)
+    pub fn prefix<'t>(&'t self, prefix: impl AsRef<[u8]>) -> Range<'t, 's> {
+        Range::of_prefix(self, prefix.as_ref())
     }
 
     /// From the next call on, each waits so long at most for other transactions, and is then refused `Busy`; `None`: as long as is needed.

@@ -18,3 +18,14 @@ fn each_public_type_has_an_example() {
     }
     assert_eq!((types > 10, lacking), (true, Vec::new()));
 }
+
+#[path = "../examples/orders.rs"]
+mod orders;
+
+#[test]
+fn the_example_does_what_it_says() {
+    let room = std::env::temp_dir().join(format!("vahondrisa-orders-{}", std::process::id()));
+    let (rows, count) = orders::run(&room.join("store")).unwrap();
+    assert_eq!((rows, count), ((1_000..1_010).collect::<Vec<_>>(), 40));
+    std::fs::remove_dir_all(room).unwrap();
+}

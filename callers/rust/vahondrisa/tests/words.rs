@@ -45,6 +45,41 @@ fn a_transaction_is_as_a_map() {
     txn.commit().unwrap();
 }
 
+#[test]
+fn a_key_is_all_that_is_bytes() {
+    let dir = Folder::new("bytes");
+    let store = Store::open(&dir.0).unwrap();
+    let index = store.index("words").unwrap();
+    store
+        .write(|txn| {
+            txn.put("apple", 1)?;
+            txn.put(String::from("fig"), 2)?;
+            txn.put(vec![b'p'], 3)?;
+            txn.put([b'q', 0], 4)?;
+            index.put(txn, "apple", 5)?;
+            index.put(txn, &key_of(7), 6)
+        })
+        .unwrap();
+    let txn = store.begin().unwrap();
+    let own = |key: &str| txn.get(key.as_bytes()).unwrap();
+    assert_eq!((own("apple"), own("fig"), own("p"), own("q\0"), own("plum")), (Some(1), Some(2), Some(3), Some(4), None));
+    assert_eq!((index.get(&txn, b"apple").unwrap(), index.get(&txn, "7").unwrap()), (Some(5), Some(6)));
+    assert_eq!(txn.prefix("ap").count(), 1);
+    txn.commit().unwrap();
+    // a store is asked by a transaction of its own
+    assert_eq!((store.get("apple").unwrap(), store.get(b"plum").unwrap(), store.info().unwrap().active), (Some(1), None, 0));
+    let nested = store.write(|txn| txn.put("apple", 8).and_then(|_| store.get("apple")));
+    assert_eq!(nested.unwrap_err().kind(), ErrorKind::Deadlock);
+    assert_eq!(store.get("").unwrap_err().kind(), ErrorKind::KeyLength);
+}
+
+#[test]
+fn options_are_told_in_words() {
+    let told = format!("{:?}", Store::options().redo_bytes(0).read_only(true));
+    let wanted = "Options { frames: 1024, cache_bytes: by the file of pages, max_pages: 1000000, redo_bytes: 0, log_bytes: by the file of pages, wait_ms: 0, read_only: true }";
+    assert_eq!(told, wanted);
+}
+
 /// The bounds of a range for the model, where it begins no later than it ends.
 fn bound(chance: &mut Chance) -> Bound<Vec<u8>> {
     let key = key_of(chance.next(500));
