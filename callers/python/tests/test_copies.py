@@ -165,7 +165,13 @@ class Looks(Case):
         self.assertEqual(self.sums(), before)
 
     def test_no_store_is_made(self):
-        self.assertRaises(vahondrisa.Failed, vahondrisa.open, self.dir, read_only=True)
+        for folder in (self.dir, self.dir + "/deep"):
+            with self.assertRaises(FileNotFoundError) as caught:
+                vahondrisa.open(folder, read_only=True)
+            told = caught.exception
+            self.assertEqual((type(told), told.errno, told.filename, str(told)), (vahondrisa.Missing, errno.ENOENT, folder, f"{folder}: there is no such folder"))
+            self.assertIsInstance(told, vahondrisa.Failed)
+            self.assertEqual(str(pickle.loads(pickle.dumps(told))), str(told))
         self.assertFalse(os.path.exists(self.dir))
         os.mkdir(self.dir)
         self.assertRaisesRegex(vahondrisa.NotAStore, "there is no `log` in it", vahondrisa.open, self.dir, read_only=True)

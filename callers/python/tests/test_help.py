@@ -1,13 +1,46 @@
-"""The examples of `help(vahondrisa)`: each public name has one, and each prints what it says."""
+"""The examples of `help(vahondrisa)`: each public name has one, and each prints what it says. The package's own is a program, and has types."""
 import doctest
+import importlib.util
 import os
+import re
+import subprocess
+import sys
+import textwrap
 import unittest
 
 import vahondrisa
 from support import Case
 
 
+# What the package's own example prints.
+PRINTED = """\
+7 False None
+b'apple' 7
+b'pear' 8
+5 [(b'apple', 7), (b'fig', 1), (b'pear', 8), (b'plum', 5)]
+"""
+
+
+def own_example():
+    """The program in the docstring of the package."""
+    return textwrap.dedent(re.search(r"(?:(?:    .*)?\n)+", vahondrisa.__doc__.partition("\n\n")[2])[0])
+
+
 class Help(Case):
+    def test_the_example_of_the_package_is_a_program(self):
+        with self.run_on(own_example(), cwd=self.room.name) as run:
+            self.assertEqual(run.communicate()[0].decode(), PRINTED)
+        self.assertEqual(run.returncode, 0)
+
+    @unittest.skipUnless(importlib.util.find_spec("mypy"), "there is no mypy here")
+    def test_the_example_of_the_package_has_types(self):
+        program, package = os.path.join(self.room.name, "program.py"), os.path.dirname(os.path.dirname(vahondrisa.__file__))
+        with open(program, "w") as file:
+            file.write(own_example())
+        words = [sys.executable, "-m", "mypy", "--strict", "--follow-imports=silent", "--cache-dir", self.dir, program]
+        ran = subprocess.run(words, env=dict(os.environ, MYPYPATH=package), stdout=subprocess.PIPE, stderr=subprocess.STDOUT, text=True)
+        self.assertEqual(ran.returncode, 0, ran.stdout)
+
     def test_each_public_name_has_an_example(self):
         for name in vahondrisa.__all__:
             self.assertIn(">>> ", getattr(vahondrisa, name).__doc__, name)

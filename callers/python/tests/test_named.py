@@ -59,15 +59,16 @@ class Named(Case):
         for name in ("", "b" * 32, "é" * 16):
             self.assertRaisesRegex(ValueError, "^name must have 1 to 31 bytes", self.store.index, name)
         self.assertRaisesRegex(TypeError, "^name must be a str, not bytes$", self.store.index, b"a")
-        self.assertRaisesRegex(ValueError, "^'texts' names no such thing$", self.store.index, "texts")
-        self.assertRaisesRegex(ValueError, "^'by_city' names no such thing$", self.store.blob, "by_city")
+        self.assertRaisesRegex(ValueError, "^'texts' names a set of long values already, and not an index$", self.store.index, "texts")
+        self.assertRaisesRegex(ValueError, "^'by_city' names an index already, and not a set of long values$", self.store.blob, "by_city")
         with vahondrisa.open(self.dir + "2") as other, other.begin() as txn:
             self.assertRaisesRegex(ValueError, "^txn must be of the store", by_city.within, txn)
             self.assertRaisesRegex(ValueError, "^txn must be of the store", texts.within, txn)
         with self.store.begin() as txn:
             for key in (b"", b"a" * 247):
-                for call in (by_city.within(txn).get, by_city.within(txn).seek, by_city.within(txn).delete, by_city.within(txn).range):
+                for call in (by_city.within(txn).get, by_city.within(txn).seek, by_city.within(txn).delete):
                     self.assertRaisesRegex(ValueError, "^a key of this index has 1 to 246 bytes", call, key)
+            self.assertRaisesRegex(ValueError, "^a key of this index has 1 to 246 bytes", by_city.within(txn).range, b"a" * 247)
             self.assertIsNone(by_city.within(txn).get(b"a" * 246))
             for key in (b"", b"a" * 213, b"\0" * 107):
                 self.assertRaisesRegex(ValueError, "^a key of a long value has 1 to 212 bytes here", texts.within(txn).get, key)

@@ -215,7 +215,10 @@ class Threads(Case):
 
     def test_a_thread_that_would_wait_for_itself(self):
         with vahondrisa.open(self.dir) as store:
-            for body in (lambda txn: store.write(lambda it: it.get(b"a")), lambda txn: store.get(b"a"), lambda txn: store.index("a")):
+            for body in (
+                lambda txn: store.write(lambda it: it.get(b"a")), lambda txn: store.put(b"a", 1), lambda txn: store.__setitem__(b"a", 1),
+                lambda txn: store.pop(b"a", None), lambda txn: store.__delitem__(b"a"), lambda txn: store.index("a"),
+            ):
                 self.assertRaisesRegex(vahondrisa.Deadlock, "a write within a write of the same thread$", store.write, body)
             # another thread's write does not count
             store.write(lambda txn: together(lambda: store.write(lambda it: it.put(b"b", 1))))

@@ -70,6 +70,16 @@ for turn, call in enumerate((lambda body: store.write(body), within)):
 """
 
 
+# Another process has the store.
+SECOND = """
+import sys, vahondrisa
+try:
+    vahondrisa.open(sys.argv[1])
+except vahondrisa.Locked as it:
+    print(it)
+"""
+
+
 # The pool finds no memory: the opening is refused, and the store is as it was.
 NARROW = """
 import resource, sys, vahondrisa
@@ -157,13 +167,18 @@ class Stores(Case):
 
     def test_refusals(self):
         with vahondrisa.open(self.dir) as store:
-            with self.assertRaisesRegex(vahondrisa.Locked, f"^{self.dir}: the store is open elsewhere$"):
-                vahondrisa.open(self.dir)
+            for path in (self.dir, os.path.join(self.dir, os.curdir)):
+                with self.assertRaisesRegex(vahondrisa.Locked, f"^{path}: the store is open in this process already$"):
+                    vahondrisa.open(path)
+            with self.run_on(SECOND) as run:
+                self.assertEqual(run.stdout.read().decode().rstrip(), f"{self.dir}: the store is open elsewhere")
             txn = store.begin()
             for key in (b"", bytes(256)):
                 self.assertRaises(ValueError, txn.insert, key, 1)
-                for call in (txn.get, txn.delete, txn.seek, txn.next, lambda key: list(txn.range(key)), lambda key: list(txn.range(b"a", key))):
+                for call in (txn.get, txn.delete, txn.seek, txn.next):
                     self.assertRaises(ValueError, call, key)
+            for call in (lambda key: list(txn.range(key)), lambda key: list(txn.range(b"a", key)), lambda key: list(txn[: key + b"a"])):
+                self.assertRaises(ValueError, call, bytes(256))
             self.assertRaises(ValueError, txn.insert, b"a", 2**64)
             self.assertRaises(ValueError, txn.insert, b"a", -1)
             self.assertRaises(TypeError, txn.insert, "a", 1)

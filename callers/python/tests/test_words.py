@@ -7,7 +7,7 @@ import unittest
 from array import array
 
 import vahondrisa
-from support import Case
+from support import Case, together
 
 
 # ends without a close, and so leaves a log to be read
@@ -91,6 +91,81 @@ class Words(Case):
                 self.assertEqual([next(part, None) for _ in range(9)] + list(part), (wanted + [None] * 9)[:9] + wanted[9:])
             self.assertEqual([txn.first(), txn.seek(b"1"), txn.next(keys[-1])], [entries[0], txn.seek(b"1"), None])
             self.assertEqual(list(txn.prefix(b"12")), [it for it in entries if it[0].startswith(b"12")])
+
+    def test_slices_and_open_bounds(self):
+        chance = random.Random(9)
+        keys = sorted({bytes(chance.choice((0, 1, 97, 255)) for _ in range(chance.randrange(1, 4))) for _ in range(60)} | {b"a", b"a" * 254, b"\xff" * 200})
+        by_city = self.store.index("by_city")
+        with self.store.begin() as txn:
+            for index in (by_city.within(txn), txn):
+                for key in keys:
+                    index[key if index is txn else key[:246]] = 1
+                own = [key for key, _ in index.range()]
+                self.assertLessEqual({key if index is txn else key[:246] for key in keys}, set(own))
+                self.assertEqual([key for key, _ in index.range(b"", b"")], own)
+                self.assertEqual([key for key, _ in index[:]], own)
+                bounds = [None, b"", b"\0", b"a", b"a\0", b"\1", b"\xff", b"a" * 200, *keys[:20]]
+                for lo in bounds:
+                    for hi in bounds:
+                        found = [key for key, _ in index[lo:hi]]
+                        self.assertEqual(found, [it for it in own if it >= (lo or b"") and (not hi or it < hi)], (lo, hi))
+                self.assertEqual([key for key, _ in index[bytearray(b"a"):memoryview(b"b")]], [it for it in own if b"a" <= it < b"b"])
+                self.assertRaisesRegex(ValueError, "^a slice of keys has no step$", lambda: index[b"a":b"b":2])
+                self.assertRaisesRegex(TypeError, "^key must be bytes or a buffer of bytes, not str$", lambda: index["a":])
+                self.assertRaisesRegex(TypeError, "^key must be bytes or a buffer of bytes, not int$", lambda: index[:5])
+
+    def test_pop(self):
+        for words in (self.store, self.store.begin()):
+            words[b"a"] = 7
+            self.assertEqual((words.pop(b"a"), words.pop(b"a", None), words.pop(b"a", 5), words.pop(b"a", default="none")), (7, None, 5, "none"))
+            self.assertRaises(KeyError, words.pop, b"a")
+        with words:  # of threads that share a transaction, one gets each
+            for turn in range(50):
+                words[b"a"], found = turn, []
+                self.assertEqual(together(*[lambda: found.append(words.pop(b"a", None))] * 4), [None] * 4)
+                self.assertEqual(sorted(map(str, found)), sorted(map(str, (turn, None, None, None))))
+        blob = self.store.blob("texts")
+        with self.store.begin() as txn:
+            blob.within(txn)[b"a"] = b"long" * 200
+            self.assertEqual((blob.within(txn).pop(b"a"), blob.within(txn).pop(b"a", None)), (b"long" * 200, None))
+            self.assertRaises(KeyError, blob.within(txn).pop, b"a")
+
+    def test_words_of_a_store(self):
+        store = self.store
+        store[b"pear"] = 2
+        self.assertEqual((store.put(b"apple", 1), store.put(b"apple", 7)), (None, 1))
+        self.assertEqual((store[b"apple"], store.get(b"apple"), store.get(b"plum"), store.get(b"plum", "none")), (7, 7, None, "none"))
+        self.assertEqual((b"apple" in store, b"plum" in store, list(store), store.items()), (True, False, [b"apple", b"pear"], [(b"apple", 7), (b"pear", 2)]))
+        for key in store:
+            store[key] += 1  # nothing is held between the words
+        self.assertEqual(dict(store.items()), {b"apple": 8, b"pear": 3})
+        del store[b"pear"]
+        self.assertRaises(KeyError, store.__delitem__, b"pear")
+        self.assertRaises(KeyError, store.__getitem__, b"pear")
+        self.assertEqual(store.info()["active"], 0)
+
+        def body(txn):
+            txn[b"fig"] = 4
+            seen = store[b"fig"], store.get(b"fig"), b"fig" in store, list(store), store.items()
+            txn.rollback()  # it has ended, and what comes then is by itself
+            return seen, b"fig" in store
+
+        wanted = (4, 4, True, [b"apple", b"fig"], [(b"apple", 8), (b"fig", 4)])
+        self.assertEqual(store.write(body), (wanted, False))
+        store.close()
+        for call in (lambda: store[b"a"], lambda: store.items(), lambda: b"a" in store, lambda: store.put(b"a", 1), lambda: list(store)):
+            self.assertRaisesRegex(ValueError, "^the store is closed$", call)
+
+    def test_nothing_of_the_library_is_copied(self):
+        txn = self.store.begin()
+        index, blob = self.store.index("by_city"), self.store.blob("texts")
+        each = (self.store, txn, index, blob, index.within(txn), blob.within(txn), txn.range())
+        for it in each:
+            for call in (copy.copy, copy.deepcopy, pickle.dumps):
+                self.assertRaisesRegex(TypeError, r"^vahondrisa\.\w+ can be neither copied nor pickled$", call, it)
+        txn[b"a"] = 1
+        txn.commit()
+        self.assertEqual(self.store.get(b"a"), 1)
 
     def test_downward(self):
         chance = random.Random(5)

@@ -10,12 +10,17 @@
             for key, rid in txn.range(b"a", b"z"):
                 print(key, rid)
 
-        store.write(lambda txn: txn.put(b"fig", 9))   # again, where it has to give way to an older transaction
+        def count(txn: vahondrisa.Transaction) -> None:
+            txn[b"fig"] = txn.get(b"fig", 0) + 1
+
+        store.write(count)                  # called again, where it has to give way to an older transaction
+        store[b"plum"] = 5                  # a transaction by itself, as is each word of a store
+        print(store[b"plum"], store.items())
 
 Any thread may use a store, and a transaction. Ctrl-C ends a call that waits. A store has room for several indexes, by name (`Store.index`), and for
 values of bytes (`Store.blob`).
 """
-from ._errors import Busy, Deadlock, Error, Failed, GiveWay, Locked, NotAStore, NotCopied, ReadOnly
+from ._errors import Busy, Deadlock, Error, Failed, GiveWay, Locked, Missing, NotAStore, NotCopied, ReadOnly
 from ._keys import Keys, Range
 from ._named import Blob, Index, Values
 from ._store import Store, build, open
@@ -23,6 +28,6 @@ from ._transaction import Transaction
 
 __all__ = [
     "open", "build", "Store", "Transaction", "Keys", "Range", "Index", "Blob", "Values",
-    "Error", "GiveWay", "Busy", "Deadlock", "Locked", "NotAStore", "Failed", "ReadOnly", "NotCopied",
+    "Error", "GiveWay", "Busy", "Deadlock", "Locked", "NotAStore", "Failed", "Missing", "ReadOnly", "NotCopied",
 ]
 __version__ = "0.1.0"

@@ -1,9 +1,17 @@
 """What callers hand in, and in which words it is refused."""
 import math
 import operator
-from typing import Optional, Union
+from typing import Any, NoReturn, Optional, Union
 
 Bytes = Union[bytes, bytearray, memoryview]
+NONE: Any = object()  # of an argument that was left out, where None may be handed in
+
+
+class Alone:
+    """What has no copy, since what it stands for in the library has none: neither `copy` nor `pickle` makes one."""
+
+    def __reduce__(self) -> NoReturn:
+        raise TypeError(f"vahondrisa.{type(self).__name__.lstrip('_')} can be neither copied nor pickled")
 
 
 def bytes_of(value: object, name: str) -> bytes:

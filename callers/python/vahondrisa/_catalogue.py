@@ -9,6 +9,7 @@ if TYPE_CHECKING:
     from ._transaction import Transaction
 
 INDEX, BLOB = 1, 2
+_KINDS = {INDEX: "an index", BLOB: "a set of long values"}
 _CATALOGUE = b"\0"
 _LONGEST_NAME = 31  # keys whose first byte is greater are of no index
 
@@ -34,8 +35,9 @@ def make(store: "Store", name: str, kind: int) -> bytes:
                 txn.insert(key, rid)
         return txn[_CATALOGUE + row]
 
-    if store.write(body) != kind:
-        raise ValueError(f"{name!r} names no such thing")
+    found = store.write(body)
+    if found != kind:
+        raise ValueError(f"{name!r} names {_KINDS.get(found, 'another thing')} already, and not {_KINDS[kind]}")
     return prefix
 
 

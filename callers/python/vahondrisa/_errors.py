@@ -13,7 +13,7 @@ class Error(Exception):
     >>> try:
     ...     vahondrisa.open(folder)         # which is open already
     ... except vahondrisa.Error as it:
-    ...     print(it.code, "open elsewhere" in str(it))
+    ...     print(it.code, str(it) == folder + ": the store is open in this process already")
     19 True
     """
 
@@ -85,7 +85,7 @@ class _OfFiles(Error, OSError):
 
 
 class Locked(_OfFiles):
-    """The store is open elsewhere: an OSError with the number EBUSY.
+    """The store is open already, elsewhere or in this process, which it then says: an OSError with the number EBUSY.
 
     >>> try:
     ...     vahondrisa.open(folder)
@@ -122,6 +122,17 @@ class Failed(_OfFiles):
     """
 
 
+class Missing(Failed, FileNotFoundError):
+    """There is no folder to look at: a FileNotFoundError, of an opening with `read_only=True`, which makes nothing.
+
+    >>> try:
+    ...     vahondrisa.open(folder + "/none", read_only=True)
+    ... except FileNotFoundError as it:
+    ...     print(it.strerror, os.path.exists(folder + "/none"))
+    No such file or directory False
+    """
+
+
 class ReadOnly(_OfFiles):
     """The store was opened to be read only: an OSError with the number EROFS. Nothing was changed.
 
@@ -155,8 +166,8 @@ _KINDS = {
 _NUMBERS = {c.LOCKED: errno.EBUSY, c.NOT_A_STORE: errno.EINVAL, c.READ_ONLY: errno.EROFS, c.NOT_EMPTY: errno.ENOTEMPTY}
 
 
-def refuse(code: int, path: Optional[str] = None) -> NoReturn:
-    """Raises what a code of this thread's last call stands for."""
+def refuse(code: int, path: Optional[str] = None, is_look: bool = False) -> NoReturn:
+    """Raises what a code of this thread's last call stands for, which may be an opening that only reads."""
     system = ctypes.get_errno()
     text = c.lib.vah_last_error().decode(errors="replace")
     if code == c.MEMORY:
@@ -168,6 +179,8 @@ def refuse(code: int, path: Optional[str] = None) -> NoReturn:
     if code in (c.KEY_LENGTH, c.POOL_SIZE, c.INVALID):
         raise ValueError(text)
     kind = _KINDS.get(code, Error)
+    if is_look and code == c.DEVICE and system == errno.ENOENT:
+        kind, text = Missing, f"{path}: there is no such folder"
     if not issubclass(kind, _OfFiles):
         raise kind(code, text)
     number = _NUMBERS.get(code, system if code in (c.DEVICE, c.FAILED, c.NOT_COPIED) and system else None)

@@ -4,19 +4,20 @@ import itertools
 import threading
 from collections.abc import ItemsView, KeysView, MutableMapping, ValuesView
 from ctypes import byref, c_int, c_size_t, c_uint64, c_void_p
-from typing import Callable, Iterator, Optional, Tuple
+from typing import Callable, Iterator, Optional, Tuple, TypeVar, Union, overload
 
 from . import _library as c
-from ._arguments import Bytes, bytes_of, number_of
+from ._arguments import NONE, Alone, Bytes, bytes_of, number_of
 
 Entry = Tuple[bytes, int]
+T = TypeVar("T")
 
 _fetch, _insert, _put, _delete, _scan = c.lib.vah_fetch, c.lib.vah_insert, c.lib.vah_put, c.lib.vah_delete, c.lib.vah_scan
 _ENTRY_SIZE = ctypes.sizeof(c.Entry)
 _RIDS = 1 << 64
 
 
-class Keys(MutableMapping[bytes, int]):
+class Keys(Alone, MutableMapping[bytes, int]):
     """Keys of bytes, each with a row id (`rid`), an int of 64 bits: those of a transaction, or of an index within one.
 
     It is a mapping, in the order of the keys' bytes. Each word of it makes calls of the transaction, which lock what they read, absent keys and the
@@ -29,10 +30,14 @@ class Keys(MutableMapping[bytes, int]):
     ...     b"plum" in txn, txn.get(b"plum"), txn[b"apple"]
     ...     txn.update({b"fig": 1, b"pear": 2})
     ...     list(txn), list(txn.items())[-1], len(txn)
+    ...     list(txn[b"apple":b"pear"])             # the entries from the first key on, without the second
     ...     del txn[b"apple"]
+    ...     txn.pop(b"fig"), txn.pop(b"fig", None)
     (False, 7)
     (False, None, 9)
     ([b'apple', b'fig', b'pear'], (b'pear', 2), 3)
+    [(b'apple', 9), (b'fig', 1)]
+    (1, None)
     """
 
     _at: c_void_p
@@ -52,7 +57,11 @@ class Keys(MutableMapping[bytes, int]):
         """The key of the store that stands for a key."""
         return bytes_of(key, "key")
 
-    def get(self, key: Bytes, default: Optional[int] = None) -> Optional[int]:  # type: ignore[override]
+    @overload
+    def get(self, key: Bytes) -> Optional[int]: ...
+    @overload
+    def get(self, key: Bytes, default: Union[int, T]) -> Union[int, T]: ...
+    def get(self, key: Bytes, default: object = None) -> object:
         """The row id of a key, or the default where it is not there."""
         if key.__class__ is not bytes or self._prefix:
             key = self._whole(key)
@@ -91,6 +100,19 @@ class Keys(MutableMapping[bytes, int]):
         key = self._whole(key)
         return self._ask(c.NOT_FOUND, _delete, key, len(key))
 
+    @overload
+    def pop(self, key: Bytes) -> int: ...
+    @overload
+    def pop(self, key: Bytes, default: Union[int, T]) -> Union[int, T]: ...
+    def pop(self, key: Bytes, default: object = NONE) -> object:
+        """Takes a key out, and returns the row id that it had; where it is not there the default, or KeyError without one."""
+        rid = self.get(key)
+        if rid is not None and self.delete(key):  # another thread of the same transaction may have taken it out
+            return rid
+        if default is NONE:
+            raise KeyError(key)
+        return default
+
     def first(self) -> Optional[Entry]:
         """The first entry of all, as (key, rid), or None."""
         return self._one(c.lib.vah_seek, self._prefix or b"\0")
@@ -123,13 +145,23 @@ class Keys(MutableMapping[bytes, int]):
     def range(
         self, lo: Optional[Bytes] = None, hi: Optional[Bytes] = None, *, reverse: bool = False, batch: int = c.SCAN_MAX
     ) -> "Range":
-        """The entries from one key to another, both included, in order, or with `reverse` from the last one on; None is no bound.
+        """The entries from one key to another, both included, in order, or with `reverse` from the last one on; None and b"" are no bound.
 
         It reads, and so locks, `batch` entries at a time, 2 to 256, and with `reverse` one at a time.
         """
-        low = self._prefix or b"\0" if lo is None else self._whole(lo)
-        high = self._prefix.ljust(self._longest, b"\xff") if hi is None else self._whole(hi)
+        low, high = (None if bound is None else bytes_of(bound, "key") for bound in (lo, hi))
+        low = self._whole(low) if low else self._prefix or b"\0"
+        high = self._whole(high) if high else self._prefix.ljust(self._longest, b"\xff")
         return Range(self, low, high, batch, reverse)
+
+    def _slice(self, keys: slice) -> "Range":
+        """The entries from a key on, without those from another one on, as slices are."""
+        if keys.step is not None:
+            raise ValueError("a slice of keys has no step")
+        part = self.range(keys.start, keys.stop)
+        if keys.stop is not None and bytes_of(keys.stop, "key"):
+            part._end_before()
+        return part
 
     def prefix(self, prefix: Bytes, *, reverse: bool = False, batch: int = c.SCAN_MAX) -> "Range":
         """The entries whose keys begin with a prefix, in order."""
@@ -157,7 +189,13 @@ class Keys(MutableMapping[bytes, int]):
         self.delete(entry[0])
         return entry
 
-    def __getitem__(self, key: Bytes) -> int:
+    @overload
+    def __getitem__(self, key: Bytes) -> int: ...
+    @overload
+    def __getitem__(self, key: slice) -> "Range": ...
+    def __getitem__(self, key: Union[Bytes, slice]) -> "Union[int, Range]":
+        if isinstance(key, slice):
+            return self._slice(key)
         rid = self.get(key)
         if rid is None:
             raise KeyError(key)
@@ -216,7 +254,7 @@ class _EntriesView(ItemsView[bytes, int]):
         return self._mapping.range(reverse=True)
 
 
-class Range:
+class Range(Alone):
     """The entries of a range, each as (key, rid), as an iterator; of threads that share it each gets another entry. After an error it has ended.
 
     >>> with store.begin() as txn:
@@ -238,6 +276,12 @@ class Range:
         self._batch = batch if batch.__class__ is int and 2 <= batch <= c.SCAN_MAX else max(2, min(number_of(batch, 64, "batch"), c.SCAN_MAX))
         self._room: Optional[ctypes.Array] = None
         self._lock = threading.Lock()
+
+    def _end_before(self) -> None:
+        """Leaves out its last key: it then ends at the greatest one below."""
+        last = self._hi
+        self._hi = last[:-1] if last[-1] == 0 else (last[:-1] + bytes([last[-1] - 1])).ljust(self._keys._longest, b"\xff")
+        self._is_done = self._hi < self._lo  # (no key is below b"\0")
 
     def __iter__(self) -> Iterator[Entry]:
         # not itself: a chain over what all share gives an entry more quickly than a call of `__next__`

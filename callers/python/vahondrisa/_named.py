@@ -1,9 +1,9 @@
 """Named indexes and long values of a store."""
 from collections.abc import MutableMapping
-from typing import TYPE_CHECKING, Any, Callable, Iterable, Iterator, List, Optional, Tuple
+from typing import TYPE_CHECKING, Any, Callable, Iterable, Iterator, List, Optional, Tuple, TypeVar, Union, overload
 
 from . import _library as c
-from ._arguments import Bytes, bytes_of
+from ._arguments import NONE, Alone, Bytes, bytes_of
 from ._catalogue import guard_of
 from ._errors import Error
 from ._keys import Entry, Keys
@@ -12,8 +12,10 @@ if TYPE_CHECKING:
     from ._store import Store
     from ._transaction import Transaction
 
+T = TypeVar("T")
 
-class _Named:
+
+class _Named(Alone):
     def __init__(self, store: "Store", name: str, prefix: bytes) -> None:
         self._store, self._name, self._prefix = store, name, prefix
 
@@ -34,7 +36,8 @@ class Index(_Named):
     """A named index of a store: keys of its own, each with a row id, beside those of all other indexes. A transaction has the entries of all, so that a
     change of several indexes is there whole or not at all.
 
-    Its keys have 1 to 253 bytes, fewer by the length of its name.
+    Its keys have 1 to 253 bytes, fewer by the length of its name. They are keys of the store too, as are some that stand for the name itself: a transaction's
+    own `items`, `len` and `clear` meet them, and `clear` takes all indexes away.
 
     >>> by_id, by_city = store.index("by_id"), store.index("by_city")
     >>> with store.begin() as txn:
@@ -98,7 +101,7 @@ _MOST_PARTS = 0xFF0000  # so that the first of them is below FF
 _LEAST_PART = 32  # a key leaves so many bytes at least to each part
 
 
-class Values(MutableMapping[bytes, bytes]):
+class Values(Alone, MutableMapping[bytes, bytes]):
     """The long values of a `Blob` in a transaction, by their keys: a mapping of bytes to bytes, in the order of the keys' bytes.
 
     A change that is refused half way, or that Ctrl-C ends, is taken back; where that is refused too, the transaction is not committed: `commit` rolls it
@@ -118,7 +121,11 @@ class Values(MutableMapping[bytes, bytes]):
     def __init__(self, txn: "Transaction", prefix: bytes) -> None:
         self._txn, self._prefix = txn, prefix
 
-    def get(self, key: Bytes, default: Optional[bytes] = None) -> Optional[bytes]:  # type: ignore[override]
+    @overload
+    def get(self, key: Bytes) -> Optional[bytes]: ...
+    @overload
+    def get(self, key: Bytes, default: Union[bytes, T]) -> Union[bytes, T]: ...
+    def get(self, key: Bytes, default: object = None) -> object:
         """The value of a key, or the default where there is none."""
         front = self._front(key)
         parts, left = [], None
@@ -132,6 +139,20 @@ class Values(MutableMapping[bytes, bytes]):
         if left:
             raise ValueError("the parts of a long value do not agree")
         return default if left is None else b"".join(parts)
+
+    @overload
+    def pop(self, key: Bytes) -> bytes: ...
+    @overload
+    def pop(self, key: Bytes, default: Union[bytes, T]) -> Union[bytes, T]: ...
+    def pop(self, key: Bytes, default: object = NONE) -> object:
+        """Takes a value out, and returns it; where there is none the default, or KeyError without one."""
+        with self._txn._long:
+            value = self.get(key)
+            if value is not None and self.delete(key):
+                return value
+        if default is NONE:
+            raise KeyError(key)
+        return default
 
     def size(self, key: Bytes) -> Optional[int]:
         """How many bytes the value of a key has, or None. It reads the first part alone."""

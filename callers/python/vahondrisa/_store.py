@@ -1,16 +1,19 @@
 """Stores."""
 import ctypes
+import errno
 import os
 import threading
 import time
+import weakref
 from ctypes import byref, c_void_p
 from types import TracebackType
-from typing import Callable, Dict, List, Optional, Type, TypeVar, Union
+from typing import Callable, Dict, Iterator, List, Optional, Tuple, Type, TypeVar, Union, overload
 
 from . import _library as c
-from ._arguments import Bytes, number_of, seconds_of
+from ._arguments import NONE, Alone, Bytes, number_of, seconds_of
 from ._catalogue import BLOB, INDEX, make, names
-from ._errors import Deadlock, Error, refuse
+from ._errors import Deadlock, Error, Locked, refuse
+from ._keys import Entry
 from ._named import Blob, Index
 from ._transaction import Transaction, slices, wait as _wait
 
@@ -55,9 +58,31 @@ def open(
     store._is_closing = bool(code or raised)
     if raised:
         raise raised[0]
+    if code == c.LOCKED and _is_open_here(store._path):
+        raise Locked(code, f"{store._path}: the store is open in this process already", errno.EBUSY, store._path)
     if code:
-        refuse(code, store._path)
+        refuse(code, store._path, is_look=read_only)
+    store._folder = _folder_of(store._path)
+    _stores.add(store)
     return store
+
+
+_stores: "weakref.WeakSet[Store]" = weakref.WeakSet()  # those that this process has opened
+
+
+def _folder_of(path: str) -> "Optional[Tuple[int, ...]]":
+    """What tells a folder from all others, by whatever path, and this process from one that it was forked from."""
+    try:
+        it = os.stat(path)
+    except OSError:
+        return None
+    return os.getpid(), it.st_dev, it.st_ino
+
+
+def _is_open_here(path: str) -> bool:
+    """Whether this process has a store of the folder open."""
+    folder = _folder_of(path)
+    return folder is not None and any(it._folder == folder and not it._is_closed for it in list(_stores))
 
 
 def _name_of(path: Path) -> bytes:
@@ -91,16 +116,25 @@ def _told(progress: "Callable[[int], object]", raised: "List[BaseException]") ->
     return tell
 
 
-class Store:
+class Store(Alone):
     """A store that is open. Any thread may use it. A `with` block closes it at its end.
 
+    It has some words of a dict, each of them a transaction of its own, which is on the disk when the word returns. Within a `write` of the same thread what
+    only reads is a part of that; what changes a key raises Deadlock there, as a `write` does.
+
     >>> with vahondrisa.open(folder + "/fruit") as fruit:
-    ...     fruit.write(lambda txn: txn.put(b"apple", 7))
-    ...     fruit.get(b"apple")
-    7
+    ...     fruit[b"apple"] = 7
+    ...     fruit[b"apple"], fruit.get(b"plum"), b"plum" in fruit
+    ...     fruit.put(b"apple", 8), fruit.pop(b"apple"), fruit.pop(b"apple", None)
+    ...     fruit.write(lambda txn: txn.update({b"fig": 1, b"pear": 2}))
+    ...     fruit.items()
+    (7, None, False)
+    (7, 8, None)
+    [(b'fig', 1), (b'pear', 2)]
     """
 
     _is_closed = True  # of one whose making a signal's exception cut off
+    _folder: "Optional[Tuple[int, ...]]" = None
 
     def __init__(self, path: str, timeout: Optional[float]) -> None:
         self._at = c_void_p()  # its name, which the library sets when it is opened
@@ -170,9 +204,50 @@ class Store:
         finally:
             self._writes.pop(threading.get_ident(), None)
 
-    def get(self, key: Bytes, default: Optional[int] = None) -> Optional[int]:
-        """The row id of a key, or the default where it is not there, in a transaction of its own."""
-        return self.write(lambda txn: txn.get(key, default))
+    def _read(self, body: "Callable[[Transaction], T]") -> T:
+        """Calls `body`, which only reads, with the transaction of the `write` that the thread is in, or else with one of its own."""
+        outer = self._writes.get(threading.get_ident())
+        return self.write(body) if outer is None or outer._has_ended else body(outer)
+
+    @overload
+    def get(self, key: Bytes) -> Optional[int]: ...
+    @overload
+    def get(self, key: Bytes, default: Union[int, T]) -> Union[int, T]: ...
+    def get(self, key: Bytes, default: object = None) -> object:
+        """The row id of a key, or the default where it is not there."""
+        return self._read(lambda txn: txn.get(key, default))
+
+    def put(self, key: Bytes, rid: int) -> Optional[int]:
+        """Puts a key in, or gives one that is there another row id. The row id that it had, or None."""
+        return self.write(lambda txn: txn.put(key, rid))
+
+    @overload
+    def pop(self, key: Bytes) -> int: ...
+    @overload
+    def pop(self, key: Bytes, default: Union[int, T]) -> Union[int, T]: ...
+    def pop(self, key: Bytes, default: object = NONE) -> object:
+        """Takes a key out, and returns the row id that it had; where it is not there the default, or KeyError without one."""
+        return self.write(lambda txn: txn.pop(key, default))
+
+    def items(self) -> "List[Entry]":
+        """All entries as they are at one moment, in order, as a list: of a large store read ranges in a transaction."""
+        return self._read(lambda txn: list(txn.range()))
+
+    def __getitem__(self, key: Bytes) -> int:
+        return self._read(lambda txn: txn[key])
+
+    def __setitem__(self, key: Bytes, rid: int) -> None:
+        self.write(lambda txn: txn.__setitem__(key, rid))
+
+    def __delitem__(self, key: Bytes) -> None:
+        self.write(lambda txn: txn.__delitem__(key))
+
+    def __contains__(self, key: object) -> bool:
+        return self._read(lambda txn: key in txn)
+
+    def __iter__(self) -> Iterator[bytes]:
+        """The keys as they are at one moment, in order."""
+        return iter([key for key, _ in self.items()])
 
     def index(self, name: str) -> Index:
         """The named index, which is made where it is not there yet, in a transaction of its own. Names have 1 to 31 bytes in UTF-8.
