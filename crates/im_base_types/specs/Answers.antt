@@ -23,6 +23,8 @@ pub data Step : Type 0 where
   Commit : (t : ℕ) → Step
   Rollback : (t : ℕ) → Step
   Continue : (t : ℕ) → Step
+  -- its newest changes are taken back until n are left, and it goes on with its locks
+  RollTo : (t n : ℕ) → Step
   FlushPage : (page : ℕ) → Step
   Force : Step
   Checkpoint : Step
@@ -58,6 +60,8 @@ pub data Mark : Type 0 where
   -- it was answered Die
   MustRollBack : Mark
   RollingBack : Mark
+  -- it takes its newest changes back until n are left, and then is going
+  Returning : (n : ℕ) → Mark
   -- its Commit is logged and waits for a force
   Committing : Mark
 

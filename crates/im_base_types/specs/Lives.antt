@@ -1,7 +1,7 @@
 -- What lives may make of a store, by their steps and replies alone.
-use Rattle.std.specs.Prelude.{◌≡◌, ℕ, List, [], ◌∷◌, ◌++◌, Bool, true, false, ◌||◌, if◌then◌else◌, ◌==◌, Option, None, Some}
+use Rattle.std.specs.Prelude.{◌≡◌, ℕ, nat_lt, List, [], ◌∷◌, ◌++◌, length, Bool, true, false, ◌||◌, if◌then◌else◌, ◌==◌, Option, None, Some}
 use Rattle.im_base_types.specs.Changes.{Change, Put, Drop, Effect}
-use Rattle.im_base_types.specs.Answers.{Access, Insert, Delete, Step, Begin, Do, Commit, Rollback, Continue, Force, Reply, Started, Inserted, Deleted, Committed, RolledBack, More, Die, Done, Refused, Mark, Idle, Going, MustRollBack, RollingBack, Committing}
+use Rattle.im_base_types.specs.Answers.{Access, Insert, Delete, Step, Begin, Do, Commit, Rollback, Continue, RollTo, Force, Reply, Started, Inserted, Deleted, Committed, RolledBack, More, Die, Done, Refused, Mark, Idle, Going, MustRollBack, RollingBack, Returning, Committing}
 use Rattle.im_base_types.specs.Refusals.{capacity, log_full, device, memory, failed, not_a_store, unfinished}
 
 -- ---- what the steps and replies of a life show so far
@@ -85,6 +85,15 @@ accessed t (Delete k) More s = pends t (Delete k) s
 accessed t a Die s = shows_mark t MustRollBack s
 accessed t a _ s = s
 
+-- of an effect, the newest change first, its oldest n changes: all of one of no more
+abbrev pub oldest : ℕ → Effect → Effect
+oldest n [] = []
+oldest n (c ∷ cs) = if nat_lt n (length (c ∷ cs)) then oldest n cs else c ∷ cs
+
+-- a transaction takes back all but its oldest n changes
+abbrev pub returns : ℕ → ℕ → Shown → Shown
+returns t n s = with_running t (record (s.running t) { mark = Returning n; effect = oldest n (s.running t).effect }) s
+
 -- every Commit that waited for a force
 abbrev pub all_acked : List Asked → List Asked
 all_acked [] = []
@@ -99,6 +108,9 @@ answered (Commit t) Committed s = with_running t idle (asks t true s)
 answered (Commit t) More s = shows_mark t Committing (asks t false s)
 answered (Rollback t) RolledBack s = with_running t idle s
 answered (Rollback t) More s = shows_mark t RollingBack s
+answered (RollTo t n) Done s = shows_mark t Going s
+answered (RollTo t n) More s = returns t n s
+answered (Continue t) Done s = shows_mark t Going s
 answered (Continue t) RolledBack s = with_running t idle s
 answered (Continue t) Inserted s = finishes t Inserted s
 answered (Continue t) Deleted s = finishes t Deleted s

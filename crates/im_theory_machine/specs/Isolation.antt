@@ -1,10 +1,10 @@
 -- What it is that each transaction of a run is as good as alone.
-use Rattle.std.specs.Prelude.{◌≡◌, ◌≢◌, ℕ, ◌==◌, ◌&&◌, Bool, true, false, cond, List, [], ◌∷◌, ◌++◌, map, Option, None, Some, ◌⊎◌}
+use Rattle.std.specs.Prelude.{◌≡◌, ◌≢◌, ℕ, suc, nat_lt, ◌==◌, ◌&&◌, Bool, true, false, cond, List, [], ◌∷◌, ◌++◌, map, reverse, Option, None, Some, ◌⊎◌}
 use Rattle.std.specs.FinMap.{get}
 use Rattle.im_base_types.specs.Keys.{Key}
 use Rattle.im_base_types.specs.Maps.{IndexMap}
 use Rattle.im_base_types.specs.Changes.{Change, Touches, apply, key_of}
-use Rattle.im_base_types.specs.Answers.{Access, Step, Begin, Do, Commit, Rollback, Continue, FlushPage, Force, Checkpoint, Switch, Reply, Committed, RolledBack, More, Done, Going, Committing, changes, is_answer, replay, map_after_all}
+use Rattle.im_base_types.specs.Answers.{Access, Step, Begin, Do, Commit, Rollback, Continue, RollTo, FlushPage, Force, Checkpoint, Switch, Reply, Inserted, Deleted, Committed, RolledBack, More, Done, Going, Committing, changes, is_answer, replay, map_after_all}
 use Rattle.im_theory_machine.specs.Locks.{IsFree}
 use Rattle.im_theory_machine.specs.Rows.{asked}
 use Rattle.im_theory_machine.specs.View.{View, MayRollBack, map_behind, locks_in}
@@ -22,6 +22,7 @@ access_of t o (Continue u) r = cond (is_answer r && u == t) (answered_with o r) 
 access_of t o Begin r = []
 access_of t o (Commit u) r = []
 access_of t o (Rollback u) r = []
+access_of t o (RollTo u n) r = []
 access_of t o (FlushPage p) r = []
 access_of t o Force r = []
 access_of t o Checkpoint r = []
@@ -38,18 +39,55 @@ pending_after t o (Continue u) r = cond (is_answer r && u == t) None o
 pending_after t o Begin r = o
 pending_after t o (Commit u) r = o
 pending_after t o (Rollback u) r = o
+pending_after t o (RollTo u n) r = o
 pending_after t o (FlushPage p) r = o
 pending_after t o Force r = o
 pending_after t o Checkpoint r = o
 pending_after t o Switch r = o
 
--- the finished accesses of t in a trace, with their replies, in order, where this one goes on in front of it
-abbrev pub finished_from : ℕ → Option Access → List (Step × Reply) → List (Access × Reply)
-finished_from t o [] = []
-finished_from t o (e ∷ es) = access_of t o e.0 e.1 ++ finished_from t (pending_after t o e.0 e.1) es
+-- whether a reply is of a change
+abbrev pub is_change : Reply → Bool
+is_change Inserted = true
+is_change Deleted = true
+is_change _ = false
 
+-- of how many changes a story is
+abbrev pub count_changes : List (Access × Reply) → ℕ
+count_changes [] = 0
+count_changes (f ∷ fs) = cond (is_change f.1) (suc (count_changes fs)) (count_changes fs)
+
+-- a story, newest first, as it was while it was of n changes or fewer
+abbrev pub kept_story : ℕ → List (Access × Reply) → List (Access × Reply)
+kept_story n [] = []
+kept_story n (f ∷ fs) = cond (nat_lt n (count_changes (f ∷ fs))) (kept_story n fs) (f ∷ fs)
+
+-- whether a reply to RollTo says that changes are taken back, or that none had to be
+abbrev pub is_return : Reply → Bool
+is_return More = true
+is_return Done = true
+is_return _ = false
+
+-- what stands of t's story, newest first, after a step with its reply: of a RollTo of it only what came before the change after its n-th
+abbrev pub kept_after : ℕ → Step → Reply → List (Access × Reply) → List (Access × Reply)
+kept_after t (RollTo u n) r story = cond (is_return r && u == t) (kept_story n story) story
+kept_after t Begin r story = story
+kept_after t (Do u a) r story = story
+kept_after t (Commit u) r story = story
+kept_after t (Rollback u) r story = story
+kept_after t (Continue u) r story = story
+kept_after t (FlushPage p) r story = story
+kept_after t Force r story = story
+kept_after t Checkpoint r story = story
+kept_after t Switch r story = story
+
+-- the story of t that stands after a trace, newest first, with what stood before it and the access that goes on there
+abbrev pub story_from : ℕ → Option Access → List (Access × Reply) → List (Step × Reply) → List (Access × Reply)
+story_from t o story [] = story
+story_from t o story (e ∷ es) = story_from t (pending_after t o e.0 e.1) (access_of t o e.0 e.1 ++ kept_after t e.0 e.1 story) es
+
+-- the finished accesses of t in a trace, with their replies, in order, but for what t took back
 abbrev pub finished : ℕ → List (Step × Reply) → List (Access × Reply)
-finished t es = finished_from t None es
+finished t es = reverse (story_from t None [] es)
 
 -- the transaction's finished replies are those that it would get alone, on this map
 abbrev pub IsReplay : IndexMap → List (Access × Reply) → Type 0
@@ -111,6 +149,8 @@ pub record Isolates (base : IndexMap) (next : ℕ) : Type 0 where
   -- on the map committed just before its Rollback, once that was answered
   pub rolled_back : (front rest : List (Step × Reply)) (v w end : View) → Run (start base next) front v → (t : ℕ) (reply : Reply) → (reply ≡ More) ⊎ (reply ≡ RolledBack) → Moves v (Rollback t) reply w → Run w rest end →
       IsReplay v.committed (finished t (front ++ (Rollback t, reply) ∷ rest))
+  -- on the map committed just then, what it had been told before a RollTo that was answered, with what this takes back
+  pub returned : (front : List (Step × Reply)) (v w : View) → Run (start base next) front v → (t n : ℕ) (reply : Reply) → (reply ≡ More) ⊎ (reply ≡ Done) → Moves v (RollTo t n) reply w → IsReplay v.committed (finished t front)
   -- no other reply changes the map committed, but that of a force for which some wait
   pub stays : (v w : View) (step : Step) (reply : Reply) → Moves v step reply w → reply ≢ Committed → (step ≡ Force → reply ≡ Done → v.queue ≡ []) → w.committed ≡ v.committed
   -- between any two steps the nets are apart and the walk is the committed map with all of them

@@ -1,11 +1,11 @@
 -- The machine of transactions over one map with locks: which reply it may give to a step, and what is then.
-use Rattle.std.specs.Prelude.{◌≡◌, ◌≢◌, ◌≤◌, ◌^◌, ℕ, ◌==◌, nat_lt, Bool, true, false, not, ◌&&◌, cond, List, [], ◌∷◌, length, Option, Some, None, ◌⊎◌}
+use Rattle.std.specs.Prelude.{◌≡◌, ◌≢◌, ◌≤◌, ◌<◌, ◌^◌, ℕ, ◌==◌, nat_lt, Bool, true, false, not, ◌&&◌, cond, List, [], ◌∷◌, length, Option, Some, None, ◌⊎◌}
 use Rattle.std.specs.FinMap.{get}
 use Rattle.im_base_types.specs.Keys.{Key}
 use Rattle.im_base_types.specs.Maps.{IndexMap}
 use Rattle.im_base_types.specs.Changes.{Change}
 use Rattle.im_base_types.specs.Refusals.{no_transaction, must_roll_back, key_length, rolling_back, pages_full, capacity, log_full, device, memory, failed as has_failed, too_many, busy, unfinished}
-use Rattle.im_base_types.specs.Answers.{Access, Fetch, Seek, Next, Prev, Scan, Insert, Delete, Step, Begin, Do, Commit, Rollback, Continue, FlushPage, Force, Checkpoint, Switch, Reply, Started, Inserted, Deleted, Committed, RolledBack, More, Blocked, BlockedTree, Die, Done, Refused, Mark, Idle, Going, MustRollBack, RollingBack, Committing, answer}
+use Rattle.im_base_types.specs.Answers.{Access, Fetch, Seek, Next, Prev, Scan, Insert, Delete, Step, Begin, Do, Commit, Rollback, Continue, RollTo, FlushPage, Force, Checkpoint, Switch, Reply, Started, Inserted, Deleted, Committed, RolledBack, More, Blocked, BlockedTree, Die, Done, Refused, Mark, Idle, Going, MustRollBack, RollingBack, Returning, Committing, answer}
 use Rattle.im_theory_machine.specs.Locks.{Lock, kept, SameLocks, IsFree, WaitsFor, MustDie}
 use Rattle.im_theory_machine.specs.Rows.{asked}
 use Rattle.im_theory_machine.specs.View.{View, Under, Puts, Drops, TakesBack, TookBack, owns_in, locks_in, idle, begun, did, locked, marked, committed_by, dropped_by, undid_more, undid_last, with_change, change_made, queued, forced_by, broken, MayRollBack}
@@ -30,14 +30,16 @@ barred_to Idle = Some no_transaction
 barred_to Going = None
 barred_to MustRollBack = Some must_roll_back
 barred_to RollingBack = Some rolling_back
+barred_to (Returning n) = Some rolling_back
 barred_to Committing = Some no_transaction
 
--- the same for Rollback
+-- the same for Rollback and RollTo
 abbrev pub barred_to_rollback : Mark → Option ℕ
 barred_to_rollback Idle = Some no_transaction
 barred_to_rollback Going = None
 barred_to_rollback MustRollBack = None
 barred_to_rollback RollingBack = Some rolling_back
+barred_to_rollback (Returning n) = Some rolling_back
 barred_to_rollback Committing = Some no_transaction
 
 -- the same for Continue
@@ -46,6 +48,7 @@ barred_to_continue Idle = Some no_transaction
 barred_to_continue Going = Some no_transaction
 barred_to_continue MustRollBack = Some no_transaction  -- it has nothing to go on with, and that check comes first
 barred_to_continue RollingBack = None
+barred_to_continue (Returning n) = None
 barred_to_continue Committing = Some no_transaction
 
 -- the first refusal of two
@@ -66,6 +69,7 @@ first_check failed active mark owns (Do t a) = or_else (fault_if failed has_fail
 first_check failed active mark owns (Commit t) = or_else (fault_if failed has_failed) (or_else (barred_to mark) (fault_if owns unfinished))
 first_check failed active mark owns (Rollback t) = or_else (fault_if failed has_failed) (or_else (barred_to_rollback mark) (fault_if owns unfinished))
 first_check failed active mark owns (Continue t) = or_else (fault_if failed has_failed) (cond owns None (barred_to_continue mark))
+first_check failed active mark owns (RollTo t n) = or_else (fault_if failed has_failed) (or_else (barred_to_rollback mark) (fault_if owns unfinished))
 first_check failed active mark owns (FlushPage p) = fault_if failed has_failed
 first_check failed active mark owns Force = fault_if failed has_failed
 first_check failed active mark owns Checkpoint = fault_if failed has_failed
@@ -78,6 +82,7 @@ mark_for marks (Do t a) = marks t
 mark_for marks (Commit t) = marks t
 mark_for marks (Rollback t) = marks t
 mark_for marks (Continue t) = marks t
+mark_for marks (RollTo t n) = marks t
 mark_for marks (FlushPage p) = Idle
 mark_for marks Force = Idle
 mark_for marks Checkpoint = Idle
@@ -90,11 +95,16 @@ barred v step = first_check v.failed v.active (mark_for (λ t. (v.txns t).mark) 
 -- Pages are wanting for an Insert, or memory, and nothing is changed. The machine does not say when: that they come only for cause is the engine's own promise.
 abbrev pub Wants : Step → ℕ → Type 0
 Wants (Do t (Insert k r)) f = (f ≡ pages_full) ⊎ (f ≡ memory)
+Wants (RollTo t n) f = (f ≡ no_transaction) ⊎ (f ≡ memory)  -- a store that does not serve it refuses it so
 Wants _ f = f ≡ memory
 
 -- capacity, the log or the device failed, or memory within the step, and the engine with it
 abbrev pub Breaks : ℕ → Type 0
 Breaks f = (f ≡ capacity) ⊎ ((f ≡ log_full) ⊎ ((f ≡ device) ⊎ (f ≡ has_failed)))
+
+-- one that may take its newest change back, so that these are left: it rolls back, or returns to no more than they are
+abbrev pub MayTakeBack : Mark → List Change → Type 0
+MayTakeBack m cs = (m ≡ RollingBack) ⊎ ((n : ℕ) × (m ≡ Returning n) × (n ≤ length cs))
 
 -- from v, where no check bars the step, the machine may give this reply and go on to w
 pub data Goes (v : View) (step : Step) (reply : Reply) (w : View) : Type 0 where
@@ -118,11 +128,18 @@ pub data Goes (v : View) (step : Step) (reply : Reply) (w : View) : Type 0 where
       → SameLocks ls (kept (asked (Delete k) v.walk) ((v.txns t).locks)) → reply ≡ More → w ≡ with_change (did v t (Delete k) ls) t (Drops k) → Goes v step reply w
   drops_leaf : (t : ℕ) (k : Key) → step ≡ Continue t → (v.txns t).mark ≡ Going → v.under ≡ Some (record { owner = t; aim = Drops k }) → reply ≡ Deleted → w ≡ change_made v → Goes v step reply w
   -- a key that comes back wants a structure change first, after which it is taken back as above
-  takes_later : (t : ℕ) (c : Change) (cs : List Change) → step ≡ Continue t → (v.txns t).mark ≡ RollingBack → v.under ≡ None → (v.txns t).net ≡ c ∷ cs → reply ≡ More → w ≡ with_change v t TakesBack → Goes v step reply w
+  takes_later : (t : ℕ) (c : Change) (cs : List Change) → step ≡ Continue t → MayTakeBack ((v.txns t).mark) cs → v.under ≡ None → (v.txns t).net ≡ c ∷ cs → reply ≡ More → w ≡ with_change v t TakesBack → Goes v step reply w
   -- a key that goes leaves a leaf empty: the change is taken back, and then the leaf goes
-  takes_first : (t : ℕ) (c : Change) (cs : List Change) → step ≡ Continue t → (v.txns t).mark ≡ RollingBack → v.under ≡ None → (v.txns t).net ≡ c ∷ cs → reply ≡ More → w ≡ with_change (undid_more v t c cs) t TookBack → Goes v step reply w
-  takes_leaf : (t : ℕ) (c : Change) (cs : List Change) → step ≡ Continue t → (v.txns t).mark ≡ RollingBack → v.under ≡ Some (record { owner = t; aim = TookBack }) → (v.txns t).net ≡ c ∷ cs → reply ≡ More → w ≡ change_made v → Goes v step reply w
+  takes_first : (t : ℕ) (c : Change) (cs : List Change) → step ≡ Continue t → MayTakeBack ((v.txns t).mark) cs → v.under ≡ None → (v.txns t).net ≡ c ∷ cs → reply ≡ More → w ≡ with_change (undid_more v t c cs) t TookBack → Goes v step reply w
+  takes_leaf : (t : ℕ) (c : Change) (cs : List Change) → step ≡ Continue t → MayTakeBack ((v.txns t).mark) cs → v.under ≡ Some (record { owner = t; aim = TookBack }) → (v.txns t).net ≡ c ∷ cs → reply ≡ More → w ≡ change_made v → Goes v step reply w
   takes_last : (t : ℕ) → step ≡ Continue t → (v.txns t).mark ≡ RollingBack → v.under ≡ Some (record { owner = t; aim = TookBack }) → (v.txns t).net ≡ [] → reply ≡ RolledBack → w ≡ change_made (dropped_by v t) → Goes v step reply w
+  -- one that returns to its first n changes: it has no more, or begins to take its newest ones back
+  stays_back : (t n : ℕ) → step ≡ RollTo t n → MayRollBack ((v.txns t).mark) → length ((v.txns t).net) ≤ n → reply ≡ Done → w ≡ marked v t Going → Goes v step reply w
+  turns_back : (t n : ℕ) → step ≡ RollTo t n → MayRollBack ((v.txns t).mark) → n < length ((v.txns t).net) → reply ≡ More → w ≡ marked v t (Returning n) → Goes v step reply w
+  gives_back : (t n : ℕ) (c : Change) (cs : List Change) → step ≡ Continue t → (v.txns t).mark ≡ Returning n → (v.txns t).net ≡ c ∷ cs → n < length cs → reply ≡ More → w ≡ undid_more v t c cs → Goes v step reply w
+  -- n are left, and it is going
+  is_back : (t n : ℕ) (c : Change) (cs : List Change) → step ≡ Continue t → (v.txns t).mark ≡ Returning n → (v.txns t).net ≡ c ∷ cs → n ≡ length cs → reply ≡ Done → w ≡ marked (undid_more v t c cs) t Going → Goes v step reply w
+  leaf_is_back : (t n : ℕ) → step ≡ Continue t → (v.txns t).mark ≡ Returning n → v.under ≡ Some (record { owner = t; aim = TookBack }) → length ((v.txns t).net) ≡ n → reply ≡ Done → w ≡ change_made (marked v t Going) → Goes v step reply w
   -- its owner makes one page more of it
   logs_page : (t : ℕ) (u : Under) → step ≡ Continue t → v.under ≡ Some u → u.owner ≡ t → reply ≡ More → w ≡ v → Goes v step reply w
   -- it stands in the way of another

@@ -3,7 +3,7 @@ use Rattle.std.specs.Prelude.{◌≡◌, ℕ, suc, ◌-◌, ◌==◌, ◌||◌, 
 use Rattle.im_base_types.specs.Keys.{Key}
 use Rattle.im_base_types.specs.Maps.{IndexMap}
 use Rattle.im_base_types.specs.Changes.{Change, Effect, apply, apply_all, undone}
-use Rattle.im_base_types.specs.Answers.{Access, Insert, Delete, Step, Begin, Do, Commit, Rollback, Continue, FlushPage, Force, Checkpoint, Switch, changes, map_after, Mark, Idle, Going, MustRollBack, Committing}
+use Rattle.im_base_types.specs.Answers.{Access, Insert, Delete, Step, Begin, Do, Commit, Rollback, Continue, RollTo, FlushPage, Force, Checkpoint, Switch, changes, map_after, Mark, Idle, Going, MustRollBack, Committing}
 use Rattle.im_theory_machine.specs.Locks.{Lock}
 use Rattle.im_theory_machine.specs.Rows.{next_name}
 use Rattle.im_theory_machine.specs.declared.lock_kind.Mode.TheVariants.{Exclusive}
@@ -86,6 +86,7 @@ owns_in under (Do t a) = is_some (pending_of under t)
 owns_in under (Commit t) = is_some (pending_of under t)
 owns_in under (Rollback t) = is_some (pending_of under t)
 owns_in under (Continue t) = is_some (pending_of under t)
+owns_in under (RollTo t n) = is_some (pending_of under t)
 owns_in under (FlushPage p) = false
 owns_in under Force = false
 owns_in under Checkpoint = false
