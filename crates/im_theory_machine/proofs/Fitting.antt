@@ -2,7 +2,7 @@
 use Rattle.std.proofs.Common.{◌≡◌, ◌≢◌, ℕ, nat_eq, cond, is_some, List, [], ◌∷◌, refl, ap, sym, subst, inl, inr}
 use Rattle.im_base_types.specs.Keys.{Key}
 use Rattle.im_base_types.specs.Maps.{IndexMap}
-use Rattle.im_base_types.specs.Answers.{Access, Insert, Reply, Inserted, Duplicate, Mark, Going, RollingBack, answer, map_after}
+use Rattle.im_base_types.specs.Answers.{Access, Insert, Reply, Inserted, Duplicate, Mark, Going, answer, map_after}
 use Rattle.im_base_types.specs.Changes.{Change, undone}
 use Rattle.im_theory_machine.specs.Locks.{Name, At, Lock, Request, kept, SameLocks, Holds, IsFree}
 use Rattle.im_theory_machine.specs.declared.lock_kind.Mode.{Mode}
@@ -10,7 +10,7 @@ use Rattle.im_theory_machine.specs.declared.lock_kind.Mode.TheVariants.{Exclusiv
 use Rattle.im_theory_machine.specs.declared.lock_kind.Duration.TheVariants.{Instant, ToCommit}
 use Rattle.im_theory_machine.specs.Rows.{next_name, asked}
 use Rattle.im_theory_machine.specs.View.{Txn, set_txn, did_txn}
-use Rattle.im_theory_machine.proofs.Invariant.{Told, Told-moved, StoryHolds, Fits, Chain-more}
+use Rattle.im_theory_machine.proofs.Invariant.{Through, Through-more, StoryHolds, Fits, Chain-more}
 use Rattle.im_theory_machine.proofs.Keeping.{Sets-fits, IsGranted, did-fits, relocked, walk_but, undo_sets, undo_links}
 use Rattle.im_theory_machine.proofs.Locks.{kept-from, kept-old}
 use Rattle.im_theory_machine.specs.Kept.{IsPending, KeptLocksStay}
@@ -19,7 +19,7 @@ use Rattle.im_theory_machine.proofs.Pending.{kept_locks_stay, row_is}
 granted_by : (f : ℕ → Txn) (t : ℕ) (row : List Request) → IsFree (λ s. (f s).locks) t row → IsGranted f t row
 granted_by f t row free s n mode theirs ne ask held either = free s (record { name = n; mode = mode; theirs = theirs; other = ne; ask = ask; held = held; exclusive = either })
 
-story_going : (x : Txn) (w base : IndexMap) (story : List (Access × Reply)) → x.mark ≡ Going → StoryHolds x.mark x.locks w base story x.net → Told x.locks w base story x.net
+story_going : (x : Txn) (w base : IndexMap) (story : List (Access × Reply)) → x.mark ≡ Going → StoryHolds x.mark x.locks w base story x.net → Through x.locks w base story x.net
 story_going x w base story is h = subst (λ (m : Mark). StoryHolds m x.locks w base story x.net) is h
 
 -- locks that were granted join those of t
@@ -49,7 +49,7 @@ module _ (base w : IndexMap) (f : ℕ → Txn) (told : ℕ → List (Access × R
     walk_mine = λ k none. fits.walk t k none;
     walk_others = λ s k ns mine others. walk_but base w f told fits t s k mine others;
     story = subst (λ (m : Mark). StoryHolds m more w base (told t) ((f t).net)) (sym going)
-        (Told-moved ((f t).locks) more w w base (told t) ((f t).net) (λ k g. (g.0, kept-old row ((f t).locks) _ g.0 g.1)) (story_going (f t) w base (told t) going (fits.story t)));
+        (Through-more ((f t).locks) more w base (told t) ((f t).net) (λ n md h. kept-old row ((f t).locks) n md h) (story_going (f t) w base (told t) going (fits.story t)));
     stories = λ s ns. fits.story s;
   })
 
@@ -82,9 +82,8 @@ puts_fits base w f told t k r fits going p =
     (did_txn (f t) (Insert k r) w (kept (asked (Insert k r) w) ((f t).locks))) ((f t).locks)
     (did-fits base w f told fits t (Insert k r) (granted_by f t (asked (Insert k r) w) free) (story_going (f t) w base (told t) going (fits.story t))) same)
 
-pub took_off_fits : (base w : IndexMap) (f : ℕ → Txn) (told : ℕ → List (Access × Reply)) (t : ℕ) (c : Change) (cs : List Change) → Fits base w f told → (f t).mark ≡ RollingBack → (f t).net ≡ c ∷ cs
+pub took_off_fits : (base w : IndexMap) (f : ℕ → Txn) (told : ℕ → List (Access × Reply)) (t : ℕ) (c : Change) (cs : List Change) → Fits base w f told → (f t).net ≡ c ∷ cs → StoryHolds ((f t).mark) ((f t).locks) (undone w c) base (told t) cs
     → Fits base (undone w c) (set_txn f t (record (f t) { net = cs })) told
-took_off_fits base w f told t c cs fits rolling is =
+took_off_fits base w f told t c cs fits is story =
     Sets-fits base (undone w c) f told t (record (f t) { net = cs })
-    (undo_sets base w f told fits t c cs is (record (f t) { net = cs }) refl (λ n md h. h) (undo_links base w f told fits t c cs is)
-    (subst (λ (m : Mark). StoryHolds m ((f t).locks) (undone w c) base (told t) cs) (sym rolling) tt))
+    (undo_sets base w f told fits t c cs is (record (f t) { net = cs }) refl (λ n md h. h) (undo_links base w f told fits t c cs is) story)

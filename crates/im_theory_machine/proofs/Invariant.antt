@@ -1,15 +1,17 @@
 -- What holds between any two steps.
-use Rattle.std.proofs.Common.{◌≡◌, ◌≢◌, ℕ, List, [], ◌∷◌, ◌++◌, refl, ap, sym, subst, ◌∙◌, inl, inr, eq-eqb, ne_eqb}
+use Rattle.std.proofs.Common.{◌≡◌, ◌≢◌, ◌⊎◌, ℕ, Bool, cond, List, [], ◌∷◌, ◌++◌, length, false, refl, ap, sym, subst, ◌∙◌, inl, inr, eq-eqb, ne_eqb}
 use Rattle.std.specs.FinMap.{get}
 use Rattle.im_base_types.specs.Keys.{Key}
 use Rattle.im_base_types.specs.Maps.{IndexMap}
-use Rattle.im_base_types.specs.Answers.{Access, Reply, changes, answer, map_after, map_after_all, replay, Mark, Idle, Going, MustRollBack, RollingBack, Committing}
+use Rattle.im_base_types.specs.Answers.{Access, Reply, changes, answer, map_after, map_after_all, replay, Mark, Idle, Going, MustRollBack, RollingBack, Returning, Committing}
 use Rattle.im_base_types.specs.Changes.{Change, key_of, undone, apply, Touches}
-use Rattle.im_theory_machine.specs.Locks.{Name, Lock, Holds}
+use Rattle.im_theory_machine.specs.Locks.{Name, At, PastAll, Lock, Holds}
 use Rattle.im_theory_machine.specs.declared.lock_kind.Mode.{Mode}
 use Rattle.im_theory_machine.specs.declared.lock_kind.Mode.TheVariants.{Exclusive}
 use Rattle.im_theory_machine.specs.View.{Txn, set_txn}
+use Rattle.im_theory_machine.specs.Isolation.{is_change}
 use Rattle.im_theory_machine.proofs.Bools.{cases_number}
+use Rattle.im_theory_machine.proofs.Order.{same_key}
 use Rattle.im_theory_machine.proofs.Guards.{guard, OnlyAt, guard-stable}
 use Rattle.im_theory_machine.proofs.Changes.{was, undone_off, undone-both, apply-agrees, apply-append}
 use Rattle.im_theory_machine.proofs.ReadKeys.{Reads, AgreeOn, reply-agrees, changes-agrees, Reads-agrees}
@@ -117,15 +119,164 @@ Told-replay ls w base (f ∷ fs) net h =
     ∙ (ap (λ rs. rs ++ answer f.0 (map_after_all base (accesses_of fs)) ∷ []) (Told-replay ls w base fs h.0 h.4)
     ∙ ap (λ r. replies_of fs ++ r ∷ []) (ap (answer f.0) (sym (Told-after_all ls w base fs h.0 h.4)) ∙ h.2))
 
+-- ---- the story of each front of a net
+
+-- a story without all from its newest change on
+abbrev pub before_last : List (Access × Reply) → List (Access × Reply)
+before_last [] = []
+before_last (f ∷ fs) = cond (is_change f.1) fs (before_last fs)
+
+-- and without so many changes
+abbrev pub before : List Change → List (Access × Reply) → List (Access × Reply)
+before [] story = story
+before (c ∷ cs) story = before cs (before_last story)
+
+-- what is told so of the net, and of each front of it on the walk with the rest taken back
+abbrev pub Through : List Lock → IndexMap → IndexMap → List (Access × Reply) → List Change → Type 0
+Through ls w base story [] = Told ls w base story []
+Through ls w base story (c ∷ cs) = Told ls w base story (c ∷ cs) × Through ls (undone w c) base (before_last story) cs
+
+-- the story of the rest of a net, on the walk with its newest changes taken back
+abbrev pub Behind : List Lock → IndexMap → IndexMap → List (Access × Reply) → List Change → List Change → Type 0
+Behind ls w base story [] rest = Through ls w base story rest
+Behind ls w base story (c ∷ more) rest = Behind ls (undone w c) base story more rest
+
+-- one that returns to its first n changes: `more` are to be taken back, and the story is that of the rest
+pub record IsReturning (n : ℕ) (ls : List Lock) (w base : IndexMap) (story : List (Access × Reply)) (net : List Change) : Type 0 where
+  pub more : List Change
+  pub rest : List Change
+  pub is : net ≡ more ++ rest
+  pub count : length rest ≡ n
+  pub behind : Behind ls w base story more rest
+
+pub through_told : (ls : List Lock) (w base : IndexMap) (story : List (Access × Reply)) (net : List Change) → Through ls w base story net → Told ls w base story net
+through_told ls w base story [] h = h
+through_told ls w base story (c ∷ cs) h = h.0
+
+-- a reply of no change on top
+pub through_plain : (ls : List Lock) (w base : IndexMap) (a : Access) (r : Reply) (story : List (Access × Reply)) (net : List Change) → is_change r ≡ false → Told ls w base ((a, r) ∷ story) net → Through ls w base story net → Through ls w base ((a, r) ∷ story) net
+through_plain ls w base a r story [] plain told h = told
+through_plain ls w base a r story (c ∷ cs) plain told h = (told, subst (λ (b : Bool). Through ls (undone w c) base (cond b story (before_last story)) cs) (sym plain) h.1)
+
+-- ---- what is guarded with a change taken back is guarded with it
+
+same_name : (m n : Name) → (m ≡ n) ⊎ (m ≡ n → ⊥)
+same_name (At k) (At l) = elim (same_key k l) [
+  | inl e ↦ inl (ap At e)
+  | inr ne ↦ inr (λ (e : At k ≡ At l). ne (key_in k l e))
+]
+  where
+    key_in : (k l : Key) → At k ≡ At l → k ≡ l
+    key_in k l e = cc
+same_name (At k) PastAll = inr (λ e. cc e)
+same_name PastAll (At l) = inr (λ e. cc e)
+same_name PastAll PastAll = inl refl
+
+guards_up : (ls : List Lock) (w : IndexMap) (c : Change) (x : Key) → Holds ls (guard w (key_of c)) Exclusive → Guards ls (undone w c) x → Guards ls w x
+guards_up ls w c x own g = elim (same_name (guard w (key_of c)) (guard w x)) [
+  | inl e ↦ (Exclusive, subst (λ (n : Name). Holds ls n Exclusive) e own)
+  | inr ne ↦ (g.0, subst (λ (n : Name). Holds ls n g.0) (guard-stable w (undone w c) x (key_of c) (undone_off w c) ne) g.1)
+]
+
+-- ---- a change elsewhere, beside each front
+
+-- what is not held guards the same with a change taken back
+still_not : (ls : List Lock) (w : IndexMap) (c : Change) (y : Key) → Holds ls (guard w (key_of c)) Exclusive → NotHeld ls (guard w y) → NotHeld ls (guard (undone w c) y)
+still_not ls w c y held none md k =
+    let stays : guard (undone w c) y ≡ guard w y = guard-stable w (undone w c) y (key_of c) (undone_off w c) (λ q. none Exclusive (subst (λ (n : Name). Holds ls n Exclusive) q held)) in
+    none md (subst (λ (n : Name). Holds ls n md) stays k)
+
+pub Through-elsewhere : (ls : List Lock) (w w' base : IndexMap) (y : Key) (story : List (Access × Reply)) (net : List Change) → OnlyAt y w w' → NotHeld ls (guard w y) → Chain ls w base net → Through ls w base story net → Through ls w' base story net
+Through-elsewhere ls w w' base y story [] only none chain h = Told-elsewhere ls w w' base y story [] only none h
+Through-elsewhere ls w w' base y story (c ∷ cs) only none chain h = (
+  Told-elsewhere ls w w' base y story (c ∷ cs) only none h.0,
+  Through-elsewhere ls (undone w c) (undone w' c) base y (before_last story) cs (undone-both w w' c y only) (still_not ls w c y (chain.0 (key_of c) (inl refl)) none) chain.2 h.1,
+)
+
+Behind-elsewhere : (ls : List Lock) (w w' base : IndexMap) (y : Key) (story : List (Access × Reply)) (more rest : List Change) → OnlyAt y w w' → NotHeld ls (guard w y) → Chain ls w base (more ++ rest) → Behind ls w base story more rest → Behind ls w' base story more rest
+Behind-elsewhere ls w w' base y story [] rest only none chain h = Through-elsewhere ls w w' base y story rest only none chain h
+Behind-elsewhere ls w w' base y story (c ∷ more) rest only none chain h =
+    Behind-elsewhere ls (undone w c) (undone w' c) base y story more rest (undone-both w w' c y only) (still_not ls w c y (chain.0 (key_of c) (inl refl)) none) chain.2 h
+
+-- ---- another base map, for each front
+
+pub Through-rebased : (ls : List Lock) (w base base' : IndexMap) (story : List (Access × Reply)) (net : List Change) → ((x : Key) → Guards ls w x → get base' x ≡ get base x) → Chain ls w base net → Through ls w base story net → Through ls w base' story net
+Through-rebased ls w base base' story [] same chain h = Told-rebased ls w base base' story [] same h
+Through-rebased ls w base base' story (c ∷ cs) same chain h = (
+  Told-rebased ls w base base' story (c ∷ cs) same h.0,
+  Through-rebased ls (undone w c) base base' (before_last story) cs (λ x g. same x (guards_up ls w c x (chain.0 (key_of c) (inl refl)) g)) chain.2 h.1,
+)
+
+Behind-rebased : (ls : List Lock) (w base base' : IndexMap) (story : List (Access × Reply)) (more rest : List Change) → ((x : Key) → Guards ls w x → get base' x ≡ get base x) → Chain ls w base (more ++ rest) → Behind ls w base story more rest → Behind ls w base' story more rest
+Behind-rebased ls w base base' story [] rest same chain h = Through-rebased ls w base base' story rest same chain h
+Behind-rebased ls w base base' story (c ∷ more) rest same chain h =
+    Behind-rebased ls (undone w c) base base' story more rest (λ x g. same x (guards_up ls w c x (chain.0 (key_of c) (inl refl)) g)) chain.2 h
+
+-- ---- more locks, for each front
+
+pub Through-more : (ls ks : List Lock) (w base : IndexMap) (story : List (Access × Reply)) (net : List Change) → ((n : Name) (md : Mode) → Holds ls n md → Holds ks n md) → Through ls w base story net → Through ks w base story net
+Through-more ls ks w base story [] more h = Told-moved ls ks w w base story [] (λ x g. (g.0, more (guard w x) g.0 g.1)) h
+Through-more ls ks w base story (c ∷ cs) more h = (
+  Told-moved ls ks w w base story (c ∷ cs) (λ x g. (g.0, more (guard w x) g.0 g.1)) h.0,
+  Through-more ls ks (undone w c) base (before_last story) cs more h.1,
+)
+
+Behind-more : (ls ks : List Lock) (w base : IndexMap) (story : List (Access × Reply)) (more rest : List Change) → ((n : Name) (md : Mode) → Holds ls n md → Holds ks n md) → Behind ls w base story more rest → Behind ks w base story more rest
+Behind-more ls ks w base story [] rest more_locks h = Through-more ls ks w base story rest more_locks h
+Behind-more ls ks w base story (c ∷ more) rest more_locks h = Behind-more ls ks (undone w c) base story more rest more_locks h
+
 -- ---- all transactions
 
 -- what is known of one transaction's story: nothing once it rolls back
 abbrev pub StoryHolds : Mark → List Lock → IndexMap → IndexMap → List (Access × Reply) → List Change → Type 0
 StoryHolds Idle ls w base story net = Unit {0}
-StoryHolds Going ls w base story net = Told ls w base story net
-StoryHolds MustRollBack ls w base story net = Told ls w base story net
+StoryHolds Going ls w base story net = Through ls w base story net
+StoryHolds MustRollBack ls w base story net = Through ls w base story net
 StoryHolds RollingBack ls w base story net = Unit {0}
-StoryHolds Committing ls w base story net = Told ls w base story net
+StoryHolds (Returning n) ls w base story net = IsReturning n ls w base story net
+StoryHolds Committing ls w base story net = Through ls w base story net
+
+pub story-elsewhere : (m : Mark) (ls : List Lock) (w w' base : IndexMap) (y : Key) (story : List (Access × Reply)) (net : List Change) → OnlyAt y w w' → NotHeld ls (guard w y) → Chain ls w base net → StoryHolds m ls w base story net → StoryHolds m ls w' base story net
+story-elsewhere Idle ls w w' base y story net only none chain h = tt
+story-elsewhere Going ls w w' base y story net only none chain h = Through-elsewhere ls w w' base y story net only none chain h
+story-elsewhere MustRollBack ls w w' base y story net only none chain h = Through-elsewhere ls w w' base y story net only none chain h
+story-elsewhere RollingBack ls w w' base y story net only none chain h = tt
+story-elsewhere (Returning n) ls w w' base y story net only none chain h = record {
+  more = h.more;
+  rest = h.rest;
+  is = h.is;
+  count = h.count;
+  behind = Behind-elsewhere ls w w' base y story h.more h.rest only none (subst (λ (l : List Change). Chain ls w base l) h.is chain) h.behind;
+}
+story-elsewhere Committing ls w w' base y story net only none chain h = Through-elsewhere ls w w' base y story net only none chain h
+
+pub story-rebased : (m : Mark) (ls : List Lock) (w base base' : IndexMap) (story : List (Access × Reply)) (net : List Change) → ((x : Key) → Guards ls w x → get base' x ≡ get base x) → Chain ls w base net → StoryHolds m ls w base story net → StoryHolds m ls w base' story net
+story-rebased Idle ls w base base' story net same chain h = tt
+story-rebased Going ls w base base' story net same chain h = Through-rebased ls w base base' story net same chain h
+story-rebased MustRollBack ls w base base' story net same chain h = Through-rebased ls w base base' story net same chain h
+story-rebased RollingBack ls w base base' story net same chain h = tt
+story-rebased (Returning n) ls w base base' story net same chain h = record {
+  more = h.more;
+  rest = h.rest;
+  is = h.is;
+  count = h.count;
+  behind = Behind-rebased ls w base base' story h.more h.rest same (subst (λ (l : List Change). Chain ls w base l) h.is chain) h.behind;
+}
+story-rebased Committing ls w base base' story net same chain h = Through-rebased ls w base base' story net same chain h
+
+pub story-more : (m : Mark) (ls ks : List Lock) (w base : IndexMap) (story : List (Access × Reply)) (net : List Change) → ((n : Name) (md : Mode) → Holds ls n md → Holds ks n md) → StoryHolds m ls w base story net → StoryHolds m ks w base story net
+story-more Idle ls ks w base story net more h = tt
+story-more Going ls ks w base story net more h = Through-more ls ks w base story net more h
+story-more MustRollBack ls ks w base story net more h = Through-more ls ks w base story net more h
+story-more RollingBack ls ks w base story net more h = tt
+story-more (Returning n) ls ks w base story net more h = record {
+  more = h.more;
+  rest = h.rest;
+  is = h.is;
+  count = h.count;
+  behind = Behind-more ls ks w base story h.more h.rest more h.behind;
+}
+story-more Committing ls ks w base story net more h = Through-more ls ks w base story net more h
 
 pub record Fits (base w : IndexMap) (txns : ℕ → Txn) (told : ℕ → List (Access × Reply)) : Type 0 where
   -- no two owners hold locks in conflict

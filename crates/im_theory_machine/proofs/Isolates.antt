@@ -5,10 +5,10 @@ use Rattle.std.specs.FinMap.{get}
 use Rattle.im_base_types.specs.Keys.{Key}
 use Rattle.im_base_types.specs.Maps.{IndexMap}
 use Rattle.im_base_types.specs.Changes.{Change, Touches, apply, apply_all, key_of}
-use Rattle.im_base_types.specs.Answers.{Going, Committing, Idle, Insert, Delete, Access, Reply, Step, answer, replay, map_after, map_after_all, is_answer, Begin, Do, Commit, Rollback, Continue, FlushPage, Force, Checkpoint, Switch, Started, Found, Absent, Entry, End, Entries, Inserted, Duplicate, Deleted, Committed, RolledBack, More, Blocked, BlockedTree, Die, Done, Refused}
+use Rattle.im_base_types.specs.Answers.{Going, Committing, Idle, Insert, Delete, Access, Reply, Step, answer, replay, map_after, map_after_all, is_answer, Begin, Do, Commit, Rollback, Continue, RollTo, FlushPage, Force, Checkpoint, Switch, Started, Found, Absent, Entry, End, Entries, Inserted, Duplicate, Deleted, Committed, RolledBack, More, Blocked, BlockedTree, Die, Done, Refused}
 use Rattle.im_theory_machine.specs.Rows.{asked}
 use Rattle.im_theory_machine.specs.View.{View, Txn, Puts, Under, pending_of, idle, set_txn, is_among, AreDifferent, map_behind, relocked}
-use Rattle.im_theory_machine.specs.Machine.{barred, Answers, Goes, Moves, begins, does, waits, dies, commits, queues, drops, turns, undoes, ends, puts_later, puts, drops_first, drops_leaf, takes_later, takes_first, takes_leaf, takes_last, logs_page, tree_blocks, tree_halts, flushes, forces, checkpoints, switches, lacks, breaks, Run, IsReached, start}
+use Rattle.im_theory_machine.specs.Machine.{barred, Answers, Goes, Moves, begins, does, waits, dies, commits, queues, drops, turns, undoes, ends, puts_later, puts, drops_first, drops_leaf, takes_later, takes_first, takes_leaf, takes_last, stays_back, turns_back, gives_back, is_back, leaf_is_back, logs_page, tree_blocks, tree_halts, flushes, forces, checkpoints, switches, lacks, breaks, Run, IsReached, start}
 use Rattle.im_theory_machine.specs.Isolation.{finished, IsReplay, queue_after, queue_after_all, finished_all, committed_in, serial, Isolates, GrantedChangesAreFree}
 use Rattle.im_theory_machine.proofs.Changes.{same_maps}
 use Rattle.im_theory_machine.proofs.Callers.{Run-push}
@@ -22,8 +22,9 @@ use Rattle.im_theory_machine.proofs.ReadKeys.{Reads}
 use Rattle.im_theory_machine.specs.Kept.{PendingInsertsAreGranted}
 use Rattle.im_theory_machine.proofs.Pending.{kept_locks_stay}
 use Rattle.im_theory_machine.proofs.Under.{IsUnder, ahead, ahead_same, not_going}
-use Rattle.im_theory_machine.proofs.Runs.{clear_commit, IsQueue, Upheld, nothing_told, tells, run_upheld, stands_of, granted_of, going_told, reply_answers}
-use Rattle.im_theory_machine.proofs.Theorem.{tells-accesses, tells-replies, waiting_replay, force_is, forced_replay, going_replay, after_story, commit_end, rollback_end, no_refusal, unbarred, ended_replay, commit_adds, answers_stays, together_up}
+use Rattle.im_theory_machine.proofs.Standing.{IsQueue, granted_of, going_through}
+use Rattle.im_theory_machine.proofs.Runs.{clear_commit, may_return, Upheld, nothing_told, tells, run_upheld, stands_of, reply_answers}
+use Rattle.im_theory_machine.proofs.Theorem.{finished_accesses, finished_replies, waiting_replay, force_is, forced_replay, going_replay, after_story, commit_end, rollback_end, no_refusal, unbarred, ended_replay, commit_adds, answers_stays, together_up}
 
 -- ---- accesses in a row
 
@@ -60,6 +61,7 @@ none_in front Begin reply other free = refl
 none_in front (Do t a) reply other free = refl
 none_in front (Rollback t) reply other free = refl
 none_in front (Continue t) reply other free = refl
+none_in front (RollTo t n) reply other free = refl
 none_in front (FlushPage p) reply other free = refl
 none_in front Checkpoint reply other free = refl
 none_in front Switch reply other free = refl
@@ -123,6 +125,11 @@ goes_commit v w step reply (takes_later u c cs b is none net_is d e) = inr (inr 
 goes_commit v w step reply (takes_first u c cs b is none net_is d e) = inr (inr (λ q. cc, not_force step (Continue u) reply b (λ x. cc x)))
 goes_commit v w step reply (takes_leaf u c cs b is under net_is d e) = inr (inr (λ q. cc, not_force step (Continue u) reply b (λ x. cc x)))
 goes_commit v w step reply (takes_last u b is under empty d e) = inr (inr (λ q. cc, not_force step (Continue u) reply b (λ x. cc x)))
+goes_commit v w step reply (stays_back u n a may low d e) = inr (inr (λ q. cc, not_force step (RollTo u n) reply a (λ x. cc x)))
+goes_commit v w step reply (turns_back u n a may over d e) = inr (inr (λ q. cc, not_force step (RollTo u n) reply a (λ x. cc x)))
+goes_commit v w step reply (gives_back u n g cs a is net_is over d e) = inr (inr (λ q. cc, not_force step (Continue u) reply a (λ x. cc x)))
+goes_commit v w step reply (is_back u n g cs a is net_is whole d e) = inr (inr (λ q. cc, not_force step (Continue u) reply a (λ x. cc x)))
+goes_commit v w step reply (leaf_is_back u n a is under whole d e) = inr (inr (λ q. cc, not_force step (Continue u) reply a (λ x. cc x)))
 goes_commit v w step reply (logs_page u x b under owner d e) = inr (inr (λ q. cc, not_force step (Continue u) reply b (λ x. cc x)))
 goes_commit v w step reply (tree_blocks u a x b under other d e) = inr (inr (λ q. cc, not_force step (Do u a) reply b (λ x. cc x)))
 goes_commit v w step reply (tree_halts u x b under other d e) = inr (inr (λ q. cc, not_force step (Continue u) reply b (λ x. cc x)))
@@ -145,6 +152,7 @@ refused_queue queue (Do t a) f = refl
 refused_queue queue (Commit t) f = refl
 refused_queue queue (Rollback t) f = refl
 refused_queue queue (Continue t) f = refl
+refused_queue queue (RollTo t n) f = refl
 refused_queue queue (FlushPage p) f = refl
 refused_queue queue Force f = refl
 refused_queue queue Checkpoint f = refl
@@ -172,6 +180,11 @@ goes_queue v w step reply (takes_later u c cs b is none net_is d e) = queue_by v
 goes_queue v w step reply (takes_first u c cs b is none net_is d e) = queue_by v.queue w.queue step (Continue u) reply reply b refl (ap (λ (y : View). y.queue) e)
 goes_queue v w step reply (takes_leaf u c cs b is under net_is d e) = queue_by v.queue w.queue step (Continue u) reply reply b refl (ap (λ (y : View). y.queue) e)
 goes_queue v w step reply (takes_last u b is under empty d e) = queue_by v.queue w.queue step (Continue u) reply reply b refl (ap (λ (y : View). y.queue) e)
+goes_queue v w step reply (stays_back u n a may low d e) = queue_by v.queue w.queue step (RollTo u n) reply reply a refl (ap (λ (y : View). y.queue) e)
+goes_queue v w step reply (turns_back u n a may over d e) = queue_by v.queue w.queue step (RollTo u n) reply reply a refl (ap (λ (y : View). y.queue) e)
+goes_queue v w step reply (gives_back u n g cs a is net_is over d e) = queue_by v.queue w.queue step (Continue u) reply reply a refl (ap (λ (y : View). y.queue) e)
+goes_queue v w step reply (is_back u n g cs a is net_is whole d e) = queue_by v.queue w.queue step (Continue u) reply reply a refl (ap (λ (y : View). y.queue) e)
+goes_queue v w step reply (leaf_is_back u n a is under whole d e) = queue_by v.queue w.queue step (Continue u) reply reply a refl (ap (λ (y : View). y.queue) e)
 goes_queue v w step reply (logs_page u x b under owner d e) = queue_by v.queue w.queue step (Continue u) reply reply b refl (ap (λ (y : View). y.queue) e)
 goes_queue v w step reply (tree_blocks u a x b under other d e) = queue_by v.queue w.queue step (Do u a) reply reply b refl (ap (λ (y : View). y.queue) e)
 goes_queue v w step reply (tree_halts u x b under other d e) = queue_by v.queue w.queue step (Continue u) reply reply b refl (ap (λ (y : View). y.queue) e)
@@ -231,8 +244,8 @@ module _ (base : IndexMap) (n : ℕ) where
       let clear : (t : ℕ) → is_among t v.queue ≡ true → pending_of v.under t ≡ None = λ t some. not_going v.under t u.txns v.walk up.stands.change (λ going. let never : Going ≡ Committing = sym going ∙ up.stands.queue.waits t some in cc never) in
       let all : Serially v.committed (finished_all front v.queue) (map_behind v.committed u.txns v.queue) =
       queue_serial v.committed v.walk u.txns (ahead v.under told) up.stands.fits v.queue up.stands.queue.each (λ t some. up.stands.queue.waits t some) front
-      (λ t some. ap accesses_of (ahead_same v.under t told (clear t some)) ∙ tells-accesses (pending_of None) nothing_told front t)
-      (λ t some. ap replies_of (ahead_same v.under t told (clear t some)) ∙ tells-replies (pending_of None) nothing_told front t) in
+      (λ t some. ap accesses_of (ahead_same v.under t told (clear t some)) ∙ finished_accesses front t)
+      (λ t some. ap replies_of (ahead_same v.under t told (clear t some)) ∙ finished_replies front t) in
       subst (λ (q : List ℕ). Serially v.committed (finished_all front q) w.committed) (run_queue (start base n) front v r)
       (subst (λ (m : IndexMap). Serially v.committed (finished_all front v.queue) m)
       (ap (apply_all v.committed) (nets_same v.txns u.txns v.queue (λ s. refl)) ∙ ap (λ (y : View). y.committed) (sym (force_is v w g))) all)
@@ -263,15 +276,20 @@ module _ (base : IndexMap) (n : ℕ) where
       (one_step front v q.0 e.0 e.1 r q.1)
       (serial_from (front ++ e ∷ []) es q.0 w (Run-push (start base n) v q.0 front e.0 e.1 r q.1) q.2)
 
+none_refused : (reply : Reply) → (reply ≡ More) ⊎ (reply ≡ Done) → (fault : ℕ) → reply ≡ Refused fault → ⊥
+none_refused reply (inl h) fault e = cc
+none_refused reply (inr h) fault e = cc
+
 pub isolates : (base : IndexMap) (n : ℕ) → Isolates base n
 isolates base n = record {
   going = λ trace v r t which. elim which [ inl may ↦ going_replay base n trace v r t may | inr is ↦ waiting_replay base n trace v r t is ];
   waiting = λ trace v r. run_queue (start base n) trace v r;
   by_force = λ front rest v w end r m later ts us t is. forced_replay base n front rest v w end r (unbarred v Force Done w (barred v Force) m (λ fault e. cc)) later ts us t is;
   committed = λ front rest v w end r t m later.
-      ended_replay base n front rest v w end t (Commit t, Committed) r (commit_end v t w (unbarred v (Commit t) Committed w (barred v (Commit t)) m (λ fault e. cc))) (λ o. refl) later;
+      ended_replay base n front rest v w end t (Commit t, Committed) r (commit_end v t w (unbarred v (Commit t) Committed w (barred v (Commit t)) m (λ fault e. cc))) (λ o fs. refl) later;
   rolled_back = λ front rest v w end r t reply which m later.
-      ended_replay base n front rest v w end t (Rollback t, reply) r (rollback_end v t reply w which (unbarred v (Rollback t) reply w (barred v (Rollback t)) m (no_refusal reply which))) (λ o. refl) later;
+      ended_replay base n front rest v w end t (Rollback t, reply) r (rollback_end v t reply w which (unbarred v (Rollback t) reply w (barred v (Rollback t)) m (no_refusal reply which))) (λ o fs. refl) later;
+  returned = λ front v w r t left reply which m. going_replay base n front v r t (may_return v t left (passed v (RollTo t left) reply w (barred v (RollTo t left)) m (none_refused reply which)));
   adds = λ front v w r t m.
       let g = unbarred v (Commit t) Committed w (barred v (Commit t)) m (λ fault e. cc) in
       commit_adds v t w g ∙ after_story base n front v r t (clear_commit v t (passed v (Commit t) Committed w (barred v (Commit t)) m (λ fault e. cc))) ((commit_end v t w g).may);
@@ -292,7 +310,7 @@ pub granted_free : GrantedChangesAreFree
 granted_free base v reached works t a c going free one u differ touch =
     let told = tells (pending_of None) nothing_told reached.trace in
     let h = stands_of v told (run_upheld base reached.first reached.trace v reached.run) works in
-    let story = going_told v told h t (inl going) in
+    let story = going_through v told h t (inl going) in
     let read : Reads a v.walk (key_of c) = elim (cases_access a v.walk ((v.txns t).locks)) [
       | inl still ↦ let never : [] ≡ c ∷ [] = sym still.nothing ∙ one in absurd cc
       | inr made ↦ subst (λ (d : Change). Reads a v.walk (key_of d)) (same_head made.0 c (sym made.1.change ∙ one)) made.1.itself

@@ -1,9 +1,9 @@
 -- Each step keeps what holds between steps.
-use Rattle.std.proofs.Common.{◌≡◌, ◌≢◌, ℕ, cond, nat_eq, List, [], ◌∷◌, ◌++◌, refl, ap, sym, subst, ◌∙◌, inl, inr, ◌⊎◌, eq-eqb, ne_eqb}
+use Rattle.std.proofs.Common.{◌≡◌, ◌≢◌, ℕ, Bool, cond, nat_eq, List, [], ◌∷◌, ◌++◌, refl, ap, sym, subst, ◌∙◌, inl, inr, ◌⊎◌, eq-eqb, ne_eqb}
 use Rattle.std.specs.FinMap.{get}
 use Rattle.im_base_types.specs.Keys.{Key}
 use Rattle.im_base_types.specs.Maps.{IndexMap}
-use Rattle.im_base_types.specs.Answers.{Access, Reply, changes, answer, Mark, Idle, Going, MustRollBack, RollingBack, Committing}
+use Rattle.im_base_types.specs.Answers.{Access, Reply, changes, answer, Mark, Going}
 use Rattle.im_base_types.specs.Changes.{Change, key_of, applied, undone, apply, Touches}
 use Rattle.im_theory_machine.specs.Locks.{Name, Lock, Request, kept, Holds, SameLocks, Asks}
 use Rattle.im_theory_machine.specs.declared.lock_kind.Mode.{Mode}
@@ -11,11 +11,12 @@ use Rattle.im_theory_machine.specs.declared.lock_kind.Mode.TheVariants.{Exclusiv
 use Rattle.im_theory_machine.specs.Rows.{asked}
 use Rattle.im_theory_machine.specs.View.{Txn, idle, set_txn, did_txn}
 use Rattle.im_theory_machine.proofs.Order.{same_key}
-use Rattle.im_theory_machine.proofs.Guards.{guard, OnlyAt}
+use Rattle.im_theory_machine.proofs.Guards.{guard}
 use Rattle.im_theory_machine.proofs.Changes.{owned, applied_off, undone_at, undone_off, undone-applied, apply-agrees, applied-agrees, apply-untouched, cases_touches, guard-applied, guard-applied_at}
 use Rattle.im_theory_machine.proofs.ReadKeys.{Reads, AgreeOn, reply-agrees, changes-agrees, Reads-agrees, asked-guards}
 use Rattle.im_theory_machine.proofs.Locks.{kept-old, kept-from, IsStill, Makes, cases_access}
-use Rattle.im_theory_machine.proofs.Invariant.{Guards, Chain, Told, NotHeld, Chain-elsewhere, Told-moved, Told-elsewhere, Told-rebased, Chain-rebased, Chain-more, Chain-guards, StoryHolds, Fits, set_txn-same, set_txn-other, by_txn}
+use Rattle.im_theory_machine.proofs.Invariant.{Guards, Chain, NotHeld, Chain-elsewhere, Told-moved, Chain-rebased, Chain-more, Chain-guards, before_last, Through, Through-more, through_told, through_plain, StoryHolds, story-elsewhere, story-rebased, story-more, Fits, set_txn-same, set_txn-other, by_txn}
+use Rattle.im_theory_machine.proofs.Stories.{still_plain, made_change}
 use Rattle.im_theory_machine.proofs.Bools.{cases_number}
 
 -- what is owed when one transaction is set
@@ -83,16 +84,23 @@ module _ (base w : IndexMap) (f : ℕ → Txn) (told : ℕ → List (Access × R
     stories = λ s ns. fits.story s;
   }
 
-  pub stories-elsewhere : (w' : IndexMap) (y : Key) (m : Mark) (ls : List Lock) (story : List (Access × Reply)) (net : List Change) → OnlyAt y w w' → NotHeld ls (guard w y) → StoryHolds m ls w base story net → StoryHolds m ls w' base story net
-  stories-elsewhere w' y Idle ls story net only none h = h
-  stories-elsewhere w' y Going ls story net only none h = Told-elsewhere ls w w' base y story net only none h
-  stories-elsewhere w' y MustRollBack ls story net only none h = Told-elsewhere ls w w' base y story net only none h
-  stories-elsewhere w' y RollingBack ls story net only none h = h
-  stories-elsewhere w' y Committing ls story net only none h = Told-elsewhere ls w w' base y story net only none h
+  -- and what one is told is new
+  pub sets_story : (t : ℕ) (m : Mark) (new : ℕ → List (Access × Reply)) → StoryHolds m ((f t).locks) w base (new t) ((f t).net) → ((s : ℕ) → s ≢ t → new s ≡ told s) → Sets base w f new t (record (f t) { mark = m })
+  sets_story t m new story others = record {
+    others_apart = λ s u ns nu ne. fits.apart s u ne;
+    mine = λ s ns. fits.apart t s (λ e. ns (sym e));
+    theirs = λ s ns. fits.apart s t ns;
+    chain = fits.chain t;
+    chains = λ s ns. fits.chain s;
+    walk_mine = λ k none. fits.walk t k none;
+    walk_others = λ s k ns mine others. walk_but t s k mine others;
+    story = story;
+    stories = λ s ns. subst (λ (fs : List (Access × Reply)). StoryHolds ((f s).mark) ((f s).locks) w base fs ((f s).net)) (sym (others s ns)) (fits.story s);
+  }
 
   -- ---- an access is granted
 
-  module _ (t : ℕ) (a : Access) (granted : IsGranted f t (asked a w)) (going : Told ((f t).locks) w base (told t) ((f t).net)) where
+  module _ (t : ℕ) (a : Access) (granted : IsGranted f t (asked a w)) (going : Through ((f t).locks) w base (told t) ((f t).net)) where
     -- no other touches what is read
     pub read_free : (k : Key) → Reads a w k → (u : ℕ) → u ≢ t → Touches ((f u).net) k → ⊥
     read_free k r u ne touch =
@@ -130,6 +138,10 @@ module _ (base w : IndexMap) (f : ℕ → Txn) (told : ℕ → List (Access × R
     told_on-other : (s : ℕ) → s ≢ t → told_on s ≡ told s
     told_on-other s ne = rw (ne_eqb s t ne)
 
+    -- each front of what t was told stands with the new locks
+    through_on : Through (kept (asked a w) ((f t).locks)) w base (told t) ((f t).net)
+    through_on = Through-more ((f t).locks) (kept (asked a w) ((f t).locks)) w base (told t) ((f t).net) (λ n md h. kept-old (asked a w) ((f t).locks) n md h) going
+
     still_sets : IsStill a w ((f t).locks) → Sets base w f told_on t (did_with [])
     still_sets is = record {
       others_apart = λ s u ns nu ne. fits.apart s u ne;
@@ -139,13 +151,15 @@ module _ (base w : IndexMap) (f : ℕ → Txn) (told : ℕ → List (Access × R
       chains = λ s ns. fits.chain s;
       walk_mine = λ k none. fits.walk t k none;
       walk_others = λ s k ns mine others. walk_but t s k mine others;
-      story = subst (λ (fs : List (Access × Reply)). Told (kept (asked a w) ((f t).locks)) w base fs ((f t).net)) (sym told_on-same) (
-        (f t).net,
-        ap (λ cs. cs ++ (f t).net) (sym (changes-agrees a w (apply base ((f t).net)) agree ∙ is.nothing)),
-        reply-agrees a w (apply base ((f t).net)) agree,
-        (λ k r. let g = asked-guards a w k (Reads-agrees a w (apply base ((f t).net)) agree k r) in (g.0, is.keeps (guard w k) g.0 g.1)),
-        Told-moved ((f t).locks) (kept (asked a w) ((f t).locks)) w w base (told t) ((f t).net) (λ k g. (g.0, kept-old (asked a w) ((f t).locks) (guard w k) g.0 g.1)) going,
-      );
+      story = subst (λ (fs : List (Access × Reply)). Through (kept (asked a w) ((f t).locks)) w base fs ((f t).net)) (sym told_on-same) (
+          through_plain (kept (asked a w) ((f t).locks)) w base a (answer a w) (told t) ((f t).net) (still_plain a w is.nothing) (
+            (f t).net,
+            ap (λ cs. cs ++ (f t).net) (sym (changes-agrees a w (apply base ((f t).net)) agree ∙ is.nothing)),
+            reply-agrees a w (apply base ((f t).net)) agree,
+            (λ k r. let g = asked-guards a w k (Reads-agrees a w (apply base ((f t).net)) agree k r) in (g.0, is.keeps (guard w k) g.0 g.1)),
+            Told-moved ((f t).locks) (kept (asked a w) ((f t).locks)) w w base (told t) ((f t).net) (λ k g. (g.0, kept-old (asked a w) ((f t).locks) (guard w k) g.0 g.1)) (through_told ((f t).locks) w base (told t) ((f t).net) going),
+          ) through_on
+          );
       stories = λ s ns. subst (λ (fs : List (Access × Reply)). StoryHolds ((f s).mark) ((f s).locks) w base fs ((f s).net)) (sym (told_on-other s ns)) (fits.story s);
     }
 
@@ -187,15 +201,19 @@ module _ (base w : IndexMap) (f : ℕ → Txn) (told : ℕ → List (Access × R
         chains = λ s ns. Chain-elsewhere ((f s).locks) w (applied w c) base (key_of c) ((f s).net) (applied_off w c) (not_held s ns) (fits.chain s);
         walk_mine = λ k none. applied-agrees (apply base ((f t).net)) w c k (fits.walk t k none);
         walk_others = λ s k ns mine others. applied_off w c k (λ e. mine (inl (sym e))) ∙ walk_but t s k (λ h. mine (inr h)) others;
-        story = subst (λ (fs : List (Access × Reply)). Told (kept (asked a w) ((f t).locks)) (applied w c) base fs (c ∷ (f t).net)) (sym told_on-same) (
-          (f t).net,
-          ap (λ cs. cs ++ (f t).net) (sym (changes-agrees a w (apply base ((f t).net)) agree ∙ makes.change)),
-          reply-agrees a w (apply base ((f t).net)) agree,
-          (λ k r. (Exclusive, itself_held k (makes.alone k (Reads-agrees a w (apply base ((f t).net)) agree k r)))),
-          Told-moved ((f t).locks) (kept (asked a w) ((f t).locks)) w (applied w c) base (told t) ((f t).net) moved_any going,
+        story = subst (λ (fs : List (Access × Reply)). Through (kept (asked a w) ((f t).locks)) (applied w c) base fs (c ∷ (f t).net)) (sym told_on-same) (
+          (
+            (f t).net,
+            ap (λ cs. cs ++ (f t).net) (sym (changes-agrees a w (apply base ((f t).net)) agree ∙ makes.change)),
+            reply-agrees a w (apply base ((f t).net)) agree,
+            (λ k r. (Exclusive, itself_held k (makes.alone k (Reads-agrees a w (apply base ((f t).net)) agree k r)))),
+            Told-moved ((f t).locks) (kept (asked a w) ((f t).locks)) w (applied w c) base (told t) ((f t).net) moved_any (through_told ((f t).locks) w base (told t) ((f t).net) going),
+          ),
+          subst (λ (b : Bool). Through (kept (asked a w) ((f t).locks)) (undone (applied w c) c) base (cond b (told t) (before_last (told t))) ((f t).net)) (sym (made_change a w c makes.change))
+              (subst (λ (m : IndexMap). Through (kept (asked a w) ((f t).locks)) m base (told t) ((f t).net)) (sym (undone-applied w c makes.before)) through_on),
         );
         stories = λ s ns. subst (λ (fs : List (Access × Reply)). StoryHolds ((f s).mark) ((f s).locks) (applied w c) base fs ((f s).net)) (sym (told_on-other s ns))
-            (stories-elsewhere (applied w c) (key_of c) ((f s).mark) ((f s).locks) (told s) ((f s).net) (applied_off w c) (not_held s ns) (fits.story s));
+            (story-elsewhere ((f s).mark) ((f s).locks) w (applied w c) base (key_of c) (told s) ((f s).net) (applied_off w c) (not_held s ns) (fits.chain s) (fits.story s));
       }
 
     pub did-fits : Fits base (apply w (changes a w)) (set_txn f t (did_txn (f t) a w (kept (asked a w) ((f t).locks)))) told_on
@@ -207,13 +225,6 @@ module _ (base w : IndexMap) (f : ℕ → Txn) (told : ℕ → List (Access × R
 
   -- ---- the same locks in another list
 
-  stories_more : (m : Mark) (ls ks : List Lock) (story : List (Access × Reply)) (net : List Change) → ((n : Name) (md : Mode) → Holds ls n md → Holds ks n md) → StoryHolds m ls w base story net → StoryHolds m ks w base story net
-  stories_more Idle ls ks story net more h = h
-  stories_more Going ls ks story net more h = Told-moved ls ks w w base story net (λ k g. (g.0, more (guard w k) g.0 g.1)) h
-  stories_more MustRollBack ls ks story net more h = Told-moved ls ks w w base story net (λ k g. (g.0, more (guard w k) g.0 g.1)) h
-  stories_more RollingBack ls ks story net more h = h
-  stories_more Committing ls ks story net more h = Told-moved ls ks w w base story net (λ k g. (g.0, more (guard w k) g.0 g.1)) h
-
   pub relock_sets : (t : ℕ) (ks : List Lock) → SameLocks ks ((f t).locks) → Sets base w f told t (record (f t) { locks = ks })
   relock_sets t ks same = record {
     others_apart = λ s u ns nu ne. fits.apart s u ne;
@@ -223,18 +234,11 @@ module _ (base w : IndexMap) (f : ℕ → Txn) (told : ℕ → List (Access × R
     chains = λ s ns. fits.chain s;
     walk_mine = λ k none. fits.walk t k none;
     walk_others = λ s k ns mine others. walk_but t s k mine others;
-    story = stories_more ((f t).mark) ((f t).locks) ks (told t) ((f t).net) (λ n md h. (same n md).1 h) (fits.story t);
+    story = story-more ((f t).mark) ((f t).locks) ks w base (told t) ((f t).net) (λ n md h. (same n md).1 h) (fits.story t);
     stories = λ s ns. fits.story s;
   }
 
   -- ---- the end of a transaction
-
-  stories-rebased : (base' : IndexMap) (m : Mark) (ls : List Lock) (story : List (Access × Reply)) (net : List Change) → ((k : Key) → Guards ls w k → get base' k ≡ get base k) → StoryHolds m ls w base story net → StoryHolds m ls w base' story net
-  stories-rebased base' Idle ls story net same h = h
-  stories-rebased base' Going ls story net same h = Told-rebased ls w base base' story net same h
-  stories-rebased base' MustRollBack ls story net same h = Told-rebased ls w base base' story net same h
-  stories-rebased base' RollingBack ls story net same h = h
-  stories-rebased base' Committing ls story net same h = Told-rebased ls w base base' story net same h
 
   pub commit_sets : (t : ℕ) → Sets (apply base ((f t).net)) w f told t idle
   commit_sets t = record {
@@ -255,8 +259,8 @@ module _ (base w : IndexMap) (f : ℕ → Txn) (told : ℕ → List (Access × R
           | inr none ↦ walk_but t s k none others ∙ sym (apply-agrees base (apply base ((f t).net)) ((f s).net) k (apply-untouched base ((f t).net) k none))
         ];
     story = tt;
-    stories = λ s ns. stories-rebased (apply base ((f t).net)) ((f s).mark) ((f s).locks) (told s) ((f s).net)
-        (λ k g. apply-untouched base ((f t).net) k (λ h. guarded_apart s t (λ e. ns (sym e)) k g h)) (fits.story s);
+    stories = λ s ns. story-rebased ((f s).mark) ((f s).locks) w base (apply base ((f t).net)) (told s) ((f s).net)
+        (λ k g. apply-untouched base ((f t).net) k (λ h. guarded_apart s t (λ e. ns (sym e)) k g h)) (fits.chain s) (fits.story s);
   }
 
   pub drop_sets : (t : ℕ) → (f t).net ≡ [] → Sets base w f told t idle
@@ -311,7 +315,7 @@ module _ (base w : IndexMap) (f : ℕ → Txn) (told : ℕ → List (Access × R
       walk_mine = λ k none. undo_walk_mine k none ∙ ap (λ (net : List Change). get (apply base net) k) (sym e);
       walk_others = λ s k ns mine others. undo_walk_others s k ns (λ h. mine (subst (λ (net : List Change). Touches net k) (sym e) h)) others;
       story = story;
-      stories = λ s ns. stories-elsewhere (undone w c) (key_of c) ((f s).mark) ((f s).locks) (told s) ((f s).net) (undone_off w c) (undo_not_held s ns) (fits.story s);
+      stories = λ s ns. story-elsewhere ((f s).mark) ((f s).locks) w (undone w c) base (key_of c) (told s) ((f s).net) (undone_off w c) (undo_not_held s ns) (fits.chain s) (fits.story s);
     }
 
     pub undo_links : Chain ((f t).locks) (undone w c) base cs

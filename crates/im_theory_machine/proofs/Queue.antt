@@ -10,7 +10,7 @@ use Rattle.im_theory_machine.specs.Locks.{Lock}
 use Rattle.im_theory_machine.specs.View.{Txn, idle, set_txn, is_among, AreDifferent, nets_of, map_behind, idle_all}
 use Rattle.im_theory_machine.proofs.Bools.{cases_number, cases_test, first_of_or, second_of_or, either, or_true, neither}
 use Rattle.im_theory_machine.proofs.Changes.{apply-untouched}
-use Rattle.im_theory_machine.proofs.Invariant.{Fits, Guards, StoryHolds, Told, Told-rebased, set_txn-same, set_txn-other, by_txn}
+use Rattle.im_theory_machine.proofs.Invariant.{Fits, Guards, StoryHolds, Told, Told-rebased, through_told, set_txn-same, set_txn-other, by_txn}
 use Rattle.im_theory_machine.proofs.Keeping.{Sets-fits, commit_sets, guarded_apart}
 
 -- who is not among others is none of them
@@ -98,7 +98,7 @@ forced_fits base w f told (t ∷ ts) fits each =
 
 -- the story of one that waits
 pub waiting_told : (ls : List Lock) (base w : IndexMap) (story : List (Access × Reply)) (net : List Change) (m : Mark) → m ≡ Committing → StoryHolds m ls w base story net → Told ls w base story net
-waiting_told ls base w story net m e h = subst (λ (m : Mark). StoryHolds m ls w base story net) e h
+waiting_told ls base w story net m e h = through_told ls w base story net (subst (λ (m : Mark). StoryHolds m ls w base story net) e h)
 
 -- what others of the queue change is none of what it guards
 guarded_same : (base w : IndexMap) (f : ℕ → Txn) (told : ℕ → List (Access × Reply)) → Fits base w f told → (m : IndexMap) (front : List ℕ) (t : ℕ) → is_among t front ≡ false

@@ -1,327 +1,21 @@
--- The invariant over whole runs, and what it gives.
-use Rattle.std.proofs.Common.{◌≡◌, ◌≢◌, ℕ, nat_eq, is_some, ◌≤◌, ◌<◌, Bool, true, false, cond, List, [], ◌∷◌, ◌++◌, Option, Some, None, refl, ap, sym, subst, ◌∙◌, inl, inr, arith}
-use Rattle.std.proofs.lemmas.Bool.{true≢false, cases_lt, eq-eqb, ne_eqb}
+-- What holds between steps over whole runs, with the stories of a trace.
+use Rattle.std.proofs.Common.{◌≡◌, ℕ, nat_eq, is_some, Bool, true, false, cond, List, [], ◌∷◌, ◌++◌, length, Option, Some, None, refl, ap, sym, subst, ◌∙◌, inl, inr, arith}
+use Rattle.std.proofs.lemmas.Bool.{true≢false, eq-eqb, ne_eqb}
 use Rattle.std.specs.FinMap.{get}
 use Rattle.im_base_types.specs.Keys.{Key}
 use Rattle.im_base_types.specs.Maps.{IndexMap, From, Above, first, last_below}
-use Rattle.im_base_types.specs.Answers.{Access, Reply, More, RolledBack, BlockedTree, Step, answer, map_after, Mark, Idle, Going, MustRollBack, RollingBack, Committing, is_answer, Do, Commit, Rollback, Refused, Blocked, Die, Started, Found, Entry, End, Entries, Committed, Done, found, entry, Fetch, Seek, Next, Prev, Scan, Insert, Delete, Duplicate, Inserted, Deleted, Absent, Begin, Continue, FlushPage, Force, Checkpoint, Switch}
-use Rattle.im_base_types.specs.Changes.{Change, undone, apply, Touches}
-use Rattle.im_theory_machine.specs.Locks.{Name, Lock, Request, Holds, SameLocks, kept, IsFree}
-use Rattle.im_theory_machine.specs.declared.lock_kind.Mode.{Mode}
-use Rattle.im_theory_machine.specs.Rows.{asked}
-use Rattle.im_theory_machine.specs.View.{Txn, View, Under, Puts, Drops, TakesBack, TookBack, pending_of, kept_lock, own_locks, locked, with_change, change_made, idle, set_txn, did_txn, begun, did, marked, committed_by, dropped_by, undid_more, undid_last, is_among, AreDifferent, queued, forced_by, locks_in, MayRollBack, relocked, broken}
-use Rattle.im_theory_machine.specs.Machine.{barred, Answers, Goes, Moves, begins, does, waits, dies, commits, queues, drops, turns, undoes, ends, puts_later, puts, drops_first, drops_leaf, takes_later, takes_first, takes_leaf, takes_last, logs_page, tree_blocks, tree_halts, flushes, forces, checkpoints, switches, lacks, breaks, Run, start, or_else, fault_if}
-use Rattle.im_theory_machine.specs.Isolation.{access_of, is_more, pending_after}
+use Rattle.im_base_types.specs.Answers.{Access, Reply, More, RolledBack, BlockedTree, Step, answer, Mark, Idle, Going, MustRollBack, RollingBack, Returning, Committing, is_answer, Do, Commit, Rollback, RollTo, Refused, Blocked, Die, Started, Found, Entry, End, Entries, Committed, Done, found, entry, Fetch, Seek, Next, Prev, Scan, Insert, Delete, Duplicate, Inserted, Deleted, Absent, Begin, Continue, FlushPage, Force, Checkpoint, Switch}
+use Rattle.im_base_types.specs.Changes.{Change}
+use Rattle.im_theory_machine.specs.Locks.{Lock}
+use Rattle.im_theory_machine.specs.View.{Txn, View, Under, of_others, Puts, Drops, TakesBack, TookBack, pending_of, locked, with_change, change_made, idle, set_txn, did_txn, begun, did, marked, committed_by, dropped_by, undid_more, undid_last, is_among, queued, forced_by, MayRollBack, relocked, broken}
+use Rattle.im_theory_machine.specs.Machine.{barred, barred_to_rollback, MayTakeBack, Answers, Goes, Moves, begins, does, waits, dies, commits, queues, drops, turns, undoes, ends, puts_later, puts, drops_first, drops_leaf, takes_later, takes_first, takes_leaf, takes_last, stays_back, turns_back, gives_back, is_back, leaf_is_back, logs_page, tree_blocks, tree_halts, flushes, forces, checkpoints, switches, lacks, breaks, Run, start, or_else, fault_if}
+use Rattle.im_theory_machine.specs.Isolation.{access_of, is_more, is_return, pending_after, kept_after}
 use Rattle.im_base_types.specs.Refusals.{failed as has_failed, unfinished}
-use Rattle.im_theory_machine.proofs.Invariant.{Told, StoryHolds, Fits, by_txn, set_txn-same, set_txn-other, Chain}
+use Rattle.im_theory_machine.proofs.Invariant.{by_txn, set_txn-same}
 use Rattle.im_theory_machine.proofs.Bools.{cases_number, cases_test}
-use Rattle.im_theory_machine.proofs.Queue.{among_pushed, pushed_last, pushed_more, different_pushed, by_force_txn, forced_fits, waiting_told}
-use Rattle.im_theory_machine.proofs.Pending.{kept_locks_stay}
-use Rattle.im_theory_machine.proofs.Fitting.{puts_off_fits, puts_fits, took_off_fits}
-use Rattle.im_theory_machine.proofs.Under.{ahead, IsUnder, not_going, none_either, others_pending, none_by, ahead_push, ahead_same, ahead_others, under_others, under_set, under_did, under_undone, under_forced}
-use Rattle.im_theory_machine.proofs.Keeping.{Sets-fits, sets_mark, IsGranted, did-fits, relocked as relocked_fits, commit_sets, walk_but, drop_sets, undo_sets}
-
--- the queue has those whose Commit waits, each once
-pub record IsQueue (queue : List ℕ) (txns : ℕ → Txn) : Type 0 where
-  pub each : AreDifferent queue
-  pub waits : (t : ℕ) → is_among t queue ≡ true → (txns t).mark ≡ Committing
-  pub all : (t : ℕ) → (txns t).mark ≡ Committing → is_among t queue ≡ true
-
--- one is set that did not wait, and does not
-queue_set : (queue : List ℕ) (txns : ℕ → Txn) → IsQueue queue txns → (t : ℕ) (x : Txn) → ((txns t).mark ≡ Committing → ⊥) → (x.mark ≡ Committing → ⊥) → IsQueue queue (set_txn txns t x)
-queue_set queue txns h t x before now = record {
-  each = h.each;
-  waits = by_txn (λ s y. is_among s queue ≡ true → y.mark ≡ Committing) txns t x (λ some. absurd (before (h.waits t some))) (λ s ne some. h.waits s some);
-  all = by_txn (λ s y. y.mark ≡ Committing → is_among s queue ≡ true) txns t x (λ is. absurd (now is)) (λ s ne is. h.all s is);
-}
-
-not_waiting : (m n : Mark) → m ≡ n → (n ≡ Committing → ⊥) → m ≡ Committing → ⊥
-not_waiting m n e f is = f (sym e ∙ is)
-
-not_going_by : (m n : Mark) → m ≡ n → (n ≡ Going → ⊥) → m ≡ Going → ⊥
-not_going_by m n e f is = f (sym e ∙ is)
-
-may_not_wait : (m : Mark) → MayRollBack m → m ≡ Committing → ⊥
-may_not_wait m (inl e) is = let never : Going ≡ Committing = sym e ∙ is in cc never
-may_not_wait m (inr e) is = let never : MustRollBack ≡ Committing = sym e ∙ is in cc never
-
-pub record Stands (v : View) (told : ℕ → List (Access × Reply)) : Type 0 where
-  -- a Delete that goes on is told from its first reply on
-  pub fits : Fits v.committed v.walk v.txns (ahead v.under told)
-  -- numbers that were not given out yet
-  pub fresh : (s : ℕ) → v.next ≤ s → v.txns s ≡ idle
-  pub untold : (s : ℕ) → v.next ≤ s → told s ≡ []
-  pub queue : IsQueue v.queue v.txns
-  pub change : IsUnder v.under v.txns v.walk
-
--- a transaction that is not idle has a number that was given out
-old_number : (v : View) → ((s : ℕ) → v.next ≤ s → v.txns s ≡ idle) → (t : ℕ) → ((v.txns t).mark ≡ Idle → ⊥) → t < v.next
-old_number v fresh t busy =
-    elim (cases_lt t v.next) [
-      | inl l ↦ l
-      | inr l ↦ absurd (busy (ap (λ (x : Txn). x.mark) (fresh t l)))
-    ]
-
-going_busy : (m : Mark) → MayRollBack m → m ≡ Idle → ⊥
-going_busy m (inl e) i = cc
-going_busy m (inr e) i = cc
-
-rolling_busy : (m : Mark) → m ≡ RollingBack → m ≡ Idle → ⊥
-rolling_busy m e i = cc
-
--- the story of one that is going is told on the committed map
-told_at : (ls : List Lock) (base w : IndexMap) (story : List (Access × Reply)) (net : List Change) (m : Mark) → MayRollBack m → StoryHolds m ls w base story net → Told ls w base story net
-told_at ls base w story net m (inl e) h = subst (λ (m : Mark). StoryHolds m ls w base story net) e h
-told_at ls base w story net m (inr e) h = subst (λ (m : Mark). StoryHolds m ls w base story net) e h
-
--- what one holds it holds beside a kept lock too
-held_beside : (ks ls : List Lock) (n : Name) (md : Mode) → Holds ls n md → Holds (ks ++ ls) n md
-held_beside [] ls n md h = h
-held_beside (k ∷ ks) ls n md h = inr (held_beside ks ls n md h)
-
-pub granted_of : (v : View) (t : ℕ) (row : List Request) → IsFree (locks_in v) t row → IsGranted v.txns t row
-granted_of v t row free s n mode theirs ne ask held either = free s (record { name = n; mode = mode; theirs = theirs; other = ne; ask = ask; held = held_beside (kept_lock v.under v.walk s) (own_locks v s) n theirs held; exclusive = either })
-
--- one story more, told either way round
-told_of : (t : ℕ) (a : Access) (r q : Reply) → r ≡ q → (told : ℕ → List (Access × Reply)) (s : ℕ) → cond (nat_eq s t) ((a, r) ∷ told s) (told s) ≡ cond (nat_eq t s) ((a, q) ∷ told s) (told s)
-told_of t a r q e told s = ap (λ (x : Reply). cond (nat_eq s t) ((a, x) ∷ told s) (told s)) e ∙ elim (cases_number s t) [
-  | inl is ↦ rw (eq-eqb s t is, eq-eqb t s (sym is))
-  | inr ne ↦ rw (ne_eqb s t ne, ne_eqb t s (λ e. ne (sym e)))
-]
-
-module _ (v : View) (told : ℕ → List (Access × Reply)) (h : Stands v told) where
-  fresh_after : (t : ℕ) (x : Txn) → t < v.next → (s : ℕ) → v.next ≤ s → set_txn v.txns t x s ≡ idle
-  fresh_after t x l s k = set_txn-other v.txns t x s (λ e. omega arith) ∙ h.fresh s k
-
-  pub going_told : (t : ℕ) → MayRollBack ((v.txns t).mark) → Told ((v.txns t).locks) v.walk v.committed (ahead v.under told t) ((v.txns t).net)
-  going_told t may = told_at ((v.txns t).locks) v.committed v.walk (ahead v.under told t) ((v.txns t).net) ((v.txns t).mark) may (h.fits.story t)
-
-  begun_stands : Stands (begun v) told
-  begun_stands =
-      let is : v.txns v.next ≡ idle = h.fresh v.next (omega arith) in
-      let clear : pending_of v.under v.next ≡ None = not_going v.under v.next v.txns v.walk h.change (not_going_by ((v.txns v.next).mark) Idle (ap (λ (x : Txn). x.mark) is) (λ e. cc e)) in
-      let none : (k : Key) → Touches ((v.txns v.next).net) k → ⊥ = λ k touch. subst (λ (x : Txn). Touches x.net k) is touch in
-      record {
-        fits = Sets-fits v.committed v.walk v.txns (ahead v.under told) v.next (record idle { mark = Going }) (record {
-          others_apart = λ s u ns nu ne. h.fits.apart s u ne;
-          mine = λ s ns n md a b. absurd a;
-          theirs = λ s ns n md a b. absurd b;
-          chain = tt;
-          chains = λ s ns. h.fits.chain s;
-          walk_mine = λ k free. h.fits.walk v.next k free ∙ ap (λ (x : Txn). get (apply v.committed x.net) k) is;
-          walk_others = λ s k ns mine others. walk_but v.committed v.walk v.txns (ahead v.under told) h.fits v.next s k (none k) others;
-          story = subst (λ (fs : List (Access × Reply)). Told [] v.walk v.committed fs []) (sym (ahead_same v.under v.next told clear ∙ h.untold v.next (omega arith))) refl;
-          stories = λ s ns. h.fits.story s;
-        });
-        fresh = λ s k. set_txn-other v.txns v.next (record idle { mark = Going }) s (λ e. omega arith) ∙ h.fresh s (omega arith);
-        untold = λ s k. h.untold s (omega arith);
-        queue = queue_set v.queue v.txns h.queue v.next (record idle { mark = Going }) (not_waiting ((v.txns v.next).mark) Idle (ap (λ (x : Txn). x.mark) is) (λ e. cc e)) (λ e. cc e);
-        change = under_set v.txns v.next (record idle { mark = Going }) (λ n md a. absurd a) v.under v.walk clear h.change;
-      }
-
-  did_stands : (t : ℕ) (a : Access) (ls : List Lock) → pending_of v.under t ≡ None → (v.txns t).mark ≡ Going → IsFree (locks_in v) t (asked a v.walk) → SameLocks ls (kept (asked a v.walk) ((v.txns t).locks)) → Stands (did v t a ls) (λ s. cond (nat_eq s t) ((a, answer a v.walk) ∷ told s) (told s))
-  did_stands t a ls clear is free same =
-      let old : t < v.next = old_number v h.fresh t (going_busy ((v.txns t).mark) (inl is)) in
-      record {
-        fits = subst (λ (fs : ℕ → List (Access × Reply)). Fits v.committed (map_after a v.walk) (set_txn v.txns t (did_txn (v.txns t) a v.walk ls)) fs) (λ i s. ahead_push v.under t told (a, answer a v.walk) clear s i)
-            (relocked_fits v.committed (map_after a v.walk) v.txns (λ s. cond (nat_eq s t) ((a, answer a v.walk) ∷ ahead v.under told s) (ahead v.under told s)) t (did_txn (v.txns t) a v.walk (kept (asked a v.walk) ((v.txns t).locks))) ls
-            (did-fits v.committed v.walk v.txns (ahead v.under told) h.fits t a (granted_of v t (asked a v.walk) free) (going_told t (inl is))) same);
-        fresh = fresh_after t (did_txn (v.txns t) a v.walk ls) old;
-        untold = λ s k. let ne : s ≢ t = λ e. omega arith in rw (ne_eqb s t ne) (h.untold s k);
-        queue = queue_set v.queue v.txns h.queue t (did_txn (v.txns t) a v.walk ls) (not_waiting ((v.txns t).mark) Going is (λ e. cc e)) (λ e. cc e);
-        change = under_did v.under v.txns v.walk t a ls clear h.change free same;
-      }
-
-  die_stands : (t : ℕ) → pending_of v.under t ≡ None → (v.txns t).mark ≡ Going → Stands (marked v t MustRollBack) told
-  die_stands t clear is = record {
-    fits = Sets-fits v.committed v.walk v.txns (ahead v.under told) t (record (v.txns t) { mark = MustRollBack }) (sets_mark v.committed v.walk v.txns (ahead v.under told) h.fits t MustRollBack (going_told t (inl is)));
-    fresh = fresh_after t (record (v.txns t) { mark = MustRollBack }) (old_number v h.fresh t (going_busy ((v.txns t).mark) (inl is)));
-    untold = h.untold;
-    queue = queue_set v.queue v.txns h.queue t (record (v.txns t) { mark = MustRollBack }) (not_waiting ((v.txns t).mark) Going is (λ e. cc e)) (λ e. cc e);
-    change = under_set v.txns t (record (v.txns t) { mark = MustRollBack }) (λ n md held. held) v.under v.walk clear h.change;
-  }
-
-  commit_stands : (t : ℕ) → pending_of v.under t ≡ None → (v.txns t).mark ≡ Going → Stands (committed_by v t) told
-  commit_stands t clear is = record {
-    fits = Sets-fits (apply v.committed ((v.txns t).net)) v.walk v.txns (ahead v.under told) t idle (commit_sets v.committed v.walk v.txns (ahead v.under told) h.fits t);
-    fresh = fresh_after t idle (old_number v h.fresh t (going_busy ((v.txns t).mark) (inl is)));
-    untold = h.untold;
-    queue = queue_set v.queue v.txns h.queue t idle (not_waiting ((v.txns t).mark) Going is (λ e. cc e)) (λ e. cc e);
-    change = under_set v.txns t idle (λ n md a. absurd a) v.under v.walk clear h.change;
-  }
-
-  queue_stands : (t : ℕ) → pending_of v.under t ≡ None → (v.txns t).mark ≡ Going → Stands (queued v t) told
-  queue_stands t clear is =
-      let new : is_among t v.queue ≡ false = elim (cases_test (is_among t v.queue)) [
-        | inl some ↦ absurd (not_waiting ((v.txns t).mark) Going is (λ e. cc e) (h.queue.waits t some))
-        | inr none ↦ none
-      ] in
-      record {
-        fits = Sets-fits v.committed v.walk v.txns (ahead v.under told) t (record (v.txns t) { mark = Committing }) (sets_mark v.committed v.walk v.txns (ahead v.under told) h.fits t Committing (going_told t (inl is)));
-        fresh = fresh_after t (record (v.txns t) { mark = Committing }) (old_number v h.fresh t (going_busy ((v.txns t).mark) (inl is)));
-        untold = h.untold;
-        queue = record {
-          each = different_pushed t v.queue h.queue.each new;
-          waits = by_txn (λ s y. is_among s (v.queue ++ t ∷ []) ≡ true → y.mark ≡ Committing) v.txns t (record (v.txns t) { mark = Committing }) (λ some. refl)
-              (λ s ne some. elim (among_pushed s t v.queue some) [ inl before ↦ h.queue.waits s before | inr e ↦ absurd (ne e) ]);
-          all = by_txn (λ s y. y.mark ≡ Committing → is_among s (v.queue ++ t ∷ []) ≡ true) v.txns t (record (v.txns t) { mark = Committing }) (λ waits. pushed_last t t v.queue refl)
-              (λ s ne waits. pushed_more s t v.queue (h.queue.all s waits));
-        };
-        change = under_set v.txns t (record (v.txns t) { mark = Committing }) (λ n md held. held) v.under v.walk clear h.change;
-      }
-
-  pub waiting_story : (t : ℕ) → (v.txns t).mark ≡ Committing → Told ((v.txns t).locks) v.walk v.committed (ahead v.under told t) ((v.txns t).net)
-  waiting_story t is = waiting_told ((v.txns t).locks) v.committed v.walk (ahead v.under told t) ((v.txns t).net) ((v.txns t).mark) is (h.fits.story t)
-
-  force_stands : Stands (forced_by v) told
-  force_stands = record {
-    fits = forced_fits v.committed v.walk v.txns (ahead v.under told) v.queue h.fits h.queue.each;
-    fresh = λ s k. by_force_txn (λ u y. v.next ≤ u → y ≡ idle) v.txns v.queue (λ u some old. refl) (λ u none old. h.fresh u old) s k;
-    untold = h.untold;
-    queue = record {
-      each = tt;
-      waits = λ t some. absurd (cc some);
-      all = by_force_txn (λ t y. y.mark ≡ Committing → is_among t [] ≡ true) v.txns v.queue (λ t some is. cc is) (λ t none is. let never : true ≡ false = sym (h.queue.all t is) ∙ none in cc never);
-    };
-    change = under_forced v.txns v.queue h.queue.waits v.under v.walk h.change;
-  }
-
-  drop_stands : (t : ℕ) → pending_of v.under t ≡ None → MayRollBack ((v.txns t).mark) → (v.txns t).net ≡ [] → Stands (dropped_by v t) told
-  drop_stands t clear may empty = record {
-    fits = Sets-fits v.committed v.walk v.txns (ahead v.under told) t idle (drop_sets v.committed v.walk v.txns (ahead v.under told) h.fits t empty);
-    fresh = fresh_after t idle (old_number v h.fresh t (going_busy ((v.txns t).mark) may));
-    untold = h.untold;
-    queue = queue_set v.queue v.txns h.queue t idle (may_not_wait ((v.txns t).mark) may) (λ e. cc e);
-    change = under_set v.txns t idle (λ n md a. absurd a) v.under v.walk clear h.change;
-  }
-
-  turn_stands : (t : ℕ) → pending_of v.under t ≡ None → MayRollBack ((v.txns t).mark) → Stands (marked v t RollingBack) told
-  turn_stands t clear may = record {
-    fits = Sets-fits v.committed v.walk v.txns (ahead v.under told) t (record (v.txns t) { mark = RollingBack }) (sets_mark v.committed v.walk v.txns (ahead v.under told) h.fits t RollingBack tt);
-    fresh = fresh_after t (record (v.txns t) { mark = RollingBack }) (old_number v h.fresh t (going_busy ((v.txns t).mark) may));
-    untold = h.untold;
-    queue = queue_set v.queue v.txns h.queue t (record (v.txns t) { mark = RollingBack }) (may_not_wait ((v.txns t).mark) may) (λ e. cc e);
-    change = under_set v.txns t (record (v.txns t) { mark = RollingBack }) (λ n md held. held) v.under v.walk clear h.change;
-  }
-
-  -- one that rolls back has no access that goes on
-  rolling_clear : (t : ℕ) → (v.txns t).mark ≡ RollingBack → pending_of v.under t ≡ None
-  rolling_clear t is = not_going v.under t v.txns v.walk h.change (not_going_by ((v.txns t).mark) RollingBack is (λ e. cc e))
-
-  taken_change : (t : ℕ) (c : Change) (cs : List Change) → (v.txns t).mark ≡ RollingBack → (v.txns t).net ≡ c ∷ cs → IsUnder v.under v.txns (undone v.walk c)
-  taken_change t c cs is net_is =
-      under_undone v.under v.txns v.walk v.committed t c cs (rolling_clear t is) (subst (λ (net : List Change). Chain ((v.txns t).locks) v.walk v.committed net) net_is (h.fits.chain t)) h.change
-
-  undo_more_stands : (t : ℕ) (c : Change) (cs : List Change) → (v.txns t).mark ≡ RollingBack → (v.txns t).net ≡ c ∷ cs → Stands (undid_more v t c cs) told
-  undo_more_stands t c cs is net_is = record {
-    fits = subst (λ (fs : ℕ → List (Access × Reply)). Fits v.committed (undone v.walk c) (set_txn v.txns t (record (v.txns t) { net = cs })) fs) (λ i s. sym (ahead_others v.under t told (rolling_clear t is) s) i)
-        (took_off_fits v.committed v.walk v.txns (ahead v.under told) t c cs h.fits is net_is);
-    fresh = fresh_after t (record (v.txns t) { net = cs }) (old_number v h.fresh t (rolling_busy ((v.txns t).mark) is));
-    untold = h.untold;
-    queue = queue_set v.queue v.txns h.queue t (record (v.txns t) { net = cs }) (not_waiting ((v.txns t).mark) RollingBack is (λ e. cc e)) (not_waiting ((v.txns t).mark) RollingBack is (λ e. cc e));
-    change = under_others v.under t (set_txn v.txns t (record (v.txns t) { net = cs })) (undone v.walk c)
-        (under_set v.txns t (record (v.txns t) { net = cs }) (λ n md held. held) v.under (undone v.walk c) (rolling_clear t is) (taken_change t c cs is net_is));
-  }
-
-  undo_last_stands : (t : ℕ) (c : Change) → (v.txns t).mark ≡ RollingBack → (v.txns t).net ≡ c ∷ [] → Stands (undid_last v t c) told
-  undo_last_stands t c is net_is = record {
-    fits = subst (λ (fs : ℕ → List (Access × Reply)). Fits v.committed (undone v.walk c) (set_txn v.txns t idle) fs) (λ i s. sym (ahead_others v.under t told (rolling_clear t is) s) i)
-        (Sets-fits v.committed (undone v.walk c) v.txns (ahead v.under told) t idle
-        (undo_sets v.committed v.walk v.txns (ahead v.under told) h.fits t c [] net_is idle refl (λ n md k. absurd k) tt tt));
-    fresh = fresh_after t idle (old_number v h.fresh t (rolling_busy ((v.txns t).mark) is));
-    untold = h.untold;
-    queue = queue_set v.queue v.txns h.queue t idle (not_waiting ((v.txns t).mark) RollingBack is (λ e. cc e)) (λ e. cc e);
-    change = under_others v.under t (set_txn v.txns t idle) (undone v.walk c)
-        (under_set v.txns t idle (λ n md a. absurd a) v.under (undone v.walk c) (rolling_clear t is) (taken_change t c [] is net_is));
-  }
-
-  -- ---- structure changes that are made page by page
-
-  module _ (none : v.under ≡ None) where
-    fits_alone : Fits v.committed v.walk v.txns told
-    fits_alone = subst (λ (u : Option Under). Fits v.committed v.walk v.txns (ahead u told)) none h.fits
-
-    free_alone : (t : ℕ) (row : List Request) → IsFree (locks_in v) t row → IsFree (λ s. (v.txns s).locks) t row
-    free_alone t row free = subst (λ (u : Option Under). IsFree (λ s. kept_lock u v.walk s ++ own_locks v s) t row) none free
-
-    put_begins : (t : ℕ) (k : Key) (r : ℕ) (ls : List Lock) → (v.txns t).mark ≡ Going → get v.walk k ≡ None → IsFree (locks_in v) t (asked (Insert k r) v.walk) → SameLocks ls (kept (asked (Insert k r) v.walk) ((v.txns t).locks))
-        → Stands (with_change (locked v t ls) t (Puts k r)) told
-    put_begins t k r ls is absent free same = record {
-      fits = puts_off_fits v.committed v.walk v.txns told t (asked (Insert k r) v.walk) ls fits_alone is (free_alone t (asked (Insert k r) v.walk) free) same;
-      fresh = fresh_after t (record (v.txns t) { locks = ls }) (old_number v h.fresh t (going_busy ((v.txns t).mark) (inl is)));
-      untold = h.untold;
-      queue = queue_set v.queue v.txns h.queue t (record (v.txns t) { locks = ls }) (not_waiting ((v.txns t).mark) Going is (λ e. cc e)) (not_waiting ((v.txns t).mark) Going is (λ e. cc e));
-      change = (ap (λ (x : Txn). x.mark) (set_txn-same v.txns t (record (v.txns t) { locks = ls })) ∙ is, kept_locks_stay.begins v.txns v.walk t k r ls (free_alone t (asked (Insert k r) v.walk) free) absent same);
-    }
-
-    drop_begins : (t : ℕ) (k : Key) (r : ℕ) (ls : List Lock) → (v.txns t).mark ≡ Going → get v.walk k ≡ Some r → IsFree (locks_in v) t (asked (Delete k) v.walk) → SameLocks ls (kept (asked (Delete k) v.walk) ((v.txns t).locks))
-        → Stands (with_change (did v t (Delete k) ls) t (Drops k)) told
-    drop_begins t k r ls is there free same = record {
-      fits = subst (λ (fs : ℕ → List (Access × Reply)). Fits v.committed (map_after (Delete k) v.walk) (set_txn v.txns t (did_txn (v.txns t) (Delete k) v.walk ls)) fs) (λ i s. told_of t (Delete k) (answer (Delete k) v.walk) Deleted (ap (λ (o : Option ℕ). cond (is_some o) Deleted Absent) there) told s i)
-          (relocked_fits v.committed (map_after (Delete k) v.walk) v.txns (λ s. cond (nat_eq s t) ((Delete k, answer (Delete k) v.walk) ∷ told s) (told s)) t (did_txn (v.txns t) (Delete k) v.walk (kept (asked (Delete k) v.walk) ((v.txns t).locks))) ls
-          (did-fits v.committed v.walk v.txns told fits_alone t (Delete k) (granted_of v t (asked (Delete k) v.walk) free)
-          (subst (λ (u : Option Under). Told ((v.txns t).locks) v.walk v.committed (ahead u told t) ((v.txns t).net)) none (going_told t (inl is)))) same);
-      fresh = fresh_after t (did_txn (v.txns t) (Delete k) v.walk ls) (old_number v h.fresh t (going_busy ((v.txns t).mark) (inl is)));
-      untold = h.untold;
-      queue = queue_set v.queue v.txns h.queue t (did_txn (v.txns t) (Delete k) v.walk ls) (not_waiting ((v.txns t).mark) Going is (λ e. cc e)) (λ e. cc e);
-      change = ap (λ (x : Txn). x.mark) (set_txn-same v.txns t (did_txn (v.txns t) (Delete k) v.walk ls));
-    }
-
-    take_waits : (t : ℕ) → Stands (with_change v t TakesBack) told
-    take_waits t = record { fits = fits_alone; fresh = h.fresh; untold = h.untold; queue = h.queue; change = tt }
-
-    take_begins : (t : ℕ) (c : Change) (cs : List Change) → (v.txns t).mark ≡ RollingBack → (v.txns t).net ≡ c ∷ cs → Stands (with_change (undid_more v t c cs) t TookBack) told
-    take_begins t c cs is net_is =
-        let on = undo_more_stands t c cs is net_is in
-        record { fits = took_off_fits v.committed v.walk v.txns told t c cs fits_alone is net_is; fresh = on.fresh; untold = on.untold; queue = on.queue; change = tt }
-
-  put_ends : (t : ℕ) (k : Key) (r : ℕ) → (v.txns t).mark ≡ Going → v.under ≡ Some (record { owner = t; aim = Puts k r })
-      → Stands (change_made (did v t (Insert k r) ((v.txns t).locks))) (λ s. cond (nat_eq s t) ((Insert k r, Inserted) ∷ told s) (told s))
-  put_ends t k r is under =
-      let old : t < v.next = old_number v h.fresh t (going_busy ((v.txns t).mark) (inl is)) in
-      record {
-        fits = puts_fits v.committed v.walk v.txns told t k r (subst (λ (u : Option Under). Fits v.committed v.walk v.txns (ahead u told)) under h.fits) is (subst (λ (u : Option Under). IsUnder u v.txns v.walk) under h.change).1;
-        fresh = fresh_after t (did_txn (v.txns t) (Insert k r) v.walk ((v.txns t).locks)) old;
-        untold = λ s l. let ne : s ≢ t = λ e. omega arith in rw (ne_eqb s t ne) (h.untold s l);
-        queue = queue_set v.queue v.txns h.queue t (did_txn (v.txns t) (Insert k r) v.walk ((v.txns t).locks)) (not_waiting ((v.txns t).mark) Going is (λ e. cc e)) (λ e. cc e);
-        change = tt;
-      }
-
-  drop_ends : (t : ℕ) (k : Key) → (v.txns t).mark ≡ Going → v.under ≡ Some (record { owner = t; aim = Drops k }) → Stands (change_made v) (λ s. cond (nat_eq t s) ((Delete k, Deleted) ∷ told s) (told s))
-  drop_ends t k is under =
-      let old : t < v.next = old_number v h.fresh t (going_busy ((v.txns t).mark) (inl is)) in
-      record {
-        fits = subst (λ (u : Option Under). Fits v.committed v.walk v.txns (ahead u told)) under h.fits;
-        fresh = h.fresh;
-        untold = λ s l. let ne : t ≢ s = λ e. omega arith in rw (ne_eqb t s ne) (h.untold s l);
-        queue = h.queue;
-        change = tt;
-      }
-
-  module _ (t : ℕ) (under : v.under ≡ Some (record { owner = t; aim = TookBack })) where
-    fits_taken : Fits v.committed v.walk v.txns told
-    fits_taken = subst (λ (u : Option Under). Fits v.committed v.walk v.txns (ahead u told)) under h.fits
-
-    take_ends : Stands (change_made v) told
-    take_ends = record { fits = fits_taken; fresh = h.fresh; untold = h.untold; queue = h.queue; change = tt }
-
-    take_is_over : (v.txns t).mark ≡ RollingBack → (v.txns t).net ≡ [] → Stands (change_made (dropped_by v t)) told
-    take_is_over is empty = record {
-      fits = Sets-fits v.committed v.walk v.txns told t idle (drop_sets v.committed v.walk v.txns told fits_taken t empty);
-      fresh = fresh_after t idle (old_number v h.fresh t (rolling_busy ((v.txns t).mark) is));
-      untold = h.untold;
-      queue = queue_set v.queue v.txns h.queue t idle (not_waiting ((v.txns t).mark) RollingBack is (λ e. cc e)) (λ e. cc e);
-      change = tt;
-    }
-
-  break_stands : Stands (record v { failed = true }) told
-  break_stands = record {
-    fits = record { apart = h.fits.apart; chain = h.fits.chain; walk = h.fits.walk; story = h.fits.story };
-    fresh = h.fresh;
-    untold = h.untold;
-    queue = h.queue;
-    change = h.change;
-  }
+use Rattle.im_theory_machine.proofs.Queue.{among_pushed, pushed_last, pushed_more, different_pushed, by_force_txn}
+use Rattle.im_theory_machine.proofs.Under.{none_either, others_pending, none_by}
+use Rattle.im_theory_machine.proofs.Standing.{IsQueue, Stands, queue_set, not_waiting, may_not_wait, taking_not_waiting, taking_clear, rolling_clear, begun_stands, did_stands, die_stands, commit_stands, queue_stands, force_stands, drop_stands, turn_stands, undo_more_stands, undo_last_stands, all_stands, all_told, return_stands, back_stands, put_begins, drop_begins, take_waits, take_begins, put_ends, drop_ends, take_ends, take_is_over, break_stands}
 
 -- ---- the queue alone, also in a machine that has failed
 
@@ -345,6 +39,13 @@ queue_push queue txns h t is =
 pub queue_breaks : (v : View) (ls : ℕ → List Lock) → IsQueue v.queue v.txns → IsQueue (broken v ls).queue (broken v ls).txns
 queue_breaks v ls h = record { each = h.each; waits = h.waits; all = h.all }
 
+-- one that has taken its newest change back
+given_mark : (v : View) (t n : ℕ) (c : Change) (cs : List Change) → (v.txns t).mark ≡ Returning n → ((undid_more v t c cs).txns t).mark ≡ Returning n
+given_mark v t n c cs is = ap (λ (x : Txn). x.mark) (set_txn-same v.txns t (record (v.txns t) { net = cs })) ∙ is
+
+given_net : (v : View) (t : ℕ) (c : Change) (cs : List Change) → ((undid_more v t c cs).txns t).net ≡ cs
+given_net v t c cs = ap (λ (x : Txn). x.net) (set_txn-same v.txns t (record (v.txns t) { net = cs }))
+
 pub queue_goes : (v w : View) (step : Step) (reply : Reply) → IsQueue v.queue v.txns → (v.txns v.next).mark ≡ Idle → Goes v step reply w → IsQueue w.queue w.txns
 queue_goes v w step reply h fresh (begins a l b c) = queue_at (begun v) w c (queue_set v.queue v.txns h v.next (record idle { mark = Going }) (not_waiting ((v.txns v.next).mark) Idle fresh (λ e. cc e)) (λ e. cc e))
 queue_goes v w step reply h fresh (does t a ls b is free same d e) = queue_at (did v t a ls) w e (queue_set v.queue v.txns h t (did_txn (v.txns t) a v.walk ls) (not_waiting ((v.txns t).mark) Going is (λ e. cc e)) (λ e. cc e))
@@ -365,10 +66,18 @@ queue_goes v w step reply h fresh (drops_first t k r ls b is none there free sam
     (queue_set v.queue v.txns h t (did_txn (v.txns t) (Delete k) v.walk ls) (not_waiting ((v.txns t).mark) Going is (λ e. cc e)) (λ e. cc e))
 queue_goes v w step reply h fresh (drops_leaf t k b is under d e) = queue_at (change_made v) w e h
 queue_goes v w step reply h fresh (takes_later t c cs b rolling none net d e) = queue_at (with_change v t TakesBack) w e h
-queue_goes v w step reply h fresh (takes_first t c cs b rolling none net d e) = queue_at (with_change (undid_more v t c cs) t TookBack) w e (queue_set v.queue v.txns h t (record (v.txns t) { net = cs })
-    (not_waiting ((v.txns t).mark) RollingBack rolling (λ e. cc e)) (not_waiting ((v.txns t).mark) RollingBack rolling (λ e. cc e)))
+queue_goes v w step reply h fresh (takes_first t c cs b may none net d e) = queue_at (with_change (undid_more v t c cs) t TookBack) w e (queue_set v.queue v.txns h t (record (v.txns t) { net = cs })
+    (taking_not_waiting ((v.txns t).mark) cs may) (taking_not_waiting ((v.txns t).mark) cs may))
 queue_goes v w step reply h fresh (takes_leaf t c cs b rolling under net d e) = queue_at (change_made v) w e h
 queue_goes v w step reply h fresh (takes_last t b rolling under net d e) = queue_at (change_made (dropped_by v t)) w e (queue_set v.queue v.txns h t idle (not_waiting ((v.txns t).mark) RollingBack rolling (λ e. cc e)) (λ e. cc e))
+queue_goes v w step reply h fresh (stays_back t n b may low d e) = queue_at (marked v t Going) w e (queue_set v.queue v.txns h t (record (v.txns t) { mark = Going }) (may_not_wait ((v.txns t).mark) may) (λ e. cc e))
+queue_goes v w step reply h fresh (turns_back t n b may over d e) = queue_at (marked v t (Returning n)) w e (queue_set v.queue v.txns h t (record (v.txns t) { mark = Returning n }) (may_not_wait ((v.txns t).mark) may) (λ e. cc e))
+queue_goes v w step reply h fresh (gives_back t n c cs b is net over d e) = queue_at (undid_more v t c cs) w e (queue_set v.queue v.txns h t (record (v.txns t) { net = cs })
+    (not_waiting ((v.txns t).mark) (Returning n) is (λ e. cc e)) (not_waiting ((v.txns t).mark) (Returning n) is (λ e. cc e)))
+queue_goes v w step reply h fresh (is_back t n c cs b is net whole d e) = queue_at (marked (undid_more v t c cs) t Going) w e
+    (queue_set v.queue (undid_more v t c cs).txns (queue_set v.queue v.txns h t (record (v.txns t) { net = cs }) (not_waiting ((v.txns t).mark) (Returning n) is (λ e. cc e)) (not_waiting ((v.txns t).mark) (Returning n) is (λ e. cc e)))
+    t (record ((undid_more v t c cs).txns t) { mark = Going }) (not_waiting (((undid_more v t c cs).txns t).mark) (Returning n) (given_mark v t n c cs is) (λ e. cc e)) (λ e. cc e))
+queue_goes v w step reply h fresh (leaf_is_back t n b is under whole d e) = queue_at (change_made (marked v t Going)) w e (queue_set v.queue v.txns h t (record (v.txns t) { mark = Going }) (not_waiting ((v.txns t).mark) (Returning n) is (λ e. cc e)) (λ e. cc e))
 queue_goes v w step reply h fresh (logs_page t u b under owner d e) = queue_at v w e h
 queue_goes v w step reply h fresh (tree_blocks t a u b under other d e) = queue_at v w e h
 queue_goes v w step reply h fresh (tree_halts t u b under other d e) = queue_at v w e h
@@ -385,25 +94,33 @@ queue_goes v w step reply h fresh (breaks fault ls broke d e) = queue_at (broken
 
 -- ---- the stories of a trace, newest first
 
--- with the accesses that go on
+-- with the accesses that go on, and without what is taken back
 abbrev pub tell : (ℕ → Option Access) → (ℕ → List (Access × Reply)) → Step → Reply → ℕ → List (Access × Reply)
-tell pend told step reply s = access_of s (pend s) step reply ++ told s
+tell pend told step reply s = access_of s (pend s) step reply ++ kept_after s step reply (told s)
 
 abbrev pub tells : (ℕ → Option Access) → (ℕ → List (Access × Reply)) → List (Step × Reply) → ℕ → List (Access × Reply)
 tells pend told [] = told
 tells pend told (e ∷ es) = tells (λ s. pending_after s (pend s) e.0 e.1) (tell pend told e.0 e.1) es
 
--- a reply that is no answer finishes nothing
-silent : (s : ℕ) (o : Option Access) (step : Step) (reply : Reply) → is_answer reply ≡ false → access_of s o step reply ≡ []
-silent s o Begin reply e = refl
-silent s o (Do t a) reply e = rw e
-silent s o (Commit t) reply e = refl
-silent s o (Rollback t) reply e = refl
-silent s o (Continue t) reply e = rw e
-silent s o (FlushPage p) reply e = refl
-silent s o Force reply e = refl
-silent s o Checkpoint reply e = refl
-silent s o Switch reply e = refl
+-- whatever was told, a step with its reply adds nothing to it and takes nothing off
+abbrev pub TellsNone : ℕ → Option Access → Step → Reply → Type 0
+TellsNone s o step reply = (fs : List (Access × Reply)) → access_of s o step reply ++ kept_after s step reply fs ≡ fs
+
+pub tells_none_at : (s : ℕ) (o : Option Access) (step x : Step) (reply y : Reply) → step ≡ x → reply ≡ y → TellsNone s o x y → TellsNone s o step reply
+tells_none_at s o step x reply y a d none fs = ap (λ (z : Step). access_of s o z reply ++ kept_after s z reply fs) a ∙ ap (λ (z : Reply). access_of s o x z ++ kept_after s x z fs) d ∙ none fs
+
+-- a reply that is no answer, and none to a return, finishes nothing
+pub silent : (s : ℕ) (o : Option Access) (step : Step) (reply : Reply) → is_answer reply ≡ false → is_return reply ≡ false → TellsNone s o step reply
+silent s o Begin reply e f fs = refl
+silent s o (Do t a) reply e f fs = rw e
+silent s o (Commit t) reply e f fs = refl
+silent s o (Rollback t) reply e f fs = refl
+silent s o (Continue t) reply e f fs = rw e
+silent s o (RollTo t n) reply e f fs = rw f
+silent s o (FlushPage p) reply e f fs = refl
+silent s o Force reply e f fs = refl
+silent s o Checkpoint reply e f fs = refl
+silent s o Switch reply e f fs = refl
 
 -- and one that is not More either leaves what goes on
 still_pending : (s : ℕ) (o : Option Access) (step : Step) (reply : Reply) → is_answer reply ≡ false → is_more reply ≡ false → pending_after s o step reply ≡ o
@@ -412,6 +129,7 @@ still_pending s o (Do t a) reply e m = rw m
 still_pending s o (Commit t) reply e m = refl
 still_pending s o (Rollback t) reply e m = refl
 still_pending s o (Continue t) reply e m = rw e
+still_pending s o (RollTo t n) reply e m = refl
 still_pending s o (FlushPage p) reply e m = refl
 still_pending s o Force reply e m = refl
 still_pending s o Checkpoint reply e m = refl
@@ -458,8 +176,8 @@ reply_answers (Insert k r) m = either_answers (is_some (get m k)) Duplicate Inse
 reply_answers (Delete k) m = either_answers (is_some (get m k)) Deleted Absent refl refl
 
 module _ (pend : ℕ → Option Access) where
-  quiet_stands : (v : View) (told : ℕ → List (Access × Reply)) (step : Step) (reply : Reply) → ((s : ℕ) → access_of s (pend s) step reply ≡ []) → Stands v told → Stands v (tell pend told step reply)
-  quiet_stands v told step reply none h = subst (Stands v) (λ i s. sym (ap (λ fs. fs ++ told s) (none s)) i) h
+  quiet_stands : (v : View) (told : ℕ → List (Access × Reply)) (step : Step) (reply : Reply) → ((s : ℕ) → TellsNone s (pend s) step reply) → Stands v told → Stands v (tell pend told step reply)
+  quiet_stands v told step reply none h = subst (Stands v) (λ i s. sym (none s (told s)) i) h
 
   told_by_did : (told : ℕ → List (Access × Reply)) (t : ℕ) (a : Access) (m : IndexMap) (s : ℕ) → cond (nat_eq s t) ((a, answer a m) ∷ told s) (told s) ≡ tell pend told (Do t a) (answer a m) s
   told_by_did told t a m s =
@@ -468,11 +186,15 @@ module _ (pend : ℕ → Option Access) where
         | inr ne ↦ rw (reply_answers a m, ne_eqb s t ne, ne_eqb t s (λ e. ne (sym e)))
       ]
 
-  none_for : (step : Step) (reply : Reply) (other : Step) → step ≡ other → ((s : ℕ) (r : Reply) → access_of s (pend s) other r ≡ []) → (s : ℕ) → access_of s (pend s) step reply ≡ []
-  none_for step reply other e none s = ap (λ (st : Step). access_of s (pend s) st reply) e ∙ none s reply
+  none_for : (step : Step) (reply : Reply) (other : Step) → step ≡ other → ((s : ℕ) → TellsNone s (pend s) other reply) → (s : ℕ) → TellsNone s (pend s) step reply
+  none_for step reply other e none s = tells_none_at s (pend s) step other reply reply e refl (none s)
 
-  no_answer : (step : Step) (reply other : Reply) → reply ≡ other → is_answer other ≡ false → (s : ℕ) → access_of s (pend s) step reply ≡ []
-  no_answer step reply other e f s = silent s (pend s) step reply (ap is_answer e ∙ f)
+  -- Continue that is answered so, by no end of an access
+  none_on : (step : Step) (reply y : Reply) (t : ℕ) → step ≡ Continue t → reply ≡ y → is_answer y ≡ false → (s : ℕ) → TellsNone s (pend s) step reply
+  none_on step reply y t a d none s = tells_none_at s (pend s) step (Continue t) reply y a d (λ fs. rw none)
+
+  no_answer : (step : Step) (reply other : Reply) → reply ≡ other → is_answer other ≡ false → is_return other ≡ false → (s : ℕ) → TellsNone s (pend s) step reply
+  no_answer step reply other d e f s = silent s (pend s) step reply (ap is_answer d ∙ e) (ap is_return d ∙ f)
 
 -- an Insert that ends is told
 told_by_put : (told : ℕ → List (Access × Reply)) (t : ℕ) (k : Key) (r s : ℕ)
@@ -523,6 +245,21 @@ clear_commit v t e = none_by (pending_of v.under t) (no_fault _ unfinished (seco
 pub clear_rollback : (v : View) (t : ℕ) → barred v (Rollback t) ≡ None → pending_of v.under t ≡ None
 clear_rollback v t e = none_by (pending_of v.under t) (no_fault _ unfinished (second_none _ _ (second_none _ _ e)))
 
+pub clear_return : (v : View) (t n : ℕ) → barred v (RollTo t n) ≡ None → pending_of v.under t ≡ None
+clear_return v t n e = none_by (pending_of v.under t) (no_fault _ unfinished (second_none _ _ (second_none _ _ e)))
+
+-- nor is it one that no return begins from
+barred_may : (m : Mark) → barred_to_rollback m ≡ None → MayRollBack m
+barred_may Idle e = absurd cc
+barred_may Going e = inl refl
+barred_may MustRollBack e = inr refl
+barred_may RollingBack e = absurd cc
+barred_may (Returning n) e = absurd cc
+barred_may Committing e = absurd cc
+
+pub may_return : (v : View) (t n : ℕ) → barred v (RollTo t n) ≡ None → MayRollBack ((v.txns t).mark)
+may_return v t n e = barred_may ((v.txns t).mark) (first_none _ _ (second_none _ _ e))
+
 pub passes_as : (v : View) (step other : Step) → step ≡ other → barred v step ≡ None → barred v other ≡ None
 passes_as v step other e free = ap (barred v) (sym e) ∙ free
 
@@ -533,7 +270,7 @@ module _ (v : View) (told : ℕ → List (Access × Reply)) (h : Stands v told) 
   pend = pending_of v.under
 
   -- a step that finishes nothing
-  quietly : (step : Step) (reply : Reply) (w x : View) → w ≡ x → ((s : ℕ) → access_of s (pend s) step reply ≡ []) → Stands x told → Upheld w (tell pend told step reply)
+  quietly : (step : Step) (reply : Reply) (w x : View) → w ≡ x → ((s : ℕ) → TellsNone s (pend s) step reply) → Stands x told → Upheld w (tell pend told step reply)
   quietly step reply w x e none stands = upheld_of w (tell pend told step reply) (quiet_stands pend w told step reply none (subst (λ (u : View). Stands u told) (sym e) stands))
 
   -- one that finishes what went on
@@ -543,41 +280,62 @@ module _ (v : View) (told : ℕ → List (Access × Reply)) (h : Stands v told) 
       let same : fs ≡ tell pend told step reply = (λ i s. is s i) ∙ (λ i s. tell (pending_of (sym under i)) told (sym a i) (sym d i) s) in
       upheld_of w (tell pend told step reply) (subst (Stands w) same (subst (λ (y : View). Stands y fs) (sym e) stands))
 
+  -- one by which a transaction returns
+  returned : (step : Step) (reply : Reply) (w x : View) (t n : ℕ) (r : Reply) → step ≡ RollTo t n → reply ≡ r → w ≡ x → Stands x (tell pend told (RollTo t n) r) → Upheld w (tell pend told step reply)
+  returned step reply w x t n r a d e stands =
+      let same : tell pend told (RollTo t n) r ≡ tell pend told step reply = λ i s. tell pend told (sym a i) (sym d i) s in
+      upheld_of w (tell pend told step reply) (subst (Stands w) same (subst (λ (y : View). Stands y (tell pend told (RollTo t n) r)) (sym e) stands))
+
   Goes-upheld : (step : Step) (reply : Reply) (w : View) → barred v step ≡ None → Goes v step reply w → Upheld w (tell pend told step reply)
-  Goes-upheld step reply w free (begins a l b e) = quietly step reply w (begun v) e (none_for pend step reply Begin a (λ s r. refl)) (begun_stands v told h)
+  Goes-upheld step reply w free (begins a l b e) = quietly step reply w (begun v) e (none_for pend step reply Begin a (λ s fs. refl)) (begun_stands v told h)
   Goes-upheld step reply w free (does t a ls b is unheld same d e) =
       let done : Stands (did v t a ls) (tell pend told (Do t a) (answer a v.walk)) = subst (Stands (did v t a ls)) (λ i s. told_by_did pend told t a v.walk s i) (did_stands v told h t a ls (clear_do v t a (passes_as v step (Do t a) b free)) is unheld same) in
       let told_same : tell pend told (Do t a) (answer a v.walk) ≡ tell pend told step reply = λ i s. tell pend told (sym b i) (sym d i) s in
       upheld_of w (tell pend told step reply) (subst (λ (u : View). Stands u (tell pend told step reply)) (sym e) (subst (Stands (did v t a ls)) told_same done))
-  Goes-upheld step reply w free (waits t a holder b is wait d e) = quietly step reply w v e (no_answer pend step reply (Blocked holder) d refl) h
-  Goes-upheld step reply w free (dies t a b is must d e) = quietly step reply w (marked v t MustRollBack) e (no_answer pend step reply Die d refl) (die_stands v told h t (clear_do v t a (passes_as v step (Do t a) b free)) is)
-  Goes-upheld step reply w free (commits t a is alone d e) = quietly step reply w (committed_by v t) e (none_for pend step reply (Commit t) a (λ s r. refl)) (commit_stands v told h t (clear_commit v t (passes_as v step (Commit t) a free)) is)
-  Goes-upheld step reply w free (queues t c cs a is net_is d e) = quietly step reply w (queued v t) e (none_for pend step reply (Commit t) a (λ s r. refl)) (queue_stands v told h t (clear_commit v t (passes_as v step (Commit t) a free)) is)
-  Goes-upheld step reply w free (drops t a may empty d e) = quietly step reply w (dropped_by v t) e (none_for pend step reply (Rollback t) a (λ s r. refl)) (drop_stands v told h t (clear_rollback v t (passes_as v step (Rollback t) a free)) may empty)
-  Goes-upheld step reply w free (turns t c cs a may net_is d e) = quietly step reply w (marked v t RollingBack) e (none_for pend step reply (Rollback t) a (λ s r. refl)) (turn_stands v told h t (clear_rollback v t (passes_as v step (Rollback t) a free)) may)
-  Goes-upheld step reply w free (undoes t c d cs a is net_is q e) = quietly step reply w (undid_more v t c (d ∷ cs)) e (no_answer pend step reply More q refl) (undo_more_stands v told h t c (d ∷ cs) is net_is)
-  Goes-upheld step reply w free (ends t c a is net_is d e) = quietly step reply w (undid_last v t c) e (no_answer pend step reply RolledBack d refl) (undo_last_stands v told h t c is net_is)
-  Goes-upheld step reply w free (puts_later t k r ls b is none absent unheld same d e) = quietly step reply w (with_change (locked v t ls) t (Puts k r)) e (no_answer pend step reply More d refl) (put_begins v told h none t k r ls is absent unheld same)
+  Goes-upheld step reply w free (waits t a holder b is wait d e) = quietly step reply w v e (no_answer pend step reply (Blocked holder) d refl refl) h
+  Goes-upheld step reply w free (dies t a b is must d e) = quietly step reply w (marked v t MustRollBack) e (no_answer pend step reply Die d refl refl) (die_stands v told h t (clear_do v t a (passes_as v step (Do t a) b free)) is)
+  Goes-upheld step reply w free (commits t a is alone d e) = quietly step reply w (committed_by v t) e (none_for pend step reply (Commit t) a (λ s fs. refl)) (commit_stands v told h t (clear_commit v t (passes_as v step (Commit t) a free)) is)
+  Goes-upheld step reply w free (queues t c cs a is net_is d e) = quietly step reply w (queued v t) e (none_for pend step reply (Commit t) a (λ s fs. refl)) (queue_stands v told h t (clear_commit v t (passes_as v step (Commit t) a free)) is)
+  Goes-upheld step reply w free (drops t a may empty d e) = quietly step reply w (dropped_by v t) e (none_for pend step reply (Rollback t) a (λ s fs. refl)) (drop_stands v told h t (clear_rollback v t (passes_as v step (Rollback t) a free)) may empty)
+  Goes-upheld step reply w free (turns t c cs a may net_is d e) = quietly step reply w (marked v t RollingBack) e (none_for pend step reply (Rollback t) a (λ s fs. refl)) (turn_stands v told h t (clear_rollback v t (passes_as v step (Rollback t) a free)) may)
+  Goes-upheld step reply w free (undoes t c d cs a is net_is q e) = quietly step reply w (undid_more v t c (d ∷ cs)) e (none_on pend step reply More t a q refl) (undo_more_stands v told h t c (d ∷ cs) (inl is) net_is)
+  Goes-upheld step reply w free (ends t c a is net_is d e) = quietly step reply w (undid_last v t c) e (none_on pend step reply RolledBack t a d refl) (undo_last_stands v told h t c is net_is)
+  Goes-upheld step reply w free (puts_later t k r ls b is none absent unheld same d e) = quietly step reply w (with_change (locked v t ls) t (Puts k r)) e (λ s. tells_none_at s (pend s) step (Do t (Insert k r)) reply More b d (λ fs. refl)) (put_begins v told h none t k r ls is absent unheld same)
   Goes-upheld step reply w free (puts t k r b is under d e) =
       ended step reply w (change_made (did v t (Insert k r) ((v.txns t).locks))) t (record { owner = t; aim = Puts k r }) Inserted (λ s. cond (nat_eq s t) ((Insert k r, Inserted) ∷ told s) (told s)) b under d e (told_by_put told t k r) (put_ends v told h t k r is under)
-  Goes-upheld step reply w free (drops_first t k r ls b is none there unheld same d e) = quietly step reply w (with_change (did v t (Delete k) ls) t (Drops k)) e (no_answer pend step reply More d refl) (drop_begins v told h none t k r ls is there unheld same)
+  Goes-upheld step reply w free (drops_first t k r ls b is none there unheld same d e) = quietly step reply w (with_change (did v t (Delete k) ls) t (Drops k)) e (λ s. tells_none_at s (pend s) step (Do t (Delete k)) reply More b d (λ fs. refl)) (drop_begins v told h none t k r ls is there unheld same)
   Goes-upheld step reply w free (drops_leaf t k b is under d e) =
       ended step reply w (change_made v) t (record { owner = t; aim = Drops k }) Deleted (λ s. cond (nat_eq t s) ((Delete k, Deleted) ∷ told s) (told s)) b under d e (told_by_drop told t k) (drop_ends v told h t k is under)
-  Goes-upheld step reply w free (takes_later t c cs b is none net_is d e) = quietly step reply w (with_change v t TakesBack) e (no_answer pend step reply More d refl) (take_waits v told h none t)
-  Goes-upheld step reply w free (takes_first t c cs b is none net_is d e) = quietly step reply w (with_change (undid_more v t c cs) t TookBack) e (no_answer pend step reply More d refl) (take_begins v told h none t c cs is net_is)
-  Goes-upheld step reply w free (takes_leaf t c cs b is under net_is d e) = quietly step reply w (change_made v) e (no_answer pend step reply More d refl) (take_ends v told h t under)
-  Goes-upheld step reply w free (takes_last t b is under empty d e) = quietly step reply w (change_made (dropped_by v t)) e (no_answer pend step reply RolledBack d refl) (take_is_over v told h t under is empty)
-  Goes-upheld step reply w free (logs_page t u b under owner d e) = quietly step reply w v e (no_answer pend step reply More d refl) h
-  Goes-upheld step reply w free (tree_blocks t a u b under other d e) = quietly step reply w v e (no_answer pend step reply BlockedTree d refl) h
-  Goes-upheld step reply w free (tree_halts t u b under other d e) = quietly step reply w v e (no_answer pend step reply BlockedTree d refl) h
-  Goes-upheld step reply w free (flushes p a d e) = quietly step reply w v e (none_for pend step reply (FlushPage p) a (λ s r. refl)) h
-  Goes-upheld step reply w free (forces a d e) = quietly step reply w (forced_by v) e (none_for pend step reply Force a (λ s r. refl)) (force_stands v told h)
-  Goes-upheld step reply w free (checkpoints a d e) = quietly step reply w v e (none_for pend step reply Checkpoint a (λ s r. refl)) h
-  Goes-upheld step reply w free (switches a d e) = quietly step reply w v e (none_for pend step reply Switch a (λ s r. refl)) h
-  Goes-upheld step reply w free (lacks fault wants d e) = quietly step reply w v e (no_answer pend step reply (Refused fault) d refl) h
+  Goes-upheld step reply w free (takes_later t c cs b is none net_is d e) = quietly step reply w (with_change v t TakesBack) e (none_on pend step reply More t b d refl) (take_waits v told h none t)
+  Goes-upheld step reply w free (takes_first t c cs b is none net_is d e) = quietly step reply w (with_change (undid_more v t c cs) t TookBack) e (none_on pend step reply More t b d refl) (take_begins v told h none t c cs is net_is)
+  Goes-upheld step reply w free (takes_leaf t c cs b is under net_is d e) = quietly step reply w (change_made v) e (none_on pend step reply More t b d refl) (take_ends v told h t under)
+  Goes-upheld step reply w free (takes_last t b is under empty d e) = quietly step reply w (change_made (dropped_by v t)) e (none_on pend step reply RolledBack t b d refl) (take_is_over v told h t under is empty)
+  Goes-upheld step reply w free (stays_back t n a may low d e) =
+      let clear = clear_return v t n (passes_as v step (RollTo t n) a free) in
+      let done : Stands (marked v t Going) (tell pend told (RollTo t n) Done) = subst (Stands (marked v t Going)) (λ i s. sym (all_told v told h t n clear may low s) i) (all_stands v told h t n clear may) in
+      returned step reply w (marked v t Going) t n Done a d e done
+  Goes-upheld step reply w free (turns_back t n a may over d e) =
+      returned step reply w (marked v t (Returning n)) t n More a d e (return_stands v told h t n (clear_return v t n (passes_as v step (RollTo t n) a free)) may over)
+  Goes-upheld step reply w free (gives_back t n c cs a is net_is over d e) = quietly step reply w (undid_more v t c cs) e (none_on pend step reply More t a d refl) (undo_more_stands v told h t c cs (inr (n, is, omega (arith, over))) net_is)
+  Goes-upheld step reply w free (is_back t n c cs a is net_is whole d e) =
+      let may : MayTakeBack ((v.txns t).mark) cs = inr (n, is, omega (arith, whole)) in
+      let given : Stands (undid_more v t c cs) told = undo_more_stands v told h t c cs may net_is in
+      let clear : pending_of (of_others t v.under) t ≡ None = others_pending v.under t (taking_clear v told h t cs may) t ∙ taking_clear v told h t cs may in
+      quietly step reply w (marked (undid_more v t c cs) t Going) e (none_on pend step reply Done t a d refl)
+      (back_stands (undid_more v t c cs) told given t n clear (given_mark v t n c cs is) (ap (λ (l : List Change). length l) (given_net v t c cs) ∙ sym whole))
+  Goes-upheld step reply w free (leaf_is_back t n a is under whole d e) =
+      quietly step reply w (change_made (marked v t Going)) e (none_on pend step reply Done t a d refl) (back_stands (change_made v) told (take_ends v told h t under) t n refl is whole)
+  Goes-upheld step reply w free (logs_page t u b under owner d e) = quietly step reply w v e (none_on pend step reply More t b d refl) h
+  Goes-upheld step reply w free (tree_blocks t a u b under other d e) = quietly step reply w v e (no_answer pend step reply BlockedTree d refl refl) h
+  Goes-upheld step reply w free (tree_halts t u b under other d e) = quietly step reply w v e (no_answer pend step reply BlockedTree d refl refl) h
+  Goes-upheld step reply w free (flushes p a d e) = quietly step reply w v e (none_for pend step reply (FlushPage p) a (λ s fs. refl)) h
+  Goes-upheld step reply w free (forces a d e) = quietly step reply w (forced_by v) e (none_for pend step reply Force a (λ s fs. refl)) (force_stands v told h)
+  Goes-upheld step reply w free (checkpoints a d e) = quietly step reply w v e (none_for pend step reply Checkpoint a (λ s fs. refl)) h
+  Goes-upheld step reply w free (switches a d e) = quietly step reply w v e (none_for pend step reply Switch a (λ s fs. refl)) h
+  Goes-upheld step reply w free (lacks fault wants d e) = quietly step reply w v e (no_answer pend step reply (Refused fault) d refl refl) h
   Goes-upheld step reply w free (breaks fault ls is d e) =
       let kept_locks : ℕ → List Lock = λ s. (v.txns s).locks in
-      let failed : Stands (relocked (broken v ls) kept_locks) (tell pend told step reply) = quiet_stands pend (relocked (broken v ls) kept_locks) told step reply (no_answer pend step reply (Refused fault) d refl) (break_stands v told h) in
+      let failed : Stands (relocked (broken v ls) kept_locks) (tell pend told step reply) = quiet_stands pend (relocked (broken v ls) kept_locks) told step reply (no_answer pend step reply (Refused fault) d refl refl) (break_stands v told h) in
       subst (λ (u : View). Upheld u (tell pend told step reply)) (sym e) (record { locks = kept_locks; stands = failed; same = λ q. absurd (true≢false q) })
 
   -- what goes on after it
@@ -611,6 +369,11 @@ module _ (v : View) (told : ℕ → List (Access × Reply)) (h : Stands v told) 
   Goes-pending step reply w (takes_first t c cs b is none net_is d e) s = pending_at step (Continue t) reply More w (with_change (undid_more v t c cs) t TookBack) b d e s (none_either (nat_eq t s) ∙ sym (ap (λ (u : Option Under). pending_of u s) none))
   Goes-pending step reply w (takes_leaf t c cs b is under net_is d e) s = pending_at step (Continue t) reply More w (change_made v) b d e s (sym (ap (λ (u : Option Under). pending_of u s) under ∙ none_either (nat_eq t s)))
   Goes-pending step reply w (takes_last t b is under empty d e) s = pending_at step (Continue t) reply RolledBack w (change_made (dropped_by v t)) b d e s (sym (ap (λ (u : Option Under). pending_of u s) under ∙ none_either (nat_eq t s)))
+  Goes-pending step reply w (stays_back t n a may low d e) s = pending_at step (RollTo t n) reply Done w (marked v t Going) a d e s refl
+  Goes-pending step reply w (turns_back t n a may over d e) s = pending_at step (RollTo t n) reply More w (marked v t (Returning n)) a d e s refl
+  Goes-pending step reply w (gives_back t n c cs a is net_is over d e) s = pending_at step (Continue t) reply More w (undid_more v t c cs) a d e s (others_pending v.under t (taking_clear v told h t cs (inr (n, is, omega (arith, over)))) s)
+  Goes-pending step reply w (is_back t n c cs a is net_is whole d e) s = pending_at step (Continue t) reply Done w (marked (undid_more v t c cs) t Going) a d e s (others_pending v.under t (taking_clear v told h t cs (inr (n, is, omega (arith, whole)))) s)
+  Goes-pending step reply w (leaf_is_back t n b is under whole d e) s = pending_at step (Continue t) reply Done w (change_made (marked v t Going)) b d e s (sym (ap (λ (u : Option Under). pending_of u s) under ∙ none_either (nat_eq t s)))
   Goes-pending step reply w (logs_page t u b under owner d e) s = pending_at step (Continue t) reply More w v b d e s refl
   Goes-pending step reply w (tree_blocks t a u b under other d e) s = stays_pending step reply BlockedTree w v d refl refl e s refl
   Goes-pending step reply w (tree_halts t u b under other d e) s = stays_pending step reply BlockedTree w v d refl refl e s refl
@@ -621,7 +384,7 @@ module _ (v : View) (told : ℕ → List (Access × Reply)) (h : Stands v told) 
   Goes-pending step reply w (lacks fault wants d e) s = stays_pending step reply (Refused fault) w v d refl refl e s refl
   Goes-pending step reply w (breaks fault ls is d e) s = stays_pending step reply (Refused fault) w (broken v ls) d refl refl e s refl
 
-quiet_upheld : (v : View) (told : ℕ → List (Access × Reply)) (step : Step) (reply : Reply) → ((s : ℕ) → access_of s (pending_of v.under s) step reply ≡ []) → Upheld v told → Upheld v (tell (pending_of v.under) told step reply)
+quiet_upheld : (v : View) (told : ℕ → List (Access × Reply)) (step : Step) (reply : Reply) → ((s : ℕ) → TellsNone s (pending_of v.under s) step reply) → Upheld v told → Upheld v (tell (pending_of v.under) told step reply)
 quiet_upheld v told step reply none h = record { locks = h.locks; stands = quiet_stands (pending_of v.under) (relocked v h.locks) told step reply none h.stands; same = h.same }
 
 -- the stories after a step, and what goes on there
@@ -634,7 +397,7 @@ Answers-upheld v told step reply w None live h g =
     let stands = stands_of v told h (live refl).0 in
     record { upheld = Goes-upheld v told stands step reply w (live refl).1 g; pending = Goes-pending v told stands step reply w g }
 Answers-upheld v told step reply w (Some fault) live h g = record {
-  upheld = subst (λ (u : View). Upheld u (tell (pending_of v.under) told step reply)) (sym g.1) (quiet_upheld v told step reply (no_answer (pending_of v.under) step reply (Refused fault) g.0 refl) h);
+  upheld = subst (λ (u : View). Upheld u (tell (pending_of v.under) told step reply)) (sym g.1) (quiet_upheld v told step reply (no_answer (pending_of v.under) step reply (Refused fault) g.0 refl refl) h);
   pending = λ s. ap (λ (u : View). pending_of u.under s) g.1 ∙ sym (still_pending s (pending_of v.under s) step reply (ap is_answer g.0) (ap is_more g.0));
 }
 
@@ -653,6 +416,7 @@ live_at v (Do t a) e = not_failed v.failed _ e
 live_at v (Commit t) e = not_failed v.failed _ e
 live_at v (Rollback t) e = not_failed v.failed _ e
 live_at v (Continue t) e = not_failed v.failed _ e
+live_at v (RollTo t n) e = not_failed v.failed _ e
 live_at v (FlushPage p) e = alone_failed v.failed e
 live_at v Force e = alone_failed v.failed e
 live_at v Checkpoint e = alone_failed v.failed e

@@ -1,81 +1,47 @@
 -- What the invariant gives: each transaction of a run is as good as alone.
-use Rattle.std.proofs.Common.{◌≢◌, ◌≡◌, ℕ, nat_eq, ◌&&◌, map, ◌<◌, Bool, true, false, cond, List, [], ◌∷◌, ◌++◌, Option, Some, None, refl, ap, sym, subst, ◌∙◌, inl, inr, ◌⊎◌, arith, append_assoc, append-nil}
+use Rattle.std.proofs.Common.{◌≢◌, ◌≡◌, ℕ, nat_eq, ◌&&◌, map, ◌<◌, Bool, true, false, cond, List, [], ◌∷◌, ◌++◌, Option, Some, None, refl, ap, sym, subst, ◌∙◌, inl, inr, ◌⊎◌, arith}
 use Rattle.std.proofs.lemmas.Bool.{cases_lt, ne_eqb}
 use Rattle.std.proofs.lemmas.List.{map-append}
+use Rattle.std.proofs.lemmas.Grind.{reverse_onto}
+use Rattle.std.specs.Prelude.{reverse}
 use Rattle.im_base_types.specs.Maps.{IndexMap}
 use Rattle.im_base_types.specs.Changes.{Change, apply, apply_all}
 use Rattle.im_theory_machine.specs.Locks.{Lock}
-use Rattle.im_base_types.specs.Answers.{Access, Reply, Step, replay, map_after_all, Mark, Idle, Going, MustRollBack, RollingBack, Committing, is_answer, Insert, Delete, Deleted, Begin, Do, Commit, Rollback, Continue, FlushPage, Force, Checkpoint, Switch, Refused, Committed, RolledBack, More, Done}
+use Rattle.im_base_types.specs.Answers.{Access, Reply, Step, replay, map_after_all, Mark, Idle, Going, MustRollBack, RollingBack, Returning, Committing, is_answer, Insert, Delete, Deleted, Begin, Do, Commit, Rollback, Continue, RollTo, FlushPage, Force, Checkpoint, Switch, Refused, Committed, RolledBack, More, Done, BlockedTree}
 use Rattle.im_theory_machine.specs.View.{Txn, View, Aim, Puts, Drops, TakesBack, TookBack, Under, pending_of, locked, with_change, change_made, idle, set_txn, did, did_txn, begun, marked, committed_by, dropped_by, undid_more, undid_last, queued, forced_by, map_behind, is_among, AreDifferent, idle_all, MayRollBack, relocked, broken}
-use Rattle.im_theory_machine.specs.Machine.{barred, Answers, Goes, begins, does, waits, dies, commits, queues, drops, turns, undoes, ends, puts_later, puts, drops_first, drops_leaf, takes_later, takes_first, takes_leaf, takes_last, logs_page, tree_blocks, tree_halts, flushes, forces, checkpoints, switches, lacks, breaks, Run, start}
-use Rattle.im_theory_machine.specs.Isolation.{answered_with, access_of, pending_after, finished_from, finished, IsReplay, IsTogether}
+use Rattle.im_theory_machine.specs.Machine.{barred, Answers, Goes, begins, does, waits, dies, commits, queues, drops, turns, undoes, ends, puts_later, puts, drops_first, drops_leaf, takes_later, takes_first, takes_leaf, takes_last, stays_back, turns_back, gives_back, is_back, leaf_is_back, logs_page, tree_blocks, tree_halts, flushes, forces, checkpoints, switches, lacks, breaks, Run, start}
+use Rattle.im_theory_machine.specs.Isolation.{answered_with, access_of, pending_after, is_return, kept_story, kept_after, story_from, finished, IsReplay, IsTogether}
 use Rattle.im_theory_machine.proofs.Changes.{apply-untouched}
 use Rattle.im_theory_machine.proofs.Invariant.{Told, Told-replay, Told-after_all, accesses_of, replies_of, set_txn-same, set_txn-other}
 use Rattle.im_theory_machine.proofs.Bools.{cases_number}
 use Rattle.im_theory_machine.proofs.Queue.{by_force_txn, told_behind, none_before, is_in_it, nets_same}
 use Rattle.im_theory_machine.proofs.Keeping.{nets_apart}
-use Rattle.im_theory_machine.proofs.Runs.{Stands, Upheld, tell, tells, nothing_told, run_upheld, going_told, waiting_story}
+use Rattle.im_theory_machine.proofs.Standing.{Stands, going_told, waiting_story}
+use Rattle.im_theory_machine.proofs.Runs.{Upheld, TellsNone, tells_none_at, silent, tell, tells, nothing_told, run_upheld}
 use Rattle.im_theory_machine.proofs.Under.{ahead, ahead_same}
 
 -- ---- the two orders of a story
 
-pushed_accesses : (t : ℕ) (o : Option Access) (step : Step) (reply : Reply) (fs : List (Access × Reply)) → accesses_of (access_of t o step reply ++ fs) ≡ accesses_of fs ++ map (λ f. f.0) (access_of t o step reply)
-pushed_accesses t o Begin reply fs = sym (append-nil (accesses_of fs))
-pushed_accesses t o (Do u a) reply fs = go (is_answer reply && nat_eq u t)
-  where
-    go : (b : Bool) → accesses_of (cond b ((a, reply) ∷ []) [] ++ fs) ≡ accesses_of fs ++ map (λ (f : Access × Reply). f.0) (cond b ((a, reply) ∷ []) [])
-    go true = refl
-    go false = sym (append-nil (accesses_of fs))
-pushed_accesses t o (Continue u) reply fs = go (is_answer reply && nat_eq u t) o
-  where
-    go : (b : Bool) (p : Option Access) → accesses_of (cond b (answered_with p reply) [] ++ fs) ≡ accesses_of fs ++ map (λ (f : Access × Reply). f.0) (cond b (answered_with p reply) [])
-    go true None = sym (append-nil (accesses_of fs))
-    go true (Some a) = refl
-    go false p = sym (append-nil (accesses_of fs))
-pushed_accesses t o (Commit u) reply fs = sym (append-nil (accesses_of fs))
-pushed_accesses t o (Rollback u) reply fs = sym (append-nil (accesses_of fs))
-pushed_accesses t o (FlushPage p) reply fs = sym (append-nil (accesses_of fs))
-pushed_accesses t o Force reply fs = sym (append-nil (accesses_of fs))
-pushed_accesses t o Checkpoint reply fs = sym (append-nil (accesses_of fs))
-pushed_accesses t o Switch reply fs = sym (append-nil (accesses_of fs))
+-- the stories of a trace, one by one
+told_one : (pend : ℕ → Option Access) (told : ℕ → List (Access × Reply)) (es : List (Step × Reply)) (t : ℕ) → tells pend told es t ≡ story_from t (pend t) (told t) es
+told_one pend told [] t = refl
+told_one pend told (e ∷ es) t = told_one (λ s. pending_after s (pend s) e.0 e.1) (tell pend told e.0 e.1) es t
 
-pushed_replies : (t : ℕ) (o : Option Access) (step : Step) (reply : Reply) (fs : List (Access × Reply)) → replies_of (access_of t o step reply ++ fs) ≡ replies_of fs ++ map (λ f. f.1) (access_of t o step reply)
-pushed_replies t o Begin reply fs = sym (append-nil (replies_of fs))
-pushed_replies t o (Do u a) reply fs = go (is_answer reply && nat_eq u t)
-  where
-    go : (b : Bool) → replies_of (cond b ((a, reply) ∷ []) [] ++ fs) ≡ replies_of fs ++ map (λ (f : Access × Reply). f.1) (cond b ((a, reply) ∷ []) [])
-    go true = refl
-    go false = sym (append-nil (replies_of fs))
-pushed_replies t o (Continue u) reply fs = go (is_answer reply && nat_eq u t) o
-  where
-    go : (b : Bool) (p : Option Access) → replies_of (cond b (answered_with p reply) [] ++ fs) ≡ replies_of fs ++ map (λ (f : Access × Reply). f.1) (cond b (answered_with p reply) [])
-    go true None = sym (append-nil (replies_of fs))
-    go true (Some a) = refl
-    go false p = sym (append-nil (replies_of fs))
-pushed_replies t o (Commit u) reply fs = sym (append-nil (replies_of fs))
-pushed_replies t o (Rollback u) reply fs = sym (append-nil (replies_of fs))
-pushed_replies t o (FlushPage p) reply fs = sym (append-nil (replies_of fs))
-pushed_replies t o Force reply fs = sym (append-nil (replies_of fs))
-pushed_replies t o Checkpoint reply fs = sym (append-nil (replies_of fs))
-pushed_replies t o Switch reply fs = sym (append-nil (replies_of fs))
+reversed_accesses : (fs : List (Access × Reply)) → accesses_of fs ≡ map (λ f. f.0) (reverse fs)
+reversed_accesses [] = refl
+reversed_accesses (f ∷ fs) =
+    ap (λ as'. as' ++ f.0 ∷ []) (reversed_accesses fs) ∙ sym (ap (map (λ (g : Access × Reply). g.0)) (reverse_onto fs f []) ∙ map-append (λ (g : Access × Reply). g.0) (reverse fs) (f ∷ []))
 
-pub tells-accesses : (pend : ℕ → Option Access) (told : ℕ → List (Access × Reply)) (es : List (Step × Reply)) (t : ℕ) → accesses_of (tells pend told es t) ≡ accesses_of (told t) ++ map (λ f. f.0) (finished_from t (pend t) es)
-tells-accesses pend told [] t = sym (append-nil (accesses_of (told t)))
-tells-accesses pend told (e ∷ es) t =
-    let more = finished_from t (pending_after t (pend t) e.0 e.1) es in
-    tells-accesses (λ s. pending_after s (pend s) e.0 e.1) (tell pend told e.0 e.1) es t
-    ∙ (ap (λ as'. as' ++ map (λ (f : Access × Reply). f.0) more) (pushed_accesses t (pend t) e.0 e.1 (told t))
-    ∙ (append_assoc (accesses_of (told t)) (map (λ f. f.0) (access_of t (pend t) e.0 e.1)) (map (λ f. f.0) more)
-    ∙ ap (λ as'. accesses_of (told t) ++ as') (sym (map-append (λ (f : Access × Reply). f.0) (access_of t (pend t) e.0 e.1) more))))
+reversed_replies : (fs : List (Access × Reply)) → replies_of fs ≡ map (λ f. f.1) (reverse fs)
+reversed_replies [] = refl
+reversed_replies (f ∷ fs) =
+    ap (λ rs. rs ++ f.1 ∷ []) (reversed_replies fs) ∙ sym (ap (map (λ (g : Access × Reply). g.1)) (reverse_onto fs f []) ∙ map-append (λ (g : Access × Reply). g.1) (reverse fs) (f ∷ []))
 
-pub tells-replies : (pend : ℕ → Option Access) (told : ℕ → List (Access × Reply)) (es : List (Step × Reply)) (t : ℕ) → replies_of (tells pend told es t) ≡ replies_of (told t) ++ map (λ f. f.1) (finished_from t (pend t) es)
-tells-replies pend told [] t = sym (append-nil (replies_of (told t)))
-tells-replies pend told (e ∷ es) t =
-    let more = finished_from t (pending_after t (pend t) e.0 e.1) es in
-    tells-replies (λ s. pending_after s (pend s) e.0 e.1) (tell pend told e.0 e.1) es t
-    ∙ (ap (λ as'. as' ++ map (λ (f : Access × Reply). f.1) more) (pushed_replies t (pend t) e.0 e.1 (told t))
-    ∙ (append_assoc (replies_of (told t)) (map (λ f. f.1) (access_of t (pend t) e.0 e.1)) (map (λ f. f.1) more)
-    ∙ ap (λ as'. replies_of (told t) ++ as') (sym (map-append (λ (f : Access × Reply). f.1) (access_of t (pend t) e.0 e.1) more))))
+pub finished_accesses : (es : List (Step × Reply)) (t : ℕ) → accesses_of (tells (pending_of None) nothing_told es t) ≡ map (λ f. f.0) (finished t es)
+finished_accesses es t = ap accesses_of (told_one (pending_of None) nothing_told es t) ∙ reversed_accesses (story_from t None [] es)
+
+pub finished_replies : (es : List (Step × Reply)) (t : ℕ) → replies_of (tells (pending_of None) nothing_told es t) ≡ map (λ f. f.1) (finished t es)
+finished_replies es t = ap replies_of (told_one (pending_of None) nothing_told es t) ∙ reversed_replies (story_from t None [] es)
 
 -- ---- one that is going
 
@@ -98,7 +64,7 @@ pub going_replay : (base : IndexMap) (n : ℕ) (trace : List (Step × Reply)) (v
 going_replay base n trace v r t may =
     let up : Upheld v (tells (pending_of None) nothing_told trace) = run_upheld base n trace v r in
     let h = ahead_replay v.under t (tells (pending_of None) nothing_told trace) (up.locks t) v.walk v.committed ((v.txns t).net) (going_told (relocked v up.locks) (tells (pending_of None) nothing_told trace) up.stands t may) in
-    ap (replay v.committed) (sym (tells-accesses (pending_of None) nothing_told trace t)) ∙ (h ∙ tells-replies (pending_of None) nothing_told trace t)
+    ap (replay v.committed) (sym (finished_accesses trace t)) ∙ (h ∙ finished_replies trace t)
 
 pub after_story : (base : IndexMap) (n : ℕ) (trace : List (Step × Reply)) (v : View) → Run (start base n) trace v → (t : ℕ) → pending_of v.under t ≡ None → MayRollBack ((v.txns t).mark) → apply v.committed ((v.txns t).net) ≡ map_after_all v.committed (map (λ f. f.0) (finished t trace))
 after_story base n trace v r t clear may =
@@ -106,7 +72,7 @@ after_story base n trace v r t clear may =
     Told-after_all (up.locks t) v.walk v.committed (tells (pending_of None) nothing_told trace t) ((v.txns t).net)
     (subst (λ (fs : List (Access × Reply)). Told (up.locks t) v.walk v.committed fs ((v.txns t).net)) (ahead_same v.under t (tells (pending_of None) nothing_told trace) clear)
     (going_told (relocked v up.locks) (tells (pending_of None) nothing_told trace) up.stands t may))
-    ∙ ap (map_after_all v.committed) (tells-accesses (pending_of None) nothing_told trace t)
+    ∙ ap (map_after_all v.committed) (finished_accesses trace t)
 
 -- ---- one that has ended or rolls back finishes no more
 
@@ -115,6 +81,7 @@ IsShut Idle = Unit {0}
 IsShut Going = ⊥
 IsShut MustRollBack = ⊥
 IsShut RollingBack = Unit {0}
+IsShut (Returning n) = ⊥
 IsShut Committing = Unit {0}
 
 record Closed (v : View) (t : ℕ) : Type 0 where
@@ -134,36 +101,45 @@ set_shut f u x t here there =
 not_itself : (v : View) (t u : ℕ) → Closed v t → (v.txns u).mark ≡ Going → u ≡ t → ⊥
 not_itself v t u c is e = shut_not_going ((v.txns t).mark) c.shut (ap (λ s. (v.txns s).mark) (sym e) ∙ is)
 
+-- one that returns is not
+returning_not : (v : View) (t u n : ℕ) → Closed v t → (v.txns u).mark ≡ Returning n → u ≡ t → ⊥
+returning_not v t u n c is e = subst IsShut (ap (λ s. (v.txns s).mark) (sym e) ∙ is) c.shut
+
+-- nor one that begins to
+may_not : (v : View) (t u : ℕ) → Closed v t → MayRollBack ((v.txns u).mark) → u ≡ t → ⊥
+may_not v t u c (inl is) e = not_itself v t u c is e
+may_not v t u c (inr is) e = subst IsShut (ap (λ s. (v.txns s).mark) (sym e) ∙ is) c.shut
+
 -- whatever goes on
 abbrev pub FinishesNone : ℕ → Step → Reply → Type 0
-FinishesNone t step reply = (o : Option Access) → access_of t o step reply ≡ []
+FinishesNone t step reply = (o : Option Access) → TellsNone t o step reply
 
 quiet_for : (t : ℕ) (step other : Step) (reply : Reply) → step ≡ other → FinishesNone t other reply → FinishesNone t step reply
-quiet_for t step other reply e h o = ap (λ (st : Step). access_of t o st reply) e ∙ h o
+quiet_for t step other reply e h o = tells_none_at t o step other reply reply e refl (h o)
 
-none_if_other : (t u : ℕ) (reply : Reply) (fs : List (Access × Reply)) → (u ≡ t → ⊥) → cond {A = List (Access × Reply)} (is_answer reply && nat_eq u t) fs [] ≡ []
-none_if_other t u reply fs ne = go (is_answer reply)
-  where
-    go : (b : Bool) → cond {A = List (Access × Reply)} (b && nat_eq u t) fs [] ≡ []
-    go true = rw (ne_eqb u t ne)
-    go false = refl
+none_if_other : (t u : ℕ) (b : Bool) (fs gs : List (Access × Reply)) → (u ≡ t → ⊥) → cond (b && nat_eq u t) fs gs ≡ gs
+none_if_other t u true fs gs ne = rw (ne_eqb u t ne)
+none_if_other t u false fs gs ne = refl
 
 other_do : (t u : ℕ) (a : Access) (reply : Reply) → (u ≡ t → ⊥) → FinishesNone t (Do u a) reply
-other_do t u a reply ne o = none_if_other t u reply ((a, reply) ∷ []) ne
+other_do t u a reply ne o fs = ap (λ (gs : List (Access × Reply)). gs ++ fs) (none_if_other t u (is_answer reply) ((a, reply) ∷ []) [] ne)
 
 other_continue : (t u : ℕ) (reply : Reply) → (u ≡ t → ⊥) → FinishesNone t (Continue u) reply
-other_continue t u reply ne o = none_if_other t u reply (answered_with o reply) ne
+other_continue t u reply ne o fs = ap (λ (gs : List (Access × Reply)). gs ++ fs) (none_if_other t u (is_answer reply) (answered_with o reply) [] ne)
 
-no_answer : (t : ℕ) (step : Step) (reply : Reply) → is_answer reply ≡ false → FinishesNone t step reply
-no_answer t Begin reply e o = refl
-no_answer t (Do u a) reply e o = rw e
-no_answer t (Commit u) reply e o = refl
-no_answer t (Rollback u) reply e o = refl
-no_answer t (Continue u) reply e o = rw e
-no_answer t (FlushPage p) reply e o = refl
-no_answer t Force reply e o = refl
-no_answer t Checkpoint reply e o = refl
-no_answer t Switch reply e o = refl
+other_return : (t u n : ℕ) (reply : Reply) → (u ≡ t → ⊥) → FinishesNone t (RollTo u n) reply
+other_return t u n reply ne o fs = none_if_other t u (is_return reply) (kept_story n fs) fs ne
+
+no_answer : (t : ℕ) (step : Step) (reply : Reply) → is_answer reply ≡ false → is_return reply ≡ false → FinishesNone t step reply
+no_answer t step reply e f o = silent t o step reply e f
+
+-- a Continue that ends no access
+none_ends : (t u : ℕ) (step : Step) (reply y : Reply) → step ≡ Continue u → reply ≡ y → is_answer y ≡ false → FinishesNone t step reply
+none_ends t u step reply y a d none o = tells_none_at t o step (Continue u) reply y a d (λ fs. rw none)
+
+-- an access that goes on
+none_begun : (t u : ℕ) (a : Access) (step : Step) (reply : Reply) → step ≡ Do u a → reply ≡ More → FinishesNone t step reply
+none_begun t u a step reply b d o = tells_none_at t o step (Do u a) reply More b d (λ fs. refl)
 
 module _ (v : View) (t : ℕ) (c : Closed v t) where
   abbrev Stays : Step → Reply → View → Type 0
@@ -173,66 +149,81 @@ module _ (v : View) (t : ℕ) (c : Closed v t) where
   at_view step reply w u e none k = (none, subst (λ (x : View). Closed x t) (sym e) k)
 
   Goes-closed : (step : Step) (reply : Reply) (w : View) → Goes v step reply w → Stays step reply w
-  Goes-closed step reply w (begins a l b e) = at_view step reply w (begun v) e (quiet_for t step Begin reply a (λ o. refl))
+  Goes-closed step reply w (begins a l b e) = at_view step reply w (begun v) e (quiet_for t step Begin reply a (λ o fs. refl))
       (record { shut = set_shut v.txns v.next (record idle { mark = Going }) t c.shut (λ q. let l : t < v.next = c.old in absurd (omega arith)); old = let l : t < v.next = c.old in omega arith })
   Goes-closed step reply w (does u a ls b is free same d e) = at_view step reply w (did v u a ls) e (quiet_for t step (Do u a) reply b (other_do t u a reply (not_itself v t u c is)))
       (record { shut = set_shut v.txns u (did_txn (v.txns u) a v.walk ls) t c.shut (λ q. absurd (not_itself v t u c is q)); old = c.old })
   Goes-closed step reply w (waits u a holder b is wait d e) = at_view step reply w v e (quiet_for t step (Do u a) reply b (other_do t u a reply (not_itself v t u c is))) c
   Goes-closed step reply w (dies u a b is must d e) = at_view step reply w (marked v u MustRollBack) e (quiet_for t step (Do u a) reply b (other_do t u a reply (not_itself v t u c is)))
       (record { shut = set_shut v.txns u (record (v.txns u) { mark = MustRollBack }) t c.shut (λ q. absurd (not_itself v t u c is q)); old = c.old })
-  Goes-closed step reply w (commits u a is alone d e) = at_view step reply w (committed_by v u) e (quiet_for t step (Commit u) reply a (λ o. refl))
+  Goes-closed step reply w (commits u a is alone d e) = at_view step reply w (committed_by v u) e (quiet_for t step (Commit u) reply a (λ o fs. refl))
       (record { shut = set_shut v.txns u idle t c.shut (λ q. tt); old = c.old })
-  Goes-closed step reply w (queues u d cs a is net_is q e) = at_view step reply w (queued v u) e (quiet_for t step (Commit u) reply a (λ o. refl))
+  Goes-closed step reply w (queues u d cs a is net_is q e) = at_view step reply w (queued v u) e (quiet_for t step (Commit u) reply a (λ o fs. refl))
       (record { shut = set_shut v.txns u (record (v.txns u) { mark = Committing }) t c.shut (λ q. tt); old = c.old })
-  Goes-closed step reply w (drops u a may empty d e) = at_view step reply w (dropped_by v u) e (quiet_for t step (Rollback u) reply a (λ o. refl))
+  Goes-closed step reply w (drops u a may empty d e) = at_view step reply w (dropped_by v u) e (quiet_for t step (Rollback u) reply a (λ o fs. refl))
       (record { shut = set_shut v.txns u idle t c.shut (λ q. tt); old = c.old })
-  Goes-closed step reply w (turns u d cs a may net_is q e) = at_view step reply w (marked v u RollingBack) e (quiet_for t step (Rollback u) reply a (λ o. refl))
+  Goes-closed step reply w (turns u d cs a may net_is q e) = at_view step reply w (marked v u RollingBack) e (quiet_for t step (Rollback u) reply a (λ o fs. refl))
       (record { shut = set_shut v.txns u (record (v.txns u) { mark = RollingBack }) t c.shut (λ q. tt); old = c.old })
-  Goes-closed step reply w (undoes u d g cs a is net_is q e) = at_view step reply w (undid_more v u d (g ∷ cs)) e (no_answer t step reply (ap is_answer q))
+  Goes-closed step reply w (undoes u d g cs a is net_is q e) = at_view step reply w (undid_more v u d (g ∷ cs)) e (none_ends t u step reply More a q refl)
       (record { shut = set_shut v.txns u (record (v.txns u) { net = g ∷ cs }) t c.shut (λ q. subst IsShut (sym is) tt); old = c.old })
-  Goes-closed step reply w (ends u d a is net_is q e) = at_view step reply w (undid_last v u d) e (no_answer t step reply (ap is_answer q))
+  Goes-closed step reply w (ends u d a is net_is q e) = at_view step reply w (undid_last v u d) e (none_ends t u step reply RolledBack a q refl)
       (record { shut = set_shut v.txns u idle t c.shut (λ q. tt); old = c.old })
-  Goes-closed step reply w (puts_later u k r ls b is none absent unheld same d e) = at_view step reply w (with_change (locked v u ls) u (Puts k r)) e (no_answer t step reply (ap is_answer d))
+  Goes-closed step reply w (puts_later u k r ls b is none absent unheld same d e) = at_view step reply w (with_change (locked v u ls) u (Puts k r)) e (none_begun t u (Insert k r) step reply b d)
       (record { shut = set_shut v.txns u (record (v.txns u) { locks = ls }) t c.shut (λ q. absurd (not_itself v t u c is q)); old = c.old })
   Goes-closed step reply w (puts u k r b is under d e) = at_view step reply w (change_made (did v u (Insert k r) ((v.txns u).locks))) e (quiet_for t step (Continue u) reply b (other_continue t u reply (not_itself v t u c is)))
       (record { shut = set_shut v.txns u (did_txn (v.txns u) (Insert k r) v.walk ((v.txns u).locks)) t c.shut (λ q. absurd (not_itself v t u c is q)); old = c.old })
-  Goes-closed step reply w (drops_first u k r ls b is none there unheld same d e) = at_view step reply w (with_change (did v u (Delete k) ls) u (Drops k)) e (no_answer t step reply (ap is_answer d))
+  Goes-closed step reply w (drops_first u k r ls b is none there unheld same d e) = at_view step reply w (with_change (did v u (Delete k) ls) u (Drops k)) e (none_begun t u (Delete k) step reply b d)
       (record { shut = set_shut v.txns u (did_txn (v.txns u) (Delete k) v.walk ls) t c.shut (λ q. absurd (not_itself v t u c is q)); old = c.old })
   Goes-closed step reply w (drops_leaf u k b is under d e) = at_view step reply w (change_made v) e (quiet_for t step (Continue u) reply b (other_continue t u reply (not_itself v t u c is))) (record { shut = c.shut; old = c.old })
-  Goes-closed step reply w (takes_later u g cs b is none net_is d e) = at_view step reply w (with_change v u TakesBack) e (no_answer t step reply (ap is_answer d)) (record { shut = c.shut; old = c.old })
-  Goes-closed step reply w (takes_first u g cs b is none net_is d e) = at_view step reply w (with_change (undid_more v u g cs) u TookBack) e (no_answer t step reply (ap is_answer d))
-      (record { shut = set_shut v.txns u (record (v.txns u) { net = cs }) t c.shut (λ q. subst IsShut (sym is) tt); old = c.old })
-  Goes-closed step reply w (takes_leaf u g cs b is under net_is d e) = at_view step reply w (change_made v) e (no_answer t step reply (ap is_answer d)) (record { shut = c.shut; old = c.old })
-  Goes-closed step reply w (takes_last u b is under empty d e) = at_view step reply w (change_made (dropped_by v u)) e (no_answer t step reply (ap is_answer d))
+  Goes-closed step reply w (takes_later u g cs b is none net_is d e) = at_view step reply w (with_change v u TakesBack) e (none_ends t u step reply More b d refl) (record { shut = c.shut; old = c.old })
+  Goes-closed step reply w (takes_first u g cs b may none net_is d e) = at_view step reply w (with_change (undid_more v u g cs) u TookBack) e (none_ends t u step reply More b d refl)
+      (record { shut = set_shut v.txns u (record (v.txns u) { net = cs }) t c.shut (λ q. subst (λ s. IsShut ((v.txns s).mark)) (sym q) c.shut); old = c.old })
+  Goes-closed step reply w (takes_leaf u g cs b is under net_is d e) = at_view step reply w (change_made v) e (none_ends t u step reply More b d refl) (record { shut = c.shut; old = c.old })
+  Goes-closed step reply w (takes_last u b is under empty d e) = at_view step reply w (change_made (dropped_by v u)) e (none_ends t u step reply RolledBack b d refl)
       (record { shut = set_shut v.txns u idle t c.shut (λ q. tt); old = c.old })
-  Goes-closed step reply w (logs_page u x b under owner d e) = at_view step reply w v e (no_answer t step reply (ap is_answer d)) c
-  Goes-closed step reply w (tree_blocks u a x b under other d e) = at_view step reply w v e (no_answer t step reply (ap is_answer d)) c
-  Goes-closed step reply w (tree_halts u x b under other d e) = at_view step reply w v e (no_answer t step reply (ap is_answer d)) c
-  Goes-closed step reply w (flushes p a d e) = at_view step reply w v e (quiet_for t step (FlushPage p) reply a (λ o. refl)) c
-  Goes-closed step reply w (forces a d e) = at_view step reply w (forced_by v) e (quiet_for t step Force reply a (λ o. refl))
+  Goes-closed step reply w (stays_back u n a may low d e) = at_view step reply w (marked v u Going) e (quiet_for t step (RollTo u n) reply a (other_return t u n reply (may_not v t u c may)))
+      (record { shut = set_shut v.txns u (record (v.txns u) { mark = Going }) t c.shut (λ q. absurd (may_not v t u c may q)); old = c.old })
+  Goes-closed step reply w (turns_back u n a may over d e) = at_view step reply w (marked v u (Returning n)) e (quiet_for t step (RollTo u n) reply a (other_return t u n reply (may_not v t u c may)))
+      (record { shut = set_shut v.txns u (record (v.txns u) { mark = Returning n }) t c.shut (λ q. absurd (may_not v t u c may q)); old = c.old })
+  Goes-closed step reply w (gives_back u n g cs a is net_is over d e) = at_view step reply w (undid_more v u g cs) e (none_ends t u step reply More a d refl)
+      (record { shut = set_shut v.txns u (record (v.txns u) { net = cs }) t c.shut (λ q. absurd (returning_not v t u n c is q)); old = c.old })
+  Goes-closed step reply w (is_back u n g cs a is net_is whole d e) = at_view step reply w (marked (undid_more v u g cs) u Going) e (none_ends t u step reply Done a d refl)
+      (record {
+        shut = set_shut (undid_more v u g cs).txns u (record ((undid_more v u g cs).txns u) { mark = Going }) t
+            (set_shut v.txns u (record (v.txns u) { net = cs }) t c.shut (λ q. absurd (returning_not v t u n c is q))) (λ q. absurd (returning_not v t u n c is q));
+        old = c.old;
+      })
+  Goes-closed step reply w (leaf_is_back u n a is under whole d e) = at_view step reply w (change_made (marked v u Going)) e (none_ends t u step reply Done a d refl)
+      (record { shut = set_shut v.txns u (record (v.txns u) { mark = Going }) t c.shut (λ q. absurd (returning_not v t u n c is q)); old = c.old })
+  Goes-closed step reply w (logs_page u x b under owner d e) = at_view step reply w v e (none_ends t u step reply More b d refl) c
+  Goes-closed step reply w (tree_blocks u a x b under other d e) = at_view step reply w v e (no_answer t step reply (ap is_answer d) (ap is_return d)) c
+  Goes-closed step reply w (tree_halts u x b under other d e) = at_view step reply w v e (none_ends t u step reply BlockedTree b d refl) c
+  Goes-closed step reply w (flushes p a d e) = at_view step reply w v e (quiet_for t step (FlushPage p) reply a (λ o fs. refl)) c
+  Goes-closed step reply w (forces a d e) = at_view step reply w (forced_by v) e (quiet_for t step Force reply a (λ o fs. refl))
       (record { shut = by_force_txn (λ u y. IsShut ((v.txns u).mark) → IsShut y.mark) v.txns v.queue (λ u some was. tt) (λ u none was. was) t c.shut; old = c.old })
-  Goes-closed step reply w (checkpoints a d e) = at_view step reply w v e (quiet_for t step Checkpoint reply a (λ o. refl)) c
-  Goes-closed step reply w (switches a d e) = at_view step reply w v e (quiet_for t step Switch reply a (λ o. refl)) c
-  Goes-closed step reply w (lacks fault wants d e) = at_view step reply w v e (no_answer t step reply (ap is_answer d)) c
-  Goes-closed step reply w (breaks fault ls is d e) = at_view step reply w (broken v ls) e (no_answer t step reply (ap is_answer d)) (record { shut = c.shut; old = c.old })
+  Goes-closed step reply w (checkpoints a d e) = at_view step reply w v e (quiet_for t step Checkpoint reply a (λ o fs. refl)) c
+  Goes-closed step reply w (switches a d e) = at_view step reply w v e (quiet_for t step Switch reply a (λ o fs. refl)) c
+  Goes-closed step reply w (lacks fault wants d e) = at_view step reply w v e (no_answer t step reply (ap is_answer d) (ap is_return d)) c
+  Goes-closed step reply w (breaks fault ls is d e) = at_view step reply w (broken v ls) e (no_answer t step reply (ap is_answer d) (ap is_return d)) (record { shut = c.shut; old = c.old })
 
   Answers-closed : (step : Step) (reply : Reply) (w : View) (o : Option ℕ) → Answers v step reply w o → Stays step reply w
   Answers-closed step reply w None g = Goes-closed step reply w g
-  Answers-closed step reply w (Some fault) g = at_view step reply w v g.1 (no_answer t step reply (ap is_answer g.0)) c
+  Answers-closed step reply w (Some fault) g = at_view step reply w v g.1 (no_answer t step reply (ap is_answer g.0) (ap is_return g.0)) c
 
-closed_quiet : (v : View) (es : List (Step × Reply)) (w : View) (t : ℕ) → Closed v t → Run v es w → (o : Option Access) → finished_from t o es ≡ []
-closed_quiet v [] w t c r o = refl
-closed_quiet v (e ∷ es) w t c r o =
+closed_quiet : (v : View) (es : List (Step × Reply)) (w : View) (t : ℕ) → Closed v t → Run v es w → (o : Option Access) (fs : List (Access × Reply)) → story_from t o fs es ≡ fs
+closed_quiet v [] w t c r o fs = refl
+closed_quiet v (e ∷ es) w t c r o fs =
     let s = Answers-closed v t c e.0 e.1 r.0 (barred v e.0) r.1 in
-    ap (λ fs. fs ++ finished_from t (pending_after t o e.0 e.1) es) (s.0 o) ∙ closed_quiet r.0 es w t s.1 r.2 (pending_after t o e.0 e.1)
+    ap (λ gs. story_from t (pending_after t o e.0 e.1) gs es) (s.0 o fs) ∙ closed_quiet r.0 es w t s.1 r.2 (pending_after t o e.0 e.1) fs
 
 -- a trace that goes on after t has closed tells no more of t
-same_story_from : (t : ℕ) (o : Option Access) (front : List (Step × Reply)) (e : Step × Reply) (rest : List (Step × Reply)) → FinishesNone t e.0 e.1 → ((p : Option Access) → finished_from t p rest ≡ []) → finished_from t o (front ++ e ∷ rest) ≡ finished_from t o front
-same_story_from t o [] e rest a b = ap (λ fs. fs ++ finished_from t (pending_after t o e.0 e.1) rest) (a o) ∙ b (pending_after t o e.0 e.1)
-same_story_from t o (d ∷ ds) e rest a b = ap (λ fs. access_of t o d.0 d.1 ++ fs) (same_story_from t (pending_after t o d.0 d.1) ds e rest a b)
+same_story_from : (t : ℕ) (o : Option Access) (fs : List (Access × Reply)) (front : List (Step × Reply)) (e : Step × Reply) (rest : List (Step × Reply)) → FinishesNone t e.0 e.1 → ((p : Option Access) (gs : List (Access × Reply)) → story_from t p gs rest ≡ gs)
+    → story_from t o fs (front ++ e ∷ rest) ≡ story_from t o fs front
+same_story_from t o fs [] e rest a b = ap (λ gs. story_from t (pending_after t o e.0 e.1) gs rest) (a o fs) ∙ b (pending_after t o e.0 e.1) fs
+same_story_from t o fs (d ∷ ds) e rest a b = same_story_from t (pending_after t o d.0 d.1) (access_of t o d.0 d.1 ++ kept_after t d.0 d.1 fs) ds e rest a b
 
-same_story : (base m : IndexMap) (t : ℕ) (front : List (Step × Reply)) (e : Step × Reply) (rest : List (Step × Reply)) → FinishesNone t e.0 e.1 → ((p : Option Access) → finished_from t p rest ≡ []) → IsReplay m (finished t front) → IsReplay m (finished t (front ++ e ∷ rest))
-same_story base m t front e rest a b h = subst (IsReplay m) (sym (same_story_from t None front e rest a b)) h
+same_story : (base m : IndexMap) (t : ℕ) (front : List (Step × Reply)) (e : Step × Reply) (rest : List (Step × Reply)) → FinishesNone t e.0 e.1 → ((p : Option Access) (gs : List (Access × Reply)) → story_from t p gs rest ≡ gs) → IsReplay m (finished t front) → IsReplay m (finished t (front ++ e ∷ rest))
+same_story base m t front e rest a b h = subst (IsReplay m) (sym (ap (λ gs. reverse gs) (same_story_from t None [] front e rest a b))) h
 
 -- ---- the end of a transaction
 
@@ -276,6 +267,11 @@ commit_end v t w (takes_later u c cs b is none net_is d e) = absurd cc
 commit_end v t w (takes_first u c cs b is none net_is d e) = absurd cc
 commit_end v t w (takes_leaf u c cs b is under net_is d e) = absurd cc
 commit_end v t w (takes_last u b is under empty d e) = absurd cc
+commit_end v t w (stays_back u n a may low d e) = absurd cc
+commit_end v t w (turns_back u n a may over d e) = absurd cc
+commit_end v t w (gives_back u n g cs a is net_is over d e) = absurd cc
+commit_end v t w (is_back u n g cs a is net_is whole d e) = absurd cc
+commit_end v t w (leaf_is_back u n a is under whole d e) = absurd cc
 commit_end v t w (logs_page u x b under owner d e) = absurd cc
 commit_end v t w (tree_blocks u a x b under other d e) = absurd cc
 commit_end v t w (tree_halts u x b under other d e) = absurd cc
@@ -309,6 +305,11 @@ rollback_end v t reply w h (takes_later u c cs b is none net_is d e) = absurd cc
 rollback_end v t reply w h (takes_first u c cs b is none net_is d e) = absurd cc
 rollback_end v t reply w h (takes_leaf u c cs b is under net_is d e) = absurd cc
 rollback_end v t reply w h (takes_last u b is under empty d e) = absurd cc
+rollback_end v t reply w h (stays_back u n a may low d e) = absurd cc
+rollback_end v t reply w h (turns_back u n a may over d e) = absurd cc
+rollback_end v t reply w h (gives_back u n g cs a is net_is over d e) = absurd cc
+rollback_end v t reply w h (is_back u n g cs a is net_is whole d e) = absurd cc
+rollback_end v t reply w h (leaf_is_back u n a is under whole d e) = absurd cc
 rollback_end v t reply w h (logs_page u x b under owner d e) = absurd cc
 rollback_end v t reply w h (tree_blocks u a x b under other d e) = absurd cc
 rollback_end v t reply w h (tree_halts u x b under other d e) = absurd cc
@@ -345,7 +346,7 @@ pub waiting_replay : (base : IndexMap) (n : ℕ) (trace : List (Step × Reply)) 
 waiting_replay base n trace v r t is =
     let up : Upheld v (tells (pending_of None) nothing_told trace) = run_upheld base n trace v r in
     let h = ahead_replay v.under t (tells (pending_of None) nothing_told trace) (up.locks t) v.walk v.committed ((v.txns t).net) (waiting_story (relocked v up.locks) (tells (pending_of None) nothing_told trace) up.stands t is) in
-    ap (replay v.committed) (sym (tells-accesses (pending_of None) nothing_told trace t)) ∙ (h ∙ tells-replies (pending_of None) nothing_told trace t)
+    ap (replay v.committed) (sym (finished_accesses trace t)) ∙ (h ∙ finished_replies trace t)
 
 -- where one waits that has this place in the queue
 waits_there : (v : View) (told : ℕ → List (Access × Reply)) → Stands v told → (ts us : List ℕ) (t : ℕ) → v.queue ≡ ts ++ t ∷ us → (v.txns t).mark ≡ Committing
@@ -359,7 +360,7 @@ placed_replay base n trace v r ts us t is =
     let story = told_behind v.committed v.walk u.txns (ahead v.under (tells (pending_of None) nothing_told trace)) up.stands.fits ts t (none_before ts us t (subst AreDifferent is up.stands.queue.each))
     (waiting_story u (tells (pending_of None) nothing_told trace) up.stands t (waits_there u (tells (pending_of None) nothing_told trace) up.stands ts us t is)) in
     let h = ahead_replay v.under t (tells (pending_of None) nothing_told trace) (up.locks t) v.walk (map_behind v.committed u.txns ts) ((v.txns t).net) story in
-    subst (λ (m : IndexMap). IsReplay m (finished t trace)) same (ap (replay (map_behind v.committed u.txns ts)) (sym (tells-accesses (pending_of None) nothing_told trace t)) ∙ (h ∙ tells-replies (pending_of None) nothing_told trace t))
+    subst (λ (m : IndexMap). IsReplay m (finished t trace)) same (ap (replay (map_behind v.committed u.txns ts)) (sym (finished_accesses trace t)) ∙ (h ∙ finished_replies trace t))
 
 pub force_is : (v w : View) → Goes v Force Done w → w ≡ forced_by v
 force_is v w (begins a l b e) = absurd cc
@@ -380,6 +381,11 @@ force_is v w (takes_later u c cs b is none net_is d e) = absurd cc
 force_is v w (takes_first u c cs b is none net_is d e) = absurd cc
 force_is v w (takes_leaf u c cs b is under net_is d e) = absurd cc
 force_is v w (takes_last u b is under empty d e) = absurd cc
+force_is v w (stays_back u n a may low d e) = absurd cc
+force_is v w (turns_back u n a may over d e) = absurd cc
+force_is v w (gives_back u n g cs a is net_is over d e) = absurd cc
+force_is v w (is_back u n g cs a is net_is whole d e) = absurd cc
+force_is v w (leaf_is_back u n a is under whole d e) = absurd cc
 force_is v w (logs_page u x b under owner d e) = absurd cc
 force_is v w (tree_blocks u a x b under other d e) = absurd cc
 force_is v w (tree_halts u x b under other d e) = absurd cc
@@ -407,7 +413,7 @@ forced_replay base n front rest v w end r g later ts us t is =
     let e : w ≡ forced_by v = force_is v w g in
     let shut : IsShut ((idle_all v.txns v.queue t).mark) = by_force_txn (λ s y. IsShut ((v.txns s).mark) → IsShut y.mark) v.txns v.queue (λ s some was. tt) (λ s none was. was) t (subst IsShut (sym mark) tt) in
     let closed : Closed w t = subst (λ (y : View). Closed y t) (sym e) (record { shut = shut; old = old }) in
-    same_story base (map_behind v.committed v.txns ts) t front (Force, Done) rest (λ o. refl) (closed_quiet w rest end t closed later) (placed_replay base n front v r ts us t is)
+    same_story base (map_behind v.committed v.txns ts) t front (Force, Done) rest (λ o fs. refl) (closed_quiet w rest end t closed later) (placed_replay base n front v r ts us t is)
 
 -- the map committed after a Commit
 pub commit_adds : (v : View) (t : ℕ) (w : View) → Goes v (Commit t) Committed w → w.committed ≡ apply v.committed ((v.txns t).net)
@@ -429,6 +435,11 @@ commit_adds v t w (takes_later u c cs b is none net_is d e) = absurd cc
 commit_adds v t w (takes_first u c cs b is none net_is d e) = absurd cc
 commit_adds v t w (takes_leaf u c cs b is under net_is d e) = absurd cc
 commit_adds v t w (takes_last u b is under empty d e) = absurd cc
+commit_adds v t w (stays_back u n a may low d e) = absurd cc
+commit_adds v t w (turns_back u n a may over d e) = absurd cc
+commit_adds v t w (gives_back u n g cs a is net_is over d e) = absurd cc
+commit_adds v t w (is_back u n g cs a is net_is whole d e) = absurd cc
+commit_adds v t w (leaf_is_back u n a is under whole d e) = absurd cc
 commit_adds v t w (logs_page u x b under owner d e) = absurd cc
 commit_adds v t w (tree_blocks u a x b under other d e) = absurd cc
 commit_adds v t w (tree_halts u x b under other d e) = absurd cc
@@ -459,6 +470,11 @@ goes_stays v w step reply (takes_later u c cs b is none net_is d e) ne none_wait
 goes_stays v w step reply (takes_first u c cs b is none net_is d e) ne none_waits = ap (λ (y : View). y.committed) e
 goes_stays v w step reply (takes_leaf u c cs b is under net_is d e) ne none_waits = ap (λ (y : View). y.committed) e
 goes_stays v w step reply (takes_last u b is under empty d e) ne none_waits = ap (λ (y : View). y.committed) e
+goes_stays v w step reply (stays_back u n a may low d e) ne none_waits = ap (λ (y : View). y.committed) e
+goes_stays v w step reply (turns_back u n a may over d e) ne none_waits = ap (λ (y : View). y.committed) e
+goes_stays v w step reply (gives_back u n g cs a is net_is over d e) ne none_waits = ap (λ (y : View). y.committed) e
+goes_stays v w step reply (is_back u n g cs a is net_is whole d e) ne none_waits = ap (λ (y : View). y.committed) e
+goes_stays v w step reply (leaf_is_back u n a is under whole d e) ne none_waits = ap (λ (y : View). y.committed) e
 goes_stays v w step reply (logs_page u x b under owner d e) ne none_waits = ap (λ (y : View). y.committed) e
 goes_stays v w step reply (tree_blocks u a x b under other d e) ne none_waits = ap (λ (y : View). y.committed) e
 goes_stays v w step reply (tree_halts u x b under other d e) ne none_waits = ap (λ (y : View). y.committed) e

@@ -3,7 +3,7 @@ use Rattle.std.proofs.Common.{◌≡◌, ◌≢◌, ℕ, nat_eq, Bool, true, fal
 use Rattle.std.specs.Prelude.{◌==◌}
 use Rattle.im_base_types.specs.Keys.{Key}
 use Rattle.im_base_types.specs.Maps.{IndexMap}
-use Rattle.im_base_types.specs.Answers.{Access, Insert, Delete, Step, Begin, Do, Commit, Rollback, Continue, FlushPage, Force, Checkpoint, Switch, Reply, Deleted, Going, Committing, map_after}
+use Rattle.im_base_types.specs.Answers.{Access, Insert, Delete, Step, Begin, Do, Commit, Rollback, Continue, RollTo, FlushPage, Force, Checkpoint, Switch, Reply, Deleted, Going, Committing, map_after}
 use Rattle.im_base_types.specs.Changes.{Change, key_of, undone}
 use Rattle.im_theory_machine.specs.Locks.{Name, At, Lock, Holds, SameLocks, kept, IsFree}
 use Rattle.im_theory_machine.specs.declared.lock_kind.Mode.{Mode}
@@ -93,6 +93,7 @@ none_owned under none step = ap (λ (u : Option Under). owns_in u step) none ∙
     by (Commit t) = refl
     by (Rollback t) = refl
     by (Continue t) = refl
+    by (RollTo t n) = refl
     by (FlushPage p) = refl
     by Force = refl
     by Checkpoint = refl
@@ -115,6 +116,17 @@ pub ahead_push : (under : Option Under) (t : ℕ) (told : ℕ → List (Access �
     → cond (nat_eq s t) (x ∷ ahead under told s) (ahead under told s) ≡ ahead under (λ u. cond (nat_eq u t) (x ∷ told u) (told u)) s
 ahead_push None t told x none s = refl
 ahead_push (Some u) t told x none s = push_for u.aim u.owner t told x none s
+
+by_for : (aim : Aim) (o : ℕ) (a b : ℕ → List (Access × Reply)) (s : ℕ) → a s ≡ b s → ahead_for aim o a s ≡ ahead_for aim o b s
+by_for (Puts k r) o a b s e = e
+by_for (Drops k) o a b s e = ap (λ (fs : List (Access × Reply)). cond (o == s) ((Delete k, Deleted) ∷ fs) fs) e
+by_for TakesBack o a b s e = e
+by_for TookBack o a b s e = e
+
+-- what is told of one rests on what it finished
+pub ahead_by : (under : Option Under) (a b : ℕ → List (Access × Reply)) (s : ℕ) → a s ≡ b s → ahead under a s ≡ ahead under b s
+ahead_by None a b s e = e
+ahead_by (Some u) a b s e = by_for u.aim u.owner a b s e
 
 same_for : (aim : Aim) (o t : ℕ) (told : ℕ → List (Access × Reply)) → cond (nat_eq o t) (pending_for aim) None ≡ None → ahead_for aim o told t ≡ told t
 same_for (Puts k r) o t told none = refl

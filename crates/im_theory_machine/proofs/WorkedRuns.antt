@@ -9,7 +9,7 @@ use Rattle.im_theory_machine.specs.Locks.{Name, At, PastAll, Lock, Holds, SameLo
 use Rattle.im_theory_machine.specs.declared.lock_kind.Mode.TheVariants.{Shared, Exclusive}
 use Rattle.im_theory_machine.specs.Rows.{asked, name_of, next_name, there_or_next}
 use Rattle.im_theory_machine.specs.View.{View, locks_in, begun}
-use Rattle.im_theory_machine.specs.Machine.{Goes, Moves, begins, does, waits, dies, commits, queues, drops, turns, undoes, ends, puts_later, puts, drops_first, drops_leaf, takes_later, takes_first, takes_leaf, takes_last, logs_page, tree_blocks, tree_halts, flushes, forces, checkpoints, switches, lacks, breaks, Run, start}
+use Rattle.im_theory_machine.specs.Machine.{Goes, Moves, begins, does, waits, dies, commits, queues, drops, turns, undoes, ends, puts_later, puts, drops_first, drops_leaf, takes_later, takes_first, takes_leaf, takes_last, stays_back, turns_back, gives_back, is_back, leaf_is_back, logs_page, tree_blocks, tree_halts, flushes, forces, checkpoints, switches, lacks, breaks, Run, start}
 use Rattle.im_theory_machine.specs.Worked.{empty_map, missing, both_begun, end_shared, read, told, AGapStays}
 use Rattle.im_theory_machine.proofs.Invariant.{by_txn}
 use Rattle.im_theory_machine.proofs.Search.{first-by}
@@ -95,6 +95,11 @@ never_inserted w (takes_later u c cs b is none net_is d e) = cc
 never_inserted w (takes_first u c cs b is none net_is d e) = cc
 never_inserted w (takes_leaf u c cs b is under net_is d e) = cc
 never_inserted w (takes_last u b is under empty d e) = cc
+never_inserted w (stays_back u n a may low d e) = cc
+never_inserted w (turns_back u n a may over d e) = cc
+never_inserted w (gives_back u n g cs a is net_is over d e) = cc
+never_inserted w (is_back u n g cs a is net_is whole d e) = cc
+never_inserted w (leaf_is_back u n a is under whole d e) = cc
 never_inserted w (logs_page u x b under owner d e) = cc
 never_inserted w (tree_blocks u a x b under other d e) = cc
 never_inserted w (tree_halts u x b under other d e) = cc
