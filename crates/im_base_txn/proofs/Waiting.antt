@@ -6,7 +6,7 @@ use Rattle.std.specs.Prelude.{◌==◌, if◌then◌else◌}
 use Rattle.im_base_txn.specs.declared.transaction.Transaction.{Transaction}
 use Rattle.im_base_txn.specs.declared.transaction.Mark.{Mark}
 use Rattle.im_base_txn.specs.declared.transaction.Mark.TheVariants.{Committing}
-use Rattle.im_base_txn.specs.Rows.{AreAbove, AreRising, begun, changed, is_of, is_committing, is_waiting, waits_at, waiting_in, with_mark, with_record, without_waiting}
+use Rattle.im_base_txn.specs.Rows.{AreAbove, AreRising, begun, changed, is_of, is_committing, is_waiting, waits_at, waiting_in, with_changes, with_mark, with_record, without_waiting}
 use Rattle.im_base_txn.specs.LookUps.{without}
 use Rattle.im_base_txn.proofs.LookUps.{found_here, found_later, left_here, left_later, all_left}
 
@@ -75,17 +75,25 @@ pub waiting_begun : (n : ℕ) (rows : List Transaction) → waiting_in (rows ++ 
 waiting_begun n [] = refl
 waiting_begun n (r ∷ rs) = counts_first r (rs ++ begun n ∷ []) ∙ ap (λ (k : ℕ). one_if (is_waiting r) + k) (waiting_begun n rs) ∙ sym (counts_first r rs)
 
--- a record leaves marks as they are
-pub waiting_noted : (n last undo_next : ℕ) (rows : List Transaction) → waiting_in (map (changed n (with_record last undo_next)) rows) ≡ waiting_in rows
-waiting_noted n last undo_next [] = refl
-waiting_noted n last undo_next (r ∷ rs) =
-    counts_first (changed n (with_record last undo_next) r) (map (changed n (with_record last undo_next)) rs)
-    ∙ (λ i. one_if (same (r.number == n) i) + waiting_noted n last undo_next rs i)
+-- a change of rows that keeps their marks leaves them
+pub waiting_kept : (n : ℕ) (f : Transaction → Transaction) → ((row : Transaction) → is_waiting (f row) ≡ is_waiting row) → (rows : List Transaction) → waiting_in (map (changed n f) rows) ≡ waiting_in rows
+waiting_kept n f keeps [] = refl
+waiting_kept n f keeps (r ∷ rs) =
+    counts_first (changed n f r) (map (changed n f) rs)
+    ∙ (λ i. one_if (same (r.number == n) i) + waiting_kept n f keeps rs i)
     ∙ sym (counts_first r rs)
   where
-    same : (b : Bool) → is_waiting (if b then with_record last undo_next r else r) ≡ is_waiting r
-    same true = refl
+    same : (b : Bool) → is_waiting (if b then f r else r) ≡ is_waiting r
+    same true = keeps r
     same false = refl
+
+-- so does a record
+pub waiting_noted : (n last undo_next : ℕ) (rows : List Transaction) → waiting_in (map (changed n (with_record last undo_next)) rows) ≡ waiting_in rows
+waiting_noted n last undo_next rows = waiting_kept n (with_record last undo_next) (λ row. refl) rows
+
+-- and one with which a change is made or taken back
+pub waiting_counted : (n last undo_next changes : ℕ) (rows : List Transaction) → waiting_in (map (changed n (with_changes last undo_next changes)) rows) ≡ waiting_in rows
+waiting_counted n last undo_next changes rows = waiting_kept n (with_changes last undo_next changes) (λ row. refl) rows
 
 -- above a number nothing is of it
 still_above : (n : ℕ) (f : Transaction → Transaction) (rows : List Transaction) → AreAbove n rows → map (changed n f) rows ≡ rows

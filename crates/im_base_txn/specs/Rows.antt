@@ -1,12 +1,12 @@
 -- The rows of the table, in rising number.
 use Rattle.std.specs.Prelude.{◌<◌, ◌==◌, ℕ, Bool, true, false, not, List, [], ◌∷◌, Option, None, Some, length, filter, map, if◌then◌else◌}
 use Rattle.im_base_txn.specs.declared.transaction.Mark.{Mark}
-use Rattle.im_base_txn.specs.declared.transaction.Mark.TheVariants.{Going, MustRollBack, RollingBack, Committing}
+use Rattle.im_base_txn.specs.declared.transaction.Mark.TheVariants.{Going, MustRollBack, RollingBack, Returning, Committing}
 use Rattle.im_base_txn.specs.declared.transaction.Transaction.{Transaction}
 
 -- A transaction that has just begun.
 abbrev pub begun : ℕ → Transaction
-begun number = record { number = number; last = 0; undo_next = 0; mark = Going }
+begun number = record { number = number; last = 0; undo_next = 0; mark = Going; changes = 0 }
 
 -- Each of these numbers is above this one.
 abbrev pub AreAbove : ℕ → List Transaction → Type 0
@@ -29,11 +29,15 @@ is_of number row = row.number == number
 
 -- A transaction after a record.
 abbrev pub with_record : ℕ → ℕ → Transaction → Transaction
-with_record last undo_next row = record { number = row.number; last = last; undo_next = undo_next; mark = row.mark }
+with_record last undo_next row = record { number = row.number; last = last; undo_next = undo_next; mark = row.mark; changes = row.changes }
+
+-- A transaction after a record with which a change is made or taken back: so many changes stand then.
+abbrev pub with_changes : ℕ → ℕ → ℕ → Transaction → Transaction
+with_changes last undo_next changes row = record { number = row.number; last = last; undo_next = undo_next; mark = row.mark; changes = changes }
 
 -- A transaction with this mark.
 abbrev pub with_mark : Mark → Transaction → Transaction
-with_mark mark row = record { number = row.number; last = row.last; undo_next = row.undo_next; mark = mark }
+with_mark mark row = record { number = row.number; last = row.last; undo_next = row.undo_next; mark = mark; changes = row.changes }
 
 -- A row after a change of the transaction of this number.
 abbrev pub changed : ℕ → (Transaction → Transaction) → Transaction → Transaction
@@ -45,6 +49,7 @@ is_committing Committing = true
 is_committing Going = false
 is_committing MustRollBack = false
 is_committing RollingBack = false
+is_committing (Returning n) = false
 
 abbrev pub is_waiting : Transaction → Bool
 is_waiting row = is_committing row.mark

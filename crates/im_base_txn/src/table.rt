@@ -1,7 +1,7 @@
 //! The table.
 
 ghost use Rattle.std.specs.Prelude.{◌≡◌, true, ◌<◌, ◌≤◌, ◌++◌, ◌+◌, ◌↔◌, [], ◌∷◌, not, filter, find, length, map, Some};
-ghost use Rattle.im_base_txn.specs.Rows.{AreBelow, AreRising, begun, changed, is_of, with_mark, with_record, without_waiting};
+ghost use Rattle.im_base_txn.specs.Rows.{AreBelow, AreRising, begun, changed, is_of, with_changes, with_mark, with_record, without_waiting};
 ghost use Rattle.im_base_txn.specs.declared.transaction.Transaction.{Transaction as Row};
 
 use crate::transaction::{Mark, Transaction};
@@ -83,6 +83,7 @@ impl Table {
             last: 0,
             undo_next: 0,
             mark: Mark::Going,
+            changes: 0,
         });
     }
 
@@ -97,6 +98,24 @@ impl Table {
                     last: lsn,
                     undo_next,
                     mark: row.mark,
+                    changes: row.changes,
+                };
+            }
+        }
+    }
+
+    /// Notes the same of a record with which a change of the transaction is made or taken back: so many changes stand then.
+    pub fn note_change(&mut self, number: TxnId, lsn: Lsn, undo_next: Lsn, changes: u64)
+        ensures { self.new ≡ map (changed number (with_changes lsn undo_next changes)) self.old }
+    {
+        for row in self.rows.as_mut_slice() {
+            if row.number == number {
+                *row = Transaction {
+                    number: row.number,
+                    last: lsn,
+                    undo_next,
+                    mark: row.mark,
+                    changes,
                 };
             }
         }
@@ -113,6 +132,7 @@ impl Table {
                     last: row.last,
                     undo_next: row.undo_next,
                     mark,
+                    changes: row.changes,
                 };
             }
         }

@@ -15,6 +15,8 @@ pub enum Mark {
     MustRollBack,
     /// It rolls back: only a step of that is taken.
     RollingBack,
+    /// It takes its newest changes back until this many are left: only a step of that is taken.
+    Returning(u64),
     /// Its Commit is logged and waits for a force: no step is taken.
     Committing,
 }
@@ -37,4 +39,6 @@ pub struct Transaction {
     /// The LSN of its next record to undo, 0 for none.
     pub undo_next: Lsn,
     pub mark: Mark,
+    /// How many changes of keys it has made that are not taken back.
+    pub changes: u64,
 }
