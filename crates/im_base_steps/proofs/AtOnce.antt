@@ -3,12 +3,12 @@ use Rattle.std.proofs.Common.{◌≡◌, Bool, true, false, true≢false, refl, 
 use Rattle.std.specs.Prelude.{◌||◌}
 use Rattle.im_base_types.specs.Answers.{Step, Reply, Started, Found, Absent, Entry, End, Entries, Inserted, Duplicate, Deleted, Committed, RolledBack, More, Blocked, BlockedTree, Die, Done, Refused}
 use Rattle.im_base_steps.specs.Calls.{is_continue}
-use Rattle.im_base_steps.specs.Replies.{is_insert, is_delete, is_commit, takes_back, SuitsAtOnce, Suits}
+use Rattle.im_base_steps.specs.Replies.{is_insert, is_delete, is_commit, goes_back, SuitsAtOnce, Suits}
 
 pub at_once : (s : Step) (r : Reply) → SuitsAtOnce s r → Suits s r
 at_once s Inserted e = ap (λ (b : Bool). b || is_continue s) e
 at_once s Deleted e = ap (λ (b : Bool). b || is_continue s) e
-at_once s More e = by (takes_back s) (is_commit s) e
+at_once s More e = by (goes_back s) (is_commit s) e
   where
     by : (b c : Bool) → (b || c) ≡ true → (b || (c || (is_insert s || is_delete s))) ≡ true
     by true c e = refl

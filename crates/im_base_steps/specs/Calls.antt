@@ -1,5 +1,5 @@
 -- The steps and replies of the code, as the definitions know them.
-use Rattle.std.specs.Prelude.{ℕ, nat_lt, Bool, true, false, List, []}
+use Rattle.std.specs.Prelude.{◌||◌, ℕ, nat_lt, Bool, true, false, List, []}
 use Rattle.im_base_types.specs.Pages.{Entry}
 use Rattle.im_base_types.specs.Answers as answers
 use Rattle.im_base_types.specs.Answers.{limit_of}
@@ -25,6 +25,7 @@ asked_by (steps.Delete t key) = answers.Do t (answers.Delete key.items)
 asked_by (steps.Commit t) = answers.Commit t
 asked_by (steps.Rollback t) = answers.Rollback t
 asked_by (steps.Continue t) = answers.Continue t
+asked_by (steps.RollTo t left) = answers.RollTo t left
 asked_by (steps.FlushPage page) = answers.FlushPage page
 asked_by steps.Force = answers.Force
 asked_by steps.Checkpoint = answers.Checkpoint
@@ -113,7 +114,7 @@ is_continue _ = false
 abbrev pub may_unblock : answers.Step → answers.Reply → Bool
 may_unblock step answers.Committed = true
 may_unblock step answers.RolledBack = true
-may_unblock step answers.Done = is_force step
+may_unblock step answers.Done = is_force step || is_continue step
 may_unblock step (answers.Refused fault) = breaks fault
 may_unblock step (answers.Blocked holder) = false
 may_unblock step answers.BlockedTree = false

@@ -1,6 +1,6 @@
 -- What each step may be answered, whatever is known of a store's disk.
 use Rattle.std.specs.Prelude.{◌||◌, ◌≡◌, ℕ, ◌+◌, ◌≤◌, ◌==◌, Bool, true, false, length, if◌then◌else◌}
-use Rattle.im_base_types.specs.Answers.{Fetch, Seek, Next, Prev, Scan, Insert, Delete, Step, Begin, Do, Commit, Rollback, Continue, FlushPage, Force, Checkpoint, Switch, Reply, Started, Found, Absent, Entry, End, Entries, Inserted, Duplicate, Deleted, Committed, RolledBack, More, Blocked, BlockedTree, Die, Done, Refused}
+use Rattle.im_base_types.specs.Answers.{Fetch, Seek, Next, Prev, Scan, Insert, Delete, Step, Begin, Do, Commit, Rollback, Continue, RollTo, FlushPage, Force, Checkpoint, Switch, Reply, Started, Found, Absent, Entry, End, Entries, Inserted, Duplicate, Deleted, Committed, RolledBack, More, Blocked, BlockedTree, Die, Done, Refused}
 use Rattle.im_base_types.specs.Refusals.{memory}
 use Rattle.im_base_steps.specs.Calls.{is_continue, is_force, most_entries}
 
@@ -52,6 +52,19 @@ takes_back (Rollback t) = true
 takes_back (Continue t) = true
 takes_back _ = false
 
+-- a Rollback, a Continue or a RollTo
+abbrev pub goes_back : Step → Bool
+goes_back (Rollback t) = true
+goes_back (Continue t) = true
+goes_back (RollTo t left) = true
+goes_back _ = false
+
+-- a step after which a return may be done
+abbrev pub may_return : Step → Bool
+may_return (Continue t) = true
+may_return (RollTo t left) = true
+may_return _ = false
+
 -- a step that is of no transaction
 abbrev pub is_service : Step → Bool
 is_service (FlushPage page) = true
@@ -73,7 +86,7 @@ lacks_memory (Refused fault) = fault == memory
 lacks_memory _ = false
 
 -- What a step may be answered: a Begin a number; a Fetch a row id, a Seek, Next or Prev an entry, a Scan entries up to its limit; and so on. An Insert or a Delete that
--- goes on is answered More, and ends with a Continue. A refusal is of any step.
+-- goes on is answered More, and ends with a Continue; so is a RollTo, and ends with one that is answered Done. A refusal is of any step.
 abbrev pub Suits : Step → Reply → Type 0
 Suits step (Started t) = is_begin step ≡ true
 Suits step (Found rid) = is_fetch step ≡ true
@@ -86,18 +99,18 @@ Suits step Duplicate = is_insert step ≡ true
 Suits step Deleted = (is_delete step || is_continue step) ≡ true
 Suits step Committed = is_commit step ≡ true
 Suits step RolledBack = takes_back step ≡ true
-Suits step More = (takes_back step || (is_commit step || (is_insert step || is_delete step))) ≡ true
+Suits step More = (goes_back step || (is_commit step || (is_insert step || is_delete step))) ≡ true
 Suits step (Blocked holder) = is_access step ≡ true
 Suits step BlockedTree = (is_access step || is_continue step) ≡ true
 Suits step Die = is_access step ≡ true
-Suits step Done = is_service step ≡ true
+Suits step Done = (is_service step || may_return step) ≡ true
 Suits step (Refused fault) = Unit {0}
 
 -- What it may be answered by a store that makes each structure change within one step: no Insert or Delete goes on, and no Continue finds the tree blocked.
 abbrev pub SuitsAtOnce : Step → Reply → Type 0
 SuitsAtOnce step Inserted = is_insert step ≡ true
 SuitsAtOnce step Deleted = is_delete step ≡ true
-SuitsAtOnce step More = (takes_back step || is_commit step) ≡ true
+SuitsAtOnce step More = (goes_back step || is_commit step) ≡ true
 SuitsAtOnce step BlockedTree = is_access step ≡ true
 SuitsAtOnce step reply = Suits step reply
 

@@ -36,6 +36,9 @@ pub enum Step {
     Rollback(TxnId),
     /// Takes back the newest change of a transaction that is rolling back, and ends it after the last.
     Continue(TxnId),
+    /// Takes back the newest changes of a transaction until so many are left: answered `Done` where no more are there, and else begins to,
+    /// up to the Continue that is answered `Done`. It keeps its locks, and goes on.
+    RollTo(TxnId, u64),
     /// Writes a page in place, where something of it is left to be written.
     FlushPage(PageNo),
     /// Makes every record so far durable.
@@ -66,6 +69,7 @@ impl Step {
             Step::Commit(t) => Step::Commit(*t),
             Step::Rollback(t) => Step::Rollback(*t),
             Step::Continue(t) => Step::Continue(*t),
+            Step::RollTo(t, left) => Step::RollTo(*t, *left),
             Step::FlushPage(page) => Step::FlushPage(*page),
             Step::Force => Step::Force,
             Step::Checkpoint => Step::Checkpoint,
@@ -92,7 +96,7 @@ impl Step {
     {
         match reply {
             Reply::Committed | Reply::RolledBack => true,
-            Reply::Done => matches!(self, Step::Force),
+            Reply::Done => matches!(self, Step::Force | Step::Continue(_)),
             Reply::Refused(fault) => breaks(*fault),
             Reply::Blocked(_) => false,
             _ => matches!(self, Step::Continue(_)),
