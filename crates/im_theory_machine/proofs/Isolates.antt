@@ -9,16 +9,18 @@ use Rattle.im_base_types.specs.Answers.{Going, Committing, Idle, Insert, Delete,
 use Rattle.im_theory_machine.specs.Rows.{asked}
 use Rattle.im_theory_machine.specs.View.{View, Txn, Puts, Under, pending_of, idle, set_txn, is_among, AreDifferent, map_behind, relocked}
 use Rattle.im_theory_machine.specs.Machine.{barred, Answers, Goes, Moves, begins, does, waits, dies, commits, queues, drops, turns, undoes, ends, puts_later, puts, drops_first, drops_leaf, takes_later, takes_first, takes_leaf, takes_last, stays_back, turns_back, gives_back, is_back, leaf_is_back, logs_page, tree_blocks, tree_halts, flushes, forces, checkpoints, switches, lacks, breaks, Run, IsReached, start}
-use Rattle.im_theory_machine.specs.Isolation.{finished, IsReplay, queue_after, queue_after_all, finished_all, committed_in, serial, Isolates, GrantedChangesAreFree}
+use Rattle.im_theory_machine.specs.Isolation.{finished, IsReplay, queue_after, queue_after_all, finished_all, committed_in, serial, Isolates, GrantedChangesAreFree, IsTogether, FreeReadsAreCommitted}
 use Rattle.im_theory_machine.proofs.Changes.{same_maps}
 use Rattle.im_theory_machine.proofs.Callers.{Run-push}
 use Rattle.std.specs.Prelude.{◌==◌}
 use Rattle.im_theory_machine.proofs.Bools.{or_true}
-use Rattle.im_theory_machine.proofs.Invariant.{Fits, Told, Told-replay, Told-after_all, accesses_of, replies_of, set_txn-other}
+use Rattle.im_theory_machine.proofs.Invariant.{Chain-guards, Fits, Told, Told-replay, Told-after_all, accesses_of, replies_of, set_txn-other}
 use Rattle.im_theory_machine.proofs.Queue.{among_one, nets_idle, nets_same, waiting_told}
 use Rattle.im_theory_machine.proofs.Keeping.{Sets-fits, commit_sets, read_free}
 use Rattle.im_theory_machine.proofs.Locks.{cases_access}
-use Rattle.im_theory_machine.proofs.ReadKeys.{Reads}
+use Rattle.im_theory_machine.proofs.ReadKeys.{Reads, reply-agrees, asked-guards}
+use Rattle.im_theory_machine.proofs.Guards.{guard}
+use Rattle.im_theory_machine.specs.declared.lock_kind.Mode.TheVariants.{Exclusive}
 use Rattle.im_theory_machine.specs.Kept.{PendingInsertsAreGranted}
 use Rattle.im_theory_machine.proofs.Pending.{kept_locks_stay}
 use Rattle.im_theory_machine.proofs.Under.{IsUnder, ahead, ahead_same, not_going}
@@ -316,6 +318,19 @@ granted_free base v reached works t a c going free one u differ touch =
       | inr made ↦ subst (λ (d : Change). Reads a v.walk (key_of d)) (same_head made.0 c (sym made.1.change ∙ one)) made.1.itself
     ] in
     read_free v.committed v.walk v.txns (ahead v.under told) h.fits t a (granted_of v t (asked a v.walk) free) story (key_of c) read u differ touch
+
+-- what a reader who holds nothing finds free is in nobody's net
+pub free_reads : FreeReadsAreCommitted
+free_reads base v reached works t a none free =
+    let told = tells (pending_of None) nothing_told reached.trace in
+    let up : Upheld v told = run_upheld base reached.first reached.trace v reached.run in
+    let h = stands_of v told up works in
+    let both : IsTogether v = together_up v told up in
+    reply-agrees a v.walk v.committed (λ x r.
+    sym (both.untouched x (λ s touch.
+    let g = asked-guards a v.walk x r in
+    let differ : s ≢ t = λ e. subst (λ (net : List Change). Touches net x) none (subst (λ (u : ℕ). Touches ((v.txns u).net) x) e touch) in
+    granted_of v t (asked a v.walk) free s (guard v.walk x) g.0 Exclusive differ g.1 (Chain-guards _ v.walk v.committed _ (h.fits.chain s) x touch) (inr refl))))
 
 -- ---- who waits, in a machine that was reached
 

@@ -4,7 +4,7 @@ use Rattle.std.specs.FinMap.{get}
 use Rattle.im_base_types.specs.Keys.{Key}
 use Rattle.im_base_types.specs.Maps.{IndexMap}
 use Rattle.im_base_types.specs.Changes.{Change, Touches, apply, key_of}
-use Rattle.im_base_types.specs.Answers.{Access, Step, Begin, Do, Commit, Rollback, Continue, RollTo, FlushPage, Force, Checkpoint, Switch, Reply, Inserted, Deleted, Committed, RolledBack, More, Done, Going, Committing, changes, is_answer, replay, map_after_all}
+use Rattle.im_base_types.specs.Answers.{Access, Step, Begin, Do, Commit, Rollback, Continue, RollTo, FlushPage, Force, Checkpoint, Switch, Reply, Inserted, Deleted, Committed, RolledBack, More, Done, Going, Committing, changes, is_answer, answer, replay, map_after_all}
 use Rattle.im_theory_machine.specs.Locks.{IsFree}
 use Rattle.im_theory_machine.specs.Rows.{asked}
 use Rattle.im_theory_machine.specs.View.{View, MayRollBack, map_behind, locks_in}
@@ -162,3 +162,8 @@ pub record Isolates (base : IndexMap) (next : ℕ) : Type 0 where
 abbrev pub GrantedChangesAreFree : Type 0
 GrantedChangesAreFree = (base : IndexMap) (v : View) → IsReached base v → v.failed ≡ false → (t : ℕ) (a : Access) (c : Change) → (v.txns t).mark ≡ Going →
     IsFree (locks_in v) t (asked a v.walk) → changes a v.walk ≡ c ∷ [] → (u : ℕ) → u ≢ t → Touches ((v.txns u).net) (key_of c) → ⊥
+
+-- What a reader who holds nothing finds free to be read is as it was committed: the answer on the walk is the one on the committed map.
+abbrev pub FreeReadsAreCommitted : Type 0
+FreeReadsAreCommitted = (base : IndexMap) (v : View) → IsReached base v → v.failed ≡ false → (t : ℕ) (a : Access) → (v.txns t).net ≡ [] →
+    IsFree (locks_in v) t (asked a v.walk) → answer a v.committed ≡ answer a v.walk

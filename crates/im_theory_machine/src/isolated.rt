@@ -2,7 +2,7 @@
 
 ghost use Rattle.std.specs.Prelude.{ℕ};
 ghost use Rattle.im_base_types.specs.Maps.{IndexMap};
-ghost use Rattle.im_theory_machine.specs.Isolation.{Isolates, GrantedChangesAreFree};
+ghost use Rattle.im_theory_machine.specs.Isolation.{Isolates, GrantedChangesAreFree, FreeReadsAreCommitted};
 ghost use Rattle.im_theory_machine.specs.Kept.{KeptLocksStay, PendingInsertsAreGranted};
 ghost use Rattle.im_theory_machine.specs.Serving.{TableServes};
 ghost use Rattle.im_theory_machine.specs.Changing.{ChangesServe};
@@ -41,4 +41,9 @@ pub fn kept_locks_stay()
 /// contract is the law.
 pub fn pending_inserts_are_granted()
     ensures { PendingInsertsAreGranted }
+{}
+
+/// What a reader who holds nothing finds free to be read is as it was committed. It does nothing: its contract is the law.
+pub fn free_reads_are_committed()
+    ensures { FreeReadsAreCommitted }
 {}

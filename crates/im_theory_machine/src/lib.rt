@@ -14,6 +14,7 @@
 //! committed, and on the map committed just before its rollback; and the committed map is the committed
 //! transactions applied one after another (`Isolates`). The contract of `table_serves` says that a table's three
 //! verdicts are the machine's three answers, and its releases the machine's.
+//! The contract of `free_reads_are_committed` says that what a reader who has changed nothing finds free is as it was committed.
 //!
 //! There are no pages here, no log and no table that runs: that is `im_engine_locks`. What runs are the words of a request and of its
 //! verdict. The crate stands on `im_base_types` alone.
@@ -24,7 +25,7 @@ mod lock_kind;
 mod verdict;
 mod worked;
 
-pub use isolated::{granted_changes_are_free, isolation, table_serves};
+pub use isolated::{free_reads_are_committed, granted_changes_are_free, isolation, table_serves};
 pub use lock_kind::{Duration, Mode};
 pub use verdict::Verdict;
 pub use worked::a_gap_that_was_read_stays;
