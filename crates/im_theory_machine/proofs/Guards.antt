@@ -24,7 +24,7 @@ not_true false h = refl
 pub from_false : (b : Bool) → b ≡ false → not b ≡ true
 from_false b e = rw e
 
-past_up : (s : Start) (x y : Key) → is_past s y ≡ true → is_below x y ≡ false → is_past s x ≡ true
+pub past_up : (s : Start) (x y : Key) → is_past s y ≡ true → is_below x y ≡ false → is_past s x ≡ true
 past_up (From k) x y h l = from_false _ (upto_trans k y x (not_true _ h) l)
 past_up (Above k) x y h l = below_before k y x h l
 

@@ -22,4 +22,9 @@ pub mod Callers
 pub mod Isolates
 pub mod Serving
 pub mod Changing
+pub mod Moved
+pub mod Overlays
+pub mod OverlaysBegun
+pub mod OverlaysMerged
+pub mod OverlaysTogether
 pub mod WorkedRuns

@@ -177,6 +177,9 @@ pub last-is : (k : Key) (m : IndexMap) → IsLast (get m) k (last_below k m)
 unfolding last_below
 last-is k m = last-agrees (lookup (entries m)) (get m) k (last_in k (entries m)) (last_in-is k (entries m) (entries_sorted m)) (λ x u. get-entries m x)
 
+pub last-by : (k : Key) (m : IndexMap) (o : Option (Key × ℕ)) → IsLast (get m) k o → last_below k m ≡ o
+last-by k m o h = last-unique (get m) k (last_below k m) o (last-is k m) h
+
 -- maps that agree on the keys that the last one below k rests on find the same
 pub last-same : (k : Key) (m n : IndexMap) → ((x : Key) → IsBetween (last_below k m) k x → get n x ≡ get m x) → last_below k n ≡ last_below k m
 last-same k m n same = last-unique (get n) k (last_below k n) (last_below k m) (last-is k n) (last-agrees (get m) (get n) k (last_below k m) (last-is k m) same)

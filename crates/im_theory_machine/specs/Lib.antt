@@ -7,4 +7,6 @@ pub mod Isolation
 pub mod Kept
 pub mod Serving
 pub mod Changing
+pub mod Overlays
+pub mod OverlayLaws
 pub mod Worked

@@ -16,6 +16,10 @@
 //! verdicts are the machine's three answers, and its releases the machine's.
 //! The contract of `free_reads_are_committed` says that what a reader who has changed nothing finds free is as it was committed.
 //!
+//! **Views of readers.** A reader may have one committed map for as long as it likes, beside whatever steps the machine makes: what a
+//! key was is noted before its first change since the view began, and the notes, laid over the walk, are that map (`IsOverlay`). The
+//! contract of `views_are_committed` says so of every step and of every run. No step of an engine makes use of it so far.
+//!
 //! There are no pages here, no log and no table that runs: that is `im_engine_locks`. What runs are the words of a request and of its
 //! verdict. The crate stands on `im_base_types` alone.
 #![tactic(auto)]
@@ -23,9 +27,11 @@
 mod isolated;
 mod lock_kind;
 mod verdict;
+mod views;
 mod worked;
 
 pub use isolated::{free_reads_are_committed, granted_changes_are_free, isolation, table_serves};
 pub use lock_kind::{Duration, Mode};
 pub use verdict::Verdict;
+pub use views::views_are_committed;
 pub use worked::a_gap_that_was_read_stays;
