@@ -6,8 +6,8 @@ use Rattle.im_base_types.specs.Maps.{IndexMap}
 use Rattle.im_base_types.specs.Changes.{Change, Put, Drop, Touches, apply, undone, key_of}
 use Rattle.im_base_types.specs.Answers.{Access, Fetch, Seek, Next, Prev, Scan, Insert, Delete, Step, Do, Reply, Mark, Going, changes, dropped, map_after}
 use Rattle.im_theory_machine.specs.Locks.{Lock}
-use Rattle.im_theory_machine.specs.View.{View, Txn, Under, of_others, idle, set_txn}
-use Rattle.im_theory_machine.specs.Machine.{Goes, Moves, Answers, barred, begins, does, waits, dies, commits, queues, drops, turns, undoes, ends, puts_later, puts, drops_first, drops_leaf, takes_later, takes_first, takes_leaf, takes_last, logs_page, tree_blocks, tree_halts, flushes, forces, checkpoints, switches, lacks, breaks}
+use Rattle.im_theory_machine.specs.View.{View, Txn, Under, of_others, idle, set_txn, marked, undid_more}
+use Rattle.im_theory_machine.specs.Machine.{Goes, Moves, Answers, barred, begins, does, waits, dies, commits, queues, drops, turns, undoes, ends, puts_later, puts, drops_first, drops_leaf, takes_later, takes_first, takes_leaf, takes_last, stays_back, turns_back, gives_back, is_back, leaf_is_back, logs_page, tree_blocks, tree_halts, flushes, forces, checkpoints, switches, lacks, breaks}
 use Rattle.im_theory_machine.specs.Overlays.{Alters, AsksChange, PutsLater}
 use Rattle.std.specs.Prelude.{◌==◌}
 use Rattle.im_theory_machine.proofs.Changes.{applied_off, undone_off}
@@ -35,7 +35,7 @@ abbrev pub Fewer : (ℕ → Txn) → ℕ → Txn → Type 0
 Fewer f s x = (y : Key) → Touches (x.net) y → Touches ((f s).net) y
 
 -- one transaction is set, whose net has nothing new
-fewer : (f : ℕ → Txn) (t : ℕ) (x : Txn) → Fewer f t x → (s : ℕ) → Fewer f s (set_txn f t x s)
+pub fewer : (f : ℕ → Txn) (t : ℕ) (x : Txn) → Fewer f t x → (s : ℕ) → Fewer f s (set_txn f t x s)
 fewer f t x h = by_txn (Fewer f) f t x h (λ s ne y touch. touch)
 
 abbrev More1 : (ℕ → Txn) → Key → ℕ → Txn → Type 0
@@ -96,9 +96,26 @@ undone_moved i v u t c x walk txns less touch = inr (key_of c, undone_most v u t
 set_moved : (i : Step) (v u : View) (t : ℕ) (x : Txn) → u.walk ≡ v.walk → ((s : ℕ) → u.txns s ≡ set_txn v.txns t x s) → Fewer v.txns t x → Moved i v u
 set_moved i v u t x walk txns less = inl (record { walk = walk; nets = λ s y touch. fewer v.txns t x less s y (subst (λ (z : Txn). Touches (z.net) y) (txns s) touch) })
 
+-- then one transaction gets another mark
+marked_moved : (i : Step) (v u : View) (t : ℕ) (m : Mark) → Moved i v u → Moved i v (marked u t m)
+marked_moved i v u t m moved = go moved
+  where
+    same : (s : ℕ) → Fewer u.txns s ((marked u t m).txns s)
+    same = fewer u.txns t (record (u.txns t) { mark = m }) (λ y touch. touch)
+
+    go : Moved i v u → Moved i v (marked u t m)
+    go (inl still) = inl (record { walk = still.walk; nets = λ s x touch. still.nets s x (same s x touch) })
+    go (inr (k, most, why)) = inr (k, record { only = most.only; nets = λ s x touch. most.nets s x (same s x touch) }, why)
+
 -- the walk and the nets stay
 stay_moved : (i : Step) (v u : View) → u.walk ≡ v.walk → ((s : ℕ) → (u.txns s).net ≡ (v.txns s).net) → Moved i v u
 stay_moved i v u walk same = inl (record { walk = walk; nets = λ s y touch. subst (λ (e : List Change). Touches e y) (same s) touch })
+
+taken_moved : (i : Step) (v : View) (t : ℕ) (c : Change) (cs : List Change) → (v.txns t).net ≡ c ∷ cs → Moved i v (undid_more v t c cs)
+taken_moved i v t c cs net =
+    undone_moved i v (undid_more v t c cs) t c (record (v.txns t) { net = cs }) refl (λ s. refl)
+    (λ y touch. subst (λ (n : List Change). Touches n y) (sym net) (inr touch))
+    (subst (λ (n : List Change). Touches n (key_of c)) (sym net) (inl refl))
 
 pub of_none : (f : ℕ → Txn) (t : ℕ) → Fewer f t idle
 of_none f t y touch = absurd touch
@@ -143,7 +160,7 @@ goes_moved v w step reply (commits t b is none d e) = moved_to step v _ w e (set
 goes_moved v w step reply (queues t c cs b is net d e) = moved_to step v _ w e (set_moved step v _ t _ refl (λ s. refl) (λ y touch. touch))
 goes_moved v w step reply (drops t b may net d e) = moved_to step v _ w e (set_moved step v _ t idle refl (λ s. refl) (of_none v.txns t))
 goes_moved v w step reply (turns t c cs b may net d e) = moved_to step v _ w e (set_moved step v _ t _ refl (λ s. refl) (λ y touch. touch))
-goes_moved v w step reply (undoes t c g cs b is net d e) = moved_to step v _ w e (undone_moved step v _ t c _ refl (λ s. refl) (λ y touch. subst (λ (n : List Change). Touches n y) (sym net) (inr touch)) (subst (λ (n : List Change). Touches n (key_of c)) (sym net) (inl refl)))
+goes_moved v w step reply (undoes t c g cs b is net d e) = moved_to step v _ w e (taken_moved step v t c (g ∷ cs) net)
 goes_moved v w step reply (ends t c b is net d e) = moved_to step v _ w e (undone_moved step v _ t c idle refl (λ s. refl) (of_none v.txns t) (subst (λ (n : List Change). Touches n (key_of c)) (sym net) (inl refl)))
 goes_moved v w step reply (puts_later t k r ls b is none absent free same d e) = moved_to step v _ w e (set_moved step v _ t _ refl (λ s. refl) (λ y touch. touch))
 goes_moved v w step reply (puts t k r b is under d e) = moved_to step v _ w e (did_moved step v _ t (Insert k r) ((v.txns t).locks) refl (λ s. refl) (λ c one. inr (inl (subst (λ (o : Option Under). PutsLater o (key_of c)) (sym under) (key_asked (Insert k r) v.walk c one)))))
@@ -153,6 +170,11 @@ goes_moved v w step reply (takes_later t c cs b is none net d e) = moved_to step
 goes_moved v w step reply (takes_first t c cs b is none net d e) = moved_to step v _ w e (undone_moved step v _ t c _ refl (λ s. refl) (λ y touch. subst (λ (n : List Change). Touches n y) (sym net) (inr touch)) (subst (λ (n : List Change). Touches n (key_of c)) (sym net) (inl refl)))
 goes_moved v w step reply (takes_leaf t c cs b is under net d e) = moved_to step v _ w e (stay_moved step v _ refl (λ s. refl))
 goes_moved v w step reply (takes_last t b is under net d e) = moved_to step v _ w e (set_moved step v _ t idle refl (λ s. refl) (of_none v.txns t))
+goes_moved v w step reply (stays_back t n b may few d e) = moved_to step v _ w e (set_moved step v _ t _ refl (λ s. refl) (λ y touch. touch))
+goes_moved v w step reply (turns_back t n b may more d e) = moved_to step v _ w e (set_moved step v _ t _ refl (λ s. refl) (λ y touch. touch))
+goes_moved v w step reply (gives_back t n c cs b is net left d e) = moved_to step v _ w e (taken_moved step v t c cs net)
+goes_moved v w step reply (is_back t n c cs b is net none d e) = moved_to step v _ w e (marked_moved step v _ t Going (taken_moved step v t c cs net))
+goes_moved v w step reply (leaf_is_back t n b is under left d e) = moved_to step v _ w e (set_moved step v _ t _ refl (λ s. refl) (λ y touch. touch))
 goes_moved v w step reply (logs_page t u b under owner d e) = moved_to step v _ w e (stay_moved step v _ refl (λ s. refl))
 goes_moved v w step reply (tree_blocks t a u b under ne d e) = moved_to step v _ w e (stay_moved step v _ refl (λ s. refl))
 goes_moved v w step reply (tree_halts t u b under ne d e) = moved_to step v _ w e (stay_moved step v _ refl (λ s. refl))
@@ -209,6 +231,11 @@ goes_later v w step reply (takes_later t c cs b is none net d e) = later_to step
 goes_later v w step reply (takes_first t c cs b is none net d e) = later_to step v _ w e (λ x h. absurd h)
 goes_later v w step reply (takes_leaf t c cs b is under net d e) = later_to step v _ w e (λ x h. absurd h)
 goes_later v w step reply (takes_last t b is under net d e) = later_to step v _ w e (λ x h. absurd h)
+goes_later v w step reply (stays_back t n b may few d e) = later_to step v _ w e (λ x h. inl h)
+goes_later v w step reply (turns_back t n b may more d e) = later_to step v _ w e (λ x h. inl h)
+goes_later v w step reply (gives_back t n c cs b is net left d e) = later_to step v _ w e (λ x h. inl (put_of_others t v.under x h))
+goes_later v w step reply (is_back t n c cs b is net none d e) = later_to step v _ w e (λ x h. inl (put_of_others t v.under x h))
+goes_later v w step reply (leaf_is_back t n b is under left d e) = later_to step v _ w e (λ x h. absurd h)
 goes_later v w step reply (logs_page t u b under owner d e) = later_to step v _ w e (λ x h. inl h)
 goes_later v w step reply (tree_blocks t a u b under ne d e) = later_to step v _ w e (λ x h. inl h)
 goes_later v w step reply (tree_halts t u b under ne d e) = later_to step v _ w e (λ x h. inl h)

@@ -4,8 +4,8 @@ use Rattle.std.specs.FinMap.{get}
 use Rattle.im_base_types.specs.Keys.{Key}
 use Rattle.im_base_types.specs.Maps.{IndexMap}
 use Rattle.im_base_types.specs.Changes.{Change, Touches, key_of, undone}
-use Rattle.im_base_types.specs.Answers.{Step, answer}
-use Rattle.im_theory_machine.specs.View.{View, Txn, idle, set_txn, undid_more, undid_last}
+use Rattle.im_base_types.specs.Answers.{Step, Mark, Going, answer}
+use Rattle.im_theory_machine.specs.View.{View, Txn, idle, set_txn, marked, undid_more, undid_last}
 use Rattle.im_theory_machine.specs.Machine.{IsReached}
 use Rattle.im_theory_machine.specs.Isolation.{IsTogether}
 use Rattle.im_theory_machine.proofs.Order.{same_key}
@@ -13,7 +13,7 @@ use Rattle.im_theory_machine.proofs.Changes.{same_maps, get-insert_at, get-inser
 use Rattle.im_theory_machine.proofs.Cited.{isolates}
 use Rattle.im_theory_machine.specs.Overlays.{Overlay, put_back, laid, Has, IsOverlay, IsNoted, NotesOne, SaysOf}
 use Rattle.im_theory_machine.specs.OverlayLaws.{StepsKeep, AskedIsEnough, UndosKeep, RunsKeep, NotesKeep, Begins, Serves, ReadsMap, ReadsKey, Chains, Joins}
-use Rattle.im_theory_machine.proofs.Moved.{Still, AtMost, Moved, moves_moved, moves_later, undone_most, of_none, Fewer}
+use Rattle.im_theory_machine.proofs.Moved.{Still, AtMost, Moved, moves_moved, moves_later, undone_most, of_none, Fewer, fewer}
 
 pub put_back_at : (m : IndexMap) (k : Key) (p : Option ℕ) → get (put_back m k p) k ≡ p
 put_back_at m k None = get-remove_at m k
@@ -126,10 +126,21 @@ module _ (m : IndexMap) (v u : View) (t : ℕ) (c : Change) (x : Txn) (o : Overl
   undo_keeps : Touches ((v.txns t).net) (key_of c) → IsOverlay m v o → IsOverlay m u o
   undo_keeps touch h = change_keeps m v u (key_of c) o (undone_most v u t c x walk txns less) (h.nets t (key_of c) touch) h
 
+undo_more : (m : IndexMap) (v : View) (t : ℕ) (c : Change) (cs : List Change) (o : Overlay) → (v.txns t).net ≡ c ∷ cs → IsOverlay m v o → IsOverlay m (undid_more v t c cs) o
+undo_more m v t c cs o net h =
+    undo_keeps m v (undid_more v t c cs) t c (record (v.txns t) { net = cs }) o refl (λ s. refl)
+    (λ y touch. subst (λ (n : List Change). Touches n y) (sym net) (inr touch))
+    (subst (λ (n : List Change). Touches n (key_of c)) (sym net) (inl refl))
+    h
+
+-- a mark is no change
+mark_keeps : (m : IndexMap) (v : View) (t : ℕ) (k : Mark) (o : Overlay) → IsOverlay m v o → IsOverlay m (marked v t k) o
+mark_keeps m v t k o h = record { is = h.is; nets = λ s x touch. h.nets s x (fewer v.txns t (record (v.txns t) { mark = k }) (λ y same. same) s x touch) }
+
 pub undos_keep : UndosKeep
 undos_keep = record {
-  more = λ m v t c cs o net h. undo_keeps m v (undid_more v t c cs) t c (record (v.txns t) { net = cs }) o refl (λ s. refl)
-      (λ y touch. subst (λ (n : List Change). Touches n y) (sym net) (inr touch)) (subst (λ (n : List Change). Touches n (key_of c)) (sym net) (inl refl)) h;
+  more = undo_more;
+  back = λ m v t c cs o net h. mark_keeps m (undid_more v t c cs) t Going o (undo_more m v t c cs o net h);
   last = λ m v t c o net h. undo_keeps m v (undid_last v t c) t c idle o refl (λ s. refl)
       (of_none v.txns t) (subst (λ (n : List Change). Touches n (key_of c)) (sym net) (inl refl)) h;
 }

@@ -5,8 +5,8 @@ use Rattle.im_base_types.specs.Keys.{Key}
 use Rattle.im_base_types.specs.Maps.{IndexMap, Start, Above, is_past, is_below, first, last_below}
 use Rattle.im_base_types.specs.Pages.{Entry}
 use Rattle.im_base_types.specs.Changes.{Change, Touches}
-use Rattle.im_base_types.specs.Answers.{Access, Step, Reply, answer, map_after_all}
-use Rattle.im_theory_machine.specs.View.{View, is_among, undid_more, undid_last}
+use Rattle.im_base_types.specs.Answers.{Access, Step, Reply, Going, answer, map_after_all}
+use Rattle.im_theory_machine.specs.View.{View, is_among, marked, undid_more, undid_last}
 use Rattle.im_theory_machine.specs.Machine.{Moves, Run, IsReached, start}
 use Rattle.im_theory_machine.specs.Isolation.{serial}
 use Rattle.im_theory_machine.specs.Overlays.{Overlay, laid, Has, IsOverlay, IsNoted, NotesOne, SaysOf, befores_all, IsNext, IsPrev, Lies, AreOverlays, through, oldest, NotesNewest, AsksChange, PutsLater}
@@ -15,9 +15,11 @@ use Rattle.im_theory_machine.specs.Overlays.{Overlay, laid, Has, IsOverlay, IsNo
 abbrev pub StepsKeep : Type 0
 StepsKeep = (m : IndexMap) (v w : View) (step : Step) (reply : Reply) (o : Overlay) → Moves v step reply w → IsOverlay m v o → (n : Overlay) × NotesOne v.walk o n × IsOverlay m w n
 
--- A rollback notes nothing: what it takes back was noted when it was made, or when the view began.
+-- A rollback notes nothing, nor does one who returns to its first changes: what is taken back was noted when it was made, or when the view began.
 pub record UndosKeep : Type 0 where
   pub more : (m : IndexMap) (v : View) (t : ℕ) (c : Change) (cs : List Change) (o : Overlay) → (v.txns t).net ≡ c ∷ cs → IsOverlay m v o → IsOverlay m (undid_more v t c cs) o
+  -- the last one of a return, after which it is going
+  pub back : (m : IndexMap) (v : View) (t : ℕ) (c : Change) (cs : List Change) (o : Overlay) → (v.txns t).net ≡ c ∷ cs → IsOverlay m v o → IsOverlay m (marked (undid_more v t c cs) t Going) o
   pub last : (m : IndexMap) (v : View) (t : ℕ) (c : Change) (o : Overlay) → (v.txns t).net ≡ c ∷ [] → IsOverlay m v o → IsOverlay m (undid_last v t c) o
 
 -- So it is of whole runs, however long.
