@@ -14,13 +14,13 @@ use Rattle.im_base_steps.specs.Replies.{is_full, lacks_memory}
 use Rattle.im_theory_store.specs.declared.store.Store.{Ghosts}
 use Rattle.im_front.specs.Held.{State, IsRun, waits_in, forces_in}
 use Rattle.im_front.specs.Traces.{trace_of}
-use Rattle.im_front.specs.Plain.{PlainState, seen_of, IsKeptFrom}
+use Rattle.im_front.specs.Locked.{LockedState, seen_of, IsKeptFrom}
 use Rattle.im_front.specs.Acknowledged.{point_of, point_in, IsHeld, IsLast, IsNotAcknowledged, IsNotForced, IsStepOf}
 use Rattle.im_front.specs.Writing.{IsUnmade}
 use Rattle.im_front.proofs.Growing.{seen_of-push}
 
 module _ {E : Type 0} (d : Ghosts E) where
-  pub held_plain : (s : PlainState E) → (d.tells → IsKeptFrom d.life d.leaves s.trace s.engine) → s.forces ≡ forces_in (seen_of s.trace)
+  pub held_plain : (s : LockedState E) → (d.tells → IsKeptFrom d.life d.leaves s.trace s.engine) → s.forces ≡ forces_in (seen_of s.trace)
       → (s.waiting ≡ waits_in 0 (seen_of s.trace)) × (s.waiting ≡ d.waiting s.engine) → IsHeld d (point_of s)
   held_plain s kept counted waits = record { run = λ tells. let k = kept tells in (k.base, k.run); counted = omega (arith, counted); waits = waits }
 
@@ -29,7 +29,7 @@ module _ {E : Type 0} (d : Ghosts E) where
   held_whole s run counted waits = record { run = λ tells. (s.base, run tells); counted = counted; waits = waits }
 
   -- the Commit that was answered More is the last step
-  pub last_plain : (t : ℕ) (s : PlainState E) (older : List (Step × Reply)) (reply : Reply) → IsHeld d (point_of s) → s.trace ≡ older ++ (steps.Commit t, reply) ∷ []
+  pub last_plain : (t : ℕ) (s : LockedState E) (older : List (Step × Reply)) (reply : Reply) → IsHeld d (point_of s) → s.trace ≡ older ++ (steps.Commit t, reply) ∷ []
       → told_by reply ≡ answers.More → IsLast d t (point_of s)
   last_plain t s older reply held trace more = record {
     held = held;

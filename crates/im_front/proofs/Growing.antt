@@ -10,7 +10,7 @@ use Rattle.im_base_steps.specs.Calls.{asked_by, told_by}
 use Rattle.im_front.specs.Events.{shown_in}
 use Rattle.im_theory_store.specs.Store.{IsAlive}
 use Rattle.im_front.specs.Held.{force_of, forces_in}
-use Rattle.im_front.specs.Plain.{seen_of, StandsFrom, IsKeptFrom}
+use Rattle.im_front.specs.Locked.{seen_of, StandsFrom, IsKeptFrom}
 use Rattle.im_front.proofs.Steps.{run_of}
 
 pub seen_of-push : (l : List (Step × Reply)) (step : Step) (reply : Reply) → seen_of (l ++ (step, reply) ∷ []) ≡ seen_of l ++ (asked_by step, told_by reply) ∷ []

@@ -12,7 +12,7 @@ use Rattle.im_base_steps.specs.Calls.{told_by}
 use Rattle.im_theory_store.specs.declared.store.Store.{Ghosts}
 use Rattle.im_front.specs.Traces.{trace_of}
 use Rattle.im_front.specs.Held.{State, IsRun, waits_in, forces_in}
-use Rattle.im_front.specs.Plain.{PlainState, seen_of}
+use Rattle.im_front.specs.Locked.{LockedState, seen_of}
 
 -- The value behind a lock, whichever front it is of: the engine, the trace as the definitions know it, and how many wait for a force.
 pub record Point (E : Type 0) : Type 0 where
@@ -23,7 +23,7 @@ pub record Point (E : Type 0) : Type 0 where
   pub forces : ℕ
   pub forced : ℕ
 
-abbrev pub point_of : {E : Type 0} → PlainState E → Point E
+abbrev pub point_of : {E : Type 0} → LockedState E → Point E
 point_of s = record { engine = s.engine; seen = seen_of s.trace; waiting = s.waiting; forces = s.forces; forced = 0 }
 
 abbrev pub point_in : {E : Type 0} → State E → Point E

@@ -2,7 +2,7 @@ pub mod Acknowledged
 pub mod Events
 pub mod Held
 pub mod Line
-pub mod Plain
+pub mod Locked
 pub mod Traces
 pub mod Writing
 pub mod Cuts

@@ -1,4 +1,4 @@
-//! A front that keeps its trace for proofs alone, and hands its callers no parts of a ledger: nobody has to pick one.
+//! The front of programs. It keeps its trace for proofs alone, and its callers need no parts of a ledger.
 
 ghost use Rattle.std.specs.Prelude.{◌≡◌, ◌<◌, ◌≤◌, ◌^◌, ◌+◌, ◌↔◌, true, false, [], ◌∷◌, ◌++◌, length, Err, IfOk, IfErr, OnErr};
 ghost use Rattle.std.specs.List.{All};
@@ -10,7 +10,7 @@ ghost use Rattle.im_base_steps.specs.Calls.{told_by, is_blocked};
 ghost use Rattle.im_front.specs.Traces.{counts_of};
 ghost use Rattle.im_base_steps.specs.Replies.{is_full, IsReply};
 ghost use Rattle.im_front.specs.Held.{IsCounted, waits_in, forces_in};
-ghost use Rattle.im_front.specs.Plain.{none, seen_of, GoesOn, IsKeptFrom};
+ghost use Rattle.im_front.specs.Locked.{none, seen_of, GoesOn, IsKeptFrom};
 ghost use Rattle.im_front.specs.Acknowledged.{IsAcknowledged, IsForced, IsNotAcknowledged, IsNotForced, IsSettled, IsStepOf};
 
 use crate::callers::{Behind, Callers, Pace};
@@ -55,11 +55,11 @@ impl<E: Store> Model for Kept<E> {
     ghost use Rattle.crossbeam_utils.specs.Seq.{cell_view};
     ghost use Rattle.im_front_stats.specs.Counts.{writer};
     ghost use Rattle.im_front.specs.Held.{IsTallied, forces_in};
-    ghost use Rattle.im_front.specs.Plain.{PlainState, StandsFrom, none, seen_of};
+    ghost use Rattle.im_front.specs.Locked.{LockedState, StandsFrom, none, seen_of};
 
-    ghost Value = { PlainState E };
+    ghost Value = { LockedState E };
 
-    ghost view = { λ h. record { engine = h.engine; trace = h.trace.steps; counts = (cell_view h.pass).seen; waiting = h.waiting; forces = h.forces; handed = 0 } };
+    ghost view = { λ h. record { engine = h.engine; trace = h.trace.steps; counts = (cell_view h.pass).seen; waiting = h.waiting; forces = h.forces } };
 
     ghost invariant = { λ h. (E.tells → StandsFrom E.life h.trace.steps h.engine) × IsTallied (seen_of h.trace.steps) (E.actives h.engine) (E.waiting h.engine) 0 none h.counts × (h.made ≡ length h.trace.steps) × (h.pass.table_id ≡ (arc_value h.cell).table.shared.table_id) × (cell_view h.pass ≡ writer h.counts) × (h.waiting ≡ E.waiting h.engine) × (h.forces ≡ forces_in (seen_of h.trace.steps)) × (h.forces ≤ length h.trace.steps) };
 }
@@ -76,7 +76,7 @@ pub struct Left<E: Store> {
 }
 
 impl<E: Store> Kept<E> {
-    /// An engine at rest, with an empty trace. Refused `Memory`; engine and blank come back then.
+    /// An engine at rest, with an empty trace. Refused `Memory`; the engine comes back then.
     pub fn new(alloc: Global, at_rest: Rested<E>) -> Result<Kept<E>, (Fault, Rested<E>)>
         ensures ok { IfOk result (λ h. (h.engine ≡ at_rest) × (h.trace ≡ []) × (h.counts ≡ none)) }
         ensures err { IfErr result (λ e. (e.0 ≡ Memory) × (e.1 ≡ at_rest)) }
@@ -150,7 +150,7 @@ impl<E: Store> Kept<E> {
         at < self.forces
     }
 
-    /// Ends the front. There is a sum where as many shares came back as were handed out, and it is the number of all steps.
+    /// Ends the front.
     pub fn close(self) -> Left<E>
         ensures kept { E.tells → IsKeptFrom E.life E.leaves result.trace.steps result.engine }
         ensures replies { All (λ e. IsReply e.0 e.1) (seen_of result.trace.steps) }
@@ -291,7 +291,7 @@ pub struct Open<E: Store> {
 }
 
 impl<E: Store> Open<E> {
-    /// A front over an engine at rest. Refused `Memory`; engine and blank come back then.
+    /// A front over an engine at rest. Refused `Memory`; the engine comes back then.
     pub fn new(alloc: Global, at_rest: Rested<E>) -> Result<Open<E>, (Fault, Rested<E>)>
         ensures err { IfErr result (λ e. (e.0 ≡ Memory) × (e.1 ≡ at_rest)) }
     {
@@ -416,7 +416,7 @@ impl<E: Store> Open<E> {
         share.stats()
     }
 
-    /// Ends the front. There is a sum where as many shares came back as were handed out, and it is the number of all steps.
+    /// Ends the front.
     pub fn close(self) -> Left<E>
         ensures kept { E.tells → IsKeptFrom E.life E.leaves result.trace.steps result.engine }
         ensures replies { All (λ e. IsReply e.0 e.1) (seen_of result.trace.steps) }

@@ -5,11 +5,10 @@ use crate::memory::mapped;
 use crate::stores::fresh;
 use im_base_steps::{Reply, Step};
 use im_base_types::Fault;
-use im_front::{Open, Rested, Share, Shared, Stats, Work, serve};
+use im_front::{Open, Rested, Stats};
 use im_theory_store::Store;
 use std::alloc::Global;
 use std::sync::Wait;
-use std::sync::ledger::Ledger;
 use std::test::Fail;
 use std::thread::{Threads, join};
 
@@ -119,12 +118,6 @@ fn two_threads_share_an_open_front(rt: HostRuntime) -> Result<(), Fail> {
     Ok(())
 }
 
-// A key put in, and looked up so often, by one caller of a front that counts its steps.
-#[derive(Drop)]
-struct LookUps<'a> {
-    host: &'a HostRuntime,
-}
-
 // What came of it: how many look-ups found the key, and how many pages the process had mapped before them and after.
 #[derive(Drop)]
 struct Seen {
@@ -133,38 +126,32 @@ struct Seen {
     after: u64,
 }
 
-impl<'a, E: Store> Work<E> for LookUps<'a> {
-    type Out = Result<Seen, Fault>;
-
-    fn run<L: Ledger + Send + Sync, R: Threads + Wait + Sync>(
-        self,
-        rt: &R,
-        alloc: Global,
-        front: &Shared<E, L>,
-    ) -> (Result<Seen, Fault>, Vec<Share<L>>) {
-        let mut shares = Vec::new(alloc);
-        let mut mine = match front.share(rt) {
-            Ok(mine) => mine,
-            Err(fault) => return (Err(fault), shares),
-        };
-        let seen = watched(self.host, rt, alloc, front, &mut mine);
-        match shares.push(mine) {
-            Ok(()) => (seen, shares),
-            Err(_) => (Err(Fault::Memory), shares),
+// A key put in, and looked up so often.
+fn look_ups<E: Store, R: Wait>(rt: &R, alloc: Global, front: &Open<E>) -> Result<u64, Fault> {
+    let Reply::Started(t) = front.call(rt, Step::Begin) else {
+        return Err(Fault::Failed);
+    };
+    let _ = front.call(rt, Step::Insert(t, key_of(alloc, 1, 1)?, 7));
+    let mut found: u64 = 0;
+    for _ in 0..LOOK_UPS {
+        let key = key_of(alloc, 1, 1)?;
+        if matches!(front.call(rt, Step::Fetch(t, key)), Reply::Found(7)) {
+            found = found.saturating_add(1);
         }
     }
+    let _ = front.call(rt, Step::Commit(t));
+    Ok(found)
 }
 
 // The look-ups, between two looks at the memory of the process.
-fn watched<E: Store, L: Ledger, R: Wait>(
+fn watched<E: Store, R: Wait>(
     host: &HostRuntime,
     rt: &R,
     alloc: Global,
-    front: &Shared<E, L>,
-    mine: &mut Share<L>,
+    front: &Open<E>,
 ) -> Result<Seen, Fault> {
     let before = mapped(host)?;
-    let found = look_ups(rt, alloc, front, mine)?;
+    let found = look_ups(rt, alloc, front)?;
     let after = mapped(host)?;
     Ok(Seen {
         found,
@@ -173,42 +160,26 @@ fn watched<E: Store, L: Ledger, R: Wait>(
     })
 }
 
-fn look_ups<E: Store, L: Ledger, R: Wait>(
-    rt: &R,
-    alloc: Global,
-    front: &Shared<E, L>,
-    mine: &mut Share<L>,
-) -> Result<u64, Fault> {
-    let Reply::Started(t) = front.call(rt, mine, Step::Begin) else {
-        return Err(Fault::Failed);
-    };
-    let _ = front.call(rt, mine, Step::Insert(t, key_of(alloc, 1, 1)?, 7));
-    let mut found: u64 = 0;
-    for _ in 0..LOOK_UPS {
-        let key = key_of(alloc, 1, 1)?;
-        if matches!(front.call(rt, mine, Step::Fetch(t, key)), Reply::Found(7)) {
-            found = found.saturating_add(1);
-        }
-    }
-    let _ = front.call(rt, mine, Step::Commit(t));
-    Ok(found)
-}
-
-// The same over a store at rest: what was seen, and how many steps the front made, and its shares.
+// The same over a store at rest: what was seen, and how many steps the front made.
 fn looked_up<E: Store, R: Threads + Wait + Sync>(
     host: &HostRuntime,
     rt: &R,
     alloc: Global,
     at_rest: Rested<E>,
-) -> Result<(Seen, u64, Option<u64>), Fault> {
-    let (seen, ended) = serve(rt, alloc, at_rest, LookUps { host })?;
-    Ok((seen?, ended.made, ended.sum))
+) -> Result<(Seen, u64), Fault> {
+    let front = match Open::new(alloc, at_rest) {
+        Ok(front) => front,
+        Err((fault, _at_rest)) => return Err(fault),
+    };
+    let seen = watched(host, rt, alloc, &front);
+    let left = front.close();
+    Ok((seen?, left.made))
 }
 
 #[test]
 fn a_kept_trace_is_never_full_and_takes_no_memory(rt: HostRuntime) -> Result<(), Fail> {
     let at_rest = Rested::new(fresh(&rt, rt.alloc())?);
-    let (seen, made, sum) = looked_up(&rt, &rt, rt.alloc(), at_rest)?;
+    let (seen, made) = looked_up(&rt, &rt, rt.alloc(), at_rest)?;
     assert!(rt; seen.found == LOOK_UPS);
     assert!(rt;
         seen.after <= seen.before.saturating_add(MORE),
@@ -217,6 +188,5 @@ fn a_kept_trace_is_never_full_and_takes_no_memory(rt: HostRuntime) -> Result<(),
         seen.after
     );
     assert!(rt; made == LOOK_UPS + 3);
-    assert!(rt; sum == Some(LOOK_UPS + 3));
     Ok(())
 }

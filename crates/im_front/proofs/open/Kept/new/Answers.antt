@@ -4,7 +4,7 @@ use Rattle.std.specs.FinMap.{empty, entries}
 use Rattle.im_base_steps.specs.declared.step.Step.{Step}
 use Rattle.im_base_steps.specs.declared.reply.Reply.{Reply}
 use Rattle.im_front.specs.Held.{IsTallied, Stands}
-use Rattle.im_front.specs.Plain.{seen_of}
+use Rattle.im_front.specs.Locked.{seen_of}
 use Rattle.im_front.proofs.Steps.{stands_new, tallied_new, none_waiting}
 use Rattle.im_front.proofs.open.Kept.new.Goals as goal
 

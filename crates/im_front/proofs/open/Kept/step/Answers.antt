@@ -7,7 +7,7 @@ use Rattle.im_base_steps.specs.Calls.{asked_by, told_by, is_blocked}
 use Rattle.im_front.specs.Events.{shown_in}
 use Rattle.im_base_steps.specs.Replies.{is_full, waits_after}
 use Rattle.im_front.specs.Held.{IsTallied, Stands, after_reply, forces_in}
-use Rattle.im_front.specs.Plain.{PlainState, none, seen_of}
+use Rattle.im_front.specs.Locked.{LockedState, none, seen_of}
 use Rattle.im_front.proofs.Replies.{blocked_counts}
 use Rattle.im_front.proofs.Steps.{stands_push, stands_blocked, tallied_as, tallied_push}
 use Rattle.im_front.proofs.Growing.{alive_from, forces_push, seen_of-push}
@@ -35,7 +35,7 @@ invariant_of-self g c =
 
 pub returns-then-is_blocked-clause-run : goal.returns-then-is_blocked-clause-run
 returns-then-is_blocked-clause-run g c base was =
-    let h = subst (λ (s : PlainState g.row.E.Denot). Stands g.E.Store.life base (seen_of s.trace) s.engine) (sym c.self.view_is) was in
+    let h = subst (λ (s : LockedState g.row.E.Denot). Stands g.E.Store.life base (seen_of s.trace) s.engine) (sym c.self.view_is) was in
     let b : is_blocked (told_by c.step-reply.result) ≡ true = sym c.is_blocked.ensures ∙ c.if-is_blocked.true in
     let made = c.step-reply.ensures.kept h.before (shown_in nothing_shown h.events) h.view h.life_is in
     stands_blocked g.E.Store.life base (seen_of c.self.inside.trace.steps) c.self.inside.engine h c.step-reply.new.self (asked_by c.args.step.now) (told_by c.step-reply.result) made b
@@ -80,7 +80,7 @@ pub returns-clause-adds : goal.returns-clause-adds
 returns-clause-adds g c _ _ =
     let last : Step × Reply = (c.args.step.now, c.step-reply.result) in
     let grown : c.with.result.steps ≡ c.self.inside.trace.steps ++ last ∷ [] = c.with.ensures in
-    grown ∙ ap (λ (s : PlainState g.row.E.Denot). s.trace ++ last ∷ []) c.self.view_is
+    grown ∙ ap (λ (s : LockedState g.row.E.Denot). s.trace ++ last ∷ []) c.self.view_is
 
 pub returns-clause-blocked : goal.returns-clause-blocked
 returns-clause-blocked g c b = absurd (true≢false (sym b ∙ (sym c.is_blocked.ensures ∙ c.if-is_blocked.false)))
@@ -92,7 +92,7 @@ returns-clause-same g c f =
 
 pub returns-clause-run : goal.returns-clause-run
 returns-clause-run g c base was =
-    let h = subst (λ (s : PlainState g.row.E.Denot). Stands g.E.Store.life base (seen_of s.trace) s.engine) (sym c.self.view_is) was in
+    let h = subst (λ (s : LockedState g.row.E.Denot). Stands g.E.Store.life base (seen_of s.trace) s.engine) (sym c.self.view_is) was in
     let steps = c.self.inside.trace.steps in
     let last : Step × Reply = (c.args.step.now, c.step-reply.result) in
     let grown : c.with.result.steps ≡ steps ++ last ∷ [] = c.with.ensures in

@@ -1,5 +1,5 @@
 -- What lies under the lock of a front that keeps its trace for proofs alone.
-use Rattle.std.specs.Prelude.{◌≡◌, ℕ, ◌+◌, true, false, List, [], ◌∷◌, ◌++◌, map}
+use Rattle.std.specs.Prelude.{ℕ, List, [], ◌∷◌, map}
 use Rattle.im_base_types.specs.Pages.{Entry}
 use Rattle.im_base_types.specs.Answers as answers
 use Rattle.im_base_types.specs.Changes.{Effect}
@@ -7,12 +7,11 @@ use Rattle.im_base_types.specs.Lives.{Shown}
 use Rattle.im_theory_machine.specs.View.{View}
 use Rattle.im_base_steps.specs.declared.step.Step.{Step}
 use Rattle.im_base_steps.specs.declared.reply.Reply.{Reply}
-use Rattle.im_base_steps.specs.Calls.{asked_by, told_by, is_blocked}
-use Rattle.im_base_steps.specs.Replies.{is_full}
+use Rattle.im_base_steps.specs.Calls.{asked_by, told_by}
 use Rattle.im_front.specs.Held.{Stands, IsRun, StopKeeps}
 
 -- the value behind the lock, as contracts see it
-pub record PlainState (E : Type 0) : Type 0 where
+pub record LockedState (E : Type 0) : Type 0 where
   pub engine : E
   pub trace : List (Step × Reply)
   -- the counts that were written last to the cell of statistics
@@ -21,8 +20,6 @@ pub record PlainState (E : Type 0) : Type 0 where
   pub waiting : ℕ
   -- how many forces were made
   pub forces : ℕ
-  -- how many shares were handed out
-  pub handed : ℕ
 
 -- the counts of an empty trace
 abbrev pub none : List ℕ
@@ -32,30 +29,13 @@ none = 0 ∷ 0 ∷ 0 ∷ []
 abbrev pub seen_of : List (Step × Reply) → List (answers.Step × answers.Reply)
 seen_of = map (λ r. (asked_by r.0, told_by r.1))
 
-module _ {E : Type 0} (step : Step) (reply : Reply) (old new : PlainState E) (before after : ℕ) where
-  -- the step with its reply stands at the end of the trace, and is counted once
-  abbrev pub Grows : Type 0
-  Grows = (new.trace ≡ old.trace ++ (step, reply) ∷ []) × (after ≡ before + 1)
-
-  -- neither recorded nor counted
-  abbrev pub Halts : Type 0
-  Halts = (new.trace ≡ old.trace) × (after ≡ before)
-
-  -- A step under the lock: it is recorded with the reply that is answered, and counted in the share; not where it is Blocked or refused for a
-  -- full count. Where the count is full it is not made.
-  pub record Notes : Type 0 where
-    pub handed : new.handed ≡ old.handed
-    pub adds : is_blocked (told_by reply) ≡ false → is_full (told_by reply) ≡ false → Grows
-    pub blocked : is_blocked (told_by reply) ≡ true → Halts
-    pub full : is_full (told_by reply) ≡ true → Halts × (new.engine ≡ old.engine)
-
 module _ {E : Type 0} (life : List Effect → Shown → View → E → Type 0) where
   -- from some base entries the trace leads to a view of the engine
   abbrev pub StandsFrom : List (Step × Reply) → E → Type 0
   StandsFrom trace engine = (base : List Entry) × Stands life base (seen_of trace) engine
 
   -- from whatever base entries the old trace began, the new one begins
-  abbrev pub GoesOn : PlainState E → PlainState E → Type 0
+  abbrev pub GoesOn : LockedState E → LockedState E → Type 0
   GoesOn old new = (base : List Entry) → Stands life base (seen_of old.trace) old.engine → Stands life base (seen_of new.trace) new.engine
 
 -- From the same base entries the trace is a run that ends in a view of the engine, and a stop keeps what it acknowledged.
