@@ -150,7 +150,6 @@ module _ {D : Type 0} (d : Ghosts D) {b : Base} (before : List Effect) (s : Show
       undo = sym (is_at.1.undo ∙ ap (λ (n : ℕ). undo_next_of n r.now.log) is_at.0);
       unfinished = way.unfinished;
     };
-    forward = way.forward;
     free = λ c free one.
         granted_keys_free _ b r.now.log v t a c r.serving.reached r.serving.seen_by r.serving.works (is_at.2 ∙ ap mark_of mark)
         (free_in v old.locks t (asked a v.walk) r.serving.locks (subst (λ (m : IndexMap). locks.IsFree (locks_of old.locks) t (asked a m)) (sym walk_of) free))
@@ -181,7 +180,6 @@ module _ {D : Type 0} (d : Ghosts D) {b : Base} (before : List Effect) (s : Show
         others = λ u differ. on.1 u;
         newest = (on.1 t).last owned ∙ way.newest;
         unfinished = (on.1 t).finished ∙ way.unfinished;
-        forward = (on.1 t).rolling ∙ way.forward;
       }
 
   -- ---- the engine after a change

@@ -15,7 +15,7 @@ use Rattle.im_theory_log.specs.Histories.{Base, History, Rises, end_of}
 use Rattle.im_theory_log.specs.Lawful.{IsLawful, Follows, IsOutside}
 use Rattle.im_theory_log.specs.Structure.{open_smo}
 use Rattle.im_theory_log.proofs.Cited.{logs_stay_lawful, rises as rises_of}
-use Rattle.im_theory_log.specs.Transactions.{last_of, net, changes_of, is_finished, is_rolling_back}
+use Rattle.im_theory_log.specs.Transactions.{last_of, net, changes_of, is_finished}
 use Rattle.im_base_types.specs.Refusals.{memory, unfinished, too_many}
 use Rattle.im_base_types.specs.declared.fault.Fault.TheVariants.{Failed, LogFull, Device, NotAStore}
 use Rattle.im_theory_log.specs.Writer.{Writer}
@@ -76,7 +76,6 @@ commit_lawful b earlier before s v older rows next held t lsn row h found mark l
       may = record {
         no_undo_next = refl;
         outside = out;
-        not_rolling_back = ap (λ (n : ℕ). is_rolling_back n older) (sym is.0) ∙ is.1.forward (λ e. let never : Going ≡ RollingBack = sym mark ∙ e in cc);
       };
     } in
     logs_stay_lawful page_tree page_tree_laws b older newest law follows (λ e. absurd cc)

@@ -91,7 +91,6 @@ module _ {D : Type 0} (d : Ghosts D) (t : ℕ) (a : Access) (old : Engine D d) (
       pub may_edit_here : MayEditBeside d b r.base r.now r.redo_end t row.last row.undo_next a beside old.locks old.writer old.disk
       may_edit_here = record {
         going = goes_on;
-        forward = way_here.forward;
         told = told_here d before s v old r beside is;
         free = λ c free one.
             granted_keys_free _ b r.now.log v t a c r.serving.reached r.serving.seen_by r.serving.works (is_at.2 ∙ ap mark_of its_mark)

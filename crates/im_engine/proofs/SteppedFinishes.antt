@@ -13,7 +13,7 @@ use Rattle.im_base_disk.specs.declared.disk.Disk.{Ghosts}
 use Rattle.im_base_disk.specs.Disk.{Files}
 use Rattle.im_base_steps.specs.declared.reply.Reply.TheVariants as replies
 use Rattle.im_base_txn.specs.Rows.{changed, with_record}
-use Rattle.im_base_txn.specs.declared.transaction.Mark.TheVariants.{Going, RollingBack}
+use Rattle.im_base_txn.specs.declared.transaction.Mark.TheVariants.{Going}
 use Rattle.im_base_txn.specs.declared.transaction.Transaction.{Transaction}
 use Rattle.im_theory_log.specs.Histories.{Base, History}
 use Rattle.im_theory_log.specs.Lawful as lawful
@@ -61,7 +61,7 @@ use Rattle.im_engine.proofs.Running.{covered_stops}
 use Rattle.im_engine.proofs.SteppedEnds.{end_made, end_refused, going_mark}
 use Rattle.im_engine.proofs.Telling.{late_lost, log_lost}
 use Rattle.im_engine.proofs.SteppedMade.{left_by_edit, logged_made}
-use Rattle.im_engine.proofs.SteppedOwners.{OwnsRow, goes_here, owner_below, owner_forward, owner_row, view_has}
+use Rattle.im_engine.proofs.SteppedOwners.{OwnsRow, goes_here, owner_below, owner_row, view_has}
 use Rattle.im_engine.proofs.Looked.{not_true}
 
 never_failed : {D : Type 0} (d : Ghosts D) (v : PageWriter) (old : D) (w : PageWriter) (new : D) → v.failed ≡ false → (f : Fault) → LogEnds d false none_mild v old w new (Some f) → f ≡ Failed → ⊥
@@ -102,7 +102,6 @@ module _ {D : Type 0} (d : Ghosts D) (old new : Engine D d) (u : Under) (was : o
           over = r.over;
           goes = going.goes;
           to = record { way = puts.way; image = puts.image; is = puts.is; room = puts.room };
-          forward = owner_forward d before s v old r u was t refl (λ rolls. let clash : Going ≡ RollingBack = sym mark ∙ rolls in cc clash);
           free = free.1;
           absent = free.0;
         }

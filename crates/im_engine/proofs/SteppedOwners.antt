@@ -15,7 +15,6 @@ use Rattle.im_base_txn.specs.declared.transaction.Mark.TheVariants as marks
 use Rattle.im_base_txn.specs.declared.transaction.Transaction.{Transaction}
 use Rattle.im_base_txn.specs.Rows.{is_of}
 use Rattle.im_theory_log.specs.Histories.{Base}
-use Rattle.im_theory_log.specs.Transactions.{is_rolling_back}
 use Rattle.im_theory_machine.specs.View as views
 use Rattle.im_theory_machine.specs.View.{View, Txn, owner_in, owner_of}
 use Rattle.im_theory_steps.specs.Serving.{IsAt, IsRow, mark_of}
@@ -81,9 +80,6 @@ module _ {D : Type 0} (d : Ghosts D) {b : Base} (before : List Effect) (s : Show
 
   pub owner_below : t < old.txns.next
   owner_below = subst (λ (n : ℕ). n < old.txns.next) is_at.0 is_at.1.below
-
-  pub owner_forward : owner_row.row.mark ≢ marks.RollingBack → is_rolling_back t r.now.log ≡ false
-  owner_forward free = ap (λ (n : ℕ). is_rolling_back n r.now.log) (sym is_at.0) ∙ is_at.1.forward free
 
 -- what its Continue says of how it goes on
 pub paced_own : {D : Type 0} (d : Ghosts D) (old new : Engine D d) (u : Under) → old.under ≡ Some u → (t : ℕ) → u.begun.change.transaction ≡ t → (reply : Reply) → (told_by reply ≢ answers.BlockedTree) → IsRefusal reply ⊎ ((reply ≡ More) ⊎ EndsAs u.aim reply)

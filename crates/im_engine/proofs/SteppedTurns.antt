@@ -333,7 +333,6 @@ module _ {D : Type 0} (d : Ghosts D) (before : List Effect) (s : Shown) (v : Vie
             last = sym last_is ∙ ap (λ (n : ℕ). last_of n now.log) (sym row_its.0);
             undo = sym next_is ∙ ap (λ (n : ℕ). undo_next_of n now.log) (sym row_its.0);
             unfinished = ap (λ (n : ℕ). is_finished n now.log) row_its.0 ∙ taken.going.unfinished;
-            forward = λ not. absurd (not rolling);
             logged = λ some. inr (ap (λ (n : ℕ). Some n) (sym row_its.0));
           } in
           let w = with_change (undid_more v t c (net t now.log)) t views.TookBack in

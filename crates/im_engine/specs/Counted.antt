@@ -16,7 +16,8 @@ use Rattle.im_engine.specs.Stands.{StandsFor}
 use Rattle.im_engine.specs.Running.{IsLife}
 use Rattle.im_engine.specs.Kept.{OpenKept, StepKept, disk_of}
 
--- Each insert and each delete of a log is compensated at most once, not at all where its transaction has a Commit, and once where it has an End.
+-- Each insert and each delete of a log is compensated at most once: where its transaction has a Commit, not at all if it is part of what that committed, and once if it is not; once
+-- where it has an End.
 abbrev pub AreCompensated : History → Type 0
 AreCompensated log = (s : Logged) → IsRecordOf s log → is_key s.what ≡ true → IsCounted log s
 

@@ -12,9 +12,9 @@ ghost use Rattle.im_engine.specs.Lived.{AreLives, AreKept};
 
 use im_base_disk::Disk;
 
-/// In the log of whatever files are a store's, each insert and each delete is compensated at most once, not at all where its transaction
-/// has a Commit, and once where it has an End. So it is in what a stop leaves, between two steps, within one, or within an opening: no
-/// change is taken back twice, and none half. A law, and nothing that runs.
+/// In the log of whatever files are a store's, each insert and each delete is compensated at most once: where its transaction has a Commit,
+/// not at all if it is part of what that committed, and once if it is not; once where it has an End. So it is in what a stop leaves, between
+/// two steps, within one, or within an opening: no change is taken back twice, and none half. A law, and nothing that runs.
 pub fn changes_are_taken_back_once<D: Disk>()
     ensures files { FilesAreCounted }
     ensures lives { LivesAreCounted D.Disk }

@@ -15,7 +15,7 @@ use Rattle.im_theory_log.specs.Copies.{GrowsByImages}
 use Rattle.im_theory_log.specs.Lawful as lawful
 use Rattle.im_theory_log.specs.LogLaws as logs
 use Rattle.im_theory_log.specs.Structure.{open_smo}
-use Rattle.im_theory_log.specs.Transactions.{contents, is_rolling_back}
+use Rattle.im_theory_log.specs.Transactions.{contents}
 use Rattle.im_theory_log.specs.Writer.{Writer}
 use Rattle.im_theory_log.proofs.Histories.{front_self}
 use Rattle.im_base_disk.specs.declared.disk.Disk.{Ghosts}
@@ -216,12 +216,11 @@ module _ {D : Type 0} (d : Ghosts D) (b : Base) (base : ℕ) (s : Writer) (e t l
     unfinished_now = unfinished_images d b base s e t last undo_next v old u (owner_some t owner) ev.now w mid ev.on
 
     -- the key may be taken out there
-    pub may_take : (page : ℕ) → is_rolling_back t s.log ≡ false → lawful.IsFree t key s.log → IsOnWay (bodies s) 0 key page → MayTake d b base ev.now e t last undo_next page key rid w mid
-    may_take page forward free way =
+    pub may_take : (page : ℕ) → lawful.IsFree t key s.log → IsOnWay (bodies s) 0 key page → MayTake d b base ev.now e t last undo_next page key rid w mid
+    may_take page free way =
         let rest = unchanged b s.log ev.now.log ev.on.goes.keeps.log in
         record {
           unfinished = is_going_on d b base ev.now e t last undo_next w mid unfinished_now;
-          forward = (rest.1 t).rolling ∙ forward;
           free = λ n other theirs. free n other (subst (λ (c : Effect). Touches c key) (rest.0.nets n) theirs);
           there = ap (λ (m : IndexMap). get m key) rest.0.walk ∙ there;
           apart = none_open d b base ev.now e t last undo_next w mid unfinished_now page;
@@ -338,7 +337,7 @@ module _ {D : Type 0} (d : Ghosts D) (b : Base) (base : ℕ) (s : Writer) (e t l
         now_of = ev.now
 
         pub may_be_taken : MayTake d b base now_of e t last undo_next place.leaf.number key rid w mid
-        may_be_taken = may_take d b base s e t last undo_next v old may.unfinished owner key rid there w mid ev place.leaf.number may.forward free ours.place.leaf.way
+        may_be_taken = may_take d b base s e t last undo_next v old may.unfinished owner key rid there w mid ev place.leaf.number free ours.place.leaf.way
 
         -- where none is open still
         pub none_open_there : open_smo now_of.log ≡ []

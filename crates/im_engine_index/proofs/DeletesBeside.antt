@@ -83,7 +83,7 @@ module _ {D : Type 0} (d : Ghosts D) (b : Base) (base : ℕ) where
       takes = leaves_as (Takes page rid) is
 
       pub may_take_one : MayTake d b base from.now e t last undo_next page key rid w disk
-      may_take_one = may_take_on d b base s e t last undo_next may.start may.since may.going owner from.now w disk from.on may.forward key (may.free (some_there (contents b s.log) key rid takes.there)) page (may.told.apart page takes.apart) takes.way rid takes.there
+      may_take_one = may_take_on d b base s e t last undo_next may.start may.since may.going owner from.now w disk from.on key (may.free (some_there (contents b s.log) key rid takes.there)) page (may.told.apart page takes.apart) takes.way rid takes.there
 
       pub logs_taken : (lsn : ℕ) (x : PageWriter) (new : D) → KeyLogKept d b base from.now e t last page (DeleteKey key rid) disk x new (Ok lsn) → LeavingLogKept d b base s e t last key beside may.since x new (Ok (deleting.TheVariants.Taken lsn))
       logs_taken lsn x new kept = record {
@@ -104,7 +104,7 @@ module _ {D : Type 0} (d : Ghosts D) (b : Base) (base : ℕ) where
       empties = leaves_as (Empties page rid plan) is
 
       pub may_take_last : MayTake d b base from.now e t last undo_next page key rid w disk
-      may_take_last = may_take_on d b base s e t last undo_next may.start may.since may.going owner from.now w disk from.on may.forward key (may.free (some_there (contents b s.log) key rid empties.there)) page
+      may_take_last = may_take_on d b base s e t last undo_next may.start may.since may.going owner from.now w disk from.on key (may.free (some_there (contents b s.log) key rid empties.there)) page
           (subst (λ (l : History). IsNotIn page l) (sym (may.told.none empties.alone)) tt) empties.way rid empties.there
 
       pub logs_dropping : (lsn : ℕ) (x : PageWriter) (new : D) → KeyLogKept d b base from.now e t last page (DeleteKey key rid) disk x new (Ok lsn) → (begun : BegunChange) → (begun.change.images ≡ plan.images) × (begun.change.done ≡ 0)
@@ -176,7 +176,6 @@ module _ {D : Type 0} (d : Ghosts D) (b : Base) (base : ℕ) where
               start = v;
               since = old;
               going = may.going;
-              forward = may.forward;
               told = may.told;
               free = λ some. (let i = some_of (get (contents b s.log) key) some in may.free (Drop key i.0) decides.0 (ap (dropped key) i.1));
               calls = one;

@@ -1,5 +1,5 @@
 -- What an insert or a delete logs beside a structure change of another, and where it begins one of its own.
-use Rattle.std.proofs.Common.{◌≡◌, inl, inr, ◌≤◌, ℕ, Bool, true, false, List, [], ◌∷◌, length, None, Some, Option, sym, ◌∙◌, ap, subst, arith}
+use Rattle.std.proofs.Common.{◌≡◌, inl, inr, ◌≤◌, ℕ, Bool, true, List, [], ◌∷◌, length, None, Some, Option, sym, ◌∙◌, ap, subst, arith}
 use Rattle.std.specs.Prelude.{not, cond, ◌==◌}
 use Rattle.std.specs.Ordering.{eq_by_cmp}
 use Rattle.std.specs.FinMap.{get}
@@ -17,7 +17,7 @@ use Rattle.im_theory_log.specs.Histories.{Base, History}
 use Rattle.im_theory_log.specs.Lawful.{IsNotIn, IsOutside}
 use Rattle.im_theory_log.specs.Lawful as lawful
 use Rattle.im_theory_log.specs.Structure.{open_smo, settled}
-use Rattle.im_theory_log.specs.Transactions.{contents, is_rolling_back}
+use Rattle.im_theory_log.specs.Transactions.{contents}
 use Rattle.im_theory_log.specs.Tree.{with_entries}
 use Rattle.im_theory_log.specs.Writer.{Writer}
 use Rattle.im_base_disk.specs.declared.disk.Disk.{Ghosts}
@@ -108,7 +108,7 @@ module _ {D : Type 0} (d : Ghosts D) (b : Base) (base : ℕ) (s : Writer) (e t l
     pub left_on : {m : Fault → Bool} → Ends d AreLoaded m v old w disk None → (new : D) → LeavesEdit d b base now t disk new → LeavesEdit d b base s t old new
     left_on {m} one new stops = edit_then d b base s now t old disk new (grows_within t s.log now.log (images_as_change b t s.log now.log images)) on.goes.keeps.durable (going_left one) stops
 
-    module _ (forward : is_rolling_back t s.log ≡ false) (key : Key) (free : lawful.IsFree t key s.log) (page : ℕ) (apart : IsNotIn page (open_smo s.log)) (way : IsOnWay (settled b s.log) 0 key page) where
+    module _ (key : Key) (free : lawful.IsFree t key s.log) (page : ℕ) (apart : IsNotIn page (open_smo s.log)) (way : IsOnWay (settled b s.log) 0 key page) where
       free_on : lawful.IsFree t key now.log
       free_on = λ n other theirs. free n other (subst (λ (c : Effect). Touches c key) ((unchanged b s.log now.log images).0.nets n) theirs)
 
@@ -118,7 +118,6 @@ module _ {D : Type 0} (d : Ghosts D) (b : Base) (base : ℕ) (s : Writer) (e t l
       pub may_put_on : get (contents b s.log) key ≡ None → HasRoom true (settled b s.log page).entries (key, 0) → MayPut d b base now e t last undo_next page key w disk
       may_put_on absent room = record {
         unfinished = going_on;
-        forward = ((unchanged b s.log now.log images).1 t).rolling ∙ forward;
         free = free_on;
         absent = get_on ∙ absent;
         apart = subst (λ (l : History). IsNotIn page l) (sym opened) apart;
@@ -129,7 +128,6 @@ module _ {D : Type 0} (d : Ghosts D) (b : Base) (base : ℕ) (s : Writer) (e t l
       pub may_take_on : (rid : ℕ) → get (contents b s.log) key ≡ Some rid → MayTake d b base now e t last undo_next page key rid w disk
       may_take_on rid there = record {
         unfinished = going_on;
-        forward = ((unchanged b s.log now.log images).1 t).rolling ∙ forward;
         free = free_on;
         there = get_on ∙ there;
         apart = subst (λ (l : History). IsNotIn page l) (sym opened) apart;

@@ -157,7 +157,6 @@ module _ {D : Type 0} (d : Ghosts D) (b : Base) (base : ℕ) where
     pub may_put : (page : ℕ) → IsOnWay (bodies to.made.now) 0 key page → HasRoom true (bodies to.made.now page).entries (key, 0) → MayPut d b base to.made.now e t last undo_next page key w disk
     may_put page way room = record {
       unfinished = is_going_on d b base to.made.now e t last undo_next w disk to.made.stands;
-      forward = stays.rolling ∙ to.forward;
       free = λ n other theirs. to.free n other (subst (λ (c : Effect). Touches c key) (stays.stays.nets n) theirs);
       absent = ap (λ (m : IndexMap). get m key) stays.stays.walk ∙ to.absent;
       apart = none_open d b base to.made.now e t last undo_next w disk to.made.stands page;
@@ -219,7 +218,6 @@ module _ {D : Type 0} (d : Ghosts D) (b : Base) (base : ℕ) where
       abbrev pub comes_first : ComesTo d b base s e t last undo_next key max w disk
       comes_first = record {
         since = may.since;
-        forward = may.forward;
         free = may.free;
         absent = may.absent;
         made = images_made d b base s e t last undo_next may.start may.since may.unfinished (owner_some t owner) at.now w disk at.on;
@@ -245,7 +243,6 @@ module _ {D : Type 0} (d : Ghosts D) (b : Base) (base : ℕ) where
       start = may.start;
       since = may.since;
       unfinished = may.unfinished;
-      forward = may.forward;
       free = may.free;
       absent = may.absent;
       calls = may.calls;
@@ -296,7 +293,6 @@ module _ {D : Type 0} (d : Ghosts D) (b : Base) (base : ℕ) where
           let before = from.on.goes.keeps.log in
           record {
             since = may.since;
-            forward = may.forward;
             free = may.free;
             absent = may.absent;
             made = record {

@@ -166,7 +166,7 @@ module _ {D : Type 0} (d : Ghosts D) (b : Base) (base : ℕ) where
       fits = comes_as (Fits page) is
 
       pub may_put_fits : MayPut d b base from.now e t last undo_next page key w disk
-      may_put_fits = may_put_on d b base s e t last undo_next may.start may.since may.going owner from.now w disk from.on may.forward key (may.free page is) page (may.told.apart page fits.apart) fits.way fits.absent fits.room
+      may_put_fits = may_put_on d b base s e t last undo_next may.start may.since may.going owner from.now w disk from.on key (may.free page is) page (may.told.apart page fits.apart) fits.way fits.absent fits.room
 
       behind : (new : D) → LeavesEdit d b base from.now t disk new → LeavesEdit d b base s t may.since new
       behind new stops = left_on d b base s e t last undo_next may.start may.since may.going owner from.now w disk from.on may.calls new stops
@@ -309,7 +309,6 @@ module _ {D : Type 0} (d : Ghosts D) (b : Base) (base : ℕ) where
               start = v;
               since = old;
               going = may.going;
-              forward = may.forward;
               told = may.told;
               free = λ page is. may.free (Put key rid) (asks_as (Fits page) is).0 (ap (λ (o : Option ℕ). cond (is_some o) [] (Put key rid ∷ [])) (comes_known (Fits page) is).absent);
               calls = one;

@@ -17,7 +17,7 @@ use Rattle.im_theory_log.specs.Lawful.{Follows, IsLawful, IsOutside, IsNotIn}
 use Rattle.im_theory_log.specs.Lawful as lawful
 use Rattle.im_theory_log.specs.LogLaws as logs
 use Rattle.im_theory_log.specs.Structure.{open_smo, settled, taken_back}
-use Rattle.im_theory_log.specs.Transactions.{contents, is_end, is_finished, is_rolling_back, last_of, undo_from, undo_next_of}
+use Rattle.im_theory_log.specs.Transactions.{contents, is_end, is_finished, last_of, undo_from, undo_next_of}
 use Rattle.im_theory_log.specs.Writer.{Writer, WriterKept}
 use Rattle.im_theory_log.proofs.Cited.{has_tree, images_pages, logs_stay_lawful, reached_end, left_alone}
 use Rattle.im_base_types.proofs.Maps.{sorted_find}
@@ -99,7 +99,7 @@ module _ (b : Base) (log : History) (law : IsLawful b page_tree log) where
     pub walk_is : walk (logs.bodies b log) ≡ entries (contents b log)
     walk_is = ap walk (sym settled_is) ∙ settled_walk
 
-  module _ (t last lsn page : ℕ) (owner : 1 ≤ t) (newest : last_of t log ≡ last) (unfinished : is_finished t log ≡ false) (forward : is_rolling_back t log ≡ false) (rises : end_of b log < lsn)
+  module _ (t last lsn page : ℕ) (owner : 1 ≤ t) (newest : last_of t log ≡ last) (unfinished : is_finished t log ≡ false) (rises : end_of b log < lsn)
       (outside : IsOutside t (open_smo log)) (apart : IsNotIn page (open_smo log)) where
     -- a key comes
     lawful_insert : (k : Key) (i : ℕ) → lawful.IsFree t k log → get (contents b log) k ≡ None → CanPutInto (settled b log) page k i → IsLawful b page_tree (key_record t last lsn page (InsertWhat k i) ∷ log)
@@ -111,7 +111,6 @@ module _ (b : Base) (log : History) (law : IsLawful b page_tree log) where
           may = record {
             no_undo_next = refl;
             outside = outside;
-            not_rolling_back = forward;
             free = free;
             absent = absent;
             can_put = can;
@@ -130,7 +129,6 @@ module _ (b : Base) (log : History) (law : IsLawful b page_tree log) where
           may = record {
             no_undo_next = refl;
             outside = outside;
-            not_rolling_back = forward;
             free = free;
             there = there;
             can_drop = can;
@@ -256,7 +254,7 @@ module _ {D : Type 0} (d : Ghosts D) (b : Base) (base : ℕ) where
                 stands = record {
                   stands = from.logged.stands;
                   over = from.keeps.redo_end ∙ u.over;
-                  lawful = lawful_insert b log (images_lawful b s.log log by u.lawful) t last lsn page owner ((rest.1 t).last owner ∙ u.newest) unfinished ((rest.1 t).rolling ∙ may.forward) from.logged.high outside apart key rid
+                  lawful = lawful_insert b log (images_lawful b s.log log by u.lawful) t last lsn page owner ((rest.1 t).last owner ∙ u.newest) unfinished from.logged.high outside apart key rid
                       (λ n other theirs. may.free n other (subst (λ (c : Effect). Touches c key) (rest.0.nets n) theirs))
                       (ap (λ (m : IndexMap). get m key) rest.0.walk ∙ may.absent)
                       (subst (λ (f : Pages). CanPutInto f page key rid) (sym (settled_longer b s.log log by)) can);
@@ -301,7 +299,7 @@ module _ {D : Type 0} (d : Ghosts D) (b : Base) (base : ℕ) where
                 stands = record {
                   stands = from.logged.stands;
                   over = from.keeps.redo_end ∙ u.over;
-                  lawful = lawful_delete b log (images_lawful b s.log log by u.lawful) t last lsn page owner ((rest.1 t).last owner ∙ u.newest) unfinished ((rest.1 t).rolling ∙ may.forward) from.logged.high outside apart key rid
+                  lawful = lawful_delete b log (images_lawful b s.log log by u.lawful) t last lsn page owner ((rest.1 t).last owner ∙ u.newest) unfinished from.logged.high outside apart key rid
                       (λ n other theirs. may.free n other (subst (λ (c : Effect). Touches c key) (rest.0.nets n) theirs))
                       (ap (λ (m : IndexMap). get m key) rest.0.walk ∙ may.there)
                       (subst (λ (f : Pages). CanDropFrom f page key rid) (sym (settled_longer b s.log log by)) can);

@@ -251,7 +251,6 @@ module _ {D : Type 0} (d : Ghosts D) (b : Base) (base : ℕ) (s : Writer) (e : �
         undo = shut.undo;
         unfinished = stays.finished ∙ may.goes.unfinished;
       };
-      forward = stays.rolling ∙ may.forward;
       free = λ n other theirs. may.free n other (subst (λ (c : Effect). Touches c key) (stays.stays.nets n) theirs);
       absent = ap (λ (m : IndexMap). get m key) stays.stays.walk ∙ may.absent;
       apart = subst (λ (l : History). IsNotIn page l) (sym shut.closed) tt;

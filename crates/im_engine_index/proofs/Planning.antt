@@ -246,7 +246,6 @@ module _ {D : Type 0} (d : Ghosts D) (b : Base) (base : ℕ) (s : Writer) (e t l
           start = v;
           since = old;
           unfinished = may.unfinished;
-          forward = may.forward;
           free = may.free (Put key rid) decided.0 one_change;
           absent = absent;
           calls = one;

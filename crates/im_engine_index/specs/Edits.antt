@@ -11,7 +11,7 @@ use Rattle.im_theory_log.specs.Histories.{Base, History, IsFront}
 use Rattle.im_theory_log.specs.Copies.{GrowsByImages}
 use Rattle.im_theory_log.specs.Lawful as lawful
 use Rattle.im_theory_log.specs.LogLaws as logs
-use Rattle.im_theory_log.specs.Transactions.{contents, is_rolling_back}
+use Rattle.im_theory_log.specs.Transactions.{contents}
 use Rattle.im_theory_log.specs.Writer.{Writer}
 use Rattle.im_base_disk.specs.declared.disk.Disk.{Ghosts}
 use Rattle.im_page_writer.specs.declared.page_writer.PageWriter.{PageWriter}
@@ -59,10 +59,9 @@ abbrev pub IsLimited : Pages → Key → ℕ → Type 0
 IsLimited pages key max = LacksRoomFor pages key → IsWithin pages key max ⊎ IsUsedUp pages key
 
 module _ {D : Type 0} (d : Ghosts D) (b : Base) (base : ℕ) where
-  -- The transaction may log a change: it is not finished, and takes nothing back; and where it is granted the locks of this access, no other net has the key.
+  -- The transaction may log a change: it is not finished; and where it is granted the locks of this access, no other net has the key.
   pub record MayEdit (s : Writer) (e t last undo_next : ℕ) (a : Access) (held : Table) (w : PageWriter) (disk : D) : Type 0 where
     pub unfinished : IsUnfinished d b base s e t last undo_next w disk
-    pub forward : is_rolling_back t s.log ≡ false
     pub free : (c : Change) → IsFree (locks_of held) t (asked a (contents b s.log)) → changes a (contents b s.log) ≡ c ∷ [] → lawful.IsFree t (key_of c) s.log
 
   -- ---- a key that comes

@@ -12,7 +12,7 @@ use Rattle.im_theory_log.specs.Copies.{GrowsByImages}
 use Rattle.im_theory_log.specs.Histories.{Base, History, IsFront}
 use Rattle.im_theory_log.specs.Lawful as lawful
 use Rattle.im_theory_log.specs.Structure.{open_smo, settled}
-use Rattle.im_theory_log.specs.Transactions.{contents, is_rolling_back}
+use Rattle.im_theory_log.specs.Transactions.{contents}
 use Rattle.im_theory_log.specs.Writer.{Writer}
 use Rattle.im_base_disk.specs.declared.disk.Disk.{Ghosts}
 use Rattle.im_page_writer.specs.declared.page_writer.PageWriter.{PageWriter}
@@ -76,10 +76,9 @@ IsAskedFor b s t key rid table new (Put lsn) = Decides table t (asked (Insert ke
 IsAskedFor b s t key rid table new (Split begun leaf) = Decides table t (asked_begun key (contents b s.log)) GrantedAll new
 
 module _ {D : Type 0} (d : Ghosts D) (b : Base) (base : ℕ) where
-  -- The transaction may log a change: it is not finished, and takes nothing back; what it is told of a change beside is what the log has; and where it is granted the locks of this access, no other net has the key.
+  -- The transaction may log a change: it is not finished; what it is told of a change beside is what the log has; and where it is granted the locks of this access, no other net has the key.
   pub record MayEditBeside (s : Writer) (e t last undo_next : ℕ) (a : Access) (beside : Beside) (table : Table) (w : PageWriter) (disk : D) : Type 0 where
     pub going : IsGoingOn d b base s e t last undo_next w disk
-    pub forward : is_rolling_back t s.log ≡ false
     pub told : IsToldOf b beside s.log
     pub free : (c : Change) → IsFree (locks_of table) t (asked a (contents b s.log)) → changes a (contents b s.log) ≡ c ∷ [] → lawful.IsFree t (key_of c) s.log
 
@@ -149,7 +148,6 @@ module _ {D : Type 0} (d : Ghosts D) (b : Base) (base : ℕ) where
     pub start : PageWriter
     pub since : D
     pub going : IsGoingOn d b base s e t last undo_next start since
-    pub forward : is_rolling_back t s.log ≡ false
     pub told : IsToldOf b beside s.log
     pub free : (page : ℕ) → coming ≡ Fits page → lawful.IsFree t key s.log
     pub calls : Ends d AreLoaded (mild_to_split (Some max)) start since w disk None
@@ -172,13 +170,12 @@ module _ {D : Type 0} (d : Ghosts D) (b : Base) (base : ℕ) where
 
   -- ---- the end of an insert whose leaf was split first
 
-  -- All pages of the transaction's change are logged, and its key goes into this leaf after it; the transaction takes nothing back, no other net has the key, and the tree lacks it.
+  -- All pages of the transaction's change are logged, and its key goes into this leaf after it; no other net has the key, and the tree lacks it.
   pub record MayEnd (s : Writer) (e : ℕ) (change : Structure) (page : ℕ) (key : Key) (w : PageWriter) (disk : D) : Type 0 where
     pub stands : StandsAs d b base s w disk
     pub over : s.redo_end ≡ Some e
     pub goes : Goes b change s.log
     pub to : KeyGoesTo b s.log change.images key page
-    pub forward : is_rolling_back change.transaction s.log ≡ false
     pub free : lawful.IsFree change.transaction key s.log
     pub absent : get (contents b s.log) key ≡ None
 
@@ -250,7 +247,6 @@ module _ {D : Type 0} (d : Ghosts D) (b : Base) (base : ℕ) where
     pub start : PageWriter
     pub since : D
     pub going : IsGoingOn d b base s e t last undo_next start since
-    pub forward : is_rolling_back t s.log ≡ false
     pub told : IsToldOf b beside s.log
     pub free : get (contents b s.log) key ≢ None → lawful.IsFree t key s.log
     pub calls : Ends d AreLoaded mild start since w disk None

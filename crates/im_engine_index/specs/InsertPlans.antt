@@ -1,5 +1,5 @@
 -- What an insert prepares in front of the grant of its locks, and how it comes to its record after it.
-use Rattle.std.specs.Prelude.{◌≡◌, ◌≢◌, ◌≤◌, ◌⊎◌, ℕ, false, length, None, Some, Result, IfErr}
+use Rattle.std.specs.Prelude.{◌≡◌, ◌≢◌, ◌≤◌, ◌⊎◌, ℕ, length, None, Some, Result, IfErr}
 use Rattle.std.specs.FinMap.{get}
 use Rattle.std.specs.FinMap.Entries.{find}
 use Rattle.im_base_types.specs.declared.fault.Fault.{Fault}
@@ -9,7 +9,7 @@ use Rattle.im_base_types.specs.Maps.{IndexMap}
 use Rattle.im_base_types.specs.Answers.{Insert}
 use Rattle.im_theory_log.specs.Histories.{Base}
 use Rattle.im_theory_log.specs.Lawful as lawful
-use Rattle.im_theory_log.specs.Transactions.{contents, is_rolling_back}
+use Rattle.im_theory_log.specs.Transactions.{contents}
 use Rattle.im_theory_log.specs.Writer.{Writer}
 use Rattle.im_base_disk.specs.declared.disk.Disk.{Ghosts}
 use Rattle.im_page_pool.specs.Pool.{PoolView}
@@ -88,7 +88,6 @@ module _ {D : Type 0} (d : Ghosts D) (b : Base) (base : ℕ) where
     pub start : PageWriter
     pub since : D
     pub unfinished : IsUnfinished d b base s e t last undo_next start since
-    pub forward : is_rolling_back t s.log ≡ false
     pub free : lawful.IsFree t key s.log
     pub absent : get (contents b s.log) key ≡ None
     pub calls : Ends d AreLoaded (mild_to_split (Some max)) start since w disk None
@@ -98,7 +97,6 @@ module _ {D : Type 0} (d : Ghosts D) (b : Base) (base : ℕ) where
   -- A structure change of the transaction and Images joined the log, or Images alone, as the key's leaf wanted it: its record comes next.
   pub record ComesTo (s : Writer) (e t last undo_next : ℕ) (key : Key) (max : ℕ) (w : PageWriter) (disk : D) : Type 0 where
     pub since : D
-    pub forward : is_rolling_back t s.log ≡ false
     pub free : lawful.IsFree t key s.log
     pub absent : get (contents b s.log) key ≡ None
     pub made : Restructured d b base s e t last undo_next w disk

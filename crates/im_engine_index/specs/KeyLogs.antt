@@ -8,7 +8,7 @@ use Rattle.im_theory_log.specs.Histories.{Base, History, IsFront}
 use Rattle.im_theory_log.specs.Copies.{GrowsByImages}
 use Rattle.im_theory_log.specs.Lawful.{IsFree, IsLawful, IsNotIn, IsOutside}
 use Rattle.im_theory_log.specs.Structure.{open_smo, settled}
-use Rattle.im_theory_log.specs.Transactions.{contents, is_finished, is_rolling_back, last_of, undo_next_of}
+use Rattle.im_theory_log.specs.Transactions.{contents, is_finished, last_of, undo_next_of}
 use Rattle.im_theory_log.specs.Writer.{Writer}
 use Rattle.im_base_disk.specs.declared.disk.Disk.{Ghosts}
 use Rattle.im_base_disk.specs.Disk.{Files}
@@ -45,10 +45,9 @@ module _ {D : Type 0} (d : Ghosts D) (b : Base) (base : ℕ) where
     pub undo : undo_next_of t s.log ≡ undo_next
     pub unfinished : is_finished t s.log ≡ false
 
-  -- The transaction takes nothing back, no other net has the key, which the tree lacks, and the page is its leaf there, with room. An open structure change is taken back in that tree, and has not changed the page.
+  -- The transaction goes on, no other net has the key, which the tree lacks, and the page is its leaf there, with room. An open structure change is taken back in that tree, and has not changed the page.
   pub record MayPut (s : Writer) (e t last undo_next page : ℕ) (key : Key) (w : PageWriter) (disk : D) : Type 0 where
     pub unfinished : IsGoingOn s e t last undo_next w disk
-    pub forward : is_rolling_back t s.log ≡ false
     pub free : IsFree t key s.log
     pub absent : get (contents b s.log) key ≡ None
     pub apart : IsNotIn page (open_smo s.log)
@@ -58,7 +57,6 @@ module _ {D : Type 0} (d : Ghosts D) (b : Base) (base : ℕ) where
   -- The same of a key that the tree has with this row id.
   pub record MayTake (s : Writer) (e t last undo_next page : ℕ) (key : Key) (rid : ℕ) (w : PageWriter) (disk : D) : Type 0 where
     pub unfinished : IsGoingOn s e t last undo_next w disk
-    pub forward : is_rolling_back t s.log ≡ false
     pub free : IsFree t key s.log
     pub there : get (contents b s.log) key ≡ Some rid
     pub apart : IsNotIn page (open_smo s.log)

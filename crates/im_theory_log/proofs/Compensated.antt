@@ -1,29 +1,57 @@
--- Each key record is compensated at most once.
+-- Each key record is compensated at most once, also where its transaction goes on after changes were taken back.
 use Rattle.std.proofs.Common.{◌≡◌, ◌≢◌, ◌⊎◌, inl, inr, ⊎_elim, ℕ, ◌+◌, ◌<◌, ◌≤◌, [], ◌∷◌, Bool, true, false, ◌||◌, refl, sym, ◌∙◌, ap, subst, arith}
 use Rattle.std.specs.Prelude.{if◌then◌else◌, ◌==◌, nat_lt}
 use Rattle.std.proofs.lemmas.Bool.{cases_eq, cases_lt, cases_order, or_parts, eq-eqb, ne_eqb, cond-true, cond-false, lt-ltb}
 use Rattle.im_theory_log.specs.Histories.{Base, History, IsRecordOf, Rises, below, end_of}
 use Rattle.im_theory_log.specs.Lawful.{Follows, IsLawful, MayCome, Undoes, has_owner}
 use Rattle.im_base_types.specs.Records.{Checkpoint, Commit, DeleteKey, DummyClr, End, Image, InsertKey, Logged, Smo, UndoDelete, UndoInsert, UndoSmo, Unreadable, What}
-use Rattle.im_theory_log.specs.Transactions.{IsCounted, compensated, is_compensation, is_end, is_finished, is_key, is_rolling_back, is_smo, last_of, rest_of, stack_after, to_undo, without_smo}
+use Rattle.im_theory_log.specs.Transactions.{Fate, IsCounted, compensated, is_compensation, is_end, is_finished, is_key, is_smo, last_of, rest_of, stack_after, to_undo, without_smo}
 use Rattle.im_theory_log.specs.Tree.{Tree}
 use Rattle.im_theory_log.proofs.Appends.{plain}
+use Rattle.im_theory_log.proofs.Chains.{undone_place}
 use Rattle.im_theory_log.proofs.Fronts.{rises}
 use Rattle.im_theory_log.proofs.Histories.{below_older, end_below, rises_below, start_low, whole_below}
 use Rattle.im_theory_log.proofs.OpenSmo.{IsOwned, owned}
 use Rattle.im_theory_log.proofs.Stacks.{IsStack, is_stack, last_le}
 
--- where nothing was compensated, nothing counts
-pub none_compensated : (log : History) (t prev : ℕ) → is_rolling_back t log ≡ false → compensated log t prev ≡ 0
-none_compensated [] t prev none = refl
-none_compensated (r ∷ older) t prev none = elim (cases_eq r.txn t) [
+-- a compensation leads below itself
+abbrev LeadsDown : Logged → Bool → Type 0
+LeadsDown r true = r.undo_next < r.lsn
+LeadsDown r false = Unit {0}
+
+leads_down : (b : Base) (tree : Tree) (r : Logged) (older : History) → IsLawful b tree older → Follows b tree r older → (w : What) → MayCome b tree r older w → LeadsDown r (is_compensation w)
+leads_down b tree r older law follows (InsertKey k i) may = tt
+leads_down b tree r older law follows (DeleteKey k i) may = tt
+leads_down b tree r older law follows (UndoInsert k i) may = let place = undone_place b tree r older law follows may.undoes in let low : may.undoes.undone.lsn ≤ end_of b older = place.2 in let small : r.undo_next < may.undoes.undone.lsn = place.3 in let high : end_of b older < r.lsn = follows.rises in omega (arith, low, small, high)
+leads_down b tree r older law follows (UndoDelete k i) may = let place = undone_place b tree r older law follows may.undoes in let low : may.undoes.undone.lsn ≤ end_of b older = place.2 in let small : r.undo_next < may.undoes.undone.lsn = place.3 in let high : end_of b older < r.lsn = follows.rises in omega (arith, low, small, high)
+leads_down b tree r older law follows (Smo o n) may = tt
+leads_down b tree r older law follows (UndoSmo n) may = tt
+leads_down b tree r older law follows DummyClr may = tt
+leads_down b tree r older law follows Commit may = tt
+leads_down b tree r older law follows End may = tt
+leads_down b tree r older law follows (Image c) may = tt
+leads_down b tree r older law follows (Checkpoint n a d) may = tt
+leads_down b tree r older law follows Unreadable may = tt
+
+-- no compensation of a transaction leads to its last record or beyond: a record that comes after that is not compensated yet
+pub none_compensated : (b : Base) (tree : Tree) (log : History) (t prev : ℕ) → IsLawful b tree log → last_of t log ≤ prev → compensated log t prev ≡ 0
+none_compensated b tree [] t prev law high = refl
+none_compensated b tree (r ∷ older) t prev law high = elim (cases_eq r.txn t) [
   | inl mine ↦
-      let parts = or_parts (is_compensation r.what) (is_rolling_back t older) (sym (cond-true (r.txn == t) (is_compensation r.what || is_rolling_back t older) (is_rolling_back t older) (eq-eqb r.txn t mine)) ∙ none) in
-      cond-true (r.txn == t) _ _ (eq-eqb r.txn t mine) ∙ cond-false (is_compensation r.what) _ _ parts.0 ∙ none_compensated older t prev parts.1
+      let last : last_of t (r ∷ older) ≡ r.lsn = cond-true (r.txn == t) r.lsn (last_of t older) (eq-eqb r.txn t mine) in
+      let low : last_of t older ≤ end_of b older = last_le b t older (rises b tree older law.0) in
+      let up : end_of b older < r.lsn = law.1.rises in
+      let rest : compensated older t prev ≡ 0 = none_compensated b tree older t prev law.0 (omega (arith, last, low, up, high)) in
+      cond-true (r.txn == t) _ _ (eq-eqb r.txn t mine) ∙ by (is_compensation r.what) (leads_down b tree r older law.0 law.1 r.what law.1.may) (omega (arith, last, high)) rest
   | inr other ↦
-      cond-false (r.txn == t) _ _ (ne_eqb r.txn t other)
-      ∙ none_compensated older t prev (sym (cond-false (r.txn == t) (is_compensation r.what || is_rolling_back t older) (is_rolling_back t older) (ne_eqb r.txn t other)) ∙ none)
+      let last : last_of t (r ∷ older) ≡ last_of t older = cond-false (r.txn == t) r.lsn (last_of t older) (ne_eqb r.txn t other) in
+      cond-false (r.txn == t) _ _ (ne_eqb r.txn t other) ∙ none_compensated b tree older t prev law.0 (omega (arith, last, high))
 ]
+  where
+    by : (c : Bool) → LeadsDown r c → r.lsn ≤ prev → compensated older t prev ≡ 0
+        → (if c then (if r.undo_next == prev then compensated older t prev + 1 else compensated older t prev) else compensated older t prev) ≡ 0
+    by true down over rest = let d : r.undo_next < r.lsn = down in cond-false (r.undo_next == prev) _ _ (ne_eqb r.undo_next prev (λ e. omega (arith, d, over, e))) ∙ rest
+    by false down over rest = rest
 
 -- ---- records of a log
 
@@ -157,10 +185,6 @@ key_plain (Image c) e = cc e
 key_plain (Checkpoint n a d) e = cc e
 key_plain Unreadable e = cc e
 
--- left to undo and not compensated, or compensated once and no longer left
-abbrev pub Fate : Logged → History → ℕ → Type 0
-Fate s stack count = (IsRecordOf s stack × (count ≡ 0)) ⊎ ((IsRecordOf s stack → ⊥) × (count ≡ 1))
-
 fate_along : (s : Logged) (stack next : History) (m n : ℕ) → stack ≡ next → m ≡ n → Fate s next n → Fate s stack m
 fate_along s stack next m n e f fate = ⊎_elim
     (λ h. inl (subst (λ (l : History). IsRecordOf s l) (sym e) h.0, f ∙ h.1))
@@ -233,26 +257,26 @@ module _ (b : Base) (tree : Tree) (r : Logged) (older : History) (law : IsLawful
   own_fate (Checkpoint n a d) e may fate = fate
   own_fate Unreadable e may fate = fate
 
-pushed_fate : (b : Base) (tree : Tree) (r : Logged) (older : History) (w : What) → r.what ≡ w → MayCome b tree r older w → is_key w ≡ true → (IsRecordOf r (stack_after r w (to_undo r.txn older))) × (compensated older r.txn r.prev ≡ 0) × (is_compensation w ≡ false)
-pushed_fate b tree r older (InsertKey k i) e may key = (inl refl, none_compensated older r.txn r.prev may.not_rolling_back, refl)
-pushed_fate b tree r older (DeleteKey k i) e may key = (inl refl, none_compensated older r.txn r.prev may.not_rolling_back, refl)
-pushed_fate b tree r older (UndoInsert k i) e may key = cc key
-pushed_fate b tree r older (UndoDelete k i) e may key = cc key
-pushed_fate b tree r older (Smo o n) e may key = cc key
-pushed_fate b tree r older (UndoSmo n) e may key = cc key
-pushed_fate b tree r older DummyClr e may key = cc key
-pushed_fate b tree r older Commit e may key = cc key
-pushed_fate b tree r older End e may key = cc key
-pushed_fate b tree r older (Image c) e may key = cc key
-pushed_fate b tree r older (Checkpoint n a d) e may key = cc key
-pushed_fate b tree r older Unreadable e may key = cc key
+pushed_fate : (b : Base) (tree : Tree) (r : Logged) (older : History) → IsLawful b tree older → r.prev ≡ last_of r.txn older → (w : What) → r.what ≡ w → MayCome b tree r older w → is_key w ≡ true → (IsRecordOf r (stack_after r w (to_undo r.txn older))) × (compensated older r.txn r.prev ≡ 0) × (is_compensation w ≡ false)
+pushed_fate b tree r older law prev (InsertKey k i) e may key = (inl refl, none_compensated b tree older r.txn r.prev law (omega (arith, prev)), refl)
+pushed_fate b tree r older law prev (DeleteKey k i) e may key = (inl refl, none_compensated b tree older r.txn r.prev law (omega (arith, prev)), refl)
+pushed_fate b tree r older law prev (UndoInsert k i) e may key = cc key
+pushed_fate b tree r older law prev (UndoDelete k i) e may key = cc key
+pushed_fate b tree r older law prev (Smo o n) e may key = cc key
+pushed_fate b tree r older law prev (UndoSmo n) e may key = cc key
+pushed_fate b tree r older law prev DummyClr e may key = cc key
+pushed_fate b tree r older law prev Commit e may key = cc key
+pushed_fate b tree r older law prev End e may key = cc key
+pushed_fate b tree r older law prev (Image c) e may key = cc key
+pushed_fate b tree r older law prev (Checkpoint n a d) e may key = cc key
+pushed_fate b tree r older law prev Unreadable e may key = cc key
 
 -- Each key record of an unfinished transaction is left to undo and was not compensated, or was compensated once.
 pub compensated_once : (b : Base) (tree : Tree) (log : History) (s : Logged) → IsLawful b tree log → IsRecordOf s log → is_key s.what ≡ true → is_finished s.txn log ≡ false → Fate s (to_undo s.txn log) (compensated log s.txn s.prev)
 compensated_once b tree [] s law is key going = absurd is
 compensated_once b tree (r ∷ older) s law (inl same) key going =
     let k : is_key r.what ≡ true = subst (λ (x : Logged). is_key x.what ≡ true) (sym same) key in
-    let fate = pushed_fate b tree r older r.what refl law.1.may k in
+    let fate = pushed_fate b tree r older law.0 (law.1.chained (key_plain r.what k).1).prev r.what refl law.1.may k in
     subst (λ (x : Logged). Fate x (to_undo x.txn (r ∷ older)) (compensated (r ∷ older) x.txn x.prev)) same
     (inl (
       subst (λ (l : History). IsRecordOf r l) (sym (cond-true (r.txn == r.txn) (stack_after r r.what (to_undo r.txn older)) (to_undo r.txn older) (eq-eqb r.txn r.txn refl))) fate.0,
@@ -327,24 +351,30 @@ going_counts b tree log s law is key going = record {
 }
 
 -- a record of another transaction leaves the count
-other_counts : (r : Logged) (older : History) (s : Logged) → r.txn ≢ s.txn → IsCounted older s → IsCounted (r ∷ older) s
-other_counts r older s other old =
+other_counts : (b : Base) (r : Logged) (older : History) (s : Logged) → Rises b older → end_of b older < r.lsn → r.txn ≢ s.txn → IsCounted older s → IsCounted (r ∷ older) s
+other_counts b r older s up over other old =
     let count : compensated (r ∷ older) s.txn s.prev ≡ compensated older s.txn s.prev = cond-false (r.txn == s.txn) _ _ (ne_eqb r.txn s.txn other) in
     record {
       at_most_once = let low : compensated older s.txn s.prev ≤ 1 = old.at_most_once in omega (arith, count, low);
-      committed = λ e of same what. count ∙ ⊎_elim (λ is. absurd (other (ap (λ (x : Logged). x.txn) is ∙ same))) (λ there. old.committed e there same what) of;
+      committed = λ e of same what. ⊎_elim (λ is. absurd (other (ap (λ (x : Logged). x.txn) is ∙ same))) (λ there.
+          let low : e.lsn ≤ end_of b older = in_le b older e up there in
+          fate_along s _ _ _ _ (ap (λ (l : History). to_undo s.txn l) (below_older e.lsn r older (omega (arith, low, over)))) count (old.committed e there same what)) of;
       ended = λ e of same what. count ∙ ⊎_elim (λ is. absurd (other (ap (λ (x : Logged). x.txn) is ∙ same))) (λ there. old.ended e there same what) of;
     }
 
 -- the record that ends the transaction: the counts stay as they were
-end_counts : (r : Logged) (older : History) (s : Logged) → r.txn ≡ s.txn → is_compensation r.what ≡ false → is_finished s.txn older ≡ false → compensated older s.txn s.prev ≤ 1
-    → (r.what ≡ Commit → compensated older s.txn s.prev ≡ 0) → (r.what ≡ End → compensated older s.txn s.prev ≡ 1) → IsCounted (r ∷ older) s
-end_counts r older s mine plain going low none one =
+end_counts : (b : Base) (r : Logged) (older : History) (s : Logged) → end_of b older < r.lsn → r.txn ≡ s.txn → is_compensation r.what ≡ false → is_finished s.txn older ≡ false
+    → Fate s (to_undo s.txn older) (compensated older s.txn s.prev) → (r.what ≡ End → compensated older s.txn s.prev ≡ 1) → IsCounted (r ∷ older) s
+end_counts b r older s up mine plain going fate one =
+    let low : compensated older s.txn s.prev ≤ 1 = fate_once s (to_undo s.txn older) (compensated older s.txn s.prev) fate in
+    let here : to_undo s.txn (below r.lsn (r ∷ older)) ≡ to_undo s.txn older = ap (λ (l : History). to_undo s.txn l) (below_older r.lsn r older (omega arith) ∙ whole_below b r.lsn older up) in
     let count : compensated (r ∷ older) s.txn s.prev ≡ compensated older s.txn s.prev =
     cond-true (r.txn == s.txn) _ _ (eq-eqb r.txn s.txn mine) ∙ cond-false (is_compensation r.what) _ _ plain in
     record {
       at_most_once = omega (arith, count, low);
-      committed = λ e of same what. count ∙ ⊎_elim (λ is. none (ap (λ (x : Logged). x.what) is ∙ what)) (λ there. absurd (none_finished older s e going there same (ap is_end what))) of;
+      committed = λ e of same what. ⊎_elim
+          (λ is. fate_along s _ _ _ _ (ap (λ (x : Logged). to_undo s.txn (below x.lsn (r ∷ older))) (sym is) ∙ here) count fate)
+          (λ there. absurd (none_finished older s e going there same (ap is_end what))) of;
       ended = λ e of same what. count ∙ ⊎_elim (λ is. one (ap (λ (x : Logged). x.what) is ∙ what)) (λ there. absurd (none_finished older s e going there same (ap is_end what))) of;
     }
 
@@ -377,17 +407,17 @@ module _ (b : Base) (tree : Tree) (r : Logged) (older : History) (law : IsLawful
   own_counts (UndoSmo n) is may = still_going (UndoSmo n) is refl refl
   own_counts DummyClr is may = still_going DummyClr is refl refl
   own_counts Commit is may =
-      let zero : compensated older s.txn s.prev ≡ 0 = ap (λ (t : ℕ). compensated older t s.prev) (sym mine) ∙ none_compensated older r.txn s.prev may.not_rolling_back in
-      end_counts r older s mine (ap is_compensation is) (unfinished (ap has_owner is)) (omega (arith, zero)) (λ e. zero) (λ e. absurd (let clash : Commit ≡ End = sym is ∙ e in cc clash))
+      let going = unfinished (ap has_owner is) in
+      end_counts b r older s law.1.rises mine (ap is_compensation is) going (compensated_once b tree older s law.0 there key going) (λ e. absurd (let clash : Commit ≡ End = sym is ∙ e in cc clash))
   own_counts End is may =
       let going = unfinished (ap has_owner is) in
       let one : compensated older s.txn s.prev ≡ 1 = compensated_ended b tree older s law.0 there key going (ap (λ (t : ℕ). to_undo t older) (sym mine) ∙ may.nothing_left) in
-      end_counts r older s mine (ap is_compensation is) going (omega (arith, one)) (λ e. absurd (let clash : End ≡ Commit = sym is ∙ e in cc clash)) (λ e. one)
+      end_counts b r older s law.1.rises mine (ap is_compensation is) going (compensated_once b tree older s law.0 there key going) (λ e. one)
   own_counts (Image c) is may = absurd (none_owned may.no_owner)
   own_counts (Checkpoint n a d) is may = absurd (none_owned may)
   own_counts Unreadable is may = absurd may
 
--- In a lawful log each key record is compensated at most once, not at all where its transaction has a Commit, and once where it has an End.
+-- In a lawful log each key record is compensated at most once: not at all where it is part of a committed effect, and once where its transaction committed without it, or has an End.
 pub all_counted : (b : Base) (tree : Tree) (log : History) (s : Logged) → IsLawful b tree log → IsRecordOf s log → is_key s.what ≡ true → IsCounted log s
 all_counted b tree [] s law is key = absurd is
 all_counted b tree (r ∷ older) s law (inl same) key =
@@ -400,5 +430,5 @@ all_counted b tree (r ∷ older) s law (inl same) key =
     ∙ ap (λ (t : Bool). t || is_finished r.txn older) (key_no_end r.what k) ∙ going))
 all_counted b tree (r ∷ older) s law (inr there) key = elim (cases_eq r.txn s.txn) [
   | inl mine ↦ own_counts b tree r older law s key there mine r.what refl law.1.may
-  | inr other ↦ other_counts r older s other (all_counted b tree older s law.0 there key)
+  | inr other ↦ other_counts b r older s (rises b tree older law.0) law.1.rises other (all_counted b tree older s law.0 there key)
 ]

@@ -13,7 +13,7 @@ use Rattle.im_base_types.specs.Pages.{Body, Entry}
 use Rattle.im_base_types.specs.Records.{Checkpoint, Commit, DeleteKey, DummyClr, End, Image, InsertKey, Logged, Smo, UndoDelete, UndoInsert, UndoSmo, Unreadable, What}
 use Rattle.im_theory_log.specs.RedoPoints.{redo_point}
 use Rattle.im_theory_log.specs.Structure.{open_smo, settled}
-use Rattle.im_theory_log.specs.Transactions.{committed, compensated, contents, contents_after, is_finished, is_rolling_back, last_of, net, to_undo, top_of, undo_next_of, undo_reads}
+use Rattle.im_theory_log.specs.Transactions.{committed, compensated, contents, contents_after, is_finished, last_of, net, to_undo, top_of, undo_next_of, undo_reads}
 use Rattle.im_theory_log.specs.Variants.{redo_skipping, undo_reads_below}
 use Rattle.im_base_types.proofs.Maps.{entries_drop}
 
@@ -144,8 +144,8 @@ moved =
 moved_pages : ((page_at start moved 1).body ≡ leaf ((key 0, 0) ∷ (key 1, 1) ∷ [])) × ((page_at start moved 2).body ≡ leaf ((key 2, 2) ∷ (key 3, 3) ∷ []))
 moved_pages = (refl, refl)
 
-moved_counts : (net 2 moved ≡ []) × (to_undo 2 moved ≡ []) × (compensated moved 2 0 ≡ 1) × (is_rolling_back 2 moved ≡ true)
-moved_counts = (refl, refl, refl, refl)
+moved_counts : (net 2 moved ≡ []) × (to_undo 2 moved ≡ []) × (compensated moved 2 0 ≡ 1)
+moved_counts = (refl, refl, refl)
 
 moved_map : entries (contents start moved) ≡ (key 0, 0) ∷ (key 1, 1) ∷ (key 2, 2) ∷ (key 3, 3) ∷ []
 moved_map = listed_all moved
@@ -166,6 +166,23 @@ between_net = (refl, refl, refl, refl)
 
 pair_map : (committed pair ≡ (Put (key 97) 3 ∷ []) ∷ []) × (entries (contents start pair) ≡ (key 97, 3) ∷ []) × (to_undo 1 pair ≡ []) × (compensated pair 1 0 ≡ 1)
 pair_map = (refl, listed_all pair, refl, refl)
+
+-- ---- a return within a transaction: 1 puts keys 48 and 98, takes back 98, puts 99 and commits; and one that a stop cut off, which a restart takes back whole
+
+abbrev returned : History
+returned = record_of 40 1 30 0 1 (InsertKey (key 99) 3) ∷ between
+
+returned_undo : (to_undo 1 returned ≡ record_of 40 1 30 0 1 (InsertKey (key 99) 3) ∷ record_of 10 1 0 0 1 (InsertKey (key 48) 1) ∷ []) × (undo_next_of 1 returned ≡ 40) × (undo_reads 30 returned ≡ Some (record_of 10 1 0 0 1 (InsertKey (key 48) 1)))
+returned_undo = (refl, refl, refl)
+
+returned_commits : committed (record_of 50 1 40 0 0 Commit ∷ returned) ≡ (Put (key 99) 3 ∷ Put (key 48) 1 ∷ []) ∷ []
+returned_commits = refl
+
+returned_counts : (compensated (record_of 50 1 40 0 0 Commit ∷ returned) 1 0 ≡ 0) × (compensated (record_of 50 1 40 0 0 Commit ∷ returned) 1 10 ≡ 1) × (compensated (record_of 50 1 40 0 0 Commit ∷ returned) 1 30 ≡ 0)
+returned_counts = (refl, refl, refl)
+
+returned_map : entries (contents start returned) ≡ (key 48, 1) ∷ (key 99, 3) ∷ []
+returned_map = listed_all returned
 
 -- ---- a redo that skips records before a later copy loses those that the copy is too old to have
 

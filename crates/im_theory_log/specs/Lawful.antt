@@ -9,7 +9,7 @@ use Rattle.im_theory_log.specs.Tree.{Tree}
 use Rattle.im_theory_log.specs.Histories.{History, Base, end_of, below, page_at, page_up_to}
 use Rattle.im_theory_log.specs.PageCounts.{count_of, greatest_count, named_to}
 use Rattle.im_theory_log.specs.Structure.{open_smo, settled}
-use Rattle.im_theory_log.specs.Transactions.{last_of, undo_next_of, to_undo, net, is_finished, is_rolling_back, contents}
+use Rattle.im_theory_log.specs.Transactions.{last_of, undo_next_of, to_undo, net, is_finished, contents}
 
 -- ---- the words of the conditions
 
@@ -52,7 +52,6 @@ pub record Undoes (r : Logged) (older : History) (is : What → Type 0) : Type 0
 pub record MayInsert (b : Base) (tree : Tree) (r : Logged) (older : History) (k : Key) (i : ℕ) : Type 0 where
   pub no_undo_next : r.undo_next ≡ 0
   pub outside : IsOutside r.txn (open_smo older)
-  pub not_rolling_back : is_rolling_back r.txn older ≡ false
   pub free : IsFree r.txn k older
   pub absent : get (contents b older) k ≡ None
   pub can_put : tree.CanPut (settled b older) r.page k i
@@ -62,7 +61,6 @@ pub record MayInsert (b : Base) (tree : Tree) (r : Logged) (older : History) (k 
 pub record MayDelete (b : Base) (tree : Tree) (r : Logged) (older : History) (k : Key) (i : ℕ) : Type 0 where
   pub no_undo_next : r.undo_next ≡ 0
   pub outside : IsOutside r.txn (open_smo older)
-  pub not_rolling_back : is_rolling_back r.txn older ≡ false
   pub free : IsFree r.txn k older
   pub there : get (contents b older) k ≡ Some i
   pub can_drop : tree.CanDrop (settled b older) r.page k i
@@ -104,11 +102,10 @@ pub record MayDummyClr (r : Logged) (older : History) : Type 0 where
   pub owner : newest.txn ≡ r.txn
   pub leads : r.undo_next ≡ resumes older r.txn (newest ∷ rest)
 
--- a Commit: nothing of the transaction was compensated
+-- a Commit: what its transaction has left to undo is its effect
 pub record MayCommit (r : Logged) (older : History) : Type 0 where
   pub no_undo_next : r.undo_next ≡ 0
   pub outside : IsOutside r.txn (open_smo older)
-  pub not_rolling_back : is_rolling_back r.txn older ≡ false
 
 -- an End: nothing of the transaction is left to undo
 pub record MayEnd (r : Logged) (older : History) : Type 0 where

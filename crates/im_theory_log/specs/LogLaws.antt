@@ -84,6 +84,7 @@ pub record IsOnTop (t : ℕ) (log : History) : Type 0 where
 abbrev pub OpenChangeIsOnTop : Tree → Type 0
 OpenChangeIsOnTop tree = (b : Base) (log : History) (newest : Logged) (rest : History) → IsLawful b tree log → open_smo log ≡ newest ∷ rest → IsOnTop newest.txn log
 
--- Each key record is compensated at most once, not at all where its transaction has a Commit, and once where it has an End.
+-- Each key record is compensated at most once. Where its transaction has a Commit, it is part of the committed effect and is not compensated, or was compensated before and is no
+-- part of it; where it has an End, it was compensated.
 abbrev pub CompensatedAtMostOnce : Tree → Type 0
 CompensatedAtMostOnce tree = (b : Base) (log : History) (s : Logged) → IsLawful b tree log → IsRecordOf s log → is_key s.what ≡ true → IsCounted log s

@@ -1,10 +1,10 @@
 -- What a log says of its transactions: where undo goes on, what is left to undo, nets, and the committed effects.
-use Rattle.std.specs.Prelude.{◌≡◌, ◌≤◌, ℕ, ◌+◌, List, [], ◌∷◌, ◌++◌, Bool, true, false, ◌||◌, if◌then◌else◌, ◌==◌, Option, None, Some}
+use Rattle.std.specs.Prelude.{◌≡◌, ◌⊎◌, ◌≤◌, ℕ, ◌+◌, List, [], ◌∷◌, ◌++◌, Bool, true, false, ◌||◌, if◌then◌else◌, ◌==◌, Option, None, Some}
 use Rattle.std.specs.FinMap.{insert, remove}
 use Rattle.im_base_types.specs.Maps.{IndexMap}
 use Rattle.im_base_types.specs.Changes.{Change, Put, Drop, Effect}
 use Rattle.im_base_types.specs.Records.{What, InsertKey, DeleteKey, UndoInsert, UndoDelete, Smo, UndoSmo, DummyClr, Commit, End, Image, Checkpoint, Unreadable, Logged}
-use Rattle.im_theory_log.specs.Histories.{History, IsRecordOf, Base}
+use Rattle.im_theory_log.specs.Histories.{History, IsRecordOf, Base, below}
 
 -- ---- the chain of a transaction's records
 
@@ -131,11 +131,6 @@ is_compensation (UndoInsert k i) = true
 is_compensation (UndoDelete k i) = true
 is_compensation _ = false
 
--- whether a change of the transaction was compensated
-abbrev pub is_rolling_back : ℕ → History → Bool
-is_rolling_back t [] = false
-is_rolling_back t (r ∷ older) = if r.txn == t then (is_compensation r.what || is_rolling_back t older) else is_rolling_back t older
-
 -- how many later records of its transaction compensate the key record that has this prev
 abbrev pub compensated : History → ℕ → ℕ → ℕ
 compensated [] t prev = 0
@@ -144,10 +139,15 @@ compensated (r ∷ older) t prev =
     then (if is_compensation r.what then (if r.undo_next == prev then compensated older t prev + 1 else compensated older t prev) else compensated older t prev)
     else compensated older t prev
 
--- how often a key record of a log may be compensated: at most once, not at all where its transaction has a Commit, once where it has an End
+-- left to undo and not compensated, or compensated once and no longer left
+abbrev pub Fate : Logged → History → ℕ → Type 0
+Fate s stack count = (IsRecordOf s stack × (count ≡ 0)) ⊎ ((IsRecordOf s stack → ⊥) × (count ≡ 1))
+
+-- How often a key record of a log may be compensated: at most once; where its transaction has a Commit, not at all if it was left to undo then, so that it
+-- is part of the committed effect, and once if it was not; once where it has an End.
 pub record IsCounted (log : History) (s : Logged) : Type 0 where
   pub at_most_once : compensated log s.txn s.prev ≤ 1
-  pub committed : (e : Logged) → IsRecordOf e log → e.txn ≡ s.txn → e.what ≡ Commit → compensated log s.txn s.prev ≡ 0
+  pub committed : (e : Logged) → IsRecordOf e log → e.txn ≡ s.txn → e.what ≡ Commit → Fate s (to_undo s.txn (below e.lsn log)) (compensated log s.txn s.prev)
   pub ended : (e : Logged) → IsRecordOf e log → e.txn ≡ s.txn → e.what ≡ End → compensated log s.txn s.prev ≡ 1
 
 -- a Commit puts its transaction's effect after the others

@@ -44,8 +44,9 @@ pub fn open_change_is_on_top<T: PageTree>()
     ensures { OpenChangeIsOnTop T.tree }
 {}
 
-/// Each key record is compensated at most once, not at all where its transaction has a Commit, and once
-/// where it has an End.
+/// Each key record is compensated at most once. Where its transaction has a Commit, it is part of the
+/// committed effect and is not compensated, or was compensated before and is no part of it; where it has an
+/// End, it was compensated.
 pub fn compensated_at_most_once<T: PageTree>()
     ensures { CompensatedAtMostOnce T.tree }
 {}

@@ -14,7 +14,7 @@ use Rattle.im_theory_log.specs.Tree.{Tree, TreeLaws}
 use Rattle.im_theory_log.specs.Histories.{History, Base}
 use Rattle.im_theory_log.specs.Lawful as lawful
 use Rattle.im_theory_log.specs.Lawful.{Follows}
-use Rattle.im_theory_log.specs.Transactions.{net, last_of, undo_next_of, is_finished, is_rolling_back}
+use Rattle.im_theory_log.specs.Transactions.{net, last_of, undo_next_of, is_finished}
 use Rattle.im_theory_log.proofs.LogLaws.{logs_stay_lawful}
 use Rattle.im_base_txn.specs.declared.transaction.Mark.TheVariants.{Going, RollingBack}
 use Rattle.im_base_txn.specs.declared.transaction.Transaction.{Transaction}
@@ -111,7 +111,6 @@ inserts_begin b earlier before s v older longer rows next old new t row k i h fo
       last = ap (λ (n : ℕ). last_of n longer) (sym is.0);
       undo = ap (λ (n : ℕ). undo_next_of n longer) (sym is.0);
       unfinished = ap (λ (n : ℕ). is_finished n longer) is.0 ∙ on.finished ∙ ap (λ (n : ℕ). is_finished n older) (sym is.0) ∙ r.unfinished;
-      forward = λ m. ap (λ (n : ℕ). is_rolling_back n longer) is.0 ∙ on.rolling ∙ ap (λ (n : ℕ). is_rolling_back n older) (sym is.0) ∙ r.forward m;
       logged = λ le. inr (ap (λ (n : ℕ). Some n) (sym is.0));
     } in
     served b earlier before s v older rows next old h (Do t (Insert k i)) More w longer (noted t longer rows) next new
@@ -186,7 +185,6 @@ inserts_end tree laws b earlier before s v older between rows next old new t las
       may = record {
         no_undo_next = refl;
         outside = out;
-        not_rolling_back = way.forward;
         free = key_free b earlier before s v older rows next old t k i h under going between here;
         absent = ap (λ (m : IndexMap). get m k) (sym here.walk) ∙ absent;
         can_put = can;
@@ -210,9 +208,9 @@ inserts_end tree laws b earlier before s v older between rows next old new t las
             each = rows_with (owner_in v) None t next older longer rows v.txns (did_txn (v.txns t) (Insert k i) v.walk (own_locks v t)) (with_record lsn lsn) row (λ y. refl)
                 (λ u differ at_u. other_at t u next longer (find (is_of u) rows) (v.txns u) differ
                 (subst (λ (who : Option ℕ). IsAt u (find (is_of u) rows) next longer who (v.txns u)) (ap owner_of under)
-                (same_at (owner_in v) u next older longer (same_then u older between longer (way.others u differ) (others_say between t last lsn page (InsertKey k i) (Put k i) refl refl refl refl refl u differ)) (find (is_of u) rows) (v.txns u) at_u)))
+                (same_at (owner_in v) u next older longer (same_then u older between longer (way.others u differ) (others_say between t last lsn page (InsertKey k i) (Put k i) refl refl refl refl u differ)) (find (is_of u) rows) (v.txns u) at_u)))
                 h.table.each found is.0
-                (as_row row.mark (with_record lsn lsn row) next longer free (row_says between t last lsn page (InsertKey k i) (Put k i) refl refl refl refl refl row next is.0 is.1.number is.1.below way.unfinished way.forward))
+                (as_row row.mark (with_record lsn lsn row) next longer free (row_says between t last lsn page (InsertKey k i) (Put k i) refl refl refl refl row next is.0 is.1.number is.1.below way.unfinished))
                 (sym (ap mark_of mark));
             active = h.table.active ∙ sym (length_map (changed t (with_record lsn lsn)) rows);
             numbers = h.table.numbers;

@@ -11,7 +11,7 @@ use Rattle.im_theory_log.specs.Structure.{open_after, open_smo}
 use Rattle.im_theory_log.specs.Copies as copies
 use Rattle.im_theory_log.specs.Lawful.{IsLawful, MayCome, has_owner}
 use Rattle.im_theory_log.proofs.Cited.{append_checkpoint, page_same, images_open, lawful_images}
-use Rattle.im_theory_log.specs.Transactions.{committed, committed_after, contents, contents_after, net, change_of, changes_of, without_smo, is_smo, last_of, undo_next_of, undo_from, to_undo, stack_after, is_finished, is_rolling_back, is_end, is_compensation}
+use Rattle.im_theory_log.specs.Transactions.{committed, committed_after, contents, contents_after, net, change_of, changes_of, without_smo, is_smo, last_of, undo_next_of, undo_from, to_undo, stack_after, is_finished, is_end}
 use Rattle.im_theory_steps.specs.Growth.{Stays, SaysSameOf, HasNone, IsImageRecord, IsCheckpoint, IsUnowned, IsWithin, AreWithin, AreImageRecords, AreUnowned, GrowthWithinLeavesOthers, ImagesChangeNothing, UnownedChangeNothing, CheckpointsChangeNothing, AreBelow, AreStructural, CopiesAreImages, IsRestructured, IsStructural, NumbersStayNew, StructureChangesNoKey, is_structural}
 
 -- ---- one record
@@ -22,7 +22,6 @@ same_by u r older other = record {
   last = λ le. cond-false (r.txn == u) r.lsn (last_of u older) (ne_eqb r.txn u other);
   undo = λ le. cond-false (r.txn == u) (undo_from r r.what) (undo_next_of u older) (ne_eqb r.txn u other);
   finished = cond-false (r.txn == u) (is_end r.what || is_finished u older) (is_finished u older) (ne_eqb r.txn u other);
-  rolling = cond-false (r.txn == u) (is_compensation r.what || is_rolling_back u older) (is_rolling_back u older) (ne_eqb r.txn u other);
   stack = cond-false (r.txn == u) (stack_after r r.what (to_undo u older)) (to_undo u older) (ne_eqb r.txn u other);
 }
 
@@ -35,7 +34,6 @@ either_way false x y e = refl
 pub record SaysNothing (r : Logged) : Type 0 where
   pub no_owner : r.txn ≡ 0
   pub end : is_end r.what ≡ false
-  pub forward : is_compensation r.what ≡ false
   pub stack : (rest : History) → stack_after r r.what rest ≡ rest
   pub commits : (e : Effect) (es : List Effect) → committed_after r.what e es ≡ es
   pub walk : (m : IndexMap) → contents_after r.what m ≡ m
@@ -44,7 +42,6 @@ pub image_says_nothing : (r : Logged) → IsImageRecord r → SaysNothing r
 image_says_nothing r image = record {
   no_owner = image.no_owner;
   end = ap is_end image.what;
-  forward = ap is_compensation image.what;
   stack = λ rest. ap (λ (w : What). stack_after r w rest) image.what;
   commits = λ e es. ap (λ (w : What). committed_after w e es) image.what;
   walk = λ m. ap (λ (w : What). contents_after w m) image.what;
@@ -54,7 +51,6 @@ pub checkpoint_says_nothing : (r : Logged) → IsCheckpoint r → SaysNothing r
 checkpoint_says_nothing r is = record {
   no_owner = is.no_owner;
   end = ap is_end is.what;
-  forward = ap is_compensation is.what;
   stack = λ rest. ap (λ (w : What). stack_after r w rest) is.what;
   commits = λ e es. ap (λ (w : What). committed_after w e es) is.what;
   walk = λ m. ap (λ (w : What). contents_after w m) is.what;
@@ -69,7 +65,6 @@ same_by_none u r older says = record {
   last = λ le. cond-false (r.txn == u) r.lsn (last_of u older) (ne_eqb r.txn u (other le));
   undo = λ le. cond-false (r.txn == u) (undo_from r r.what) (undo_next_of u older) (ne_eqb r.txn u (other le));
   finished = either_way (r.txn == u) (is_end r.what || is_finished u older) (is_finished u older) (ap (λ (x : Bool). x || is_finished u older) says.end);
-  rolling = either_way (r.txn == u) (is_compensation r.what || is_rolling_back u older) (is_rolling_back u older) (ap (λ (x : Bool). x || is_rolling_back u older) says.forward);
   stack = either_way (r.txn == u) (stack_after r r.what (to_undo u older)) (to_undo u older) (says.stack (to_undo u older));
 }
   where
@@ -86,12 +81,11 @@ same_then u a b c one two = record {
   last = λ le. two.last le ∙ one.last le;
   undo = λ le. two.undo le ∙ one.undo le;
   finished = two.finished ∙ one.finished;
-  rolling = two.rolling ∙ one.rolling;
   stack = two.stack ∙ one.stack;
 }
 
 pub same_here : (u : ℕ) (log : History) → SaysSameOf u log log
-same_here u log = record { last = λ le. refl; undo = λ le. refl; finished = refl; rolling = refl; stack = refl }
+same_here u log = record { last = λ le. refl; undo = λ le. refl; finished = refl; stack = refl }
 
 within_same : (t u : ℕ) (more older : History) → u ≢ t → AreWithin t more → SaysSameOf u older (more ++ older)
 within_same t u [] older differ all = same_here u older
@@ -193,10 +187,6 @@ module _ (t : ℕ) where
   none_finished [] h = refl
   none_finished (r ∷ older) h = cond-false (r.txn == t) (is_end r.what || is_finished t older) (is_finished t older) (ne_eqb r.txn t h.0) ∙ none_finished older h.1
 
-  pub none_rolling : (log : History) → HasNone t log → is_rolling_back t log ≡ false
-  none_rolling [] h = refl
-  none_rolling (r ∷ older) h = cond-false (r.txn == t) (is_compensation r.what || is_rolling_back t older) (is_rolling_back t older) (ne_eqb r.txn t h.0) ∙ none_rolling older h.1
-
 -- LSNs are above 0, so one whose last is 0 has no record, and nothing to undo
 pub unlogged : (b : Base) (t : ℕ) (log : History) → Rises b log → last_of t log ≡ 0 → to_undo t log ≡ []
 unlogged b t [] rises none = refl
@@ -244,20 +234,6 @@ structural_end (Image c) is = refl
 structural_end (Checkpoint n a d) is = refl
 structural_end Unreadable is = refl
 
-structural_forward : (w : What) → is_structural w ≡ true → is_compensation w ≡ false
-structural_forward (Smo old new) is = refl
-structural_forward DummyClr is = refl
-structural_forward (InsertKey k i) is = refl
-structural_forward (DeleteKey k i) is = refl
-structural_forward (UndoInsert k i) is = absurd cc
-structural_forward (UndoDelete k i) is = absurd cc
-structural_forward (UndoSmo new) is = refl
-structural_forward Commit is = refl
-structural_forward End is = refl
-structural_forward (Image c) is = refl
-structural_forward (Checkpoint n a d) is = refl
-structural_forward Unreadable is = refl
-
 no_change : (w : What) → is_smo w ≡ true → change_of w ≡ []
 no_change (Smo old new) is = refl
 no_change (InsertKey k i) is = absurd cc
@@ -296,7 +272,6 @@ module _ (b : Base) (t : ℕ) where
     };
     others = λ u differ. same_by u r older (λ e. differ (sym e ∙ mine));
     finished = own (is_end r.what || is_finished t older) (is_finished t older) ∙ ap (λ (x : Bool). x || is_finished t older) (structural_end r.what is);
-    rolling = own (is_compensation r.what || is_rolling_back t older) (is_rolling_back t older) ∙ ap (λ (x : Bool). x || is_rolling_back t older) (structural_forward r.what is);
   }
     where
       own : {A : Type 0} (x y : A) → (if r.txn == t then x else y) ≡ x
@@ -313,11 +288,10 @@ module _ (b : Base) (t : ℕ) where
     stays = unowned_stay b (r ∷ []) older (inl image, tt);
     others = λ u differ. same_by_image u r older image;
     finished = (same_by_image t r older image).finished;
-    rolling = (same_by_image t r older image).rolling;
   }
 
   structural : (more older : History) → AreStructural t more → IsRestructured b t older (more ++ older)
-  structural [] older all = record { stays = record { commits = refl; walk = refl; nets = λ u. refl }; others = λ u differ. same_here u older; finished = refl; rolling = refl }
+  structural [] older all = record { stays = record { commits = refl; walk = refl; nets = λ u. refl }; others = λ u differ. same_here u older; finished = refl }
   structural (r ∷ more) older all =
       let rest = structural more older all.1 in
       let last = step all.0 in
@@ -325,7 +299,6 @@ module _ (b : Base) (t : ℕ) where
         stays = stays_then b older (more ++ older) (r ∷ (more ++ older)) rest.stays last.stays;
         others = λ u differ. same_then u older (more ++ older) (r ∷ (more ++ older)) (rest.others u differ) (last.others u differ);
         finished = last.finished ∙ rest.finished;
-        rolling = last.rolling ∙ rest.rolling;
       }
     where
       step : IsStructural t r → IsRestructured b t (more ++ older) (r ∷ (more ++ older))

@@ -11,11 +11,11 @@ use Rattle.im_theory_log.specs.Histories.{History, Base}
 use Rattle.im_theory_log.specs.Lawful.{Follows, IsChained}
 use Rattle.im_theory_log.specs.Lawful as lawful
 use Rattle.im_theory_log.proofs.LogLaws.{logs_stay_lawful}
-use Rattle.im_theory_log.specs.Transactions.{last_of, undo_next_of, undo_from, to_undo, stack_after, is_finished, is_rolling_back, is_end, is_compensation, net, change_of, changes_of}
+use Rattle.im_theory_log.specs.Transactions.{last_of, undo_next_of, undo_from, to_undo, stack_after, is_finished, is_end, net, change_of, changes_of}
 use Rattle.im_base_types.specs.Answers as answers
 use Rattle.im_base_types.specs.Answers.{Access, Insert, Delete, Inserted, Deleted, Duplicate, Absent, Do, Reply, answer, changes, dropped}
 use Rattle.im_base_types.specs.Lives.{Shown}
-use Rattle.im_base_txn.specs.declared.transaction.Mark.TheVariants.{Going, RollingBack}
+use Rattle.im_base_txn.specs.declared.transaction.Mark.TheVariants.{Going}
 use Rattle.im_base_txn.specs.declared.transaction.Transaction.{Transaction}
 use Rattle.im_base_txn.specs.Rows.{is_of, changed, with_record}
 use Rattle.im_theory_machine.specs.Table.{Table, lasting_of, Decides}
@@ -34,7 +34,7 @@ use Rattle.im_theory_steps.proofs.Holding.{free_by_table}
 use Rattle.im_theory_steps.proofs.Steps.{at, mark_free, changes_served, commits_served, commits_wait, checkpoints_served}
 
 -- what a key record says of its transaction
-module _ (older : History) (t last lsn page : ℕ) (w : What) (c : Change) (no_end : is_end w ≡ false) (no_undo : is_compensation w ≡ false) (from : undo_from (key_record t last lsn page w) w ≡ lsn)
+module _ (older : History) (t last lsn page : ℕ) (w : What) (c : Change) (no_end : is_end w ≡ false) (from : undo_from (key_record t last lsn page w) w ≡ lsn)
     (stacked : stack_after (key_record t last lsn page w) w (to_undo t older) ≡ key_record t last lsn page w ∷ to_undo t older) (one : change_of w ≡ c ∷ []) where
   abbrev r : Logged
   r = key_record t last lsn page w
@@ -48,14 +48,13 @@ module _ (older : History) (t last lsn page : ℕ) (w : What) (c : Change) (no_e
   net_is : net t (r ∷ older) ≡ c ∷ net t older
   net_is = ap changes_of (own (stack_after r w (to_undo t older)) (to_undo t older) ∙ stacked) ∙ ap (λ (e : Effect). e ++ net t older) one
 
-  pub row_says : {who : Option ℕ} (row : Transaction) (next : ℕ) → row.number ≡ t → 1 ≤ row.number → row.number < next → is_finished t older ≡ false → is_rolling_back t older ≡ false → IsRow (with_record lsn lsn row) next (r ∷ older) who
-  row_says {who} row next is number below unfinished rolling = record {
+  pub row_says : {who : Option ℕ} (row : Transaction) (next : ℕ) → row.number ≡ t → 1 ≤ row.number → row.number < next → is_finished t older ≡ false → IsRow (with_record lsn lsn row) next (r ∷ older) who
+  row_says {who} row next is number below unfinished = record {
     number = number;
     below = below;
     last = sym (at_number (λ n. last_of n (r ∷ older)) (own lsn (last_of t older)));
     undo = sym (at_number (λ n. undo_next_of n (r ∷ older)) (own (undo_from r w) (undo_next_of t older) ∙ from));
     unfinished = at_number (λ n. is_finished n (r ∷ older)) (own (is_end w || is_finished t older) (is_finished t older) ∙ ap (λ (b : Bool). b || is_finished t older) no_end ∙ unfinished);
-    forward = λ m. at_number (λ n. is_rolling_back n (r ∷ older)) (own (is_compensation w || is_rolling_back t older) (is_rolling_back t older) ∙ ap (λ (b : Bool). b || is_rolling_back t older) no_undo ∙ rolling);
     logged = λ le. inl (λ none. let never : c ∷ net t older ≡ [] = sym net_is ∙ ap (λ (n : ℕ). net n (r ∷ older)) (sym is) ∙ none in cc);
   }
     where
@@ -86,14 +85,14 @@ module _ (b : Base) (earlier before : List Effect) (s : Shown) (v : View) (older
     key_free : lawful.IsFree t (key_of c) between
     key_free = granted_keys_free _ b between v t a c h.reached (together.stays b older between v h.seen_by way.stays) h.works going (free_by_table v old t (asked a v.walk) h.locks decides.0) one
 
-    logged : is_end w ≡ false → is_compensation w ≡ false → undo_from (key_record t last lsn page w) w ≡ lsn → stack_after (key_record t last lsn page w) w (to_undo t between) ≡ key_record t last lsn page w ∷ to_undo t between → change_of w ≡ c ∷ []
+    logged : is_end w ≡ false → undo_from (key_record t last lsn page w) w ≡ lsn → stack_after (key_record t last lsn page w) w (to_undo t between) ≡ key_record t last lsn page w ∷ to_undo t between → change_of w ≡ c ∷ []
         → Adds b t c between (key_record t last lsn page w ∷ between) → IsServed b earlier before s v (Do t a) (answer a v.walk) (did v t a (lasting_of new t)) (key_record t last lsn page w ∷ between) (map (changed t (with_record lsn lsn)) rows) next new
-    logged no_end no_undo from stacked makes adds =
+    logged no_end from stacked makes adds =
         let newest = key_record t last lsn page w in
         changes_served b earlier before s v older (newest ∷ between) rows next old new t lsn lsn row a c h found mark unowned fits one decides
         (adds_behind b t c older between (newest ∷ between) way.stays adds)
-        (λ u differ. same_then u older between (newest ∷ between) (way.others u differ) (others_say between t last lsn page w c no_end no_undo from stacked makes u differ))
-        (row_says between t last lsn page w c no_end no_undo from stacked makes row next is_at.0 is_at.1.number is_at.1.below way.unfinished way.forward)
+        (λ u differ. same_then u older between (newest ∷ between) (way.others u differ) (others_say between t last lsn page w c no_end from stacked makes u differ))
+        (row_says between t last lsn page w c no_end from stacked makes row next is_at.0 is_at.1.number is_at.1.below way.unfinished)
 
 pub inserts_served : (tree : Tree) → TreeLaws tree → InsertsAreServed tree
 inserts_served tree laws b earlier before s v older between rows next old new t last lsn page row k i h found mark unowned fits way law out apart absent decides can rises =
@@ -108,14 +107,13 @@ inserts_served tree laws b earlier before s v older between rows next old new t 
       may = record {
         no_undo_next = refl;
         outside = out;
-        not_rolling_back = way.forward;
         free = key_free b earlier before s v older rows next old t row h found mark last between way new (Insert k i) (Put k i) lsn page (InsertKey k i) unowned fits one decides;
         absent = ap (λ (m : IndexMap). get m k) way.stays.walk ∙ absent;
         can_put = can;
         not_in = apart;
       };
     } in
-    let served = logged b earlier before s v older rows next old t row h found mark last between way new (Insert k i) (Put k i) lsn page (InsertKey k i) unowned fits one decides refl refl refl refl refl (put_adds b between newest t refl k i refl) in
+    let served = logged b earlier before s v older rows next old t row h found mark last between way new (Insert k i) (Put k i) lsn page (InsertKey k i) unowned fits one decides refl refl refl refl (put_adds b between newest t refl k i refl) in
     record {
       lawful = logs_stay_lawful tree laws b between newest law follows (λ e. absurd cc);
       served = subst (λ (reply : Reply). IsServed b earlier before s v (Do t (Insert k i)) reply w (newest ∷ between) (map (changed t (with_record lsn lsn)) rows) next new) says served;
@@ -134,14 +132,13 @@ deletes_served tree laws b earlier before s v older between rows next old new t 
       may = record {
         no_undo_next = refl;
         outside = out;
-        not_rolling_back = way.forward;
         free = key_free b earlier before s v older rows next old t row h found mark last between way new (Delete k) (Drop k i) lsn page (DeleteKey k i) unowned fits one decides;
         there = ap (λ (m : IndexMap). get m k) way.stays.walk ∙ there;
         can_drop = can;
         not_in = apart;
       };
     } in
-    let served = logged b earlier before s v older rows next old t row h found mark last between way new (Delete k) (Drop k i) lsn page (DeleteKey k i) unowned fits one decides refl refl refl refl refl (drop_adds b between newest t refl k i refl) in
+    let served = logged b earlier before s v older rows next old t row h found mark last between way new (Delete k) (Drop k i) lsn page (DeleteKey k i) unowned fits one decides refl refl refl refl (drop_adds b between newest t refl k i refl) in
     record {
       lawful = logs_stay_lawful tree laws b between newest law follows (λ e. absurd cc);
       served = subst (λ (reply : Reply). IsServed b earlier before s v (Do t (Delete k)) reply w (newest ∷ between) (map (changed t (with_record lsn lsn)) rows) next new) says served;
@@ -163,7 +160,6 @@ logged_commits_served tree laws b earlier before s v older rows next old new t l
       may = record {
         no_undo_next = refl;
         outside = out;
-        not_rolling_back = ap (λ (n : ℕ). is_rolling_back n older) (sym is.0) ∙ is.1.forward (λ e. let never : Going ≡ RollingBack = sym mark ∙ e in cc);
       };
     } in
     record {
@@ -189,7 +185,6 @@ logged_commits_wait tree laws b earlier before s v older rows next held t lsn ro
       may = record {
         no_undo_next = refl;
         outside = out;
-        not_rolling_back = ap (λ (n : ℕ). is_rolling_back n older) (sym is.0) ∙ is.1.forward (λ e. let never : Going ≡ RollingBack = sym mark ∙ e in cc);
       };
     } in
     record {

@@ -22,7 +22,6 @@ row_on {who} row next older longer on r = record {
   last = r.last ∙ sym (on.last r.number);
   undo = r.undo ∙ sym (on.undo r.number);
   unfinished = on.finished ∙ r.unfinished;
-  forward = λ m. on.rolling ∙ r.forward m;
   logged = λ le. elim (r.logged le) [ inl some ↦ inl (λ none. some (sym (ap changes_of on.stack) ∙ none)) | inr own ↦ inr own ];
 }
 
@@ -57,7 +56,7 @@ row_of_found who t next log x o row is at = subst (λ (p : Option Transaction). 
 
 -- a row that means a change stays one, whoever has a structure change under way
 pub row_has : {who other : Option ℕ} (row : Transaction) (next : ℕ) (log : History) → net row.number log ≢ [] → IsRow row next log who → IsRow row next log other
-row_has {who} {other} row next log has r = record { number = r.number; below = r.below; last = r.last; undo = r.undo; unfinished = r.unfinished; forward = r.forward; logged = λ le. inl has }
+row_has {who} {other} row next log has r = record { number = r.number; below = r.below; last = r.last; undo = r.undo; unfinished = r.unfinished; logged = λ le. inl has }
 
 -- that of t ends, if it was its own: the others' rows stay
 other_row : (t u next : ℕ) (log : History) (row : Transaction) → row.number ≡ u → u ≢ t → IsRow row next log (Some t) → IsRow row next log None
@@ -67,7 +66,6 @@ other_row t u next log row is differ r = record {
   last = r.last;
   undo = r.undo;
   unfinished = r.unfinished;
-  forward = r.forward;
   logged = λ le. elim (r.logged le) [ inl some ↦ inl some | inr own ↦ absurd (differ (sym is ∙ sym (same_number own))) ];
 }
   where
@@ -153,13 +151,12 @@ one_fewer active many few a m = ap (λ (n : ℕ). n - 1) (a ∙ m) ∙ by few
     by n = omega arith
 
 -- a row with another mark
-pub row_marked : {who : Option ℕ} (m : Mark) (row : Transaction) (next : ℕ) (log : History) → ((with_mark m row).mark ≢ RollingBack → row.mark ≢ RollingBack) → IsRow row next log who → IsRow (with_mark m row) next log who
-row_marked {who} m row next log ahead r = record {
+pub row_marked : {who : Option ℕ} (m : Mark) (row : Transaction) (next : ℕ) (log : History) → IsRow row next log who → IsRow (with_mark m row) next log who
+row_marked {who} m row next log r = record {
   number = r.number;
   below = r.below;
   last = r.last;
   undo = r.undo;
   unfinished = r.unfinished;
-  forward = λ other. r.forward (ahead other);
   logged = r.logged;
 }

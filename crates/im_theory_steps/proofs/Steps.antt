@@ -10,7 +10,7 @@ use Rattle.im_theory_log.proofs.Committed.{nets_of}
 use Rattle.im_base_types.proofs.Nets.{no_nets}
 use Rattle.im_theory_log.specs.Tree.{Tree}
 use Rattle.im_theory_log.specs.Histories.{History, Base}
-use Rattle.im_theory_log.specs.Transactions.{committed, contents, net, last_of, undo_next_of, to_undo, is_finished, is_rolling_back, changes_of}
+use Rattle.im_theory_log.specs.Transactions.{committed, contents, net, last_of, undo_next_of, to_undo, is_finished, changes_of}
 use Rattle.im_base_types.specs.Answers as answers
 use Rattle.im_base_types.specs.Answers.{Access, Step, Reply, Begin, Started, Do, Commit, Committed, Rollback, RolledBack, Continue, More, Blocked, Die, FlushPage, Force, Checkpoint, Done, Refused, answer}
 use Rattle.im_base_types.specs.Lives.{Shown, Asked, effects, effect_asked, nothing_shown, shows}
@@ -32,7 +32,7 @@ use Rattle.im_theory_steps.specs.Growth.{Stays, IsOver, HasNone}
 use Rattle.im_theory_steps.specs.Seen.{IsSeen}
 use Rattle.im_theory_steps.specs.Serving.{IsRow, IsRowOf, IsWaitingRow, IsAt, AreRows, mark_of, IsServing, IsServed}
 use Rattle.im_theory_steps.specs.Steps.{NewStoresServe, RowsTakeOwner, RowsLeaveOwner, OpenedStoresServe, QuietLogsHoldCommitted, ImagesKeepServing, StructureKeepsServing, WaysLeadOn, ChangesAreServed, ReadsAreServed, WaitsAreServed, DiesAreServed, BeginsAreServed, CommitsAreServed, CommitsWait, without_all, UnloggedCommitsAreServed, DropsAreServed, TurnsAreServed, UndoIsServed, EndsAreServed, FlushesAreServed, ForcesAreServed, CheckpointsAreServed, BarredStepsAreServed, LacksAreServed}
-use Rattle.im_theory_steps.proofs.Growth.{images_change_nothing, structure_changes_no_key, stays_then, same_here, same_then, none_last, none_undo, none_finished, none_rolling, unlogged}
+use Rattle.im_theory_steps.proofs.Growth.{images_change_nothing, structure_changes_no_key, stays_then, same_here, same_then, none_last, none_undo, none_finished, unlogged}
 use Rattle.im_theory_steps.proofs.Together.{together, marked_seen, dropped_seen, empty_seen, begun_seen}
 use Rattle.im_theory_steps.proofs.Holding.{same_itself, kept_none, kept_undone, GoWith, same_locks, released_locks, forced_locks, pends_beside}
 use Rattle.im_theory_steps.proofs.Promises.{moves_reach}
@@ -227,7 +227,6 @@ dies_served b earlier before s v older longer rows next old new t row a h found 
     let going : (v.txns t).mark ≡ answers.Going = is.2 ∙ ap mark_of mark in
     let goes = changes-serve.decided v old new h.locks t a MustDie going (beside b earlier before s v older rows next old h t unowned) decides in
     let w = marked v t answers.MustRollBack in
-    let forward : (with_mark MustRollBack row).mark ≢ RollingBack → row.mark ≢ RollingBack = λ other e. let never : Going ≡ RollingBack = sym mark ∙ e in cc in
     served b earlier before s v older rows next old h (Do t a) Die w longer (map (changed t (with_mark MustRollBack)) rows) next new
     (moves_by v w (Do t a) Die (do_passes v t h.works a unowned going fits) goes.0)
     h.works
@@ -236,7 +235,7 @@ dies_served b earlier before s v older longer rows next old new t row a h found 
     (ap effects (dies_ask_nothing s t a))
     (record {
       each = rows_changed (owner_in v) t next older longer rows v.txns (record (v.txns t) { mark = answers.MustRollBack }) (with_mark MustRollBack) row (λ r. refl) (λ u differ. all u) h.table.each found is.0
-          (row_marked MustRollBack row next longer forward (row_on row next older longer (all row.number) is.1)) refl;
+          (row_marked MustRollBack row next longer (row_on row next older longer (all row.number) is.1)) refl;
       active = h.table.active ∙ sym (length_map (changed t (with_mark MustRollBack)) rows);
       numbers = h.table.numbers;
     })
@@ -251,7 +250,7 @@ below_of who MustRollBack row next log r = r.below
 below_of who RollingBack row next log r = r.below
 
 wider_row : {who : Option ℕ} (row : Transaction) (next : ℕ) (log : History) → IsRow row next log who → IsRow row (suc next) log who
-wider_row {who} row next log r = let l : row.number < next = r.below in record { number = r.number; below = omega (arith, l); last = r.last; undo = r.undo; unfinished = r.unfinished; forward = r.forward; logged = r.logged }
+wider_row {who} row next log r = let l : row.number < next = r.below in record { number = r.number; below = omega (arith, l); last = r.last; undo = r.undo; unfinished = r.unfinished; logged = r.logged }
 
 wider_of : (who : Option ℕ) (m : marks.Mark) (row : Transaction) (next : ℕ) (log : History) → IsRowOf m row next log who → IsRowOf m row (suc next) log who
 wider_of who Committing row next log r = let l : row.number < next = r.below in record { number = r.number; below = omega (arith, l); over = r.over; stack = r.stack }
@@ -275,7 +274,6 @@ begun_row {who} next log none one = record {
   last = sym (none_last next log none);
   undo = sym (none_undo next log none);
   unfinished = none_finished next log none;
-  forward = λ m. none_rolling next log none;
   logged = λ le. absurd (omega (arith, le));
 }
 
@@ -444,7 +442,7 @@ turns_served b earlier before s v log rows next held t row h found mark le free 
     refl
     (record {
       each = rows_changed (owner_in v) t next log log rows v.txns (record (v.txns t) { mark = answers.RollingBack }) (with_mark RollingBack) row (λ r. refl) (λ u differ. same_here u log) h.table.each found is.0
-          (row_marked RollingBack row next log (λ other. absurd (other refl)) is.1) refl;
+          (row_marked RollingBack row next log is.1) refl;
       active = h.table.active ∙ sym (length_map (changed t (with_mark RollingBack)) rows);
       numbers = h.table.numbers;
     })
@@ -680,7 +678,6 @@ structure_keeps b earlier before s v older longer rows next held t row h found f
       last = ap (λ (n : ℕ). last_of n longer) (sym is.0);
       undo = ap (λ (n : ℕ). undo_next_of n longer) (sym is.0);
       unfinished = ap (λ (n : ℕ). is_finished n longer) is.0 ∙ on.finished ∙ ap (λ (n : ℕ). is_finished n older) (sym is.0) ∙ r.unfinished;
-      forward = λ m. ap (λ (n : ℕ). is_rolling_back n longer) is.0 ∙ on.rolling ∙ ap (λ (n : ℕ). is_rolling_back n older) (sym is.0) ∙ r.forward m;
       logged = λ le. elim some [
         | inl had ↦ elim (r.logged had) [ inl some_net ↦ inl (λ none. some_net (sym (on.stays.nets row.number) ∙ none)) | inr own ↦ inr own ]
         | inr own ↦ inr (own ∙ ap (λ (n : ℕ). Some n) (sym is.0))
@@ -700,7 +697,6 @@ ways_lead_on = record {
         others = λ u differ. same_here u log;
         newest = sym (is.1.last ∙ ap (λ (n : ℕ). last_of n log) is.0);
         unfinished = ap (λ (n : ℕ). is_finished n log) (sym is.0) ∙ is.1.unfinished;
-        forward = ap (λ (n : ℕ). is_rolling_back n log) (sym is.0) ∙ is.1.forward (λ e. let never : Going ≡ RollingBack = sym mark ∙ e in cc);
       };
   leads = λ b t last older between longer way grows.
       let on = structure_changes_no_key b t between longer grows in
@@ -709,14 +705,13 @@ ways_lead_on = record {
         others = λ u differ. same_then u older between longer (way.others u differ) (on.others u differ);
         newest = refl;
         unfinished = on.finished ∙ way.unfinished;
-        forward = on.rolling ∙ way.forward;
       };
 }
 
 -- ---- whose structure change is under way
 
 taken_row : (t next : ℕ) (log : History) (row : Transaction) → IsRow row next log None → IsRow row next log (Some t)
-taken_row t next log row r = record { number = r.number; below = r.below; last = r.last; undo = r.undo; unfinished = r.unfinished; forward = r.forward; logged = λ le. elim (r.logged le) [ inl some ↦ inl some | inr own ↦ absurd cc ] }
+taken_row t next log row r = record { number = r.number; below = r.below; last = r.last; undo = r.undo; unfinished = r.unfinished; logged = λ le. elim (r.logged le) [ inl some ↦ inl some | inr own ↦ absurd cc ] }
 
 taken_of : (m : marks.Mark) (t next : ℕ) (log : History) (row : Transaction) → IsRowOf m row next log None → IsRowOf m row next log (Some t)
 taken_of Committing t next log row r = r
@@ -742,7 +737,6 @@ left_row t next log row has r = record {
   last = r.last;
   undo = r.undo;
   unfinished = r.unfinished;
-  forward = r.forward;
   logged = λ le. elim (r.logged le) [ inl some ↦ inl some | inr own ↦ inl (λ none. has (ap (λ (n : ℕ). net n log) (same own) ∙ none)) ];
 }
   where

@@ -80,7 +80,6 @@ undone_served b earlier before s v older longer rows next held t row c h found m
       last = ap (λ (n : ℕ). last_of n longer) (sym is.0);
       undo = ap (λ (n : ℕ). undo_next_of n longer) (sym is.0);
       unfinished = ap (λ (n : ℕ). is_finished n longer) is.0 ∙ going;
-      forward = λ other. absurd (other mark);
       logged = λ le. inl (λ none. left (ap (λ (n : ℕ). net n longer) (sym is.0) ∙ none));
     } in
     undo_served b earlier before s v older longer rows next held t (last_of t longer) (undo_next_of t longer) row c h found mark on.0 left on.1 now

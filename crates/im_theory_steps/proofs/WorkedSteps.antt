@@ -4,7 +4,7 @@ use Rattle.im_base_types.specs.Keys.{Key}
 use Rattle.im_base_types.specs.Changes.{Put}
 use Rattle.im_base_types.specs.Records.{InsertKey, UndoInsert, Commit as CommitRecord, End as EndRecord}
 use Rattle.im_theory_log.specs.Histories.{History}
-use Rattle.im_theory_log.specs.Transactions.{committed, net, last_of, is_finished, is_rolling_back}
+use Rattle.im_theory_log.specs.Transactions.{committed, net, last_of, is_finished}
 use Rattle.im_base_types.specs.Answers.{Step, Reply, Begin, Do, Commit, Rollback, Continue, Insert, Started, Inserted, Committed, RolledBack, More}
 use Rattle.im_base_types.specs.Lives.{nothing_shown, shown_by}
 use Rattle.im_theory_machine.specs.Isolation.{finished, serial}
@@ -37,8 +37,8 @@ one_committed = refl
 one_left : net 1 two ≡ Put a 1 ∷ []
 one_left = refl
 
-none_left : (net 1 undone ≡ []) × (is_rolling_back 1 undone ≡ true) × (is_finished 1 undone ≡ true) × (last_of 1 undone ≡ 5)
-none_left = (refl, refl, refl, refl)
+none_left : (net 1 undone ≡ []) × (is_finished 1 undone ≡ true) × (last_of 1 undone ≡ 5)
+none_left = (refl, refl, refl)
 
 still_committed : committed undone ≡ (Put b 2 ∷ []) ∷ []
 still_committed = refl

@@ -10,7 +10,7 @@ use Rattle.im_theory_log.specs.Histories.{History, Base, end_of, page_at}
 use Rattle.im_theory_log.specs.Structure.{open_smo}
 use Rattle.im_theory_log.specs.Copies as copies
 use Rattle.im_theory_log.specs.Lawful.{IsLawful}
-use Rattle.im_theory_log.specs.Transactions.{committed, contents, net, last_of, undo_next_of, to_undo, is_finished, is_rolling_back, is_end}
+use Rattle.im_theory_log.specs.Transactions.{committed, contents, net, last_of, undo_next_of, to_undo, is_finished, is_end}
 
 -- ---- what both halves of a step say of it: the committed effects, the tree's map and the nets
 
@@ -48,7 +48,6 @@ pub record SaysSameOf (u : ℕ) (older longer : History) : Type 0 where
   pub last : 1 ≤ u → last_of u longer ≡ last_of u older
   pub undo : 1 ≤ u → undo_next_of u longer ≡ undo_next_of u older
   pub finished : is_finished u longer ≡ is_finished u older
-  pub rolling : is_rolling_back u longer ≡ is_rolling_back u older
   pub stack : to_undo u longer ≡ to_undo u older
 
 -- of each but t
@@ -162,7 +161,6 @@ pub record IsRestructured (b : Base) (t : ℕ) (older longer : History) : Type 0
   pub stays : Stays b older longer
   pub others : IsOfOthers t older longer
   pub finished : is_finished t longer ≡ is_finished t older
-  pub rolling : is_rolling_back t longer ≡ is_rolling_back t older
 
 -- structure changes leave that
 abbrev pub StructureChangesNoKey : Type 0

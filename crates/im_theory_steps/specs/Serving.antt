@@ -3,7 +3,7 @@ use Rattle.std.specs.Prelude.{◌≡◌, ◌≢◌, ◌≤◌, ◌<◌, ℕ, ◌
 use Rattle.std.specs.FinMap.{empty}
 use Rattle.im_base_types.specs.Changes.{Effect, apply_all, seen}
 use Rattle.im_theory_log.specs.Histories.{History, Base}
-use Rattle.im_theory_log.specs.Transactions.{committed, last_of, undo_next_of, to_undo, is_finished, is_rolling_back, net}
+use Rattle.im_theory_log.specs.Transactions.{committed, last_of, undo_next_of, to_undo, is_finished, net}
 use Rattle.im_base_types.specs.Answers as answers
 use Rattle.im_base_types.specs.Answers.{Step, Reply}
 use Rattle.im_base_types.specs.Lives.{Shown, effects, shows}
@@ -33,7 +33,6 @@ pub record IsRow (row : Transaction) (next : ℕ) (log : History) (who : Option 
   pub last : row.last ≡ last_of row.number log
   pub undo : row.undo_next ≡ undo_next_of row.number log
   pub unfinished : is_finished row.number log ≡ false
-  pub forward : row.mark ≢ RollingBack → is_rolling_back row.number log ≡ false
   -- a record means a change, in a rollback too, but where a structure change of it is under way
   pub logged : 1 ≤ row.last → (net row.number log ≢ []) ⊎ (who ≡ Some row.number)
 

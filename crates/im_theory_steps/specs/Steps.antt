@@ -10,7 +10,7 @@ use Rattle.im_theory_log.specs.Structure.{open_smo, settled}
 use Rattle.im_theory_log.specs.Lawful as lawful
 use Rattle.im_theory_log.specs.Lawful.{IsLawful, IsOutside, IsNotIn}
 use Rattle.im_theory_log.specs.Histories.{History, Base, Rises, end_of}
-use Rattle.im_theory_log.specs.Transactions.{committed, last_of, undo_next_of, to_undo, net, is_finished, is_rolling_back, contents}
+use Rattle.im_theory_log.specs.Transactions.{committed, last_of, undo_next_of, to_undo, net, is_finished, contents}
 use Rattle.im_base_types.specs.Answers.{Access, Insert, Delete, Inserted, Deleted, Step, Begin, Started, Do, Commit, Committed, Rollback, RolledBack, Continue, More, Blocked, BlockedTree, Die, FlushPage, Force, Checkpoint, Done, Refused, answer, changes}
 use Rattle.im_base_types.specs.Answers as answers
 use Rattle.im_base_types.specs.Lives.{Shown, nothing_shown}
@@ -63,7 +63,6 @@ pub record IsOnTheWay (b : Base) (t last : ℕ) (older between : History) : Type
   pub others : IsOfOthers t older between
   pub newest : last_of t between ≡ last
   pub unfinished : is_finished t between ≡ false
-  pub forward : is_rolling_back t between ≡ false
 
 -- A change begins there, for a transaction that is going, and structure changes of its own lead on.
 pub record WaysLeadOn : Type 0 where
