@@ -1,7 +1,7 @@
 -- Worked lives and answers, by computation: which Commits are asked, in each case; and the replies to one user alone.
 use Rattle.std.proofs.Common.{◌≡◌, ℕ, List, [], ◌∷◌, Bool, true, false, refl, ◌∙◌, None, Some}
 use Rattle.std.specs.FinMap.{empty, get, insert, get-empty}
-use Rattle.im_base_types.specs.Answers.{Absent, Begin, Commit, Committed, Continue, Delete, Deleted, Die, Do, Done, Duplicate, Fetch, Force, Found, Insert, Inserted, More, Refused, Reply, Rollback, RolledBack, Started, Step, replay}
+use Rattle.im_base_types.specs.Answers.{Absent, Begin, Commit, Committed, Continue, Delete, Deleted, Die, Do, Done, Duplicate, Fetch, Force, Found, Insert, Inserted, More, Refused, Reply, RollTo, Rollback, RolledBack, Started, Step, replay}
 use Rattle.im_base_types.specs.Changes.{Drop, Put}
 use Rattle.im_base_types.specs.Keys.{key_order}
 use Rattle.im_base_types.specs.Lives.{Asked, Shown, nothing_shown, shown_by, shows}
@@ -75,6 +75,20 @@ commit_after_die = refl
 
 commit_in_rollback : asked_of (shows (shows going (Rollback 1) (Some More)) (Commit 1) (Some (Refused rolling_back))) ≡ []
 commit_in_rollback = refl
+
+-- a return takes what came after the first n changes from what is asked; within it nothing is asked; and it lifts what Die left
+commit_returned : asked_of (shown_by nothing_shown ((Begin, Started 1) ∷ (Do 1 (Insert (97 ∷ []) 7), Inserted) ∷ (Do 1 (Insert (98 ∷ []) 8), Inserted) ∷ (Do 1 (Insert (99 ∷ []) 9), Inserted) ∷ (RollTo 1 1, More) ∷ (Continue 1, More) ∷ (Continue 1, Done)
+    ∷ (Do 1 (Insert (100 ∷ []) 6), Inserted) ∷ (Commit 1, Committed) ∷ [])) ≡ record { txn = 1; effect = Put (100 ∷ []) 6 ∷ Put (97 ∷ []) 7 ∷ []; acked = true } ∷ []
+commit_returned = refl
+
+commit_in_return : asked_of (shows (shows going (RollTo 1 0) (Some More)) (Commit 1) (Some (Refused rolling_back))) ≡ []
+commit_in_return = refl
+
+commit_of_all_taken_back : asked_of (shown_by going ((RollTo 1 0, More) ∷ (Continue 1, Done) ∷ (Commit 1, Committed) ∷ [])) ≡ []
+commit_of_all_taken_back = refl
+
+commit_after_return : asked_of (shown_by going ((Do 1 (Fetch (98 ∷ [])), Die) ∷ (RollTo 1 1, Done) ∷ (Commit 1, Committed) ∷ [])) ≡ effect true
+commit_after_return = refl
 
 -- a transaction that changed nothing asks for nothing
 commit_empty : asked_of (shown_by nothing_shown ((Begin, Started 1) ∷ (Commit 1, Committed) ∷ [])) ≡ []
