@@ -226,7 +226,7 @@ queue_serial base w f told fits (t ∷ ts) each marks trace as' rs =
 -- ---- a whole run
 
 -- what is not refused no check bars
-passed : (v : View) (step : Step) (reply : Reply) (w : View) (o : Option ℕ) → Answers v step reply w o → ((fault : ℕ) → reply ≡ Refused fault → ⊥) → o ≡ None
+pub passed : (v : View) (step : Step) (reply : Reply) (w : View) (o : Option ℕ) → Answers v step reply w o → ((fault : ℕ) → reply ≡ Refused fault → ⊥) → o ≡ None
 passed v step reply w None g never = refl
 passed v step reply w (Some fault) g never = absurd (never fault g.0)
 
@@ -278,7 +278,7 @@ module _ (base : IndexMap) (n : ℕ) where
       (one_step front v q.0 e.0 e.1 r q.1)
       (serial_from (front ++ e ∷ []) es q.0 w (Run-push (start base n) v q.0 front e.0 e.1 r q.1) q.2)
 
-none_refused : (reply : Reply) → (reply ≡ More) ⊎ (reply ≡ Done) → (fault : ℕ) → reply ≡ Refused fault → ⊥
+pub none_refused : (reply : Reply) → (reply ≡ More) ⊎ (reply ≡ Done) → (fault : ℕ) → reply ≡ Refused fault → ⊥
 none_refused reply (inl h) fault e = cc
 none_refused reply (inr h) fault e = cc
 

@@ -20,6 +20,7 @@ pub mod Runs
 pub mod Theorem
 pub mod Callers
 pub mod Isolates
+pub mod Returns
 pub mod Serving
 pub mod Changing
 pub mod Moved
@@ -28,3 +29,4 @@ pub mod OverlaysBegun
 pub mod OverlaysMerged
 pub mod OverlaysTogether
 pub mod WorkedRuns
+pub mod WorkedReturns

@@ -40,10 +40,10 @@ pub queue_breaks : (v : View) (ls : ℕ → List Lock) → IsQueue v.queue v.txn
 queue_breaks v ls h = record { each = h.each; waits = h.waits; all = h.all }
 
 -- one that has taken its newest change back
-given_mark : (v : View) (t n : ℕ) (c : Change) (cs : List Change) → (v.txns t).mark ≡ Returning n → ((undid_more v t c cs).txns t).mark ≡ Returning n
+pub given_mark : (v : View) (t n : ℕ) (c : Change) (cs : List Change) → (v.txns t).mark ≡ Returning n → ((undid_more v t c cs).txns t).mark ≡ Returning n
 given_mark v t n c cs is = ap (λ (x : Txn). x.mark) (set_txn-same v.txns t (record (v.txns t) { net = cs })) ∙ is
 
-given_net : (v : View) (t : ℕ) (c : Change) (cs : List Change) → ((undid_more v t c cs).txns t).net ≡ cs
+pub given_net : (v : View) (t : ℕ) (c : Change) (cs : List Change) → ((undid_more v t c cs).txns t).net ≡ cs
 given_net v t c cs = ap (λ (x : Txn). x.net) (set_txn-same v.txns t (record (v.txns t) { net = cs }))
 
 pub queue_goes : (v w : View) (step : Step) (reply : Reply) → IsQueue v.queue v.txns → (v.txns v.next).mark ≡ Idle → Goes v step reply w → IsQueue w.queue w.txns

@@ -38,7 +38,7 @@ queue_set queue txns h t x before now = record {
 pub not_waiting : (m n : Mark) → m ≡ n → (n ≡ Committing → ⊥) → m ≡ Committing → ⊥
 not_waiting m n e f is = f (sym e ∙ is)
 
-not_going_by : (m n : Mark) → m ≡ n → (n ≡ Going → ⊥) → m ≡ Going → ⊥
+pub not_going_by : (m n : Mark) → m ≡ n → (n ≡ Going → ⊥) → m ≡ Going → ⊥
 not_going_by m n e f is = f (sym e ∙ is)
 
 pub may_not_wait : (m : Mark) → MayRollBack m → m ≡ Committing → ⊥

@@ -23,7 +23,7 @@ use Rattle.im_theory_machine.proofs.Under.{ahead, ahead_same}
 -- ---- the two orders of a story
 
 -- the stories of a trace, one by one
-told_one : (pend : ℕ → Option Access) (told : ℕ → List (Access × Reply)) (es : List (Step × Reply)) (t : ℕ) → tells pend told es t ≡ story_from t (pend t) (told t) es
+pub told_one : (pend : ℕ → Option Access) (told : ℕ → List (Access × Reply)) (es : List (Step × Reply)) (t : ℕ) → tells pend told es t ≡ story_from t (pend t) (told t) es
 told_one pend told [] t = refl
 told_one pend told (e ∷ es) t = told_one (λ s. pending_after s (pend s) e.0 e.1) (tell pend told e.0 e.1) es t
 
@@ -42,6 +42,18 @@ finished_accesses es t = ap accesses_of (told_one (pending_of None) nothing_told
 
 pub finished_replies : (es : List (Step × Reply)) (t : ℕ) → replies_of (tells (pending_of None) nothing_told es t) ≡ map (λ f. f.1) (finished t es)
 finished_replies es t = ap replies_of (told_one (pending_of None) nothing_told es t) ∙ reversed_replies (story_from t None [] es)
+
+-- a trace longer by one step, which tells one more, or none, and takes nothing off
+pub story_longer : (t : ℕ) (o : Option Access) (fs : List (Access × Reply)) (xs : List (Step × Reply)) (e : Step × Reply) (more : List (Access × Reply)) → ((p : Option Access) (gs : List (Access × Reply)) → access_of t p e.0 e.1 ++ kept_after t e.0 e.1 gs ≡ more ++ gs)
+    → story_from t o fs (xs ++ e ∷ []) ≡ more ++ story_from t o fs xs
+story_longer t o fs [] e more is = is o fs
+story_longer t o fs (x ∷ xs) e more is = story_longer t (pending_after t o x.0 x.1) (access_of t o x.0 x.1 ++ kept_after t x.0 x.1 fs) xs e more is
+
+pub finished_none : (t : ℕ) (xs : List (Step × Reply)) (e : Step × Reply) → ((p : Option Access) → TellsNone t p e.0 e.1) → finished t (xs ++ e ∷ []) ≡ finished t xs
+finished_none t xs e none = ap (λ gs. reverse gs) (story_longer t None [] xs e [] none)
+
+pub finished_one : (t : ℕ) (xs : List (Step × Reply)) (e : Step × Reply) (f : Access × Reply) → ((p : Option Access) (gs : List (Access × Reply)) → access_of t p e.0 e.1 ++ kept_after t e.0 e.1 gs ≡ f ∷ gs) → finished t (xs ++ e ∷ []) ≡ finished t xs ++ f ∷ []
+finished_one t xs e f one = ap (λ gs. reverse gs) (story_longer t None [] xs e (f ∷ []) one) ∙ reverse_onto (story_from t None [] xs) f []
 
 -- ---- one that is going
 

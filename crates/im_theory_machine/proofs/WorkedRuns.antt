@@ -14,10 +14,10 @@ use Rattle.im_theory_machine.specs.Worked.{empty_map, missing, both_begun, end_s
 use Rattle.im_theory_machine.proofs.Invariant.{by_txn}
 use Rattle.im_theory_machine.proofs.Search.{first-by}
 
-none_there : (k : Key) → get empty_map k ≡ None
+pub none_there : (k : Key) → get empty_map k ≡ None
 none_there k = get-empty key_order k
 
-none_first : (s : Start) → first s empty_map ≡ None
+pub none_first : (s : Start) → first s empty_map ≡ None
 none_first s = first-by s empty_map None (λ x p. none_there x)
 
 next_is : next_name empty_map missing ≡ PastAll

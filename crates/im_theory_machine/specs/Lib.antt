@@ -4,9 +4,11 @@ pub mod Rows
 pub mod View
 pub mod Machine
 pub mod Isolation
+pub mod Returns
 pub mod Kept
 pub mod Serving
 pub mod Changing
 pub mod Overlays
 pub mod OverlayLaws
 pub mod Worked
+pub mod WorkedReturns

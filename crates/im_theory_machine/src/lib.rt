@@ -26,12 +26,14 @@
 
 mod isolated;
 mod lock_kind;
+mod returned;
 mod verdict;
 mod views;
 mod worked;
 
 pub use isolated::{free_reads_are_committed, granted_changes_are_free, isolation, table_serves};
 pub use lock_kind::{Duration, Mode};
+pub use returned::returns_stand;
 pub use verdict::Verdict;
 pub use views::views_are_committed;
-pub use worked::a_gap_that_was_read_stays;
+pub use worked::{a_gap_opens_at_a_return, a_gap_that_was_read_stays, a_return_is_told};
