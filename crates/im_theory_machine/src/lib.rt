@@ -12,8 +12,10 @@
 //! runs. The contract of `isolation` says, of every run: each transaction's replies are those that it would
 //! get alone, on the map committed now while it is going, on the map before its place in commit order once it has
 //! committed, and on the map committed just before its rollback; and the committed map is the committed
-//! transactions applied one after another (`Isolates`). The contract of `table_serves` says that a table's three
-//! verdicts are the machine's three answers, and its releases the machine's.
+//! transactions applied one after another (`Isolates`). A transaction may take its newest changes back until so many
+//! are left, and go on (`RollTo`): of what it was told only what came before these stands, and the contract of
+//! `returns_stand` says what is left. The contract of `table_serves` says that a table's three verdicts are the
+//! machine's three answers, and its releases the machine's.
 //! The contract of `free_reads_are_committed` says that what a reader who has changed nothing finds free is as it was committed.
 //!
 //! **Views of readers.** A reader may have one committed map for as long as it likes, beside whatever steps the machine makes: what a
