@@ -111,6 +111,8 @@ fn number_of(file: FileId, is_copy: bool) -> u32
 impl Disk for CallerDisk {
     ghost tells = { ⊥ };
 
+    ghost sums = { Unit {0} };
+
     ghost seen = { λ _ _. [] };
 
     ghost may_leave = { λ _ _. ⊥ };
@@ -130,6 +132,10 @@ impl Disk for CallerDisk {
     ghost only_now = { λ _ _ none. none };
 
     ghost seen_may_stay = { λ _ none. absurd none };
+
+    fn keeps_sums(&self) -> bool {
+        true
+    }
 
     fn len(&mut self, file: FileId) -> Result<u64, Fault> {
         let outcome = self.asked(LEN, file, 0, 0, b"");

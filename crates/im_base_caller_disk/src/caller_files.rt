@@ -84,6 +84,8 @@ impl CallerFiles {
 impl Disk for CallerFiles {
     ghost tells = { ⊥ };
 
+    ghost sums = { Unit {0} };
+
     ghost seen = { λ _ _. [] };
 
     ghost may_leave = { λ _ _. ⊥ };
@@ -103,6 +105,10 @@ impl Disk for CallerFiles {
     ghost only_now = { λ _ _ none. none };
 
     ghost seen_may_stay = { λ _ none. absurd none };
+
+    fn keeps_sums(&self) -> bool {
+        true
+    }
 
     fn len(&mut self, file: FileId) -> Result<u64, Fault> {
         let outcome = self.way.len(file);

@@ -1,5 +1,5 @@
 -- What the calls of a disk do to its files, and what a stop may do between two syncs.
-use Rattle.std.specs.Prelude.{◌≡◌, ◌≢◌, ◌⊎◌, ℕ, ◌+◌, ◌≤◌, max, Bool, not, is_ok, List, [], ◌++◌, length, take, drop, Result, IfErr}
+use Rattle.std.specs.Prelude.{◌≡◌, ◌≢◌, ◌⊎◌, ℕ, ◌+◌, ◌≤◌, ◌<◌, max, Bool, not, is_ok, List, [], ◌++◌, length, take, drop, Result, IfErr, Option, Some}
 use Rattle.im_base_types.specs.declared.fault.Fault.{Fault}
 use Rattle.im_base_types.specs.declared.fault.Fault.TheVariants.{Device}
 use Rattle.im_base_types.specs.declared.file_id.FileId.{FileId}
@@ -29,6 +29,19 @@ pub record Torn (at n : ℕ) (old new : List ℕ) : Type 0 where
   pub after : drop (at + n) new ≡ drop (at + n) old
   pub no_shorter : length old ≤ length new
   pub no_longer : length new ≤ max (length old) (at + n)
+
+-- What a reader finds at a place of a file: what stands there with its sum, or none.
+abbrev pub Shows : Type 0
+Shows = ℕ → List ℕ → Option (List ℕ)
+
+-- the file once the write of these bytes is whole
+abbrev pub whole : ℕ → List ℕ → List ℕ → List ℕ
+whole at bytes old = take at old ++ bytes ++ drop (at + length bytes) old
+
+-- The same where a stop forges no sum: what the file then shows in the range was there before, or is what the whole write would have there.
+pub record Unforged (shows : Shows) (at : ℕ) (bytes old new : List ℕ) : Type 0 where
+  pub torn : Torn at (length bytes) old new
+  pub shown : (p : ℕ) (r : List ℕ) → at ≤ p → p < at + length bytes → shows p new ≡ Some r → (shows p old ≡ Some r) ⊎ (shows p (whole at bytes old) ≡ Some r)
 
 -- one file takes a step, and each other is as before
 pub record InFile (file : FileId) (step : List ℕ → List ℕ → Type 0) (old new : Files) : Type 0 where

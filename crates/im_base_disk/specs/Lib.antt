@@ -1,3 +1,4 @@
 pub mod Disk
+pub mod Sums
 pub mod Runs
 pub mod Ends

@@ -1,6 +1,7 @@
-ghost use Rattle.std.specs.Prelude.{◌≡◌, ◌≢◌, ◌+◌, ◌≤◌, ℕ, Bool, false, length, take, drop, IfOk, OnOk};
+ghost use Rattle.std.specs.Prelude.{◌≡◌, ◌≢◌, ◌+◌, ◌≤◌, ℕ, Bool, false, true, length, take, drop, IfOk, OnOk};
 ghost use Rattle.im_base_types.specs.declared.file_id.FileId.{FileId};
-ghost use Rattle.im_base_disk.specs.Disk.{Files, Only, Follows, InFile, Holds, Torn, Elapses, OnlyReads, Answers, Calls};
+ghost use Rattle.im_base_disk.specs.Disk.{Files, Only, Follows, InFile, Holds, Torn, Unforged, Elapses, OnlyReads, Answers, Calls};
+ghost use Rattle.im_base_disk.specs.Sums.{shows_in};
 
 use im_base_types::{Fault, FileId};
 
@@ -10,6 +11,9 @@ use im_base_types::{Fault, FileId};
 pub trait Disk {
     /// The premise of each clause on bytes: that the disk tells them.
     ghost tells: { Type 0 };
+
+    /// The second premise: that no stop forges a sum.
+    ghost sums: { Type 0 };
 
     /// The bytes that a read gives.
     ghost seen: { Self → Files };
@@ -32,6 +36,10 @@ pub trait Disk {
     /// How often it was called to sync, in all.
     ghost syncs: { Self → ℕ };
 
+    /// Whether this disk keeps the second premise. No device call.
+    fn keeps_sums(&self) -> bool
+        ensures { result ≡ true → sums };
+
     /// The length of a file in bytes.
     fn len(&mut self, file: FileId) -> Result<u64, Fault>
         requires { failed self.old ≡ false }
@@ -48,13 +56,15 @@ pub trait Disk {
         ensures answers { Answers (failed self.new) result };
 
     /// Writes over what is there and past the end, from a place that is at most the length. Until a sync of that
-    /// file, a stop may leave any bytes in the range.
+    /// file, a stop may leave any bytes in the range; where no stop forges a sum, none that show a batch which the
+    /// file had not, and would not have by the whole write.
     fn write_at(&mut self, file: FileId, at: u64, bytes: &[u8]) -> Result<(), Fault>
         requires working { failed self.old ≡ false }
         requires place { tells → at ≤ length (seen self.old file) }
         ensures written { OnOk result (tells → Holds at bytes.now (seen self.old file) (seen self.new file)) }
         ensures others { (other : FileId) → other ≢ file → seen self.new other ≡ seen self.old other }
         ensures crash { Follows (InFile file (Torn at (length bytes.now))) (may_leave self.old) (may_leave self.new) }
+        ensures unforged { sums → Follows (InFile file (Unforged (shows_in file) at bytes.now)) (may_leave self.old) (may_leave self.new) }
         ensures time { Elapses (moment self.old) (moment self.new) (left_since self.old) (left_since self.new) (may_leave self.new) }
         ensures costs { Calls writes syncs 1 0 self.old self.new }
         ensures answers { Answers (failed self.new) result };

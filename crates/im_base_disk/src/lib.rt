@@ -7,6 +7,10 @@
 //! as synced. All other bytes are any bytes. A failed write or sync counts as written and not synced. A stop
 //! within a call counts that call in the same way.
 //!
+//! A disk may keep a second premise: no stop forges a sum. What a log file then shows where a write was cut short,
+//! it showed before, or would show by the whole write. `specs/Sums.antt` says what such a file shows at a place: a
+//! batch whose sum of 64 bits fits. `keeps_sums` asks for the premise, and no clause but one of a write has it.
+//!
 //! - `Disk` is the trait. Its facts speak of both files jointly: what a read gives, what a stop now may leave,
 //!   and what a stop at some moment since an earlier one might have left. They are claimed of a disk that tells
 //!   its bytes. Each disk also knows whether its last call failed, and no call follows one that failed: so a

@@ -488,6 +488,8 @@ fn len_of(file: &File) -> io::Result<u64> {
 impl Disk for FileDisk {
     ghost tells = { ⊥ };
 
+    ghost sums = { Unit {0} };
+
     ghost seen = { λ _ _. [] };
 
     ghost may_leave = { λ _ _. ⊥ };
@@ -507,6 +509,10 @@ impl Disk for FileDisk {
     ghost only_now = { λ _ _ none. none };
 
     ghost seen_may_stay = { λ _ none. absurd none };
+
+    fn keeps_sums(&self) -> bool {
+        true
+    }
 
     fn len(&mut self, file: FileId) -> Result<u64, Fault> {
         let outcome = self.length(file);

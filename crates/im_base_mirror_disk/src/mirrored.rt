@@ -238,6 +238,8 @@ fn sync_all<T: Disk>(to: &mut T) -> Result<(), Fault>
 impl<D: Disk, T: Disk + Drop> Disk for Mirrored<D, T> {
     ghost tells = { D.tells };
 
+    ghost sums = { D.sums };
+
     ghost seen = { λ d. D.seen d.disk };
 
     ghost may_leave = { λ d c. D.may_leave d.disk c };
@@ -257,6 +259,10 @@ impl<D: Disk, T: Disk + Drop> Disk for Mirrored<D, T> {
     ghost only_now = { λ d c left. D.only_now d.disk c left };
 
     ghost seen_may_stay = { λ d told. D.seen_may_stay d.disk told };
+
+    fn keeps_sums(&self) -> bool {
+        self.disk.keeps_sums()
+    }
 
     fn len(&mut self, file: FileId) -> Result<u64, Fault> {
         let Mirrored {

@@ -3,7 +3,8 @@
 ghost use Rattle.std.specs.Prelude.{◌≡◌, ◌≢◌, ◌+◌, ◌^◌, ◌≤◌, ◌<◌, ◌⊎◌, false, length, take, drop, OnOk, OnErr, IfOk, IfErr, Some};
 ghost use Rattle.std.proofs.Common.{inl};
 ghost use Rattle.im_base_types.specs.declared.file_id.FileId.{FileId};
-ghost use Rattle.im_base_disk.specs.Disk.{Files, both, three, Only, Follows, InFile, Holds, Torn, Elapses, Answers};
+ghost use Rattle.im_base_disk.specs.Disk.{Files, both, three, Only, Follows, InFile, Holds, Torn, Unforged, Elapses, Answers};
+ghost use Rattle.im_base_disk.specs.Sums.{shows_in};
 ghost use Rattle.im_base_model_disk.specs.Past.{MayLeave, HadBeen, none_since, reads_may_stay};
 
 use crate::either::{sync_either, write_either};
@@ -175,6 +176,9 @@ impl Disk for ModelDisk {
 
     ghost tells = { Unit {0} };
 
+    // A stop may leave any bytes.
+    ghost sums = { ⊥ };
+
     ghost seen = { λ d. three d.log.bytes.items d.pages.bytes.items d.log2.bytes.items };
 
     ghost may_leave = { λ d c. MayLeave d.log d.pages d.log2 c };
@@ -194,6 +198,12 @@ impl Disk for ModelDisk {
     ghost only_now = { λ d c left. none_since d.past.moments (MayLeave d.log d.pages d.log2 c) c left };
 
     ghost seen_may_stay = { λ d told. reads_may_stay d.log d.pages d.log2 };
+
+    fn keeps_sums(&self) -> bool
+        ensures { result ≡ false }
+    {
+        false
+    }
 
     fn len(&mut self, file: FileId) -> Result<u64, Fault>
         requires { ⟦<ModelDisk as Disk>⟧.failed self.old ≡ false }
@@ -237,6 +247,7 @@ impl Disk for ModelDisk {
         ensures written { OnOk result (⟦<ModelDisk as Disk>⟧.tells → Holds at bytes.now (⟦<ModelDisk as Disk>⟧.seen self.old file) (⟦<ModelDisk as Disk>⟧.seen self.new file)) }
         ensures others { (other : FileId) → other ≢ file → ⟦<ModelDisk as Disk>⟧.seen self.new other ≡ ⟦<ModelDisk as Disk>⟧.seen self.old other }
         ensures crash { Follows (InFile file (Torn at (length bytes.now))) (⟦<ModelDisk as Disk>⟧.may_leave self.old) (⟦<ModelDisk as Disk>⟧.may_leave self.new) }
+        ensures unforged { ⟦<ModelDisk as Disk>⟧.sums → Follows (InFile file (Unforged (shows_in file) at bytes.now)) (⟦<ModelDisk as Disk>⟧.may_leave self.old) (⟦<ModelDisk as Disk>⟧.may_leave self.new) }
         ensures time { Elapses (⟦<ModelDisk as Disk>⟧.moment self.old) (⟦<ModelDisk as Disk>⟧.moment self.new) (⟦<ModelDisk as Disk>⟧.left_since self.old) (⟦<ModelDisk as Disk>⟧.left_since self.new) (⟦<ModelDisk as Disk>⟧.may_leave self.new) }
         ensures answers { Answers (⟦<ModelDisk as Disk>⟧.failed self.new) result }
         ensures costs { Costs ⟦<ModelDisk as Disk>⟧ 1 0 self.old self.new }

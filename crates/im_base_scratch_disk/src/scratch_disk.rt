@@ -108,6 +108,9 @@ impl<D: Disk + Drop> ScratchDisk<D> {
 impl<D: Disk + Drop> Disk for ScratchDisk<D> {
     ghost tells = { ⊥ };
 
+    // Nothing is written to any file.
+    ghost sums = { Unit {0} };
+
     ghost seen = { λ _ _. [] };
 
     ghost may_leave = { λ _ _. ⊥ };
@@ -127,6 +130,10 @@ impl<D: Disk + Drop> Disk for ScratchDisk<D> {
     ghost only_now = { λ _ _ none. none };
 
     ghost seen_may_stay = { λ _ none. absurd none };
+
+    fn keeps_sums(&self) -> bool {
+        true
+    }
 
     fn len(&mut self, file: FileId) -> Result<u64, Fault> {
         let outcome = self.length_of(file);

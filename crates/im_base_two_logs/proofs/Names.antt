@@ -1,7 +1,9 @@
 -- Files whose logs have changed names, and changed them back.
-use Rattle.std.proofs.Common.{◌≢◌, Bool, List, ℕ, sym, ◌∙◌, ap, subst}
+use Rattle.std.proofs.Common.{◌≡◌, ◌≢◌, Bool, true, false, List, ℕ, refl, sym, ◌∙◌, ap, subst}
 use Rattle.im_base_types.specs.declared.file_id.FileId.{FileId}
-use Rattle.im_base_disk.specs.Disk.{Files, Follows, InFile}
+use Rattle.im_base_types.specs.declared.file_id.FileId.TheVariants.{Log, Pages, Log2}
+use Rattle.im_base_disk.specs.Disk.{Files, Follows, InFile, Shows, Unforged}
+use Rattle.im_base_disk.specs.Sums.{shows_in}
 use Rattle.im_base_two_logs.specs.Renamed.{file_named, named, named_back, twice}
 
 -- another name stands for another file
@@ -22,3 +24,19 @@ follows_named swapped file step old new follows c left =
             ap c (sym (twice swapped other)) ∙ same);
       },
     )
+
+-- either log shows by its own header what the other would
+shows_alike : (swapped : Bool) (file : FileId) → shows_in (file_named swapped file) ≡ shows_in file
+shows_alike true Log = refl
+shows_alike true Log2 = refl
+shows_alike true Pages = refl
+shows_alike false file = refl
+
+-- the same of a write where no stop forges a sum
+pub unforged_named : (swapped : Bool) (file below : FileId) (at : ℕ) (bytes : List ℕ) (old new : Files → Type 0) → below ≡ file_named swapped file
+    → Follows (InFile below (Unforged (shows_in below) at bytes)) old new
+    → Follows (InFile file (Unforged (shows_in file) at bytes)) (λ c. old (named swapped c)) (λ c. new (named swapped c))
+unforged_named swapped file below at bytes old new is follows =
+    follows_named swapped file (Unforged (shows_in file) at bytes) old new
+    (subst (λ (shows : Shows). Follows (InFile (file_named swapped file) (Unforged shows at bytes)) old new) (shows_alike swapped file)
+    (subst (λ (f : FileId). Follows (InFile f (Unforged (shows_in f) at bytes)) old new) is follows))

@@ -104,6 +104,8 @@ impl BoundedDisk {
 impl Disk for BoundedDisk {
     ghost tells = { ⊥ };
 
+    ghost sums = { Unit {0} };
+
     ghost seen = { λ _ _. [] };
 
     ghost may_leave = { λ _ _. ⊥ };
@@ -123,6 +125,10 @@ impl Disk for BoundedDisk {
     ghost only_now = { λ _ _ none. none };
 
     ghost seen_may_stay = { λ _ none. absurd none };
+
+    fn keeps_sums(&self) -> bool {
+        true
+    }
 
     fn len(&mut self, file: FileId) -> Result<u64, Fault> {
         Ok(self.file(file).len() as u64)

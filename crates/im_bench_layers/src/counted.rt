@@ -77,6 +77,8 @@ impl<D: Disk> Counted<D> {
 impl<D: Disk> Disk for Counted<D> {
     ghost tells = { D.tells };
 
+    ghost sums = { D.sums };
+
     ghost seen = { λ d. D.seen d.disk };
 
     ghost may_leave = { λ d. D.may_leave d.disk };
@@ -96,6 +98,10 @@ impl<D: Disk> Disk for Counted<D> {
     ghost only_now = { λ d. D.only_now d.disk };
 
     ghost seen_may_stay = { λ d. D.seen_may_stay d.disk };
+
+    fn keeps_sums(&self) -> bool {
+        self.disk.keeps_sums()
+    }
 
     fn len(&mut self, file: FileId) -> Result<u64, Fault> {
         self.disk.len(file)

@@ -79,6 +79,8 @@ pub fn take(file: &[u8], at: u64, buf: &mut [u8]) {
 impl Disk for MemoryDisk {
     ghost tells = { ⊥ };
 
+    ghost sums = { Unit {0} };
+
     ghost seen = { λ _ _. [] };
 
     ghost may_leave = { λ _ _. ⊥ };
@@ -98,6 +100,10 @@ impl Disk for MemoryDisk {
     ghost only_now = { λ _ _ none. none };
 
     ghost seen_may_stay = { λ _ none. absurd none };
+
+    fn keeps_sums(&self) -> bool {
+        true
+    }
 
     fn len(&mut self, file: FileId) -> Result<u64, Fault> {
         Ok(self.file(file).len() as u64)

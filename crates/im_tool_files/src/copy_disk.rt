@@ -48,6 +48,8 @@ impl<'a> CopyDisk<'a> {
 impl Disk for CopyDisk<'_> {
     ghost tells = { ⊥ };
 
+    ghost sums = { ⟦<FileDisk as Disk>⟧.sums };
+
     ghost seen = { λ _ _. [] };
 
     ghost may_leave = { λ _ _. ⊥ };
@@ -67,6 +69,10 @@ impl Disk for CopyDisk<'_> {
     ghost only_now = { λ _ _ none. none };
 
     ghost seen_may_stay = { λ _ none. absurd none };
+
+    fn keeps_sums(&self) -> bool {
+        self.files.keeps_sums()
+    }
 
     fn len(&mut self, file: FileId) -> Result<u64, Fault> {
         let outcome = self.files.len(file);

@@ -127,6 +127,8 @@ impl<W: Write + Drop> Ending for WatchedDisk<'_, W> {
 impl<W: Write> Disk for WatchedDisk<'_, W> {
     ghost tells = { ⊥ };
 
+    ghost sums = { ⟦<FileDisk as Disk>⟧.sums };
+
     ghost seen = { λ _ _. [] };
 
     ghost may_leave = { λ _ _. ⊥ };
@@ -146,6 +148,10 @@ impl<W: Write> Disk for WatchedDisk<'_, W> {
     ghost only_now = { λ _ _ none. none };
 
     ghost seen_may_stay = { λ _ none. absurd none };
+
+    fn keeps_sums(&self) -> bool {
+        self.files.keeps_sums()
+    }
 
     fn len(&mut self, file: FileId) -> Result<u64, Fault> {
         let length = self.files.len(file)?;
