@@ -1,3 +1,4 @@
 pub mod Costs
 pub mod Runs
 pub mod Ends
+pub mod Stops

@@ -1,9 +1,10 @@
 -- How a run of calls goes on.
-use Rattle.std.proofs.Common.{◌≢◌, inl, inr, ⊎_elim, ℕ, List, refl, sym, ◌∙◌, ap, subst, arith}
+use Rattle.std.proofs.Common.{◌≢◌, inl, inr, ⊎_elim, ℕ, List, length, refl, sym, ◌∙◌, ap, subst, arith}
 use Rattle.im_base_types.specs.declared.file_id.FileId.{FileId}
 use Rattle.im_base_disk.specs.declared.disk.Disk.{Ghosts}
-use Rattle.im_base_disk.specs.Disk.{Files, Only, Elapses, InFile, Torn, Follows, Stepped}
+use Rattle.im_base_disk.specs.Disk.{Files, Only, Elapses, InFile, Torn, Shows, Unforged, Follows, Stepped}
 use Rattle.im_base_disk.specs.Runs.{LeavesOnly, LeavesIn, ChangesOnly, Spares, Reads}
+use Rattle.im_base_disk.specs.Ends.{WritesIn}
 
 module _ {D : Type 0} (d : Ghosts D) where
   -- before the first call
@@ -75,12 +76,35 @@ module _ {D : Type 0} (d : Ghosts D) where
   written old new step none only_now crash time =
       goes_on old old new (Stepped step (d.may_leave old)) (d.may_leave new) (started old (Stepped step (d.may_leave old)) (λ told c left. (c, only_now c left, none c))) time (λ told c now. crash c now)
 
-  -- Of one file that is all on the disk: a first write to it, and one that comes later.
+  -- a first write to a file, and the sync after it
+  pub wrote : (file : FileId) (step : List ℕ → List ℕ → Type 0) (old new : D) → ((l : List ℕ) → step l l) → ((c : Files) → d.left_since old (d.moment old) c → d.may_leave old c)
+      → Follows (InFile file step) (d.may_leave old) (d.may_leave new) → Elapses (d.moment old) (d.moment new) (d.left_since old) (d.left_since new) (d.may_leave new)
+      → ChangesOnly d file old new → WritesIn d file step old new
+  wrote file step old new none only_now crash time changes = record {
+    crash = crash;
+    changes = changes;
+    any_moment = written old new (InFile file step) (λ c. record { changed = none (c file); others = λ other ne. refl }) only_now crash time;
+  }
+
+  pub wrote_synced : (file : FileId) (step : List ℕ → List ℕ → Type 0) (old mid new : D) → WritesIn d file step old mid → ((c : Files) → d.may_leave new c → d.may_leave mid c)
+      → Elapses (d.moment mid) (d.moment new) (d.left_since mid) (d.left_since new) (d.may_leave new) → ChangesOnly d file old new → WritesIn d file step old new
+  wrote_synced file step old mid new first outcomes time changes = record {
+    crash = λ c left. first.crash c (outcomes c left);
+    changes = changes;
+    any_moment = goes_on old mid new (Stepped (InFile file step) (d.may_leave old)) (d.may_leave new) first.any_moment time (λ told c now. first.crash c (outcomes c now));
+  }
+
+  -- Of one file that is all on the disk: a first step in it.
+  pub stepped_in : (file : FileId) (old mid : D) (P : List ℕ → Type 0) (step : List ℕ → List ℕ → Type 0) → Only file (d.seen old) (d.may_leave old)
+      → LeavesOnly d old mid (Stepped (InFile file step) (d.may_leave old)) → (d.tells → (c : List ℕ) → step (d.seen old file) c → P c) → LeavesIn d file old mid P
+  stepped_in file old mid P step synced run leaves =
+      weakened old mid (Stepped (InFile file step) (d.may_leave old)) (Stepped (InFile file (λ _ bytes. P bytes)) (d.may_leave old)) run
+      (λ told c left. (left.0, left.1, record { changed = leaves told (c file) (subst (λ (l : List ℕ). step l (c file)) (synced left.0 left.1) left.2.changed); others = left.2.others }))
+
+  -- a first write to it, and one that comes later
   pub step_in : (file : FileId) (old mid : D) (P : List ℕ → Type 0) (at n : ℕ) → Only file (d.seen old) (d.may_leave old)
       → LeavesOnly d old mid (Stepped (InFile file (Torn at n)) (d.may_leave old)) → (d.tells → (c : List ℕ) → Torn at n (d.seen old file) c → P c) → LeavesIn d file old mid P
-  step_in file old mid P at n synced run leaves =
-      weakened old mid (Stepped (InFile file (Torn at n)) (d.may_leave old)) (Stepped (InFile file (λ _ bytes. P bytes)) (d.may_leave old)) run
-      (λ told c left. (left.0, left.1, record { changed = leaves told (c file) (subst (λ (l : List ℕ). Torn at n l (c file)) (synced left.0 left.1) left.2.changed); others = left.2.others }))
+  step_in file old mid P at n synced run leaves = stepped_in file old mid P (Torn at n) synced run leaves
 
   -- a file that is all on the disk, before the first call
   pub in_started : (file : FileId) (old : D) (P : List ℕ → Type 0) → ((c : Files) → d.left_since old (d.moment old) c → d.may_leave old c) → Only file (d.seen old) (d.may_leave old)
@@ -126,6 +150,9 @@ module _ {D : Type 0} (d : Ghosts D) where
 
 pub torn_not : (at n : ℕ) (bytes : List ℕ) → Torn at n bytes bytes
 torn_not at n bytes = record { before = refl; after = refl; no_shorter = omega arith; no_longer = omega arith }
+
+pub unforged_not : (shows : Shows) (at : ℕ) (bytes old : List ℕ) → Unforged shows at bytes old old
+unforged_not shows at bytes old = record { torn = torn_not at (length bytes) old; shown = λ p r from upto is. inl is }
 
 -- a write that hasn't begun
 pub nothing_torn : (file : FileId) (at n : ℕ) (c : Files) → InFile file (Torn at n) c c

@@ -1,21 +1,24 @@
 //! The steps of which the protocols above are made. No other function of the store calls a disk to write.
 ghost use Rattle.std.specs.Prelude.{◌≡◌, ◌+◌, ◌≤◌, ◌<◌, ◌⊎◌, ◌↔◌, true, false, length, take, drop, IfOk, IfErr, OnOk};
-ghost use Rattle.im_base_disk.specs.Disk.{Files, Only, Stepped, Follows, InFile, Holds, Torn, Answers};
+ghost use Rattle.im_base_disk.specs.Disk.{Files, Only, Stepped, Follows, InFile, Holds, Torn, Unforged, Answers};
 ghost use Rattle.im_base_disk.specs.Runs.{LeavesOnly, ChangesOnly, Reads, Costs};
 ghost use Rattle.im_base_disk.specs.Ends.{CostsUpTo, WritesIn};
+ghost use Rattle.im_base_disk.specs.Sums.{shows_in};
 ghost use Rattle.im_base_types.specs.declared.fault.Fault.TheVariants.{Device, Memory};
 
 use crate::Disk;
 use im_base_types::{Fault, FileId};
 use std::alloc::Global;
 
-/// Writes and syncs, two device calls. A stop within leaves any bytes in the range.
+/// Writes and syncs, two device calls. A stop within leaves any bytes in the range; where no stop forges a sum,
+/// none that show a batch which the file had not, and would not have by the whole write.
 pub fn write_synced<D: Disk>(disk: &mut D, file: FileId, at: u64, bytes: &[u8]) -> Result<(), Fault>
     requires working { D.failed disk.old ≡ false }
     requires place { D.tells → at ≤ length (D.seen disk.old file) }
     ensures written { OnOk result (D.tells → Holds at bytes.now (D.seen disk.old file) (D.seen disk.new file)) }
     ensures durable { OnOk result (Only file (D.seen disk.new) (D.may_leave disk.new)) }
     ensures writes { WritesIn D.Disk file (Torn at (length bytes.now)) disk.old disk.new }
+    ensures unforged { D.sums → WritesIn D.Disk file (Unforged (shows_in file) at bytes.now) disk.old disk.new }
     ensures costs { CostsUpTo D.Disk 1 1 disk.old disk.new result }
     ensures answers { Answers (D.failed disk.new) result }
 {
