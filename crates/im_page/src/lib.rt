@@ -34,9 +34,9 @@
 //! - `insert` and `remove` are those of the sorted list. `insert` is refused `Full` exactly where cells and slots with
 //!   the entry take more than 4,064 bytes; the page then stays as it was.
 //! - `find` answers the place of a key, or where it would stand; `child` the child of an inner page that holds it.
-//! - `split_point` is the longest front of entries whose cells and slots take at most 2,032 bytes. Both parts of any
-//!   split have room for one more entry of any size. Where the longest key has no room, an entry or more stands left of
-//!   the point and two or more right of it.
+//! - `split_point` is the longest front of entries whose cells and slots take at most so many bytes, from 532 to 3,798,
+//!   and that leaves two entries. Both parts of any split have room for one more entry of any size. Where the longest
+//!   key has no room, an entry or more stands left of the point and two or more right of it.
 //! - `copy_entries` leaves a range of another page's entries; the setters change one field and nothing else.
 //!
 //! The invariant of a `Page` is that its bytes have the form (`IsForm`); `content` tells it to callers as a fact about
@@ -92,3 +92,4 @@ mod split;
 
 pub use header::Header;
 pub use page::{Full, Page};
+pub use split::HALF_PAGE;

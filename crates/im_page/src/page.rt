@@ -9,7 +9,7 @@ ghost use Rattle.im_theory_page.specs.Entry.{entry_at, Parts, IsPlace, taken, si
 ghost use Rattle.im_theory_page.specs.Page.{HoldsEntries, is_leaf_kind, page_of, with_entries};
 ghost use Rattle.im_theory_page.specs.Header.{HasPrev, HasNext, HasLeftmost, empty_body, initial};
 ghost use Rattle.im_theory_page.specs.Content.{IsContent};
-ghost use Rattle.im_theory_page.specs.Split.{IsSplitPoint, HasRoomForAny, LacksRoom};
+ghost use Rattle.im_theory_page.specs.Split.{IsSplitBound, IsSplitPoint, HasRoomForAny, LacksRoom};
 ghost use Rattle.im_theory_page.specs.Child.{IsChild};
 
 use crate::cells;
@@ -287,18 +287,19 @@ impl Page {
         make_empty(&mut self.bytes, PageKind::Inner, level, 0, 0, leftmost);
     }
 
-    /// How many entries stay where it is split: the longest front whose cells and slots take at most 2,032 bytes.
-    /// Both parts then have room for one more entry of any size. Of a page that has no room for an entry one entry
-    /// or more stays, and two or more stand right of the point, so that an inner page can give the first of them to
-    /// its parent.
-    pub fn split_point(&self) -> usize
-        ensures point { IsSplitPoint (is_leaf_kind self.now.body.kind) self.now.body.entries result }
+    /// How many entries stay where it is split: the longest front whose cells and slots take at most so many bytes and
+    /// that leaves two entries. Both parts then have room for one more entry of any size. Of a page that has no room
+    /// for an entry one entry or more stays, and two or more stand right of the point, so that an inner page can give
+    /// the first of them to its parent.
+    pub fn split_point(&self, bound: usize) -> usize
+        requires { IsSplitBound bound }
+        ensures point { IsSplitPoint bound (is_leaf_kind self.now.body.kind) self.now.body.entries result }
         ensures left { HasRoomForAny (is_leaf_kind self.now.body.kind) (take result self.now.body.entries) }
         ensures right { HasRoomForAny (is_leaf_kind self.now.body.kind) (drop result self.now.body.entries) }
         ensures parts { LacksRoom (is_leaf_kind self.now.body.kind) self.now.body.entries → (1 ≤ result) × (result + 2 ≤ length self.now.body.entries) }
     {
         cells::keys_are_short(self.bytes[8] == 2, &self.bytes);
-        split_point(self.bytes[8] == 2, &self.bytes)
+        split_point(self.bytes[8] == 2, &self.bytes, bound)
     }
 
     /// Leaves the entries that another page of its kind has from place `low` up to `high`.

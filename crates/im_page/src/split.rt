@@ -2,7 +2,7 @@
 
 ghost use Rattle.std.specs.Prelude.{◌≡◌, ℕ, ◌<◌, ◌≤◌, [], length, slice_index, slice_range};
 ghost use Rattle.im_theory_page.specs.Form.{count_of, entries_of, IsPacked};
-ghost use Rattle.im_theory_page.specs.Split.{IsSplitPoint};
+ghost use Rattle.im_theory_page.specs.Split.{IsSplitBound, IsSplitPoint};
 
 use crate::cells::{cell_len, key, value};
 use crate::insertion::insert_cell;
@@ -10,21 +10,25 @@ use crate::number::{get_u16, put_u16};
 use crate::removal::clear;
 use im_base_types::PAGE_SIZE;
 
-/// How many entries the longest front has whose cells and slots take at most 2,032 bytes.
-pub fn split_point(leaf: bool, bytes: &[u8]) -> usize
-    requires { IsPacked leaf bytes.now }
-    ensures { IsSplitPoint leaf (entries_of leaf bytes.now) result }
+/// Half of the bytes that a page has for cells and slots.
+pub const HALF_PAGE: usize = 2_032;
+
+/// How many entries the longest front has that takes at most so many bytes, cells and slots, and leaves two entries.
+pub fn split_point(leaf: bool, bytes: &[u8], bound: usize) -> usize
+    requires packed { IsPacked leaf bytes.now }
+    requires bound { IsSplitBound bound }
+    ensures { IsSplitPoint bound leaf (entries_of leaf bytes.now) result }
 {
-    let count = get_u16(bytes, 12);
+    let most = get_u16(bytes, 12).saturating_sub(2);
     let mut used = 0usize;
-    for i in 0..count {
+    for i in 0..most {
         let at = get_u16(bytes, 32 + 2 * i);
         used += cell_len(leaf, bytes[at] as usize) + 2;
-        if 2032 < used {
+        if bound < used {
             return i;
         }
     }
-    count
+    most
 }
 
 /// Takes all entries out.

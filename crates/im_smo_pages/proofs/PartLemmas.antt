@@ -9,7 +9,7 @@ use Rattle.im_base_types.specs.declared.page_kind.PageKind.TheVariants.{Inner}
 use Rattle.im_theory_page.specs.Entry.{entry_at, no_entry, Parts, size, taken}
 use Rattle.im_theory_page.specs.Header.{FitsKind}
 use Rattle.im_theory_page.specs.Page.{is_leaf_kind, with_entries}
-use Rattle.im_theory_page.specs.Split.{IsSplitPoint, HasRoomForAny}
+use Rattle.im_theory_page.specs.Split.{half_page, IsSplitPoint, HasRoomForAny}
 use Rattle.im_theory_page.proofs.Order.{below_irrefl}
 use Rattle.im_theory_tree.proofs.LookupLemmas.{put_at}
 use Rattle.im_smo_pages.specs.Bodies.{says, inner_body, with_separator, HasNoKey}
@@ -21,12 +21,12 @@ rest_room leaf es n lt room e short =
     let f : Entry → ℕ = λ x. size leaf x + 2 in
     omega (arith, room e short, sum_by-take-drop f es n, sum_by-take-drop f es (n + 1), sum_by_more f es n no_entry lt)
 
-pub splits_at : (of : PageKind) (page : Body) (n : ℕ) → page.kind ≡ of → IsSplitPoint (is_leaf_kind page.kind) page.entries n
+pub splits_at : (of : PageKind) (page : Body) (n : ℕ) → page.kind ≡ of → IsSplitPoint half_page (is_leaf_kind page.kind) page.entries n
     → HasRoomForAny (is_leaf_kind page.kind) (take n page.entries) → HasRoomForAny (is_leaf_kind page.kind) (drop n page.entries)
     → 1 ≤ n → n + 2 ≤ length page.entries → SplitsAt of page n
 splits_at of page n kind point left right some within = record {
   kind = kind;
-  point = subst (λ (k : PageKind). IsSplitPoint (is_leaf_kind k) page.entries n) kind point;
+  point = subst (λ (k : PageKind). IsSplitPoint half_page (is_leaf_kind k) page.entries n) kind point;
   well = record {
     left = some;
     right = within;

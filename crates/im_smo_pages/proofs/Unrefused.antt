@@ -5,7 +5,8 @@ use Rattle.im_base_types.specs.Pages.{Entry}
 use Rattle.im_base_types.specs.declared.page_kind.PageKind.TheVariants.{Leaf, Inner}
 use Rattle.im_theory_page.specs.Entry.{entry_at, Rises}
 use Rattle.im_theory_page.specs.Child.{IsChild}
-use Rattle.im_theory_page.specs.Split.{IsSplitPoint, HasRoom}
+use Rattle.im_theory_page.specs.Split.{half_page, IsSplitPoint, HasRoom}
+use Rattle.im_theory_page.proofs.SplitLemmas.{half_is_bound}
 use Rattle.im_theory_page.proofs.Order.{below_irrefl}
 use Rattle.im_theory_tree.specs.Levels.{Pages, Node, child_of, below, leaves_under, height, the_root}
 use Rattle.im_theory_tree.specs.Good.{AllOf, AtOrAbove, IsUnder, InRange, next_bound, IsAfter, AreOrdered, IsGoodTree}
@@ -78,10 +79,10 @@ inner_separator_is_new pages spare h key parent p n good way child parent_rises 
 -- a leaf that lacks room, under a parent with room
 pub leaf_can_split : (pages : Pages) (spare : List ℕ) (key : Key) (parent p q : ℕ) (e : Entry) → IsGoodTree pages spare → IsOnWay pages (suc zero) key parent → IsChild (pages parent) key p
     → Rises (pages parent).entries → Rises (pages p).entries → FitsPage true (pages p).entries → LacksRoom true (pages p).entries e
-    → ((n : ℕ) → IsSplitPoint true (pages p).entries n → HasRoom false (pages parent).entries ((entry_at (pages p).entries n).0, q))
+    → ((n : ℕ) → IsSplitPoint half_page true (pages p).entries n → HasRoom false (pages parent).entries ((entry_at (pages p).entries n).0, q))
     → CanSplit Leaf (pages p) (pages parent) q
 leaf_can_split pages spare key parent p q e good way child parent_rises rises fits lacks room =
-    let well : (n : ℕ) → IsSplitPoint true (pages p).entries n → SplitsWell true (pages p).entries n = λ n point. splits_well true (pages p).entries n e fits point lacks in
+    let well : (n : ℕ) → IsSplitPoint half_page true (pages p).entries n → SplitsWell true (pages p).entries n = λ n point. splits_well half_page true (pages p).entries n e half_is_bound fits point lacks in
     record {
       halves = record { kind = (way_leaf pages key p (step_way pages zero key parent p way child)).0; well = well };
       takes = λ n point. record {
@@ -94,10 +95,10 @@ leaf_can_split pages spare key parent p q e good way child parent_rises rises fi
 -- an inner page that lacks room, under a parent with room
 pub inner_can_split : (pages : Pages) (spare : List ℕ) (h : ℕ) (key : Key) (parent p q : ℕ) (e : Entry) → IsGoodTree pages spare → IsOnWay pages (suc (suc h)) key parent
     → IsChild (pages parent) key p → Rises (pages parent).entries → FitsPage false (pages p).entries → LacksRoom false (pages p).entries e
-    → ((n : ℕ) → IsSplitPoint false (pages p).entries n → HasRoom false (pages parent).entries ((entry_at (pages p).entries n).0, q))
+    → ((n : ℕ) → IsSplitPoint half_page false (pages p).entries n → HasRoom false (pages parent).entries ((entry_at (pages p).entries n).0, q))
     → CanSplit Inner (pages p) (pages parent) q
 inner_can_split pages spare h key parent p q e good way child parent_rises fits lacks room =
-    let well : (n : ℕ) → IsSplitPoint false (pages p).entries n → SplitsWell false (pages p).entries n = λ n point. splits_well false (pages p).entries n e fits point lacks in
+    let well : (n : ℕ) → IsSplitPoint half_page false (pages p).entries n → SplitsWell false (pages p).entries n = λ n point. splits_well half_page false (pages p).entries n e half_is_bound fits point lacks in
     record {
       halves = record { kind = (way_inner pages h key p (step_way pages (suc h) key parent p way child)).0; well = well };
       takes = λ n point. record {
@@ -109,7 +110,7 @@ inner_can_split pages spare h key parent p q e good way child parent_rises fits 
 
 -- a page that lacks room, by its kind
 pub leaf_can_halve : (pages : Pages) (p : ℕ) (e : Entry) → (pages p).kind ≡ Leaf → FitsPage true (pages p).entries → LacksRoom true (pages p).entries e → CanHalve Leaf (pages p)
-leaf_can_halve pages p e kind fits lacks = record { kind = kind; well = λ n point. splits_well true (pages p).entries n e fits point lacks }
+leaf_can_halve pages p e kind fits lacks = record { kind = kind; well = λ n point. splits_well half_page true (pages p).entries n e half_is_bound fits point lacks }
 
 pub inner_can_halve : (pages : Pages) (p : ℕ) (e : Entry) → (pages p).kind ≡ Inner → FitsPage false (pages p).entries → LacksRoom false (pages p).entries e → CanHalve Inner (pages p)
-inner_can_halve pages p e kind fits lacks = record { kind = kind; well = λ n point. splits_well false (pages p).entries n e fits point lacks }
+inner_can_halve pages p e kind fits lacks = record { kind = kind; well = λ n point. splits_well half_page false (pages p).entries n e half_is_bound fits point lacks }

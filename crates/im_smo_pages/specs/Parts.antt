@@ -6,7 +6,7 @@ use Rattle.im_base_types.specs.declared.page_kind.PageKind.{PageKind}
 use Rattle.im_base_types.specs.declared.page_kind.PageKind.TheVariants.{Leaf, Inner}
 use Rattle.im_theory_page.specs.Entry.{entry_at}
 use Rattle.im_theory_page.specs.Page.{is_leaf_kind}
-use Rattle.im_theory_page.specs.Split.{IsSplitPoint, HasRoom}
+use Rattle.im_theory_page.specs.Split.{half_page, IsSplitPoint, HasRoom}
 use Rattle.im_theory_tree.specs.Halves.{SplitsWell}
 use Rattle.im_smo_pages.specs.Bodies.{says, inner_body, raised, with_separator, HasNoKey}
 use Rattle.im_theory_page.specs.Header.{leaf_body}
@@ -14,7 +14,7 @@ use Rattle.im_theory_page.specs.Header.{leaf_body}
 -- a page of this kind is split at place n, its split point, and each part has room
 pub record SplitsAt (of : PageKind) (page : Body) (n : ℕ) : Type 0 where
   pub kind : page.kind ≡ of
-  pub point : IsSplitPoint (is_leaf_kind of) page.entries n
+  pub point : IsSplitPoint half_page (is_leaf_kind of) page.entries n
   pub well : SplitsWell (is_leaf_kind of) page.entries n
 
 -- the parent lacks the separator of a split at place n, and has room for it
@@ -26,12 +26,12 @@ pub record TakesSeparator (page parent : Body) (q n : ℕ) : Type 0 where
 -- a page of this kind can be split, wherever its split point is
 pub record CanHalve (of : PageKind) (page : Body) : Type 0 where
   pub kind : page.kind ≡ of
-  pub well : (n : ℕ) → IsSplitPoint (is_leaf_kind of) page.entries n → SplitsWell (is_leaf_kind of) page.entries n
+  pub well : (n : ℕ) → IsSplitPoint half_page (is_leaf_kind of) page.entries n → SplitsWell (is_leaf_kind of) page.entries n
 
 -- and its parent can take the separator
 pub record CanSplit (of : PageKind) (page parent : Body) (q : ℕ) : Type 0 where
   pub halves : CanHalve of page
-  pub takes : (n : ℕ) → IsSplitPoint (is_leaf_kind of) page.entries n → TakesSeparator page parent q n
+  pub takes : (n : ℕ) → IsSplitPoint half_page (is_leaf_kind of) page.entries n → TakesSeparator page parent q n
 
 -- Leaf `page`, of number p, is split at place n: `left` has its first n entries, `right`, of number q and after it in the chain, the others, and the parent the first of these keys with q.
 pub record LeafSplit (page old_left old_right old_parent new_left new_right new_parent : Page) (p q n : ℕ) : Type 0 where

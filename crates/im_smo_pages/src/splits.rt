@@ -9,7 +9,7 @@ ghost use Rattle.im_smo_pages.specs.Bodies.{says, inner_body, with_separator};
 ghost use Rattle.im_smo_pages.specs.Parts.{SplitsAt, TakesSeparator, CanHalve, CanSplit, LeafSplit, InnerSplit, RootLeafSplit, RootInnerSplit};
 
 use im_base_types::{Fault, PageKind, PageNo};
-use im_page::Page;
+use im_page::{HALF_PAGE, Page};
 
 // The split point of a page of a kind, where an entry or more stays and two or more do not.
 fn place(page: &Page, kind: PageKind) -> Result<usize, Fault>
@@ -20,8 +20,8 @@ fn place(page: &Page, kind: PageKind) -> Result<usize, Fault>
     if page.kind() != kind {
         return Err(Fault::NotAStore);
     }
-    let point = page.split_point();
-    if point == 0 || page.len() - point < 2 {
+    let point = page.split_point(HALF_PAGE);
+    if point == 0 {
         return Err(Fault::NotAStore);
     }
     Ok(point)
@@ -50,7 +50,7 @@ fn put_separator(page: &Page, n: usize, parent: &mut Page, q: PageNo) -> Result<
 }
 
 /// Splits a leaf under its parent. `left` and `right`, whatever they were, become its parts, of numbers p and q: the
-/// longest front of entries whose cells and slots take at most 2,032 bytes, and the rest, after it in the leaf chain.
+/// longest front of entries that takes at most half of the page's room, and the rest, after it in the leaf chain.
 /// The parent gets the right part's first key, with q. It answers how many entries stay left. The page after the
 /// right part, if there is one, has then to be told of q by `link_prev`.
 ///
@@ -80,9 +80,9 @@ pub fn split_leaf(
 }
 
 /// Splits an inner page under its parent. `left` and `right`, whatever they were, become its parts: the longest front of
-/// entries whose cells and slots take at most 2,032 bytes, and what stands after the entry after it. That entry's key
-/// moves up to the parent, with q, the right part's number, and its child is the right part's leftmost one. It answers
-/// how many entries stay left.
+/// entries that takes at most half of its room, and what stands after the entry after it. That entry's key moves up to
+/// the parent, with q, the right part's number, and its child is the right part's leftmost one. It answers how many
+/// entries stay left.
 ///
 /// Refused `NotAStore`, with nothing changed, where the page is no inner page or has too few entries to be split, or
 /// the parent is no inner page, has the key already or has no room for it. A page of a good tree that lacks room, under

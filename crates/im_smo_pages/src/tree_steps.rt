@@ -7,7 +7,7 @@ ghost use Rattle.im_theory_log.specs.Tree.{with_body};
 ghost use Rattle.im_base_types.specs.declared.page_kind.PageKind.TheVariants.{Free, Leaf, Inner};
 ghost use Rattle.im_theory_page.specs.Entry.{entry_at, Rises};
 ghost use Rattle.im_theory_page.specs.Child.{IsChild};
-ghost use Rattle.im_theory_page.specs.Split.{IsSplitPoint, HasRoom};
+ghost use Rattle.im_theory_page.specs.Split.{half_page, IsSplitPoint, HasRoom};
 ghost use Rattle.im_theory_tree.specs.Levels.{Pages, height, walk};
 ghost use Rattle.im_theory_tree.specs.Good.{IsGoodTree};
 ghost use Rattle.im_theory_tree.specs.Search.{IsOnWay};
@@ -63,11 +63,11 @@ pub fn allocation_pages_are_allocations()
 pub fn good_trees_are_not_refused()
     ensures leaf { (pages : Pages) (spare : List ℕ) (key : Key) (parent p q : ℕ) (e : Entry) → IsGoodTree pages spare → IsOnWay pages (suc zero) key parent → IsChild (pages parent) key p
         → Rises (pages parent).entries → Rises (pages p).entries → FitsPage true (pages p).entries → LacksRoom true (pages p).entries e
-        → ((n : ℕ) → IsSplitPoint true (pages p).entries n → HasRoom false (pages parent).entries ((entry_at (pages p).entries n).0, q))
+        → ((n : ℕ) → IsSplitPoint half_page true (pages p).entries n → HasRoom false (pages parent).entries ((entry_at (pages p).entries n).0, q))
         → CanSplit Leaf (pages p) (pages parent) q }
     ensures inner { (pages : Pages) (spare : List ℕ) (h : ℕ) (key : Key) (parent p q : ℕ) (e : Entry) → IsGoodTree pages spare → IsOnWay pages (suc (suc h)) key parent
         → IsChild (pages parent) key p → Rises (pages parent).entries → FitsPage false (pages p).entries → LacksRoom false (pages p).entries e
-        → ((n : ℕ) → IsSplitPoint false (pages p).entries n → HasRoom false (pages parent).entries ((entry_at (pages p).entries n).0, q))
+        → ((n : ℕ) → IsSplitPoint half_page false (pages p).entries n → HasRoom false (pages parent).entries ((entry_at (pages p).entries n).0, q))
         → CanSplit Inner (pages p) (pages parent) q }
     ensures root_leaf { (pages : Pages) (p : ℕ) (e : Entry) → (pages p).kind ≡ Leaf → FitsPage true (pages p).entries → LacksRoom true (pages p).entries e → CanHalve Leaf (pages p) }
     ensures root_inner { (pages : Pages) (p : ℕ) (e : Entry) → (pages p).kind ≡ Inner → FitsPage false (pages p).entries → LacksRoom false (pages p).entries e → CanHalve Inner (pages p) }

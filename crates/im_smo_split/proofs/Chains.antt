@@ -4,7 +4,7 @@ use Rattle.im_base_types.specs.Keys.{Key}
 use Rattle.im_base_types.specs.Pages.{Entry, Body}
 use Rattle.im_theory_page.specs.Entry.{no_entry, entry_at, Rises}
 use Rattle.im_theory_page.specs.Child.{IsChild}
-use Rattle.im_theory_page.specs.Split.{IsSplitPoint}
+use Rattle.im_theory_page.specs.Split.{half_page, IsSplitPoint}
 use Rattle.im_theory_tree.specs.Levels.{Pages}
 use Rattle.im_theory_tree.specs.Search.{IsOnWay}
 use Rattle.im_theory_tree.specs.Halves.{LacksRoom}
@@ -19,7 +19,7 @@ way_level pages (suc k) key p way = (way_inner pages k key p way).1
 passes_stays : (pages new : Pages) (leaf : Bool) (c p : ℕ) → new c ≡ pages c → new p ≡ pages p → PassesUp pages leaf c p → PassesUp new leaf c p
 passes_stays pages new leaf c p same_c same_p up = record {
   point = up.point;
-  at = subst (λ (b : Body). IsSplitPoint leaf b.entries up.point) (sym same_c) up.at;
+  at = subst (λ (b : Body). IsSplitPoint half_page leaf b.entries up.point) (sym same_c) up.at;
   lacks = subst (λ (b : Body). LacksRoom false b.entries ((entry_at (new c).entries up.point).0, 0)) (sym same_p)
       (subst (λ (b : Body). LacksRoom false (pages p).entries ((entry_at b.entries up.point).0, 0)) (sym same_c) up.lacks);
 }

@@ -6,7 +6,7 @@ use Rattle.im_theory_log.specs.Tree.{with_body, with_entries}
 use Rattle.im_base_types.specs.declared.page_kind.PageKind.TheVariants.{Leaf, Inner}
 use Rattle.im_theory_page.specs.Entry.{entry_at, Rises}
 use Rattle.im_theory_page.specs.Child.{IsChild}
-use Rattle.im_theory_page.specs.Split.{IsSplitPoint, HasRoom, HasRoomForAny}
+use Rattle.im_theory_page.specs.Split.{half_page, IsSplitPoint, HasRoom, HasRoomForAny}
 use Rattle.im_theory_tree.specs.Levels.{Pages, walk}
 use Rattle.im_theory_tree.specs.Same.{SameTree}
 use Rattle.im_theory_tree.specs.Good.{AtOrAbove, times, IsGoodTree}
@@ -75,7 +75,7 @@ module _ (pages new : Pages) (spare : List ℕ) (key : Key) (k parent p q n c : 
     child = goes;
     rises = r_rises;
     point = up.point;
-    at = subst (λ (b : Body). IsSplitPoint (is_leaf_level k) b.entries up.point) (sym c_same) up.at;
+    at = subst (λ (b : Body). IsSplitPoint half_page (is_leaf_level k) b.entries up.point) (sym c_same) up.at;
     room = subst (λ (b : Body). HasRoom false (new r).entries ((entry_at b.entries up.point).0, 0)) (sym c_same) (room ((entry_at (pages c).entries up.point).0, 0) up.lacks.key);
     splits = chain_stays pages new key k c stays down (pending.splits c child).1;
   }
@@ -139,7 +139,7 @@ module _ (pages new : Pages) (spare : List ℕ) (key : Key) (k l r n c : ℕ) (p
     child = goes;
     rises = x_rises;
     point = root_up.point;
-    at = subst (λ (b : Body). IsSplitPoint (is_leaf_level k) b.entries root_up.point) (sym root_same) root_up.at;
+    at = subst (λ (b : Body). IsSplitPoint half_page (is_leaf_level k) b.entries root_up.point) (sym root_same) root_up.at;
     room = subst (λ (b : Body). HasRoom false (new x).entries ((entry_at b.entries root_up.point).0, 0)) (sym root_same) (room ((entry_at (pages c).entries root_up.point).0, 0) root_up.lacks.key);
     splits = chain_stays pages new key k c root_stays root_down (pending.splits c child).1;
   }
@@ -188,13 +188,13 @@ pub leaf_can : (pages : Pages) (spare : List ℕ) (key : Key) (parent p q : ℕ)
     → CanSplit Leaf (pages p) (pages parent) q
 leaf_can pages spare key parent p q pending rises page =
     leaf_can_split pages spare key parent p q (key, 0) pending.good pending.way pending.child pending.rises rises page pending.splits
-    (λ n point. subst (λ (m : ℕ). HasRoom false (pages parent).entries ((entry_at (pages p).entries m).0, q)) (one_point true (pages p).entries pending.point n pending.at point) pending.room)
+    (λ n point. subst (λ (m : ℕ). HasRoom false (pages parent).entries ((entry_at (pages p).entries m).0, q)) (one_point half_page true (pages p).entries pending.point n pending.at point) pending.room)
 
 pub inner_can : (pages : Pages) (spare : List ℕ) (key : Key) (k parent p q c : ℕ) → IsPending pages spare key (suc k) parent p → FitsPage false (pages p).entries
     → IsChild (pages p) key c → CanSplit Inner (pages p) (pages parent) q
 inner_can pages spare key k parent p q c pending page child =
     inner_can_split pages spare k key parent p q ((entry_at (pages c).entries (pending.splits c child).0.point).0, 0) pending.good pending.way pending.child pending.rises page (pending.splits c child).0.lacks
-    (λ n point. subst (λ (m : ℕ). HasRoom false (pages parent).entries ((entry_at (pages p).entries m).0, q)) (one_point false (pages p).entries pending.point n pending.at point) pending.room)
+    (λ n point. subst (λ (m : ℕ). HasRoom false (pages parent).entries ((entry_at (pages p).entries m).0, q)) (one_point half_page false (pages p).entries pending.point n pending.at point) pending.room)
 
 pub root_leaf_can : (pages : Pages) (spare : List ℕ) (key : Key) → IsRootPending pages spare key zero → FitsPage true (pages 1).entries → CanHalve Leaf (pages 1)
 root_leaf_can pages spare key pending page =
@@ -235,7 +235,7 @@ pending_stays pages new spare left key k parent p pending now others =
       child = subst (λ (b : Body). IsChild b key p) (sym same_up) pending.child;
       rises = subst (λ (b : Body). Rises b.entries) (sym same_up) pending.rises;
       point = pending.point;
-      at = subst (λ (b : Body). IsSplitPoint (is_leaf_level k) b.entries pending.point) (sym same_p) pending.at;
+      at = subst (λ (b : Body). IsSplitPoint half_page (is_leaf_level k) b.entries pending.point) (sym same_p) pending.at;
       room = subst (λ (b : Body). HasRoom false b.entries ((entry_at (new p).entries pending.point).0, 0)) (sym same_up)
           (subst (λ (b : Body). HasRoom false (pages parent).entries ((entry_at b.entries pending.point).0, 0)) (sym same_p) pending.room);
       splits = chain_on pages new spare left pending.good now others key k p way pending.splits;

@@ -19,8 +19,8 @@ front_grows leaf (e ∷ es) (suc i) (suc m) le =
       front_grows leaf es i m (omega (arith, le)),
     )
 
-pub one_point : (leaf : Bool) (es : List Entry) (n m : ℕ) → IsSplitPoint leaf es n → IsSplitPoint leaf es m → n ≡ m
-one_point leaf es n m a b =
+pub one_point : (bound : ℕ) (leaf : Bool) (es : List Entry) (n m : ℕ) → IsSplitPoint bound leaf es n → IsSplitPoint bound leaf es m → n ≡ m
+one_point bound leaf es n m a b =
     ⊎_elim
     (λ (l : n < m). absurd (omega (arith, a.longest (omega (arith, l, b.within)), front_grows leaf es (n + 1) m (omega (arith, l)), b.fits)))
     (λ (l : m ≤ n).

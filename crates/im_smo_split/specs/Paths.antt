@@ -3,7 +3,7 @@ use Rattle.std.specs.Prelude.{◌≡◌, ℕ, suc, ◌+◌, Bool, true, false, L
 use Rattle.im_base_types.specs.Keys.{Key}
 use Rattle.im_theory_page.specs.Entry.{entry_at, taken, size}
 use Rattle.im_theory_page.specs.Child.{IsChild}
-use Rattle.im_theory_page.specs.Split.{IsSplitPoint}
+use Rattle.im_theory_page.specs.Split.{half_page, IsSplitPoint}
 use Rattle.im_theory_tree.specs.Levels.{Pages, height}
 use Rattle.im_theory_tree.specs.KeySplits.{is_leaf_level}
 
@@ -20,7 +20,7 @@ separator pages x = (entry_at (pages x.page).entries x.point).0
 abbrev pub IsPath : Pages → Key → ℕ → List OnPath → Type 0
 IsPath pages key k [] = ⊥
 IsPath pages key k (x ∷ []) = (x.page ≡ 1) × (height pages ≡ k)
-IsPath pages key k (x ∷ y ∷ up) = IsSplitPoint (is_leaf_level k) (pages x.page).entries x.point × IsChild (pages y.page) key x.page × IsPath pages key (suc k) (y ∷ up)
+IsPath pages key k (x ∷ y ∷ up) = IsSplitPoint half_page (is_leaf_level k) (pages x.page).entries x.point × IsChild (pages y.page) key x.page × IsPath pages key (suc k) (y ∷ up)
 
 -- an entry with this key fits into the page
 abbrev pub fits_page : Pages → Bool → ℕ → Key → Bool

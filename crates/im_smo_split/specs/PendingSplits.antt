@@ -3,7 +3,7 @@ use Rattle.std.specs.Prelude.{◌≡◌, ℕ, zero, suc, Bool, true, false, List
 use Rattle.im_base_types.specs.Keys.{Key}
 use Rattle.im_theory_page.specs.Entry.{entry_at, Rises}
 use Rattle.im_theory_page.specs.Child.{IsChild}
-use Rattle.im_theory_page.specs.Split.{IsSplitPoint, HasRoom}
+use Rattle.im_theory_page.specs.Split.{half_page, IsSplitPoint, HasRoom}
 use Rattle.im_theory_tree.specs.Levels.{Pages, height}
 use Rattle.im_theory_tree.specs.Good.{IsGoodTree}
 use Rattle.im_theory_tree.specs.Search.{IsOnWay}
@@ -13,7 +13,7 @@ use Rattle.im_theory_tree.specs.KeySplits.{is_leaf_level}
 -- page p lacks room for the separator of its child c
 pub record PassesUp (pages : Pages) (leaf : Bool) (c p : ℕ) : Type 0 where
   pub point : ℕ
-  pub at : IsSplitPoint leaf (pages c).entries point
+  pub at : IsSplitPoint half_page leaf (pages c).entries point
   pub lacks : LacksRoom false (pages p).entries ((entry_at (pages c).entries point).0, 0)
 
 -- Page p of level k lacks room, and so does each page under it on a key's way: the leaf for the key's entry, each other page for the separator of the one under it.
@@ -28,7 +28,7 @@ pub record IsPending (pages : Pages) (spare : List ℕ) (key : Key) (k parent p 
   pub child : IsChild (pages parent) key p
   pub rises : Rises (pages parent).entries
   pub point : ℕ
-  pub at : IsSplitPoint (is_leaf_level k) (pages p).entries point
+  pub at : IsSplitPoint half_page (is_leaf_level k) (pages p).entries point
   pub room : HasRoom false (pages parent).entries ((entry_at (pages p).entries point).0, 0)
   pub splits : SplitsDown pages key k p
 

@@ -14,7 +14,7 @@ ghost use Rattle.im_smo_split.specs.Readings.{HasUp, IsRoom, IsKeyRoom, IsFull};
 
 use im_base_disk::Disk;
 use im_base_types::{Fault, PageKind, PageNo};
-use im_page::Page;
+use im_page::{HALF_PAGE, Page};
 use im_page_writer::PageWriter;
 
 /// The child of a page above the leaves on a key's way.
@@ -32,7 +32,7 @@ pub(crate) fn up_in(page: &Page, level: u8) -> usize
     ensures up { HasUp (is_leaf_kind (kind_at level)) page.now.body result }
     ensures short { result ≤ 255 }
 {
-    let point = page.split_point();
+    let point = page.split_point(HALF_PAGE);
     if point == page.len() {
         return 0;
     }

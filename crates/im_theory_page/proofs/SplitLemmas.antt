@@ -1,14 +1,14 @@
 -- What fronts and ranges of a page's entries take.
-use Rattle.std.proofs.Common.{zero, suc, ◌≡◌, ℕ, ◌+◌, ◌-◌, ◌*◌, ◌<◌, ◌≤◌, Bool, true, false, List, [], ◌∷◌, ◌++◌, length, take, drop, insert, slice_range, sum_by, refl, sym, ap, ap₂, ◌∙◌, ⊎_elim, arith, length-take, length-drop, append-nil}
+use Rattle.std.proofs.Common.{zero, suc, ◌≡◌, ℕ, ◌+◌, ◌-◌, ◌*◌, ◌<◌, ◌≤◌, Bool, true, false, List, [], ◌∷◌, ◌++◌, length, take, drop, insert, slice_range, refl, sym, ap, ap₂, ◌∙◌, ⊎_elim, arith, length-take, length-drop, append-nil}
 use Rattle.std.proofs.lemmas.Bool.{cases_lt}
 use Rattle.std.proofs.lemmas.List.{take_more, get_or-take, get_or-drop}
-use Rattle.std.proofs.lemmas.List.Sums.{sum_by-take-drop, sum_by_more, sum_by_more_le}
+use Rattle.std.proofs.lemmas.List.Sums.{sum_by-cons, sum_by-take-drop, sum_by_more, sum_by_more_le}
 use Rattle.std.proofs.lemmas.List.Edits.{insert-append_right}
 use Rattle.im_base_types.specs.Pages.{Entry}
 use Rattle.im_theory_page.specs.Entry.{no_entry, entry_at, width, size, taken, Rises}
 use Rattle.im_theory_page.specs.Form.{count_of, start_of, slot_at, cell_size, key_from, entries_of, IsPacked}
 use Rattle.im_theory_page.specs.Found.{Parts}
-use Rattle.im_theory_page.specs.Split.{IsSplitPoint, HasRoomForAny, LacksRoom}
+use Rattle.im_theory_page.specs.Split.{half_page, IsSplitBound, IsSplitPoint, HasRoomForAny, LacksRoom}
 use Rattle.im_theory_page.proofs.EntryLemmas.{length-entries_of, entry_at-entries_of, key-entries_of, key_len, room_is}
 use Rattle.im_theory_page.proofs.ChildLemmas.{rises_of}
 
@@ -96,56 +96,49 @@ pub width_small : (leaf : Bool) → width leaf ≤ 8
 width_small true = omega arith
 width_small false = omega arith
 
-drop_all : {X : Type 0} (xs : List X) (m : ℕ) → length xs ≤ m → drop m xs ≡ []
-drop_all [] zero le = refl
-drop_all [] (suc m) le = refl
-drop_all (x ∷ xs) zero le = absurd (omega arith)
-drop_all (x ∷ xs) (suc m) le = drop_all xs m (omega arith)
+pub taken_most : (leaf : Bool) (es : List Entry) → ((i : ℕ) → i < length es → length (entry_at es i).0 ≤ 255) → taken leaf es ≤ 266 * length es
+taken_most leaf [] h = omega arith
+taken_most leaf (e ∷ es) h =
+    omega (arith, sum_by-cons (λ (x : Entry). size leaf x + 2) e es, h zero (omega arith), width_small leaf, taken_most leaf es (λ i lt. h (suc i) (omega arith)))
+
+short_from : (n : ℕ) (es : List Entry) → ((i : ℕ) → i < length es → length (entry_at es i).0 ≤ 255) → (i : ℕ) → i < length (drop n es) → length (entry_at (drop n es) i).0 ≤ 255
+short_from zero es h i lt = h i lt
+short_from (suc n) [] h i lt = absurd (omega arith)
+short_from (suc n) (e ∷ es) h i lt = short_from n es (λ j l. h (suc j) (omega arith)) i lt
+
+pub half_is_bound : IsSplitBound half_page
+half_is_bound = record { low = omega arith; high = omega arith }
 
 -- both parts of a split have room for one more entry of any size
-pub left_has_room : (leaf : Bool) (es : List Entry) (n : ℕ) → IsSplitPoint leaf es n → HasRoomForAny leaf (take n es)
-left_has_room leaf es n h e short = omega (arith, h.fits, width_small leaf)
+pub left_has_room : (bound : ℕ) (leaf : Bool) (es : List Entry) (n : ℕ) → IsSplitBound bound → IsSplitPoint bound leaf es n → HasRoomForAny leaf (take n es)
+left_has_room bound leaf es n b h e short = omega (arith, h.fits, b.high, width_small leaf)
 
-pub right_has_room : (leaf : Bool) (es : List Entry) (n : ℕ) → IsSplitPoint leaf es n → taken leaf es ≤ 4064 → ((i : ℕ) → i < length es → length (entry_at es i).0 ≤ 255)
-    → HasRoomForAny leaf (drop n es)
-right_has_room leaf es n h fits keys e short =
-    let f : Entry → ℕ = λ x. size leaf x + 2 in
-    let parts = sum_by-take-drop f es n in
-    ⊎_elim
-    (λ (x : n < length es). omega (arith, parts, fits, h.longest x, sum_by_more f es n no_entry x, keys n x, short, width_small leaf))
-    (λ (x : length es ≤ n).
-    let none : taken leaf (drop n es) ≡ 0 = ap (sum_by f) (drop_all es n x) in
-    omega (arith, none, short, width_small leaf))
-    (cases_lt n (length es))
-
--- what a front takes that all entries are in
-front_of_all : (leaf : Bool) (es : List Entry) (m : ℕ) → length es ≤ m → taken leaf es ≡ taken leaf (take m es)
-front_of_all leaf es m le =
-    let f : Entry → ℕ = λ x. size leaf x + 2 in
-    let none : taken leaf (drop m es) ≡ 0 = ap (sum_by f) (drop_all es m le) in
-    omega (arith, none, sum_by-take-drop f es m)
-
--- where the longest key has no room, an entry or more stands left of the point, and two or more stand right of it
-pub both_parts : (leaf : Bool) (es : List Entry) (n : ℕ) → IsSplitPoint leaf es n → ((i : ℕ) → i < length es → length (entry_at es i).0 ≤ 255)
-    → LacksRoom leaf es → (1 ≤ n) × (n + 2 ≤ length es)
-both_parts leaf es n h keys lacks =
+pub right_has_room : (bound : ℕ) (leaf : Bool) (es : List Entry) (n : ℕ) → IsSplitBound bound → IsSplitPoint bound leaf es n → taken leaf es ≤ 4064
+    → ((i : ℕ) → i < length es → length (entry_at es i).0 ≤ 255) → HasRoomForAny leaf (drop n es)
+right_has_room bound leaf es n b h fits keys e short =
     let f : Entry → ℕ = λ x. size leaf x + 2 in
     let wide = width_small leaf in
-    let inside : n < length es = ⊎_elim
-    (λ (x : n < length es). x)
-    (λ (x : length es ≤ n). omega (arith, front_of_all leaf es n x, h.fits, lacks, wide))
-    (cases_lt n (length es)) in
-    let one : taken leaf (take (n + 1) es) ≡ taken leaf (take n es) + f (entry_at es n) = sum_by_more f es n no_entry inside in
-    let short = keys n inside in
+    ⊎_elim
+    (λ (x : n + 2 < length es).
+    let inside : n < length es = omega (arith, x) in
+    omega (arith, sum_by-take-drop f es n, fits, h.longest x, b.low, sum_by_more f es n no_entry inside, keys n inside, short, wide))
+    (λ (x : length es ≤ n + 2). omega (arith, taken_most leaf (drop n es) (short_from n es keys), length-drop n es, x, short, wide))
+    (cases_lt (n + 2) (length es))
+
+-- where the longest key has no room, an entry or more stands left of the point, and two or more stand right of it
+pub both_parts : (bound : ℕ) (leaf : Bool) (es : List Entry) (n : ℕ) → IsSplitBound bound → IsSplitPoint bound leaf es n → ((i : ℕ) → i < length es → length (entry_at es i).0 ≤ 255)
+    → LacksRoom leaf es → (1 ≤ n) × (n + 2 ≤ length es)
+both_parts bound leaf es n b h keys lacks =
+    let f : Entry → ℕ = λ x. size leaf x + 2 in
+    let wide = width_small leaf in
+    let many : 3 ≤ length es = omega (arith, taken_most leaf es keys, lacks, wide) in
+    let right : n + 2 ≤ length es = omega (arith, h.within, many) in
     let left : 1 ≤ n = ⊎_elim
     (λ (x : n < 1).
-    let e : n ≡ 0 = omega arith in
+    let e : n ≡ 0 = omega (arith, x) in
     let none : taken leaf (take n es) ≡ 0 = ap (λ m. taken leaf (take m es)) e in
-    omega (arith, none, one, short, wide, h.longest inside))
+    let inside : n < length es = omega (arith, right) in
+    omega (arith, none, sum_by_more f es n no_entry inside, keys n inside, wide, b.low, h.longest (omega (arith, e, many))))
     (λ (x : 1 ≤ n). x)
     (cases_lt n 1) in
-    let right : n + 2 ≤ length es = ⊎_elim
-    (λ (x : length es < n + 2). omega (arith, front_of_all leaf es (n + 1) (omega arith), one, short, wide, h.fits, lacks))
-    (λ (x : n + 2 ≤ length es). x)
-    (cases_lt (length es) (n + 2)) in
     (left, right)

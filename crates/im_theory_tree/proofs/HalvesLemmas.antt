@@ -1,60 +1,36 @@
 -- The two parts of a page that is split.
-use Rattle.std.proofs.Common.{◌≡◌, ℕ, zero, suc, ◌+◌, ◌*◌, ◌<◌, ◌≤◌, Bool, true, false, List, [], ◌∷◌, ◌++◌, length, take, drop, sum_by, Option, Some, None, refl, sym, ap₂, subst, ◌∙◌, ⊎_elim, arith, length-drop, take-append-drop}
+use Rattle.std.proofs.Common.{◌≡◌, ℕ, ◌+◌, ◌<◌, ◌≤◌, Bool, List, [], ◌∷◌, ◌++◌, length, take, drop, Option, Some, None, refl, sym, ap₂, subst, ◌∙◌, ⊎_elim, arith, take-append-drop}
 use Rattle.std.proofs.lemmas.List.{drop_more}
-use Rattle.std.proofs.lemmas.List.Sums.{sum_by-cons, sum_by-take-drop, sum_by_more}
+use Rattle.std.proofs.lemmas.List.Sums.{sum_by-take-drop, sum_by_more}
 use Rattle.im_base_types.specs.Keys.{Key, IsBelow}
 use Rattle.im_base_types.specs.Pages.{Entry}
-use Rattle.im_theory_page.specs.Entry.{no_entry, entry_at, width, size, taken, Rises}
-use Rattle.im_theory_page.specs.Split.{IsSplitPoint, HasRoomForAny}
+use Rattle.im_theory_page.specs.Entry.{no_entry, entry_at, size, taken, Rises}
+use Rattle.im_theory_page.specs.Split.{IsSplitBound, IsSplitPoint, HasRoomForAny}
 use Rattle.im_theory_page.proofs.Order.{below_trans}
-use Rattle.im_theory_page.proofs.SplitLemmas.{left_has_room, right_has_room}
+use Rattle.im_theory_page.proofs.SplitLemmas.{left_has_room, right_has_room, both_parts}
 use Rattle.im_theory_tree.specs.Good.{AllOf, AtOrAbove, IsUnder, InRange, IsAfter}
 use Rattle.im_theory_tree.specs.Splits.{Halves}
 use Rattle.im_theory_tree.specs.Halves.{FitsPage, LacksRoom, SplitsWell}
 use Rattle.im_theory_tree.proofs.Way.{split_at}
 use Rattle.im_theory_tree.proofs.Ascent.{Ascends, ascends_from_rises, at_all}
 
-pub width_small : (leaf : Bool) → width leaf ≤ 8
-width_small true = omega arith
-width_small false = omega arith
-
--- an entry's cell and slot take at most 266 bytes
-pub taken_most : (leaf : Bool) (es : List Entry) → ((i : ℕ) → i < length es → length (entry_at es i).0 ≤ 255) → taken leaf es ≤ 266 * length es
-taken_most leaf [] h = omega arith
-taken_most leaf (e ∷ es) h =
-    omega (arith, sum_by-cons (λ (x : Entry). size leaf x + 2) e es, h zero (omega arith), width_small leaf, taken_most leaf es (λ i lt. h (suc i) (omega arith)))
-
-pub short_behind : (n : ℕ) (es : List Entry) → ((i : ℕ) → i < length es → length (entry_at es i).0 ≤ 255) → (i : ℕ) → i < length (drop n es) → length (entry_at (drop n es) i).0 ≤ 255
-short_behind zero es h i lt = h i lt
-short_behind (suc n) [] h i lt = absurd (omega arith)
-short_behind (suc n) (e ∷ es) h i lt = short_behind n es (λ j l. h (suc j) (omega arith)) i lt
-
 -- fewer entries leave more room
 less_taken : (leaf : Bool) (es fs : List Entry) → taken leaf fs ≤ taken leaf es → HasRoomForAny leaf es → HasRoomForAny leaf fs
 less_taken leaf es fs le h e short = omega (arith, le, h e short)
 
-pub splits_well : (leaf : Bool) (es : List Entry) (n : ℕ) (e : Entry) → FitsPage leaf es → IsSplitPoint leaf es n → LacksRoom leaf es e → SplitsWell leaf es n
-splits_well leaf es n e page point full =
+pub splits_well : (bound : ℕ) (leaf : Bool) (es : List Entry) (n : ℕ) (e : Entry) → IsSplitBound bound → FitsPage leaf es → IsSplitPoint bound leaf es n → LacksRoom leaf es e → SplitsWell leaf es n
+splits_well bound leaf es n e within page point full =
     let f : Entry → ℕ = λ x. size leaf x + 2 in
-    let parts = sum_by-take-drop f es n in
-    let small = width_small leaf in
-    let behind = taken_most leaf (drop n es) (short_behind n es page.short) in
-    let many : n + 7 ≤ length es = omega (arith, parts, point.fits, full.more, full.key, small, behind, length-drop n es, point.within) in
-    let next = sum_by_more f es n no_entry (omega (arith, many)) in
-    let one = page.short n (omega (arith, many)) in
-    let longest = point.longest (omega (arith, many)) in
+    let parts = both_parts bound leaf es n within point page.short (omega (arith, full.more, full.key)) in
+    let next = sum_by_more f es n no_entry (omega (arith, parts.1)) in
+    let right = right_has_room bound leaf es n within point page.fits page.short in
     record {
-      left = first n next longest one;
-      right = omega (arith, many);
-      left_room = left_has_room leaf es n point;
-      right_room = right_has_room leaf es n point page.fits page.short;
-      rest_room = less_taken leaf (drop n es) (drop (n + 1) es) (omega (arith, parts, sum_by-take-drop f es (n + 1), next)) (right_has_room leaf es n point page.fits page.short);
+      left = parts.0;
+      right = parts.1;
+      left_room = left_has_room bound leaf es n within point;
+      right_room = right;
+      rest_room = less_taken leaf (drop n es) (drop (n + 1) es) (omega (arith, sum_by-take-drop f es n, sum_by-take-drop f es (n + 1), next)) right;
     }
-  where
-    first : (m : ℕ) → sum_by (λ (x : Entry). size leaf x + 2) (take (m + 1) es) ≡ sum_by (λ (x : Entry). size leaf x + 2) (take m es) + (size leaf (entry_at es m) + 2)
-        → 2032 < taken leaf (take (m + 1) es) → length (entry_at es m).0 ≤ 255 → 1 ≤ m
-    first zero next longest one = absurd (omega (arith, next, longest, one, width_small leaf))
-    first (suc m) next longest one = omega arith
 
 -- ---- keys on each side
 

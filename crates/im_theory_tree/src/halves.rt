@@ -4,15 +4,15 @@ ghost use Rattle.std.specs.Prelude.{◌≡◌, ℕ, ◌<◌, ◌≤◌, Bool, Li
 ghost use Rattle.im_base_types.specs.Keys.{Key};
 ghost use Rattle.im_base_types.specs.Pages.{Entry};
 ghost use Rattle.im_theory_page.specs.Entry.{entry_at, Rises};
-ghost use Rattle.im_theory_page.specs.Split.{IsSplitPoint};
+ghost use Rattle.im_theory_page.specs.Split.{IsSplitBound, IsSplitPoint};
 ghost use Rattle.im_theory_tree.specs.Good.{InRange, IsAfter};
 ghost use Rattle.im_theory_tree.specs.Splits.{Halves};
 ghost use Rattle.im_theory_tree.specs.Halves.{FitsPage, LacksRoom, SplitsWell};
 
 /// A page without room for an entry has, at its split point, an entry on the left, two and more on the right, and room
-/// for one more entry of any size on each side.
+/// for one more entry of any size on each side: whichever bound the point goes by.
 pub fn full_pages_split_well()
-    ensures { (leaf : Bool) (es : List Entry) (n : ℕ) (e : Entry) → FitsPage leaf es → IsSplitPoint leaf es n → LacksRoom leaf es e → SplitsWell leaf es n }
+    ensures { (bound : ℕ) (leaf : Bool) (es : List Entry) (n : ℕ) (e : Entry) → IsSplitBound bound → FitsPage leaf es → IsSplitPoint bound leaf es n → LacksRoom leaf es e → SplitsWell leaf es n }
 {}
 
 /// The parts of a rising list are the halves of a leaf's split, with the right part's first key as separator, which is

@@ -4,7 +4,7 @@ ghost use Rattle.std.specs.Prelude.{◌≡◌};
 ghost use Rattle.im_base_types.specs.declared.page_kind.PageKind.TheVariants.{Leaf};
 
 use crate::page::numbers::Numbers;
-use im_page::Page;
+use im_page::{HALF_PAGE, Page};
 
 /// A key of eight bytes from `0` on.
 fn key_of(number: u64) -> [u8; 8] {
@@ -89,7 +89,7 @@ pub fn split(page: &Page, left: &mut Page, right: &mut Page, rounds: u64) -> u64
 {
     let mut sum = 0u64;
     for _ in 0..rounds {
-        let point = page.split_point();
+        let point = page.split_point(HALF_PAGE);
         left.copy_entries(page, 0, point);
         right.copy_entries(page, point, page.len());
         sum = sum.wrapping_add(left.len() as u64);

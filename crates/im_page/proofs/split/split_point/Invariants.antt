@@ -7,5 +7,5 @@ use Rattle.im_page.proofs.split.split_point.Given as goal
 abbrev pub invariant-loop-i : goal.invariant-loop-i
 invariant-loop-i l = record {
   total : l.used ≡ taken l.leaf (take l.i (entries_of l.leaf l.bytes));
-  small : l.used ≤ 2032;
+  small : l.used ≤ l.bound;
 }
