@@ -4,11 +4,11 @@ use Rattle.std.specs.Prelude.{if◌then◌else◌, ◌==◌, ◌||◌}
 use Rattle.im_base_types.specs.Maps.{IndexMap, first}
 use Rattle.im_base_types.specs.Changes.{Change, Effect, apply, apply_all, seen, seen_effect}
 use Rattle.im_base_types.proofs.Changes.{apply_seen, apply_all_append, apply_all_seen, seen_append}
-use Rattle.im_base_types.specs.Answers.{Insert, Delete, Inserted, Deleted, BlockedTree, Step, Begin, Do, Commit, Rollback, Continue, FlushPage, Force, Checkpoint, Switch, Reply, Started, Committed, RolledBack, More, Blocked, Die, Done, Refused, Mark, Idle, Going, MustRollBack, RollingBack, Committing, answer}
+use Rattle.im_base_types.specs.Answers.{Insert, Delete, Inserted, Deleted, BlockedTree, Step, Begin, Do, Commit, Rollback, Continue, RollTo, FlushPage, Force, Checkpoint, Switch, Reply, Started, Committed, RolledBack, More, Blocked, Die, Done, Refused, Mark, Idle, Going, MustRollBack, RollingBack, Returning, Committing, answer}
 use Rattle.im_base_types.specs.Refusals.{memory, unfinished, failed as has_failed}
 use Rattle.im_base_types.specs.Lives.{Asked, Shown, asks, effect_asked, refused, answered, breaks, nothing_shown, shown_by, all_acked, shows, NoneAcked, effects}
 use Rattle.im_theory_machine.specs.View.{View, Puts, Drops, TakesBack, TookBack, pending_of, locked, with_change, change_made, begun, did, marked, committed_by, dropped_by, undid_more, undid_last, broken, Txn, idle, set_txn, did_txn, queued, forced_by, is_among, nets_of, MayRollBack}
-use Rattle.im_theory_machine.specs.Machine.{barred, barred_to, or_else, fault_if, Answers, Goes, Moves, begins, does, waits, dies, commits, queues, drops, turns, undoes, ends, puts_later, puts, drops_first, drops_leaf, takes_later, takes_first, takes_leaf, takes_last, logs_page, tree_blocks, tree_halts, flushes, forces, checkpoints, switches, lacks, breaks as machine_breaks, Run, IsReached, start}
+use Rattle.im_theory_machine.specs.Machine.{barred, barred_to, or_else, fault_if, Answers, Goes, Moves, MayTakeBack, begins, does, waits, dies, commits, queues, drops, turns, undoes, ends, puts_later, puts, drops_first, drops_leaf, takes_later, takes_first, takes_leaf, takes_last, stays_back, turns_back, gives_back, is_back, leaf_is_back, logs_page, tree_blocks, tree_halts, flushes, forces, checkpoints, switches, lacks, breaks as machine_breaks, Run, IsReached, start}
 use Rattle.im_theory_machine.proofs.Cited.{cases_test, nets_same, IsQueue, live_at, clear_commit, passes_as, queue_marks, next_idle}
 use Rattle.im_theory_steps.proofs.Together.{nets_append, nets_else, net_marked}
 use Rattle.im_theory_steps.proofs.Promises.{moves_reach}
@@ -35,6 +35,7 @@ unacked t Going [] = refl
 unacked t Going (c ∷ cs) = refl
 unacked t MustRollBack e = refl
 unacked t RollingBack e = refl
+unacked t (Returning k) e = refl
 unacked t Committing e = refl
 
 -- ---- a refusal
@@ -50,6 +51,7 @@ refused_acked n Begin s = refl
 refused_acked n (Do t a) s = refl
 refused_acked n (Rollback t) s = refl
 refused_acked n (Continue t) s = refl
+refused_acked n (RollTo t k) s = refl
 refused_acked n (FlushPage p) s = refl
 refused_acked n Force s = refl
 refused_acked n Checkpoint s = refl
@@ -76,6 +78,7 @@ refused_clean n Begin s nets how h = h
 refused_clean n (Do t a) s nets how h = h
 refused_clean n (Rollback t) s nets how h = h
 refused_clean n (Continue t) s nets how h = h
+refused_clean n (RollTo t k) s nets how h = h
 refused_clean n (FlushPage p) s nets how h = h
 refused_clean n Force s nets how h = h
 refused_clean n Checkpoint s nets how h = h
@@ -104,6 +107,7 @@ unacked_none t Going [] = tt
 unacked_none t Going (c ∷ cs) = (refl, tt)
 unacked_none t MustRollBack e = tt
 unacked_none t RollingBack e = tt
+unacked_none t (Returning k) e = tt
 unacked_none t Committing e = tt
 
 -- what waits, once a force has finished it
@@ -139,6 +143,7 @@ commit_clean t Going [] = tt
 commit_clean t Going (c ∷ cs) = (refl, tt)
 commit_clean t MustRollBack e = tt
 commit_clean t RollingBack e = tt
+commit_clean t (Returning k) e = tt
 commit_clean t Committing e = tt
 
 -- ---- the steps
@@ -151,6 +156,7 @@ going_free false false f Going live e = absurd (cc e)
 going_free false o f Idle live e = inr (λ g. cc g)
 going_free false o f MustRollBack live e = inr (λ g. cc g)
 going_free false o f RollingBack live e = inr (λ g. cc g)
+going_free false o f (Returning k) live e = inr (λ g. cc g)
 going_free false o f Committing live e = inr (λ g. cc g)
 
 pub no_effects : (xs : List Asked) → effects xs ≡ [] → xs ≡ []
@@ -184,6 +190,10 @@ module _ (base : IndexMap) (s : Shown) (v : View) (h : Shows base s v) (next_fre
   may_no_wait : (t : ℕ) → MayRollBack ((v.txns t).mark) → (v.txns t).mark ≡ Committing → ⊥
   may_no_wait t (inl e) held = let never : Going ≡ Committing = sym e ∙ held in cc never
   may_no_wait t (inr e) held = let never : MustRollBack ≡ Committing = sym e ∙ held in cc never
+
+  taking_no_wait : (t : ℕ) (cs : List Change) → MayTakeBack ((v.txns t).mark) cs → (v.txns t).mark ≡ Committing → ⊥
+  taking_no_wait t cs (inl rolling) held = let never : RollingBack ≡ Committing = sym rolling ∙ held in cc never
+  taking_no_wait t cs (inr r) held = let never : Returning r.0 ≡ Committing = sym r.1 ∙ held in cc never
 
   mark_same : (t : ℕ) (m : Mark) (q : List ℕ) → nets_of (set_txn v.txns t (record (v.txns t) { mark = m })) q ≡ nets_of v.txns q
   mark_same t m q = nets_same v.txns (set_txn v.txns t (record (v.txns t) { mark = m })) q (λ u. net_marked v.txns t m u)
@@ -255,10 +265,18 @@ module _ (base : IndexMap) (s : Shown) (v : View) (h : Shows base s v) (next_fre
   by_goes step reply w live free (drops_leaf t k b is under d e) = put_in step (Continue t) reply Deleted w (change_made v) b d e (same (change_made v) s.asked refl refl refl refl)
   by_goes step reply w live free (takes_later t c cs b is none net_is d e) = put_in step (Continue t) reply More w (with_change v t TakesBack) b d e (same (with_change v t TakesBack) s.asked refl refl refl refl)
   by_goes step reply w live free (takes_first t c cs b is none net_is d e) = put_in step (Continue t) reply More w (with_change (undid_more v t c cs) t TookBack) b d e
-      (same (with_change (undid_more v t c cs) t TookBack) s.asked refl refl refl (else_set t (record (v.txns t) { net = cs }) (no_wait t RollingBack is (λ e. cc e))))
+      (same (with_change (undid_more v t c cs) t TookBack) s.asked refl refl refl (else_set t (record (v.txns t) { net = cs }) (taking_no_wait t cs is)))
   by_goes step reply w live free (takes_leaf t c cs b is under net_is d e) = put_in step (Continue t) reply More w (change_made v) b d e (same (change_made v) s.asked refl refl refl refl)
   by_goes step reply w live free (takes_last t b is under empty d e) = put_in step (Continue t) reply RolledBack w (change_made (dropped_by v t)) b d e
       (same (change_made (dropped_by v t)) s.asked refl refl refl (else_set t idle (no_wait t RollingBack is (λ e. cc e))))
+  by_goes step reply w live free (stays_back t n b may few d e) = put_in step (RollTo t n) reply Done w (marked v t Going) b d e (same (marked v t Going) s.asked refl refl refl (mark_same t Going v.queue))
+  by_goes step reply w live free (turns_back t n b may more d e) = put_in step (RollTo t n) reply More w (marked v t (Returning n)) b d e (same (marked v t (Returning n)) s.asked refl refl refl (mark_same t (Returning n) v.queue))
+  by_goes step reply w live free (gives_back t n c cs b back net_is more d e) = put_in step (Continue t) reply More w (undid_more v t c cs) b d e
+      (same (undid_more v t c cs) s.asked refl refl refl (else_set t (record (v.txns t) { net = cs }) (no_wait t (Returning n) back (λ e. cc e))))
+  by_goes step reply w live free (is_back t n c cs b back net_is is d e) = put_in step (Continue t) reply Done w (marked (undid_more v t c cs) t Going) b d e
+      (same (marked (undid_more v t c cs) t Going) s.asked refl refl refl
+      (nets_same (undid_more v t c cs).txns (marked (undid_more v t c cs) t Going).txns v.queue (λ u. net_marked (undid_more v t c cs).txns t Going u) ∙ else_set t (record (v.txns t) { net = cs }) (no_wait t (Returning n) back (λ e. cc e))))
+  by_goes step reply w live free (leaf_is_back t n b back under is d e) = put_in step (Continue t) reply Done w (change_made (marked v t Going)) b d e (same (change_made (marked v t Going)) s.asked refl refl refl (mark_same t Going v.queue))
   by_goes step reply w live free (logs_page t u b under owner d e) = put_in step (Continue t) reply More w v b d e (same v s.asked refl refl refl refl)
   by_goes step reply w live free (tree_blocks t a u b under other d e) = put_in step (Do t a) reply BlockedTree w v b d e (same v (answered (Do t a) BlockedTree s).asked (ap (λ (x : Shown). x.asked) (tree_shows s t a)) refl refl refl)
   by_goes step reply w live free (tree_halts t u b under other d e) = put_in step (Continue t) reply BlockedTree w v b d e (same v s.asked refl refl refl refl)
@@ -303,5 +321,5 @@ run_shows base s v w (x ∷ xs) h reached r = run_shows base (shows s x.0 (Some 
 pub runs_commit : RunsCommitWhatTheyShow
 runs_commit base first trace v r =
     run_shows base nothing_shown (start base first) v trace
-    (record { shown = record { failed = refl; marks = λ t. inl refl; pending = λ t. refl; effects = λ t may. refl }; commits = refl; clean = λ q. record { done = []; waiting = []; all = refl; acked = tt; none = tt; are = refl } })
+    (record { shown = record { failed = refl; marks = λ t. inl refl; pending = λ t. refl; effects = λ t may. refl; returns = λ t n is. absurd (cc is) }; commits = refl; clean = λ q. record { done = []; waiting = []; all = refl; acked = tt; none = tt; are = refl } })
     (record { trace = []; first = first; run = refl }) r

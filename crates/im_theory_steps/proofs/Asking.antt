@@ -4,7 +4,7 @@ use Rattle.std.specs.Prelude.{if◌then◌else◌, ◌==◌, ◌||◌}
 use Rattle.std.specs.FinMap.{get}
 use Rattle.im_base_types.specs.Maps.{From, Above, first, last_below}
 use Rattle.im_base_types.specs.Changes.{Effect}
-use Rattle.im_base_types.specs.Answers.{Access, Fetch, Seek, Next, Prev, Scan, Insert, Delete, Step, Begin, Do, Commit, Rollback, Continue, FlushPage, Force, Checkpoint, Switch, Mark, Idle, Going, MustRollBack, RollingBack, Committing, Blocked, BlockedTree, Die, Duplicate, Inserted, Deleted, Absent, answer, found, entry}
+use Rattle.im_base_types.specs.Answers.{Access, Fetch, Seek, Next, Prev, Scan, Insert, Delete, Step, Begin, Do, Commit, Rollback, Continue, RollTo, FlushPage, Force, Checkpoint, Switch, Mark, Idle, Going, MustRollBack, RollingBack, Returning, Committing, Blocked, BlockedTree, Die, Duplicate, Inserted, Deleted, Absent, answer, found, entry}
 use Rattle.im_base_types.specs.Refusals.{memory, unfinished}
 use Rattle.im_base_types.specs.Lives.{Asked, Shown, effects, effect_asked, all_acked, answered, refused, asks, breaks}
 use Rattle.im_theory_machine.specs.View.{View}
@@ -29,6 +29,7 @@ none_asked t acked Idle e ne = refl
 none_asked t acked Going e ne = absurd (ne refl)
 none_asked t acked MustRollBack e ne = refl
 none_asked t acked RollingBack e ne = refl
+none_asked t acked (Returning k) e ne = refl
 none_asked t acked Committing e ne = refl
 
 -- a transaction that changed nothing asks for nothing
@@ -40,6 +41,7 @@ empty_asked t acked m e is = ap (effect_asked t acked m) is ∙ go m
     go Going = refl
     go MustRollBack = refl
     go RollingBack = refl
+    go (Returning k) = refl
     go Committing = refl
 
 -- ---- accesses
@@ -131,6 +133,7 @@ refusals_ask_nothing n Begin s how = refl
 refusals_ask_nothing n (Do t a) s how = refl
 refusals_ask_nothing n (Rollback t) s how = refl
 refusals_ask_nothing n (Continue t) s how = refl
+refusals_ask_nothing n (RollTo t k) s how = refl
 refusals_ask_nothing n (FlushPage p) s how = refl
 refusals_ask_nothing n Force s how = refl
 refusals_ask_nothing n Checkpoint s how = refl

@@ -1,13 +1,13 @@
 -- Steps of a structure change that is made page by page, and steps of others that it stands in the way of.
-use Rattle.std.proofs.Common.{◌≡◌, ◌≢◌, ◌≤◌, inl, inr, ℕ, nat_eq, List, ◌++◌, [], ◌∷◌, length, map, refl, sym, ◌∙◌, ap, subst, true, false, Bool, Option, is_some, cond, None, Some, eq-eqb, ne_eqb}
+use Rattle.std.proofs.Common.{◌≡◌, ◌≢◌, ◌≤◌, ◌+◌, inl, ℕ, nat_eq, List, ◌++◌, [], ◌∷◌, length, map, refl, sym, ◌∙◌, ap, subst, true, false, Bool, Option, is_some, cond, None, Some, eq-eqb, ne_eqb}
 use Rattle.std.specs.Prelude.{find}
 use Rattle.std.specs.FinMap.{empty, get}
 use Rattle.im_base_types.specs.Keys.{Key}
 use Rattle.im_base_types.specs.Maps.{IndexMap}
-use Rattle.im_base_types.specs.Changes.{Change, Effect, Put, Drop, apply_all, undone, seen_effect}
+use Rattle.im_base_types.specs.Changes.{Effect, Put, Drop, apply_all, undone}
 use Rattle.im_base_types.specs.Records.{InsertKey, DeleteKey}
 use Rattle.im_base_types.specs.Answers as answers
-use Rattle.im_base_types.specs.Answers.{Access, Insert, Delete, Inserted, Deleted, Do, Continue, More, BlockedTree, RolledBack, changes}
+use Rattle.im_base_types.specs.Answers.{Access, Insert, Delete, Inserted, Deleted, Do, Continue, More, BlockedTree, Done, RolledBack, changes}
 use Rattle.im_base_types.specs.Lives.{Shown, effects}
 use Rattle.im_base_types.specs.Refusals.{failed as has_failed}
 use Rattle.im_theory_log.specs.Tree.{Tree, TreeLaws}
@@ -16,30 +16,32 @@ use Rattle.im_theory_log.specs.Lawful as lawful
 use Rattle.im_theory_log.specs.Lawful.{Follows}
 use Rattle.im_theory_log.specs.Transactions.{net, last_of, undo_next_of, is_finished}
 use Rattle.im_theory_log.proofs.LogLaws.{logs_stay_lawful}
-use Rattle.im_base_txn.specs.declared.transaction.Mark.TheVariants.{Going, RollingBack}
+use Rattle.im_base_txn.specs.declared.transaction.Mark.TheVariants.{Going, RollingBack, Returning}
 use Rattle.im_base_txn.specs.declared.transaction.Transaction.{Transaction}
-use Rattle.im_base_txn.specs.Rows.{is_of, changed, with_record}
-use Rattle.im_base_txn.specs.LookUps.{Keeps, without}
+use Rattle.im_base_txn.specs.Rows.{is_of, changed, with_changes, with_mark, with_record}
+use Rattle.im_base_txn.specs.LookUps.{without}
 use Rattle.im_base_txn.proofs.LookUps.{look_ups_follow}
 use Rattle.im_theory_machine.specs.Locks.{Lock, Request, Holds, SameLocks, IsFree, kept}
 use Rattle.im_theory_machine.specs.Rows.{asked}
 use Rattle.im_theory_machine.specs.Table.{Table, locks_of, lasting_of}
 use Rattle.im_theory_machine.specs.Changing.{MatchesWithKept}
-use Rattle.im_theory_machine.specs.View.{View, Under, Aim, Puts, Drops, TakesBack, TookBack, Txn, idle, set_txn, owner_of, owner_in, pending_for, pending_of, kept_for, kept_lock, locks_in, own_locks, did, did_txn, locked, undid_more, dropped_by, with_change, change_made, is_among, nets_of}
-use Rattle.im_theory_machine.specs.Machine.{logs_page, drops_leaf, drops_first, takes_later, takes_first, takes_leaf, takes_last, tree_blocks, tree_halts, barred, barred_to_continue, or_else, fault_if}
+use Rattle.im_theory_machine.specs.View.{View, Under, Aim, Puts, Drops, TakesBack, TookBack, Txn, idle, owner_of, pending_for, pending_of, kept_for, kept_lock, locks_in, own_locks, did, did_txn, locked, marked, undid_more, dropped_by, with_change, change_made, is_among, nets_of}
+use Rattle.im_theory_machine.specs.Machine.{logs_page, drops_leaf, drops_first, takes_later, takes_first, takes_leaf, takes_last, leaf_is_back, tree_blocks, tree_halts, barred, barred_to_continue, or_else, fault_if}
 use Rattle.im_theory_machine.proofs.Cited.{changes-serve, by_txn, pending_granted, nets_same}
-use Rattle.im_theory_steps.specs.Seen.{IsSeen, drop_of}
-use Rattle.im_theory_steps.specs.Serving.{IsRow, IsRowOf, IsAt, mark_of, IsServing}
-use Rattle.im_theory_steps.specs.Steps.{key_record, noted, InsertsBegin, PagesAreServed, InsertsStayFree, InsertsEnd, DeletesBegin, DeletesEnd, TurnsBegin, TurnsEmpty, TurnsDrop, TurnsEnd, TreesBlock, TreesHalt}
+use Rattle.im_theory_steps.specs.Seen.{IsSeen}
+use Rattle.im_theory_steps.specs.Serving.{IsRow, mark_of, IsServing}
+use Rattle.im_theory_steps.specs.Steps.{counted, key_record, noted, InsertsBegin, PagesAreServed, InsertsStayFree, InsertsEnd, DeletesBegin, DeletesEnd, TurnsBegin, TurnsEmpty, TurnsDrop, TurnsEnd, TreesBlock, TreesHalt, takes_back}
+use Rattle.im_theory_steps.specs.Undone.{ReturnsDrop}
 use Rattle.im_theory_steps.proofs.Asking.{trees_ask_nothing}
-use Rattle.im_theory_steps.proofs.Growth.{structure_changes_no_key, same_then}
+use Rattle.im_theory_steps.proofs.Growth.{structure_changes_no_key, same_here, same_then}
 use Rattle.im_theory_steps.proofs.Holding.{same_locks, released_locks, free_by_table}
 use Rattle.im_theory_steps.proofs.Logging.{adds_behind, others_say, row_says, deletes_served}
 use Rattle.im_theory_steps.proofs.Promises.{granted_keys_free}
 use Rattle.im_theory_steps.proofs.Records.{put_adds, drop_adds}
-use Rattle.im_theory_steps.proofs.Rows.{same_at, as_row, other_at, rows_after_as, length_map, one_fewer}
-use Rattle.im_theory_steps.proofs.Steps.{moves_by, do_passes, continue_passes, has_changed, mark_free, cases_net, served, at, new_by, taken_at, structure_keeps, rows_take_owner, rows_leave_owner}
-use Rattle.im_theory_steps.proofs.Together.{together}
+use Rattle.im_theory_steps.proofs.Rolling.{rolling_is}
+use Rattle.im_theory_steps.proofs.Rows.{same_at, as_row, counted_at, rows_changed, rows_ended, row_marked, length_map, one_fewer}
+use Rattle.im_theory_steps.proofs.Steps.{moves_by, do_passes, continue_passes, taking_passes, mark_free, cases_net, served, at, new_by, structure_keeps}
+use Rattle.im_theory_steps.proofs.Together.{together, marked_seen}
 
 -- ---- what the log and the view say
 
@@ -80,18 +82,6 @@ no_lock : (b : Bool) → cond {A = List Lock} b [] [] ≡ []
 no_lock true = refl
 no_lock false = refl
 
--- ---- rows
-
--- one row is changed, and whose the change is
-rows_with : (who now : Option ℕ) (t next : ℕ) (older longer : History) (rows : List Transaction) (txns : ℕ → Txn) (x : Txn) (g : Transaction → Transaction) (row : Transaction) → Keeps g
-    → ((u : ℕ) → u ≢ t → IsAt u (find (is_of u) rows) next older who (txns u) → IsAt u (find (is_of u) rows) next longer now (txns u))
-    → ((u : ℕ) → IsAt u (find (is_of u) rows) next older who (txns u)) → find (is_of t) rows ≡ Some row → row.number ≡ t → IsRowOf (g row).mark (g row) next longer now → x.mark ≡ mark_of (g row).mark
-    → (u : ℕ) → IsAt u (find (is_of u) (map (changed t g) rows)) next longer now (set_txn txns t x u)
-rows_with who now t next older longer rows txns x g row keeps go each found number own mark =
-    rows_after_as who now t next next older longer rows (map (changed t g) rows) txns x go each
-    (λ u differ. look_ups_follow.changed_other u t g keeps rows differ)
-    (subst (λ (o : Option Transaction). IsAt t o next longer now x) (sym (look_ups_follow.changed_own t g keeps rows row found)) (keeps row ∙ number, own, mark))
-
 -- ---- an Insert
 
 pub inserts_begin : InsertsBegin
@@ -105,13 +95,13 @@ inserts_begin b earlier before s v older longer rows next old new t row k i h fo
     let on = structure_changes_no_key b t older longer grows in
     let r = is.1 in
     let g = with_record (last_of t longer) (undo_next_of t longer) in
-    let now : IsRow (g row) next longer (Some t) = record {
+    let now : IsRow (g row) next longer = record {
       number = r.number;
       below = r.below;
       last = ap (λ (n : ℕ). last_of n longer) (sym is.0);
       undo = ap (λ (n : ℕ). undo_next_of n longer) (sym is.0);
       unfinished = ap (λ (n : ℕ). is_finished n longer) is.0 ∙ on.finished ∙ ap (λ (n : ℕ). is_finished n older) (sym is.0) ∙ r.unfinished;
-      logged = λ le. inr (ap (λ (n : ℕ). Some n) (sym is.0));
+      changes = r.changes ∙ ap (λ (e : Effect). length e) (sym (on.stays.nets row.number));
     } in
     served b earlier before s v older rows next old h (Do t (Insert k i)) More w longer (noted t longer rows) next new
     (moves_by v w (Do t (Insert k i)) More (do_passes v t h.works (Insert k i) (none_owns v.under t none) going fits) goes.0)
@@ -120,10 +110,7 @@ inserts_begin b earlier before s v older longer rows next old new t row k i h fo
     on.stays.commits
     refl
     (record {
-      each = rows_with (owner_in v) (Some t) t next older longer rows v.txns x g row (λ y. refl)
-          (λ u differ at_u. taken_at t u next longer (find (is_of u) rows) (v.txns u)
-          (subst (λ (who : Option ℕ). IsAt u (find (is_of u) rows) next longer who (v.txns u)) (ap owner_of none) (same_at (owner_in v) u next older longer (on.others u differ) (find (is_of u) rows) (v.txns u) at_u)))
-          h.table.each found is.0 (as_row row.mark (g row) next longer free now) is.2;
+      each = rows_changed t next older longer rows v.txns x g row (λ y. refl) on.others h.table.each found is.0 (as_row row.mark (g row) next longer free now) is.2;
       active = h.table.active ∙ sym (length_map (changed t g) rows);
       numbers = h.table.numbers;
     })
@@ -131,7 +118,7 @@ inserts_begin b earlier before s v older longer rows next old new t row k i h fo
 
 pub pages_served : PagesAreServed
 pages_served b earlier before s v older longer rows next held t row h found free owner passes grows =
-    let on = structure_keeps b earlier before s v older longer rows next held t row h found free (inr owner) grows in
+    let on = structure_keeps b earlier before s v older longer rows next held t row h found free grows in
     let u = owned_by v.under t owner in
     served b earlier before s v longer (noted t longer rows) next held on (Continue t) More v longer (noted t longer rows) next held
     (moves_by v v (Continue t) More passes (logs_page t u.0 refl u.1 u.2 refl refl))
@@ -198,21 +185,19 @@ inserts_end tree laws b earlier before s v older between rows next old new t las
     let new_one = new_by b earlier before s v older rows next old h t answers.Going going (λ x. cc x) in
     record {
       lawful = logs_stay_lawful tree laws b between newest law follows (λ e. absurd cc);
-      served = served b earlier before s v older rows next old h (Continue t) Inserted w longer (map (changed t (with_record lsn lsn)) rows) next new
+      served = served b earlier before s v older rows next old h (Continue t) Inserted w longer (counted t lsn row rows) next new
           (moves_by v w (Continue t) Inserted (owner_continues v t (Insert k i) h.works (mine_pending v.under t (Puts k i) (Insert k i) under refl)) goes.0)
           h.works
           (seen_like b longer done w (together.adds b older longer v t (Insert k i) (Put k i) (own_locks v t) h.seen_by new_one one adds) refl refl refl (λ u. refl))
           adds.commits
           refl
           (record {
-            each = rows_with (owner_in v) None t next older longer rows v.txns (did_txn (v.txns t) (Insert k i) v.walk (own_locks v t)) (with_record lsn lsn) row (λ y. refl)
-                (λ u differ at_u. other_at t u next longer (find (is_of u) rows) (v.txns u) differ
-                (subst (λ (who : Option ℕ). IsAt u (find (is_of u) rows) next longer who (v.txns u)) (ap owner_of under)
-                (same_at (owner_in v) u next older longer (same_then u older between longer (way.others u differ) (others_say between t last lsn page (InsertKey k i) (Put k i) refl refl refl refl u differ)) (find (is_of u) rows) (v.txns u) at_u)))
+            each = rows_changed t next older longer rows v.txns (did_txn (v.txns t) (Insert k i) v.walk (own_locks v t)) (with_changes lsn lsn (row.changes + 1)) row (λ y. refl)
+                (λ u differ. same_then u older between longer (way.others u differ) (others_say between t last lsn page (InsertKey k i) (Put k i) refl refl refl refl u differ))
                 h.table.each found is.0
-                (as_row row.mark (with_record lsn lsn row) next longer free (row_says between t last lsn page (InsertKey k i) (Put k i) refl refl refl refl row next is.0 is.1.number is.1.below way.unfinished))
+                (as_row row.mark (with_changes lsn lsn (row.changes + 1) row) next longer free (row_says between t last lsn page (InsertKey k i) (Put k i) refl refl refl refl row next is.0 is.1.number is.1.below way.unfinished (counted_at t next older row is.0 is.1 ∙ ap (λ (e : Effect). length e) (sym (way.stays.nets t)))))
                 (sym (ap mark_of mark));
-            active = h.table.active ∙ sym (length_map (changed t (with_record lsn lsn)) rows);
+            active = h.table.active ∙ sym (length_map (changed t (with_changes lsn lsn (row.changes + 1))) rows);
             numbers = h.table.numbers;
           })
           goes.1;
@@ -255,62 +240,56 @@ deletes_begin tree laws b earlier before s v older between rows next old new t l
     let lasts : SameLocks (lasting_of new t) (kept (asked (Delete k) v.walk) ((v.txns t).locks)) = subst (λ (ls : List Lock). SameLocks (lasting_of new t) (kept (asked (Delete k) v.walk) ls)) (sym (h.locks.lasting t)) decides.1.lasting in
     record {
       lawful = at_once.lawful;
-      served = served b earlier before s v older rows next old h (Do t (Delete k)) More w longer (map (changed t (with_record lsn lsn)) rows) next new
+      served = served b earlier before s v older rows next old h (Do t (Delete k)) More w longer (counted t lsn row rows) next new
           (moves_by v w (Do t (Delete k)) More (do_passes v t h.works (Delete k) unowned going fits) (drops_first t k i (lasting_of new t) refl going none has free lasts refl refl))
           h.works
           (seen_like b longer done w on.seen_by refl refl refl (λ u. refl))
           (adds_behind b t (Drop k i) older between longer way.stays (drop_adds b between newest t refl k i refl)).commits
           refl
-          (rows_take_owner (record { owner = t; aim = Drops k }) next longer (map (changed t (with_record lsn lsn)) rows) done none on.table)
+          (record { each = on.table.each; active = on.table.active; numbers = on.table.numbers })
           (begins_bare done new on.locks t (Drops k) none (λ m. refl));
     }
-
-some_seen : (e : Effect) (c : Change) (rest : Effect) → c ∷ rest ≡ seen_effect e → e ≢ []
-some_seen [] c rest is none = let never : c ∷ rest ≡ [] = is in cc never
-some_seen (d ∷ ds) c rest is none = cc
 
 pub deletes_end : DeletesEnd
 deletes_end b earlier before s v older longer rows next held t row k h found mark under grows =
     let free = mark_free row.mark Going mark (λ x. cc x) in
     let is = at b earlier before s v older rows next held h t row found free in
     let going : (v.txns t).mark ≡ answers.Going = is.2 ∙ ap mark_of mark in
-    let on = structure_keeps b earlier before s v older longer rows next held t row h found free (inr (ap owner_of under)) grows in
+    let on = structure_keeps b earlier before s v older longer rows next held t row h found free grows in
     let w = change_made v in
     let pending : pending_of v.under t ≡ Some (Delete k) = mine_pending v.under t (Drops k) (Delete k) under refl in
-    let has : (v.txns t).net ≢ [] = some_seen ((v.txns t).net) (Drop k 0) ((s.running t).effect) (sym (ap (λ (o : Option Access). drop_of o ++ (s.running t).effect) pending) ∙ h.shows.shown.effects t (inl going)) in
-    let some : net t longer ≢ [] = λ e. has (on.seen_by.nets t (new_by b earlier before s v older rows next held h t answers.Going going (λ x. cc x)) ∙ e) in
     served b earlier before s v longer (noted t longer rows) next held on (Continue t) Deleted w longer (noted t longer rows) next held
     (moves_by v w (Continue t) Deleted (owner_continues v t (Delete k) h.works pending) (drops_leaf t k refl going under refl refl))
     on.works
     (seen_like b longer v w on.seen_by refl refl refl (λ u. refl))
     refl
     refl
-    (rows_leave_owner t next longer (noted t longer rows) v (ap owner_of under) some on.table)
+    (record { each = on.table.each; active = on.table.active; numbers = on.table.numbers })
     (ends_bare v held on.locks t (Drops k) under (λ m. refl))
 
 -- ---- a change that is taken back
 
 pub turns_begin : TurnsBegin
-turns_begin b earlier before s v older longer rows next held t row h found mark le none grows =
+turns_begin b earlier before s v older longer rows next held t row h found mark none grows =
     let free = mark_free row.mark RollingBack mark (λ x. cc x) in
     let is = at b earlier before s v older rows next held h t row found free in
     let rolling : (v.txns t).mark ≡ answers.RollingBack = is.2 ∙ ap mark_of mark in
-    let on = structure_keeps b earlier before s v older longer rows next held t row h found free (inl le) grows in
-    let some : net t older ≢ [] = has_changed t older row (owner_in v) is.0 (is.1.logged le) (none_owns v.under t none) in
-    let more = cases_net (net t older) some in
+    let on = structure_keeps b earlier before s v older longer rows next held t row h found free grows in
+    let has : (v.txns t).net ≢ [] = λ nothing. let never : None ≡ Some (record { owner = t; aim = TookBack }) = sym none ∙ rolling_is (apply_all empty before) v h.reached t rolling nothing in cc never in
+    let more = cases_net ((v.txns t).net) has in
     let w = with_change v t TakesBack in
     served b earlier before s v longer (noted t longer rows) next held on (Continue t) More w longer (noted t longer rows) next held
     (moves_by v w (Continue t) More (continue_passes v t h.works rolling)
-    (takes_later t more.0 more.1 refl rolling none (h.seen_by.nets t (new_by b earlier before s v older rows next held h t answers.RollingBack rolling (λ x. cc x)) ∙ more.2) refl refl))
+    (takes_later t more.0 more.1 refl (inl rolling) none more.2 refl refl))
     on.works
     (seen_like b longer v w on.seen_by refl refl refl (λ u. refl))
     refl
     refl
-    (rows_take_owner (record { owner = t; aim = TakesBack }) next longer (noted t longer rows) v none on.table)
+    (record { each = on.table.each; active = on.table.active; numbers = on.table.numbers })
     (begins_bare v held on.locks t TakesBack none (λ m. refl))
 
 pub turns_empty : TurnsEmpty
-turns_empty b earlier before s v older longer rows next held t last undo_next row c h found mark none on others now_row =
+turns_empty b earlier before s v older longer rows next held t last undo_next count row c h found mark none on others now_row =
     let free = mark_free row.mark RollingBack mark (λ x. cc x) in
     let is = at b earlier before s v older rows next held h t row found free in
     let rolling : (v.txns t).mark ≡ answers.RollingBack = is.2 ∙ ap mark_of mark in
@@ -320,18 +299,15 @@ turns_empty b earlier before s v older longer rows next held t last undo_next ro
     let x : Txn = record (v.txns t) { net = rest } in
     let done = undid_more v t c rest in
     let w = with_change done t TookBack in
-    served b earlier before s v older rows next held h (Continue t) More w longer (map (changed t (with_record last undo_next)) rows) next held
-    (moves_by v w (Continue t) More (continue_passes v t h.works rolling) (takes_first t c rest refl rolling none net_is refl refl))
+    served b earlier before s v older rows next held h (Continue t) More w longer (map (changed t (with_changes last undo_next count)) rows) next held
+    (moves_by v w (Continue t) More (continue_passes v t h.works rolling) (takes_first t c rest refl (inl rolling) none net_is refl refl))
     h.works
     (seen_like b longer done w (together.takes_back b older longer v t c rest h.seen_by new_one net_is on) refl refl refl (λ u. refl))
     on.commits
     refl
     (record {
-      each = rows_with (owner_in v) (Some t) t next older longer rows v.txns x (with_record last undo_next) row (λ y. refl)
-          (λ u differ at_u. taken_at t u next longer (find (is_of u) rows) (v.txns u)
-          (subst (λ (who : Option ℕ). IsAt u (find (is_of u) rows) next longer who (v.txns u)) (ap owner_of none) (same_at (owner_in v) u next older longer (others u differ) (find (is_of u) rows) (v.txns u) at_u)))
-          h.table.each found is.0 (as_row row.mark (with_record last undo_next row) next longer free now_row) is.2;
-      active = h.table.active ∙ sym (length_map (changed t (with_record last undo_next)) rows);
+      each = rows_changed t next older longer rows v.txns x (with_changes last undo_next count) row (λ y. refl) others h.table.each found is.0 (as_row row.mark (with_changes last undo_next count row) next longer free now_row) is.2;
+      active = h.table.active ∙ sym (length_map (changed t (with_changes last undo_next count)) rows);
       numbers = h.table.numbers;
     })
     (let locks = same_locks v held t x h.locks refl (Some (record { owner = t; aim = TookBack })) (undone v.walk c) (λ u. no_lock (nat_eq t u) ∙ sym (ap (λ (o : Option Under). kept_lock o v.walk u) none)) in
@@ -342,18 +318,46 @@ turns_drop b earlier before s v older longer rows next held t row h found mark u
     let free = mark_free row.mark RollingBack mark (λ x. cc x) in
     let is = at b earlier before s v older rows next held h t row found free in
     let rolling : (v.txns t).mark ≡ answers.RollingBack = is.2 ∙ ap mark_of mark in
-    let on = structure_keeps b earlier before s v older longer rows next held t row h found free (inr (ap owner_of under)) grows in
+    let on = structure_keeps b earlier before s v older longer rows next held t row h found free grows in
     let more = cases_net (net t longer) left in
     let w = change_made v in
     served b earlier before s v longer (noted t longer rows) next held on (Continue t) More w longer (noted t longer rows) next held
     (moves_by v w (Continue t) More (continue_passes v t h.works rolling)
-    (takes_leaf t more.0 more.1 refl rolling under (on.seen_by.nets t (new_by b earlier before s v older rows next held h t answers.RollingBack rolling (λ x. cc x)) ∙ more.2) refl refl))
+    (takes_leaf t more.0 more.1 refl (inl rolling) under (on.seen_by.nets t (new_by b earlier before s v older rows next held h t answers.RollingBack rolling (λ x. cc x)) ∙ more.2) refl refl))
     on.works
     (seen_like b longer v w on.seen_by refl refl refl (λ u. refl))
     refl
     refl
-    (rows_leave_owner t next longer (noted t longer rows) v (ap owner_of under) left on.table)
+    (record { each = on.table.each; active = on.table.active; numbers = on.table.numbers })
     (ends_bare v held on.locks t TookBack under (λ m. refl))
+
+-- of one that returns, and has as many changes as it returns to
+pub returns_drop : ReturnsDrop
+returns_drop b earlier before s v older longer rows next held t n row h found mark under left grows =
+    let free = mark_free row.mark (Returning n) mark (λ x. cc x) in
+    let is = at b earlier before s v older rows next held h t row found free in
+    let back : (v.txns t).mark ≡ answers.Returning n = is.2 ∙ ap mark_of mark in
+    let on = structure_keeps b earlier before s v older longer rows next held t row h found free grows in
+    let count : length ((v.txns t).net) ≡ n = ap (λ (e : Effect). length e) (h.seen_by.nets t (new_by b earlier before s v older rows next held h t (answers.Returning n) back (λ x. cc x))) ∙ sym (counted_at t next older row is.0 is.1) ∙ sym left in
+    let mid = change_made v in
+    let x : Txn = record (v.txns t) { mark = answers.Going } in
+    let w = change_made (marked v t answers.Going) in
+    let found_now : find (is_of t) (noted t longer rows) ≡ Some (with_record (last_of t longer) (undo_next_of t longer) row) = look_ups_follow.changed_own t (with_record (last_of t longer) (undo_next_of t longer)) (λ y. refl) rows row found in
+    let row_now = with_record (last_of t longer) (undo_next_of t longer) row in
+    let at_now = at b earlier before s v longer (noted t longer rows) next held on t row_now found_now free in
+    let bare = ends_bare v held on.locks t TookBack under (λ m. refl) in
+    served b earlier before s v longer (noted t longer rows) next held on (Continue t) Done w longer (map (changed t (with_mark Going)) (noted t longer rows)) next held
+    (moves_by v w (Continue t) Done (taking_passes v t h.works (ap takes_back back)) (leaf_is_back t n refl back under count refl refl))
+    on.works
+    (seen_like b longer (marked v t answers.Going) w (marked_seen b longer v t answers.Going on.seen_by) refl refl refl (λ u. refl))
+    refl
+    refl
+    (record {
+      each = rows_changed t next longer longer (noted t longer rows) v.txns x (with_mark Going) row_now (λ y. refl) (λ u differ. same_here u longer) on.table.each found_now at_now.0 (row_marked Going row_now next longer at_now.1) refl;
+      active = on.table.active ∙ sym (length_map (changed t (with_mark Going)) (noted t longer rows));
+      numbers = on.table.numbers;
+    })
+    (let locks = same_locks mid held t x bare refl None v.walk (λ u. refl) in record { lasting = locks.0; held = locks.1 })
 
 pub turns_end : TurnsEnd
 turns_end b earlier before s v older longer rows next old new t row h found mark under none stays others over stack released once =
@@ -371,12 +375,7 @@ turns_end b earlier before s v older longer rows next old new t row h found mark
     stays.commits
     refl
     (record {
-      each = rows_after_as (owner_in v) None t next next older longer rows (without t rows) v.txns idle
-          (λ u differ at_u. other_at t u next longer (find (is_of u) rows) (v.txns u) differ
-          (subst (λ (who : Option ℕ). IsAt u (find (is_of u) rows) next longer who (v.txns u)) (ap owner_of under) (same_at (owner_in v) u next older longer (others u differ) (find (is_of u) rows) (v.txns u) at_u)))
-          h.table.each
-          (λ u differ. look_ups_follow.ended_other u t rows differ)
-          (subst (λ (o : Option Transaction). IsAt t o next longer None idle) (sym (look_ups_follow.ended_own t rows)) (over, stack, refl));
+      each = rows_ended t next older longer rows v.txns others h.table.each (over, stack, refl);
       active = one_fewer v.active (length rows) (length (without t rows)) h.table.active once;
       numbers = h.table.numbers;
     })
@@ -395,7 +394,7 @@ trees_block b earlier before s v older longer rows next held t row a u h found m
     (together.stays b older longer v h.seen_by stays)
     stays.commits
     (ap effects (trees_ask_nothing s t a))
-    (record { each = λ n. same_at (owner_in v) n next older longer (all n) (find (is_of n) rows) (v.txns n) (h.table.each n); active = h.table.active; numbers = h.table.numbers })
+    (record { each = λ n. same_at n next older longer (all n) (find (is_of n) rows) (v.txns n) (h.table.each n); active = h.table.active; numbers = h.table.numbers })
     h.locks
 
 pub trees_halt : TreesHalt
@@ -408,5 +407,5 @@ trees_halt b earlier before s v older longer rows next held t row u h found mark
     (together.stays b older longer v h.seen_by stays)
     stays.commits
     refl
-    (record { each = λ n. same_at (owner_in v) n next older longer (all n) (find (is_of n) rows) (v.txns n) (h.table.each n); active = h.table.active; numbers = h.table.numbers })
+    (record { each = λ n. same_at n next older longer (all n) (find (is_of n) rows) (v.txns n) (h.table.each n); active = h.table.active; numbers = h.table.numbers })
     h.locks

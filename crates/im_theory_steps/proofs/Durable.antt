@@ -1,5 +1,5 @@
 -- What a stop leaves of the Commits of a life.
-use Rattle.std.proofs.Common.{◌≡◌, ◌≢◌, inl, ℕ, Bool, true, false, List, [], ◌∷◌, ◌++◌, length, Option, None, refl, sym, ap, subst, ◌∙◌, append_assoc, append-nil, ne_eqb}
+use Rattle.std.proofs.Common.{◌≡◌, ◌≢◌, inl, ℕ, Bool, true, false, List, [], ◌∷◌, ◌++◌, length, refl, sym, ap, subst, ◌∙◌, append_assoc, append-nil, ne_eqb}
 use Rattle.std.specs.Prelude.{find, if◌then◌else◌, ◌==◌, ◌||◌}
 use Rattle.std.specs.FinMap.{empty}
 use Rattle.im_base_types.specs.Maps.{IndexMap}
@@ -8,7 +8,7 @@ use Rattle.im_theory_log.specs.Tree.{Tree}
 use Rattle.im_theory_log.specs.Histories.{Base, History}
 use Rattle.im_theory_log.specs.Transactions.{committed, net}
 use Rattle.im_theory_log.specs.Writer.{IsLeft}
-use Rattle.im_base_types.specs.Answers.{Mark, Idle, Going, Committing, Step, Begin, Do, Commit, Rollback, Continue, FlushPage, Force, Checkpoint, Switch}
+use Rattle.im_base_types.specs.Answers.{Mark, Idle, Going, Committing, Step, Begin, Do, Commit, Rollback, Continue, RollTo, FlushPage, Force, Checkpoint, Switch}
 use Rattle.im_base_types.specs.Refusals.{memory, unfinished}
 use Rattle.im_base_types.specs.Lives.{Asked, Shown, NoneAcked, all_acked, asks, breaks, cut_off, effects, effect_asked}
 use Rattle.im_base_types.proofs.Changes.{seen_append}
@@ -17,7 +17,7 @@ use Rattle.im_base_txn.specs.declared.transaction.Transaction.{Transaction}
 use Rattle.im_base_txn.specs.Rows.{is_of}
 use Rattle.im_theory_machine.specs.Locks.{Lock, SameLocks}
 use Rattle.im_theory_machine.specs.Table.{Table, locks_of}
-use Rattle.im_theory_machine.specs.View.{View, owner_in, kept_lock, Txn, idle, is_among, nets_of}
+use Rattle.im_theory_machine.specs.View.{View, kept_lock, Txn, idle, is_among, nets_of}
 use Rattle.im_theory_machine.proofs.Cited.{among_one, isolates, nothing_goes_on, queue_marks, unowned_clear}
 use Rattle.im_theory_machine.specs.Machine.{start}
 use Rattle.im_theory_steps.specs.Serving.{IsServing, IsAt, mark_of}
@@ -28,7 +28,8 @@ use Rattle.im_theory_steps.proofs.Acknowledged.{no_effects, unacked_none}
 use Rattle.im_theory_steps.proofs.Showing.{shown_is, effect_shown}
 use Rattle.im_theory_steps.proofs.Holding.{kept_none}
 use Rattle.im_base_txn.specs.declared.transaction.Mark.TheVariants.{Going as RowGoing}
-use Rattle.im_theory_steps.proofs.Steps.{at, has_changed, mark_free, new_by, map_made}
+use Rattle.im_theory_steps.proofs.Rows.{some_stand}
+use Rattle.im_theory_steps.proofs.Steps.{at, mark_free, new_by, map_made}
 
 -- all but the first
 abbrev rest_of : List Effect → List Effect
@@ -173,7 +174,7 @@ pub cut_commits_stand : CutCommitsStand
 cut_commits_stand b earlier before s v older longer durable rows next held t row h found mark some free on are =
     let is = at b earlier before s v older rows next held h t row found (mark_free row.mark RowGoing mark (λ x. cc x)) in
     let going : (v.txns t).mark ≡ Going = is.2 ∙ ap mark_of mark in
-    let net_some : net t older ≢ [] = has_changed t older row (owner_in v) is.0 (is.1.logged some) free in
+    let net_some : net t older ≢ [] = some_stand t next older row is.0 is.1 some in
     let effect_is : (s.running t).effect ≡ seen_effect (net t older) = effect_shown s v h.shows.shown t (unowned_clear v.under t free) (inl going) ∙ ap seen_effect (h.seen_by.nets t (new_by b earlier before s v older rows next held h t Going going (λ x. cc x))) in
     let more = effect_asked t false (s.running t).mark (s.running t).effect in
     let adds : effects more ≡ seen_effect (net t older) ∷ [] =
@@ -202,6 +203,7 @@ cut_other s Begin other = refl
 cut_other s (Do t a) other = refl
 cut_other s (Rollback t) other = refl
 cut_other s (Continue t) other = refl
+cut_other s (RollTo t n) other = refl
 cut_other s (FlushPage p) other = refl
 cut_other s Force other = refl
 cut_other s Checkpoint other = refl
@@ -236,11 +238,6 @@ pub empty_queue : (queue : List ℕ) → ((t : ℕ) → is_among t queue ≡ tru
 empty_queue [] none = refl
 empty_queue (t ∷ ts) none = absurd (none t (among_one t t ts refl))
 
--- in no row, whoever has a structure change under way
-owned_by_none : (t next : ℕ) (log : History) (rows : List Transaction) (who : Option ℕ) (x : Txn) → rows ≡ [] → IsAt t (find (is_of t) rows) next log who x → IsAt t (find (is_of t) rows) next log None x
-owned_by_none t next log [] who x is at = at
-owned_by_none t next log (row ∷ rows) who x is at = absurd (cc is)
-
 pub no_rows : (rows : List Transaction) → length rows ≡ 0 → rows ≡ []
 no_rows [] is = refl
 no_rows (row ∷ rows) is = absurd (cc is)
@@ -250,7 +247,7 @@ module _ (b : Base) (earlier before : List Effect) (s : Shown) (v : View) (durab
   all = before ++ effects s.asked
 
   is_idle : (t : ℕ) → v.txns t ≡ idle
-  is_idle t = (subst (λ (l : List Transaction). IsAt t (find (is_of t) l) next log (owner_in v) (v.txns t)) (no_rows rows (sym h.table.active ∙ none)) (h.table.each t)).2
+  is_idle t = (subst (λ (l : List Transaction). IsAt t (find (is_of t) l) next log (v.txns t)) (no_rows rows (sym h.table.active ∙ none)) (h.table.each t)).2
 
   no_queue : v.queue ≡ []
   no_queue = empty_queue v.queue (λ t some.
@@ -292,11 +289,11 @@ module _ (b : Base) (earlier before : List Effect) (s : Shown) (v : View) (durab
         nets = λ t none. sym (ap (λ (x : Txn). x.net) (is_idle t)) ∙ h.seen_by.nets t (ap (is_among t) no_queue);
         over = λ t some. absurd (cc some);
       };
-      shows = record { shown = record { failed = refl; marks = λ t. inl refl; pending = λ t. refl; effects = λ t may. refl }; commits = map_is; clean = λ q. record { done = []; waiting = []; all = refl; acked = tt; none = tt; are = refl } };
+      shows = record { shown = record { failed = refl; marks = λ t. inl refl; pending = λ t. refl; effects = λ t may. refl; returns = λ t n is. absurd (cc is) }; commits = map_is; clean = λ q. record { done = []; waiting = []; all = refl; acked = tt; none = tt; are = refl } };
       reached = record { trace = []; first = v.next; run = ap (λ (m : IndexMap). start m v.next) map_is };
       says = h.says ∙ sym (append-nil all);
       table = record {
-        each = λ t. subst (λ (x : Txn). IsAt t (find (is_of t) rows) next log None x) (is_idle t) (owned_by_none t next log rows (owner_in v) (v.txns t) (no_rows rows (sym h.table.active ∙ none)) (h.table.each t));
+        each = λ t. subst (λ (x : Txn). IsAt t (find (is_of t) rows) next log x) (is_idle t) (h.table.each t);
         active = sym none ∙ h.table.active;
         numbers = h.table.numbers;
       };

@@ -15,7 +15,7 @@ use Rattle.im_theory_log.specs.Tree.{Tree}
 use Rattle.im_base_txn.specs.declared.transaction.Transaction.{Transaction}
 use Rattle.im_base_txn.specs.Rows.{is_of}
 use Rattle.im_theory_machine.specs.Table.{Table}
-use Rattle.im_theory_machine.specs.View.{View, Txn, nets_of, owner_in}
+use Rattle.im_theory_machine.specs.View.{View, Txn, nets_of}
 use Rattle.im_theory_machine.specs.Machine.{fault_if, or_else, switches}
 use Rattle.im_theory_machine.proofs.Isolates.{isolates, queue_marks}
 use Rattle.im_theory_steps.specs.Serving.{IsServing, IsAt}
@@ -45,8 +45,8 @@ module _ (tree : Tree) (b c : Base) (earlier before : List Effect) (s : Shown) (
   gone : rows ≡ []
   gone = no_rows rows (sym h.table.active ∙ none)
 
-  at_none : (t : ℕ) → IsAt t None next log (owner_in v) (v.txns t)
-  at_none t = subst (λ (l : List Transaction). IsAt t (find (is_of t) l) next log (owner_in v) (v.txns t)) gone (h.table.each t)
+  at_none : (t : ℕ) → IsAt t None next log (v.txns t)
+  at_none t = subst (λ (l : List Transaction). IsAt t (find (is_of t) l) next log (v.txns t)) gone (h.table.each t)
 
   no_queue : v.queue ≡ []
   no_queue = empty_queue v.queue (λ t some.
@@ -85,7 +85,7 @@ module _ (tree : Tree) (b c : Base) (earlier before : List Effect) (s : Shown) (
         reached = h.reached;
         says = says;
         table = record {
-          each = λ t. subst (λ (l : List Transaction). IsAt t (find (is_of t) l) next [] (owner_in v) (v.txns t)) (sym gone) ((λ one le. absurd (omega (arith, le))), refl, (at_none t).2);
+          each = λ t. subst (λ (l : List Transaction). IsAt t (find (is_of t) l) next [] (v.txns t)) (sym gone) ((λ one le. absurd (omega (arith, le))), refl, (at_none t).2);
           active = h.table.active;
           numbers = h.table.numbers;
         };

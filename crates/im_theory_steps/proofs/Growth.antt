@@ -187,6 +187,10 @@ module _ (t : ℕ) where
   none_finished [] h = refl
   none_finished (r ∷ older) h = cond-false (r.txn == t) (is_end r.what || is_finished t older) (is_finished t older) (ne_eqb r.txn t h.0) ∙ none_finished older h.1
 
+  pub none_to_undo : (log : History) → HasNone t log → to_undo t log ≡ []
+  none_to_undo [] h = refl
+  none_to_undo (r ∷ older) h = cond-false (r.txn == t) (stack_after r r.what (to_undo t older)) (to_undo t older) (ne_eqb r.txn t h.0) ∙ none_to_undo older h.1
+
 -- LSNs are above 0, so one whose last is 0 has no record, and nothing to undo
 pub unlogged : (b : Base) (t : ℕ) (log : History) → Rises b log → last_of t log ≡ 0 → to_undo t log ≡ []
 unlogged b t [] rises none = refl

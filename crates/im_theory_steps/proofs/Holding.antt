@@ -4,7 +4,7 @@ use Rattle.std.proofs.Common.{is_some, ◌≡◌, ◌≢◌, inl, inr, ℕ, nat_
 use Rattle.im_base_types.specs.Keys.{Key}
 use Rattle.im_base_types.specs.Maps.{IndexMap}
 use Rattle.im_base_types.specs.Changes.{Change, Touches, key_of, undone}
-use Rattle.im_base_types.specs.Answers.{Access, Insert, Going, RollingBack, Committing}
+use Rattle.im_base_types.specs.Answers.{Access, Insert, Going, Committing}
 use Rattle.im_theory_machine.specs.Locks.{Name, At, Lock, Request, Asks, Holds, SameLocks, IsFree, ConflictsWith}
 use Rattle.im_theory_machine.specs.declared.lock_kind.Mode.{Mode}
 use Rattle.im_theory_machine.specs.declared.lock_kind.Mode.TheVariants.{Exclusive}
@@ -60,12 +60,12 @@ module _ (f : ℕ → Txn) (w : IndexMap) (t : ℕ) (c : Change) (guards : Holds
   ]
 
 -- Who takes a change back leaves what another keeps: the name that guards its key is its own.
-pub kept_undone : (base : IndexMap) (v : View) → IsReached base v → v.failed ≡ false → (t : ℕ) (c : Change) (cs : List Change) → (v.txns t).mark ≡ RollingBack → (v.txns t).net ≡ c ∷ cs
+pub kept_undone : (base : IndexMap) (v : View) → IsReached base v → v.failed ≡ false → (t : ℕ) (c : Change) (cs : List Change) → ((v.txns t).mark ≡ Going → ⊥) → (v.txns t).net ≡ c ∷ cs
     → (s : ℕ) → kept_lock (of_others t v.under) (undone v.walk c) s ≡ kept_lock v.under v.walk s
-kept_undone base v reached works t c cs rolling net s =
+kept_undone base v reached works t c cs still net s =
     let h = stands_of v (tells (pending_of None) nothing_told reached.trace) (run_upheld base reached.first reached.trace v reached.run) works in
     undone_for v.txns v.walk t c (Chain-guards ((v.txns t).locks) v.walk v.committed ((v.txns t).net) (h.fits.chain t) (key_of c) (subst (λ (net : List Change). Touches net (key_of c)) (sym net) (inl refl))) v.under
-    (nothing_goes_on base v reached t (λ going. let never : Going ≡ RollingBack = sym going ∙ rolling in cc never)) h.change s
+    (nothing_goes_on base v reached t still) h.change s
 
 -- ---- one transaction is set
 

@@ -1,6 +1,7 @@
 pub mod Cited
 pub mod Together
 pub mod Records
+pub mod Counts
 pub mod Growth
 pub mod Showing
 pub mod Asking

@@ -3,12 +3,12 @@ use Rattle.std.proofs.Common.{◌≡◌, ℕ, Bool, true, false, Option, None, S
 use Rattle.std.specs.Prelude.{find, ◌||◌}
 use Rattle.im_base_types.specs.Maps.{IndexMap}
 use Rattle.im_theory_log.specs.Histories.{History}
-use Rattle.im_base_types.specs.Answers.{Mark, Step, Reply, Begin, Do, Commit, Rollback, Continue, FlushPage, Force, Checkpoint, Switch, Refused}
+use Rattle.im_base_types.specs.Answers.{Mark, Step, Reply, Begin, Do, Commit, Rollback, Continue, RollTo, FlushPage, Force, Checkpoint, Switch, Refused}
 use Rattle.im_base_types.specs.Refusals.{capacity, failed as has_failed}
 use Rattle.im_base_types.specs.Lives.{Shown}
 use Rattle.im_base_txn.specs.declared.transaction.Transaction.{Transaction}
 use Rattle.im_base_txn.specs.Rows.{is_of}
-use Rattle.im_theory_machine.specs.View.{View, owner_in, owns_in, Txn, broken}
+use Rattle.im_theory_machine.specs.View.{View, owns_in, Txn, broken}
 use Rattle.im_theory_machine.specs.Machine.{Moves, Answers, breaks, barred, first_check, mark_for, fault_if}
 use Rattle.im_theory_steps.specs.Serving.{IsAt}
 use Rattle.im_theory_steps.specs.Checks.{mark_at, marks_in, RowsTellChecks}
@@ -19,9 +19,9 @@ use Rattle.im_theory_steps.proofs.Steps.{moves_by}
 
 -- ---- checks
 
-found_mark : (who : Option ℕ) (t next : ℕ) (log : History) (o : Option Transaction) (x : Txn) → IsAt t o next log who x → x.mark ≡ mark_at o
-found_mark who t next log None x is = ap (λ (y : Txn). y.mark) is.2
-found_mark who t next log (Some row) x is = is.2
+found_mark : (t next : ℕ) (log : History) (o : Option Transaction) (x : Txn) → IsAt t o next log x → x.mark ≡ mark_at o
+found_mark t next log None x is = ap (λ (y : Txn). y.mark) is.2
+found_mark t next log (Some row) x is = is.2
 
 -- the mark of the transaction that a step names
 named_mark : (one two : ℕ → Mark) → ((t : ℕ) → one t ≡ two t) → (step : Step) → mark_for one step ≡ mark_for two step
@@ -30,6 +30,7 @@ named_mark one two same (Do t a) = same t
 named_mark one two same (Commit t) = same t
 named_mark one two same (Rollback t) = same t
 named_mark one two same (Continue t) = same t
+named_mark one two same (RollTo t n) = same t
 named_mark one two same (FlushPage p) = refl
 named_mark one two same Force = refl
 named_mark one two same Checkpoint = refl
@@ -39,7 +40,7 @@ pub rows_tell : RowsTellChecks
 rows_tell b earlier before s v log rows next held step h =
     ap (λ (failed : Bool). first_check failed v.active (mark_for (λ t. (v.txns t).mark) step) (owns_in v.under step) step) h.works
     ∙ ap (λ (n : ℕ). first_check false n (mark_for (λ t. (v.txns t).mark) step) (owns_in v.under step) step) h.table.active
-    ∙ ap (λ (m : Mark). first_check false (length rows) m (owns_in v.under step) step) (named_mark (λ t. (v.txns t).mark) (marks_in rows) (λ t. found_mark (owner_in v) t next log (find (is_of t) rows) (v.txns t) (h.table.each t)) step)
+    ∙ ap (λ (m : Mark). first_check false (length rows) m (owns_in v.under step) step) (named_mark (λ t. (v.txns t).mark) (marks_in rows) (λ t. found_mark t next log (find (is_of t) rows) (v.txns t) (h.table.each t)) step)
 
 -- ---- lives
 
@@ -56,6 +57,7 @@ first_failed v step failed = ap (λ (b : Bool). first_check b v.active (mark_for
     by (Commit t) = refl
     by (Rollback t) = refl
     by (Continue t) = refl
+    by (RollTo t n) = refl
     by (FlushPage p) = refl
     by Force = refl
     by Checkpoint = refl

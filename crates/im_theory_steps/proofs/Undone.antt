@@ -1,21 +1,26 @@
 -- What taking back one change leaves of a log, and the steps that do so.
-use Rattle.std.proofs.Common.{◌≡◌, ℕ, inl, [], ◌∷◌, ◌++◌, sym, ◌∙◌, ap}
+use Rattle.std.proofs.Common.{◌≡◌, ◌≤◌, ◌-◌, suc, ℕ, false, inl, inr, [], ◌∷◌, ◌++◌, length, sym, ◌∙◌, ap, subst, arith}
 use Rattle.std.specs.Prelude.{◌==◌, ◌||◌, if◌then◌else◌}
-use Rattle.std.proofs.lemmas.Bool.{eq-eqb, cond-true}
-use Rattle.im_base_types.specs.Changes.{Effect}
+use Rattle.std.proofs.lemmas.Bool.{cases_lt, eq-eqb, cond-true}
+use Rattle.im_base_types.specs.Changes.{Change, Effect}
 use Rattle.im_base_types.specs.Records.{What, End, Logged}
 use Rattle.im_theory_log.specs.Histories.{History, Base}
 use Rattle.im_theory_log.specs.Transactions.{changes_of, committed, committed_after, contents, contents_after, net, is_end, is_finished, last_of, undo_next_of, stack_after, to_undo}
-use Rattle.im_base_txn.specs.Rows.{with_record}
-use Rattle.im_theory_machine.specs.View.{owner_of, owner_in}
-use Rattle.im_theory_steps.specs.Growth.{IsOver, IsOfOthers}
+use Rattle.im_base_txn.specs.declared.transaction.Transaction.{Transaction}
+use Rattle.im_base_txn.specs.Rows.{with_changes}
+use Rattle.im_theory_machine.specs.View.{owner_of}
+use Rattle.im_theory_machine.proofs.Cited.{cases_number}
+use Rattle.im_theory_steps.specs.Growth.{Stays, IsOver, IsOfOthers}
 use Rattle.im_theory_steps.specs.Serving.{IsRow, mark_of}
-use Rattle.im_theory_steps.specs.Undone.{UndoTakesBack, EndsLeaveNothing, RollingBackHasMore, UndoneChangesAreServed, LastUndoneChangesAreServed}
+use Rattle.im_theory_steps.specs.Steps.{EmptyCommitsAreServed, EmptyRollbacksAreServed}
+use Rattle.im_theory_steps.specs.Undone.{UndoTakesBack, EndsLeaveNothing, RollingBackHasMore, UndoneChangesAreServed, LastUndoneChangesAreServed, ReturningHasMore, ReturnsGoOn, ReturnsEnd}
 use Rattle.im_theory_steps.proofs.Growth.{within_leaves_others, same_by, same_then}
-use Rattle.im_theory_steps.proofs.Rolling.{rolling_is}
-use Rattle.im_base_txn.specs.declared.transaction.Mark.TheVariants.{RollingBack}
+use Rattle.im_theory_steps.proofs.Rolling.{left_of, rolling_is, taking_is}
+use Rattle.im_theory_steps.proofs.Rows.{counted_at, none_stands}
+use Rattle.im_base_txn.specs.declared.transaction.Mark.TheVariants.{Going, RollingBack, Returning}
+use Rattle.im_base_types.specs.Answers as answers
 use Rattle.im_base_types.specs.Answers.{RollingBack as AnsweredRolling}
-use Rattle.im_theory_steps.proofs.Steps.{at, mark_free, new_by, undo_served, ends_served}
+use Rattle.im_theory_steps.proofs.Steps.{at, either_free, mark_free, new_by, empty_commits, empty_rollbacks, ends_served, gives_served, is_back_served, undo_served}
 
 pub undo_takes_back : UndoTakesBack
 undo_takes_back b t c older longer is =
@@ -70,21 +75,83 @@ rolling_has_more b earlier before s v log rows next held t row h found mark free
     let is = at b earlier before s v log rows next held h t row found (mark_free row.mark RollingBack mark (λ x. cc x)) in
     free (ap owner_of (rolling_is _ v h.reached t (is.2 ∙ ap mark_of mark) (h.seen_by.nets t (new_by b earlier before s v log rows next held h t AnsweredRolling (is.2 ∙ ap mark_of mark) (λ x. cc x)) ∙ ap changes_of none)))
 
+-- the row after a change that was taken back
+back_row : (t next : ℕ) (older longer : History) (row : Transaction) (c : Change) → row.number ≡ t → IsRow row next older → net t older ≡ c ∷ net t longer → is_finished t longer ≡ false → IsRow (with_changes (last_of t longer) (undo_next_of t longer) (row.changes - 1) row) next longer
+back_row t next older longer row c is r own going = record {
+  number = r.number;
+  below = r.below;
+  last = ap (λ (n : ℕ). last_of n longer) (sym is);
+  undo = ap (λ (n : ℕ). undo_next_of n longer) (sym is);
+  unfinished = ap (λ (n : ℕ). is_finished n longer) is ∙ going;
+  changes =
+      let was : row.changes ≡ suc (length (net t longer)) = counted_at t next older row is r ∙ ap (λ (e : Effect). length e) own in
+      let now : length (net row.number longer) ≡ length (net t longer) = ap (λ (n : ℕ). length (net n longer)) is in
+      omega (arith, was, now);
+}
+
 pub undone_served : UndoneChangesAreServed
 undone_served b earlier before s v older longer rows next held t row c h found mark undoes left going =
     let is = at b earlier before s v older rows next held h t row found (mark_free row.mark RollingBack mark (λ x. cc x)) in
     let on = undo_takes_back b t c older longer undoes in
-    let now : IsRow (with_record (last_of t longer) (undo_next_of t longer) row) next longer (owner_in v) = record {
-      number = is.1.number;
-      below = is.1.below;
-      last = ap (λ (n : ℕ). last_of n longer) (sym is.0);
-      undo = ap (λ (n : ℕ). undo_next_of n longer) (sym is.0);
-      unfinished = ap (λ (n : ℕ). is_finished n longer) is.0 ∙ going;
-      logged = λ le. inl (λ none. left (ap (λ (n : ℕ). net n longer) (sym is.0) ∙ none));
-    } in
-    undo_served b earlier before s v older longer rows next held t (last_of t longer) (undo_next_of t longer) row c h found mark on.0 left on.1 now
+    undo_served b earlier before s v older longer rows next held t (last_of t longer) (undo_next_of t longer) (row.changes - 1) row c h found mark on.0 left on.1 (back_row t next older longer row c is.0 is.1 on.0.own going)
 
 pub last_undone_served : LastUndoneChangesAreServed
 last_undone_served b earlier before s v older between rows next old new t row c last h found mark undoes none mine is released once =
     let over = ends_leave_nothing b t c older between last undoes none mine is in
     ends_served b earlier before s v older (last ∷ between) rows next old new t row c h found mark over.back over.none over.others over.over over.stack released once
+
+-- ---- of one that has no change left
+
+-- the End of it leaves what is committed, the map, the nets and the others
+end_leaves : (b : Base) (t : ℕ) (older : History) (last : Logged) → last.txn ≡ t → last.what ≡ End → net t older ≡ [] → Stays b older (last ∷ older) × IsOfOthers t older (last ∷ older)
+end_leaves b t older last mine is none = (
+  record {
+    commits = end_commits b t older last mine is;
+    walk = end_walk b t older last mine is;
+    nets = λ u. elim (cases_number u t) [
+      | inl same ↦ ap (λ (n : ℕ). net n (last ∷ older)) same ∙ ap changes_of (end_stack b t older last mine is) ∙ sym none ∙ ap (λ (n : ℕ). net n older) (sym same)
+      | inr differ ↦ ap changes_of (others u differ).stack
+    ];
+  },
+  others,
+)
+  where
+    others : IsOfOthers t older (last ∷ older)
+    others u differ = same_by u last older (λ e. differ (sym e ∙ mine))
+
+pub empty_commits_served : EmptyCommitsAreServed
+empty_commits_served b earlier before s v older rows next old new t row last h found mark count free mine is released once =
+    let at_row = at b earlier before s v older rows next old h t row found (mark_free row.mark Going mark (λ x. cc x)) in
+    let on = end_leaves b t older last mine is (none_stands t next older row at_row.0 at_row.1 count) in
+    empty_commits b earlier before s v older (last ∷ older) rows next old new t row h found mark free on.0 on.1 (end_over b t older last mine is) (end_stack b t older last mine is) released once
+
+pub empty_rollbacks_served : EmptyRollbacksAreServed
+empty_rollbacks_served b earlier before s v older rows next old new t row last h found mark count free mine is released once =
+    let at_row = at b earlier before s v older rows next old h t row found (either_free row.mark mark) in
+    let on = end_leaves b t older last mine is (none_stands t next older row at_row.0 at_row.1 count) in
+    empty_rollbacks b earlier before s v older (last ∷ older) rows next old new t row h found mark free on.0 on.1 (end_over b t older last mine is) (end_stack b t older last mine is) released once
+
+-- ---- of one that returns to its first n changes
+
+pub returning_more : ReturningHasMore
+returning_more b earlier before s v log rows next held t n row h found mark free =
+    let is = at b earlier before s v log rows next held h t row found (mark_free row.mark (Returning n) mark (λ x. cc x)) in
+    let back : (v.txns t).mark ≡ answers.Returning n = is.2 ∙ ap mark_of mark in
+    let new = new_by b earlier before s v log rows next held h t (answers.Returning n) back (λ x. cc x) in
+    let count : row.changes ≡ length ((v.txns t).net) = counted_at t next log row is.0 is.1 ∙ ap (λ (e : Effect). length e) (sym (h.seen_by.nets t new)) in
+    elim (cases_lt n row.changes) [
+      | inl more ↦ more
+      | inr few ↦ absurd (free (ap owner_of (taking_is _ v h.reached t n (ap left_of back) (subst (λ (k : ℕ). k ≤ n) count few))))
+    ]
+
+pub returns_go_on : ReturnsGoOn
+returns_go_on b earlier before s v older longer rows next held t n row c h found mark undoes left going =
+    let is = at b earlier before s v older rows next held h t row found (mark_free row.mark (Returning n) mark (λ x. cc x)) in
+    let on = undo_takes_back b t c older longer undoes in
+    gives_served b earlier before s v older longer rows next held t n (last_of t longer) (undo_next_of t longer) (row.changes - 1) row c h found mark on.0 left on.1 (back_row t next older longer row c is.0 is.1 on.0.own going)
+
+pub returns_end : ReturnsEnd
+returns_end b earlier before s v older longer rows next held t n row c h found mark undoes left going =
+    let is = at b earlier before s v older rows next held h t row found (mark_free row.mark (Returning n) mark (λ x. cc x)) in
+    let on = undo_takes_back b t c older longer undoes in
+    is_back_served b earlier before s v older longer rows next held t n (last_of t longer) (undo_next_of t longer) (row.changes - 1) row c h found mark on.0 left on.1 (back_row t next older longer row c is.0 is.1 on.0.own going)

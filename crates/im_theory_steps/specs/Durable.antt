@@ -57,7 +57,7 @@ pub record CommitsStand : Type 0 where
 -- A Commit that is in the log is asked, whether a stop fell within its step or its step was refused after that record: it is left, or nothing of it.
 abbrev pub CutCommitsStand : Type 0
 CutCommitsStand = (b : Base) (earlier before : List Effect) (s : Shown) (v : View) (older longer durable : History) (rows : List Transaction) (next : ℕ) (held : Table) (t : ℕ) (row : Transaction)
-    → IsServing b earlier before s v older rows next held → find (is_of t) rows ≡ Some row → row.mark ≡ Going → 1 ≤ row.last → owner_in v ≢ Some t → Commits b t older longer → AreCommitted earlier before s.asked durable older
+    → IsServing b earlier before s v older rows next held → find (is_of t) rows ≡ Some row → row.mark ≡ Going → 1 ≤ row.changes → owner_in v ≢ Some t → Commits b t older longer → AreCommitted earlier before s.asked durable older
     → AreCommitted earlier before ((shows s (Commit t) None).asked) durable longer
 
 -- No step but a Commit asks for an effect, and a stop within one leaves what was asked before it.

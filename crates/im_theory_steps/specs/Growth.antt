@@ -1,12 +1,12 @@
 -- How a log grows by a step.
-use Rattle.std.specs.Prelude.{◌≡◌, ◌≢◌, ◌≤◌, ◌<◌, ◌⊎◌, ℕ, Bool, true, false, List, [], ◌∷◌, ◌++◌}
+use Rattle.std.specs.Prelude.{◌≡◌, ◌≢◌, ◌≤◌, ◌<◌, ◌⊎◌, ℕ, Bool, true, false, List, [], ◌∷◌, ◌++◌, length}
 use Rattle.im_base_types.specs.Pages.{Page}
 use Rattle.im_base_types.specs.Changes.{Change, applied, undone}
 use Rattle.im_base_types.specs.Records.{What, Smo, DummyClr, Image, Checkpoint, Logged}
 use Rattle.im_base_types.specs.declared.tables.ActiveTransaction.{ActiveTransaction}
 use Rattle.im_base_types.specs.declared.tables.DirtyPage.{DirtyPage}
 use Rattle.im_theory_log.specs.Tree.{Tree}
-use Rattle.im_theory_log.specs.Histories.{History, Base, end_of, page_at}
+use Rattle.im_theory_log.specs.Histories.{History, Base, Rises, end_of, page_at}
 use Rattle.im_theory_log.specs.Structure.{open_smo}
 use Rattle.im_theory_log.specs.Copies as copies
 use Rattle.im_theory_log.specs.Lawful.{IsLawful}
@@ -176,6 +176,10 @@ pub record NumbersStayNew : Type 0 where
   pub none : (next : ℕ) (log : History) → AreBelow next log → HasNone next log
   pub more : (next further : ℕ) (log : History) → next ≤ further → AreBelow next log → AreBelow further log
   pub within : (next t : ℕ) (older longer : History) → t < next → AreBelow next older → GrowsWithin t older longer → AreBelow next longer
+
+-- A transaction has no more changes that are not taken back than the log has LSNs, so that their count is as small as those.
+abbrev pub CountsFit : Type 0
+CountsFit = (b : Base) (log : History) (t : ℕ) → Rises b log → length (net t log) ≤ end_of b log
 
 -- What the full copies that a writer of pages adds leave of a log.
 pub record IsAfterCopies (b : Base) (tree : Tree) (older longer : History) : Type 0 where

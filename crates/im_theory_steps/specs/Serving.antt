@@ -1,5 +1,5 @@
 -- What holds between two steps: what is shown, the machine, the log and the two tables, together.
-use Rattle.std.specs.Prelude.{◌≡◌, ◌≢◌, ◌≤◌, ◌<◌, ℕ, ◌⊎◌, true, false, List, [], ◌++◌, Option, None, Some, length, find}
+use Rattle.std.specs.Prelude.{◌≡◌, ◌≤◌, ◌<◌, ℕ, true, false, List, [], ◌++◌, Option, None, Some, length, find}
 use Rattle.std.specs.FinMap.{empty}
 use Rattle.im_base_types.specs.Changes.{Effect, apply_all, seen}
 use Rattle.im_theory_log.specs.Histories.{History, Base}
@@ -8,12 +8,12 @@ use Rattle.im_base_types.specs.Answers as answers
 use Rattle.im_base_types.specs.Answers.{Step, Reply}
 use Rattle.im_base_types.specs.Lives.{Shown, effects, shows}
 use Rattle.im_base_txn.specs.declared.transaction.Mark as marks
-use Rattle.im_base_txn.specs.declared.transaction.Mark.TheVariants.{Going, MustRollBack, RollingBack, Committing}
+use Rattle.im_base_txn.specs.declared.transaction.Mark.TheVariants.{Going, MustRollBack, RollingBack, Returning, Committing}
 use Rattle.im_base_txn.specs.declared.transaction.Transaction.{Transaction}
 use Rattle.im_base_txn.specs.Rows.{is_of}
 use Rattle.im_theory_machine.specs.Table.{Table}
 use Rattle.im_theory_machine.specs.Changing.{MatchesWithKept}
-use Rattle.im_theory_machine.specs.View.{View, owner_in, Txn, idle}
+use Rattle.im_theory_machine.specs.View.{View, Txn, idle}
 use Rattle.im_theory_machine.specs.Machine.{Moves, IsReached}
 use Rattle.im_theory_steps.specs.Growth.{IsOver}
 use Rattle.im_theory_steps.specs.Seen.{IsSeen}
@@ -24,17 +24,17 @@ abbrev pub mark_of : marks.Mark → answers.Mark
 mark_of Going = answers.Going
 mark_of MustRollBack = answers.MustRollBack
 mark_of RollingBack = answers.RollingBack
+mark_of (Returning n) = answers.Returning n
 mark_of Committing = answers.Committing
 
--- A row says where its transaction's records end, and where its undo goes on.
-pub record IsRow (row : Transaction) (next : ℕ) (log : History) (who : Option ℕ) : Type 0 where
+-- A row says where its transaction's records end, where its undo goes on, and how many of its changes are not taken back.
+pub record IsRow (row : Transaction) (next : ℕ) (log : History) : Type 0 where
   pub number : 1 ≤ row.number
   pub below : row.number < next
   pub last : row.last ≡ last_of row.number log
   pub undo : row.undo_next ≡ undo_next_of row.number log
   pub unfinished : is_finished row.number log ≡ false
-  -- a record means a change, in a rollback too, but where a structure change of it is under way
-  pub logged : 1 ≤ row.last → (net row.number log ≢ []) ⊎ (who ≡ Some row.number)
+  pub changes : row.changes ≡ length (net row.number log)
 
 -- A row whose Commit is logged and waits for a force: the log has ended its transaction, and leaves nothing of it to undo.
 pub record IsWaitingRow (row : Transaction) (next : ℕ) (log : History) : Type 0 where
@@ -44,20 +44,21 @@ pub record IsWaitingRow (row : Transaction) (next : ℕ) (log : History) : Type 
   pub stack : to_undo row.number log ≡ []
 
 -- a row, by its mark
-abbrev pub IsRowOf : marks.Mark → Transaction → ℕ → History → Option ℕ → Type 0
-IsRowOf Committing row next log who = IsWaitingRow row next log
-IsRowOf Going row next log who = IsRow row next log who
-IsRowOf MustRollBack row next log who = IsRow row next log who
-IsRowOf RollingBack row next log who = IsRow row next log who
+abbrev pub IsRowOf : marks.Mark → Transaction → ℕ → History → Type 0
+IsRowOf Committing row next log = IsWaitingRow row next log
+IsRowOf Going row next log = IsRow row next log
+IsRowOf MustRollBack row next log = IsRow row next log
+IsRowOf RollingBack row next log = IsRow row next log
+IsRowOf (Returning n) row next log = IsRow row next log
 
 -- The transaction as the table has it: active with this row, or not active.
-abbrev pub IsAt : ℕ → Option Transaction → ℕ → History → Option ℕ → Txn → Type 0
-IsAt t None next log who x = IsOver t log × (to_undo t log ≡ []) × (x ≡ idle)
-IsAt t (Some row) next log who x = (row.number ≡ t) × IsRowOf row.mark row next log who × (x.mark ≡ mark_of row.mark)
+abbrev pub IsAt : ℕ → Option Transaction → ℕ → History → Txn → Type 0
+IsAt t None next log x = IsOver t log × (to_undo t log ≡ []) × (x ≡ idle)
+IsAt t (Some row) next log x = (row.number ≡ t) × IsRowOf row.mark row next log × (x.mark ≡ mark_of row.mark)
 
 -- The table has each active transaction.
 pub record AreRows (rows : List Transaction) (next : ℕ) (log : History) (v : View) : Type 0 where
-  pub each : (t : ℕ) → IsAt t (find (is_of t) rows) next log (owner_in v) (v.txns t)
+  pub each : (t : ℕ) → IsAt t (find (is_of t) rows) next log (v.txns t)
   pub active : v.active ≡ length rows
   pub numbers : v.next ≡ next
 

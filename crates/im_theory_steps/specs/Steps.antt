@@ -1,22 +1,22 @@
 -- Each kind of step keeps what holds between steps.
-use Rattle.std.specs.Prelude.{◌≡◌, ◌≢◌, ◌≤◌, ◌<◌, ◌+◌, ◌^◌, ◌⊎◌, ℕ, suc, true, false, List, [], ◌∷◌, ◌++◌, None, Some, length, find, map}
+use Rattle.std.specs.Prelude.{◌≡◌, ◌≢◌, ◌≤◌, ◌<◌, ◌+◌, ◌^◌, ◌⊎◌, ℕ, suc, Bool, true, false, List, [], ◌∷◌, ◌++◌, None, Some, length, find, map}
 use Rattle.std.specs.FinMap.{empty, get}
 use Rattle.im_base_types.specs.Keys.{Key}
 use Rattle.im_base_types.specs.Maps.{IndexMap}
 use Rattle.im_base_types.specs.Changes.{Change, Effect, apply_all, seen}
-use Rattle.im_base_types.specs.Records.{What, InsertKey, DeleteKey, Commit as CommitRecord, Logged}
+use Rattle.im_base_types.specs.Records.{What, InsertKey, DeleteKey, Commit as CommitRecord, End, Logged}
 use Rattle.im_theory_log.specs.Tree.{Tree}
 use Rattle.im_theory_log.specs.Structure.{open_smo, settled}
 use Rattle.im_theory_log.specs.Lawful as lawful
 use Rattle.im_theory_log.specs.Lawful.{IsLawful, IsOutside, IsNotIn}
 use Rattle.im_theory_log.specs.Histories.{History, Base, Rises, end_of}
 use Rattle.im_theory_log.specs.Transactions.{committed, last_of, undo_next_of, to_undo, net, is_finished, contents}
-use Rattle.im_base_types.specs.Answers.{Access, Insert, Delete, Inserted, Deleted, Step, Begin, Started, Do, Commit, Committed, Rollback, RolledBack, Continue, More, Blocked, BlockedTree, Die, FlushPage, Force, Checkpoint, Done, Refused, answer, changes}
+use Rattle.im_base_types.specs.Answers.{Access, Insert, Delete, Inserted, Deleted, Step, Begin, Started, Do, Commit, Committed, Rollback, RolledBack, Continue, RollTo, More, Blocked, BlockedTree, Die, FlushPage, Force, Checkpoint, Done, Refused, answer, changes}
 use Rattle.im_base_types.specs.Answers as answers
 use Rattle.im_base_types.specs.Lives.{Shown, nothing_shown}
-use Rattle.im_base_txn.specs.declared.transaction.Mark.TheVariants.{Going, MustRollBack, RollingBack, Committing}
+use Rattle.im_base_txn.specs.declared.transaction.Mark.TheVariants.{Going, MustRollBack, RollingBack, Returning, Committing}
 use Rattle.im_base_txn.specs.declared.transaction.Transaction.{Transaction}
-use Rattle.im_base_txn.specs.Rows.{begun as row_begun, is_of, changed, with_mark, with_record}
+use Rattle.im_base_txn.specs.Rows.{begun as row_begun, is_of, changed, with_changes, with_mark, with_record}
 use Rattle.im_base_txn.specs.LookUps.{without}
 use Rattle.im_theory_machine.specs.Table.{Table, lasting_of, Decides, HasFallen, IsReleased, AreReleased}
 use Rattle.im_theory_machine.specs.Changing.{asked_begun}
@@ -25,7 +25,7 @@ use Rattle.im_theory_machine.specs.Rows.{asked}
 use Rattle.im_theory_machine.specs.View.{View, Under, Aim, pending_of, Puts, Drops, TakesBack as TakesLater, TookBack, owner_in, own_locks, begun, did, locked, marked, committed_by, dropped_by, undid_more, undid_last, with_change, change_made, queued, forced_by, is_among}
 use Rattle.im_theory_machine.specs.Machine.{IsReached, keys_fit, barred, start, Wants}
 use Rattle.im_theory_steps.specs.Growth.{Stays, Adds, TakesBack, Commits, IsOfOthers, IsOfAll, IsOver, HasNone, IsCheckpoint, GrowsByImages, GrowsByStructure}
-use Rattle.im_theory_steps.specs.Serving.{IsRow, AreRows, IsServing, IsServed}
+use Rattle.im_theory_steps.specs.Serving.{IsRow, IsServing, IsServed}
 
 -- ---- what an opening leaves
 
@@ -50,14 +50,13 @@ abbrev pub ImagesKeepServing : Type 0
 ImagesKeepServing = (b : Base) (earlier before : List Effect) (s : Shown) (v : View) (older longer : History) (rows : List Transaction) (next : ℕ) (held : Table)
     → IsServing b earlier before s v older rows next held → GrowsByImages older longer → IsServing b earlier before s v longer rows next held
 
--- So do records of a structure change of a transaction that has a record, or whose change is under way, and its row notes them.
+-- So do records of a structure change of a transaction, and its row notes them.
 abbrev pub StructureKeepsServing : Type 0
 StructureKeepsServing = (b : Base) (earlier before : List Effect) (s : Shown) (v : View) (older longer : History) (rows : List Transaction) (next : ℕ) (held : Table) (t : ℕ) (row : Transaction)
-    → IsServing b earlier before s v older rows next held → find (is_of t) rows ≡ Some row → row.mark ≢ Committing → (1 ≤ row.last) ⊎ (owner_in v ≡ Some t) → GrowsByStructure t older longer
+    → IsServing b earlier before s v older rows next held → find (is_of t) rows ≡ Some row → row.mark ≢ Committing → GrowsByStructure t older longer
     → IsServing b earlier before s v longer (map (changed t (with_record (last_of t longer) (undo_next_of t longer))) rows) next held
 
--- The log has grown on the way to a change of t, whose records now end at this LSN: the tree's map, the nets and the other transactions are as they were. Of a
--- transaction whose first change this is, a row of its own says it only after the change, since its records so far have changed no key.
+-- The log has grown on the way to a change of t, whose records now end at this LSN: the tree's map, the nets and the other transactions are as they were.
 pub record IsOnTheWay (b : Base) (t last : ℕ) (older between : History) : Type 0 where
   pub stays : Stays b older between
   pub others : IsOfOthers t older between
@@ -74,14 +73,18 @@ pub record WaysLeadOn : Type 0 where
 
 -- A change that was granted and logged.
 abbrev pub ChangesAreServed : Type 0
-ChangesAreServed = (b : Base) (earlier before : List Effect) (s : Shown) (v : View) (older longer : History) (rows : List Transaction) (next : ℕ) (old new : Table) (t last undo_next : ℕ) (row : Transaction) (a : Access) (c : Change)
+ChangesAreServed = (b : Base) (earlier before : List Effect) (s : Shown) (v : View) (older longer : History) (rows : List Transaction) (next : ℕ) (old new : Table) (t last undo_next count : ℕ) (row : Transaction) (a : Access) (c : Change)
     → IsServing b earlier before s v older rows next old → find (is_of t) rows ≡ Some row → row.mark ≡ Going → owner_in v ≢ Some t → keys_fit a ≡ true → changes a v.walk ≡ c ∷ []
-    → Decides old t (asked a v.walk) Granted new → Adds b t c older longer → IsOfOthers t older longer → IsRow (with_record last undo_next row) next longer (owner_in v)
-    → IsServed b earlier before s v (Do t a) (answer a v.walk) (did v t a (lasting_of new t)) longer (map (changed t (with_record last undo_next)) rows) next new
+    → Decides old t (asked a v.walk) Granted new → Adds b t c older longer → IsOfOthers t older longer → IsRow (with_changes last undo_next count row) next longer
+    → IsServed b earlier before s v (Do t a) (answer a v.walk) (did v t a (lasting_of new t)) longer (map (changed t (with_changes last undo_next count)) rows) next new
 
 -- the record of a key of t, after its record at an LSN
 abbrev pub key_record : (t last lsn page : ℕ) → What → Logged
 key_record t last lsn page w = record { lsn = lsn; txn = t; prev = last; undo_next = 0; page = page; what = w }
+
+-- the rows after the record of a key at this LSN, where this was t's row: one change more of it stands
+abbrev pub counted : (t lsn : ℕ) → Transaction → List Transaction → List Transaction
+counted t lsn row rows = map (changed t (with_changes lsn lsn (row.changes + 1))) rows
 
 -- A record that was logged leaves a lawful log, and is a step of the machine.
 pub record IsLogged (b : Base) (tree : Tree) (earlier before : List Effect) (s : Shown) (v : View) (step : Step) (reply : answers.Reply) (w : View) (longer : History) (rows : List Transaction) (next : ℕ) (new : Table) : Type 0 where
@@ -93,14 +96,14 @@ abbrev pub InsertsAreServed : Tree → Type 0
 InsertsAreServed tree = (b : Base) (earlier before : List Effect) (s : Shown) (v : View) (older between : History) (rows : List Transaction) (next : ℕ) (old new : Table) (t last lsn page : ℕ) (row : Transaction) (k : Key) (i : ℕ)
     → IsServing b earlier before s v older rows next old → find (is_of t) rows ≡ Some row → row.mark ≡ Going → owner_in v ≢ Some t → keys_fit (Insert k i) ≡ true → IsOnTheWay b t last older between
     → IsLawful b tree between → IsOutside t (open_smo between) → IsNotIn page (open_smo between) → get (contents b older) k ≡ None → Decides old t (asked (Insert k i) v.walk) Granted new → tree.CanPut (settled b between) page k i → end_of b between < lsn
-    → IsLogged b tree earlier before s v (Do t (Insert k i)) Inserted (did v t (Insert k i) (lasting_of new t)) (key_record t last lsn page (InsertKey k i) ∷ between) (map (changed t (with_record lsn lsn)) rows) next new
+    → IsLogged b tree earlier before s v (Do t (Insert k i)) Inserted (did v t (Insert k i) (lasting_of new t)) (key_record t last lsn page (InsertKey k i) ∷ between) (counted t lsn row rows) next new
 
 -- A delete of a key that is there.
 abbrev pub DeletesAreServed : Tree → Type 0
 DeletesAreServed tree = (b : Base) (earlier before : List Effect) (s : Shown) (v : View) (older between : History) (rows : List Transaction) (next : ℕ) (old new : Table) (t last lsn page : ℕ) (row : Transaction) (k : Key) (i : ℕ)
     → IsServing b earlier before s v older rows next old → find (is_of t) rows ≡ Some row → row.mark ≡ Going → owner_in v ≢ Some t → keys_fit (Delete k) ≡ true → IsOnTheWay b t last older between
     → IsLawful b tree between → IsOutside t (open_smo between) → IsNotIn page (open_smo between) → get (contents b older) k ≡ Some i → Decides old t (asked (Delete k) v.walk) Granted new → tree.CanDrop (settled b between) page k i → end_of b between < lsn
-    → IsLogged b tree earlier before s v (Do t (Delete k)) Deleted (did v t (Delete k) (lasting_of new t)) (key_record t last lsn page (DeleteKey k i) ∷ between) (map (changed t (with_record lsn lsn)) rows) next new
+    → IsLogged b tree earlier before s v (Do t (Delete k)) Deleted (did v t (Delete k) (lasting_of new t)) (key_record t last lsn page (DeleteKey k i) ∷ between) (counted t lsn row rows) next new
 
 -- An access that was granted and changes nothing; the log may have grown by Images.
 abbrev pub ReadsAreServed : Type 0
@@ -131,10 +134,10 @@ BeginsAreServed = (b : Base) (earlier before : List Effect) (s : Shown) (v : Vie
     → IsServing b earlier before s v log rows next held → HasNone next log → 1 ≤ next → next ≤ 2 ^ 62 → length rows < 64
     → IsServed b earlier before s v Begin (Started next) (begun v) log (rows ++ row_begun next ∷ []) (suc next) held
 
--- A Commit that was logged, with its locks released and its row taken out.
+-- A Commit of changes that stand was logged, with its locks released and its row taken out.
 abbrev pub CommitsAreServed : Type 0
 CommitsAreServed = (b : Base) (earlier before : List Effect) (s : Shown) (v : View) (older longer : History) (rows : List Transaction) (next : ℕ) (old new : Table) (t : ℕ) (row : Transaction)
-    → IsServing b earlier before s v older rows next old → find (is_of t) rows ≡ Some row → row.mark ≡ Going → 1 ≤ row.last → owner_in v ≢ Some t → v.queue ≡ [] → IsReleased old t new → Commits b t older longer → IsOfOthers t older longer
+    → IsServing b earlier before s v older rows next old → find (is_of t) rows ≡ Some row → row.mark ≡ Going → 1 ≤ row.changes → owner_in v ≢ Some t → v.queue ≡ [] → IsReleased old t new → Commits b t older longer → IsOfOthers t older longer
     → IsOver t longer → to_undo t longer ≡ [] → length rows ≡ length (without t rows) + 1
     → IsServed b earlier before s v (Commit t) Committed (committed_by v t) longer (without t rows) next new
 
@@ -145,20 +148,20 @@ commit_record t last lsn = record { lsn = lsn; txn = t; prev = last; undo_next =
 -- The record of a Commit leaves a lawful log, and with its locks released and its row taken out it is a step of the machine.
 abbrev pub LoggedCommitsAreServed : Tree → Type 0
 LoggedCommitsAreServed tree = (b : Base) (earlier before : List Effect) (s : Shown) (v : View) (older : History) (rows : List Transaction) (next : ℕ) (old new : Table) (t lsn : ℕ) (row : Transaction)
-    → IsServing b earlier before s v older rows next old → find (is_of t) rows ≡ Some row → row.mark ≡ Going → 1 ≤ row.last → owner_in v ≢ Some t → IsLawful b tree older → IsOutside t (open_smo older) → end_of b older < lsn
+    → IsServing b earlier before s v older rows next old → find (is_of t) rows ≡ Some row → row.mark ≡ Going → 1 ≤ row.changes → owner_in v ≢ Some t → IsLawful b tree older → IsOutside t (open_smo older) → end_of b older < lsn
     → v.queue ≡ [] → IsReleased old t new → length rows ≡ length (without t rows) + 1
     → IsLogged b tree earlier before s v (Commit t) Committed (committed_by v t) (commit_record t row.last lsn ∷ older) (without t rows) next new
 
 -- A Commit that was logged and waits for a force: its row is marked, and it keeps its locks.
 abbrev pub CommitsWait : Type 0
 CommitsWait = (b : Base) (earlier before : List Effect) (s : Shown) (v : View) (older longer : History) (rows : List Transaction) (next : ℕ) (held : Table) (t : ℕ) (row : Transaction)
-    → IsServing b earlier before s v older rows next held → find (is_of t) rows ≡ Some row → row.mark ≡ Going → 1 ≤ row.last → owner_in v ≢ Some t → Commits b t older longer → IsOfOthers t older longer
+    → IsServing b earlier before s v older rows next held → find (is_of t) rows ≡ Some row → row.mark ≡ Going → 1 ≤ row.changes → owner_in v ≢ Some t → Commits b t older longer → IsOfOthers t older longer
     → is_finished t longer ≡ true → to_undo t longer ≡ []
     → IsServed b earlier before s v (Commit t) More (queued v t) longer (map (changed t (with_mark Committing)) rows) next held
 
 abbrev pub LoggedCommitsWait : Tree → Type 0
 LoggedCommitsWait tree = (b : Base) (earlier before : List Effect) (s : Shown) (v : View) (older : History) (rows : List Transaction) (next : ℕ) (held : Table) (t lsn : ℕ) (row : Transaction)
-    → IsServing b earlier before s v older rows next held → find (is_of t) rows ≡ Some row → row.mark ≡ Going → 1 ≤ row.last → owner_in v ≢ Some t → IsLawful b tree older → IsOutside t (open_smo older) → end_of b older < lsn
+    → IsServing b earlier before s v older rows next held → find (is_of t) rows ≡ Some row → row.mark ≡ Going → 1 ≤ row.changes → owner_in v ≢ Some t → IsLawful b tree older → IsOutside t (open_smo older) → end_of b older < lsn
     → IsLogged b tree earlier before s v (Commit t) More (queued v t) (commit_record t row.last lsn ∷ older) (map (changed t (with_mark Committing)) rows) next held
 
 -- A Commit of a transaction without a record.
@@ -167,23 +170,45 @@ UnloggedCommitsAreServed = (b : Base) (earlier before : List Effect) (s : Shown)
     → IsServing b earlier before s v log rows next old → Rises b log → find (is_of t) rows ≡ Some row → row.mark ≡ Going → owner_in v ≢ Some t → row.last ≡ 0 → IsReleased old t new → length rows ≡ length (without t rows) + 1
     → IsServed b earlier before s v (Commit t) Committed (committed_by v t) log (without t rows) next new
 
+-- A Commit and a Rollback of one that has records, but no change that stands, where an End was logged: no effect joins the others.
+abbrev pub EmptyCommitsAreServed : Type 0
+EmptyCommitsAreServed = (b : Base) (earlier before : List Effect) (s : Shown) (v : View) (older : History) (rows : List Transaction) (next : ℕ) (old new : Table) (t : ℕ) (row : Transaction) (last : Logged)
+    → IsServing b earlier before s v older rows next old → find (is_of t) rows ≡ Some row → row.mark ≡ Going → row.changes ≡ 0 → owner_in v ≢ Some t → last.txn ≡ t → last.what ≡ End → IsReleased old t new → length rows ≡ length (without t rows) + 1
+    → IsServed b earlier before s v (Commit t) Committed (committed_by v t) (last ∷ older) (without t rows) next new
+
+abbrev pub EmptyRollbacksAreServed : Type 0
+EmptyRollbacksAreServed = (b : Base) (earlier before : List Effect) (s : Shown) (v : View) (older : History) (rows : List Transaction) (next : ℕ) (old new : Table) (t : ℕ) (row : Transaction) (last : Logged)
+    → IsServing b earlier before s v older rows next old → find (is_of t) rows ≡ Some row → (row.mark ≡ Going) ⊎ (row.mark ≡ MustRollBack) → row.changes ≡ 0 → owner_in v ≢ Some t → last.txn ≡ t → last.what ≡ End → IsReleased old t new → length rows ≡ length (without t rows) + 1
+    → IsServed b earlier before s v (Rollback t) RolledBack (dropped_by v t) (last ∷ older) (without t rows) next new
+
+-- A RollTo of one that has no more changes lets it go on, also where it was told to die; one of more marks it.
+abbrev pub ReturnsStay : Type 0
+ReturnsStay = (b : Base) (earlier before : List Effect) (s : Shown) (v : View) (log : History) (rows : List Transaction) (next : ℕ) (held : Table) (t n : ℕ) (row : Transaction)
+    → IsServing b earlier before s v log rows next held → find (is_of t) rows ≡ Some row → (row.mark ≡ Going) ⊎ (row.mark ≡ MustRollBack) → row.changes ≤ n → owner_in v ≢ Some t
+    → IsServed b earlier before s v (RollTo t n) Done (marked v t answers.Going) log (map (changed t (with_mark Going)) rows) next held
+
+abbrev pub ReturnsTurn : Type 0
+ReturnsTurn = (b : Base) (earlier before : List Effect) (s : Shown) (v : View) (log : History) (rows : List Transaction) (next : ℕ) (held : Table) (t n : ℕ) (row : Transaction)
+    → IsServing b earlier before s v log rows next held → find (is_of t) rows ≡ Some row → (row.mark ≡ Going) ⊎ (row.mark ≡ MustRollBack) → n < row.changes → owner_in v ≢ Some t
+    → IsServed b earlier before s v (RollTo t n) More (marked v t (answers.Returning n)) log (map (changed t (with_mark (Returning n))) rows) next held
+
 -- A Rollback of a transaction without a record.
 abbrev pub DropsAreServed : Type 0
 DropsAreServed = (b : Base) (earlier before : List Effect) (s : Shown) (v : View) (log : History) (rows : List Transaction) (next : ℕ) (old new : Table) (t : ℕ) (row : Transaction)
     → IsServing b earlier before s v log rows next old → Rises b log → find (is_of t) rows ≡ Some row → (row.mark ≡ Going) ⊎ (row.mark ≡ MustRollBack) → owner_in v ≢ Some t → row.last ≡ 0 → IsReleased old t new → length rows ≡ length (without t rows) + 1
     → IsServed b earlier before s v (Rollback t) RolledBack (dropped_by v t) log (without t rows) next new
 
--- A Rollback of one that has a record marks it.
+-- A Rollback of one that has changes left marks it.
 abbrev pub TurnsAreServed : Type 0
 TurnsAreServed = (b : Base) (earlier before : List Effect) (s : Shown) (v : View) (log : History) (rows : List Transaction) (next : ℕ) (held : Table) (t : ℕ) (row : Transaction)
-    → IsServing b earlier before s v log rows next held → find (is_of t) rows ≡ Some row → (row.mark ≡ Going) ⊎ (row.mark ≡ MustRollBack) → 1 ≤ row.last → owner_in v ≢ Some t
+    → IsServing b earlier before s v log rows next held → find (is_of t) rows ≡ Some row → (row.mark ≡ Going) ⊎ (row.mark ≡ MustRollBack) → 1 ≤ row.changes → owner_in v ≢ Some t
     → IsServed b earlier before s v (Rollback t) More (marked v t answers.RollingBack) log (map (changed t (with_mark RollingBack)) rows) next held
 
 -- A change that was taken back, with others left to take back.
 abbrev pub UndoIsServed : Type 0
-UndoIsServed = (b : Base) (earlier before : List Effect) (s : Shown) (v : View) (older longer : History) (rows : List Transaction) (next : ℕ) (held : Table) (t last undo_next : ℕ) (row : Transaction) (c : Change)
-    → IsServing b earlier before s v older rows next held → find (is_of t) rows ≡ Some row → row.mark ≡ RollingBack → TakesBack b t c older longer → net t longer ≢ [] → IsOfOthers t older longer → IsRow (with_record last undo_next row) next longer (owner_in v)
-    → IsServed b earlier before s v (Continue t) More (undid_more v t c (net t longer)) longer (map (changed t (with_record last undo_next)) rows) next held
+UndoIsServed = (b : Base) (earlier before : List Effect) (s : Shown) (v : View) (older longer : History) (rows : List Transaction) (next : ℕ) (held : Table) (t last undo_next count : ℕ) (row : Transaction) (c : Change)
+    → IsServing b earlier before s v older rows next held → find (is_of t) rows ≡ Some row → row.mark ≡ RollingBack → TakesBack b t c older longer → net t longer ≢ [] → IsOfOthers t older longer → IsRow (with_changes last undo_next count row) next longer
+    → IsServed b earlier before s v (Continue t) More (undid_more v t c (net t longer)) longer (map (changed t (with_changes last undo_next count)) rows) next held
 
 -- The last change was taken back, and the transaction ended.
 abbrev pub EndsAreServed : Type 0
@@ -233,14 +258,6 @@ LacksAreServed = (b : Base) (earlier before : List Effect) (s : Shown) (v : View
     → IsServing b earlier before s v older rows next held → barred v step ≡ None → Wants step fault → Stays b older longer → IsOfAll older longer
     → IsServed b earlier before s v step (Refused fault) v longer rows next held
 
--- A transaction begins a structure change: its rows are as they were.
-abbrev pub RowsTakeOwner : Type 0
-RowsTakeOwner = (u : Under) (next : ℕ) (log : History) (rows : List Transaction) (v : View) → v.under ≡ None → AreRows rows next log v → AreRows rows next log (record v { under = Some u })
-
--- It ends it, and has changed a key.
-abbrev pub RowsLeaveOwner : Type 0
-RowsLeaveOwner = (t next : ℕ) (log : History) (rows : List Transaction) (v : View) → owner_in v ≡ Some t → net t log ≢ [] → AreRows rows next log v → AreRows rows next log (record v { under = None })
-
 -- ---- structure changes that are made page by page, in several steps
 
 -- the rows, where that of t notes its records as the log has them
@@ -270,14 +287,14 @@ abbrev pub InsertsEnd : Tree → Type 0
 InsertsEnd tree = (b : Base) (earlier before : List Effect) (s : Shown) (v : View) (older between : History) (rows : List Transaction) (next : ℕ) (old new : Table) (t last lsn page : ℕ) (row : Transaction) (k : Key) (i : ℕ)
     → IsServing b earlier before s v older rows next old → find (is_of t) rows ≡ Some row → row.mark ≡ Going → v.under ≡ Some (record { owner = t; aim = Puts k i }) → IsOnTheWay b t last older between
     → IsLawful b tree between → IsOutside t (open_smo between) → IsNotIn page (open_smo between) → tree.CanPut (settled b between) page k i → end_of b between < lsn → HasFallen old t new
-    → IsLogged b tree earlier before s v (Continue t) Inserted (change_made (did v t (Insert k i) (own_locks v t))) (key_record t last lsn page (InsertKey k i) ∷ between) (map (changed t (with_record lsn lsn)) rows) next new
+    → IsLogged b tree earlier before s v (Continue t) Inserted (change_made (did v t (Insert k i) (own_locks v t))) (key_record t last lsn page (InsertKey k i) ∷ between) (counted t lsn row rows) next new
 
 -- A Delete that leaves a leaf empty: the key goes, and the change begins, with no page logged.
 abbrev pub DeletesBegin : Tree → Type 0
 DeletesBegin tree = (b : Base) (earlier before : List Effect) (s : Shown) (v : View) (older between : History) (rows : List Transaction) (next : ℕ) (old new : Table) (t last lsn page : ℕ) (row : Transaction) (k : Key) (i : ℕ)
     → IsServing b earlier before s v older rows next old → find (is_of t) rows ≡ Some row → row.mark ≡ Going → v.under ≡ None → keys_fit (Delete k) ≡ true → IsOnTheWay b t last older between
     → IsLawful b tree between → IsOutside t (open_smo between) → IsNotIn page (open_smo between) → get (contents b older) k ≡ Some i → Decides old t (asked (Delete k) v.walk) Granted new → tree.CanDrop (settled b between) page k i → end_of b between < lsn
-    → IsLogged b tree earlier before s v (Do t (Delete k)) More (with_change (did v t (Delete k) (lasting_of new t)) t (Drops k)) (key_record t last lsn page (DeleteKey k i) ∷ between) (map (changed t (with_record lsn lsn)) rows) next new
+    → IsLogged b tree earlier before s v (Do t (Delete k)) More (with_change (did v t (Delete k) (lasting_of new t)) t (Drops k)) (key_record t last lsn page (DeleteKey k i) ∷ between) (counted t lsn row rows) next new
 
 -- It ends with the record that closes the change.
 abbrev pub DeletesEnd : Type 0
@@ -288,14 +305,14 @@ DeletesEnd = (b : Base) (earlier before : List Effect) (s : Shown) (v : View) (o
 -- A change to be taken back whose key wants a split: its first page is logged. At the end it is taken back as ever.
 abbrev pub TurnsBegin : Type 0
 TurnsBegin = (b : Base) (earlier before : List Effect) (s : Shown) (v : View) (older longer : History) (rows : List Transaction) (next : ℕ) (held : Table) (t : ℕ) (row : Transaction)
-    → IsServing b earlier before s v older rows next held → find (is_of t) rows ≡ Some row → row.mark ≡ RollingBack → 1 ≤ row.last → v.under ≡ None → GrowsByStructure t older longer
+    → IsServing b earlier before s v older rows next held → find (is_of t) rows ≡ Some row → row.mark ≡ RollingBack → v.under ≡ None → GrowsByStructure t older longer
     → IsServed b earlier before s v (Continue t) More (with_change v t TakesLater) longer (noted t longer rows) next held
 
 -- One that leaves a leaf empty: it is taken back, and the change begins, with no page logged.
 abbrev pub TurnsEmpty : Type 0
-TurnsEmpty = (b : Base) (earlier before : List Effect) (s : Shown) (v : View) (older longer : History) (rows : List Transaction) (next : ℕ) (held : Table) (t last undo_next : ℕ) (row : Transaction) (c : Change)
-    → IsServing b earlier before s v older rows next held → find (is_of t) rows ≡ Some row → row.mark ≡ RollingBack → v.under ≡ None → TakesBack b t c older longer → IsOfOthers t older longer → IsRow (with_record last undo_next row) next longer (Some t)
-    → IsServed b earlier before s v (Continue t) More (with_change (undid_more v t c (net t longer)) t TookBack) longer (map (changed t (with_record last undo_next)) rows) next held
+TurnsEmpty = (b : Base) (earlier before : List Effect) (s : Shown) (v : View) (older longer : History) (rows : List Transaction) (next : ℕ) (held : Table) (t last undo_next count : ℕ) (row : Transaction) (c : Change)
+    → IsServing b earlier before s v older rows next held → find (is_of t) rows ≡ Some row → row.mark ≡ RollingBack → v.under ≡ None → TakesBack b t c older longer → IsOfOthers t older longer → IsRow (with_changes last undo_next count row) next longer
+    → IsServed b earlier before s v (Continue t) More (with_change (undid_more v t c (net t longer)) t TookBack) longer (map (changed t (with_changes last undo_next count)) rows) next held
 
 -- It ends with the record that closes it, where others are left to take back, or else with an End.
 abbrev pub TurnsDrop : Type 0
@@ -325,14 +342,20 @@ pub record BegunAskTheSame : Type 0 where
   pub waits : (w : IndexMap) (k : Key) (i : ℕ) → get w k ≡ None → (old new : Table) (t holder : ℕ) → Decides old t (asked_begun k w) (Wait holder) new → Decides old t (asked (Insert k i) w) (Wait holder) new
   pub dies : (w : IndexMap) (k : Key) (i : ℕ) → get w k ≡ None → (old new : Table) (t : ℕ) → Decides old t (asked_begun k w) MustDie new → Decides old t (asked (Insert k i) w) MustDie new
 
--- what its owner is while a structure change is under way
-abbrev pub mark_for_aim : Aim → answers.Mark
-mark_for_aim (Puts k r) = answers.Going
-mark_for_aim (Drops k) = answers.Going
-mark_for_aim TakesLater = answers.RollingBack
-mark_for_aim TookBack = answers.RollingBack
+-- one that takes its changes back: it rolls back, or returns
+abbrev pub takes_back : answers.Mark → Bool
+takes_back answers.RollingBack = true
+takes_back (answers.Returning n) = true
+takes_back _ = false
 
--- So a transaction that does not roll back, and for which no Insert or Delete goes on, has none under way: what the checks let through.
+-- what its owner is while a structure change is under way
+abbrev pub IsMarkFor : Aim → answers.Mark → Type 0
+IsMarkFor (Puts k r) mark = mark ≡ answers.Going
+IsMarkFor (Drops k) mark = mark ≡ answers.Going
+IsMarkFor TakesLater mark = takes_back mark ≡ true
+IsMarkFor TookBack mark = takes_back mark ≡ true
+
+-- So a transaction that takes nothing back, and for which no Insert or Delete goes on, has none under way: what the checks let through.
 pub record OwnersAreMarked : Type 0 where
-  pub marked : (base : IndexMap) (v : View) → IsReached base v → (u : Under) → v.under ≡ Some u → (v.txns u.owner).mark ≡ mark_for_aim u.aim
-  pub free : (base : IndexMap) (v : View) → IsReached base v → (t : ℕ) → pending_of v.under t ≡ None → ((v.txns t).mark ≡ answers.RollingBack → ⊥) → owner_in v ≢ Some t
+  pub marked : (base : IndexMap) (v : View) → IsReached base v → (u : Under) → v.under ≡ Some u → IsMarkFor u.aim ((v.txns u.owner).mark)
+  pub free : (base : IndexMap) (v : View) → IsReached base v → (t : ℕ) → pending_of v.under t ≡ None → takes_back ((v.txns t).mark) ≡ false → owner_in v ≢ Some t

@@ -1,7 +1,7 @@
 //! How the log and the machine go on together.
 
 ghost use Rattle.im_theory_steps.specs.Laws.{GrantedKeysAreFree, LogAndViewGoTogether};
-ghost use Rattle.im_theory_steps.specs.Growth.{GrowthWithinLeavesOthers, CopiesAreImages, ImagesChangeNothing, UnownedChangeNothing, CheckpointsChangeNothing, NumbersStayNew, StructureChangesNoKey};
+ghost use Rattle.im_theory_steps.specs.Growth.{GrowthWithinLeavesOthers, CopiesAreImages, ImagesChangeNothing, UnownedChangeNothing, CheckpointsChangeNothing, CountsFit, NumbersStayNew, StructureChangesNoKey};
 
 use im_theory_log::logs::PageTree;
 
@@ -48,4 +48,9 @@ pub fn numbers_stay_new()
 /// The full copies that a writer of pages adds to its log are Images.
 pub fn copies_are_images<T: PageTree>()
     ensures { CopiesAreImages T.tree }
+{}
+
+/// Counts of changes are no greater than LSNs.
+pub fn counts_fit()
+    ensures { CountsFit }
 {}

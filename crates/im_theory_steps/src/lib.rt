@@ -10,8 +10,10 @@
 //! it gives the step of the machine, and all of `IsServing` after it (`IsServed`). So whoever writes the engine proves of each step
 //! how the log grew, and takes the rest from here.
 //!
-//! A step whose change needs a structure change first logs that before its key record: a transaction whose first change this is then
-//! has records but no net, so what holds between steps holds again only after the key record (`IsOnTheWay`).
+//! A step whose change needs a structure change first logs that before its key record (`IsOnTheWay`).
+//!
+//! A row counts the changes of its transaction that stand, as its net in the log has them. A Commit and a Rollback go by that count: one
+//! that has records and no change left ends by an End, and no effect joins the others.
 //!
 //! A change that is taken back is said of the log's growth alone (`UndoesNewest`): whatever records did it, the other transactions and what
 //! is committed are as they were (`undo_takes_back`), and an End after the last one leaves nothing of the transaction
@@ -40,8 +42,8 @@ pub use durable_laws::{
     commits_stand, cut_commits_stand, others_ask_nothing, quiet_lives_settle, stops_allow,
 };
 pub use growth_laws::{
-    copies_are_images, granted_keys_are_free, growth_within_leaves_others, images_change_nothing,
-    log_and_view_go_together, numbers_stay_new, structure_changes_no_key,
+    copies_are_images, counts_fit, granted_keys_are_free, growth_within_leaves_others,
+    images_change_nothing, log_and_view_go_together, numbers_stay_new, structure_changes_no_key,
 };
 pub use lived_laws::{lives_go_on, rows_tell_checks};
 pub use marks::may_roll_back;
@@ -49,16 +51,17 @@ pub use shown_laws::{moves_are_shown, moves_reach, runs_commit_what_they_show};
 pub use step_laws::{
     barred_steps_are_served, begins_are_served, begun_ask_the_same, changes_are_served,
     checkpoints_are_served, commits_are_served, deletes_are_served, deletes_begin, deletes_end,
-    dies_are_served, drops_are_served, ends_are_served, flushes_are_served, forces_are_served,
-    images_keep_serving, inserts_are_served, inserts_begin, inserts_end, inserts_stay_free,
-    lacks_are_served, logged_commits_are_served, new_stores_serve, opened_stores_serve,
-    owners_are_marked, pages_are_served, quiet_logs_hold_committed, reads_are_served,
+    dies_are_served, drops_are_served, empty_commits_are_served, empty_rollbacks_are_served,
+    ends_are_served, flushes_are_served, forces_are_served, images_keep_serving,
+    inserts_are_served, inserts_begin, inserts_end, inserts_stay_free, lacks_are_served,
+    logged_commits_are_served, new_stores_serve, opened_stores_serve, owners_are_marked,
+    pages_are_served, quiet_logs_hold_committed, reads_are_served, returns_stay, returns_turn,
     structure_keeps_serving, trees_block, trees_halt, turns_are_served, turns_begin, turns_drop,
     turns_empty, turns_end, undo_is_served, unlogged_commits_are_served, waits_are_served,
     ways_lead_on,
 };
 pub use switch_laws::switches_are_served;
 pub use undone_laws::{
-    ends_leave_nothing, last_undone_changes_are_served, rolling_back_has_more, undo_takes_back,
-    undone_changes_are_served,
+    ends_leave_nothing, last_undone_changes_are_served, returning_has_more, returns_drop,
+    returns_end, returns_go_on, rolling_back_has_more, undo_takes_back, undone_changes_are_served,
 };

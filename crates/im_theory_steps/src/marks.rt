@@ -14,6 +14,7 @@ pub fn may_roll_back(mark: Mark) -> bool
         Mark::Going => true,
         Mark::MustRollBack => true,
         Mark::RollingBack => false,
+        Mark::Returning(_) => false,
         Mark::Committing => false,
     }
 }

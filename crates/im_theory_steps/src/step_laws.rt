@@ -1,6 +1,6 @@
 //! Each kind of step keeps what holds between steps. These functions do nothing: their contracts are the laws.
 
-ghost use Rattle.im_theory_steps.specs.Steps.{NewStoresServe, RowsTakeOwner, RowsLeaveOwner, OpenedStoresServe, QuietLogsHoldCommitted, ImagesKeepServing, StructureKeepsServing, WaysLeadOn, LoggedCommitsAreServed, BeginsAreServed, ChangesAreServed, InsertsAreServed, DeletesAreServed, ReadsAreServed, WaitsAreServed, DiesAreServed, CommitsAreServed, CommitsWait, LoggedCommitsWait, UnloggedCommitsAreServed, DropsAreServed, TurnsAreServed, UndoIsServed, EndsAreServed, FlushesAreServed, ForcesAreServed, CheckpointsAreServed, LoggedCheckpointsAreServed, BarredStepsAreServed, LacksAreServed, InsertsBegin, PagesAreServed, InsertsStayFree, InsertsEnd, DeletesBegin, DeletesEnd, TurnsBegin, TurnsEmpty, TurnsDrop, TurnsEnd, TreesBlock, TreesHalt, BegunAskTheSame, OwnersAreMarked};
+ghost use Rattle.im_theory_steps.specs.Steps.{NewStoresServe, OpenedStoresServe, QuietLogsHoldCommitted, ImagesKeepServing, StructureKeepsServing, WaysLeadOn, LoggedCommitsAreServed, BeginsAreServed, ChangesAreServed, InsertsAreServed, DeletesAreServed, ReadsAreServed, WaitsAreServed, DiesAreServed, CommitsAreServed, CommitsWait, LoggedCommitsWait, UnloggedCommitsAreServed, EmptyCommitsAreServed, EmptyRollbacksAreServed, ReturnsStay, ReturnsTurn, DropsAreServed, TurnsAreServed, UndoIsServed, EndsAreServed, FlushesAreServed, ForcesAreServed, CheckpointsAreServed, LoggedCheckpointsAreServed, BarredStepsAreServed, LacksAreServed, InsertsBegin, PagesAreServed, InsertsStayFree, InsertsEnd, DeletesBegin, DeletesEnd, TurnsBegin, TurnsEmpty, TurnsDrop, TurnsEnd, TreesBlock, TreesHalt, BegunAskTheSame, OwnersAreMarked};
 
 use im_theory_log::logs::PageTree;
 
@@ -24,7 +24,7 @@ pub fn images_keep_serving()
     ensures { ImagesKeepServing }
 {}
 
-/// So do records of a structure change of a transaction that has a record.
+/// So do records of a structure change.
 pub fn structure_keeps_serving()
     ensures { StructureKeepsServing }
 {}
@@ -94,12 +94,32 @@ pub fn unlogged_commits_are_served()
     ensures { UnloggedCommitsAreServed }
 {}
 
+/// A Commit of a transaction that has records, but no change that stands.
+pub fn empty_commits_are_served()
+    ensures { EmptyCommitsAreServed }
+{}
+
+/// A Rollback of such a one.
+pub fn empty_rollbacks_are_served()
+    ensures { EmptyRollbacksAreServed }
+{}
+
+/// A RollTo of a transaction that has no more changes.
+pub fn returns_stay()
+    ensures { ReturnsStay }
+{}
+
+/// A RollTo of one that has more.
+pub fn returns_turn()
+    ensures { ReturnsTurn }
+{}
+
 /// A Rollback of a transaction without a record.
 pub fn drops_are_served()
     ensures { DropsAreServed }
 {}
 
-/// A Rollback of one that has a record.
+/// A Rollback of one that has changes left.
 pub fn turns_are_served()
     ensures { TurnsAreServed }
 {}
@@ -142,16 +162,6 @@ pub fn barred_steps_are_served()
 /// A step for which pages or memory are wanting.
 pub fn lacks_are_served()
     ensures { LacksAreServed }
-{}
-
-/// A structure change begins: the rows are as they were.
-pub fn rows_take_owner()
-    ensures { RowsTakeOwner }
-{}
-
-/// It ends, after a change of a key.
-pub fn rows_leave_owner()
-    ensures { RowsLeaveOwner }
 {}
 
 /// An Insert whose leaf wants a structure change first begins: its first page is logged.
