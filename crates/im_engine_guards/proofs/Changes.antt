@@ -12,7 +12,7 @@ use Rattle.im_log.specs.Spelled.{logged_at}
 use Rattle.im_log.specs.Whats.{smo_of, undo_smo_of, page_behind, what_of}
 use Rattle.im_theory_log.specs.Copies.{copy_in}
 use Rattle.im_theory_log.specs.Histories.{History, IsRecordOf, changes_page}
-use Rattle.im_theory_left.specs.Left.{AreReadable}
+use Rattle.im_theory_switch.specs.Left.{AreReadable}
 use Rattle.im_engine_guards.specs.Walks.{CurrentIsRead, HasNoCopy, IsPageChange, LeftIsRead, NamesChanges, PassesCopied, walked}
 use Rattle.im_engine_guards.proofs.Pieces.{passed}
 use Rattle.im_engine_guards.proofs.Positions.{begun, walks_all, walks_on, walks_within}

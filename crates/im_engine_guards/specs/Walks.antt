@@ -5,7 +5,7 @@ use Rattle.im_base_guard.specs.declared.left_log.LeftLog.{LeftLog}
 use Rattle.im_base_guard.specs.LeftLog.{step_of, walk}
 use Rattle.im_log_header.specs.Header.{first_gate}
 use Rattle.im_log.specs.Kept.{HasLog}
-use Rattle.im_theory_left.specs.Left.{AreReadable}
+use Rattle.im_theory_switch.specs.Left.{AreReadable}
 use Rattle.im_theory_log.specs.Copies.{copy_in}
 use Rattle.im_theory_log.specs.Histories.{History, IsRecordOf, changes_page}
 

@@ -5,7 +5,7 @@ use Rattle.im_base_disk.specs.Disk.{Files}
 use Rattle.im_log_gate.specs.Header.{base_of, generation_of}
 use Rattle.im_log_header.specs.Header.{IsUnmade, IsMade}
 use Rattle.im_log.specs.Kept.{HasLog}
-use Rattle.im_theory_left.specs.Left.{AreReadable, IsPast}
+use Rattle.im_theory_switch.specs.Left.{AreReadable, IsPast}
 use Rattle.im_theory_log.specs.Histories.{Base, History}
 
 -- What a log that was left says of what the log is over: its bytes, with what was cut off after its header since, spell records that can be read, and each of their changes is in those pages.

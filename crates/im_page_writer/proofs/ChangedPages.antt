@@ -6,7 +6,7 @@ use Rattle.im_base_types.specs.Records.{What, InsertKey, DeleteKey, UndoInsert, 
 use Rattle.im_theory_log.specs.Histories.{Base, History, IsRecordOf, Rises, below, changes_page, end_of, page_after, page_at}
 use Rattle.im_theory_log.proofs.Histories.{below_newest, below_older, no_change, page_here, page_lsn_up, page_other}
 use Rattle.im_page_file.specs.PageCopy.{after_in}
-use Rattle.im_theory_left.proofs.Left.{own_lsn}
+use Rattle.im_theory_switch.proofs.Left.{own_lsn}
 
 -- a structure change leaves its image
 pub after_body : (l : ℕ) (w : What) (g : Page) (body : Body) → after_in w ≡ Some body → (page_after l w g).body ≡ body

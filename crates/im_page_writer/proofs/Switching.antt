@@ -15,9 +15,9 @@ use Rattle.im_theory_log.specs.Writer.{Writer}
 use Rattle.im_theory_log.specs.WriterSteps.{is_copied}
 use Rattle.im_theory_log.proofs.Cited.{front_self, reached_end, covers_base, covers}
 use Rattle.im_theory_switch.specs.Switch.{base_after, switched}
+use Rattle.im_theory_switch.specs.Left.{AreReadable}
 use Rattle.im_theory_switch.proofs.Switch.{lsns_low, writer_switches}
-use Rattle.im_theory_left.specs.Left.{AreReadable}
-use Rattle.im_theory_left.proofs.Left.{past_after}
+use Rattle.im_theory_switch.proofs.Left.{past_after}
 use Rattle.im_base_disk.specs.declared.disk.Disk.{Ghosts}
 use Rattle.im_base_disk.specs.Disk.{Files}
 use Rattle.im_base_disk.proofs.Runs.{weakened}

@@ -5,7 +5,7 @@ ghost use Rattle.im_base_types.specs.declared.fault.Fault.{Fault};
 ghost use Rattle.im_base_types.specs.declared.fault.Fault.TheVariants.{Capacity, Device, Failed, LogFull};
 ghost use Rattle.im_base_types.specs.declared.file_id.FileId.TheVariants.{Pages};
 ghost use Rattle.im_theory_log.specs.Histories.{Base};
-ghost use Rattle.im_theory_left.specs.Left.{AreReadable};
+ghost use Rattle.im_theory_switch.specs.Left.{AreReadable};
 ghost use Rattle.im_theory_log.specs.Writer.{Writer};
 ghost use Rattle.im_base_disk.specs.Disk.{Only};
 ghost use Rattle.im_base_disk.specs.Runs.{CostsAtMost};

@@ -1,5 +1,5 @@
 use Rattle.std.proofs.Common.{refl}
-use Rattle.im_theory_left.proofs.Left.{lawful_readable}
+use Rattle.im_theory_switch.proofs.Left.{lawful_readable}
 use Rattle.im_theory_tree.specs.Theory.{page_tree}
 use Rattle.im_engine.proofs.Upgrading.{stays_kept, stays_opens, switch_kept, switch_opens}
 use Rattle.im_engine.proofs.restarting.upgrade.Goals as goal

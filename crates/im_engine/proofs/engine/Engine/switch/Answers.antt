@@ -3,7 +3,7 @@ use Rattle.std.specs.Prelude.{◌↔◌}
 use Rattle.im_base_types.specs.Answers as answers
 use Rattle.im_base_types.specs.declared.fault.Fault.{Fault}
 use Rattle.im_base_types.specs.declared.fault.Fault.TheVariants.{Device}
-use Rattle.im_theory_left.proofs.Left.{lawful_readable}
+use Rattle.im_theory_switch.proofs.Left.{lawful_readable}
 use Rattle.im_theory_log.specs.Histories.{Base}
 use Rattle.im_theory_tree.specs.Theory.{page_tree}
 use Rattle.im_page_writer.specs.Switching.{RefusesSwitch, SwitchKept}

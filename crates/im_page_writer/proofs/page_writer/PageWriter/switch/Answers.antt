@@ -6,7 +6,7 @@ use Rattle.im_log.specs.Switching.{next_gate}
 use Rattle.im_page_pool.specs.Pool.{PoolView}
 use Rattle.im_base_disk.specs.Runs.{CostsAtMost}
 use Rattle.im_base_disk.proofs.Costs.{most_as, most_none, most_then}
-use Rattle.im_theory_left.proofs.Left.{grown_readable}
+use Rattle.im_theory_switch.proofs.Left.{grown_readable}
 use Rattle.im_theory_log.specs.WriterSteps.{forced, synced}
 use Rattle.im_page_table.proofs.Growing.{grows_none}
 use Rattle.im_page_writer.proofs.FlushedRows.{synced_clean}
