@@ -10,3 +10,5 @@ pub mod Runs
 pub mod Spans
 pub mod Spells
 pub mod Waiting
+mod SpelledRecords
+mod SpelledGates

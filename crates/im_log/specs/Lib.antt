@@ -8,3 +8,4 @@ pub mod Reading
 pub mod Span
 pub mod Spelled
 pub mod Whats
+pub mod SpelledFiles

@@ -29,6 +29,9 @@
 //! | `read_at` of a waiting record | 24 | 25 | |
 //! | `read_at` of a durable record, here and there in the file | 37 | 182 | |
 //!
+//! Which log a file's bytes are, `log_of` says by reading them. `logs_are_spelled` says it with no reading, by the spellings of the log's
+//! records (`HasLogAt`): the log of a file is that one, and no other.
+//!
 //! It stands on gates for the batches, and on the codec of records.
 #![tactic(auto)]
 
@@ -37,9 +40,11 @@ mod front;
 mod log_file;
 mod log_opening;
 mod read_front;
+mod spelling_laws;
 mod whole;
 
 pub use creation::open_or_create;
 pub use log_file::LogFile;
 pub use log_opening::{Opening, open_log};
+pub use spelling_laws::logs_are_spelled;
 pub use whole::whole_size;

@@ -1,5 +1,5 @@
-use Rattle.im_log_spelling.proofs.Gates.{read, spelled}
-use Rattle.im_log_spelling.proofs.logs_are_spelled.Goals as goal
+use Rattle.im_log.proofs.SpelledGates.{read, spelled}
+use Rattle.im_log.proofs.spelling_laws.logs_are_spelled.Goals as goal
 
 pub returns-clause-read : goal.returns-clause-read
 returns-clause-read c = read c.spellings.ensures.least

@@ -10,9 +10,9 @@ use Rattle.im_log_record.specs.Spelling.{spelling, size_of, IsEntry}
 use Rattle.im_log_record.proofs.Theorems.{length_first, record_again, record_takes, size_is}
 use Rattle.im_log_record.proofs.Words.{IsBytes-drop, IsBytes-take}
 use Rattle.im_log.specs.Spelled.{logged_at, record_size, records_from, batches_records}
+use Rattle.im_log.specs.SpelledFiles.{spelt, joined, joined_all, IsBatch}
 use Rattle.im_log.proofs.Spells.{Whole, whole, carry, push, batch_step}
 use Rattle.im_log.proofs.Passes.{taken, batch_taken}
-use Rattle.im_log_spelling.specs.Files.{spelt, joined, joined_all, IsBatch}
 
 -- ---- read as they are spelled
 

@@ -1,10 +1,9 @@
 //! What a log file is, by the spellings of its records: laws over plain data.
 //!
-//! `log_of` of `im_log` reads bytes from left to right. Here the same is said with no reading: a header, batches of spelled records,
-//! each after an open gate and its length, and a closed gate (`HasLogAt`). The log of a file is that one, and no other.
-#![tactic(auto)]
+//! `log_of` reads bytes from left to right. Here the same is said with no reading: a header, batches of spelled records, each after an open
+//! gate and its length, and a closed gate (`HasLogAt`).
 
-ghost use Rattle.im_log_spelling.specs.Files.{LogsAreRead, LogsAreSpelled};
+ghost use Rattle.im_log.specs.SpelledFiles.{LogsAreRead, LogsAreSpelled};
 
 use im_log_record::spellings;
 

@@ -14,9 +14,9 @@ use Rattle.im_log_record.specs.Reading.{IsBytes}
 use Rattle.im_log_record.specs.Spelling.{size_of as size_said, word32}
 use Rattle.im_log_record.proofs.Words.{IsBytes-drop, IsBytes-take, word32_back}
 use Rattle.im_log.specs.Spelled.{log_of}
+use Rattle.im_log.specs.SpelledFiles.{spelt, IsBatch, HasLogAt}
 use Rattle.im_log.proofs.Spells.{log_is, log_records, log_room, not_refused}
-use Rattle.im_log_spelling.specs.Files.{spelt, IsBatch, HasLogAt}
-use Rattle.im_log_spelling.proofs.Records.{batches_read, said_all}
+use Rattle.im_log.proofs.SpelledRecords.{batches_read, said_all}
 
 -- ---- read as they stand
 
