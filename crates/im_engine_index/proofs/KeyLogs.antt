@@ -26,7 +26,7 @@ use Rattle.im_base_disk.proofs.Runs.{weakened}
 use Rattle.im_log_record.specs.Entry.{Entry, InsertKey, DeleteKey}
 use Rattle.im_log.proofs.Above.{front_then}
 use Rattle.im_page_writer.specs.declared.page_writer.PageWriter.{PageWriter}
-use Rattle.im_page_leaf.specs.LeafChange.{CanPutKey, CanTakeKey}
+use Rattle.im_page.specs.LeafChange.{CanPutKey, CanTakeKey}
 use Rattle.im_page_writer.specs.LoggedChange.{ChangedFrom, ChangeKept}
 use Rattle.im_page_writer.specs.PageWriter.{StandsAs}
 use Rattle.im_page_flush.specs.Writing.{LeavesGrown}

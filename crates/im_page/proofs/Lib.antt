@@ -8,3 +8,4 @@ pub mod SoundLemmas
 pub mod UniformLemmas
 pub mod HeaderLemmas
 pub mod FieldLemmas
+pub mod KeyLists

@@ -1,2 +1,4 @@
 pub mod Edit
 pub mod Sound
+pub mod LeafChange
+pub mod LeafEdits

@@ -1,4 +1,4 @@
-//! How does a page take, give and part its entries?
+//! How does a page take, give and part its entries? Does a leaf take this key, and where?
 //!
 //! Pages: a header and a sorted list in 4,096 bytes, searched and changed in place.
 //!
@@ -42,6 +42,12 @@
 //! The invariant of a `Page` is that its bytes have the form (`IsForm`); `content` tells it to callers as a fact about
 //! the contents.
 //!
+//! # Keys of a leaf
+//!
+//! A leaf takes a key where it lacks it and has room for it (`CanPutKey`), and gives one up where it has it (`CanTakeKey`). A record does
+//! one of the two with its key (`LeafEdit`); what it asks and what it does to its page are functions of that (`MayEdit`, `HasPlace`,
+//! `edit_of`). `place_in` answers the place in the leaf, or that the page is no leaf that takes it.
+//!
 //! # Speed
 //!
 //! `im_bench page` times the calls over leaves with keys of eight bytes, and its `peer/page.c` does the same work in
@@ -84,6 +90,7 @@ mod cells;
 mod form;
 mod header;
 mod insertion;
+mod leaf_edit;
 mod number;
 mod page;
 mod read_form;
@@ -91,5 +98,6 @@ mod removal;
 mod split;
 
 pub use header::Header;
+pub use leaf_edit::{LeafEdit, place_in};
 pub use page::{Full, Page};
 pub use split::HALF_PAGE;

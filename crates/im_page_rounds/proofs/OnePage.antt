@@ -8,7 +8,7 @@ use Rattle.im_base_types.specs.Records.{InsertKey, DeleteKey, Logged}
 use Rattle.im_theory_log.specs.Histories.{changes_page, page_after}
 use Rattle.im_theory_log.specs.WriterSteps.{applies}
 use Rattle.im_theory_page.specs.Entry.{Parts, Rises, entry_at}
-use Rattle.im_page_leaf.proofs.KeyLists.{put_at, without_at}
+use Rattle.im_page.proofs.KeyLists.{put_at, without_at}
 use Rattle.im_page_rounds.specs.OnePage.{PageChanges, PageRedone}
 
 -- an entry put at its place, without the mark and with the LSN: the page that the record makes

@@ -5,7 +5,7 @@ use Rattle.im_base_types.specs.Records.{Logged, What, InsertKey, DeleteKey, Undo
 use Rattle.im_theory_log.specs.Histories.{changes_page, page_after}
 use Rattle.im_theory_log.specs.Copies.{redo_one}
 use Rattle.im_theory_log.specs.WriterSteps.{applies}
-use Rattle.im_page_leaf.specs.LeafChange.{CanPutKey, CanTakeKey}
+use Rattle.im_page.specs.LeafChange.{CanPutKey, CanTakeKey}
 
 -- a page takes a record: a key to be put is lacking and has room in the leaf, one to be taken out is there; an image is always taken
 abbrev pub PageTakes : What → Page → Type 0

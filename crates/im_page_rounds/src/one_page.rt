@@ -8,15 +8,14 @@ ghost use Rattle.im_log_record.specs.Spelling.{IsEntry};
 ghost use Rattle.im_log.specs.Spelled.{logged_at};
 ghost use Rattle.im_log.specs.Whats.{what_of};
 ghost use Rattle.im_page_file.specs.PageCopy.{after_in};
-ghost use Rattle.im_page_leaf.specs.LeafChange.{HasPlaceFor, HasKeyAt};
-ghost use Rattle.im_page_leaf.specs.LeafEdits.{edit_of, HasPlace, MayEdit};
+ghost use Rattle.im_page.specs.LeafChange.{HasPlaceFor, HasKeyAt};
+ghost use Rattle.im_page.specs.LeafEdits.{edit_of, HasPlace, MayEdit};
 ghost use Rattle.im_page_rounds.specs.OnePage.{PageChanges, PageRedone, PageRefuses, PageTakes};
 
 use im_base_types::{Fault, Lsn};
 use im_log_record::Record;
-use im_page::Page;
+use im_page::{LeafEdit, Page, place_in};
 use im_page_file::read_after;
-use im_page_leaf::{LeafEdit, place_in};
 
 // Puts a key at its place in a leaf, by the record at an LSN. A change of entries clears the mark of a structure change.
 fn put_key(page: &mut Page, i: usize, key: &[u8], rid: u64, lsn: Lsn)

@@ -9,10 +9,10 @@ use Rattle.im_theory_page.specs.Page as pages
 use Rattle.im_theory_page.specs.Header.{initial}
 use Rattle.im_page_pool.specs.declared.frame.Frame.{Frame}
 use Rattle.im_page_pool.specs.Pool.{Held, PoolView, IsAt, page_at, Sets}
-use Rattle.im_page_leaf.specs.declared.leaf_edit.LeafEdit.{LeafEdit}
-use Rattle.im_page_leaf.specs.declared.leaf_edit.LeafEdit.TheVariants.{Put, Take}
-use Rattle.im_page_leaf.specs.LeafChange.{LeafTakes}
-use Rattle.im_page_leaf.specs.LeafEdits.{edit_of, MayEdit}
+use Rattle.im_page.specs.declared.leaf_edit.LeafEdit.{LeafEdit}
+use Rattle.im_page.specs.declared.leaf_edit.LeafEdit.TheVariants.{Put, Take}
+use Rattle.im_page.specs.LeafChange.{LeafTakes}
+use Rattle.im_page.specs.LeafEdits.{edit_of, MayEdit}
 
 -- the page that was set
 pub set_page : (frame : Frame) (page : Page) (mark : Bool) (old new : PoolView) → Sets frame page mark old new → page_at new frame.number ≡ page

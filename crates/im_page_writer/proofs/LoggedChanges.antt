@@ -12,7 +12,7 @@ use Rattle.im_log_record.specs.Entry.{view}
 use Rattle.im_theory_page.specs.Page.{page_of}
 use Rattle.im_log.specs.Whats.{image_of, page_behind, smo_of, undo_smo_of, what_of}
 use Rattle.im_page_pool.specs.Pool.{Held}
-use Rattle.im_page_leaf.specs.LeafChange.{LeafTakes}
+use Rattle.im_page.specs.LeafChange.{LeafTakes}
 use Rattle.im_page_flush.specs.Writing.{IsShown}
 
 pub at_held : (o : Option Held) (place : ℕ) → option_map (λ h. h.place) o ≡ Some place → is_some o ≡ true

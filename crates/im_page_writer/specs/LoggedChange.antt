@@ -17,7 +17,7 @@ use Rattle.im_page_writer.specs.declared.page_writer.PageWriter.{PageWriter}
 use Rattle.im_page_table.specs.KnownCopies.{changed_as}
 use Rattle.im_page_file.specs.Stands.{LeavesCovered}
 use Rattle.im_page_table.specs.Growth.{Keeps}
-use Rattle.im_page_leaf.specs.LeafChange.{LeafTakes}
+use Rattle.im_page.specs.LeafChange.{LeafTakes}
 use Rattle.im_page_flush.specs.Writing.{LeavesGrown}
 use Rattle.im_page_writer.specs.PageWriter.{StandsAs, Evicted, StaysOn}
 

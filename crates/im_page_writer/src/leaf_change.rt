@@ -3,11 +3,11 @@ ghost use Rattle.std.specs.Prelude.{true};
 ghost use Rattle.im_base_types.specs.Records.{InsertKey, DeleteKey};
 ghost use Rattle.im_theory_log.specs.Histories.{page_after};
 ghost use Rattle.im_page_pool.specs.Pool.{IsAt, Sets, page_at};
-ghost use Rattle.im_page_leaf.specs.LeafChange.{HasPlaceFor, HasKeyAt};
-ghost use Rattle.im_page_leaf.specs.LeafEdits.{edit_of, HasPlace};
+ghost use Rattle.im_page.specs.LeafChange.{HasPlaceFor, HasKeyAt};
+ghost use Rattle.im_page.specs.LeafEdits.{edit_of, HasPlace};
 
 use im_base_types::Lsn;
-use im_page_leaf::LeafEdit;
+use im_page::LeafEdit;
 use im_page_pool::{Frame, Pool};
 
 // Puts a key at its place in a held leaf, by the record at an LSN. A change of entries clears the mark of a structure change.

@@ -5,7 +5,7 @@ ghost use Rattle.im_log_record.specs.Entry.{view};
 ghost use Rattle.im_log_record.specs.Spelling.{IsEntry};
 ghost use Rattle.im_log.specs.Whats.{what_of};
 ghost use Rattle.im_page_pool.specs.Pool.{IsAt, Sets, page_at};
-ghost use Rattle.im_page_leaf.specs.LeafEdits.{edit_of, MayEdit};
+ghost use Rattle.im_page.specs.LeafEdits.{edit_of, MayEdit};
 ghost use Rattle.im_page_file.specs.PageCopy.{after_in};
 ghost use Rattle.im_page_writer.specs.Redoing.{AppliedTo};
 ghost use Rattle.im_page_rounds.specs.OnePage.{PageTakes};
@@ -13,9 +13,8 @@ ghost use Rattle.im_page_rounds.specs.OnePage.{PageTakes};
 use crate::leaf_change::edit_key;
 use im_base_types::{Fault, Lsn};
 use im_log_record::Record;
-use im_page::Page;
+use im_page::{LeafEdit, Page, place_in};
 use im_page_file::read_after;
-use im_page_leaf::{LeafEdit, place_in};
 use im_page_pool::{Frame, Pool};
 
 // A key is put into a leaf, or taken out. Refused `NotAStore` where it does not take that.

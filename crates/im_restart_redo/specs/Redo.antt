@@ -13,7 +13,7 @@ use Rattle.im_theory_log.specs.WriterSteps.{page_or}
 use Rattle.im_base_disk.specs.declared.disk.Disk.{Ghosts}
 use Rattle.im_page_writer.specs.declared.page_writer.PageWriter.{PageWriter}
 use Rattle.im_page_file.specs.Stands.{LeavesCovered}
-use Rattle.im_page_leaf.specs.LeafChange.{CanPutKey, CanTakeKey}
+use Rattle.im_page.specs.LeafChange.{CanPutKey, CanTakeKey}
 use Rattle.im_page_writer.specs.PageWriter.{StandsAs}
 use Rattle.im_page_writer.specs.Outcome.{IsSound}
 use Rattle.im_page_rounds.specs.OnePage.{PageTakes}

@@ -21,7 +21,7 @@ use Rattle.im_log.specs.Spelled.{logged_at}
 use Rattle.im_log.specs.Whats.{what_of}
 use Rattle.im_log.proofs.Above.{front_then}
 use Rattle.im_page_writer.specs.declared.page_writer.PageWriter.{PageWriter}
-use Rattle.im_page_leaf.specs.LeafChange.{CanPutKey, CanTakeKey}
+use Rattle.im_page.specs.LeafChange.{CanPutKey, CanTakeKey}
 use Rattle.im_page_writer.specs.LoggedChange.{ChangedFrom, ChangeKept}
 use Rattle.im_page_writer.specs.Outcome.{fault_of, no_page, Logs}
 use Rattle.im_page_writer.proofs.Outcomes.{sound_own}

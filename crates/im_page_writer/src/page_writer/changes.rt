@@ -10,7 +10,7 @@ use crate::leaf_change::edit_key;
 use im_base_disk::Disk;
 use im_base_types::{Fault, Lsn, PageNo};
 use im_log_record::Record;
-use im_page_leaf::{LeafEdit, place_in};
+use im_page::{LeafEdit, place_in};
 use im_page_pool::Frame;
 
 impl PageWriter {
@@ -22,7 +22,7 @@ impl PageWriter {
     ghost use Rattle.im_page_table.specs.DirtyTable.{entry_in};
     ghost use Rattle.im_page_table.specs.KnownCopies.{IsAtOrAfter};
     ghost use Rattle.im_page_writer.specs.PageWriter.{IsReadyWriter, StandsAs};
-    ghost use Rattle.im_page_leaf.specs.LeafEdits.{edit_of, HasPlace};
+    ghost use Rattle.im_page.specs.LeafEdits.{edit_of, HasPlace};
     ghost use Rattle.im_page_writer.specs.Outcome.{fault_of, no_page, AreLoadedTo, Logs, Outcome};
     ghost use Rattle.im_page_writer.specs.LoggedChange.{IsLike, LoggedKept, ChangeKept};
 

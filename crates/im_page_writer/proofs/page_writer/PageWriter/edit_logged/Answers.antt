@@ -8,7 +8,7 @@ use Rattle.im_log.specs.Whats.{what_of}
 use Rattle.im_page_pool.specs.Pool.{held_of, Sets}
 use Rattle.im_page_table.specs.KnownCopies.{changed_as, IsAtOrAfter}
 use Rattle.im_page_writer.specs.Synced.{IsKnown}
-use Rattle.im_page_leaf.specs.LeafEdits.{edit_of}
+use Rattle.im_page.specs.LeafEdits.{edit_of}
 use Rattle.im_page_table.proofs.DurableCopies.{durable_changed}
 use Rattle.im_page_writer.proofs.SyncedPages.{known_first}
 use Rattle.im_page_file.proofs.Standing.{log_stops}

@@ -2,7 +2,7 @@ use Rattle.std.proofs.Common.{ℕ, ap, subst, sym, ◌∙◌, rules, refl}
 use Rattle.im_base_types.specs.Pages.{Page}
 use Rattle.im_theory_page.specs.Header.{initial}
 use Rattle.im_page_pool.specs.Pool.{held_of}
-use Rattle.im_page_leaf.specs.LeafEdits.{MayEdit}
+use Rattle.im_page.specs.LeafEdits.{MayEdit}
 use Rattle.im_page_table.proofs.Growing.{if_ok}
 use Rattle.im_page_flush.proofs.Goings.{covered_last, leaves_last, leaves_so_far}
 use Rattle.im_page_writer.proofs.LeafChanges.{may_edit}

@@ -3,9 +3,9 @@ use Rattle.std.specs.Prelude.{ℕ}
 use Rattle.im_base_types.specs.Keys.{Key}
 use Rattle.im_base_types.specs.Pages.{Page}
 use Rattle.im_base_types.specs.Records.{What, InsertKey, DeleteKey}
-use Rattle.im_page_leaf.specs.declared.leaf_edit.LeafEdit.{LeafEdit}
-use Rattle.im_page_leaf.specs.declared.leaf_edit.LeafEdit.TheVariants.{Put, Take}
-use Rattle.im_page_leaf.specs.LeafChange.{HasPlaceFor, HasKeyAt, CanPutKey, CanTakeKey}
+use Rattle.im_page.specs.declared.leaf_edit.LeafEdit.{LeafEdit}
+use Rattle.im_page.specs.declared.leaf_edit.LeafEdit.TheVariants.{Put, Take}
+use Rattle.im_page.specs.LeafChange.{HasPlaceFor, HasKeyAt, CanPutKey, CanTakeKey}
 
 -- what a record of it does to its page
 abbrev pub edit_of : LeafEdit → Key → ℕ → What

@@ -1,7 +1,7 @@
 use Rattle.std.proofs.Common.{◌≡◌, None, Some, refl, sym, ◌∙◌}
 use Rattle.im_theory_page.specs.Entry.{entry_at}
-use Rattle.im_page_leaf.proofs.KeyLists.{found_at}
-use Rattle.im_page_leaf.proofs.leaf_edit.place_for.Goals as goal
+use Rattle.im_page.proofs.KeyLists.{found_at}
+use Rattle.im_page.proofs.leaf_edit.place_for.Goals as goal
 
 pub returns-in-Ok-clause-refused : goal.returns-in-Ok-clause-refused
 returns-in-Ok-clause-refused c = (

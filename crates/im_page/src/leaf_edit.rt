@@ -1,11 +1,11 @@
 //! A key that is put into a leaf or taken out: whether the leaf takes that, and where.
 ghost use Rattle.std.specs.Prelude.{◌≡◌, IfErr, IfOk};
 ghost use Rattle.im_base_types.specs.declared.fault.Fault.TheVariants.{NotAStore};
-ghost use Rattle.im_page_leaf.specs.LeafChange.{HasPlaceFor, HasKeyAt, CanPutKey, CanTakeKey};
-ghost use Rattle.im_page_leaf.specs.LeafEdits.{HasPlace, MayEdit};
+ghost use Rattle.im_page.specs.LeafChange.{HasPlaceFor, HasKeyAt, CanPutKey, CanTakeKey};
+ghost use Rattle.im_page.specs.LeafEdits.{HasPlace, MayEdit};
 
+use crate::page::Page;
 use im_base_types::{Fault, LONGEST_KEY, PageKind};
-use im_page::Page;
 
 /// What a record does with a key of a leaf: it is put in, or taken out.
 #[derive(Clone, Copy)]

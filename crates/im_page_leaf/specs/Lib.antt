@@ -1,2 +1,0 @@
-pub mod LeafChange
-pub mod LeafEdits
