@@ -2,7 +2,7 @@
 use Rattle.std.proofs.Common.{◌≡◌, ◌≢◌, ℕ, suc, Bool, true, false, cond, ◌==◌, List, [], ◌∷◌, length, slice_set, Option, Some, None, IsSome, option_map, refl, ap, ◌∙◌, arith, get_or-set_other}
 use Rattle.std.proofs.lemmas.Bool.Decides.{nat_tests}
 use Rattle.std.specs.Map.{keys_of, values_of, lookup, remove_entry}
-use Rattle.im_page_places.specs.Places.{times}
+use Rattle.im_page_pool.specs.Places.{times}
 use Rattle.im_page_pool.specs.Frames.{Stored, no_page}
 use Rattle.im_page_pool.specs.Inside.{held_at, held_in}
 use Rattle.im_page_pool.specs.Pool.{Held}

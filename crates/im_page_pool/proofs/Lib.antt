@@ -2,3 +2,8 @@ pub mod HeldLemmas
 pub mod PageFileLemmas
 pub mod PoolLemmas
 pub mod WalkLemmas
+pub mod EntryLemmas
+pub mod GuessLemmas
+pub mod NumberLemmas
+pub mod PlaceLemmas
+pub mod UseLemmas

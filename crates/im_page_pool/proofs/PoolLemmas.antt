@@ -10,12 +10,12 @@ use Rattle.im_base_types.specs.Pages.{Page}
 use Rattle.im_theory_page.specs.Header.{initial}
 use Rattle.im_theory_page.specs.PageFile.{file_page}
 use Rattle.im_page_pool.specs.Frames.{Stored, no_page, stored_at}
-use Rattle.im_page_places.specs.Places.{PlacesView, times, frame_count}
+use Rattle.im_page_pool.specs.Places.{PlacesView, times, frame_count}
 use Rattle.im_page_pool.specs.Inside.{held_at, held_in, IsWhole}
 use Rattle.im_page_pool.specs.Pool.{Held, PoolView, held_of, Holds, IsAt, page_at, is_changed, page_seen, Sets, Takes, MovesFirst, Evicts}
 use Rattle.im_page_pool.specs.declared.frame.Frame.{Frame}
-use Rattle.im_page_places.proofs.PlaceLemmas.{length_remove_entry, length_promoted, times_push}
-use Rattle.im_page_places.proofs.EntryLemmas.{entry_found, itself, differ, lookup_others, lookup_nowhere, nowhere_from_none, times_removed, place_within, places_differ, free_within, free_not_taken, last_none, last_found}
+use Rattle.im_page_pool.proofs.PlaceLemmas.{length_remove_entry, length_promoted, times_push}
+use Rattle.im_page_pool.proofs.EntryLemmas.{entry_found, itself, differ, lookup_others, lookup_nowhere, nowhere_from_none, times_removed, place_within, places_differ, free_within, free_not_taken, last_none, last_found}
 use Rattle.im_page_pool.proofs.HeldLemmas.{keys_held, length_held, some_at, none_at, lookup_held, remove_held, held_same, held_at_other}
 
 -- the pool that has these inside

@@ -2,7 +2,7 @@
 use Rattle.std.specs.Prelude.{◌≡◌, ℕ, List, [], ◌∷◌, map, length, Option, Some, None, if◌then◌else◌}
 use Rattle.std.specs.Option.{option_map_or}
 use Rattle.im_page_pool.specs.Frames.{Stored, stored_at}
-use Rattle.im_page_places.specs.Places.{PlacesView, frame_count, AreApart}
+use Rattle.im_page_pool.specs.Places.{PlacesView, frame_count, AreApart}
 use Rattle.im_page_pool.specs.Pool.{Held}
 
 -- what is held in the frame at a place

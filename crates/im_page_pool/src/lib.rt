@@ -1,4 +1,4 @@
-//! What is the page of a number?
+//! What is the page of a number, and in which frame does it stand?
 //!
 //! A bounded pool of pages: each held page stands in a frame, and any other is read when it is wanted.
 //!
@@ -27,6 +27,17 @@
 //! The caller makes room: `get` and its kin ask for a free frame, or for a page that is held. `oldest` and
 //! `oldest_changed` say which page to evict or to write.
 //!
+//! # Frames by use
+//!
+//! Which page stands in which frame, `Places` knows. It is seen as two lists (`PlacesView`): the number of each held page with the place
+//! of its frame, the most recently used first, and the free frames. `Places` finds a page's frame, makes it the most recently used, names
+//! the least recently used, takes a free frame for a page, and gives one back. It knows nothing of what is in a frame. That each place
+//! stands once in the two lists (`AreApart`) is so at first, and the pool's to keep.
+//!
+//! All places are in the order of use from the start, in the list of `lru`, and a map with room for one more than twice as many numbers
+//! finds the place of a page (`numbers`). Mostly a guess has found it before (`guesses`), so that a page get is one look-up, in the
+//! order of use.
+//!
 //! # Memory
 //!
 //! `new` takes the memory of all frames, and of what finds them. No other call takes any, so that no other call is refused `Memory`.
@@ -42,13 +53,16 @@
 //! Each call of `get` or of `get_absent` adds one to the pool's `gets`, whether it succeeds or not, and each of `get_held` that finds
 //! its page. That number has no bytes (`Count` of `im_base_disk`): it stands in contracts alone.
 //!
-//! The crate stands on `im_page`, on `im_base_disk` and on `im_page_places`, which says which page stands in which frame. A place is an
-//! index of the vector of frames; the invariant says that each place stands once among those of the held pages and the free ones.
+//! The crate stands on `im_page` and on `im_base_disk`. A place is an index of the vector of frames; the invariant says that each place
+//! stands once among those of the held pages and the free ones.
 #![tactic(auto)]
 
 mod files;
 mod frame;
 mod frames;
+mod guesses;
+mod numbers;
+mod places;
 mod pool;
 
 pub use files::write_page;

@@ -18,10 +18,10 @@ ghost use Rattle.im_page_pool.specs.Inside.{last_marked, marked_numbers};
 use crate::files::write_page;
 use crate::frame::Frame;
 use crate::frames::Frames;
+use crate::places::Places;
 use im_base_disk::{Count, Disk};
 use im_base_types::{Fault, PageNo};
 use im_page::{Full, Page};
-use im_page_places::Places;
 use std::alloc::Global;
 use std::marker::Model;
 

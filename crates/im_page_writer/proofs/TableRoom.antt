@@ -11,8 +11,8 @@ use Rattle.im_theory_log.specs.Writer.{DirtyEntry, PageState, Writer, IsWritten}
 use Rattle.im_theory_log.specs.WriterSteps.{synced_page}
 use Rattle.im_page_pool.specs.declared.frame.Frame.{Frame}
 use Rattle.im_page_pool.specs.Pool.{Held, PoolView, frame_of, held_of, last_changed}
-use Rattle.im_page_places.proofs.PlaceLemmas.{length_remove_entry}
-use Rattle.im_page_places.proofs.EntryLemmas.{lookup_others}
+use Rattle.im_page_pool.proofs.PlaceLemmas.{length_remove_entry}
+use Rattle.im_page_pool.proofs.EntryLemmas.{lookup_others}
 use Rattle.im_page_table.specs.declared.table_entry.TableEntry.{TableEntry}
 use Rattle.im_page_table.specs.DirtyTable.{TableView, dirty_entry, entry_among, entry_in, oldest, AreApart, synced_among, HasEntries}
 use Rattle.im_page_writer.specs.declared.page_writer.PageWriter.{PageWriter}

@@ -1,9 +1,9 @@
 use Rattle.std.proofs.Common.{◌≡◌, ℕ, List, [], ◌∷◌, ◌++◌, Bool, cond, length, slice_get, Option, Some, sym, ap, subst, ◌∙◌}
 use Rattle.im_page_pool.specs.Inside.{last_marked}
-use Rattle.im_page_places.specs.Places.{taken_in}
-use Rattle.im_page_places.proofs.UseLemmas.{Uses, option_none, taken_push}
-use Rattle.im_page_places.proofs.NumberLemmas.{taken_passed}
-use Rattle.im_page_places.proofs.EntryLemmas.{in_front, at_end}
+use Rattle.im_page_pool.specs.Places.{taken_in}
+use Rattle.im_page_pool.proofs.UseLemmas.{Uses, option_none, taken_push}
+use Rattle.im_page_pool.proofs.NumberLemmas.{taken_passed}
+use Rattle.im_page_pool.proofs.EntryLemmas.{in_front, at_end}
 use Rattle.im_page_pool.proofs.WalkLemmas.{last_marked_push}
 use Rattle.im_page_pool.proofs.pool.last_changed.Goals as goal
 

@@ -1,6 +1,6 @@
 use Rattle.std.proofs.Common.{◌≡◌, ℕ, ◌<◌, Some, length, slice_get}
 use Rattle.im_page_pool.specs.Inside.{last_marked}
-use Rattle.im_page_places.specs.Places.{taken_in}
+use Rattle.im_page_pool.specs.Places.{taken_in}
 use Rattle.im_page_pool.proofs.pool.last_changed.Given as goal
 
 abbrev pub invariant-loop-place : goal.invariant-loop-place

@@ -1,9 +1,9 @@
 use Rattle.std.proofs.Common.{◌≡◌, ℕ, suc, ◌+◌, ◌-◌, ◌<◌, List, [], ◌∷◌, ◌++◌, Bool, cond, length, take, reverse, slice_get, Option, Some, refl, sym, ap, subst, ◌∙◌, arith, length-set}
 use Rattle.im_page_pool.specs.Inside.{marked_numbers}
-use Rattle.im_page_places.specs.Places.{taken_in}
-use Rattle.im_page_places.proofs.UseLemmas.{option_none, taken_push}
-use Rattle.im_page_places.proofs.NumberLemmas.{taken_passed}
-use Rattle.im_page_places.proofs.EntryLemmas.{in_front, at_end}
+use Rattle.im_page_pool.specs.Places.{taken_in}
+use Rattle.im_page_pool.proofs.UseLemmas.{option_none, taken_push}
+use Rattle.im_page_pool.proofs.NumberLemmas.{taken_passed}
+use Rattle.im_page_pool.proofs.EntryLemmas.{in_front, at_end}
 use Rattle.im_page_pool.proofs.WalkLemmas.{marked_start, marked_step, noted_more}
 use Rattle.im_page_pool.proofs.pool.note_changed.Goals as goal
 

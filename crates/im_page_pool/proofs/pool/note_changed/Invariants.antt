@@ -1,6 +1,6 @@
 use Rattle.std.proofs.Common.{◌≡◌, ℕ, ◌-◌, ◌<◌, ◌≤◌, ◌++◌, Some, length, take, reverse, slice_get}
 use Rattle.im_page_pool.specs.Inside.{marked_numbers}
-use Rattle.im_page_places.specs.Places.{taken_in}
+use Rattle.im_page_pool.specs.Places.{taken_in}
 use Rattle.im_page_pool.proofs.pool.note_changed.Given as goal
 
 abbrev pub invariant-loop-place : goal.invariant-loop-place

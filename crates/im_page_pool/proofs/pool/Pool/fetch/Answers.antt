@@ -1,6 +1,6 @@
 use Rattle.std.proofs.Common.{ℕ, List, ◌∷◌, false, length, sym, ap, subst, ◌∙◌, length-set}
 use Rattle.im_page_pool.specs.Frames.{Stored, stored_at}
-use Rattle.im_page_places.specs.Places.{PlacesView}
+use Rattle.im_page_pool.specs.Places.{PlacesView}
 use Rattle.im_page_pool.specs.declared.frame.Frame.{Frame}
 use Rattle.im_page_pool.specs.Pool.{Takes}
 use Rattle.im_page_pool.proofs.PoolLemmas.{seen_as, not_taken, free_left, next_within, same_but_frames, takes, takes_shown, whole_taken, at_any_err}

@@ -1,6 +1,6 @@
 use Rattle.std.proofs.Common.{ℕ, List, ◌∷◌, true, sym, ap, subst, ◌∙◌}
 use Rattle.im_page_pool.specs.Frames.{Stored, stored_at}
-use Rattle.im_page_places.specs.Places.{PlacesView}
+use Rattle.im_page_pool.specs.Places.{PlacesView}
 use Rattle.im_page_pool.specs.declared.frame.Frame.{Frame}
 use Rattle.im_page_pool.specs.Pool.{Takes}
 use Rattle.im_page_pool.proofs.PoolLemmas.{seen_as, not_taken, free_left, next_within, takes, takes_shown, whole_taken, whole_len}

@@ -1,7 +1,7 @@
 use Rattle.std.proofs.Common.{ℕ, Option, option_map, sym, ap, ◌∙◌, arith}
 use Rattle.im_page_pool.specs.Inside.{held_at}
 use Rattle.im_page_pool.specs.Pool.{PoolView, frame_of, last_changed}
-use Rattle.im_page_places.proofs.EntryLemmas.{found_there, place_within}
+use Rattle.im_page_pool.proofs.EntryLemmas.{found_there, place_within}
 use Rattle.im_page_pool.proofs.WalkLemmas.{last_held, marked_stands}
 use Rattle.im_page_pool.proofs.PoolLemmas.{is_at}
 use Rattle.im_page_pool.proofs.pool.Pool.oldest_changed.Goals as goal

@@ -1,6 +1,6 @@
 use Rattle.std.proofs.Common.{ℕ, List, length, take, reverse, sym, ap, ◌∙◌, arith}
 use Rattle.im_page_pool.specs.Pool.{PoolView, changed_numbers}
-use Rattle.im_page_places.proofs.EntryLemmas.{found_there, place_within}
+use Rattle.im_page_pool.proofs.EntryLemmas.{found_there, place_within}
 use Rattle.im_page_pool.proofs.WalkLemmas.{numbers_held}
 use Rattle.im_page_pool.proofs.pool.Pool.oldest_changes.Goals as goal
 

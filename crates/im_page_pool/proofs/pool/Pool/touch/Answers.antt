@@ -1,9 +1,9 @@
 use Rattle.std.proofs.Common.{◌≡◌, ℕ, List, true, false, Option, IsSome, option_map, refl, sym, ap, subst, ◌∙◌}
-use Rattle.im_page_places.specs.Places.{PlacesView}
+use Rattle.im_page_pool.specs.Places.{PlacesView}
 use Rattle.im_page_pool.specs.Inside.{IsWhole}
 use Rattle.im_page_pool.specs.Pool.{Held, Holds, MovesFirst}
 use Rattle.im_page_pool.proofs.PoolLemmas.{seen_as, whole_promoted, moves_first, not_held, found, is_at, the_places}
-use Rattle.im_page_places.proofs.PlaceLemmas.{promoted_none}
+use Rattle.im_page_pool.proofs.PlaceLemmas.{promoted_none}
 use Rattle.im_page_pool.proofs.pool.Pool.touch.Goals as goal
 
 pub invariant_of-self : goal.invariant_of-self

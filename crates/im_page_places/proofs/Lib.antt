@@ -1,5 +1,0 @@
-pub mod EntryLemmas
-pub mod GuessLemmas
-pub mod NumberLemmas
-pub mod PlaceLemmas
-pub mod UseLemmas
