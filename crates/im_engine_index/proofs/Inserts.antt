@@ -29,7 +29,7 @@ use Rattle.im_theory_tree.specs.Levels.{Pages, walk}
 use Rattle.im_theory_tree.specs.Search.{IsOnWay}
 use Rattle.im_tree_search.specs.Levels.{bodies, bodies_of}
 use Rattle.im_smo_pages.specs.Images.{Numbered}
-use Rattle.im_smo_alloc.specs.Seen.{seen}
+use Rattle.im_smo_pages.specs.Seen.{seen}
 use Rattle.im_smo_log.specs.Changes.{IsOfChange, GrowsByChange, HasRecordOf, MayChange, ChangeKept, LeavesChange, image_marks}
 use Rattle.im_smo_log.proofs.Runs.{marked_is}
 use Rattle.im_smo_split.specs.Kept.{mild_to_split}

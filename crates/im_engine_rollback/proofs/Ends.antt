@@ -4,7 +4,7 @@ use Rattle.std.specs.Prelude.{◌↔◌, not, is_ok, Result, Ok, Err, IsErrAnd, 
 use Rattle.im_base_types.specs.declared.fault.Fault.{Fault}
 use Rattle.im_base_types.specs.declared.fault.Fault.TheVariants.{Capacity, Device, Failed, LogFull, Memory, NotAStore}
 use Rattle.im_base_disk.specs.declared.disk.Disk.{Ghosts}
-use Rattle.im_smo_alloc.specs.Kept.{mild_to_take}
+use Rattle.im_smo_pages.specs.Kept.{mild_to_take}
 use Rattle.im_page_writer.specs.declared.page_writer.PageWriter.{PageWriter}
 use Rattle.im_page_writer.specs.PageWriter.{IsReadyWriter}
 use Rattle.im_page_writer.specs.Outcome.{fault_of, none_mild, Works, LogEnds, Logs}

@@ -26,9 +26,9 @@ use Rattle.im_tree_search.specs.declared.change_beside.Beside.{Beside}
 use Rattle.im_tree_search.specs.Levels.{bodies_of}
 use Rattle.im_smo_pages.specs.Images.{Numbered, IsRising, held}
 use Rattle.im_smo_pages.specs.OnWay.{IsApart}
+use Rattle.im_smo_pages.specs.Seen.{bodies}
 use Rattle.im_smo_split.specs.declared.split_plan.SplitPlan.{SplitPlan}
 use Rattle.im_smo_drop_leaf.specs.Emptied.{emptied}
-use Rattle.im_smo_alloc.specs.Seen.{bodies}
 use Rattle.im_smo_log.specs.Under.{IsUnderWay}
 use Rattle.im_smo_log.proofs.Coming.{changes_begin}
 use Rattle.im_smo_actions.specs.declared.planned_change.PlannedChange.{PlannedChange}

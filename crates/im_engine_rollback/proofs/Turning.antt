@@ -24,7 +24,7 @@ use Rattle.im_page_writer.proofs.Cited.{stands_on, goes_on_start, goes_on_then}
 use Rattle.im_theory_tree.specs.Theory.{page_tree}
 use Rattle.im_theory_tree.proofs.TheoryLaws.{page_tree_laws}
 use Rattle.im_restart_analysis.specs.declared.rows.Loser.{Loser}
-use Rattle.im_smo_alloc.specs.Kept.{mild_to_take}
+use Rattle.im_smo_pages.specs.Kept.{mild_to_take}
 use Rattle.im_restart_analysis.specs.Losers.{is_loser}
 use Rattle.im_restart_analysis.specs.Undo.{Ends, IsNext}
 use Rattle.im_engine_rollback.specs.Going.{IsNextAt}

@@ -23,7 +23,7 @@ use Rattle.im_tree_search.specs.declared.change_beside.Beside.{Beside}
 use Rattle.im_tree_search.specs.declared.sight.Sight.{Sight}
 use Rattle.im_tree_search.specs.declared.sight.Sight.TheVariants.{Seen, Hidden}
 use Rattle.im_tree_search.specs.Sights.{is_done}
-use Rattle.im_smo_alloc.specs.Kept.{mild_to_take}
+use Rattle.im_smo_pages.specs.Kept.{mild_to_take}
 use Rattle.im_smo_actions.specs.declared.planned_change.PlannedChange.{PlannedChange}
 use Rattle.im_smo_actions.specs.GoingBeside.{settled_pages}
 use Rattle.im_smo_actions.proofs.Changes.{never_failed}

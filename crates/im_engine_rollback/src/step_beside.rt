@@ -10,7 +10,7 @@ ghost use Rattle.im_log.specs.Whats.{what_of};
 ghost use Rattle.im_page_writer.specs.PageWriter.{IsReadyWriter};
 ghost use Rattle.im_page_writer.specs.Outcome.{fault_of, Logs};
 ghost use Rattle.im_tree_search.specs.declared.change_beside.Beside.{Beside};
-ghost use Rattle.im_smo_alloc.specs.Kept.{mild_to_take};
+ghost use Rattle.im_smo_pages.specs.Kept.{mild_to_take};
 ghost use Rattle.im_smo_actions.specs.GoingBeside.{settled_pages, IsToldOf};
 ghost use Rattle.im_restart_undo.specs.GoingBeside.{IsGoingBeside};
 ghost use Rattle.im_restart_undo.specs.Planning.{IsBack};

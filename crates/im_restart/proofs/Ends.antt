@@ -10,7 +10,7 @@ use Rattle.im_page_writer.specs.declared.page_writer.PageWriter.{PageWriter}
 use Rattle.im_page_writer.specs.PageWriter.{IsReadyWriter}
 use Rattle.im_page_writer.specs.Outcome.{Logs, LogEnds, Works, mild, none_mild, fault_of}
 use Rattle.im_page_file.proofs.LogEnds.{still_working}
-use Rattle.im_smo_alloc.specs.Kept.{mild_to_take}
+use Rattle.im_smo_pages.specs.Kept.{mild_to_take}
 use Rattle.im_restart_redo.specs.Recovery.{RecoveryEnds, Recovers}
 use Rattle.im_restart_redo.proofs.Recoveries.{unmoved}
 use Rattle.im_restart.specs.Restart.{IsFullLog}

@@ -4,7 +4,7 @@ use Rattle.im_base_types.specs.declared.fault.Fault.{Fault}
 use Rattle.im_base_types.specs.declared.fault.Fault.TheVariants.{Device, LogFull}
 use Rattle.im_base_disk.specs.declared.disk.Disk.{Ghosts}
 use Rattle.im_page_writer.specs.PageWriter.{IsReadyWriter}
-use Rattle.im_smo_alloc.specs.Kept.{mild_to_take}
+use Rattle.im_smo_pages.specs.Kept.{mild_to_take}
 use Rattle.im_restart.specs.declared.restarted.Restarted.{Restarted}
 use Rattle.im_restart.specs.Restart.{IsFullLog}
 

@@ -16,7 +16,7 @@ ghost use Rattle.im_restart_analysis.specs.Analysis.{IsAnalysis};
 ghost use Rattle.im_restart_analysis.specs.Changes.{changes_from};
 ghost use Rattle.im_restart_analysis.specs.Losers.{AreLosers};
 ghost use Rattle.im_restart_analysis.specs.OpenChange.{IsOpenChange};
-ghost use Rattle.im_smo_alloc.specs.Kept.{mild_to_take};
+ghost use Rattle.im_smo_pages.specs.Kept.{mild_to_take};
 ghost use Rattle.im_restart_redo.specs.Recovery.{Recovers};
 ghost use Rattle.im_restart_redo.specs.Redo.{AreApplicable};
 ghost use Rattle.im_page_writer.specs.Outcome.{fault_of};

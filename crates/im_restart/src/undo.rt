@@ -12,7 +12,7 @@ ghost use Rattle.im_log_record.specs.Spelling.{IsEntry};
 ghost use Rattle.im_log.specs.Whats.{what_of};
 ghost use Rattle.im_log.specs.Spelled.{logged_at};
 ghost use Rattle.im_restart_analysis.specs.Losers.{AreLosers};
-ghost use Rattle.im_smo_alloc.specs.Kept.{mild_to_take};
+ghost use Rattle.im_smo_pages.specs.Kept.{mild_to_take};
 ghost use Rattle.im_page_writer.specs.Outcome.{fault_of, mild};
 ghost use Rattle.im_page_writer.specs.PageWriter.{IsReadyWriter, StandsAs};
 ghost use Rattle.im_restart_redo.specs.Recovery.{Recovers};

@@ -21,7 +21,7 @@ use Rattle.im_page_table.specs.Growth.{Keeps}
 use Rattle.im_page_writer.specs.PageWriter.{GoesOn}
 use Rattle.im_page_writer.specs.Outcome.{no_page, pages_of, AreLoaded, Logs, Outcome}
 use Rattle.im_page_writer.proofs.Cited.{again_on, err_on, sound_also, sound_on}
-use Rattle.im_smo_alloc.specs.Kept.{mild_to_take}
+use Rattle.im_smo_pages.specs.Kept.{mild_to_take}
 use Rattle.im_smo_actions.proofs.Changes.{never_failed}
 use Rattle.im_theory_tree.specs.Levels.{Pages}
 use Rattle.im_tree_search.specs.Levels.{bodies}

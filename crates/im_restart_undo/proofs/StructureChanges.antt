@@ -17,7 +17,7 @@ use Rattle.im_theory_tree.specs.Search.{IsOnWay}
 use Rattle.im_theory_page.specs.Split.{HasRoom}
 use Rattle.im_tree_search.specs.Levels.{bodies, bodies_of}
 use Rattle.im_smo_pages.specs.Images.{Numbered, plan_of}
-use Rattle.im_smo_alloc.specs.Seen.{seen}
+use Rattle.im_smo_pages.specs.Seen.{seen}
 use Rattle.im_smo_split.specs.Plan.{Planned}
 use Rattle.im_restart_analysis.specs.declared.rows.Loser.{Loser}
 use Rattle.im_smo_log.specs.Changes.{LeavesChange, Begun, Changed, ChangeKept, MayChange, image_marks}

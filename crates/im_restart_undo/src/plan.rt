@@ -9,7 +9,7 @@ ghost use Rattle.im_log_record.specs.Spelling.{IsEntry};
 ghost use Rattle.im_log.specs.Whats.{what_of};
 ghost use Rattle.im_page_writer.specs.PageWriter.{IsReadyWriter};
 ghost use Rattle.im_page_writer.specs.Outcome.{fault_of, AllPages, AreLoaded, Outcome};
-ghost use Rattle.im_smo_alloc.specs.Kept.{mild_to_take, Plans};
+ghost use Rattle.im_smo_pages.specs.Kept.{mild_to_take, Plans};
 ghost use Rattle.im_tree_search.specs.declared.sight.Sight.TheVariants.{Seen, Hidden};
 ghost use Rattle.im_tree_search.specs.Levels.{bodies_of};
 ghost use Rattle.im_tree_search.specs.Sights.{is_done, IfSeen};

@@ -9,7 +9,7 @@ ghost use Rattle.im_log_record.specs.Spelling.{IsEntry};
 ghost use Rattle.im_log.specs.Whats.{what_of};
 ghost use Rattle.im_page_writer.specs.PageWriter.{IsReadyWriter};
 ghost use Rattle.im_page_writer.specs.Outcome.{fault_of, Logs};
-ghost use Rattle.im_smo_alloc.specs.Kept.{mild_to_take};
+ghost use Rattle.im_smo_pages.specs.Kept.{mild_to_take};
 ghost use Rattle.im_restart_undo.specs.Undoing.{IsGoing, IsToUndo, CompensateKept};
 
 use crate::logging::log_back;

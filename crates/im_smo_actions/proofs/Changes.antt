@@ -16,9 +16,9 @@ use Rattle.im_page_writer.proofs.Outcomes.{leaves_of_end}
 use Rattle.im_theory_tree.specs.Levels.{Pages, walk}
 use Rattle.im_theory_tree.specs.Good.{IsGoodTree}
 use Rattle.im_smo_pages.specs.Images.{Numbered}
+use Rattle.im_smo_pages.specs.Seen.{seen}
+use Rattle.im_smo_pages.specs.Kept.{Plans}
 use Rattle.im_tree_search.specs.Levels.{bodies, bodies_of}
-use Rattle.im_smo_alloc.specs.Seen.{seen}
-use Rattle.im_smo_alloc.specs.Kept.{Plans}
 use Rattle.im_smo_log.specs.Changes.{HasRecordOf, LeavesChange, Begun, MayChange, Changed, ChangeKept, image_marks}
 use Rattle.im_smo_log.proofs.Runs.{marked_is}
 use Rattle.im_smo_split.specs.Plan.{WantsPages}

@@ -10,7 +10,7 @@ use Rattle.im_page_writer.specs.declared.page_writer.PageWriter.{PageWriter}
 use Rattle.im_page_writer.specs.Outcome.{no_page, AllPages, AreLoaded, Ends, Reads}
 use Rattle.im_tree_search.specs.Found.{IsReached}
 use Rattle.im_smo_pages.specs.Images.{Numbered}
-use Rattle.im_smo_alloc.specs.Seen.{bodies}
+use Rattle.im_smo_pages.specs.Seen.{bodies}
 use Rattle.im_smo_drop_leaf.specs.Plan.{IsPlan}
 use Rattle.im_smo_actions.specs.DropPlan.{IsKept, IsSpare, IsDropPlan}
 

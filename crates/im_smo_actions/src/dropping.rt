@@ -8,8 +8,8 @@ ghost use Rattle.im_page_pool.specs.Pool.{page_at, IsAt};
 ghost use Rattle.im_page_writer.specs.PageWriter.{IsReadyWriter};
 ghost use Rattle.im_page_writer.specs.Outcome.{fault_of, mild, none_mild, AllPages, AreLoaded, HasPages, IsSound, Logs};
 ghost use Rattle.im_theory_tree.specs.Good.{IsGoodTree};
-ghost use Rattle.im_smo_alloc.specs.Seen.{bodies};
-ghost use Rattle.im_smo_alloc.specs.Kept.{Plans};
+ghost use Rattle.im_smo_pages.specs.Seen.{bodies};
+ghost use Rattle.im_smo_pages.specs.Kept.{Plans};
 ghost use Rattle.im_smo_actions.specs.DropPlan.{IsSpare, IsDropPlan};
 ghost use Rattle.im_smo_actions.specs.Structure.{IsUnfinished, SpareKept, DropKept};
 

@@ -5,8 +5,8 @@ ghost use Rattle.im_base_types.specs.declared.fault.Fault.TheVariants.{Memory};
 ghost use Rattle.im_page_writer.specs.PageWriter.{IsReadyWriter};
 ghost use Rattle.im_page_writer.specs.Outcome.{fault_of, AllPages, AreLoaded, HasPages, IsSound, Reads};
 ghost use Rattle.im_smo_pages.specs.Images.{IsRising};
-ghost use Rattle.im_smo_alloc.specs.Kept.{Plans};
-ghost use Rattle.im_smo_alloc.specs.Seen.{bodies};
+ghost use Rattle.im_smo_pages.specs.Kept.{Plans};
+ghost use Rattle.im_smo_pages.specs.Seen.{bodies};
 ghost use Rattle.im_smo_log.specs.Changes.{AreCounted};
 ghost use Rattle.im_smo_log.specs.ChangePages.{numbers_of};
 

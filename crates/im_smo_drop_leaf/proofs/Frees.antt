@@ -17,9 +17,9 @@ use Rattle.im_theory_tree.proofs.Cited.{times-append, relisted}
 use Rattle.im_smo_pages.specs.Bodies.{meta_with_first}
 use Rattle.im_smo_pages.specs.Changed.{SamePages, free_given_pages}
 use Rattle.im_smo_pages.specs.Images.{Numbered, image_of}
+use Rattle.im_smo_pages.specs.Seen.{seen, GivesPage}
+use Rattle.im_smo_pages.specs.Kept.{HasImages, Plans}
 use Rattle.im_smo_pages.proofs.Updates.{at_here}
-use Rattle.im_smo_alloc.specs.Seen.{seen, GivesPage}
-use Rattle.im_smo_alloc.specs.Kept.{HasImages, Plans}
 use Rattle.im_smo_drop_leaf.specs.Given.{IsGiven}
 
 -- the last page of a list in front of it

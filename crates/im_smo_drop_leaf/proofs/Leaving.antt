@@ -14,14 +14,14 @@ use Rattle.im_theory_tree.specs.Steps.{DropsChain, FromEntry, FromLeftmost, From
 use Rattle.im_theory_tree.specs.KeyDeletions.{HasNone, chain_down, leaf_down}
 use Rattle.im_theory_tree.proofs.Cited.{way_inner, drop_entry, drop_leftmost, drop_all}
 use Rattle.im_smo_pages.specs.Bodies.{says, with_prev, with_next, without_entry, without_leftmost}
-use Rattle.im_theory_page.specs.Header.{leaf_body}
 use Rattle.im_smo_pages.specs.Changed.{SamePages, linked_prev, linked_next, unlinked_pages}
 use Rattle.im_smo_pages.specs.Images.{Numbered, IsRising, put_image, without_image}
+use Rattle.im_smo_pages.specs.Seen.{seen, page_in}
 use Rattle.im_smo_pages.proofs.Beside.{beside, place_on_way}
 use Rattle.im_smo_pages.proofs.DropSteps.{entry_step, leftmost_step, root_step}
 use Rattle.im_smo_pages.proofs.Updates.{at_other, next_tree}
-use Rattle.im_smo_alloc.specs.Seen.{seen, page_in}
-use Rattle.im_smo_alloc.proofs.Seeing.{page_says, put_back}
+use Rattle.im_smo_pages.proofs.Seeing.{page_says, put_back}
+use Rattle.im_theory_page.specs.Header.{leaf_body}
 use Rattle.im_tree_search.specs.declared.child_place.ChildPlace.{ChildPlace}
 use Rattle.im_tree_search.specs.declared.child_place.ChildPlace.TheVariants.{Entry, Leftmost, Only}
 use Rattle.im_smo_drop_leaf.specs.declared.beside.Side.{Side}

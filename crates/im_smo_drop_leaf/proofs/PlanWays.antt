@@ -16,8 +16,8 @@ use Rattle.im_theory_tree.specs.Ways.{KeepsWays}
 use Rattle.im_smo_pages.specs.Bodies.{meta_with_first}
 use Rattle.im_smo_pages.specs.Images.{Numbered, held}
 use Rattle.im_smo_pages.specs.OnWay.{IsApart}
+use Rattle.im_smo_pages.specs.Seen.{bodies}
 use Rattle.im_smo_pages.proofs.PlanWays.{apart_page}
-use Rattle.im_smo_alloc.specs.Seen.{bodies}
 use Rattle.im_smo_drop_leaf.specs.Given.{given_pages}
 use Rattle.im_smo_drop_leaf.specs.Plan.{DeletesChain, DeletionPlansKeepWays}
 

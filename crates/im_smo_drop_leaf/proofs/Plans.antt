@@ -10,7 +10,7 @@ use Rattle.im_theory_tree.specs.Steps.{DropsChain}
 use Rattle.im_theory_tree.proofs.LookupLemmas.{way_inner}
 use Rattle.im_smo_pages.specs.Images.{Numbered}
 use Rattle.im_smo_pages.specs.Changed.{SamePages}
-use Rattle.im_smo_alloc.specs.Seen.{bodies, seen}
+use Rattle.im_smo_pages.specs.Seen.{bodies, seen}
 use Rattle.im_tree_search.specs.Levels.{HasLevel}
 use Rattle.im_tree_search.specs.declared.child_place.ChildPlace.{ChildPlace}
 use Rattle.im_tree_search.specs.Children.{StandsAt}

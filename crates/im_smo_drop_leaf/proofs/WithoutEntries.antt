@@ -17,9 +17,9 @@ use Rattle.im_theory_tree.specs.Ways.{with_leaf}
 use Rattle.im_theory_tree.proofs.Cited.{leaf_change, way_inner, changes_leaf, way_begins}
 use Rattle.im_smo_pages.specs.Bodies.{says}
 use Rattle.im_smo_pages.specs.Images.{Numbered, image_of, put_image, without_image}
+use Rattle.im_smo_pages.specs.Seen.{bodies, seen, page_in}
 use Rattle.im_smo_pages.proofs.ImageLemmas.{applied_image, body_or}
-use Rattle.im_smo_alloc.specs.Seen.{bodies, seen, page_in}
-use Rattle.im_smo_alloc.proofs.Seeing.{put_back}
+use Rattle.im_smo_pages.proofs.Seeing.{put_back}
 use Rattle.im_tree_search.specs.Levels.{HasLevel, kind_at}
 use Rattle.im_tree_search.proofs.Steps.{way_level}
 use Rattle.im_smo_drop_leaf.specs.declared.beside.Beside.{Beside}

@@ -6,7 +6,7 @@ use Rattle.im_theory_tree.specs.Levels.{Pages, walk}
 use Rattle.im_theory_tree.specs.Good.{IsGoodTree}
 use Rattle.im_smo_pages.specs.Images.{Numbered}
 use Rattle.im_smo_pages.specs.Changed.{SamePages, free_given_pages}
-use Rattle.im_smo_alloc.specs.Seen.{seen}
+use Rattle.im_smo_pages.specs.Seen.{seen}
 
 -- these pages are given back, the last one first
 abbrev pub given_pages : Pages → List ℕ → Pages

@@ -9,7 +9,7 @@ use Rattle.im_theory_tree.specs.Ways.{KeepsWays}
 use Rattle.im_smo_pages.specs.Images.{Numbered}
 use Rattle.im_smo_pages.specs.Changed.{SamePages}
 use Rattle.im_smo_pages.specs.OnWay.{IsApart}
-use Rattle.im_smo_alloc.specs.Seen.{bodies, seen}
+use Rattle.im_smo_pages.specs.Seen.{bodies, seen}
 use Rattle.im_smo_drop_leaf.specs.Given.{given_pages}
 
 -- The chain of pages without entries that page p ends leaves the tree, and its pages are given back, page p first and then upward.

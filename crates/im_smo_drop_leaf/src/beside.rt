@@ -5,7 +5,7 @@ ghost use Rattle.im_base_types.specs.declared.fault.Fault.TheVariants.{NotAStore
 ghost use Rattle.im_page_writer.specs.PageWriter.{IsReadyWriter};
 ghost use Rattle.im_page_writer.specs.Outcome.{fault_of, AllPages, AreLoaded, HasPages, IsSound, Reads};
 ghost use Rattle.im_tree_search.specs.Levels.{HasLevel};
-ghost use Rattle.im_smo_alloc.specs.Seen.{bodies};
+ghost use Rattle.im_smo_pages.specs.Seen.{bodies};
 ghost use Rattle.im_smo_drop_leaf.specs.Chains.{IsBeside};
 
 use im_base_disk::Disk;

@@ -9,8 +9,8 @@ ghost use Rattle.im_page_writer.specs.Outcome.{fault_of, AllPages, AreLoaded, Ha
 ghost use Rattle.im_smo_pages.specs.Bodies.{says};
 ghost use Rattle.im_smo_pages.specs.Changed.{SamePages, unlinked_pages};
 ghost use Rattle.im_smo_pages.specs.Images.{put_image};
-ghost use Rattle.im_smo_alloc.specs.Seen.{seen};
-ghost use Rattle.im_smo_alloc.specs.Kept.{Plans};
+ghost use Rattle.im_smo_pages.specs.Seen.{seen};
+ghost use Rattle.im_smo_pages.specs.Kept.{Plans};
 ghost use Rattle.im_tree_search.specs.Children.{StandsAt};
 ghost use Rattle.im_smo_drop_leaf.specs.Chains.{without_child, with_link, linked, out_of_tree, AreLeavesBeside};
 
@@ -20,8 +20,7 @@ use im_base_disk::Disk;
 use im_base_types::{Fault, PageNo};
 use im_page::Page;
 use im_page_writer::PageWriter;
-use im_smo_alloc::image;
-use im_smo_pages::{Images, drop_entry, drop_leftmost, empty_root, link_next, link_prev};
+use im_smo_pages::{Images, drop_entry, drop_leftmost, empty_root, image, link_next, link_prev};
 use im_tree_search::ChildPlace;
 use std::alloc::Global;
 

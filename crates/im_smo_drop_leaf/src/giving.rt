@@ -3,14 +3,13 @@
 ghost use Rattle.std.specs.Prelude.{◌≡◌, [], ◌∷◌, ◌++◌, false};
 ghost use Rattle.im_page_writer.specs.PageWriter.{IsReadyWriter};
 ghost use Rattle.im_page_writer.specs.Outcome.{fault_of, AllPages, IsSound};
-ghost use Rattle.im_smo_alloc.specs.Kept.{HasImages, Plans};
+ghost use Rattle.im_smo_pages.specs.Kept.{HasImages, Plans};
 ghost use Rattle.im_smo_drop_leaf.specs.Given.{IsGiven};
 
 use im_base_disk::Disk;
 use im_base_types::{Fault, PageNo};
 use im_page_writer::PageWriter;
-use im_smo_alloc::free;
-use im_smo_pages::Images;
+use im_smo_pages::{Images, free};
 use std::alloc::Global;
 
 /// Gives the pages of a chain back, the leaf at its end first and then the others, from the last to the first.

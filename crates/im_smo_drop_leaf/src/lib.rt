@@ -20,8 +20,8 @@
 //! they are given back, is said too (`DeletesChain`). A key has one leaf, so the leaf that the pass down finds is the one of
 //! which the contract speaks.
 //!
-//! It stands on `im_tree_search` for the way down (`level_of`, `child_of`), on `im_smo_alloc` for images and for pages that are given back, on
-//! `im_smo_pages` for what a deletion makes of pages, and on `im_theory_tree` for the laws of a deletion.
+//! It stands on `im_tree_search` for the way down (`level_of`, `child_of`), on `im_smo_pages` for images, for pages that are given back and
+//! for what a deletion makes of pages, and on `im_theory_tree` for the laws of a deletion.
 #![tactic(auto)]
 
 mod beside;

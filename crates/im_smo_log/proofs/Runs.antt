@@ -32,9 +32,9 @@ use Rattle.im_theory_tree.specs.Theory.{page_tree}
 use Rattle.im_theory_tree.specs.Plans.{applied}
 use Rattle.im_smo_pages.specs.Images.{Numbered, IsAbove, IsRising, image_of, image_at, plan_of}
 use Rattle.im_smo_pages.specs.Changed.{SamePages}
+use Rattle.im_smo_pages.specs.Seen.{bodies, seen}
 use Rattle.im_smo_pages.proofs.ImageLemmas.{body_or, applied_image, rising_tail}
 use Rattle.im_smo_pages.proofs.Updates.{at_other}
-use Rattle.im_smo_alloc.specs.Seen.{bodies, seen}
 use Rattle.im_smo_log.specs.Logged.{smo_at, dummy_at, PageLogged}
 use Rattle.im_smo_log.specs.Changes.{IsOfChange, GrowsByChange, HasRecordOf, with_mark, marks, image_marks, AreCounted, IsOpenBelow, LeftByChange, LeavesChange, MayChange, PagesLogged, Begun, Changed}
 use Rattle.im_smo_log.proofs.ChangeLogs.{grows_images, images_lawful, images_under_way, smo_under_way}

@@ -21,7 +21,7 @@ use Rattle.im_theory_tree.specs.Good.{AllOf, IsGoodTree}
 use Rattle.im_theory_tree.specs.Theory.{page_tree}
 use Rattle.im_smo_pages.specs.Images.{Numbered, image_at}
 use Rattle.im_smo_pages.specs.Changed.{SamePages}
-use Rattle.im_smo_alloc.specs.Seen.{bodies, seen}
+use Rattle.im_smo_pages.specs.Seen.{bodies, seen}
 
 -- ---- logs
 

@@ -14,3 +14,7 @@ pub mod Becoming
 pub mod GoingDown
 pub mod KeepingTrees
 pub mod PlanWays
+pub mod Results
+pub mod Seeing
+pub mod Taking
+pub mod Goings

@@ -4,3 +4,5 @@ pub mod Images
 pub mod Changed
 pub mod OnImages
 pub mod OnWay
+pub mod Seen
+pub mod Kept

@@ -1,7 +1,7 @@
-//! What do splits, deletions and allocations make of page images?
+//! What do splits, deletions and allocations make of page images, and which pages do they take and give back?
 //!
-//! Structure changes, page by page: what the pages say that a split, a deletion or an allocation leaves. Nothing here reads
-//! a disk or writes a log: all pages of a structure change are made before its first record is.
+//! Structure changes, page by page: what the pages say that a split, a deletion or an allocation leaves. Nothing here writes
+//! a log or changes a page of the pool: all pages of a structure change are made before its first record is.
 //!
 //! # The calls on pages
 //!
@@ -23,9 +23,16 @@
 //! each page holds where the images are applied (`held`), whatever the pages held before: a step makes of that what
 //! the step makes of pages (`specs/Changed.antt`). A page joins them in a box of its own.
 //!
+//! # Pages taken and given back
+//!
+//! The images of a structure change stand in the place of the writer's pages: `image` takes the page of a number to change
+//! it, from the images or as a copy of the pool's; `allocate` and `free` take a page off the free list or the page count, and
+//! give one back. These three alone read a page that is not held. None of them logs or changes a page of the pool, so that a
+//! refusal leaves the store as it was.
+//!
 //! # What it means for the tree
 //!
-//! The laws of `laws` say that the pages of each step, in a good tree, are those of a step of `im_theory_tree`: so the tree stays
+//! The laws of `tree_steps` say that the pages of each step, in a good tree, are those of a step of `im_theory_tree`: so the tree stays
 //! good, with the same walk. They say too that in a good tree no step is refused `NotAStore`: a page that lacks room
 //! can be split where its parent has room for the separator, the leaves beside a leaf are leaves, and the first free
 //! page is free.
@@ -36,7 +43,8 @@
 //!
 //! Plans over several levels stand above it (`im_smo_split`, `im_smo_drop_leaf`), and so do their records (`im_smo_log`).
 //!
-//! It stands on `im_page` for pages, on `im_theory_tree` for the laws of the tree, and on `im_base_types`.
+//! It stands on `im_page_writer` for the pages of a store, on `im_page` for pages, and on `im_theory_tree` for the laws of
+//! the tree.
 #![tactic(auto)]
 
 mod allocations;
@@ -48,12 +56,18 @@ mod image_allocations;
 mod image_links;
 mod image_splits;
 mod images;
+mod page_image;
+mod seen_images;
 mod splits;
 pub mod tree_steps;
 mod way_splits;
+mod writer_allocations;
 
 pub use allocations::{give_free, take_count, take_free};
 pub use chain::{link_next, link_prev};
 pub use deletions::{drop_entry, drop_leftmost, empty_root};
 pub use images::Images;
+pub use page_image::image;
+pub use seen_images::images_are_seen;
 pub use splits::{split_inner, split_leaf, split_root_inner, split_root_leaf};
+pub use writer_allocations::{allocate, free};

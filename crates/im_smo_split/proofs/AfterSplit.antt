@@ -17,7 +17,7 @@ use Rattle.im_theory_tree.specs.Halves.{FitsPage}
 use Rattle.im_tree_search.specs.Levels.{HasLevel}
 use Rattle.im_smo_pages.specs.Images.{Numbered, Has, IsRising, held, without_image}
 use Rattle.im_smo_pages.specs.Parts.{CanHalve, CanSplit}
-use Rattle.im_smo_alloc.specs.Seen.{seen, page_in}
+use Rattle.im_smo_pages.specs.Seen.{seen, page_in}
 use Rattle.im_smo_split.specs.Pages.{newest_first}
 use Rattle.im_smo_split.specs.Steps.{LeavesPending, HalvesInner, HalvesRoot}
 use Rattle.im_smo_split.specs.PendingSplits.{IsPending, IsRootPending}

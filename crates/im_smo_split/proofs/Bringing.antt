@@ -8,8 +8,8 @@ use Rattle.im_page_writer.specs.Outcome.{AllPages, IsSound}
 use Rattle.im_page_writer.proofs.Outcomes.{sound_done}
 use Rattle.im_theory_tree.specs.Levels.{Pages}
 use Rattle.im_smo_pages.specs.Images.{Numbered, Has, IsRising, put_image, without_image}
-use Rattle.im_smo_alloc.specs.Seen.{seen, page_in}
-use Rattle.im_smo_alloc.proofs.Results.{if_err, memory_not}
+use Rattle.im_smo_pages.specs.Seen.{seen, page_in}
+use Rattle.im_smo_pages.proofs.Results.{if_err, memory_not}
 use Rattle.im_smo_split.specs.Steps.{Brought}
 use Rattle.im_smo_split.specs.Ends.{BroughtBoth}
 use Rattle.im_smo_split.proofs.TakenOut.{back_same, back_has, back_keeps}

@@ -5,13 +5,13 @@ use Rattle.im_base_disk.specs.declared.disk.Disk.{Ghosts}
 use Rattle.im_page_writer.specs.declared.page_writer.PageWriter.{PageWriter}
 use Rattle.im_page_writer.specs.Outcome.{AllPages, AreLoaded, HasPages}
 use Rattle.im_smo_pages.specs.Images.{Numbered, image_of, Has}
-use Rattle.im_smo_alloc.specs.Seen.{seen}
-use Rattle.im_smo_alloc.specs.Kept.{HasImages}
+use Rattle.im_smo_pages.specs.Seen.{seen}
+use Rattle.im_smo_pages.specs.Kept.{HasImages}
+use Rattle.im_smo_pages.proofs.PlanWays.{has_none}
 use Rattle.im_smo_split.specs.Pages.{newest_first}
 use Rattle.im_smo_split.specs.Steps.{LeavesPending}
 use Rattle.im_smo_split.specs.Ends.{Ended}
 use Rattle.im_smo_split.specs.declared.pending_split.PendingSplit.{PendingSplit}
-use Rattle.im_smo_pages.proofs.PlanWays.{has_none}
 use Rattle.im_smo_split.proofs.Ends.{IsEnd}
 
 module _ (s : AllPages) (key : Key) (images : List Numbered) where

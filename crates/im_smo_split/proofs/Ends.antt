@@ -15,11 +15,11 @@ use Rattle.im_theory_tree.specs.Halves.{FitsPage}
 use Rattle.im_theory_tree.specs.KeySplits.{HasRoomOnWay}
 use Rattle.im_theory_tree.proofs.Cited.{relisted, step_way, way_begins, way_leaf}
 use Rattle.im_smo_pages.specs.Images.{Numbered, IsRising, without_image, held, Has}
-use Rattle.im_theory_tree.specs.Ways.{KeepsWays}
 use Rattle.im_smo_pages.specs.OnWay.{HasRoomIn}
 use Rattle.im_smo_pages.specs.Parts.{CanHalve, CanSplit}
+use Rattle.im_smo_pages.specs.Seen.{seen, page_in}
 use Rattle.im_smo_pages.proofs.LeafSplitSteps.{leaf_apart}
-use Rattle.im_smo_alloc.specs.Seen.{seen, page_in}
+use Rattle.im_theory_tree.specs.Ways.{KeepsWays}
 use Rattle.im_smo_split.specs.Pages.{newest_first}
 use Rattle.im_smo_split.specs.Ends.{HalvesLeaf, HalvesRootLeaf}
 use Rattle.im_smo_split.specs.PendingSplits.{IsPending, IsRootPending}

@@ -9,8 +9,8 @@ use Rattle.im_theory_tree.specs.Levels.{Pages, walk}
 use Rattle.im_theory_tree.specs.Good.{IsGoodTree}
 use Rattle.im_theory_tree.specs.Search.{IsOnWay}
 use Rattle.im_smo_pages.specs.Images.{Numbered}
-use Rattle.im_smo_alloc.specs.Seen.{bodies, seen}
-use Rattle.im_smo_alloc.specs.Kept.{HasImages}
+use Rattle.im_smo_pages.specs.Seen.{bodies, seen}
+use Rattle.im_smo_pages.specs.Kept.{HasImages}
 use Rattle.im_smo_split.specs.Pages.{newest_first, Taken}
 use Rattle.im_smo_split.specs.Tops.{IsTop}
 use Rattle.im_smo_split.specs.PendingSplits.{IsPending, IsRootPending}

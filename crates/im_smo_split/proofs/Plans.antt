@@ -11,7 +11,7 @@ use Rattle.im_theory_tree.specs.Search.{IsOnWay}
 use Rattle.im_theory_tree.specs.Good.{IsGoodTree}
 use Rattle.im_theory_tree.specs.KeySplits.{HasRoomOnWay}
 use Rattle.im_smo_pages.specs.Images.{Numbered}
-use Rattle.im_smo_alloc.specs.Seen.{bodies, seen}
+use Rattle.im_smo_pages.specs.Seen.{bodies, seen}
 use Rattle.im_smo_split.specs.Tops.{HasRoomFor, IsFound}
 use Rattle.im_smo_split.specs.Ends.{Ended}
 use Rattle.im_smo_split.specs.Plan.{IsOver, IsWithin, FitsInLeaf, Planned, WantsPages}

@@ -7,7 +7,7 @@ use Rattle.im_base_disk.specs.declared.disk.Disk.{Ghosts}
 use Rattle.im_page_writer.specs.declared.page_writer.PageWriter.{PageWriter}
 use Rattle.im_page_writer.specs.Outcome.{fault_of, mild, AreLoaded, Outcome, no_page}
 use Rattle.im_page_writer.proofs.Outcomes.{never_refused}
-use Rattle.im_smo_alloc.specs.Kept.{mild_to_take}
+use Rattle.im_smo_pages.specs.Kept.{mild_to_take}
 use Rattle.im_smo_split.specs.Kept.{mild_to_grow, mild_to_split}
 
 pub only_bytes : {A : Type 0} (r : Result A Fault) → IfErr r (λ e. e ≡ NotAStore) → IfErr r (λ e. no_page e ≡ true)

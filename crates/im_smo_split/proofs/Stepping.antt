@@ -16,7 +16,7 @@ use Rattle.im_tree_search.proofs.Steps.{way_level}
 use Rattle.im_smo_pages.specs.Images.{Numbered, Has, IsRising, held, without_image}
 use Rattle.im_smo_pages.specs.Changed.{SamePages, inner_split_pages, root_inner_split_pages}
 use Rattle.im_smo_pages.specs.Parts.{CanHalve, CanSplit}
-use Rattle.im_smo_alloc.specs.Seen.{seen, page_in}
+use Rattle.im_smo_pages.specs.Seen.{seen, page_in}
 use Rattle.im_smo_split.specs.Steps.{HalvesInner, HalvesRoot}
 use Rattle.im_smo_split.specs.PendingSplits.{IsPending, IsRootPending}
 use Rattle.im_theory_tree.specs.Ways.{KeepsAllWays}

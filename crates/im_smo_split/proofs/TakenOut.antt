@@ -8,11 +8,11 @@ use Rattle.im_theory_log.specs.Tree.{with_body}
 use Rattle.im_page_writer.specs.Outcome.{AllPages}
 use Rattle.im_theory_tree.specs.Levels.{Pages}
 use Rattle.im_smo_pages.specs.Images.{Numbered, Has, KeepsAll, IsRising, held, image_of, put_image, without_image}
+use Rattle.im_smo_pages.specs.Seen.{bodies, seen, page_in}
 use Rattle.im_smo_pages.proofs.Holding.{has_put, put_keeps}
 use Rattle.im_smo_pages.proofs.ImageLemmas.{body_or, applied_image, applied_put, image_without, put_without}
 use Rattle.im_smo_pages.proofs.Updates.{at_here, at_other}
-use Rattle.im_smo_alloc.specs.Seen.{bodies, seen, page_in}
-use Rattle.im_smo_alloc.proofs.Seeing.{page_says, without_other}
+use Rattle.im_smo_pages.proofs.Seeing.{page_says, without_other}
 
 pub out_has : (n m : ℕ) (xs : List Numbered) → IsRising xs → (n ≡ m → ⊥) → Has xs m → Has (without_image n xs) m
 out_has n m xs up other has = subst IsSome (sym (without_other n m xs up other)) has

@@ -8,8 +8,8 @@ use Rattle.im_page_writer.specs.Outcome.{AllPages, AreLoaded, HasPages}
 use Rattle.im_theory_tree.specs.Good.{IsGoodTree}
 use Rattle.im_smo_pages.specs.Images.{Numbered}
 use Rattle.im_smo_pages.specs.Bodies.{meta_without_first, meta_with_count}
-use Rattle.im_smo_alloc.specs.Seen.{seen, TakesPage}
-use Rattle.im_smo_alloc.specs.Kept.{HasImages}
+use Rattle.im_smo_pages.specs.Seen.{seen, TakesPage}
+use Rattle.im_smo_pages.specs.Kept.{HasImages}
 use Rattle.im_smo_split.specs.Pages.{newest_first, Taken}
 
 pub newest_is : (ns : List ℕ) (q : ℕ) → newest_first (ns ++ q ∷ []) ≡ q ∷ newest_first ns

@@ -9,9 +9,9 @@ use Rattle.im_theory_tree.specs.Good.{IsGoodTree}
 use Rattle.im_theory_tree.specs.Search.{IsOnWay}
 use Rattle.im_theory_tree.specs.KeySplits.{HasRoomOnWay}
 use Rattle.im_smo_pages.specs.Images.{Numbered, Has, held}
-use Rattle.im_theory_tree.specs.Ways.{KeepsWays}
 use Rattle.im_smo_pages.specs.OnWay.{HasRoomIn, IsApart}
-use Rattle.im_smo_alloc.specs.Seen.{seen}
+use Rattle.im_smo_pages.specs.Seen.{seen}
+use Rattle.im_theory_tree.specs.Ways.{KeepsWays}
 use Rattle.im_smo_split.specs.Steps.{Brought}
 
 -- Leaf p, which held this body, is split, and the leaf after it is told; `half` is the part that the key belongs to.

@@ -10,9 +10,9 @@ use Rattle.im_theory_tree.specs.Good.{IsGoodTree}
 use Rattle.im_theory_tree.specs.Search.{IsOnWay}
 use Rattle.im_theory_tree.specs.KeySplits.{HasRoomOnWay}
 use Rattle.im_smo_pages.specs.Images.{Numbered, Has}
-use Rattle.im_theory_tree.specs.Ways.{KeepsWays}
 use Rattle.im_smo_pages.specs.OnWay.{IsApart}
-use Rattle.im_smo_alloc.specs.Seen.{bodies, seen}
+use Rattle.im_smo_pages.specs.Seen.{bodies, seen}
+use Rattle.im_theory_tree.specs.Ways.{KeepsWays}
 use Rattle.im_smo_split.specs.Paths.{OnPath, IsPath, new_pages}
 use Rattle.im_smo_split.specs.Tops.{HasRoomFor, LacksRoomFor}
 use Rattle.im_smo_split.specs.PendingSplits.{SplitsDown}

@@ -8,9 +8,9 @@ use Rattle.im_page_writer.specs.Outcome.{AllPages}
 use Rattle.im_theory_tree.specs.Levels.{walk}
 use Rattle.im_smo_pages.specs.Images.{Numbered, Has, KeepsAll}
 use Rattle.im_smo_pages.specs.OnImages.{PartsInner, PartsRootInner}
-use Rattle.im_theory_tree.specs.Ways.{KeepsAllWays}
 use Rattle.im_smo_pages.specs.OnWay.{IsHalf}
-use Rattle.im_smo_alloc.specs.Seen.{seen}
+use Rattle.im_smo_pages.specs.Seen.{seen}
+use Rattle.im_theory_tree.specs.Ways.{KeepsAllWays}
 use Rattle.im_smo_split.specs.Pages.{newest_first}
 use Rattle.im_smo_split.specs.PendingSplits.{IsPending}
 use Rattle.im_smo_split.specs.declared.pending_split.PendingSplit.{PendingSplit}

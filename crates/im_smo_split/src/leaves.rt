@@ -13,8 +13,8 @@ ghost use Rattle.im_theory_tree.specs.Search.{IsOnWay};
 ghost use Rattle.im_theory_tree.specs.Halves.{FitsPage};
 ghost use Rattle.im_smo_pages.specs.Images.{Has, held};
 ghost use Rattle.im_smo_pages.specs.Parts.{CanHalve, CanSplit};
-ghost use Rattle.im_smo_alloc.specs.Seen.{seen};
-ghost use Rattle.im_smo_alloc.specs.Kept.{HasImages, Plans};
+ghost use Rattle.im_smo_pages.specs.Seen.{seen};
+ghost use Rattle.im_smo_pages.specs.Kept.{HasImages, Plans};
 ghost use Rattle.im_smo_split.specs.Pages.{newest_first};
 ghost use Rattle.im_smo_split.specs.Ends.{HalvesLeaf, HalvesRootLeaf, BroughtBoth, Ended};
 ghost use Rattle.im_smo_split.specs.PendingSplits.{IsPending, IsRootPending};
@@ -24,8 +24,7 @@ use im_base_disk::Disk;
 use im_base_types::{Fault, PageNo};
 use im_page::Page;
 use im_page_writer::PageWriter;
-use im_smo_alloc::image;
-use im_smo_pages::Images;
+use im_smo_pages::{Images, image};
 use std::alloc::Global;
 
 // The leaf after a leaf that is among the images; 0 where there is none.

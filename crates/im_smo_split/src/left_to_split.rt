@@ -15,7 +15,7 @@ ghost use Rattle.im_theory_tree.specs.KeySplits.{HasRoomOnWay};
 ghost use Rattle.im_smo_pages.specs.Images.{Numbered};
 ghost use Rattle.im_smo_pages.specs.Parts.{SplitsAt, CanHalve, CanSplit};
 ghost use Rattle.im_smo_pages.specs.Changed.{SamePages, leaf_split_pages, inner_split_pages, root_leaf_split_pages, root_inner_split_pages};
-ghost use Rattle.im_smo_alloc.specs.Seen.{bodies, seen};
+ghost use Rattle.im_smo_pages.specs.Seen.{bodies, seen};
 ghost use Rattle.im_smo_split.specs.PendingSplits.{IsPending, IsRootPending};
 ghost use Rattle.im_smo_split.specs.Plan.{Planned};
 

@@ -23,8 +23,8 @@
 //! A split is decided before a page is taken, and pages are taken before any is split: what is refused up to there leaves
 //! each page as it was.
 //!
-//! It stands on `im_tree_search` for the way down (`root`, `tree_page`), on `im_smo_alloc` for pages that are taken, on `im_smo_pages` for what
-//! a split makes of pages, and on `im_theory_tree` for the laws of one split.
+//! It stands on `im_tree_search` for the way down (`root`, `tree_page`), on `im_smo_pages` for pages that are taken and for what a split makes
+//! of pages, and on `im_theory_tree` for the laws of one split.
 #![tactic(auto)]
 
 mod leaves;

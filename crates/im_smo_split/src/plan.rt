@@ -6,8 +6,8 @@ ghost use Rattle.im_base_types.specs.declared.page_kind.PageKind.TheVariants.{Me
 ghost use Rattle.im_page_writer.specs.PageWriter.{IsReadyWriter};
 ghost use Rattle.im_page_writer.specs.Outcome.{fault_of, AllPages, AreLoaded, HasPages, IsSound, Outcome};
 ghost use Rattle.im_theory_tree.specs.Good.{IsGoodTree};
-ghost use Rattle.im_smo_alloc.specs.Seen.{bodies, seen};
-ghost use Rattle.im_smo_alloc.specs.Kept.{mild_to_take, HasImages, Plans};
+ghost use Rattle.im_smo_pages.specs.Seen.{bodies, seen};
+ghost use Rattle.im_smo_pages.specs.Kept.{mild_to_take, HasImages, Plans};
 ghost use Rattle.im_smo_split.specs.Pages.{newest_first};
 ghost use Rattle.im_smo_split.specs.Ends.{Ended};
 ghost use Rattle.im_smo_split.specs.Kept.{mild_to_grow, mild_to_split};

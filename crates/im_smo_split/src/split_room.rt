@@ -9,7 +9,7 @@ ghost use Rattle.im_theory_page.specs.Page.{is_leaf_kind};
 ghost use Rattle.im_page_writer.specs.PageWriter.{IsReadyWriter};
 ghost use Rattle.im_page_writer.specs.Outcome.{fault_of, AllPages, AreLoaded, HasPages, IsSound, Reads};
 ghost use Rattle.im_tree_search.specs.Levels.{HasLevel, kind_at};
-ghost use Rattle.im_smo_alloc.specs.Seen.{bodies};
+ghost use Rattle.im_smo_pages.specs.Seen.{bodies};
 ghost use Rattle.im_smo_split.specs.Readings.{HasUp, IsRoom, IsKeyRoom, IsFull};
 
 use im_base_disk::Disk;

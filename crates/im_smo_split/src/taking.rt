@@ -4,15 +4,14 @@ ghost use Rattle.std.specs.Prelude.{◌≡◌, ◌<◌, ◌+◌, ◌-◌, ◌^�
 ghost use Rattle.im_base_types.specs.declared.fault.Fault.TheVariants.{Capacity, Memory};
 ghost use Rattle.im_page_writer.specs.PageWriter.{IsReadyWriter};
 ghost use Rattle.im_page_writer.specs.Outcome.{fault_of, AllPages, AreLoaded, IsSound, Outcome};
-ghost use Rattle.im_smo_alloc.specs.Kept.{mild_to_take, HasImages};
-ghost use Rattle.im_smo_alloc.specs.Seen.{seen};
+ghost use Rattle.im_smo_pages.specs.Kept.{mild_to_take, HasImages};
+ghost use Rattle.im_smo_pages.specs.Seen.{seen};
 ghost use Rattle.im_smo_split.specs.Pages.{Taken};
 
 use im_base_disk::Disk;
 use im_base_types::{Fault, PageNo};
 use im_page_writer::PageWriter;
-use im_smo_alloc::allocate;
-use im_smo_pages::Images;
+use im_smo_pages::{Images, allocate};
 use std::alloc::Global;
 
 // Notes a number.

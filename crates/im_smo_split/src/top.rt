@@ -7,7 +7,7 @@ ghost use Rattle.im_page_writer.specs.Outcome.{fault_of, AllPages, AreLoaded, Ha
 ghost use Rattle.im_theory_tree.specs.Good.{IsGoodTree};
 ghost use Rattle.im_theory_tree.specs.Levels.{height};
 ghost use Rattle.im_tree_search.specs.Levels.{HasLevel};
-ghost use Rattle.im_smo_alloc.specs.Seen.{bodies};
+ghost use Rattle.im_smo_pages.specs.Seen.{bodies};
 ghost use Rattle.im_smo_split.specs.Tops.{IsCounted, IsPlaced, IsFound, StandsAt};
 
 use crate::split_room::{child_at, fits_in, key_room, room_in, up_in};

@@ -3,7 +3,7 @@ use Rattle.im_log.specs.Whats.{what_of}
 use Rattle.im_log_record.specs.Entry.{Entry, view, transaction_of}
 use Rattle.im_page_writer.specs.Outcome.{pages_of}
 use Rattle.im_page_writer.proofs.Outcomes.{changed_none, log_refused, logs_for_more, logs_late, logs_then}
-use Rattle.im_smo_alloc.proofs.Goings.{take_mildly}
+use Rattle.im_smo_pages.proofs.Goings.{take_mildly}
 use Rattle.im_smo_actions.specs.GoingBeside.{settled_pages}
 use Rattle.im_smo_actions.proofs.Standing.{stands_ready}
 use Rattle.im_restart_undo.specs.declared.back.Back.{Back}

@@ -17,7 +17,7 @@ use Rattle.im_restart.proofs.Losers.{losers_none}
 use Rattle.im_restart.proofs.Restarts.{left_redoing, losers_then, open_then, settled_so, taking_begins}
 use Rattle.im_restart.proofs.Steps.{left_then}
 use Rattle.im_restart.proofs.open_store.settle.Goals as goal
-use Rattle.im_smo_alloc.proofs.Goings.{take_mildly as take_mild}
+use Rattle.im_smo_pages.proofs.Goings.{take_mildly as take_mild}
 
 pub returns-in_err-applied-clause-outcome : goal.returns-in_err-applied-clause-outcome
 returns-in_err-applied-clause-outcome g c = recovery_refused g.D.Disk c.from_residual.result c.from_residual.ensures.1 (recovers_more g.D.Disk take_mild c.in_err-applied.ensures.outcome)

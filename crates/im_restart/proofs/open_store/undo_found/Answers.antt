@@ -8,7 +8,7 @@ use Rattle.im_restart.proofs.Ends.{never_numbers}
 use Rattle.im_restart.proofs.OpenChanges.{change_over}
 use Rattle.im_restart.proofs.Undos.{undo_behind}
 use Rattle.im_restart.proofs.open_store.undo_found.Goals as goal
-use Rattle.im_smo_alloc.proofs.Goings.{take_mildly as take_mild}
+use Rattle.im_smo_pages.proofs.Goings.{take_mildly as take_mild}
 
 pub returns-in_err-undo_change-clause-outcome : goal.returns-in_err-undo_change-clause-outcome
 returns-in_err-undo_change-clause-outcome g c = recovery_refused g.D.Disk c.from_residual.result c.from_residual.ensures.1 (recovers_more g.D.Disk take_mild c.in_err-undo_change.ensures.outcome)

@@ -6,7 +6,7 @@ use Rattle.im_restart.specs.Restart.{RunsOut}
 use Rattle.im_restart.proofs.Ends.{never_numbers}
 use Rattle.im_restart.proofs.Undos.{undo_behind}
 use Rattle.im_restart.proofs.undo.undo.Goals as goal
-use Rattle.im_smo_alloc.proofs.Goings.{take_mildly as take_mild}
+use Rattle.im_smo_pages.proofs.Goings.{take_mildly as take_mild}
 
 pub returns-in_err-enter_all-clause-outcome : goal.returns-in_err-enter_all-clause-outcome
 returns-in_err-enter_all-clause-outcome g c = recovery_refused g.D.Disk c.from_residual.result c.from_residual.ensures.1 (recovers_more g.D.Disk take_mild c.in_err-enter_all.ensures.outcome)

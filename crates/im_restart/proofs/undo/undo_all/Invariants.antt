@@ -1,7 +1,7 @@
 use Rattle.std.proofs.Common.{ℕ, ◌≡◌, ◌≤◌, [], None, length}
 use Rattle.im_theory_log.specs.Histories.{Base, History}
 use Rattle.im_theory_log.specs.Writer.{Writer}
-use Rattle.im_smo_alloc.specs.Kept.{mild_to_take}
+use Rattle.im_smo_pages.specs.Kept.{mild_to_take}
 use Rattle.im_page_writer.specs.PageWriter.{StandsAs}
 use Rattle.im_restart_redo.specs.Recovery.{Recovers}
 use Rattle.im_restart.specs.LoserChains.{AreChains, above, nobody}

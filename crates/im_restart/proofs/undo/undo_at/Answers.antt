@@ -1,8 +1,8 @@
 use Rattle.std.proofs.Common.{◌≡◌, ap, refl, sym, ◌∙◌}
 use Rattle.im_base_types.specs.declared.fault.Fault.TheVariants.{Capacity, Device, NotAStore}
 use Rattle.im_log_record.specs.Entry.{view}
-use Rattle.im_smo_alloc.specs.Kept.{mild_to_take}
-use Rattle.im_smo_alloc.proofs.Goings.{take_mildly as take_mild}
+use Rattle.im_smo_pages.specs.Kept.{mild_to_take}
+use Rattle.im_smo_pages.proofs.Goings.{take_mildly as take_mild}
 use Rattle.im_page_writer.specs.Outcome.{mild}
 use Rattle.im_page_writer.proofs.Cited.{err_on, sound_on}
 use Rattle.im_restart_redo.proofs.Recoveries.{moved, read_refused, recovers_more, recovers_then, recovery_own, recovery_refused}

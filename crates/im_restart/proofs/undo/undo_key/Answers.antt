@@ -10,7 +10,7 @@ use Rattle.im_restart.specs.LoserChains.{GoesOnAt, chain_of}
 use Rattle.im_restart.proofs.Readings.{goes_behind}
 use Rattle.im_restart.proofs.Undos.{chains_then, step_then}
 use Rattle.im_restart.proofs.undo.undo_key.Goals as goal
-use Rattle.im_smo_alloc.proofs.Goings.{take_mildly as take_mild}
+use Rattle.im_smo_pages.proofs.Goings.{take_mildly as take_mild}
 
 pub returns-clause-outcome : goal.returns-clause-outcome
 returns-clause-outcome g c = recovers_then g.D.Disk c.in_ok-last.ensures.outcome (recovers_more g.D.Disk take_mild c.put_or_end.ensures.outcome)

@@ -1,6 +1,6 @@
 use Rattle.std.proofs.Common.{◌≡◌, ap, refl, sym, ◌∙◌, subst}
-use Rattle.im_smo_alloc.specs.Kept.{mild_to_take}
-use Rattle.im_smo_alloc.proofs.Goings.{take_mildly as take_mild}
+use Rattle.im_smo_pages.specs.Kept.{mild_to_take}
+use Rattle.im_smo_pages.proofs.Goings.{take_mildly as take_mild}
 use Rattle.im_page_writer.specs.Outcome.{mild}
 use Rattle.im_page_writer.proofs.LoggedChanges.{err_on}
 use Rattle.im_restart_redo.proofs.Recoveries.{recovers_more, recovery_own, unmoved}

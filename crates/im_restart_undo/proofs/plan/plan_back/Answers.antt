@@ -3,8 +3,8 @@ use Rattle.im_log.specs.Whats.{what_of}
 use Rattle.im_log_record.specs.Entry.{Entry, page_of, view}
 use Rattle.im_log_record.specs.declared.record.Record.{Record}
 use Rattle.im_page_writer.proofs.Outcomes.{with_more}
-use Rattle.im_smo_alloc.specs.Kept.{mild_to_take}
-use Rattle.im_smo_alloc.proofs.Goings.{take_mildly}
+use Rattle.im_smo_pages.specs.Kept.{mild_to_take}
+use Rattle.im_smo_pages.proofs.Goings.{take_mildly}
 use Rattle.im_tree_search.specs.Sights.{is_done}
 use Rattle.im_restart_undo.specs.Planning.{BackPlanned}
 use Rattle.im_restart_undo.proofs.KeyRecords.{no_key}

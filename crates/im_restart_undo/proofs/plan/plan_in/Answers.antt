@@ -1,5 +1,5 @@
 use Rattle.std.proofs.Common.{refl, sym, ◌∙◌}
-use Rattle.im_smo_alloc.specs.Kept.{mild_to_take}
+use Rattle.im_smo_pages.specs.Kept.{mild_to_take}
 use Rattle.im_page_writer.proofs.Outcomes.{read_more, refused, then}
 use Rattle.im_tree_search.proofs.Sighted.{at_hidden, at_seen}
 use Rattle.im_restart_undo.specs.Planning.{change_needed, leaf_planned}

@@ -6,7 +6,7 @@ use Rattle.im_log_record.specs.Entry.{view}
 use Rattle.im_log_record.specs.declared.record.Record.{Record}
 use Rattle.im_page_writer.specs.Outcome.{no_page}
 use Rattle.im_page_writer.proofs.Outcomes.{idle, read_more, refused, refuses}
-use Rattle.im_smo_alloc.specs.Kept.{mild_to_take}
+use Rattle.im_smo_pages.specs.Kept.{mild_to_take}
 use Rattle.im_tree_search.proofs.Sighted.{at_hidden, at_seen}
 use Rattle.im_restart_undo.specs.declared.back.Back.TheVariants.{Plain}
 use Rattle.im_restart_undo.specs.Planning.{PlannedAlone}

@@ -1,7 +1,7 @@
 use Rattle.im_log_record.specs.Entry.{Entry, view, transaction_of}
 use Rattle.im_page_writer.specs.Outcome.{pages_of}
 use Rattle.im_page_writer.proofs.Outcomes.{changed_none, log_refused, logs_for_more, logs_late, logs_then}
-use Rattle.im_smo_alloc.proofs.Goings.{take_mildly}
+use Rattle.im_smo_pages.proofs.Goings.{take_mildly}
 use Rattle.im_restart_undo.proofs.Behind.{back_closed}
 use Rattle.im_restart_undo.proofs.Composing.{plan_refused}
 use Rattle.im_restart_undo.proofs.Growth.{going_ready, going_tree}

@@ -1,7 +1,7 @@
 use Rattle.std.proofs.Common.{◌≡◌, [], sym, ◌∙◌, refl}
 use Rattle.im_base_types.specs.declared.fault.Fault.TheVariants.{Memory}
 use Rattle.im_page_writer.proofs.Cited.{err_on, pages_still, sound_on, then, read_more, refused}
-use Rattle.im_smo_alloc.specs.Seen.{bodies}
+use Rattle.im_smo_pages.specs.Seen.{bodies}
 use Rattle.im_smo_actions.specs.DropPlan.{IsSpare}
 use Rattle.im_smo_actions.proofs.DropPlans.{entries_are, leaf_goes, leaf_spare, leaf_stays, reads_never_short}
 use Rattle.im_page_writer.specs.Outcome.{mild}

@@ -3,7 +3,7 @@ use Rattle.im_base_types.specs.Pages.{Body, Page}
 use Rattle.im_page_pool.specs.Pool.{page_at}
 use Rattle.im_page_writer.proofs.Outcomes.{ends_own, pages_to, refused, search_of, sound_on, sound_own}
 use Rattle.im_tree_search.specs.Levels.{HasLevel}
-use Rattle.im_smo_alloc.specs.Seen.{bodies}
+use Rattle.im_smo_pages.specs.Seen.{bodies}
 use Rattle.im_smo_drop_leaf.specs.Chains.{IsBeside}
 use Rattle.im_smo_drop_leaf.proofs.Results.{only_bytes, never_err}
 use Rattle.im_page_writer.specs.Outcome.{no_page}

@@ -3,8 +3,8 @@ use Rattle.im_base_types.specs.Pages.{Body, Page}
 use Rattle.im_base_types.specs.declared.page_kind.PageKind.TheVariants.{Leaf}
 use Rattle.im_page_writer.specs.Outcome.{mild}
 use Rattle.im_page_writer.proofs.Outcomes.{ends_own, idle, sound_done, sound_on}
-use Rattle.im_smo_alloc.specs.Seen.{seen}
-use Rattle.im_smo_alloc.proofs.Goings.{mildly}
+use Rattle.im_smo_pages.specs.Seen.{seen}
+use Rattle.im_smo_pages.proofs.Goings.{mildly}
 use Rattle.im_smo_drop_leaf.specs.Chains.{with_link}
 use Rattle.im_smo_drop_leaf.proofs.Leaving.{edited, says_seen, linked_is, linked_none}
 use Rattle.im_smo_drop_leaf.proofs.dropping.set_link.Goals as goal

@@ -1,7 +1,7 @@
 use Rattle.std.proofs.Common.{false, subst}
 use Rattle.std.specs.Bool.{IsTrue}
 use Rattle.im_page_writer.proofs.Outcomes.{pages_still, sound_also, sound_on, then}
-use Rattle.im_smo_alloc.specs.Seen.{seen}
+use Rattle.im_smo_pages.specs.Seen.{seen}
 use Rattle.im_smo_drop_leaf.specs.Chains.{without_child}
 use Rattle.im_smo_drop_leaf.proofs.Leaving.{beside_stay, out_only, out_by}
 use Rattle.im_smo_drop_leaf.proofs.dropping.take_out.Goals as goal

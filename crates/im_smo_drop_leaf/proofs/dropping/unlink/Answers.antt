@@ -1,6 +1,6 @@
 use Rattle.std.proofs.Common.{◌≤◌}
 use Rattle.im_page_writer.proofs.Outcomes.{pages_still, sound_also, sound_on, then}
-use Rattle.im_smo_alloc.specs.Seen.{seen}
+use Rattle.im_smo_pages.specs.Seen.{seen}
 use Rattle.im_smo_drop_leaf.proofs.Leaving.{kind_linked, unlinked_by}
 use Rattle.im_smo_drop_leaf.proofs.dropping.unlink.Goals as goal
 

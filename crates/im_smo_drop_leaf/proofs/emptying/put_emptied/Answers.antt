@@ -1,7 +1,7 @@
 use Rattle.std.proofs.Common.{refl}
 use Rattle.im_page_writer.specs.Outcome.{mild}
 use Rattle.im_page_writer.proofs.Outcomes.{ends_own, sound_on}
-use Rattle.im_smo_alloc.proofs.Goings.{mildly}
+use Rattle.im_smo_pages.proofs.Goings.{mildly}
 use Rattle.im_smo_drop_leaf.proofs.WithoutEntries.{put_says}
 use Rattle.im_smo_drop_leaf.proofs.emptying.put_emptied.Goals as goal
 

@@ -1,6 +1,6 @@
 use Rattle.std.proofs.Common.{[], ◌∷◌, ◌++◌, length, None}
 use Rattle.im_page_writer.specs.Outcome.{AllPages}
-use Rattle.im_smo_alloc.specs.Kept.{HasImages, Plans}
+use Rattle.im_smo_pages.specs.Kept.{HasImages, Plans}
 use Rattle.im_smo_drop_leaf.specs.Given.{IsGiven}
 use Rattle.im_smo_drop_leaf.proofs.giving.give_back.Given as goal
 

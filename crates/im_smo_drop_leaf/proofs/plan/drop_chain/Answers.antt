@@ -1,6 +1,6 @@
 use Rattle.std.proofs.Common.{◌∷◌, ◌++◌, []}
 use Rattle.im_page_writer.proofs.Outcomes.{pages_still, sound_also, sound_on, then}
-use Rattle.im_smo_alloc.specs.Seen.{bodies, seen}
+use Rattle.im_smo_pages.specs.Seen.{bodies, seen}
 use Rattle.im_smo_drop_leaf.proofs.Leaving.{chain_keeps}
 use Rattle.im_smo_drop_leaf.proofs.Plans.{may_take_out, not_root, planned, taken_out}
 use Rattle.im_smo_drop_leaf.proofs.plan.drop_chain.Goals as goal

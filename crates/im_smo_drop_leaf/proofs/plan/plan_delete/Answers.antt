@@ -1,6 +1,6 @@
 use Rattle.std.proofs.Common.{◌≡◌, ℕ, sym, ◌∙◌, ap, refl, subst}
 use Rattle.im_page_writer.proofs.Outcomes.{pages_still, refused, sound_on, then, read_more}
-use Rattle.im_smo_alloc.specs.Seen.{bodies, seen}
+use Rattle.im_smo_pages.specs.Seen.{bodies, seen}
 use Rattle.im_smo_drop_leaf.specs.Plan.{IsPlan}
 use Rattle.im_smo_drop_leaf.proofs.WithoutEntries.{but_self, same_self}
 use Rattle.im_smo_drop_leaf.proofs.Plans.{the_leaf, spare_leaf}

@@ -1,6 +1,6 @@
 use Rattle.std.proofs.Common.{◌≡◌, ℕ, sym, ◌∙◌, subst}
 use Rattle.im_page_writer.proofs.Outcomes.{pages_still, refused, sound_on, then}
-use Rattle.im_smo_alloc.specs.Seen.{bodies}
+use Rattle.im_smo_pages.specs.Seen.{bodies}
 use Rattle.im_smo_drop_leaf.specs.Emptied.{emptied}
 use Rattle.im_smo_drop_leaf.specs.Plan.{IsPlan}
 use Rattle.im_smo_drop_leaf.proofs.WithoutEntries.{emptied_above, emptied_but, emptied_good, same_self}

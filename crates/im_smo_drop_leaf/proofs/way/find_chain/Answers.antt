@@ -2,8 +2,8 @@ use Rattle.std.proofs.Common.{◌≡◌, ◌∙◌, ℕ, ◌-◌, ◌≤◌, suc
 use Rattle.im_page_writer.proofs.Outcomes.{out_of_memory, pages_still, refused, sound_on, then, read_more}
 use Rattle.im_base_types.specs.Pages.{Body}
 use Rattle.im_tree_search.specs.Children.{IsChildOf}
-use Rattle.im_smo_alloc.specs.Seen.{bodies}
-use Rattle.im_smo_alloc.proofs.Results.{memory_not}
+use Rattle.im_smo_pages.specs.Seen.{bodies}
+use Rattle.im_smo_pages.proofs.Results.{memory_not}
 use Rattle.im_smo_drop_leaf.specs.Ways.{IsPlaced}
 use Rattle.im_smo_drop_leaf.proofs.WithoutEntries.{inner_level, inner_same, root_level}
 use Rattle.im_smo_drop_leaf.proofs.Placing.{placed, root_placed}

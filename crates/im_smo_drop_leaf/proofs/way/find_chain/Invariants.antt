@@ -2,10 +2,10 @@ use Rattle.std.proofs.Common.{[], None}
 use Rattle.im_page_writer.specs.Outcome.{AllPages, AreLoaded, HasPages}
 use Rattle.im_theory_tree.specs.Good.{IsGoodTree}
 use Rattle.im_theory_tree.specs.Levels.{Pages}
-use Rattle.im_smo_alloc.specs.Seen.{bodies}
+use Rattle.im_smo_pages.specs.Seen.{bodies}
 use Rattle.im_smo_drop_leaf.specs.Emptied.{SameAbove}
 use Rattle.im_smo_drop_leaf.specs.Ways.{IsPlaced}
-use Rattle.im_smo_alloc.specs.Kept.{Plans}
+use Rattle.im_smo_pages.specs.Kept.{Plans}
 use Rattle.im_smo_drop_leaf.proofs.way.find_chain.Given as goal
 
 abbrev pub invariant-loop-level : goal.invariant-loop-level

@@ -3,7 +3,7 @@ use Rattle.im_base_types.specs.declared.fault.Fault.TheVariants.{Failed}
 use Rattle.im_page_writer.specs.Outcome.{mild}
 use Rattle.im_page_flush.proofs.Goings.{leaves_of}
 use Rattle.im_page_writer.proofs.Cited.{err_on, idle, sound_on}
-use Rattle.im_smo_alloc.proofs.Results.{if_ok}
+use Rattle.im_smo_pages.proofs.Results.{if_ok}
 use Rattle.im_smo_log.specs.Changes.{Begun}
 use Rattle.im_smo_log.proofs.Runs.{change_done, pages_begin, pages_stops}
 use Rattle.im_smo_log.proofs.Refusals.{closing, closing_failed, closing_sound}

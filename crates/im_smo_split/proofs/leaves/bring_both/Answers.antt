@@ -1,6 +1,6 @@
 use Rattle.std.proofs.Common.{arith}
 use Rattle.im_page_writer.proofs.Outcomes.{pages_still, sound_also, sound_on, then}
-use Rattle.im_smo_alloc.specs.Seen.{bodies}
+use Rattle.im_smo_pages.specs.Seen.{bodies}
 use Rattle.im_smo_split.proofs.Bringing.{both_here, both_then}
 use Rattle.im_smo_split.proofs.leaves.bring_both.Goals as goal
 

@@ -1,8 +1,8 @@
 use Rattle.std.proofs.Common.{ℕ, zero, List, [], ◌∷◌, refl, ◌∙◌, subst}
 use Rattle.im_page_writer.specs.Outcome.{mild}
 use Rattle.im_page_writer.proofs.Cited.{ends_own, sound_own, sound_on, refused_not as not_refused}
-use Rattle.im_smo_alloc.specs.Seen.{seen}
-use Rattle.im_smo_alloc.proofs.Goings.{mildly}
+use Rattle.im_smo_pages.specs.Seen.{seen}
+use Rattle.im_smo_pages.proofs.Goings.{mildly}
 use Rattle.im_smo_split.specs.PendingSplits.{IsRootPending}
 use Rattle.im_smo_split.proofs.Downs.{ended}
 use Rattle.im_smo_split.proofs.Ends.{last_two, root_ended, root_leaf, can_part_root}

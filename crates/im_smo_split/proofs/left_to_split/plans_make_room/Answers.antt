@@ -4,7 +4,7 @@ use Rattle.im_theory_page.specs.Split.{HasRoom}
 use Rattle.im_theory_tree.specs.Levels.{Pages, walk}
 use Rattle.im_theory_tree.specs.Good.{IsGoodTree}
 use Rattle.im_theory_tree.specs.Search.{IsOnWay}
-use Rattle.im_smo_alloc.specs.Seen.{seen}
+use Rattle.im_smo_pages.specs.Seen.{seen}
 use Rattle.im_smo_split.proofs.left_to_split.plans_make_room.Goals as goal
 
 pub returns-clause-good : goal.returns-clause-good

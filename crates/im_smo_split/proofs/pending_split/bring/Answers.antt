@@ -1,7 +1,7 @@
 use Rattle.std.proofs.Common.{refl}
 use Rattle.im_page_writer.specs.Outcome.{mild}
 use Rattle.im_page_writer.proofs.Outcomes.{ends_own, sound_on}
-use Rattle.im_smo_alloc.proofs.Goings.{mildly_copied}
+use Rattle.im_smo_pages.proofs.Goings.{mildly_copied}
 use Rattle.im_smo_split.proofs.Bringing.{brought}
 use Rattle.im_smo_split.proofs.pending_split.bring.Goals as goal
 

@@ -1,8 +1,8 @@
 use Rattle.std.proofs.Common.{◌≡◌, ℕ, List, ◌∷◌, refl, ap, subst, ◌∙◌}
 use Rattle.im_page_writer.specs.Outcome.{mild}
 use Rattle.im_page_writer.proofs.Outcomes.{ends_own, sound_on}
-use Rattle.im_smo_alloc.specs.Seen.{seen}
-use Rattle.im_smo_alloc.proofs.Goings.{mildly}
+use Rattle.im_smo_pages.specs.Seen.{seen}
+use Rattle.im_smo_pages.proofs.Goings.{mildly}
 use Rattle.im_smo_split.specs.Pages.{newest_first}
 use Rattle.im_smo_split.specs.PendingSplits.{IsRootPending}
 use Rattle.im_smo_split.proofs.Takings.{newest_is}

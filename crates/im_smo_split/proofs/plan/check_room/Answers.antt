@@ -2,7 +2,7 @@ use Rattle.std.proofs.Common.{refl, ap}
 use Rattle.std.specs.Prelude.{is_some, Err}
 use Rattle.im_base_types.specs.declared.fault.Fault.TheVariants.{PagesFull}
 use Rattle.im_page_writer.proofs.Cited.{err_on, ends_own, idle, read_more, refused, sound_on}
-use Rattle.im_smo_alloc.specs.Seen.{bodies}
+use Rattle.im_smo_pages.specs.Seen.{bodies}
 use Rattle.im_smo_split.specs.Kept.{mild_to_grow}
 use Rattle.im_smo_split.proofs.Reasons.{never_pages_full}
 use Rattle.im_smo_split.proofs.Rooms.{room_full, room_few}

@@ -3,7 +3,7 @@ use Rattle.std.specs.Prelude.{Err}
 use Rattle.im_base_types.specs.declared.fault.Fault.TheVariants.{Capacity}
 use Rattle.im_page_writer.proofs.Cited.{err_on, ends_own, pages_still, read_more, refused, sound_also, sound_on, then, with_more}
 use Rattle.im_smo_split.specs.declared.split_plan.SplitPlan.{SplitPlan}
-use Rattle.im_smo_alloc.specs.Seen.{bodies}
+use Rattle.im_smo_pages.specs.Seen.{bodies}
 use Rattle.im_smo_split.specs.Kept.{mild_to_split}
 use Rattle.im_smo_split.proofs.Founds.{few_found, none_found, top_found}
 use Rattle.im_smo_split.proofs.Plans.{planned, planned_none, wants_fewer, wants_level, wants_none, wants_numbers}

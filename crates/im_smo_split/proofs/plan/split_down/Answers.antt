@@ -1,6 +1,6 @@
 use Rattle.std.proofs.Common.{◌≡◌, ℕ, subst, arith}
 use Rattle.im_page_writer.proofs.Outcomes.{pages_still, refused, sound_also, sound_on, then}
-use Rattle.im_smo_alloc.specs.Seen.{seen}
+use Rattle.im_smo_pages.specs.Seen.{seen}
 use Rattle.im_smo_split.specs.Pages.{newest_first}
 use Rattle.im_smo_split.specs.PendingSplits.{IsPending, IsRootPending}
 use Rattle.im_smo_split.proofs.Downs.{has_split, split_then, end_then}

@@ -1,7 +1,7 @@
 use Rattle.std.proofs.Common.{◌≡◌, ◌+◌, None, false, true, length}
 use Rattle.im_page_writer.specs.Outcome.{AllPages}
-use Rattle.im_smo_alloc.specs.Seen.{seen}
-use Rattle.im_smo_alloc.specs.Kept.{HasImages, Plans}
+use Rattle.im_smo_pages.specs.Seen.{seen}
+use Rattle.im_smo_pages.specs.Kept.{HasImages, Plans}
 use Rattle.im_smo_split.specs.Pages.{newest_first}
 use Rattle.im_smo_split.specs.PendingSplits.{IsPending, IsRootPending}
 use Rattle.im_smo_split.specs.Steps.{LeavesPending}

@@ -1,7 +1,7 @@
 use Rattle.std.proofs.Common.{refl}
 use Rattle.im_page_writer.proofs.Cited.{err_on, pages_still, refused, sound_on, then, with_more}
-use Rattle.im_smo_alloc.specs.Kept.{mild_to_take}
-use Rattle.im_smo_alloc.proofs.Goings.{take_mildly}
+use Rattle.im_smo_pages.specs.Kept.{mild_to_take}
+use Rattle.im_smo_pages.proofs.Goings.{take_mildly}
 use Rattle.im_smo_split.proofs.Froms.{down_done, has_none, has_taken_all, root_on, too_few, under_on}
 use Rattle.im_smo_split.proofs.Reasons.{never_capacity}
 use Rattle.im_smo_split.proofs.plan.split_from.Goals as goal

@@ -4,7 +4,7 @@ use Rattle.im_base_types.specs.Pages.{Body, Page}
 use Rattle.im_base_types.specs.declared.page_kind.PageKind.TheVariants.{Meta}
 use Rattle.im_page_pool.specs.Pool.{page_at}
 use Rattle.im_page_writer.proofs.Outcomes.{ends_own, pages_to, refused, search_of, sound_on, sound_own}
-use Rattle.im_smo_alloc.specs.Seen.{bodies}
+use Rattle.im_smo_pages.specs.Seen.{bodies}
 use Rattle.im_smo_split.specs.Readings.{IsFull}
 use Rattle.im_smo_split.proofs.Reasons.{only_bytes, never_err}
 use Rattle.im_page_writer.specs.Outcome.{no_page}

@@ -1,8 +1,8 @@
 use Rattle.std.proofs.Common.{◌≡◌, ℕ, length, ◌∷◌, [], ◌+◌, refl, sym, ap, ◌∙◌, arith, rules, length-append}
 use Rattle.im_base_types.specs.declared.fault.Fault.TheVariants.{Capacity, Memory}
 use Rattle.im_page_writer.proofs.Cited.{err_on, ends_own, idle, pages_still, refused, sound_on, then}
-use Rattle.im_smo_alloc.specs.Kept.{mild_to_take}
-use Rattle.im_smo_alloc.proofs.Results.{memory_not}
+use Rattle.im_smo_pages.specs.Kept.{mild_to_take}
+use Rattle.im_smo_pages.proofs.Results.{memory_not}
 use Rattle.im_smo_split.proofs.Takings.{has_taken, none_left, none_taken, taken_more}
 use Rattle.im_smo_split.proofs.taking.take_pages.Goals as goal
 

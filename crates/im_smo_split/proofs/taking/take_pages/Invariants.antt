@@ -1,6 +1,6 @@
 use Rattle.std.proofs.Common.{◌≡◌, ◌≤◌, ◌-◌, None, [], length}
 use Rattle.im_page_writer.specs.Outcome.{AllPages, AreLoaded, Outcome}
-use Rattle.im_smo_alloc.specs.Kept.{mild_to_take, HasImages}
+use Rattle.im_smo_pages.specs.Kept.{mild_to_take, HasImages}
 use Rattle.im_smo_split.specs.Pages.{Taken}
 use Rattle.im_smo_split.proofs.taking.take_pages.Given as goal
 

@@ -4,7 +4,7 @@ use Rattle.im_theory_page.specs.Page.{is_leaf_kind}
 use Rattle.im_page_writer.proofs.Outcomes.{held_is, pages_still, sound_on, then}
 use Rattle.im_theory_tree.specs.Levels.{height}
 use Rattle.im_tree_search.specs.Levels.{kind_at}
-use Rattle.im_smo_alloc.specs.Seen.{bodies}
+use Rattle.im_smo_pages.specs.Seen.{bodies}
 use Rattle.im_smo_split.specs.Readings.{IsRoom}
 use Rattle.im_smo_split.specs.Tops.{IsPlaced}
 use Rattle.im_smo_split.proofs.Placing.{root_placed, found_room, found_top}

@@ -4,7 +4,7 @@ use Rattle.im_page_writer.specs.Outcome.{AllPages, AreLoaded, HasPages, Reads}
 use Rattle.im_theory_tree.specs.Good.{IsGoodTree}
 use Rattle.im_theory_tree.specs.Levels.{height}
 use Rattle.im_tree_search.specs.Levels.{HasLevel}
-use Rattle.im_smo_alloc.specs.Seen.{bodies}
+use Rattle.im_smo_pages.specs.Seen.{bodies}
 use Rattle.im_smo_split.specs.Tops.{IsCounted, IsPlaced}
 use Rattle.im_smo_split.proofs.top.find_top.Given as goal
 

@@ -8,7 +8,7 @@ use Rattle.im_page_writer.proofs.Outcomes.{held_is, sound_on}
 use Rattle.im_theory_tree.specs.KeySplits.{is_leaf_level}
 use Rattle.im_tree_search.specs.Levels.{kind_at}
 use Rattle.im_tree_search.proofs.Steps.{way_level, step_level}
-use Rattle.im_smo_alloc.specs.Seen.{bodies}
+use Rattle.im_smo_pages.specs.Seen.{bodies}
 use Rattle.im_smo_split.specs.Readings.{HasUp, IsKeyRoom, IsRoom}
 use Rattle.im_smo_split.specs.Tops.{IsPlaced}
 use Rattle.im_smo_split.proofs.Placing.{leaf_at, placed}

@@ -1,4 +1,4 @@
-use Rattle.im_smo_alloc.proofs.Results.{if_ok}
+use Rattle.im_smo_pages.proofs.Results.{if_ok}
 use Rattle.im_smo_log.proofs.Refusals.{closing_sound}
 use Rattle.im_smo_log.proofs.Stepping.{close_goes}
 use Rattle.im_smo_log.proofs.change.Change.close.Goals as goal

@@ -1,4 +1,4 @@
-//! Pages taken and given back.
+//! Pages taken and given back by a structure change: page 0, which says which, is among its images or the writer's.
 
 ghost use Rattle.std.specs.Prelude.{◌≡◌, ◌≢◌, ◌⊎◌, ◌∷◌, ◌+◌, ◌^◌, ◌≤◌, ◌<◌, ◌↔◌, ℕ, List, false, IfErr, IfOk, IsOk, OnOk};
 ghost use Rattle.im_base_types.specs.declared.fault.Fault.TheVariants.{Capacity, Memory, NotAStore};
@@ -8,15 +8,16 @@ ghost use Rattle.im_page_writer.specs.PageWriter.{IsReadyWriter};
 ghost use Rattle.im_page_writer.specs.Outcome.{fault_of, AllPages, AreLoaded, HasPages, IsSound, Outcome};
 ghost use Rattle.im_smo_pages.specs.Bodies.{says, meta_with_first};
 ghost use Rattle.im_smo_pages.specs.Images.{put_image, without_image};
-ghost use Rattle.im_smo_alloc.specs.Seen.{next_page, page_in, meta_behind, seen, GivesPage, TakesPage};
-ghost use Rattle.im_smo_alloc.specs.Kept.{mild_to_take, HasImages, Plans};
+ghost use Rattle.im_smo_pages.specs.Seen.{next_page, page_in, meta_behind, seen, GivesPage, TakesPage};
+ghost use Rattle.im_smo_pages.specs.Kept.{mild_to_take, HasImages, Plans};
 
+use crate::allocations::{give_free, take_count, take_free};
+use crate::images::Images;
 use crate::page_image::image;
 use im_base_disk::Disk;
 use im_base_types::{Fault, PageKind, PageNo};
 use im_page::Page;
 use im_page_writer::PageWriter;
-use im_smo_pages::{Images, give_free, take_count, take_free};
 use std::alloc::Global;
 
 // The page that is taken next, by page 0: the first free one, and where there is none, the one past the page count.

@@ -2,9 +2,9 @@ use Rattle.std.proofs.Common.{ℕ, ap, refl, ◌∙◌}
 use Rattle.im_page_pool.specs.Pool.{page_at}
 use Rattle.im_page_writer.specs.Outcome.{mild}
 use Rattle.im_page_writer.proofs.Outcomes.{ends_own, pages_to, search_of, sound_on, sound_own, read_more, refused}
-use Rattle.im_smo_alloc.proofs.Goings.{mildly_copied}
-use Rattle.im_smo_alloc.proofs.Results.{if_err, memory_not}
-use Rattle.im_smo_alloc.proofs.page_image.pool_copy.Goals as goal
+use Rattle.im_smo_pages.proofs.Goings.{mildly_copied}
+use Rattle.im_smo_pages.proofs.Results.{if_err, memory_not}
+use Rattle.im_smo_pages.proofs.page_image.pool_copy.Goals as goal
 
 pub returns-in_err-frame-clause-outcome : goal.returns-in_err-frame-clause-outcome
 returns-in_err-frame-clause-outcome g c = refused g.D.Disk c.from_residual.result c.from_residual.ensures.1 (read_more g.D.Disk mild refl (search_of g.D.Disk c.in_err-frame.ensures.outcome))

@@ -8,9 +8,9 @@ use Rattle.im_page_writer.specs.Outcome.{AllPages}
 use Rattle.im_theory_page.specs.Header.{initial}
 use Rattle.im_smo_pages.specs.Images.{Numbered, IsRising, image_of, put_image, without_image}
 use Rattle.im_smo_pages.specs.Changed.{SamePages}
+use Rattle.im_smo_pages.specs.Seen.{bodies, seen, image_or, page_in}
 use Rattle.im_smo_pages.proofs.ImageLemmas.{body_or, applied_image, applied_put, image_put, image_put_other, put_rising, put_without, without_rising}
 use Rattle.im_smo_pages.proofs.Updates.{at_here, at_other, with_same}
-use Rattle.im_smo_alloc.specs.Seen.{bodies, seen, image_or, page_in}
 
 -- an image that is there is the page
 pub image_is : (s : AllPages) (images : List Numbered) (n : ℕ) (p : Page) → image_of images n ≡ Some p → p ≡ page_in s images n

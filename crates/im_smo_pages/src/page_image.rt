@@ -5,14 +5,14 @@ ghost use Rattle.im_base_types.specs.declared.fault.Fault.TheVariants.{Memory};
 ghost use Rattle.im_page_writer.specs.PageWriter.{IsReadyWriter};
 ghost use Rattle.im_page_writer.specs.Outcome.{fault_of, AllPages, AreLoaded, HasPages, IsSound};
 ghost use Rattle.im_smo_pages.specs.Images.{without_image};
-ghost use Rattle.im_smo_alloc.specs.Seen.{page_in};
-ghost use Rattle.im_smo_alloc.specs.Kept.{Plans};
+ghost use Rattle.im_smo_pages.specs.Seen.{page_in};
+ghost use Rattle.im_smo_pages.specs.Kept.{Plans};
 
+use crate::images::Images;
 use im_base_disk::Disk;
 use im_base_types::{Fault, PageNo};
 use im_page::Page;
 use im_page_writer::PageWriter;
-use im_smo_pages::Images;
 use std::alloc::Global;
 
 // A copy of a page.

@@ -6,7 +6,7 @@ ghost use Rattle.im_theory_log.specs.Tree.{with_body};
 ghost use Rattle.im_page_writer.specs.Outcome.{AllPages};
 ghost use Rattle.im_smo_pages.specs.Images.{Numbered, IsRising, put_image, without_image};
 ghost use Rattle.im_smo_pages.specs.Changed.{SamePages};
-ghost use Rattle.im_smo_alloc.specs.Seen.{page_in, seen};
+ghost use Rattle.im_smo_pages.specs.Seen.{page_in, seen};
 
 /// A page taken out says what is seen of it, and others stay; put back, it alone says something else.
 pub fn images_are_seen()

@@ -8,7 +8,7 @@ use Rattle.im_page_writer.specs.declared.page_writer.PageWriter.{PageWriter}
 use Rattle.im_page_writer.specs.Outcome.{mild, AllPages, AreLoaded, Outcome}
 use Rattle.im_page_writer.proofs.Outcomes.{pages_still}
 use Rattle.im_smo_pages.specs.Images.{Numbered}
-use Rattle.im_smo_alloc.specs.Kept.{mild_to_take, HasImages}
+use Rattle.im_smo_pages.specs.Kept.{mild_to_take, HasImages}
 
 -- the tree is there still
 pub images_still : {D : Type 0} (d : Ghosts D) {m : Fault → Bool} {pages : AllPages} {images : List Numbered} {spare : List ℕ} {v : PageWriter} {old : D} {w : PageWriter} {mid : D} → HasImages d pages images spare v old

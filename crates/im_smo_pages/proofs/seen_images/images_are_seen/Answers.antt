@@ -1,5 +1,5 @@
-use Rattle.im_smo_alloc.proofs.Seeing.{page_says, page_without, put_back}
-use Rattle.im_smo_alloc.proofs.seen_images.images_are_seen.Goals as goal
+use Rattle.im_smo_pages.proofs.Seeing.{page_says, page_without, put_back}
+use Rattle.im_smo_pages.proofs.seen_images.images_are_seen.Goals as goal
 
 pub returns-clause-page : goal.returns-clause-page
 returns-clause-page c = page_says

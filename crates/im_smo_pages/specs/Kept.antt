@@ -7,7 +7,7 @@ use Rattle.im_page_writer.specs.declared.page_writer.PageWriter.{PageWriter}
 use Rattle.im_page_writer.specs.Outcome.{mild, AllPages, AreLoaded, HasPages, Outcome}
 use Rattle.im_theory_tree.specs.Good.{IsGoodTree}
 use Rattle.im_smo_pages.specs.Images.{Numbered}
-use Rattle.im_smo_alloc.specs.Seen.{seen}
+use Rattle.im_smo_pages.specs.Seen.{seen}
 
 -- The writer has these pages, all with their copies, and with the images in their place they are a good tree, beside the spare pages of a structure change.
 pub record HasImages {D : Type 0} (d : Ghosts D) (pages : AllPages) (images : List Numbered) (spare : List ℕ) (w : PageWriter) (disk : D) : Type 0 where

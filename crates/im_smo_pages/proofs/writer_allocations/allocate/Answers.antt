@@ -4,13 +4,13 @@ use Rattle.im_base_types.specs.Pages.{Body, Page}
 use Rattle.im_page_writer.proofs.Cited.{err_on, ends_own, never_refused, pages_still, refused, sound_on, sound_own, then, with_more}
 use Rattle.im_smo_pages.specs.Bodies.{says}
 use Rattle.im_smo_pages.specs.Images.{Numbered, put_image, without_image}
-use Rattle.im_smo_alloc.specs.Kept.{mild_to_take}
-use Rattle.im_smo_alloc.specs.Seen.{page_in, next_page, meta_behind, seen}
-use Rattle.im_smo_alloc.proofs.Results.{if_err, if_ok, ok_and}
-use Rattle.im_smo_alloc.proofs.Seeing.{page_says}
-use Rattle.im_smo_alloc.proofs.Taking.{first_known, meta_kind, meta_says, taken_kind, takes}
-use Rattle.im_smo_alloc.proofs.Goings.{mildly_taken, no_store, take_mildly}
-use Rattle.im_smo_alloc.proofs.allocation.allocate.Goals as goal
+use Rattle.im_smo_pages.specs.Kept.{mild_to_take}
+use Rattle.im_smo_pages.specs.Seen.{page_in, next_page, meta_behind, seen}
+use Rattle.im_smo_pages.proofs.Results.{if_err, if_ok, ok_and}
+use Rattle.im_smo_pages.proofs.Seeing.{page_says}
+use Rattle.im_smo_pages.proofs.Taking.{first_known, meta_kind, meta_says, taken_kind, takes}
+use Rattle.im_smo_pages.proofs.Goings.{mildly_taken, no_store, take_mildly}
+use Rattle.im_smo_pages.proofs.writer_allocations.allocate.Goals as goal
 
 pub returns-in_err-meta-clause-outcome : goal.returns-in_err-meta-clause-outcome
 returns-in_err-meta-clause-outcome g c = refused g.D.Disk c.from_residual.result c.from_residual.ensures.1 (with_more g.D.Disk mild_to_take take_mildly c.in_err-meta.ensures.outcome)

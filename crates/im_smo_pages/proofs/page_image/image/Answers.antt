@@ -1,9 +1,9 @@
 use Rattle.std.proofs.Common.{refl, ◌∙◌}
 use Rattle.im_page_writer.proofs.Outcomes.{idle, sound_also}
 use Rattle.im_smo_pages.proofs.ImageLemmas.{without_none}
-use Rattle.im_smo_alloc.proofs.Results.{on_err}
-use Rattle.im_smo_alloc.proofs.Seeing.{image_is, none_is}
-use Rattle.im_smo_alloc.proofs.page_image.image.Goals as goal
+use Rattle.im_smo_pages.proofs.Results.{on_err}
+use Rattle.im_smo_pages.proofs.Seeing.{image_is, none_is}
+use Rattle.im_smo_pages.proofs.page_image.image.Goals as goal
 
 pub returns-in-Some-clause-outcome : goal.returns-in-Some-clause-outcome
 returns-in-Some-clause-outcome g c = idle g.D.Disk g.met.D.Disk.only_now c.args.writer.now c.args.disk.now c.requires.working c.requires.ready

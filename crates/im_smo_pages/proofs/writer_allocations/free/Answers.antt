@@ -6,9 +6,9 @@ use Rattle.im_page_writer.specs.Outcome.{mild}
 use Rattle.im_page_writer.proofs.Outcomes.{ends_own, pages_still, refused, sound_done, sound_on, then}
 use Rattle.im_smo_pages.specs.Bodies.{says, meta_with_first}
 use Rattle.im_smo_pages.specs.Images.{Numbered, put_image, without_image}
-use Rattle.im_smo_alloc.proofs.Taking.{given_fewer, given_kind, gives}
-use Rattle.im_smo_alloc.proofs.Goings.{mildly}
-use Rattle.im_smo_alloc.proofs.allocation.free.Goals as goal
+use Rattle.im_smo_pages.proofs.Taking.{given_fewer, given_kind, gives}
+use Rattle.im_smo_pages.proofs.Goings.{mildly}
+use Rattle.im_smo_pages.proofs.writer_allocations.free.Goals as goal
 
 pub returns-in_err-meta-clause-kept : goal.returns-in_err-meta-clause-kept
 returns-in_err-meta-clause-kept g c pages spare tree = sound_on c.from_residual.result _ _ c.from_residual.ensures.1 (c.in_err-meta.ensures.kept pages tree.has)

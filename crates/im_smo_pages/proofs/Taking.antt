@@ -13,10 +13,10 @@ use Rattle.im_theory_tree.proofs.Cited.{pages_counted, times-here, take_free, ta
 use Rattle.im_smo_pages.specs.Bodies.{says, meta_without_first, meta_with_count, meta_with_first}
 use Rattle.im_smo_pages.specs.Images.{Numbered, IsRising, without_image}
 use Rattle.im_smo_pages.specs.Changed.{SamePages, free_taken_pages, count_taken_pages, free_given_pages}
+use Rattle.im_smo_pages.specs.Seen.{seen, page_in, next_page, meta_behind, TakesPage, GivesPage}
 use Rattle.im_smo_pages.proofs.AllocationSteps.{first_is_free, take_free_step, take_count_step, give_free_step}
 use Rattle.im_smo_pages.proofs.Updates.{at_here, at_other}
-use Rattle.im_smo_alloc.specs.Seen.{seen, page_in, next_page, meta_behind, TakesPage, GivesPage}
-use Rattle.im_smo_alloc.proofs.Seeing.{page_says, page_without, both, both_seen, both_there, both_others}
+use Rattle.im_smo_pages.proofs.Seeing.{page_says, page_without, both, both_seen, both_there, both_others}
 
 -- ---- the next page
 

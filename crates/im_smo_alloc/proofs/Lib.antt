@@ -1,4 +1,0 @@
-pub mod Results
-pub mod Seeing
-pub mod Taking
-pub mod Goings
