@@ -13,7 +13,7 @@ fn is_listed(row: &Transaction) -> bool
 {
     match row.mark {
         Mark::Committing => false,
-        Mark::Going | Mark::MustRollBack | Mark::RollingBack => row.last != 0,
+        Mark::Going | Mark::MustRollBack | Mark::RollingBack | Mark::Returning(_) => row.last != 0,
     }
 }
 

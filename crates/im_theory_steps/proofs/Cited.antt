@@ -16,4 +16,5 @@ pub use Rattle.im_theory_steps.proofs.Durable.{commits_stand, cut_commits_stand,
 pub use Rattle.im_theory_steps.proofs.GoingOn.{switches_served}
 pub use Rattle.im_theory_steps.proofs.Lived.{lives_go_on, rows_tell}
 pub use Rattle.im_theory_steps.proofs.Rows.{counted_at, none_stands, some_stand}
-pub use Rattle.im_theory_steps.proofs.Undone.{empty_commits_served, empty_rollbacks_served, ends_leave_nothing, last_undone_served, returning_more, returns_end, returns_go_on, rolling_has_more, undo_takes_back, undone_served}
+pub use Rattle.im_theory_steps.proofs.Emptied.{empty_commits_served, empty_rollbacks_served, end_leaves, end_lawful}
+pub use Rattle.im_theory_steps.proofs.Undone.{end_over, end_stack, ends_leave_nothing, last_undone_served, returning_more, returns_end, returns_go_on, rolling_has_more, undo_takes_back, undone_served}

@@ -1,7 +1,6 @@
 -- A net has no more changes than its log has records, and these no more than LSNs.
 use Rattle.std.proofs.Common.{◌≡◌, ℕ, ◌+◌, ◌<◌, ◌≤◌, [], ◌∷◌, ◌++◌, Bool, true, false, length, length-append, arith}
 use Rattle.std.specs.Prelude.{if◌then◌else◌, ◌==◌}
-use Rattle.im_base_types.specs.Changes.{Effect}
 use Rattle.im_base_types.specs.Records.{What, InsertKey, DeleteKey, UndoInsert, UndoDelete, Smo, UndoSmo, DummyClr, Commit, End, Image, Checkpoint, Unreadable, Logged}
 use Rattle.im_theory_log.specs.Histories.{Base, History, Rises, end_of}
 use Rattle.im_theory_log.specs.Transactions.{to_undo, net, change_of, changes_of, stack_after, rest_of, without_smo, is_smo}

@@ -20,3 +20,4 @@ pub mod Lived
 pub mod Rolling
 pub mod Undone
 pub mod Waiting
+pub mod Emptied

@@ -9,18 +9,16 @@ use Rattle.im_theory_log.specs.Transactions.{changes_of, committed, committed_af
 use Rattle.im_base_txn.specs.declared.transaction.Transaction.{Transaction}
 use Rattle.im_base_txn.specs.Rows.{with_changes}
 use Rattle.im_theory_machine.specs.View.{owner_of}
-use Rattle.im_theory_machine.proofs.Cited.{cases_number}
-use Rattle.im_theory_steps.specs.Growth.{Stays, IsOver, IsOfOthers}
+use Rattle.im_theory_steps.specs.Growth.{IsOver, IsOfOthers}
 use Rattle.im_theory_steps.specs.Serving.{IsRow, mark_of}
-use Rattle.im_theory_steps.specs.Steps.{EmptyCommitsAreServed, EmptyRollbacksAreServed}
 use Rattle.im_theory_steps.specs.Undone.{UndoTakesBack, EndsLeaveNothing, RollingBackHasMore, UndoneChangesAreServed, LastUndoneChangesAreServed, ReturningHasMore, ReturnsGoOn, ReturnsEnd}
 use Rattle.im_theory_steps.proofs.Growth.{within_leaves_others, same_by, same_then}
 use Rattle.im_theory_steps.proofs.Rolling.{left_of, rolling_is, taking_is}
-use Rattle.im_theory_steps.proofs.Rows.{counted_at, none_stands}
-use Rattle.im_base_txn.specs.declared.transaction.Mark.TheVariants.{Going, RollingBack, Returning}
+use Rattle.im_theory_steps.proofs.Rows.{counted_at}
+use Rattle.im_base_txn.specs.declared.transaction.Mark.TheVariants.{RollingBack, Returning}
 use Rattle.im_base_types.specs.Answers as answers
 use Rattle.im_base_types.specs.Answers.{RollingBack as AnsweredRolling}
-use Rattle.im_theory_steps.proofs.Steps.{at, either_free, mark_free, new_by, empty_commits, empty_rollbacks, ends_served, gives_served, is_back_served, undo_served}
+use Rattle.im_theory_steps.proofs.Steps.{at, mark_free, new_by, ends_served, gives_served, is_back_served, undo_served}
 
 pub undo_takes_back : UndoTakesBack
 undo_takes_back b t c older longer is =
@@ -39,16 +37,16 @@ module _ (b : Base) (t : ℕ) (log : History) (last : Logged) (mine : last.txn �
   own : {A : Type 0} (x y : A) → (if last.txn == t then x else y) ≡ x
   own x y = cond-true (last.txn == t) x y (eq-eqb last.txn t mine)
 
-  end_stack : to_undo t (last ∷ log) ≡ []
+  pub end_stack : to_undo t (last ∷ log) ≡ []
   end_stack = own (stack_after last last.what (to_undo t log)) (to_undo t log) ∙ ap (λ (w : What). stack_after last w (to_undo t log)) is
 
-  end_over : IsOver t (last ∷ log)
+  pub end_over : IsOver t (last ∷ log)
   end_over one le = own (is_end last.what || is_finished t log) (is_finished t log) ∙ ap (λ (w : What). is_end w || is_finished t log) is
 
-  end_commits : committed (last ∷ log) ≡ committed log
+  pub end_commits : committed (last ∷ log) ≡ committed log
   end_commits = ap (λ (w : What). committed_after w (net last.txn log) (committed log)) is
 
-  end_walk : contents b (last ∷ log) ≡ contents b log
+  pub end_walk : contents b (last ∷ log) ≡ contents b log
   end_walk = ap (λ (w : What). contents_after w (contents b log)) is
 
 pub ends_leave_nothing : EndsLeaveNothing
@@ -99,37 +97,6 @@ pub last_undone_served : LastUndoneChangesAreServed
 last_undone_served b earlier before s v older between rows next old new t row c last h found mark undoes none mine is released once =
     let over = ends_leave_nothing b t c older between last undoes none mine is in
     ends_served b earlier before s v older (last ∷ between) rows next old new t row c h found mark over.back over.none over.others over.over over.stack released once
-
--- ---- of one that has no change left
-
--- the End of it leaves what is committed, the map, the nets and the others
-end_leaves : (b : Base) (t : ℕ) (older : History) (last : Logged) → last.txn ≡ t → last.what ≡ End → net t older ≡ [] → Stays b older (last ∷ older) × IsOfOthers t older (last ∷ older)
-end_leaves b t older last mine is none = (
-  record {
-    commits = end_commits b t older last mine is;
-    walk = end_walk b t older last mine is;
-    nets = λ u. elim (cases_number u t) [
-      | inl same ↦ ap (λ (n : ℕ). net n (last ∷ older)) same ∙ ap changes_of (end_stack b t older last mine is) ∙ sym none ∙ ap (λ (n : ℕ). net n older) (sym same)
-      | inr differ ↦ ap changes_of (others u differ).stack
-    ];
-  },
-  others,
-)
-  where
-    others : IsOfOthers t older (last ∷ older)
-    others u differ = same_by u last older (λ e. differ (sym e ∙ mine))
-
-pub empty_commits_served : EmptyCommitsAreServed
-empty_commits_served b earlier before s v older rows next old new t row last h found mark count free mine is released once =
-    let at_row = at b earlier before s v older rows next old h t row found (mark_free row.mark Going mark (λ x. cc x)) in
-    let on = end_leaves b t older last mine is (none_stands t next older row at_row.0 at_row.1 count) in
-    empty_commits b earlier before s v older (last ∷ older) rows next old new t row h found mark free on.0 on.1 (end_over b t older last mine is) (end_stack b t older last mine is) released once
-
-pub empty_rollbacks_served : EmptyRollbacksAreServed
-empty_rollbacks_served b earlier before s v older rows next old new t row last h found mark count free mine is released once =
-    let at_row = at b earlier before s v older rows next old h t row found (either_free row.mark mark) in
-    let on = end_leaves b t older last mine is (none_stands t next older row at_row.0 at_row.1 count) in
-    empty_rollbacks b earlier before s v older (last ∷ older) rows next old new t row h found mark free on.0 on.1 (end_over b t older last mine is) (end_stack b t older last mine is) released once
 
 -- ---- of one that returns to its first n changes
 

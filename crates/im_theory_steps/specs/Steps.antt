@@ -170,16 +170,22 @@ UnloggedCommitsAreServed = (b : Base) (earlier before : List Effect) (s : Shown)
     → IsServing b earlier before s v log rows next old → Rises b log → find (is_of t) rows ≡ Some row → row.mark ≡ Going → owner_in v ≢ Some t → row.last ≡ 0 → IsReleased old t new → length rows ≡ length (without t rows) + 1
     → IsServed b earlier before s v (Commit t) Committed (committed_by v t) log (without t rows) next new
 
--- A Commit and a Rollback of one that has records, but no change that stands, where an End was logged: no effect joins the others.
-abbrev pub EmptyCommitsAreServed : Type 0
-EmptyCommitsAreServed = (b : Base) (earlier before : List Effect) (s : Shown) (v : View) (older : History) (rows : List Transaction) (next : ℕ) (old new : Table) (t : ℕ) (row : Transaction) (last : Logged)
-    → IsServing b earlier before s v older rows next old → find (is_of t) rows ≡ Some row → row.mark ≡ Going → row.changes ≡ 0 → owner_in v ≢ Some t → last.txn ≡ t → last.what ≡ End → IsReleased old t new → length rows ≡ length (without t rows) + 1
-    → IsServed b earlier before s v (Commit t) Committed (committed_by v t) (last ∷ older) (without t rows) next new
+-- the record of an End of t, after its record at an LSN
+abbrev pub end_record : (t last lsn : ℕ) → Logged
+end_record t last lsn = record { lsn = lsn; txn = t; prev = last; undo_next = 0; page = 0; what = End }
 
-abbrev pub EmptyRollbacksAreServed : Type 0
-EmptyRollbacksAreServed = (b : Base) (earlier before : List Effect) (s : Shown) (v : View) (older : History) (rows : List Transaction) (next : ℕ) (old new : Table) (t : ℕ) (row : Transaction) (last : Logged)
-    → IsServing b earlier before s v older rows next old → find (is_of t) rows ≡ Some row → (row.mark ≡ Going) ⊎ (row.mark ≡ MustRollBack) → row.changes ≡ 0 → owner_in v ≢ Some t → last.txn ≡ t → last.what ≡ End → IsReleased old t new → length rows ≡ length (without t rows) + 1
-    → IsServed b earlier before s v (Rollback t) RolledBack (dropped_by v t) (last ∷ older) (without t rows) next new
+-- A Commit and a Rollback of one that has records, but no change that stands: its End leaves a lawful log, and no effect joins the others.
+abbrev pub EmptyCommitsAreServed : Tree → Type 0
+EmptyCommitsAreServed tree = (b : Base) (earlier before : List Effect) (s : Shown) (v : View) (older : History) (rows : List Transaction) (next : ℕ) (old new : Table) (t lsn : ℕ) (row : Transaction)
+    → IsServing b earlier before s v older rows next old → find (is_of t) rows ≡ Some row → row.mark ≡ Going → row.changes ≡ 0 → owner_in v ≢ Some t → IsLawful b tree older → IsOutside t (open_smo older) → end_of b older < lsn
+    → IsReleased old t new → length rows ≡ length (without t rows) + 1
+    → IsLogged b tree earlier before s v (Commit t) Committed (committed_by v t) (end_record t row.last lsn ∷ older) (without t rows) next new
+
+abbrev pub EmptyRollbacksAreServed : Tree → Type 0
+EmptyRollbacksAreServed tree = (b : Base) (earlier before : List Effect) (s : Shown) (v : View) (older : History) (rows : List Transaction) (next : ℕ) (old new : Table) (t lsn : ℕ) (row : Transaction)
+    → IsServing b earlier before s v older rows next old → find (is_of t) rows ≡ Some row → (row.mark ≡ Going) ⊎ (row.mark ≡ MustRollBack) → row.changes ≡ 0 → owner_in v ≢ Some t → IsLawful b tree older → IsOutside t (open_smo older) → end_of b older < lsn
+    → IsReleased old t new → length rows ≡ length (without t rows) + 1
+    → IsLogged b tree earlier before s v (Rollback t) RolledBack (dropped_by v t) (end_record t row.last lsn ∷ older) (without t rows) next new
 
 -- A RollTo of one that has no more changes lets it go on, also where it was told to die; one of more marks it.
 abbrev pub ReturnsStay : Type 0

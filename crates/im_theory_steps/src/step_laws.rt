@@ -95,13 +95,13 @@ pub fn unlogged_commits_are_served()
 {}
 
 /// A Commit of a transaction that has records, but no change that stands.
-pub fn empty_commits_are_served()
-    ensures { EmptyCommitsAreServed }
+pub fn empty_commits_are_served<T: PageTree>()
+    ensures { EmptyCommitsAreServed T.tree }
 {}
 
 /// A Rollback of such a one.
-pub fn empty_rollbacks_are_served()
-    ensures { EmptyRollbacksAreServed }
+pub fn empty_rollbacks_are_served<T: PageTree>()
+    ensures { EmptyRollbacksAreServed T.tree }
 {}
 
 /// A RollTo of a transaction that has no more changes.
