@@ -60,7 +60,7 @@ enum { STARTED, FOUND, ABSENT, ENTRY, END, ENTRIES, INSERTED, DUPLICATE, DELETED
 /* The files of a store, as the proved library numbers them; those of its copy are so many later. */
 enum { LOG, PAGES, LOG2, FILES };
 
-/* A device call that the store asks for: crates/im_base_caller_disk. */
+/* A device call that the store asks for: crates/im_files_caller_disk. */
 struct device_call { uint32_t kind, file; uint64_t place, len; };
 
 /* The files of a copy that is under way. They are used under the store's lock, but where they are made and named. */

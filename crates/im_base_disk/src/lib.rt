@@ -22,7 +22,7 @@
 //!   made. `specs/Runs.antt` has the words for runs of them, and `proofs/Runs.antt` how runs are put together.
 //!
 //! The disks stand beside the layers over the trait: one in memory in `im_base_model_disk`, one of real files in
-//! `im_base_file_disk`. The crate stands on `im_base_types` for the files' names and the faults.
+//! `im_files_disk`. The crate stands on `im_base_types` for the files' names and the faults.
 #![tactic(auto)]
 
 mod count;

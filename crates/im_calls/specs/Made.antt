@@ -5,12 +5,12 @@ use denote.Struct.Declared.{shape}
 use Rattle.std.specs.Prelude.{◌≡◌, ◌≢◌, ◌∷◌, [], None, Some, IfSome}
 use Rattle.std.specs.Option.{IsSomeAnd}
 use Rattle.im_base_disk.specs.declared.disk.Disk.{Ghosts}
-use Rattle.im_base_caller_disk.specs.declared.caller_disk.CallerDisk.{CallerDisk}
-use Rattle.im_base_caller_disk.specs.declared.caller_files.CallerFiles.{CallerFiles}
-use Rattle.im_base_caller_disk.specs.contracts.caller_disk.CallerDisk.{the_row as disk_row}
-use Rattle.im_base_caller_disk.specs.contracts.caller_disk.CallerDiskDisk.TheImpl as caller
-use Rattle.im_base_caller_disk.specs.contracts.caller_files.CallerFiles.{the_row as files_row}
-use Rattle.im_base_caller_disk.specs.contracts.caller_files.CallerFilesDisk.TheImpl as files
+use Rattle.im_files_caller_disk.specs.declared.caller_disk.CallerDisk.{CallerDisk}
+use Rattle.im_files_caller_disk.specs.declared.caller_files.CallerFiles.{CallerFiles}
+use Rattle.im_files_caller_disk.specs.contracts.caller_disk.CallerDisk.{the_row as disk_row}
+use Rattle.im_files_caller_disk.specs.contracts.caller_disk.CallerDiskDisk.TheImpl as caller
+use Rattle.im_files_caller_disk.specs.contracts.caller_files.CallerFiles.{the_row as files_row}
+use Rattle.im_files_caller_disk.specs.contracts.caller_files.CallerFilesDisk.TheImpl as files
 use Rattle.im_base_two_logs.specs.declared.renamed.Renamed.{Renamed}
 use Rattle.im_base_two_logs.specs.contracts.renamed.Renamed.{the_row as renamed_row, the_type}
 use Rattle.im_base_two_logs.specs.contracts.renamed.RenamedDisk.TheImpl as renamed

@@ -7,12 +7,12 @@ ghost use Rattle.im_calls_form.specs.Calls.{IsAnswered, Refuses, Says, Shows, nu
 ghost use Rattle.im_calls.specs.Sessions.{IsClosing, IsOpeningOver, IsServed, IsForStep, standing};
 
 use crate::opened::Opened;
-use im_base_caller_disk::{CallerDisk, CallerFiles};
 use im_base_disk::Disk;
 use im_base_mirror_disk::Mirrored;
 use im_base_two_logs::Renamed;
 use im_base_types::Fault;
 use im_calls_form::{Call, refuse};
+use im_files_caller_disk::{CallerDisk, CallerFiles};
 use std::alloc::Global;
 
 // The numbers of what is no step.

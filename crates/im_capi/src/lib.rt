@@ -1,15 +1,15 @@
 //! Which functions does C see?
 //!
 //! The store for C. C hands in memory: as many bytes as `im_size` says for a store, and a `Call` for each question. Beside it decisions over what C
-//! has read or keeps itself: whether the files of a folder belong together, and what may be cut of them after a close (`im_base_guard`), and who may begin now (`im_base_turns`).
+//! has read or keeps itself: whether the files of a folder belong together, and what may be cut of them after a close (`im_files_guard`), and who may begin now (`im_base_turns`).
 #![tactic(auto)]
 
 ghost use Rattle.std.specs.Prelude.{◌≡◌, ◌≤◌, ◌+◌, ◌↔◌, true, length};
 ghost use Rattle.std.specs.Borrow.{sem};
 ghost use Rattle.im_capi.specs.Pointers.{bytes_of_store, room_for_store, blank_at, store_at, call_at, made_at, Question};
-ghost use Rattle.im_base_guard.specs.Belonging.{Decides};
-ghost use Rattle.im_base_guard.specs.LogCuts.{log_cuts_of};
-ghost use Rattle.im_base_guard.specs.LeftLog.{current_log_of, left_log_of, walk, IsOlder};
+ghost use Rattle.im_files_guard.specs.Belonging.{Decides};
+ghost use Rattle.im_files_guard.specs.LogCuts.{log_cuts_of};
+ghost use Rattle.im_files_guard.specs.LeftLog.{current_log_of, left_log_of, walk, IsOlder};
 ghost use Rattle.im_base_turns.specs.Turns.{IsAwaitedBy, IsLeastOf, IsPatient, MayBegin, Owns};
 
 use im_base_turns::{Asker, Going};
@@ -32,25 +32,25 @@ pub extern "C" fn im_size() -> usize
     std::mem::size_of::<Session>()
 }
 
-/// Whether the files of a folder belong together, by their beginnings: the number of `im_base_guard`.
+/// Whether the files of a folder belong together, by their beginnings: the number of `im_files_guard`.
 #[unsafe(no_mangle)]
-pub extern "C" fn im_belong(folder: &im_base_guard::Folder) -> u32
+pub extern "C" fn im_belong(folder: &im_files_guard::Folder) -> u32
     ensures { Decides folder.now result }
 {
-    im_base_guard::decide(folder)
+    im_files_guard::decide(folder)
 }
 
 /// The walk over the log that was left, at its first gate.
 #[unsafe(no_mangle)]
-pub extern "C" fn im_left_log(folder: &im_base_guard::Folder, left: &mut im_base_guard::LeftLog)
+pub extern "C" fn im_left_log(folder: &im_files_guard::Folder, left: &mut im_files_guard::LeftLog)
     ensures { left.new ≡ left_log_of folder.now }
 {
-    *left = im_base_guard::LeftLog::begin(folder);
+    *left = im_files_guard::LeftLog::begin(folder);
 }
 
 /// The walk over the current log, at its first gate, with what that over the log that was left has found.
 #[unsafe(no_mangle)]
-pub extern "C" fn im_left_go_on(folder: &im_base_guard::Folder, left: &mut im_base_guard::LeftLog)
+pub extern "C" fn im_left_go_on(folder: &im_files_guard::Folder, left: &mut im_files_guard::LeftLog)
     ensures { left.new ≡ current_log_of folder.now left.old }
 {
     *left = left.go_on(folder);
@@ -58,7 +58,7 @@ pub extern "C" fn im_left_go_on(folder: &im_base_guard::Folder, left: &mut im_ba
 
 /// Takes bytes of the log, those from the wanted place on, and walks on as far as they reach.
 #[unsafe(no_mangle)]
-pub extern "C" fn im_left_take(left: &mut im_base_guard::LeftLog, piece: &[u8])
+pub extern "C" fn im_left_take(left: &mut im_files_guard::LeftLog, piece: &[u8])
     ensures { left.new ≡ walk (length piece.now) left.old.place piece.now left.old }
 {
     left.take(piece);
@@ -66,18 +66,18 @@ pub extern "C" fn im_left_take(left: &mut im_base_guard::LeftLog, piece: &[u8])
 
 /// Whether the file of pages lacks the newest change of the log that was left.
 #[unsafe(no_mangle)]
-pub extern "C" fn im_is_older(left: &im_base_guard::LeftLog, pages: u64, lsn: u64) -> bool
+pub extern "C" fn im_is_older(left: &im_files_guard::LeftLog, pages: u64, lsn: u64) -> bool
     ensures { (result ≡ true) ↔ IsOlder left.now pages lsn }
 {
-    im_base_guard::is_older(left, pages, lsn)
+    im_files_guard::is_older(left, pages, lsn)
 }
 
 /// What may be cut of the logs of a closed store.
 #[unsafe(no_mangle)]
-pub extern "C" fn im_log_cuts(folder: &im_base_guard::Folder, cuts: &mut im_base_guard::LogCuts)
+pub extern "C" fn im_log_cuts(folder: &im_files_guard::Folder, cuts: &mut im_files_guard::LogCuts)
     ensures { cuts.new ≡ log_cuts_of folder.now }
 {
-    *cuts = im_base_guard::LogCuts::of(folder);
+    *cuts = im_files_guard::LogCuts::of(folder);
 }
 
 /// Makes a store that is not open in the room at a pointer.

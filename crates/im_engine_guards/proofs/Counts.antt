@@ -11,8 +11,8 @@ use Rattle.im_theory_page.specs.Header.{empty_body, initial}
 use Rattle.im_theory_page.specs.PageFile.{file_page, page_count}
 use Rattle.im_theory_page.proofs.PageFileLemmas.{page_past}
 use Rattle.im_theory_tree.specs.Theory.{page_tree}
-use Rattle.im_base_guard.specs.declared.folder.PagesFront.{PagesFront}
-use Rattle.im_base_guard.specs.Belonging.{LacksCounted}
+use Rattle.im_files_guard.specs.declared.folder.PagesFront.{PagesFront}
+use Rattle.im_files_guard.specs.Belonging.{LacksCounted}
 use Rattle.im_engine_guards.specs.Guards.{IsPagesFront}
 use Rattle.im_engine_guards.proofs.FreePages.{few_lacking}
 use Rattle.im_engine_guards.proofs.PageFronts.{front_count, no_count}

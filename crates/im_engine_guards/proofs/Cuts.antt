@@ -6,12 +6,12 @@ use Rattle.im_base_types.specs.Changes.{Effect}
 use Rattle.im_base_types.specs.declared.file_id.FileId.TheVariants.{Log, Pages, Log2}
 use Rattle.im_base_disk.specs.Disk.{Files}
 use Rattle.im_base_two_logs.specs.Renamed.{named}
-use Rattle.im_base_guard.specs.declared.folder.Folder.{Folder}
-use Rattle.im_base_guard.specs.declared.folder.Front.{Front}
-use Rattle.im_base_guard.specs.Fronts as guard
-use Rattle.im_base_guard.specs.Belonging.{current, left, other_is_current}
-use Rattle.im_base_guard.specs.LogCuts.{end_of, gone_of, kept_of, log_cuts_of}
-use Rattle.im_base_guard.proofs.Cuts.{end_is_gate, gone_some, kept_is_far, IsEmptied, IsFar}
+use Rattle.im_files_guard.specs.declared.folder.Folder.{Folder}
+use Rattle.im_files_guard.specs.declared.folder.Front.{Front}
+use Rattle.im_files_guard.specs.Fronts as guard
+use Rattle.im_files_guard.specs.Belonging.{current, left, other_is_current}
+use Rattle.im_files_guard.specs.LogCuts.{end_of, gone_of, kept_of, log_cuts_of}
+use Rattle.im_files_guard.proofs.Cuts.{end_is_gate, gone_some, kept_is_far, IsEmptied, IsFar}
 use Rattle.im_log_header.specs.Header as headers
 use Rattle.im_log_header.specs.Header.{first_gate, base_of, generation_of, says_made, says_second, IsSecond, IsUnmade, StartsAlike}
 use Rattle.im_log_header.proofs.Saying.{fronts, least_gate}

@@ -3,9 +3,9 @@ use Rattle.std.proofs.Common.{◌≡◌, ◌⊎◌, inl, inr, ⊎_elim, ℕ, ◌
 use Rattle.std.specs.Int.{w64, from_be_bytes}
 use Rattle.std.proofs.lemmas.Bool.{cases_Bool, cases_lt, cond-true, cond-false, le-ltb, lt-ltb, ltb-true, and_parts, and_right, eqb-true}
 use Rattle.std.proofs.lemmas.List.{get_or-take, get_or-append_right, get_or-replicate, get_or_append_left, get_or_past, drop-take, take-append-le}
-use Rattle.im_base_guard.specs.declared.folder.Front.{Front}
-use Rattle.im_base_guard.specs.Fronts as guard
-use Rattle.im_base_guard.specs.LeftLog.{guard_gate}
+use Rattle.im_files_guard.specs.declared.folder.Front.{Front}
+use Rattle.im_files_guard.specs.Fronts as guard
+use Rattle.im_files_guard.specs.LeftLog.{guard_gate}
 use Rattle.im_log_header.specs.Header.{IsUnmade, IsMade, says_made, says_second, number_at, first_gate, base_of, generation_of}
 use Rattle.im_engine_guards.specs.Guards.{IsFront}
 

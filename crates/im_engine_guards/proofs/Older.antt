@@ -11,8 +11,8 @@ use Rattle.im_theory_page.specs.PageFile.{file_page, page_count}
 use Rattle.im_theory_page.proofs.PageFileLemmas.{page_past}
 use Rattle.im_theory_switch.specs.Left.{IsAtLeast, IsPast}
 use Rattle.im_theory_switch.proofs.Left.{pages_there}
-use Rattle.im_base_guard.specs.declared.left_log.LeftLog.{LeftLog}
-use Rattle.im_base_guard.specs.LeftLog.{IsOlder}
+use Rattle.im_files_guard.specs.declared.left_log.LeftLog.{LeftLog}
+use Rattle.im_files_guard.specs.LeftLog.{IsOlder}
 use Rattle.im_engine_guards.specs.Guards.{lsn_in}
 use Rattle.im_engine_guards.proofs.PageFronts.{page_lsn}
 

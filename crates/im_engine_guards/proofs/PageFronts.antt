@@ -7,7 +7,7 @@ use Rattle.im_theory_page.specs.Number.{u32_at, u64_at}
 use Rattle.im_theory_page.specs.Page.{is_form, page_of, said_by}
 use Rattle.im_theory_page.specs.PageFile.{file_page, page_bytes, page_count}
 use Rattle.im_theory_page.proofs.PageFileLemmas.{counted_within, page_here}
-use Rattle.im_base_guard.specs.declared.folder.PagesFront.{PagesFront}
+use Rattle.im_files_guard.specs.declared.folder.PagesFront.{PagesFront}
 use Rattle.im_engine_guards.specs.Guards.{IsPagesFront, lsn_in}
 
 -- a page that bytes are is what they say

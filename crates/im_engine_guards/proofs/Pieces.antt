@@ -4,8 +4,8 @@ use Rattle.std.specs.Prelude.{nat_lt}
 use Rattle.std.specs.Int.{w32, from_be_bytes}
 use Rattle.std.proofs.lemmas.Bool.{cases_Bool, cases_lt, cond-true, cond-false, lt-ltb, le-ltb}
 use Rattle.std.proofs.lemmas.List.{drop-take, take-take, drop-drop, drop_all, get_or-take}
-use Rattle.im_base_guard.specs.declared.left_log.LeftLog.{LeftLog}
-use Rattle.im_base_guard.specs.LeftLog.{found_step, gate_step, leaves_batch, number, over, record_step, says_nothing, step_of, sum, walk}
+use Rattle.im_files_guard.specs.declared.left_log.LeftLog.{LeftLog}
+use Rattle.im_files_guard.specs.LeftLog.{found_step, gate_step, leaves_batch, number, over, record_step, says_nothing, step_of, sum, walk}
 use Rattle.im_engine_guards.specs.Walks.{walked}
 
 -- ---- steps by what they look at

@@ -4,8 +4,8 @@ use Rattle.std.specs.Prelude.{nat_lt}
 use Rattle.std.specs.Int.{w32, from_be_bytes}
 use Rattle.std.proofs.lemmas.Bool.{cases_Bool, cases_eq, cases_lt, cond-true, cond-false, eq-eqb, ne_eqb, le-ltb}
 use Rattle.im_base_types.specs.Records.{Logged}
-use Rattle.im_base_guard.specs.declared.left_log.LeftLog.{LeftLog}
-use Rattle.im_base_guard.specs.LeftLog.{copied_step, leaves_batch, noted_step, number, over, says_nothing, step_of, sum}
+use Rattle.im_files_guard.specs.declared.left_log.LeftLog.{LeftLog}
+use Rattle.im_files_guard.specs.LeftLog.{copied_step, leaves_batch, noted_step, number, over, says_nothing, step_of, sum}
 use Rattle.im_log_gate.specs.Batches.{batch, batch_length, batches, batches_from, in_front, is_whole, size_of}
 use Rattle.im_log_gate.proofs.BatchLemmas.{Sizes, batch_long, sizes}
 use Rattle.im_log_gate.proofs.Reading.{broken, ends_here, missing, steps}

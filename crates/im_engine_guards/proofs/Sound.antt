@@ -6,13 +6,13 @@ use Rattle.im_base_types.specs.Changes.{Effect}
 use Rattle.im_base_types.specs.declared.file_id.FileId.TheVariants.{Log, Pages, Log2}
 use Rattle.im_base_disk.specs.Disk.{Files}
 use Rattle.im_base_two_logs.specs.Renamed.{named}
-use Rattle.im_base_guard.specs.declared.folder.Folder.{Folder}
-use Rattle.im_base_guard.specs.declared.folder.Front.{Front}
-use Rattle.im_base_guard.specs.declared.belonging.Apart.{Apart}
-use Rattle.im_base_guard.specs.declared.belonging.Apart.TheVariants.{Unfinished, NoFile, NoPages, ShortPages, NotALog}
-use Rattle.im_base_guard.specs.declared.belonging.Logs.{Logs}
-use Rattle.im_base_guard.specs.Fronts as guard
-use Rattle.im_base_guard.specs.Belonging.{current, is_store, other_is_current, word_of, Decides, IsApart, IsVerdict, LacksCounted}
+use Rattle.im_files_guard.specs.declared.folder.Folder.{Folder}
+use Rattle.im_files_guard.specs.declared.folder.Front.{Front}
+use Rattle.im_files_guard.specs.declared.belonging.Apart.{Apart}
+use Rattle.im_files_guard.specs.declared.belonging.Apart.TheVariants.{Unfinished, NoFile, NoPages, ShortPages, NotALog}
+use Rattle.im_files_guard.specs.declared.belonging.Logs.{Logs}
+use Rattle.im_files_guard.specs.Fronts as guard
+use Rattle.im_files_guard.specs.Belonging.{current, is_store, other_is_current, word_of, Decides, IsApart, IsVerdict, LacksCounted}
 use Rattle.im_log_header.specs.Header as headers
 use Rattle.im_log_header.specs.Header.{generation_of}
 use Rattle.im_log_choice.specs.Current.{IsCurrent, HasCurrent}

@@ -5,12 +5,12 @@ use Rattle.im_base_types.specs.Changes.{Effect}
 use Rattle.im_base_types.specs.declared.file_id.FileId.TheVariants.{Log, Log2, Pages}
 use Rattle.im_base_disk.specs.Disk.{Files}
 use Rattle.im_base_two_logs.specs.Renamed.{named}
-use Rattle.im_base_guard.specs.declared.folder.Folder.{Folder}
-use Rattle.im_base_guard.specs.declared.folder.Front.{Front}
-use Rattle.im_base_guard.specs.declared.left_log.LeftLog.{LeftLog}
-use Rattle.im_base_guard.specs.Belonging.{current, left, other_is_current}
-use Rattle.im_base_guard.specs.Fronts as guard
-use Rattle.im_base_guard.specs.LeftLog.{IsOlder, current_log_of, guard_gate, left_log_of, step_of}
+use Rattle.im_files_guard.specs.declared.folder.Folder.{Folder}
+use Rattle.im_files_guard.specs.declared.folder.Front.{Front}
+use Rattle.im_files_guard.specs.declared.left_log.LeftLog.{LeftLog}
+use Rattle.im_files_guard.specs.Belonging.{current, left, other_is_current}
+use Rattle.im_files_guard.specs.Fronts as guard
+use Rattle.im_files_guard.specs.LeftLog.{IsOlder, current_log_of, guard_gate, left_log_of, step_of}
 use Rattle.im_log_header.specs.Header as headers
 use Rattle.im_log_header.specs.Header.{says_made, says_second}
 use Rattle.im_log_header.proofs.Saying.{unmade}

@@ -5,17 +5,17 @@ use Rattle.im_base_types.specs.Changes.{Effect}
 use Rattle.im_base_types.specs.declared.file_id.FileId.TheVariants.{Log, Pages as PagesFile, Log2}
 use Rattle.im_base_types.specs.declared.page_kind.PageKind.TheVariants.{Free}
 use Rattle.im_base_disk.specs.Disk.{Files}
-use Rattle.im_base_guard.specs.declared.folder.Front.{Front}
-use Rattle.im_base_guard.specs.declared.folder.PagesFront.{PagesFront}
-use Rattle.im_base_guard.specs.declared.folder.Folder.{Folder}
-use Rattle.im_base_guard.specs.declared.left_log.LeftLog.{LeftLog}
-use Rattle.im_base_guard.specs.LeftLog.{IsOlder, current_log_of, left_log_of}
-use Rattle.im_base_guard.specs.Fronts.{BeginsWithChange}
-use Rattle.im_base_guard.specs.declared.log_cuts.LogCuts.{LogCuts}
-use Rattle.im_base_guard.specs.LogCuts.{log_cuts_of}
-use Rattle.im_base_guard.specs.Belonging.{left, IsVerdict, Decides}
-use Rattle.im_base_guard.specs.declared.belonging.Apart.{Apart}
-use Rattle.im_base_guard.specs.declared.belonging.Logs.{Logs}
+use Rattle.im_files_guard.specs.declared.folder.Front.{Front}
+use Rattle.im_files_guard.specs.declared.folder.PagesFront.{PagesFront}
+use Rattle.im_files_guard.specs.declared.folder.Folder.{Folder}
+use Rattle.im_files_guard.specs.declared.left_log.LeftLog.{LeftLog}
+use Rattle.im_files_guard.specs.LeftLog.{IsOlder, current_log_of, left_log_of}
+use Rattle.im_files_guard.specs.Fronts.{BeginsWithChange}
+use Rattle.im_files_guard.specs.declared.log_cuts.LogCuts.{LogCuts}
+use Rattle.im_files_guard.specs.LogCuts.{log_cuts_of}
+use Rattle.im_files_guard.specs.Belonging.{left, IsVerdict, Decides}
+use Rattle.im_files_guard.specs.declared.belonging.Apart.{Apart}
+use Rattle.im_files_guard.specs.declared.belonging.Logs.{Logs}
 use Rattle.im_log_choice.specs.Current.{IsCurrent}
 use Rattle.im_engine.specs.Stands.{StandsFor}
 use Rattle.im_log_gate.specs.Header.{IsUnmade}

@@ -1,8 +1,8 @@
 -- What walks over the heads of logs say of their records.
 use Rattle.std.specs.Prelude.{◌≡◌, ◌⊎◌, ◌≤◌, ◌<◌, ◌+◌, ℕ, true, false, List, [], ◌∷◌, length, take, drop, None}
 use Rattle.im_base_types.specs.Records.{Logged}
-use Rattle.im_base_guard.specs.declared.left_log.LeftLog.{LeftLog}
-use Rattle.im_base_guard.specs.LeftLog.{step_of, walk}
+use Rattle.im_files_guard.specs.declared.left_log.LeftLog.{LeftLog}
+use Rattle.im_files_guard.specs.LeftLog.{step_of, walk}
 use Rattle.im_log_header.specs.Header.{first_gate}
 use Rattle.im_log.specs.Kept.{HasLog}
 use Rattle.im_theory_switch.specs.Left.{AreReadable}

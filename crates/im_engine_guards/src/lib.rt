@@ -1,6 +1,6 @@
 //! Is a sound store ever refused by the guard of its folder?
 //!
-//! That `im_base_guard`, which an opening of a folder asks first, refuses no files that stand for effects: those that lives and stops leave, also within a write, of
+//! That `im_files_guard`, which an opening of a folder asks first, refuses no files that stand for effects: those that lives and stops leave, also within a write, of
 //! which any bytes may be left. No lower crate can say so, since what files stand for is a word of `im_engine`.
 //!
 //! `guards_never_refuse` is the law of every verdict, `verdict` the guard with the law as its contract. Two things are supposed, of which that word says nothing
@@ -17,7 +17,7 @@
 ghost use Rattle.im_engine_guards.specs.Guards.{CutsKeep, NeverOlder, NeverRefused, IsSparing, TakesCurrent};
 ghost use Rattle.im_engine_guards.specs.Walks.{CurrentIsRead, LeftIsRead};
 
-use im_base_guard::{Apart, Folder, Logs, belong};
+use im_files_guard::{Apart, Folder, Logs, belong};
 
 /// A walk over a log that was left names its changes, in whatever pieces its bytes are read, however far. One that has come to the end of the current log has passed over each full copy.
 pub fn walks_say()
@@ -32,7 +32,7 @@ pub fn guards_never_refuse()
     ensures older { NeverOlder }
 {}
 
-/// Files that stand for effects stand for the same once their logs are cut as a close cuts them (`im_base_guard::LogCuts`). A law, and nothing that runs.
+/// Files that stand for effects stand for the same once their logs are cut as a close cuts them (`im_files_guard::LogCuts`). A law, and nothing that runs.
 pub fn cuts_keep_stores()
     ensures { CutsKeep }
 {}

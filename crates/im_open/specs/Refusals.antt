@@ -1,6 +1,6 @@
 -- Why a store was not opened.
 use Rattle.std.specs.Prelude.{◌≡◌, ◌<◌, ◌≤◌, ◌⊎◌, ◌↔◌}
-use Rattle.im_base_file_disk.specs.RealFiles.{fault_of_opening}
+use Rattle.im_files_disk.specs.RealFiles.{fault_of_opening}
 use Rattle.im_base_types.specs.declared.fault.Fault.{Fault}
 use Rattle.im_base_types.specs.declared.fault.Fault.TheVariants.{Capacity, Device, LogFull, Memory, NotAStore, PoolSize, Workers}
 use Rattle.im_engine.specs.declared.config.Config.{Config}

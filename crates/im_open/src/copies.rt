@@ -5,10 +5,10 @@ ghost use Rattle.im_open.specs.Copied.{HasBegun, HasEnded, IsNotCopied, OnlyItsD
 
 use crate::open_folder::Files;
 use im_base_disk::Disk;
-use im_base_file_disk::{FileDisk, OpenError};
 use im_base_mirror_disk::Piece;
 use im_base_two_logs::Renamed;
 use im_base_types::Fault;
+use im_files_disk::{FileDisk, OpenError};
 use im_store::OpenStore;
 use thiserror::Error;
 

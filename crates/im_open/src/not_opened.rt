@@ -3,8 +3,8 @@
 ghost use Rattle.std.specs.Prelude.{◌≡◌};
 ghost use Rattle.im_open.specs.Refusals.{fault_in};
 
-use im_base_file_disk::OpenError;
 use im_base_types::Fault;
+use im_files_disk::OpenError;
 use thiserror::Error;
 
 /// What kept a program from the store of a folder, in words for a user.

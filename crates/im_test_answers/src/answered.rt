@@ -4,12 +4,12 @@ ghost use Rattle.std.specs.Prelude.{◌≡◌, false};
 ghost use Rattle.im_base_disk.specs.Runs.{IsSynced};
 
 use im_base_disk::Disk;
-use im_base_file_disk::FileDisk;
 use im_base_model_disk::ModelDisk;
 use im_base_two_logs::Renamed;
 use im_base_types::Fault;
 use im_engine::Config;
 use im_engine_upkeep::Bounds;
+use im_files_disk::FileDisk;
 use im_tool::{NoCopies, StoreEnd, store_text};
 use im_tool_files::{Cause, Causes, Ending, Opening};
 use im_tool_user::Manner;

@@ -1,6 +1,6 @@
 //! Real files: what is cut of the logs of a closed store.
 
-use im_base_file_disk::FileDisk;
+use im_files_disk::FileDisk;
 use std::alloc::{AllocError, Global};
 use std::fs;
 use std::process::Abort;

@@ -1,8 +1,8 @@
 //! Real files: what is refused of a folder, what is read of one that is opened to be read, and the words of errors.
 
 use im_base_disk::{Disk, read_vec, write_synced};
-use im_base_file_disk::{FileDisk, OpenError};
 use im_base_types::{Fault, FileId};
+use im_files_disk::{FileDisk, OpenError};
 use std::alloc::Global;
 use std::fs;
 use std::test::Fail;

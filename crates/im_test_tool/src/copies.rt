@@ -2,9 +2,9 @@
 ghost use Rattle.std.specs.Prelude.{◌≡◌, false};
 
 use im_base_disk::{Disk, read_vec};
-use im_base_file_disk::FileDisk;
-use im_base_scratch_disk::ScratchDisk;
 use im_base_types::{Fault, FileId};
+use im_files_disk::FileDisk;
+use im_files_scratch_disk::ScratchDisk;
 use im_tool::check_text;
 use im_tool_files::Untold;
 use std::alloc::Global;

@@ -6,13 +6,13 @@ use crate::copies::{
     Copies, FIRST_GATE, Scratch, copied, copies_of, is_whole, said_of, scratch, taken_from,
 };
 use im_base_disk::Disk;
-use im_base_file_disk::FileDisk;
-use im_base_scratch_disk::ScratchDisk;
 use im_base_steps::{Reply, Step};
 use im_base_two_logs::Renamed;
 use im_base_types::{Fault, LONGEST_KEY};
 use im_engine::{Config, Engine};
 use im_engine_upkeep::Bounds;
+use im_files_disk::FileDisk;
+use im_files_scratch_disk::ScratchDisk;
 use im_tool::{NoCopies, stat_text, store_text};
 use im_tool_files::{Causes, Untold};
 use im_tool_user::Manner;

@@ -2,12 +2,12 @@
 
 use crate::copies::{Copies, FIRST_GATE, copied, said_of, taken_from};
 use crate::looked::{answered, fill_within, numbers_of};
-use im_base_file_disk::FileDisk;
 use im_base_model_disk::ModelDisk;
 use im_base_two_logs::Renamed;
 use im_base_types::{Fault, PAGE_SIZE};
 use im_engine::{Config, Engine};
 use im_engine_upkeep::Bounds;
+use im_files_disk::FileDisk;
 use im_tool_user::Manner;
 use std::alloc::Global;
 use std::io::Write;

@@ -3,8 +3,8 @@
 use crate::copies::{Copies, copied, file_in, is_whole, lay, said_of, taken_from};
 use crate::looked::{fill, leave, numbers_of};
 use crate::mixed::has_part;
-use im_base_file_disk::FileDisk;
 use im_base_types::{Fault, PAGE_SIZE};
+use im_files_disk::FileDisk;
 use std::alloc::Global;
 use std::io::Write;
 use std::process::Abort;

@@ -3,11 +3,11 @@ ghost use Rattle.std.specs.Prelude.{◌≡◌, ◌≤◌, false, IfOk};
 
 use crate::look::check_text;
 use im_base_disk::Disk;
-use im_base_file_disk::FileDisk;
 use im_base_mirror_disk::{Mirrored, Piece};
-use im_base_scratch_disk::ScratchDisk;
 use im_base_two_logs::{Renamed, TwoLogs};
 use im_base_types::Fault;
+use im_files_disk::FileDisk;
+use im_files_scratch_disk::ScratchDisk;
 use im_store::OpenStore;
 use im_tool_files::{
     Cause, CopyDisk, NoCopy, Progress, ProgressLine, begun_copy, clear_copy, named_copy,

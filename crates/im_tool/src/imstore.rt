@@ -9,14 +9,14 @@ use crate::store::{StoreEnd, store_text};
 use crate::tasks::{load_program, look_program, tell_damage};
 use clap::Error;
 use im_base_disk::Disk;
-use im_base_file_disk::FileDisk;
 use im_base_mirror_disk::Mirrored;
 use im_base_model_disk::ModelDisk;
-use im_base_scratch_disk::ScratchDisk;
 use im_base_two_logs::Renamed;
 use im_base_types::Fault;
 use im_engine::{Config, MOST_WORKERS};
 use im_engine_upkeep::Bounds;
+use im_files_disk::FileDisk;
+use im_files_scratch_disk::ScratchDisk;
 use im_tool_files::{
     Cause, Causes, Ending, Opening, WatchedDisk, print_refused_opening, tell, tell_unopened,
     tell_unread, trim_program,

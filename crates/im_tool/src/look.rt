@@ -4,7 +4,7 @@ ghost use Rattle.std.specs.Prelude.{◌≤◌, IfOk};
 
 use crate::recovered::{opened, write_changed};
 use im_base_disk::Disk;
-use im_base_scratch_disk::ScratchDisk;
+use im_files_scratch_disk::ScratchDisk;
 use im_tool_files::{
     Broken, Progress, ScratchFiles, Surveyed, WatchedFiles, broken_text, numbers_text,
     survey_files, whole_text,

@@ -7,10 +7,10 @@ use crate::limits::{bounds_of, config_of};
 use crate::look::{check_text, stat_text};
 use crate::recovered::opened;
 use crate::transfer::{LoadCount, Loaded, load_text};
-use im_base_file_disk::FileDisk;
-use im_base_scratch_disk::ScratchDisk;
 use im_base_two_logs::Renamed;
 use im_base_types::Fault;
+use im_files_disk::FileDisk;
+use im_files_scratch_disk::ScratchDisk;
 use im_tool_files::{
     Cause, Causes, Progress, ProgressLine, ScratchFiles, Untold, WatchedDisk,
     print_refused_opening, tell, tell_unopened, tell_unread,

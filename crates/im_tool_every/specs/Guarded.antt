@@ -4,13 +4,13 @@ use Rattle.std.specs.Int.{w64, from_be_bytes}
 use Rattle.im_base_types.specs.declared.file_id.FileId.{FileId}
 use Rattle.im_base_types.specs.declared.file_id.FileId.TheVariants.{Log, Pages, Log2}
 use Rattle.im_base_disk.specs.Disk.{Files}
-use Rattle.im_base_guard.specs.declared.belonging.Logs.{Logs}
-use Rattle.im_base_guard.specs.declared.folder.Folder.{Folder}
-use Rattle.im_base_guard.specs.declared.folder.Front.{Front}
-use Rattle.im_base_guard.specs.declared.folder.PagesFront.{PagesFront}
-use Rattle.im_base_guard.specs.declared.left_log.LeftLog.{LeftLog}
-use Rattle.im_base_guard.specs.Belonging.{BelongTogether}
-use Rattle.im_base_guard.specs.LeftLog.{current_log_of, left_log_of, walk, IsOlder}
+use Rattle.im_files_guard.specs.declared.belonging.Logs.{Logs}
+use Rattle.im_files_guard.specs.declared.folder.Folder.{Folder}
+use Rattle.im_files_guard.specs.declared.folder.Front.{Front}
+use Rattle.im_files_guard.specs.declared.folder.PagesFront.{PagesFront}
+use Rattle.im_files_guard.specs.declared.left_log.LeftLog.{LeftLog}
+use Rattle.im_files_guard.specs.Belonging.{BelongTogether}
+use Rattle.im_files_guard.specs.LeftLog.{current_log_of, left_log_of, walk, IsOlder}
 use Rattle.im_base_model_disk.specs.declared.model_disk.ModelDisk.{ModelDisk}
 use Rattle.im_base_model_disk.specs.Left.{IsLeftBy}
 use Rattle.im_base_model_disk.specs.Model.{file_of, model_stop}

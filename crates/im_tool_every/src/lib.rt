@@ -12,7 +12,7 @@
 //! that life begins with (`Start`) stands before what it asked, as one effect that was acknowledged. It stops a life and an opening at their ends
 //! too, where a call that was answered and not synced shows, and leaves single bytes as written (`Stops::Everywhere`).
 //!
-//! It stands on `im_tool_judge` for the verdicts, on `im_tool_drill` for lives, on `im_base_guard` for the guards, on the engine and the model disk. What it prints is tested, and
+//! It stands on `im_tool_judge` for the verdicts, on `im_tool_drill` for lives, on `im_files_guard` for the guards, on the engine and the model disk. What it prints is tested, and
 //! stands in no clause; of an opening each verdict is the judge's (`IsJudged`), and a stopped one leaves what the stop does (`IsStopped`). What a stop left
 //! is bad too where the guards of a folder of these files would refuse it (`IsGuarded`); each verdict is counted (`IsJudgedIn`).
 #![tactic(auto)]

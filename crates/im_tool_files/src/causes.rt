@@ -1,11 +1,11 @@
 //! What a disk says of a call that failed.
 
 use im_base_disk::Disk;
-use im_base_file_disk::{DiskError, FileDisk};
 use im_base_mirror_disk::Mirrored;
 use im_base_model_disk::ModelDisk;
-use im_base_scratch_disk::ScratchDisk;
 use im_base_two_logs::Renamed;
+use im_files_disk::{DiskError, FileDisk};
+use im_files_scratch_disk::ScratchDisk;
 use std::io::Write;
 
 /// A disk that may say why its last call failed.

@@ -3,8 +3,8 @@ ghost use Rattle.std.specs.Prelude.{◌≡◌, []};
 
 use crate::telling::tell;
 use im_base_disk::Disk;
-use im_base_file_disk::FileDisk;
 use im_base_types::{Fault, FileId};
+use im_files_disk::FileDisk;
 
 /// The files of a copy. What fails of them is told on standard error, since who makes the copy lets them go then.
 #[derive(Drop)]

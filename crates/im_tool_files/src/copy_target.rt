@@ -3,8 +3,8 @@ ghost use Rattle.std.specs.Prelude.{◌≡◌, false, IfOk, OnOk};
 
 use crate::copy_disk::CopyDisk;
 use im_base_disk::Disk;
-use im_base_file_disk::{FileDisk, OpenError};
 use im_base_types::{Fault, FileId};
+use im_files_disk::{FileDisk, OpenError};
 use std::path::Path;
 use std::{fs, io};
 use thiserror::Error;

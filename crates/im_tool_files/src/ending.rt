@@ -2,12 +2,12 @@
 
 use crate::causes::Causes;
 use im_base_disk::Disk;
-use im_base_file_disk::FileDisk;
 use im_base_mirror_disk::Mirrored;
 use im_base_model_disk::ModelDisk;
-use im_base_scratch_disk::ScratchDisk;
 use im_base_two_logs::Renamed;
 use im_base_types::Fault;
+use im_files_disk::FileDisk;
+use im_files_scratch_disk::ScratchDisk;
 use std::io::Write;
 
 /// A disk that may have the files of a folder below it.

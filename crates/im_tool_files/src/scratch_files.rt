@@ -1,8 +1,8 @@
 //! Files that are looked at over a disk on which what is written stays in memory.
 
 use im_base_disk::Disk;
-use im_base_scratch_disk::ScratchDisk;
 use im_base_types::{Fault, FileId};
+use im_files_scratch_disk::ScratchDisk;
 use im_tool_look::Files;
 
 /// The files of such a disk, also after a call of it that failed.

@@ -1,7 +1,7 @@
 //! What is said of a store that was not opened.
 
-use im_base_file_disk::OpenError;
 use im_base_types::Fault;
+use im_files_disk::OpenError;
 use std::fmt::Display;
 use std::io;
 use std::io::Write;

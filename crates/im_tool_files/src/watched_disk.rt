@@ -5,12 +5,12 @@ use crate::causes::{Cause, Causes};
 use crate::ending::{Ending, cut_logs};
 use crate::progress::{Progress, ProgressLine};
 use im_base_disk::Disk;
-use im_base_file_disk::{DiskError, FileDisk};
 use im_base_mirror_disk::Mirrored;
 use im_base_model_disk::ModelDisk;
-use im_base_scratch_disk::ScratchDisk;
 use im_base_two_logs::Renamed;
 use im_base_types::{Fault, FileId};
+use im_files_disk::{DiskError, FileDisk};
+use im_files_scratch_disk::ScratchDisk;
 use std::cell::Cell;
 use std::io::{IsTerminal, Write};
 

@@ -1,0 +1,101 @@
+-- What the log that was left says of the pages.
+use Rattle.std.specs.Prelude.{◌⊎◌, ◌<◌, ◌+◌, ◌-◌, ◌^◌, ◌==◌, ◌||◌, min, not, if◌then◌else◌, nat_lt, ℕ, zero, suc, Bool, true, false, List, length, take, drop, slice_index}
+use Rattle.std.specs.Int.{w32, from_be_bytes}
+use Rattle.im_files_guard.specs.declared.folder.Folder.{Folder}
+use Rattle.im_files_guard.specs.declared.folder.Front.{Front}
+use Rattle.im_files_guard.specs.declared.left_log.LeftLog.{LeftLog}
+use Rattle.im_files_guard.specs.Fronts.{said_base, front_says_made, front_says_second}
+use Rattle.im_files_guard.specs.Belonging.{current, left, other_is_current}
+
+-- the place of the first gate of a log that was made
+abbrev pub guard_gate : Front → ℕ
+guard_gate front = if front_says_second front then 47 else 31
+
+-- the walk at the first gate of the log that was left: over at once where the current log is a first one, or none was left
+abbrev pub left_log_of : Folder → LeftLog
+left_log_of f = record {
+  place = guard_gate (left f);
+  end = guard_gate (left f);
+  base = said_base (left f);
+  lsn = 0;
+  pages = 0;
+  page = 0;
+  is_over = (said_base (current f) == 0) || not (front_says_made (left f));
+  is_log2 = not (other_is_current f);
+  is_current = false;
+}
+
+-- and then at that of the current one, with what was found: over at once where that is nothing
+abbrev pub current_log_of : Folder → LeftLog → LeftLog
+current_log_of f l = record l {
+  place = guard_gate (current f);
+  end = guard_gate (current f);
+  base = said_base (current f);
+  is_over = l.lsn == 0;
+  is_log2 = other_is_current f;
+  is_current = true;
+}
+
+-- a sum that a number of eight bytes holds
+abbrev pub sum : ℕ → ℕ → ℕ
+sum a b = min (a + b) (2 ^ 64 - 1)
+
+-- the number in the first four bytes
+abbrev pub number : List ℕ → ℕ
+number bytes = from_be_bytes w32 (take 4 bytes)
+
+abbrev pub over : LeftLog → LeftLog
+over l = record l { is_over = true }
+
+-- Over a gate, where it is open and a length in range stands after it.
+abbrev pub gate_step : LeftLog → List ℕ → LeftLog
+gate_step l bytes =
+    if not (slice_index bytes 0 == 1) || (number (drop 1 bytes) == 0) || nat_lt 16384 (number (drop 1 bytes))
+    then over l
+    else record l { place = sum l.place 5; end = sum (sum l.place 5) (number (drop 1 bytes)) }
+
+-- Over a record of the log that was left which changes this page, to this place.
+abbrev pub noted_step : LeftLog → (place page : ℕ) → LeftLog
+noted_step l place page = record l { place = place; lsn = sum l.base l.place; page = page; pages = if nat_lt l.pages (page + 1) then page + 1 else l.pages }
+
+-- A record of so many bytes is none, or does not end within the batch.
+abbrev pub leaves_batch : LeftLog → ℕ → Bool
+leaves_batch l size = nat_lt size 33 || nat_lt l.end (sum l.place size)
+
+-- Over a record of the current log which has a full copy of this page: a stop may have torn that page since, and any LSN may stand there.
+abbrev pub copied_step : LeftLog → (place page : ℕ) → LeftLog
+copied_step l place page = record l { place = place; lsn = if page == l.page then 0 else l.lsn; pages = if page + 1 == l.pages then 0 else l.pages }
+
+abbrev pub found_step : LeftLog → (place page : ℕ) → LeftLog
+found_step l place page = if l.is_current then copied_step l place page else noted_step l place page
+
+-- A record of this kind says nothing: in the log that was left those of the kinds 1 to 6 change a page, in the current one those of the kinds 5, 6 and 10 have a full copy of it.
+abbrev pub says_nothing : Bool → ℕ → Bool
+says_nothing current kind = if current then not ((kind == 5) || (kind == 6) || (kind == 10)) else (kind == 0) || nat_lt 6 kind
+
+-- Over a record, where it ends within the batch.
+abbrev pub record_step : LeftLog → List ℕ → LeftLog
+record_step l bytes =
+    if leaves_batch l (number bytes)
+    then over l
+    else (if says_nothing l.is_current (slice_index bytes 4)
+    then record l { place = sum l.place (number bytes) }
+    else found_step l (sum l.place (number bytes)) (number (drop 29 bytes)))
+
+-- One step on, by the bytes from the wanted place on; none where they are too few.
+abbrev pub step_of : LeftLog → List ℕ → LeftLog
+step_of l bytes =
+    if l.is_over
+    then l
+    else (if l.place == l.end
+    then (if nat_lt (length bytes) 5 then l else gate_step l bytes)
+    else (if nat_lt (length bytes) 33 then l else record_step l bytes))
+
+-- So many steps on, by a piece of the log that begins at a place.
+abbrev pub walk : ℕ → ℕ → List ℕ → LeftLog → LeftLog
+walk zero start piece l = l
+walk (suc n) start piece l = step_of (walk n start piece l) (drop ((walk n start piece l).place - start) piece)
+
+-- A page that the log changed is not in a file of so many pages, or the page of its newest change has this LSN there, a lower one.
+abbrev pub IsOlder : LeftLog → (pages lsn : ℕ) → Type 0
+IsOlder l pages lsn = (pages < l.pages) ⊎ (lsn < l.lsn)

@@ -1,0 +1,78 @@
+-- What may go of the logs of a closed store.
+use Rattle.std.specs.Prelude.{◌≡◌, ◌↔◌, ◌+◌, ◌-◌, ◌==◌, ◌&&◌, not, if◌then◌else◌, nat_le, nat_lt, ℕ, Bool, ◌++◌, length, take, drop, replicate, slice_index, Result}
+use Rattle.std.specs.Int.{w32, from_be_bytes}
+use Rattle.im_files_guard.specs.declared.folder.Folder.{Folder}
+use Rattle.im_files_guard.specs.declared.folder.Front.{Front}
+use Rattle.im_files_guard.specs.declared.belonging.Logs.{Logs}
+use Rattle.im_files_guard.specs.declared.belonging.Apart.{Apart}
+use Rattle.im_files_guard.specs.declared.log_cuts.LogCuts.{LogCuts}
+use Rattle.im_files_guard.specs.Fronts.{said_generation, front_says_made, front_says_second}
+use Rattle.im_files_guard.specs.Belonging.{current, left, other_is_current, IsVerdict}
+
+-- how long the records of the batch after the gate at a place are, as the four bytes after that say
+abbrev pub size_at : ℕ → Front → ℕ
+size_at gate front = from_be_bytes w32 (take 4 (drop (gate + 1) front.bytes))
+
+-- where they end
+abbrev pub end_at : ℕ → Front → ℕ
+end_at gate front = gate + 5 + size_at gate front
+
+-- The batch is there: the gate is open, the length after it is that of a record's head at least and of a batch at most, and the file has all of it.
+abbrev pub has_batch_at : ℕ → Front → Bool
+has_batch_at gate front = (slice_index front.bytes gate == 1) && nat_le 33 (size_at gate front) && nat_le (size_at gate front) 16384 && nat_le (end_at gate front) front.long
+
+-- the end of that batch, 0 where it is not there
+abbrev pub kept_at : ℕ → Front → ℕ
+kept_at gate front = if has_batch_at gate front then end_at gate front else 0
+
+-- the end of the first batch of a log that was made, 0 where it does not begin with one
+abbrev pub first_end : Front → ℕ
+first_end front = if front_says_second front then kept_at 47 front else (if front_says_made front then kept_at 31 front else 0)
+
+-- A log of an earlier generation than the current one was left for it.
+abbrev pub was_left : Folder → Bool
+was_left f = front_says_made (left f) && nat_lt (said_generation (left f)) (said_generation (current f))
+
+-- how much stays of the log that was left; 0 where there is none, or nothing of it may go
+abbrev pub kept_of : Folder → ℕ
+kept_of f = if was_left f then first_end (left f) else 0
+
+-- The log, of the second format, has no record: its first gate is closed.
+abbrev pub is_empty : Front → Bool
+is_empty front = front_says_second front && not (slice_index front.bytes 47 == 1)
+
+-- how much stays of the current log, its header and that gate; 0 where it has a record, or none was left for it
+abbrev pub end_of : Folder → ℕ
+end_of f = if was_left f && is_empty (current f) then 48 else 0
+
+-- how much of a log comes after so much that stays
+abbrev pub gone_of : ℕ → Front → ℕ
+gone_of kept front = if kept == 0 then 0 else front.long - kept
+
+abbrev pub log_cuts_of : Folder → LogCuts
+log_cuts_of f = record { kept = kept_of f; gone = gone_of (kept_of f) (left f); end = end_of f; after = gone_of (end_of f) (current f); is_log2 = not (other_is_current f) }
+
+-- ---- the folder after the cuts
+
+-- the beginning of a log of which so much stays: zeros stand where it has no more
+abbrev pub cut_front : ℕ → Front → Front
+cut_front kept front = record front { long = kept; bytes = take kept front.bytes ++ replicate (length front.bytes - kept) 0 }
+
+-- the same where so much goes, and it as it is where nothing does
+abbrev pub shortened : ℕ → ℕ → Front → Front
+shortened kept gone front = if gone == 0 then front else cut_front kept front
+
+-- the folder with its logs cut so
+abbrev pub cut_folder : LogCuts → Folder → Folder
+cut_folder cut f = if cut.is_log2
+    then record f { log = shortened cut.end cut.after f.log; log2 = shortened cut.kept cut.gone f.log2 }
+    else record f { log = shortened cut.kept cut.gone f.log; log2 = shortened cut.end cut.after f.log2 }
+
+-- As many bytes as are read of a log were read of both, zeros where it has no more.
+pub record AreRead (f : Folder) : Type 0 where
+  pub log : length f.log.bytes ≡ 65
+  pub log2 : length f.log2.bytes ≡ 65
+
+-- The verdict over the folder after the cuts is that over the folder before, whatever its files hold.
+abbrev pub CutsAreSound : Type 0
+CutsAreSound = (f : Folder) → AreRead f → (verdict : Result Logs Apart) → IsVerdict (cut_folder (log_cuts_of f) f) verdict ↔ IsVerdict f verdict
