@@ -5,11 +5,12 @@ use Rattle.std.specs.Prelude.{cond, is_some, ◌==◌}
 use Rattle.std.specs.FinMap.{get}
 use Rattle.im_base_types.specs.Keys.{Key}
 use Rattle.im_base_types.specs.Maps.{IndexMap, From, Above, first, last_below}
-use Rattle.im_base_types.specs.Answers.{Access, Fetch, Seek, Next, Prev, Scan, Insert, Delete, Step, Begin, Do, Commit, Rollback, Continue, FlushPage, Force, Checkpoint, Switch, Reply, Started, Committed, RolledBack, More, Blocked, BlockedTree, Die, Done, Refused, Absent, Inserted, Duplicate, Deleted, Mark, Idle, Going, MustRollBack, RollingBack, Committing, found, entry, answer}
+use Rattle.im_base_types.specs.Changes.{Change}
+use Rattle.im_base_types.specs.Answers.{Access, Fetch, Seek, Next, Prev, Scan, Insert, Delete, Step, Begin, Do, Commit, Rollback, Continue, RollTo, FlushPage, Force, Checkpoint, Switch, Reply, Started, Committed, RolledBack, More, Blocked, BlockedTree, Die, Done, Refused, Absent, Inserted, Duplicate, Deleted, Mark, Idle, Going, MustRollBack, RollingBack, Returning, Committing, found, entry, answer}
 use Rattle.im_theory_machine.specs.Locks.{Lock}
 use Rattle.im_theory_machine.specs.View.{Txn, View, Puts, Drops, TakesBack, TookBack, locked, with_change, change_made, idle, set_txn, begun, did, did_txn, marked, committed_by, dropped_by, undid_more, undid_last, broken, queued, forced_by, is_among, idle_all, AreDifferent, MayRollBack}
 use Rattle.im_theory_machine.proofs.Cited.{or_true, among_one, IsQueue, queue_goes, queue_breaks}
-use Rattle.im_theory_machine.specs.Machine.{barred, Answers, Goes, Moves, begins, does, waits, dies, commits, queues, drops, turns, undoes, ends, puts_later, puts, drops_first, drops_leaf, takes_later, takes_first, takes_leaf, takes_last, logs_page, tree_blocks, tree_halts, flushes, forces, checkpoints, switches, lacks, breaks, start}
+use Rattle.im_theory_machine.specs.Machine.{barred, Answers, Goes, MayTakeBack, Moves, begins, does, waits, dies, commits, queues, drops, turns, undoes, ends, puts_later, puts, drops_first, drops_leaf, takes_later, takes_first, takes_leaf, takes_last, stays_back, turns_back, gives_back, is_back, leaf_is_back, logs_page, tree_blocks, tree_halts, flushes, forces, checkpoints, switches, lacks, breaks, start}
 use Rattle.im_base_steps.specs.Replies.{started_in, commits_in, rolled_back_in, waits_after, IsCounted}
 use Rattle.im_front.specs.Events.{Event, Made, Broke, Runs}
 
@@ -25,6 +26,7 @@ busy Idle = 0
 busy Going = 1
 busy MustRollBack = 1
 busy RollingBack = 1
+busy (Returning n) = 1
 busy Committing = 1
 
 -- how many below a number are active
@@ -75,6 +77,10 @@ idle_free m b e = let z : busy m ≡ 0 = ap busy e in absurd (omega arith)
 busy_may : (m : Mark) → MayRollBack m → busy m ≡ 1
 busy_may m (inl e) = ap busy e
 busy_may m (inr e) = ap busy e
+
+busy_back : (m : Mark) (cs : List Change) → MayTakeBack m cs → busy m ≡ 1
+busy_back m cs (inl e) = ap busy e
+busy_back m cs (inr (n, e, some)) = ap busy e
 
 module _ (txns : ℕ → Txn) (next active : ℕ) (failed : Bool) (h : Busy txns next active failed) where
   given_out : (t : ℕ) → busy ((txns t).mark) ≡ 1 → t < next
@@ -236,12 +242,29 @@ goes_leaves v w s r b (drops_first t k i ls x going none there free same d e) =
     leaves_at v w (with_change (did v t (Delete k) ls) t (Drops k)) s (Do t (Delete k)) r More x d e (set_busy v.txns v.next v.active v.failed b.0 t (did_txn (v.txns t) (Delete k) v.walk ls) (ap busy going) refl, (refl, refl))
 goes_leaves v w s r b (drops_leaf t k x going under d e) = leaves_at v w (change_made v) s (Continue t) r Deleted x d e (b.0, (refl, refl))
 goes_leaves v w s r b (takes_later t c cs x rolling none net d e) = leaves_at v w (with_change v t TakesBack) s (Continue t) r More x d e (b.0, (refl, refl))
-goes_leaves v w s r b (takes_first t c cs x rolling none net d e) =
-    leaves_at v w (with_change (undid_more v t c cs) t TookBack) s (Continue t) r More x d e (set_busy v.txns v.next v.active v.failed b.0 t (record (v.txns t) { net = cs }) (ap busy rolling) (ap busy rolling), (refl, refl))
+goes_leaves v w s r b (takes_first t c cs x may none net d e) =
+    let active = busy_back ((v.txns t).mark) cs may in
+    leaves_at v w (with_change (undid_more v t c cs) t TookBack) s (Continue t) r More x d e (set_busy v.txns v.next v.active v.failed b.0 t (record (v.txns t) { net = cs }) active active, (refl, refl))
 goes_leaves v w s r b (takes_leaf t c cs x rolling under net d e) = leaves_at v w (change_made v) s (Continue t) r More x d e (b.0, (refl, refl))
 goes_leaves v w s r b (takes_last t x rolling under none d e) =
     let some = some_active v.txns v.next v.active v.failed b.0 t (ap busy rolling) in
     leaves_at v w (change_made (dropped_by v t)) s (Continue t) r RolledBack x d e (set_idle v.txns v.next v.active v.failed b.0 t (ap busy rolling), (omega arith, refl))
+goes_leaves v w s r b (stays_back t n x may few d e) =
+    leaves_at v w (marked v t Going) s (RollTo t n) r Done x d e (set_busy v.txns v.next v.active v.failed b.0 t (record (v.txns t) { mark = Going }) (busy_may ((v.txns t).mark) may) refl, (refl, refl))
+goes_leaves v w s r b (turns_back t n x may more d e) =
+    leaves_at v w (marked v t (Returning n)) s (RollTo t n) r More x d e (set_busy v.txns v.next v.active v.failed b.0 t (record (v.txns t) { mark = Returning n }) (busy_may ((v.txns t).mark) may) refl, (refl, refl))
+goes_leaves v w s r b (gives_back t n c cs x returning net left d e) =
+    leaves_at v w (undid_more v t c cs) s (Continue t) r More x d e (set_busy v.txns v.next v.active v.failed b.0 t (record (v.txns t) { net = cs }) (ap busy returning) (ap busy returning), (refl, refl))
+goes_leaves v w s r b (is_back t n c cs x returning net left d e) =
+    let fewer : Txn = record (v.txns t) { net = cs } in
+    let taken = set_busy v.txns v.next v.active v.failed b.0 t fewer (ap busy returning) (ap busy returning) in
+    let active = ap (λ (y : Txn). busy y.mark) (set_txn-same v.txns t fewer t refl) ∙ ap busy returning in
+    leaves_at v w (marked (undid_more v t c cs) t Going) s (Continue t) r Done x d e (
+      set_busy (set_txn v.txns t fewer) v.next v.active v.failed taken t (record (set_txn v.txns t fewer t) { mark = Going }) active refl,
+      (refl, refl),
+    )
+goes_leaves v w s r b (leaf_is_back t n x returning under left d e) =
+    leaves_at v w (change_made (marked v t Going)) s (Continue t) r Done x d e (set_busy v.txns v.next v.active v.failed b.0 t (record (v.txns t) { mark = Going }) (ap busy returning) refl, (refl, refl))
 goes_leaves v w s r b (logs_page t u x under owner d e) = leaves_at v w v s (Continue t) r More x d e (b.0, (refl, refl))
 goes_leaves v w s r b (tree_blocks t a u x under other d e) = leaves_at v w v s (Do t a) r BlockedTree x d e (b.0, (refl, refl))
 goes_leaves v w s r b (tree_halts t u x under other d e) = leaves_at v w v s (Continue t) r BlockedTree x d e (b.0, (refl, refl))
@@ -279,6 +302,7 @@ idle_at Idle e = refl
 idle_at Going e = absurd (omega arith)
 idle_at MustRollBack e = absurd (omega arith)
 idle_at RollingBack e = absurd (omega arith)
+idle_at (Returning n) e = absurd (omega arith)
 idle_at Committing e = absurd (omega arith)
 
 idle_below : (txns : ℕ → Txn) (n t : ℕ) → busy_below txns n ≡ 0 → t < n → (txns t).mark ≡ Idle

@@ -5,10 +5,10 @@ use Rattle.std.specs.FinMap.{get}
 use Rattle.im_base_types.specs.Pages as pages
 use Rattle.im_base_types.specs.Maps.{IndexMap, From, Above, first, last_below}
 use Rattle.im_base_types.specs.Refusals.{failed as has_failed}
-use Rattle.im_base_types.specs.Answers.{Access, Fetch, Seek, Next, Prev, Scan, Insert, Delete, Step, Begin, Do, Commit, Rollback, Continue, FlushPage, Force, Checkpoint, Switch, Reply, Started, Found, Absent, Entry, End, Entries, Inserted, Duplicate, Deleted, Committed, RolledBack, More, Blocked, BlockedTree, Die, Done, Refused, Mark, Idle, Going, MustRollBack, RollingBack, Committing, found, entry, answer, limit_of}
+use Rattle.im_base_types.specs.Answers.{Access, Fetch, Seek, Next, Prev, Scan, Insert, Delete, Step, Begin, Do, Commit, Rollback, Continue, RollTo, FlushPage, Force, Checkpoint, Switch, Reply, Started, Found, Absent, Entry, End, Entries, Inserted, Duplicate, Deleted, Committed, RolledBack, More, Blocked, BlockedTree, Die, Done, Refused, Mark, Idle, Going, MustRollBack, RollingBack, Returning, Committing, found, entry, answer, limit_of}
 use Rattle.im_base_types.specs.Lives.{Shown, shows, accessed}
 use Rattle.im_theory_machine.specs.View.{View, pending_of}
-use Rattle.im_theory_machine.specs.Machine.{keys_fit, barred, barred_to, barred_to_rollback, barred_to_continue, or_else, fault_if, Answers, Goes, Moves, Wants, Breaks, begins, does, waits, dies, commits, queues, drops, turns, undoes, ends, puts_later, puts, drops_first, drops_leaf, takes_later, takes_first, takes_leaf, takes_last, logs_page, tree_blocks, tree_halts, flushes, forces, checkpoints, switches, lacks, breaks}
+use Rattle.im_theory_machine.specs.Machine.{keys_fit, barred, barred_to, barred_to_rollback, barred_to_continue, or_else, fault_if, Answers, Goes, Moves, Wants, Breaks, begins, does, waits, dies, commits, queues, drops, turns, undoes, ends, puts_later, puts, drops_first, drops_leaf, takes_later, takes_first, takes_leaf, takes_last, stays_back, turns_back, gives_back, is_back, leaf_is_back, logs_page, tree_blocks, tree_halts, flushes, forces, checkpoints, switches, lacks, breaks}
 use Rattle.im_base_steps.specs.Calls.{most_entries, entries_in, most_key, has_entry, is_blocked}
 use Rattle.im_base_steps.specs.Replies.{is_full, is_search, Suits, IsReply, IsCounted}
 
@@ -35,6 +35,7 @@ mark-full Idle = (refl, refl, refl)
 mark-full Going = (tt, tt, refl)
 mark-full MustRollBack = (refl, tt, refl)
 mark-full RollingBack = (refl, refl, tt)
+mark-full (Returning n) = (refl, refl, tt)
 mark-full Committing = (refl, refl, refl)
 
 barred-full : (v : View) (s : Step) → NotFull (barred v s)
@@ -44,6 +45,7 @@ barred-full v (Do t a) = or_else-full _ _ (fault_if-full v.failed 10 refl) (or_e
 barred-full v (Commit t) = or_else-full _ _ (fault_if-full v.failed 10 refl) (or_else-full _ _ ((mark-full ((v.txns t).mark)).0) (fault_if-full _ 17 refl))
 barred-full v (Rollback t) = or_else-full _ _ (fault_if-full v.failed 10 refl) (or_else-full _ _ ((mark-full ((v.txns t).mark)).1) (fault_if-full _ 17 refl))
 barred-full v (Continue t) = or_else-full _ _ (fault_if-full v.failed 10 refl) (unless-full _ _ ((mark-full ((v.txns t).mark)).2))
+barred-full v (RollTo t n) = or_else-full _ _ (fault_if-full v.failed 10 refl) (or_else-full _ _ ((mark-full ((v.txns t).mark)).1) (fault_if-full _ 17 refl))
 barred-full v (FlushPage p) = fault_if-full v.failed 10 refl
 barred-full v Force = fault_if-full v.failed 10 refl
 barred-full v Checkpoint = fault_if-full v.failed 10 refl
@@ -62,6 +64,8 @@ wants-full (Do t (Delete k)) f e = ap (λ n. n == 14) e
 wants-full (Commit t) f e = ap (λ n. n == 14) e
 wants-full (Rollback t) f e = ap (λ n. n == 14) e
 wants-full (Continue t) f e = ap (λ n. n == 14) e
+wants-full (RollTo t n) f (inl e) = ap (λ n. n == 14) e
+wants-full (RollTo t n) f (inr e) = ap (λ n. n == 14) e
 wants-full (FlushPage p) f e = ap (λ n. n == 14) e
 wants-full Force f e = ap (λ n. n == 14) e
 wants-full Checkpoint f e = ap (λ n. n == 14) e
@@ -117,6 +121,11 @@ goes-full v w s r (takes_later u c cs b is none net_is d e) = ap is_full d
 goes-full v w s r (takes_first u c cs b is none net_is d e) = ap is_full d
 goes-full v w s r (takes_leaf u c cs b is under net_is d e) = ap is_full d
 goes-full v w s r (takes_last u b is under empty d e) = ap is_full d
+goes-full v w s r (stays_back u n b may few d e) = ap is_full d
+goes-full v w s r (turns_back u n b may more d e) = ap is_full d
+goes-full v w s r (gives_back u n c cs b returning net_is left d e) = ap is_full d
+goes-full v w s r (is_back u n c cs b returning net_is left d e) = ap is_full d
+goes-full v w s r (leaf_is_back u n b returning under left d e) = ap is_full d
 goes-full v w s r (logs_page u x b under owner d e) = ap is_full d
 goes-full v w s r (tree_blocks u a x b under other d e) = ap is_full d
 goes-full v w s r (tree_halts u x b under other d e) = ap is_full d
@@ -188,6 +197,11 @@ goes_suits v w s r (takes_later u c cs b is none net_is d e) = suits_at s (Conti
 goes_suits v w s r (takes_first u c cs b is none net_is d e) = suits_at s (Continue u) r More b d refl
 goes_suits v w s r (takes_leaf u c cs b is under net_is d e) = suits_at s (Continue u) r More b d refl
 goes_suits v w s r (takes_last u b is under empty d e) = suits_at s (Continue u) r RolledBack b d refl
+goes_suits v w s r (stays_back u n b may few d e) = suits_at s (RollTo u n) r Done b d refl
+goes_suits v w s r (turns_back u n b may more d e) = suits_at s (RollTo u n) r More b d refl
+goes_suits v w s r (gives_back u n c cs b returning net_is left d e) = suits_at s (Continue u) r More b d refl
+goes_suits v w s r (is_back u n c cs b returning net_is left d e) = suits_at s (Continue u) r Done b d refl
+goes_suits v w s r (leaf_is_back u n b returning under left d e) = suits_at s (Continue u) r Done b d refl
 goes_suits v w s r (logs_page u x b under owner d e) = suits_at s (Continue u) r More b d refl
 goes_suits v w s r (tree_blocks u a x b under other d e) = suits_at s (Do u a) r BlockedTree b d refl
 goes_suits v w s r (tree_halts u x b under other d e) = suits_at s (Continue u) r BlockedTree b d refl
@@ -242,6 +256,7 @@ search_most Begin h = absurd (true≢false (sym h))
 search_most (Commit t) h = absurd (true≢false (sym h))
 search_most (Rollback t) h = absurd (true≢false (sym h))
 search_most (Continue t) h = absurd (true≢false (sym h))
+search_most (RollTo t n) h = absurd (true≢false (sym h))
 search_most (FlushPage p) h = absurd (true≢false (sym h))
 search_most Force h = absurd (true≢false (sym h))
 search_most Checkpoint h = absurd (true≢false (sym h))
@@ -280,6 +295,7 @@ barred-failed v (Do t a) e = or_else-first _ _ _ e
 barred-failed v (Commit t) e = or_else-first _ _ _ e
 barred-failed v (Rollback t) e = or_else-first _ _ _ e
 barred-failed v (Continue t) e = or_else-first _ _ _ e
+barred-failed v (RollTo t n) e = or_else-first _ _ _ e
 barred-failed v (FlushPage p) e = fault_if-true _ _ e
 barred-failed v Force e = fault_if-true _ _ e
 barred-failed v Checkpoint e = fault_if-true _ _ e
@@ -339,6 +355,11 @@ goes-blocked v w s r (takes_later u c cs b is none net_is d e) = unblocked v w r
 goes-blocked v w s r (takes_first u c cs b is none net_is d e) = unblocked v w r _ d refl
 goes-blocked v w s r (takes_leaf u c cs b is under net_is d e) = unblocked v w r _ d refl
 goes-blocked v w s r (takes_last u b is under empty d e) = unblocked v w r _ d refl
+goes-blocked v w s r (stays_back u n b may few d e) = unblocked v w r _ d refl
+goes-blocked v w s r (turns_back u n b may more d e) = unblocked v w r _ d refl
+goes-blocked v w s r (gives_back u n c cs b returning net_is left d e) = unblocked v w r _ d refl
+goes-blocked v w s r (is_back u n c cs b returning net_is left d e) = unblocked v w r _ d refl
+goes-blocked v w s r (leaf_is_back u n b returning under left d e) = unblocked v w r _ d refl
 goes-blocked v w s r (logs_page u x b under owner d e) = unblocked v w r _ d refl
 goes-blocked v w s r (tree_blocks u a x b under other d e) = λ q. e
 goes-blocked v w s r (tree_halts u x b under other d e) = λ q. e
@@ -371,6 +392,7 @@ at_blocked (Do t a) s h = accessed-blocked t a s h
 at_blocked (Commit t) s h = (refl, refl)
 at_blocked (Rollback t) s h = (refl, refl)
 at_blocked (Continue t) s h = (refl, refl)
+at_blocked (RollTo t n) s h = (refl, refl)
 at_blocked (FlushPage p) s h = (refl, refl)
 at_blocked Force s h = (refl, refl)
 at_blocked Checkpoint s h = (refl, refl)

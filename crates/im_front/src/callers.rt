@@ -149,7 +149,7 @@ impl Callers {
         if step.may_unblock(reply) {
             self.ended.wake_all(&self.awake);
             self.line.wake_all(&self.awake);
-            if matches!(reply, Reply::Done | Reply::Refused(_)) {
+            if matches!(step, Step::Force) || matches!(reply, Reply::Refused(_)) {
                 self.forced.wake_all(&self.awake);
             }
         }

@@ -208,7 +208,8 @@ fn asker(step: &Step) -> TxnId {
         | Step::Delete(t, _)
         | Step::Commit(t)
         | Step::Rollback(t)
-        | Step::Continue(t) => *t,
+        | Step::Continue(t)
+        | Step::RollTo(t, _) => *t,
         Step::Begin | Step::FlushPage(_) | Step::Force | Step::Checkpoint | Step::Switch => 0,
     }
 }
