@@ -29,6 +29,7 @@ AsksStep c (answers.Do t access) = (t ≡ c.txn) × AsksAccess c access
 AsksStep c (answers.Commit t) = (c.step ≡ 7) × (t ≡ c.txn)
 AsksStep c (answers.Rollback t) = (c.step ≡ 8) × (t ≡ c.txn)
 AsksStep c (answers.Continue t) = (c.step ≡ 9) × (t ≡ c.txn)
+AsksStep c (answers.RollTo t n) = ⊥  -- no call asks for it
 AsksStep c (answers.FlushPage page) = (c.step ≡ 10) × (page ≡ c.limit)
 AsksStep c answers.Force = c.step ≡ 11
 AsksStep c answers.Checkpoint = c.step ≡ 12

@@ -74,6 +74,7 @@ no_begin (answers.Do t a) service begins = cc begins
 no_begin (answers.Commit t) service begins = cc begins
 no_begin (answers.Rollback t) service begins = cc begins
 no_begin (answers.Continue t) service begins = cc begins
+no_begin (answers.RollTo t n) service begins = cc begins
 no_begin (answers.FlushPage p) service begins = cc begins
 no_begin answers.Force service begins = cc begins
 no_begin answers.Checkpoint service begins = cc begins

@@ -40,6 +40,7 @@ step_kind text (steps.Delete t key) s = sym (ap store_text_kind s.1)
 step_kind text (steps.Commit t) s = sym (ap store_text_kind s.1)
 step_kind text (steps.Rollback t) s = sym (ap store_text_kind s.1)
 step_kind text (steps.Continue t) s = sym (ap store_text_kind s.1)
+step_kind text (steps.RollTo t left) s = absurd s
 step_kind text (steps.FlushPage page) s = sym (ap store_text_kind s.1)
 step_kind text steps.Force s = sym (ap store_text_kind s)
 step_kind text steps.Checkpoint s = sym (ap store_text_kind s)

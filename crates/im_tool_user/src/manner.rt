@@ -43,7 +43,8 @@ pub fn is_change(step: &Step) -> bool {
         | Step::Scan(..)
         | Step::Commit(_)
         | Step::Rollback(_)
-        | Step::Continue(_) => false,
+        | Step::Continue(_)
+        | Step::RollTo(..) => false,
     }
 }
 

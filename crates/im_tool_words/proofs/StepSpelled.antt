@@ -1,5 +1,5 @@
 -- What lines that ask for steps spell, and what they do not.
-use Rattle.std.proofs.Common.{◌≡◌, ◌≢◌, ℕ, List, ◌∷◌, ◌++◌, slice_index, codes, Result, Ok, Err, IfErr, sym, ◌∙◌, ap, subst, arith}
+use Rattle.std.proofs.Common.{◌≡◌, ◌≢◌, ℕ, List, [], ◌∷◌, ◌++◌, slice_index, codes, Result, Ok, Err, IfErr, sym, ◌∙◌, ap, subst, arith}
 use Rattle.im_base_steps.specs.declared.step.Step.{Step}
 use Rattle.im_base_steps.specs.declared.step.Step.TheVariants as steps
 use Rattle.im_tool_words.specs.Words.{Lacks, IsNumber, IsPageNumber}
@@ -20,6 +20,7 @@ word_of (steps.Delete t key) = codes "delete"
 word_of (steps.Commit t) = codes "commit"
 word_of (steps.Rollback t) = codes "rollback"
 word_of (steps.Continue t) = codes "continue"
+word_of (steps.RollTo t left) = []
 word_of (steps.FlushPage page) = codes "flush"
 word_of steps.Force = codes "force"
 word_of steps.Checkpoint = codes "checkpoint"
@@ -38,6 +39,7 @@ SpellsRest (steps.Delete t key) rest = IsKeyed rest t key.items
 SpellsRest (steps.Commit t) rest = IsNumber rest t
 SpellsRest (steps.Rollback t) rest = IsNumber rest t
 SpellsRest (steps.Continue t) rest = IsNumber rest t
+SpellsRest (steps.RollTo t left) rest = ⊥
 SpellsRest (steps.FlushPage page) rest = IsPageNumber rest page
 SpellsRest steps.Force rest = ⊥
 SpellsRest steps.Checkpoint rest = ⊥
@@ -121,6 +123,7 @@ words_said word rest (steps.Rollback t) s l =
 words_said word rest (steps.Continue t) s l =
     let e = cut_once 32 word (codes "continue") rest s.0 l continue_lacks s.1 in
     (e.0, subst (λ (x : List ℕ). IsNumber x t) (sym e.1) s.2)
+words_said word rest (steps.RollTo t left) s l = absurd s
 words_said word rest (steps.FlushPage page) s l =
     let e = cut_once 32 word (codes "flush") rest s.0 l flush_lacks s.1 in
     (e.0, subst (λ (x : List ℕ). IsPageNumber x page) (sym e.1) s.2)
@@ -141,6 +144,7 @@ lone_step_bad word (steps.Delete t key) s l b f c w = lacks_mid 32 (codes "delet
 lone_step_bad word (steps.Commit t) s l b f c w = lacks_mid 32 (codes "commit") s.0 (subst (λ (t : List ℕ). Lacks 32 t) s.1 l)
 lone_step_bad word (steps.Rollback t) s l b f c w = lacks_mid 32 (codes "rollback") s.0 (subst (λ (t : List ℕ). Lacks 32 t) s.1 l)
 lone_step_bad word (steps.Continue t) s l b f c w = lacks_mid 32 (codes "continue") s.0 (subst (λ (t : List ℕ). Lacks 32 t) s.1 l)
+lone_step_bad word (steps.RollTo t left) s l b f c w = s
 lone_step_bad word (steps.FlushPage page) s l b f c w = lacks_mid 32 (codes "flush") s.0 (subst (λ (t : List ℕ). Lacks 32 t) s.1 l)
 lone_step_bad word steps.Force s l b f c w = f s
 lone_step_bad word steps.Checkpoint s l b f c w = c s
@@ -159,6 +163,7 @@ step_word_said word rest (steps.Delete t key) q l c r o u f s n p a i d = d (wor
 step_word_said word rest (steps.Commit t) q l c r o u f s n p a i d = c (words_said word rest (steps.Commit t) q l).0
 step_word_said word rest (steps.Rollback t) q l c r o u f s n p a i d = r (words_said word rest (steps.Rollback t) q l).0
 step_word_said word rest (steps.Continue t) q l c r o u f s n p a i d = o (words_said word rest (steps.Continue t) q l).0
+step_word_said word rest (steps.RollTo t left) q l c r o u f s n p a i d = q
 step_word_said word rest (steps.FlushPage page) q l c r o u f s n p a i d = u (words_said word rest (steps.FlushPage page) q l).0
 step_word_said word rest steps.Force q l c r o u f s n p a i d = (words_said word rest steps.Force q l).1
 step_word_said word rest steps.Checkpoint q l c r o u f s n p a i d = (words_said word rest steps.Checkpoint q l).1
@@ -177,6 +182,7 @@ commit_rest rest (steps.Delete t key) w b = let e = ap (λ (x : List ℕ). slice
 commit_rest rest (steps.Commit t) w b = (t, b)
 commit_rest rest (steps.Rollback t) w b = let e = ap (λ (x : List ℕ). slice_index x 0) w in absurd (omega (arith, e))
 commit_rest rest (steps.Continue t) w b = let e = ap (λ (x : List ℕ). slice_index x 2) w in absurd (omega (arith, e))
+commit_rest rest (steps.RollTo t left) w b = absurd b
 commit_rest rest (steps.FlushPage page) w b = let e = ap (λ (x : List ℕ). slice_index x 0) w in absurd (omega (arith, e))
 commit_rest rest steps.Force w b = absurd b
 commit_rest rest steps.Checkpoint w b = absurd b
@@ -197,6 +203,7 @@ rollback_rest rest (steps.Delete t key) w b = let e = ap (λ (x : List ℕ). sli
 rollback_rest rest (steps.Commit t) w b = let e = ap (λ (x : List ℕ). slice_index x 0) w in absurd (omega (arith, e))
 rollback_rest rest (steps.Rollback t) w b = (t, b)
 rollback_rest rest (steps.Continue t) w b = let e = ap (λ (x : List ℕ). slice_index x 0) w in absurd (omega (arith, e))
+rollback_rest rest (steps.RollTo t left) w b = absurd b
 rollback_rest rest (steps.FlushPage page) w b = let e = ap (λ (x : List ℕ). slice_index x 0) w in absurd (omega (arith, e))
 rollback_rest rest steps.Force w b = absurd b
 rollback_rest rest steps.Checkpoint w b = absurd b
@@ -217,6 +224,7 @@ continue_rest rest (steps.Delete t key) w b = let e = ap (λ (x : List ℕ). sli
 continue_rest rest (steps.Commit t) w b = let e = ap (λ (x : List ℕ). slice_index x 2) w in absurd (omega (arith, e))
 continue_rest rest (steps.Rollback t) w b = let e = ap (λ (x : List ℕ). slice_index x 0) w in absurd (omega (arith, e))
 continue_rest rest (steps.Continue t) w b = (t, b)
+continue_rest rest (steps.RollTo t left) w b = absurd b
 continue_rest rest (steps.FlushPage page) w b = let e = ap (λ (x : List ℕ). slice_index x 0) w in absurd (omega (arith, e))
 continue_rest rest steps.Force w b = absurd b
 continue_rest rest steps.Checkpoint w b = absurd b
@@ -237,6 +245,7 @@ flush_rest rest (steps.Delete t key) w b = let e = ap (λ (x : List ℕ). slice_
 flush_rest rest (steps.Commit t) w b = let e = ap (λ (x : List ℕ). slice_index x 0) w in absurd (omega (arith, e))
 flush_rest rest (steps.Rollback t) w b = let e = ap (λ (x : List ℕ). slice_index x 0) w in absurd (omega (arith, e))
 flush_rest rest (steps.Continue t) w b = let e = ap (λ (x : List ℕ). slice_index x 0) w in absurd (omega (arith, e))
+flush_rest rest (steps.RollTo t left) w b = absurd b
 flush_rest rest (steps.FlushPage page) w b = (page, b)
 flush_rest rest steps.Force w b = absurd b
 flush_rest rest steps.Checkpoint w b = absurd b
@@ -257,6 +266,7 @@ fetch_rest rest (steps.Delete t key) w b = let e = ap (λ (x : List ℕ). slice_
 fetch_rest rest (steps.Commit t) w b = let e = ap (λ (x : List ℕ). slice_index x 0) w in absurd (omega (arith, e))
 fetch_rest rest (steps.Rollback t) w b = let e = ap (λ (x : List ℕ). slice_index x 0) w in absurd (omega (arith, e))
 fetch_rest rest (steps.Continue t) w b = let e = ap (λ (x : List ℕ). slice_index x 0) w in absurd (omega (arith, e))
+fetch_rest rest (steps.RollTo t left) w b = absurd b
 fetch_rest rest (steps.FlushPage page) w b = let e = ap (λ (x : List ℕ). slice_index x 1) w in absurd (omega (arith, e))
 fetch_rest rest steps.Force w b = absurd b
 fetch_rest rest steps.Checkpoint w b = absurd b
@@ -277,6 +287,7 @@ seek_rest rest (steps.Delete t key) w b = let e = ap (λ (x : List ℕ). slice_i
 seek_rest rest (steps.Commit t) w b = let e = ap (λ (x : List ℕ). slice_index x 0) w in absurd (omega (arith, e))
 seek_rest rest (steps.Rollback t) w b = let e = ap (λ (x : List ℕ). slice_index x 0) w in absurd (omega (arith, e))
 seek_rest rest (steps.Continue t) w b = let e = ap (λ (x : List ℕ). slice_index x 0) w in absurd (omega (arith, e))
+seek_rest rest (steps.RollTo t left) w b = absurd b
 seek_rest rest (steps.FlushPage page) w b = let e = ap (λ (x : List ℕ). slice_index x 0) w in absurd (omega (arith, e))
 seek_rest rest steps.Force w b = absurd b
 seek_rest rest steps.Checkpoint w b = absurd b
@@ -297,6 +308,7 @@ next_rest rest (steps.Delete t key) w b = let e = ap (λ (x : List ℕ). slice_i
 next_rest rest (steps.Commit t) w b = let e = ap (λ (x : List ℕ). slice_index x 0) w in absurd (omega (arith, e))
 next_rest rest (steps.Rollback t) w b = let e = ap (λ (x : List ℕ). slice_index x 0) w in absurd (omega (arith, e))
 next_rest rest (steps.Continue t) w b = let e = ap (λ (x : List ℕ). slice_index x 0) w in absurd (omega (arith, e))
+next_rest rest (steps.RollTo t left) w b = absurd b
 next_rest rest (steps.FlushPage page) w b = let e = ap (λ (x : List ℕ). slice_index x 0) w in absurd (omega (arith, e))
 next_rest rest steps.Force w b = absurd b
 next_rest rest steps.Checkpoint w b = absurd b
@@ -317,6 +329,7 @@ prev_rest rest (steps.Delete t key) w b = let e = ap (λ (x : List ℕ). slice_i
 prev_rest rest (steps.Commit t) w b = let e = ap (λ (x : List ℕ). slice_index x 0) w in absurd (omega (arith, e))
 prev_rest rest (steps.Rollback t) w b = let e = ap (λ (x : List ℕ). slice_index x 0) w in absurd (omega (arith, e))
 prev_rest rest (steps.Continue t) w b = let e = ap (λ (x : List ℕ). slice_index x 0) w in absurd (omega (arith, e))
+prev_rest rest (steps.RollTo t left) w b = absurd b
 prev_rest rest (steps.FlushPage page) w b = let e = ap (λ (x : List ℕ). slice_index x 0) w in absurd (omega (arith, e))
 prev_rest rest steps.Force w b = absurd b
 prev_rest rest steps.Checkpoint w b = absurd b
@@ -337,6 +350,7 @@ scan_rest rest (steps.Delete t key) w b = let e = ap (λ (x : List ℕ). slice_i
 scan_rest rest (steps.Commit t) w b = let e = ap (λ (x : List ℕ). slice_index x 0) w in absurd (omega (arith, e))
 scan_rest rest (steps.Rollback t) w b = let e = ap (λ (x : List ℕ). slice_index x 0) w in absurd (omega (arith, e))
 scan_rest rest (steps.Continue t) w b = let e = ap (λ (x : List ℕ). slice_index x 0) w in absurd (omega (arith, e))
+scan_rest rest (steps.RollTo t left) w b = absurd b
 scan_rest rest (steps.FlushPage page) w b = let e = ap (λ (x : List ℕ). slice_index x 0) w in absurd (omega (arith, e))
 scan_rest rest steps.Force w b = absurd b
 scan_rest rest steps.Checkpoint w b = absurd b
@@ -357,6 +371,7 @@ insert_rest rest (steps.Delete t key) w b = let e = ap (λ (x : List ℕ). slice
 insert_rest rest (steps.Commit t) w b = let e = ap (λ (x : List ℕ). slice_index x 0) w in absurd (omega (arith, e))
 insert_rest rest (steps.Rollback t) w b = let e = ap (λ (x : List ℕ). slice_index x 0) w in absurd (omega (arith, e))
 insert_rest rest (steps.Continue t) w b = let e = ap (λ (x : List ℕ). slice_index x 0) w in absurd (omega (arith, e))
+insert_rest rest (steps.RollTo t left) w b = absurd b
 insert_rest rest (steps.FlushPage page) w b = let e = ap (λ (x : List ℕ). slice_index x 0) w in absurd (omega (arith, e))
 insert_rest rest steps.Force w b = absurd b
 insert_rest rest steps.Checkpoint w b = absurd b
@@ -377,6 +392,7 @@ delete_rest rest (steps.Delete t key) w b = (t, key.items, b)
 delete_rest rest (steps.Commit t) w b = let e = ap (λ (x : List ℕ). slice_index x 0) w in absurd (omega (arith, e))
 delete_rest rest (steps.Rollback t) w b = let e = ap (λ (x : List ℕ). slice_index x 0) w in absurd (omega (arith, e))
 delete_rest rest (steps.Continue t) w b = let e = ap (λ (x : List ℕ). slice_index x 0) w in absurd (omega (arith, e))
+delete_rest rest (steps.RollTo t left) w b = absurd b
 delete_rest rest (steps.FlushPage page) w b = let e = ap (λ (x : List ℕ). slice_index x 0) w in absurd (omega (arith, e))
 delete_rest rest steps.Force w b = absurd b
 delete_rest rest steps.Checkpoint w b = absurd b

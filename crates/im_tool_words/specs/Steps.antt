@@ -92,6 +92,7 @@ SpellsStep text (steps.Delete t key) = (rest : List ℕ) × (text ≡ codes "del
 SpellsStep text (steps.Commit t) = (rest : List ℕ) × (text ≡ codes "commit " ++ rest) × IsNumber rest t
 SpellsStep text (steps.Rollback t) = (rest : List ℕ) × (text ≡ codes "rollback " ++ rest) × IsNumber rest t
 SpellsStep text (steps.Continue t) = (rest : List ℕ) × (text ≡ codes "continue " ++ rest) × IsNumber rest t
+SpellsStep text (steps.RollTo t left) = ⊥  -- no line asks for it
 SpellsStep text (steps.FlushPage page) = (rest : List ℕ) × (text ≡ codes "flush " ++ rest) × IsPageNumber rest page
 SpellsStep text steps.Force = text ≡ codes "force"
 SpellsStep text steps.Checkpoint = text ≡ codes "checkpoint"
