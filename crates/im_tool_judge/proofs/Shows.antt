@@ -3,14 +3,14 @@ use Rattle.std.proofs.Common.{Vec, Global, ◌≡◌, ◌≢◌, ◌⊎◌, inl,
 use Rattle.std.specs.Prelude.{◌==◌, ◌||◌, if◌then◌else◌}
 use Rattle.std.proofs.lemmas.Bool.{eqb-true, eq-eqb, ne_eqb, cond-true, cond-false}
 use Rattle.std.proofs.lemmas.List.{map-append, take_more, append-nil, length-take-le}
-use Rattle.im_base_types.specs.Answers.{Mark, Going, Idle, MustRollBack, RollingBack, Committing}
+use Rattle.im_base_types.specs.Answers.{Mark, Going, Idle, MustRollBack, RollingBack, Returning, Committing}
 use Rattle.im_base_types.specs.Answers as answers
 use Rattle.im_base_types.specs.Changes.{Effect}
 use Rattle.im_base_types.specs.Changes as changes
 use Rattle.im_base_steps.specs.declared.step.Step.{Step}
 use Rattle.im_base_steps.specs.declared.step.Step.TheVariants as steps
 use Rattle.im_base_steps.specs.Calls.{asked_by}
-use Rattle.im_base_types.specs.Lives.{Running, Shown, Asked, idle, with_running, adds, pends, shown_change, answered, asks, effect_asked, all_acked, refused, breaks, cut_off}
+use Rattle.im_base_types.specs.Lives.{Running, Shown, Asked, idle, oldest, with_running, adds, pends, shown_change, answered, asks, effect_asked, all_acked, refused, breaks, cut_off}
 use Rattle.im_base_types.specs.Refusals.{memory, unfinished}
 use Rattle.im_tool_lines.specs.declared.store_life.StoreLine.{StoreLine}
 use Rattle.im_tool_answers.specs.declared.store_answers.StoreReply.{StoreReply}
@@ -18,10 +18,10 @@ use Rattle.im_tool_answers.specs.StoreShown.{shown_after, shown_in}
 use Rattle.im_tool_answers.proofs.StoreShown.{shown_push}
 use Rattle.im_tool_judge.specs.declared.change.Change.{Change}
 use Rattle.im_tool_judge.specs.declared.change.AskedEffect.{AskedEffect}
-use Rattle.im_tool_judge.specs.declared.showing.Event.{Event}
-use Rattle.im_tool_judge.specs.declared.showing.Found.{Found}
-use Rattle.im_tool_judge.specs.declared.showing.Happened.{Happened}
-use Rattle.im_tool_judge.specs.declared.showing.Happened.TheVariants.{Began, Changed, GoesOn, InsertEnded, DeleteEnded, Died, Turned, Waited, Ended}
+use Rattle.im_tool_judge.specs.declared.happened.Event.{Event}
+use Rattle.im_tool_judge.specs.declared.happened.Found.{Found}
+use Rattle.im_tool_judge.specs.declared.happened.Happened.{Happened}
+use Rattle.im_tool_judge.specs.declared.happened.Happened.TheVariants.{Began, Changed, GoesOn, InsertEnded, DeleteEnded, Died, Turned, Returned, Resumed, Waited, Ended}
 use Rattle.im_tool_judge.specs.declared.showing.Showing.{Showing}
 use Rattle.im_tool_judge.specs.Judged.{asked_of, asked_in, change_of, newest_first}
 use Rattle.im_tool_judge.specs.Shows.{IsShown, IsFound, transaction_of_access, maker_of, pending_in, effect_in, behind, is_going, running_from}
@@ -141,6 +141,22 @@ found_died f new r what is found going same kept = subst (λ (w : Happened). IsF
 pub found_turned : (f new : Found) (r : Running) (what : Happened) → what ≡ Turned → IsFound f r → new.going ≡ false → new.changes ≡ f.changes → new.pending ≡ f.pending → IsFound new (behind what r)
 found_turned f new r what is found going same kept = subst (λ (w : Happened). IsFound new (behind w r)) (sym is) (found_stopped f new r RollingBack refl found going same kept)
 
+-- its newest changes are taken back
+pub found_returned : (f new : Found) (r : Running) (what : Happened) (n : ℕ) → what ≡ Returned n → IsFound f r → new.going ≡ false → newest_first new.changes.items [] ≡ oldest n (newest_first f.changes.items []) → new.pending ≡ f.pending → IsFound new (behind what r)
+found_returned f new r what n is found going left kept = subst (λ (w : Happened). IsFound new (behind w r)) (sym is) (record {
+  mark = going;
+  effect = ap (oldest n) found.effect ∙ sym left;
+  pending = found.pending ∙ ap pending_in (sym kept);
+})
+
+-- it goes on
+pub found_resumed : (f new : Found) (r : Running) (what : Happened) → what ≡ Resumed → IsFound f r → new.going ≡ true → new.changes ≡ f.changes → new.pending ≡ f.pending → IsFound new (behind what r)
+found_resumed f new r what is found going same kept = subst (λ (w : Happened). IsFound new (behind w r)) (sym is) (record {
+  mark = going;
+  effect = found.effect ∙ ap (λ (l : Vec Change Global). newest_first l.items []) (sym same);
+  pending = found.pending ∙ ap pending_in (sym kept);
+})
+
 pub found_waited : (f new : Found) (r : Running) (what : Happened) → what ≡ Waited → IsFound f r → new.going ≡ false → new.changes ≡ f.changes → new.pending ≡ f.pending → IsFound new (behind what r)
 found_waited f new r what is found going same kept = subst (λ (w : Happened). IsFound new (behind w r)) (sym is) (found_stopped f new r Committing refl found going same kept)
 
@@ -162,6 +178,7 @@ asked_none t acked Going cs (inr none) = ap (λ (l : List Change). effect_asked 
 asked_none t acked Idle cs either = refl
 asked_none t acked MustRollBack cs either = refl
 asked_none t acked RollingBack cs either = refl
+asked_none t acked (Returning n) cs either = refl
 asked_none t acked Committing cs either = refl
 
 going_is : (m : Mark) → is_going m ≡ true → m ≡ Going
@@ -169,6 +186,7 @@ going_is Going is = refl
 going_is Idle is = absurd (cc)
 going_is MustRollBack is = absurd (cc)
 going_is RollingBack is = absurd (cc)
+going_is (Returning n) is = absurd (cc)
 going_is Committing is = absurd (cc)
 
 none_going : (f : Found) (m : Mark) → f.going ≡ is_going m → (f.going ≡ false) ⊎ (f.changes.items ≡ []) → (is_going m ≡ false) ⊎ (f.changes.items ≡ [])
@@ -274,6 +292,15 @@ waits step t mid new s is happens shown = subst (λ (y : Step). IsShown new (ans
 pub turned : (step : Step) (t : ℕ) (new : Showing) (s : Shown) → step ≡ steps.Rollback t → IsShown new (with_running t (behind Turned (s.running t)) s) → IsShown new (answered (asked_by step) answers.More s)
 turned step t new s is shown = subst (λ (y : Step). IsShown new (answered (asked_by y) answers.More s)) (sym is) shown
 
+pub returns_to : (step : Step) (t n : ℕ) (new : Showing) (s : Shown) → step ≡ steps.RollTo t n → IsShown new (with_running t (behind (Returned n) (s.running t)) s) → IsShown new (answered (asked_by step) answers.More s)
+returns_to step t n new s is shown = subst (λ (y : Step). IsShown new (answered (asked_by y) answers.More s)) (sym is) shown
+
+pub had_none : (step : Step) (t n : ℕ) (new : Showing) (s : Shown) → step ≡ steps.RollTo t n → IsShown new (with_running t (behind Resumed (s.running t)) s) → IsShown new (answered (asked_by step) answers.Done s)
+had_none step t n new s is shown = subst (λ (y : Step). IsShown new (answered (asked_by y) answers.Done s)) (sym is) shown
+
+pub resumes : (step : Step) (t : ℕ) (new : Showing) (s : Shown) → step ≡ steps.Continue t → IsShown new (with_running t (behind Resumed (s.running t)) s) → IsShown new (answered (asked_by step) answers.Done s)
+resumes step t new s is shown = subst (λ (y : Step). IsShown new (answered (asked_by y) answers.Done s)) (sym is) shown
+
 pub rolled_back : (step : Step) (t : ℕ) (new : Showing) (s : Shown) → (step ≡ steps.Rollback t) ⊎ (step ≡ steps.Continue t) → IsShown new (with_running t (behind Ended (s.running t)) s) → IsShown new (answered (asked_by step) answers.RolledBack s)
 rolled_back step t new s (inl is) shown = subst (λ (y : Step). IsShown new (answered (asked_by y) answers.RolledBack s)) (sym is) shown
 rolled_back step t new s (inr is) shown = subst (λ (y : Step). IsShown new (answered (asked_by y) answers.RolledBack s)) (sym is) shown
@@ -293,6 +320,7 @@ died answers.Begin t new s is shown = absurd (cc)
 died (answers.Commit u) t new s is shown = absurd (cc)
 died (answers.Rollback u) t new s is shown = absurd (cc)
 died (answers.Continue u) t new s is shown = absurd (cc)
+died (answers.RollTo u n) t new s is shown = absurd (cc)
 died (answers.FlushPage p) t new s is shown = absurd (cc)
 died answers.Force t new s is shown = absurd (cc)
 died answers.Checkpoint t new s is shown = absurd (cc)
@@ -304,6 +332,7 @@ none_died answers.Begin w s is shown = shown
 none_died (answers.Commit u) w s is shown = shown
 none_died (answers.Rollback u) w s is shown = shown
 none_died (answers.Continue u) w s is shown = shown
+none_died (answers.RollTo u n) w s is shown = shown
 none_died (answers.FlushPage p) w s is shown = shown
 none_died answers.Force w s is shown = shown
 none_died answers.Checkpoint w s is shown = shown

@@ -1,14 +1,14 @@
 -- What of a life's lines and replies is kept while they are read, as the definition of lives shows it.
 use Rattle.std.specs.Prelude.{◌≡◌, ℕ, List, [], ◌∷◌, ◌++◌, Bool, true, false, if◌then◌else◌, ◌==◌, Option, None, Some}
-use Rattle.im_base_types.specs.Answers.{Access, Insert, Delete, Inserted, Deleted, Mark, Idle, Going, MustRollBack, RollingBack, Committing, Step, Do}
+use Rattle.im_base_types.specs.Answers.{Access, Insert, Delete, Inserted, Deleted, Mark, Idle, Going, MustRollBack, RollingBack, Returning, Committing, Step, Do}
 use Rattle.im_base_types.specs.Changes as changes
 use Rattle.im_base_types.specs.Changes.{Effect}
-use Rattle.im_base_types.specs.Lives.{Running, Shown, idle, shown_change}
+use Rattle.im_base_types.specs.Lives.{Running, Shown, idle, oldest, shown_change}
 use Rattle.im_tool_judge.specs.declared.change.Change.{Change}
-use Rattle.im_tool_judge.specs.declared.showing.Event.{Event}
-use Rattle.im_tool_judge.specs.declared.showing.Found.{Found}
-use Rattle.im_tool_judge.specs.declared.showing.Happened.{Happened}
-use Rattle.im_tool_judge.specs.declared.showing.Happened.TheVariants.{Began, Changed, GoesOn, InsertEnded, DeleteEnded, Died, Turned, Waited, Ended}
+use Rattle.im_tool_judge.specs.declared.happened.Event.{Event}
+use Rattle.im_tool_judge.specs.declared.happened.Found.{Found}
+use Rattle.im_tool_judge.specs.declared.happened.Happened.{Happened}
+use Rattle.im_tool_judge.specs.declared.happened.Happened.TheVariants.{Began, Changed, GoesOn, InsertEnded, DeleteEnded, Died, Turned, Returned, Resumed, Waited, Ended}
 use Rattle.im_tool_judge.specs.declared.showing.Showing.{Showing}
 use Rattle.im_tool_judge.specs.Judged.{asked_in, change_of, newest_first}
 
@@ -35,6 +35,8 @@ behind InsertEnded r = record r { effect = shown_change r.pending Inserted ++ r.
 behind DeleteEnded r = record r { effect = shown_change r.pending Deleted ++ r.effect; pending = None }
 behind Died r = record r { mark = MustRollBack }
 behind Turned r = record r { mark = RollingBack }
+behind (Returned n) r = record r { mark = Returning n; effect = oldest n r.effect }
+behind Resumed r = record r { mark = Going }
 behind Waited r = record r { mark = Committing }
 behind Ended r = idle
 
@@ -55,6 +57,7 @@ is_going Idle = false
 is_going Going = true
 is_going MustRollBack = false
 is_going RollingBack = false
+is_going (Returning n) = false
 is_going Committing = false
 
 -- the transaction of an access

@@ -12,6 +12,7 @@
 
 mod change;
 mod disturbed;
+mod happened;
 mod judge;
 mod same_replies;
 mod showing;

@@ -1,19 +1,20 @@
 //! What the lines and replies of a life show, read off them by the definition of lives.
 
-ghost use Rattle.std.specs.Prelude.{◌≡◌, ◌⊎◌, ◌||◌, ◌==◌, ◌≤◌, ◌<◌, ◌++◌, ℕ, false, [], None, IfOk, OnOk};
+ghost use Rattle.std.specs.Prelude.{◌≡◌, ◌⊎◌, ◌||◌, ◌==◌, ◌≤◌, ◌<◌, ℕ, IfOk, OnOk};
 ghost use Rattle.im_base_types.specs.Answers.{Force, Commit};
 ghost use Rattle.im_base_types.specs.Answers as answers;
 ghost use Rattle.im_base_types.specs.Changes as changes;
-ghost use Rattle.im_base_types.specs.Lives.{Shown, Running, nothing_shown, idle, adds, all_acked, answered, asks, breaks, cut_off, refused, shown_change, with_running};
+ghost use Rattle.im_base_types.specs.Lives.{Shown, nothing_shown, idle, adds, all_acked, answered, asks, breaks, cut_off, refused, with_running};
 ghost use Rattle.im_base_types.specs.Refusals.{memory, unfinished};
 ghost use Rattle.im_base_steps.specs.Calls.{asked_by, told_by};
 ghost use Rattle.im_base_types.specs.Faults.{number_of};
 ghost use Rattle.im_tool_lines.specs.declared.store_life.StoreLine.TheVariants as lines;
 ghost use Rattle.im_tool_answers.specs.StoreShown.{shown_after, shown_in};
-ghost use Rattle.im_tool_judge.specs.Judged.{asked_in, change_of, newest_first};
-ghost use Rattle.im_tool_judge.specs.Shows.{IsShown, IsFound, transaction_of_access, behind, effect_in, pending_in, running_from};
+ghost use Rattle.im_tool_judge.specs.Judged.{asked_in, change_of};
+ghost use Rattle.im_tool_judge.specs.Shows.{IsShown, IsFound, transaction_of_access, behind, running_from};
 
 use crate::change::{AskedEffect, Change};
+use crate::happened::{Event, Found, Happened, find};
 use im_base_steps::{Reply, Step};
 use im_base_types::{Fault, Rid, TxnId};
 use im_tool_answers::StoreReply;
@@ -50,33 +51,6 @@ fn shorter(first: usize, second: usize) -> usize
     ensures one { (first ≤ result) ⊎ (second ≤ result) }
 {
     if first < second { first } else { second }
-}
-
-/// What happened to a transaction.
-#[derive(Drop)]
-pub(crate) enum Happened {
-    Began,
-    Changed(Change),
-    /// Its access that makes this change goes on.
-    GoesOn(Change),
-    /// An access of it that went on was answered `Inserted`.
-    InsertEnded,
-    /// An access of it that went on was answered `Deleted`.
-    DeleteEnded,
-    /// It was answered `Die`.
-    Died,
-    /// It takes its changes back.
-    Turned,
-    /// Its Commit waits for a force.
-    Waited,
-    Ended,
-}
-
-/// Something that happened to a transaction.
-#[derive(Drop)]
-pub(crate) struct Event {
-    txn: TxnId,
-    what: Happened,
 }
 
 /// What is shown so far: whether the engine has failed, what happened to the transactions, the oldest first, and the effects whose Commit was asked.
@@ -169,7 +143,7 @@ impl Showing {
             Reply::RolledBack => self.roll_back(step),
             Reply::More => self.take_more(step),
             Reply::Die => self.die(step),
-            Reply::Done => self.force(step),
+            Reply::Done => self.finish(step),
             Reply::Found(_) => Ok(()),
             Reply::Absent => Ok(()),
             Reply::Entry(_, _) => Ok(()),
@@ -279,7 +253,7 @@ impl Showing {
         }
     }
 
-    // Something is left to be done: a rollback has begun, a Commit waits for a force, or an insert or a delete goes on.
+    // Something is left to be done: a rollback or a return has begun, a Commit waits for a force, or an insert or a delete goes on.
     fn take_more(&mut self, step: &Step) -> Result<(), AllocError>
         ensures { OnOk result ((s : Shown) → IsShown self.old s → IsShown self.new (answered (asked_by step.now) answers.More s)) }
     {
@@ -291,6 +265,10 @@ impl Showing {
             }
             Step::Rollback(txn) => {
                 self.happen(*txn, Happened::Turned)?;
+                Ok(())
+            }
+            Step::RollTo(txn, left) => {
+                self.happen(*txn, Happened::Returned(*left))?;
                 Ok(())
             }
             Step::Insert(txn, key, rid) => {
@@ -320,11 +298,20 @@ impl Showing {
         }
     }
 
-    fn force(&mut self, step: &Step) -> Result<(), AllocError>
+    // What was asked is done: a force was made, or a transaction has no more changes than it returned to.
+    fn finish(&mut self, step: &Step) -> Result<(), AllocError>
         ensures { OnOk result ((s : Shown) → IsShown self.old s → IsShown self.new (answered (asked_by step.now) answers.Done s)) }
     {
         match step {
             Step::Force => self.acknowledge(),
+            Step::RollTo(txn, _) => {
+                self.happen(*txn, Happened::Resumed)?;
+                Ok(())
+            }
+            Step::Continue(txn) => {
+                self.happen(*txn, Happened::Resumed)?;
+                Ok(())
+            }
             _ => Ok(()),
         }
     }
@@ -407,176 +394,6 @@ fn acknowledged(alloc: Global, asked: Vec<AskedEffect>) -> Result<Vec<AskedEffec
     Ok(all)
 }
 
-/// A transaction as it is found: whether it is going, its changes, the oldest first, and the change of its access that goes on.
-#[derive(Drop)]
-pub(crate) struct Found {
-    going: bool,
-    changes: Vec<Change>,
-    pending: Option<Change>,
-}
-
-// A transaction after all that happened.
-fn find(alloc: Global, events: &[Event], txn: TxnId) -> Result<Found, AllocError>
-    ensures { IfOk result (λ found. IsFound found (running_from txn idle events.now)) }
-{
-    let mut found = Found {
-        going: false,
-        changes: Vec::new(alloc),
-        pending: None,
-    };
-    for event in events {
-        if event.txn != txn {
-            continue;
-        }
-        found = behind(alloc, found, &event.what)?;
-    }
-    Ok(found)
-}
-
-fn behind(alloc: Global, found: Found, what: &Happened) -> Result<Found, AllocError>
-    ensures { IfOk result (λ new. (r : Running) → IsFound found r → IsFound new (behind what.now r)) }
-{
-    match what {
-        Happened::Began => Ok(Found {
-            going: true,
-            changes: Vec::new(alloc),
-            pending: None,
-        }),
-        Happened::Changed(change) => {
-            let Found {
-                going,
-                mut changes,
-                pending,
-            } = found;
-            changes.push(copied(alloc, change)?)?;
-            Ok(Found {
-                going,
-                changes,
-                pending,
-            })
-        }
-        Happened::GoesOn(change) => {
-            let Found {
-                going,
-                changes,
-                pending: _pending,
-            } = found;
-            let copy = copied(alloc, change)?;
-            Ok(Found {
-                going,
-                changes,
-                pending: Some(copy),
-            })
-        }
-        Happened::InsertEnded => insert_ended(found),
-        Happened::DeleteEnded => delete_ended(found),
-        Happened::Died => Ok(stopped(found)),
-        Happened::Turned => Ok(stopped(found)),
-        Happened::Waited => Ok(stopped(found)),
-        Happened::Ended => Ok(Found {
-            going: false,
-            changes: Vec::new(alloc),
-            pending: None,
-        }),
-    }
-}
-
-// What went on was answered, and shows its change if it was an insert.
-fn insert_ended(found: Found) -> Result<Found, AllocError>
-    ensures { IfOk result (λ new. (r : Running) → IsFound found r → IsFound new (record r { effect = shown_change r.pending answers.Inserted ++ r.effect; pending = None })) }
-{
-    let Found {
-        going,
-        changes,
-        pending,
-    } = found;
-    joined(going, changes, if_insertion(pending))
-}
-
-// The same for a delete.
-fn delete_ended(found: Found) -> Result<Found, AllocError>
-    ensures { IfOk result (λ new. (r : Running) → IsFound found r → IsFound new (record r { effect = shown_change r.pending answers.Deleted ++ r.effect; pending = None })) }
-{
-    let Found {
-        going,
-        changes,
-        pending,
-    } = found;
-    joined(going, changes, if_deletion(pending))
-}
-
-fn if_insertion(pending: Option<Change>) -> Option<Change>
-    ensures { effect_in result ≡ shown_change (pending_in pending) answers.Inserted }
-{
-    match pending {
-        Some(change) => only_insertion(change),
-        None => None,
-    }
-}
-
-fn only_insertion(change: Change) -> Option<Change>
-    ensures { effect_in result ≡ shown_change (pending_in (Some change)) answers.Inserted }
-{
-    match change {
-        Change::Insertion(key, rid) => Some(Change::Insertion(key, rid)),
-        Change::Deletion(_key) => None,
-    }
-}
-
-fn if_deletion(pending: Option<Change>) -> Option<Change>
-    ensures { effect_in result ≡ shown_change (pending_in pending) answers.Deleted }
-{
-    match pending {
-        Some(change) => only_deletion(change),
-        None => None,
-    }
-}
-
-fn only_deletion(change: Change) -> Option<Change>
-    ensures { effect_in result ≡ shown_change (pending_in (Some change)) answers.Deleted }
-{
-    match change {
-        Change::Insertion(_key, _rid) => None,
-        Change::Deletion(key) => Some(Change::Deletion(key)),
-    }
-}
-
-// A transaction with one change more, where there is one, and nothing that goes on.
-#[tactic(auto, using(crate::proofs::Shows::newest_push))]
-fn joined(going: bool, changes: Vec<Change>, more: Option<Change>) -> Result<Found, AllocError>
-    ensures going { IfOk result (λ new. new.going ≡ going) }
-    ensures changes { IfOk result (λ new. newest_first new.changes.items [] ≡ effect_in more ++ newest_first changes.items []) }
-    ensures pending { IfOk result (λ new. new.pending ≡ None) }
-{
-    let mut changes = changes;
-    if let Some(change) = more {
-        changes.push(change)?;
-    }
-    Ok(Found {
-        going,
-        changes,
-        pending: None,
-    })
-}
-
-// It makes no more changes, and those that it made are kept.
-fn stopped(found: Found) -> Found
-    ensures going { result.going ≡ false }
-    ensures changes { result.changes ≡ found.changes }
-    ensures pending { result.pending ≡ found.pending }
-{
-    let Found {
-        going: _going,
-        changes,
-        pending,
-    } = found;
-    Found {
-        going: false,
-        changes,
-        pending,
-    }
-}
-
 // The transaction of an access.
 fn access_of(step: &Step) -> Option<TxnId>
     ensures { result ≡ transaction_of_access (asked_by step.now) }
@@ -593,6 +410,7 @@ fn access_of(step: &Step) -> Option<TxnId>
         Step::Commit(_) => None,
         Step::Rollback(_) => None,
         Step::Continue(_) => None,
+        Step::RollTo(_, _) => None,
         Step::FlushPage(_) => None,
         Step::Force => None,
         Step::Checkpoint => None,
@@ -610,15 +428,6 @@ fn deletion(alloc: Global, key: &[u8]) -> Result<Change, AllocError>
     ensures { IfOk result (λ change. change_of change ≡ changes.Drop key.now 0) }
 {
     Ok(Change::Deletion(Vec::from_slice(alloc, key)?))
-}
-
-fn copied(alloc: Global, change: &Change) -> Result<Change, AllocError>
-    ensures { IfOk result (λ copy. change_of copy ≡ change_of change.now) }
-{
-    match change {
-        Change::Insertion(key, rid) => Ok(Change::Insertion(Vec::from_slice(alloc, key)?, *rid)),
-        Change::Deletion(key) => Ok(Change::Deletion(Vec::from_slice(alloc, key)?)),
-    }
 }
 
 fn either(first: bool, second: bool) -> bool

@@ -1,4 +1,4 @@
-use Rattle.im_tool_judge.proofs.Shows.{waits, turned, insert_goes_on, delete_goes_on}
+use Rattle.im_tool_judge.proofs.Shows.{waits, turned, returns_to, insert_goes_on, delete_goes_on}
 use Rattle.im_tool_judge.proofs.showing.Showing.take_more.Goals as goal
 
 pub returns-in_ok-happen-in-Commit : goal.returns-in_ok-happen-in-Commit
@@ -6,6 +6,9 @@ returns-in_ok-happen-in-Commit c s shown = waits c.args.step.now _ _ _ s c.in-Co
 
 pub returns-in_ok-happen-in-Rollback : goal.returns-in_ok-happen-in-Rollback
 returns-in_ok-happen-in-Rollback c s shown = turned c.args.step.now _ _ s c.in-Rollback.is (c.in_ok-happen-in-Rollback.ensures s shown)
+
+pub returns-in_ok-happen-in-RollTo : goal.returns-in_ok-happen-in-RollTo
+returns-in_ok-happen-in-RollTo c s shown = returns_to c.args.step.now _ _ _ s c.in-RollTo.is (c.in_ok-happen-in-RollTo.ensures s shown)
 
 pub returns-in_ok-happen-in-Insert : goal.returns-in_ok-happen-in-Insert
 returns-in_ok-happen-in-Insert c s shown = insert_goes_on c.args.step.now _ _ _ _ _ _ s c.in-Insert.is c.deref.ensures.value c.in_ok-one-in-Insert.ensures (c.in_ok-happen-in-Insert.ensures s shown)

@@ -1,7 +1,7 @@
 use Rattle.std.proofs.Common.{take}
 use Rattle.im_base_types.specs.Lives.{idle}
 use Rattle.im_tool_judge.specs.Shows.{IsFound, running_from}
-use Rattle.im_tool_judge.proofs.showing.find.Given as goal
+use Rattle.im_tool_judge.proofs.happened.find.Given as goal
 
 -- the transaction after what happened so far
 abbrev pub invariant-loop-event : goal.invariant-loop-event

@@ -1,7 +1,7 @@
 use Rattle.std.proofs.Common.{◌≡◌, ◌≢◌, rules, arith}
 use Rattle.std.proofs.lemmas.Grind.{common_steps}
 use Rattle.im_tool_judge.proofs.Shows.{found_own, found_other}
-use Rattle.im_tool_judge.proofs.showing.find.Goals as goal
+use Rattle.im_tool_judge.proofs.happened.find.Goals as goal
 
 pub loop-event-preserved-then-event-txn : goal.loop-event-preserved-then-event-txn
 loop-event-preserved-then-event-txn c =
