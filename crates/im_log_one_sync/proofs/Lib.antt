@@ -1,0 +1,5 @@
+pub mod Reading
+pub mod Laws
+pub mod TwoSyncs
+pub mod Headers
+pub mod Puts
