@@ -1,5 +1,5 @@
 -- Steps of a structure change that is made page by page, and steps of others that it stands in the way of.
-use Rattle.std.proofs.Common.{◌≡◌, ◌≢◌, ◌≤◌, ◌+◌, inl, ℕ, nat_eq, List, ◌++◌, [], ◌∷◌, length, map, refl, sym, ◌∙◌, ap, subst, true, false, Bool, Option, is_some, cond, None, Some, eq-eqb, ne_eqb}
+use Rattle.std.proofs.Common.{◌≡◌, ◌≢◌, ◌≤◌, inl, ℕ, nat_eq, List, ◌++◌, [], ◌∷◌, length, map, refl, sym, ◌∙◌, ap, subst, true, false, Bool, Option, is_some, cond, None, Some, eq-eqb, ne_eqb}
 use Rattle.std.specs.Prelude.{find}
 use Rattle.std.specs.FinMap.{empty, get}
 use Rattle.im_base_types.specs.Keys.{Key}
@@ -18,7 +18,7 @@ use Rattle.im_theory_log.specs.Transactions.{net, last_of, undo_next_of, is_fini
 use Rattle.im_theory_log.proofs.LogLaws.{logs_stay_lawful}
 use Rattle.im_base_txn.specs.declared.transaction.Mark.TheVariants.{Going, RollingBack, Returning}
 use Rattle.im_base_txn.specs.declared.transaction.Transaction.{Transaction}
-use Rattle.im_base_txn.specs.Rows.{is_of, changed, with_changes, with_mark, with_record}
+use Rattle.im_base_txn.specs.Rows.{is_of, changed, with_mark, with_record}
 use Rattle.im_base_txn.specs.LookUps.{without}
 use Rattle.im_base_txn.proofs.LookUps.{look_ups_follow}
 use Rattle.im_theory_machine.specs.Locks.{Lock, Request, Holds, SameLocks, IsFree, kept}
@@ -30,12 +30,12 @@ use Rattle.im_theory_machine.specs.Machine.{logs_page, drops_leaf, drops_first, 
 use Rattle.im_theory_machine.proofs.Cited.{changes-serve, by_txn, pending_granted, nets_same}
 use Rattle.im_theory_steps.specs.Seen.{IsSeen}
 use Rattle.im_theory_steps.specs.Serving.{IsRow, mark_of, IsServing}
-use Rattle.im_theory_steps.specs.Steps.{counted, key_record, noted, InsertsBegin, PagesAreServed, InsertsStayFree, InsertsEnd, DeletesBegin, DeletesEnd, TurnsBegin, TurnsEmpty, TurnsDrop, TurnsEnd, TreesBlock, TreesHalt, takes_back}
+use Rattle.im_theory_steps.specs.Steps.{counted, key_record, noted, with_made, with_undone, InsertsBegin, PagesAreServed, InsertsStayFree, InsertsEnd, DeletesBegin, DeletesEnd, TurnsBegin, TurnsEmpty, TurnsDrop, TurnsEnd, TreesBlock, TreesHalt, takes_back}
 use Rattle.im_theory_steps.specs.Undone.{ReturnsDrop}
 use Rattle.im_theory_steps.proofs.Asking.{trees_ask_nothing}
 use Rattle.im_theory_steps.proofs.Growth.{structure_changes_no_key, same_here, same_then}
 use Rattle.im_theory_steps.proofs.Holding.{same_locks, released_locks, free_by_table}
-use Rattle.im_theory_steps.proofs.Logging.{adds_behind, others_say, row_says, deletes_served}
+use Rattle.im_theory_steps.proofs.Logging.{adds_behind, count_below, others_say, row_says, deletes_served}
 use Rattle.im_theory_steps.proofs.Promises.{granted_keys_free}
 use Rattle.im_theory_steps.proofs.Records.{put_adds, drop_adds}
 use Rattle.im_theory_steps.proofs.Rolling.{rolling_is}
@@ -185,19 +185,19 @@ inserts_end tree laws b earlier before s v older between rows next old new t las
     let new_one = new_by b earlier before s v older rows next old h t answers.Going going (λ x. cc x) in
     record {
       lawful = logs_stay_lawful tree laws b between newest law follows (λ e. absurd cc);
-      served = served b earlier before s v older rows next old h (Continue t) Inserted w longer (counted t lsn row rows) next new
+      served = served b earlier before s v older rows next old h (Continue t) Inserted w longer (counted t lsn rows) next new
           (moves_by v w (Continue t) Inserted (owner_continues v t (Insert k i) h.works (mine_pending v.under t (Puts k i) (Insert k i) under refl)) goes.0)
           h.works
           (seen_like b longer done w (together.adds b older longer v t (Insert k i) (Put k i) (own_locks v t) h.seen_by new_one one adds) refl refl refl (λ u. refl))
           adds.commits
           refl
           (record {
-            each = rows_changed t next older longer rows v.txns (did_txn (v.txns t) (Insert k i) v.walk (own_locks v t)) (with_changes lsn lsn (row.changes + 1)) row (λ y. refl)
+            each = rows_changed t next older longer rows v.txns (did_txn (v.txns t) (Insert k i) v.walk (own_locks v t)) (with_made lsn) row (λ y. refl)
                 (λ u differ. same_then u older between longer (way.others u differ) (others_say between t last lsn page (InsertKey k i) (Put k i) refl refl refl refl u differ))
                 h.table.each found is.0
-                (as_row row.mark (with_changes lsn lsn (row.changes + 1) row) next longer free (row_says between t last lsn page (InsertKey k i) (Put k i) refl refl refl refl row next is.0 is.1.number is.1.below way.unfinished (counted_at t next older row is.0 is.1 ∙ ap (λ (e : Effect). length e) (sym (way.stays.nets t)))))
+                (as_row row.mark (with_made lsn row) next longer free (row_says between t last lsn page (InsertKey k i) (Put k i) refl refl refl refl row next is.0 is.1.number is.1.below way.unfinished (counted_at t next older row is.0 is.1 ∙ ap (λ (e : Effect). length e) (sym (way.stays.nets t))) (count_below tree b between t lsn law rises)))
                 (sym (ap mark_of mark));
-            active = h.table.active ∙ sym (length_map (changed t (with_changes lsn lsn (row.changes + 1))) rows);
+            active = h.table.active ∙ sym (length_map (changed t (with_made lsn)) rows);
             numbers = h.table.numbers;
           })
           goes.1;
@@ -240,7 +240,7 @@ deletes_begin tree laws b earlier before s v older between rows next old new t l
     let lasts : SameLocks (lasting_of new t) (kept (asked (Delete k) v.walk) ((v.txns t).locks)) = subst (λ (ls : List Lock). SameLocks (lasting_of new t) (kept (asked (Delete k) v.walk) ls)) (sym (h.locks.lasting t)) decides.1.lasting in
     record {
       lawful = at_once.lawful;
-      served = served b earlier before s v older rows next old h (Do t (Delete k)) More w longer (counted t lsn row rows) next new
+      served = served b earlier before s v older rows next old h (Do t (Delete k)) More w longer (counted t lsn rows) next new
           (moves_by v w (Do t (Delete k)) More (do_passes v t h.works (Delete k) unowned going fits) (drops_first t k i (lasting_of new t) refl going none has free lasts refl refl))
           h.works
           (seen_like b longer done w on.seen_by refl refl refl (λ u. refl))
@@ -289,7 +289,7 @@ turns_begin b earlier before s v older longer rows next held t row h found mark 
     (begins_bare v held on.locks t TakesBack none (λ m. refl))
 
 pub turns_empty : TurnsEmpty
-turns_empty b earlier before s v older longer rows next held t last undo_next count row c h found mark none on others now_row =
+turns_empty b earlier before s v older longer rows next held t last undo_next row c h found mark none on others now_row =
     let free = mark_free row.mark RollingBack mark (λ x. cc x) in
     let is = at b earlier before s v older rows next held h t row found free in
     let rolling : (v.txns t).mark ≡ answers.RollingBack = is.2 ∙ ap mark_of mark in
@@ -299,15 +299,15 @@ turns_empty b earlier before s v older longer rows next held t last undo_next co
     let x : Txn = record (v.txns t) { net = rest } in
     let done = undid_more v t c rest in
     let w = with_change done t TookBack in
-    served b earlier before s v older rows next held h (Continue t) More w longer (map (changed t (with_changes last undo_next count)) rows) next held
+    served b earlier before s v older rows next held h (Continue t) More w longer (map (changed t (with_undone last undo_next)) rows) next held
     (moves_by v w (Continue t) More (continue_passes v t h.works rolling) (takes_first t c rest refl (inl rolling) none net_is refl refl))
     h.works
     (seen_like b longer done w (together.takes_back b older longer v t c rest h.seen_by new_one net_is on) refl refl refl (λ u. refl))
     on.commits
     refl
     (record {
-      each = rows_changed t next older longer rows v.txns x (with_changes last undo_next count) row (λ y. refl) others h.table.each found is.0 (as_row row.mark (with_changes last undo_next count row) next longer free now_row) is.2;
-      active = h.table.active ∙ sym (length_map (changed t (with_changes last undo_next count)) rows);
+      each = rows_changed t next older longer rows v.txns x (with_undone last undo_next) row (λ y. refl) others h.table.each found is.0 (as_row row.mark (with_undone last undo_next row) next longer free now_row) is.2;
+      active = h.table.active ∙ sym (length_map (changed t (with_undone last undo_next)) rows);
       numbers = h.table.numbers;
     })
     (let locks = same_locks v held t x h.locks refl (Some (record { owner = t; aim = TookBack })) (undone v.walk c) (λ u. no_lock (nat_eq t u) ∙ sym (ap (λ (o : Option Under). kept_lock o v.walk u) none)) in

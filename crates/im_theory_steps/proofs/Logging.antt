@@ -1,5 +1,5 @@
 -- A key record that was granted its locks, a Commit and a Checkpoint, logged.
-use Rattle.std.proofs.Common.{◌≡◌, ◌≢◌, ◌≤◌, ◌<◌, ◌+◌, suc, ℕ, List, [], ◌∷◌, ◌++◌, length, refl, sym, ◌∙◌, ap, subst, cond, is_some, Bool, true, false, Option, None, Some, arith}
+use Rattle.std.proofs.Common.{◌≡◌, ◌≢◌, ◌≤◌, ◌<◌, ◌+◌, suc, ℕ, List, [], ◌∷◌, ◌++◌, length, refl, sym, ◌∙◌, ap, subst, cond, is_some, Bool, true, false, Option, None, Some, arith, lt-ltb}
 use Rattle.std.specs.Prelude.{find, if◌then◌else◌, ◌==◌, ◌||◌}
 use Rattle.std.specs.FinMap.{get}
 use Rattle.std.proofs.lemmas.Bool.{eq-eqb, cond-true}
@@ -7,8 +7,9 @@ use Rattle.im_base_types.specs.Maps.{IndexMap}
 use Rattle.im_base_types.specs.Changes.{Change, Effect, Put, Drop, applied, key_of}
 use Rattle.im_base_types.specs.Records.{What, InsertKey, DeleteKey, Commit as CommitRecord, Logged}
 use Rattle.im_theory_log.specs.Tree.{Tree, TreeLaws}
-use Rattle.im_theory_log.specs.Histories.{History, Base}
-use Rattle.im_theory_log.specs.Lawful.{Follows, IsChained}
+use Rattle.im_theory_log.specs.Histories.{History, Base, end_of}
+use Rattle.im_theory_log.specs.Lawful.{Follows, IsChained, IsLawful}
+use Rattle.im_theory_log.proofs.Cited.{rises as log_rises}
 use Rattle.im_theory_log.specs.Lawful as lawful
 use Rattle.im_theory_log.proofs.LogLaws.{logs_stay_lawful}
 use Rattle.im_theory_log.specs.Transactions.{last_of, undo_next_of, undo_from, to_undo, stack_after, is_finished, is_end, net, change_of, changes_of}
@@ -17,7 +18,7 @@ use Rattle.im_base_types.specs.Answers.{Access, Insert, Delete, Inserted, Delete
 use Rattle.im_base_types.specs.Lives.{Shown}
 use Rattle.im_base_txn.specs.declared.transaction.Mark.TheVariants.{Going}
 use Rattle.im_base_txn.specs.declared.transaction.Transaction.{Transaction}
-use Rattle.im_base_txn.specs.Rows.{is_of, with_changes}
+use Rattle.im_base_txn.specs.Rows.{is_of}
 use Rattle.im_theory_machine.specs.Table.{Table, lasting_of, Decides}
 use Rattle.im_theory_machine.specs.declared.verdict.Verdict.TheVariants.{Granted}
 use Rattle.im_theory_machine.specs.Machine.{keys_fit}
@@ -25,12 +26,13 @@ use Rattle.im_theory_machine.specs.Rows.{asked}
 use Rattle.im_theory_machine.specs.View.{View, owner_in, did}
 use Rattle.im_theory_steps.specs.Growth.{Stays, Adds, IsOfOthers}
 use Rattle.im_theory_steps.specs.Serving.{IsServing, IsServed, IsRow, mark_of}
-use Rattle.im_theory_steps.specs.Steps.{counted, key_record, commit_record, IsOnTheWay, InsertsAreServed, DeletesAreServed, LoggedCommitsAreServed, LoggedCommitsWait, LoggedCheckpointsAreServed}
+use Rattle.im_theory_steps.specs.Steps.{counted, with_made, key_record, commit_record, IsOnTheWay, InsertsAreServed, DeletesAreServed, LoggedCommitsAreServed, LoggedCommitsWait, LoggedCheckpointsAreServed}
 use Rattle.im_theory_steps.proofs.Growth.{same_by, same_then, checkpoints_change_nothing}
 use Rattle.im_theory_steps.proofs.Promises.{granted_keys_free}
 use Rattle.im_theory_steps.proofs.Records.{put_adds, drop_adds, commit_commits}
 use Rattle.im_theory_steps.proofs.Together.{together}
 use Rattle.im_theory_steps.proofs.Holding.{free_by_table}
+use Rattle.im_theory_steps.proofs.Counts.{counts_fit}
 use Rattle.im_theory_steps.proofs.Rows.{counted_at}
 use Rattle.im_theory_steps.proofs.Steps.{at, mark_free, changes_served, commits_served, commits_wait, checkpoints_served}
 
@@ -49,8 +51,8 @@ module _ (older : History) (t last lsn page : ℕ) (w : What) (c : Change) (no_e
   net_is : net t (r ∷ older) ≡ c ∷ net t older
   net_is = ap changes_of (own (stack_after r w (to_undo t older)) (to_undo t older) ∙ stacked) ∙ ap (λ (e : Effect). e ++ net t older) one
 
-  pub row_says : (row : Transaction) (next : ℕ) → row.number ≡ t → 1 ≤ row.number → row.number < next → is_finished t older ≡ false → row.changes ≡ length (net t older) → IsRow (with_changes lsn lsn (row.changes + 1) row) next (r ∷ older)
-  row_says row next is number below unfinished count = record {
+  pub row_says : (row : Transaction) (next : ℕ) → row.number ≡ t → 1 ≤ row.number → row.number < next → is_finished t older ≡ false → row.changes ≡ length (net t older) → length (net t older) < lsn → IsRow (with_made lsn row) next (r ∷ older)
+  row_says row next is number below unfinished count low = record {
     number = number;
     below = below;
     last = sym (at_number (λ n. last_of n (r ∷ older)) (own lsn (last_of t older)));
@@ -58,11 +60,19 @@ module _ (older : History) (t last lsn page : ℕ) (w : What) (c : Change) (no_e
     unfinished = at_number (λ n. is_finished n (r ∷ older)) (own (is_end w || is_finished t older) (is_finished t older) ∙ ap (λ (b : Bool). b || is_finished t older) no_end ∙ unfinished);
     changes =
         let now : length (net row.number (r ∷ older)) ≡ suc (length (net t older)) = at_number (λ n. length (net n (r ∷ older))) (ap (λ (e : Effect). length e) net_is) in
-        omega (arith, now, count);
+        let fewer : row.changes < lsn = omega (arith, count, low) in
+        let more : row.changes + 1 ≡ length (net row.number (r ∷ older)) = omega (arith, now, count) in
+        ap (λ (b : Bool). if b then row.changes + 1 else row.changes) (lt-ltb row.changes lsn fewer) ∙ more;
   }
     where
       at_number : {A : Type 0} {x : A} (f : ℕ → A) → f t ≡ x → f row.number ≡ x
       at_number f e = ap f is ∙ e
+
+-- a lawful log has fewer changes of a transaction than LSNs
+pub count_below : (tree : Tree) (b : Base) (log : History) (t lsn : ℕ) → IsLawful b tree log → end_of b log < lsn → length (net t log) < lsn
+count_below tree b log t lsn law high =
+    let few = counts_fit b log t (log_rises b tree log law) in
+    omega (arith, few, high)
 
 -- a change after records that change no key
 pub adds_behind : (b : Base) (t : ℕ) (c : Change) (older between longer : History) → Stays b older between → Adds b t c between longer → Adds b t c older longer
@@ -88,14 +98,14 @@ module _ (b : Base) (earlier before : List Effect) (s : Shown) (v : View) (older
     key_free : lawful.IsFree t (key_of c) between
     key_free = granted_keys_free _ b between v t a c h.reached (together.stays b older between v h.seen_by way.stays) h.works going (free_by_table v old t (asked a v.walk) h.locks decides.0) one
 
-    logged : is_end w ≡ false → undo_from (key_record t last lsn page w) w ≡ lsn → stack_after (key_record t last lsn page w) w (to_undo t between) ≡ key_record t last lsn page w ∷ to_undo t between → change_of w ≡ c ∷ []
-        → Adds b t c between (key_record t last lsn page w ∷ between) → IsServed b earlier before s v (Do t a) (answer a v.walk) (did v t a (lasting_of new t)) (key_record t last lsn page w ∷ between) (counted t lsn row rows) next new
-    logged no_end from stacked makes adds =
+    logged : length (net t between) < lsn → is_end w ≡ false → undo_from (key_record t last lsn page w) w ≡ lsn → stack_after (key_record t last lsn page w) w (to_undo t between) ≡ key_record t last lsn page w ∷ to_undo t between → change_of w ≡ c ∷ []
+        → Adds b t c between (key_record t last lsn page w ∷ between) → IsServed b earlier before s v (Do t a) (answer a v.walk) (did v t a (lasting_of new t)) (key_record t last lsn page w ∷ between) (counted t lsn rows) next new
+    logged low no_end from stacked makes adds =
         let newest = key_record t last lsn page w in
-        changes_served b earlier before s v older (newest ∷ between) rows next old new t lsn lsn (row.changes + 1) row a c h found mark unowned fits one decides
+        changes_served b earlier before s v older (newest ∷ between) rows next old new t lsn row a c h found mark unowned fits one decides
         (adds_behind b t c older between (newest ∷ between) way.stays adds)
         (λ u differ. same_then u older between (newest ∷ between) (way.others u differ) (others_say between t last lsn page w c no_end from stacked makes u differ))
-        (row_says between t last lsn page w c no_end from stacked makes row next is_at.0 is_at.1.number is_at.1.below way.unfinished (counted_at t next older row is_at.0 is_at.1 ∙ ap (λ (e : Effect). length e) (sym (way.stays.nets t))))
+        (row_says between t last lsn page w c no_end from stacked makes row next is_at.0 is_at.1.number is_at.1.below way.unfinished (counted_at t next older row is_at.0 is_at.1 ∙ ap (λ (e : Effect). length e) (sym (way.stays.nets t))) low)
 
 pub inserts_served : (tree : Tree) → TreeLaws tree → InsertsAreServed tree
 inserts_served tree laws b earlier before s v older between rows next old new t last lsn page row k i h found mark unowned fits way law out apart absent decides can rises =
@@ -116,10 +126,10 @@ inserts_served tree laws b earlier before s v older between rows next old new t 
         not_in = apart;
       };
     } in
-    let served = logged b earlier before s v older rows next old t row h found mark last between way new (Insert k i) (Put k i) lsn page (InsertKey k i) unowned fits one decides refl refl refl refl (put_adds b between newest t refl k i refl) in
+    let served = logged b earlier before s v older rows next old t row h found mark last between way new (Insert k i) (Put k i) lsn page (InsertKey k i) unowned fits one decides (count_below tree b between t lsn law rises) refl refl refl refl (put_adds b between newest t refl k i refl) in
     record {
       lawful = logs_stay_lawful tree laws b between newest law follows (λ e. absurd cc);
-      served = subst (λ (reply : Reply). IsServed b earlier before s v (Do t (Insert k i)) reply w (newest ∷ between) (counted t lsn row rows) next new) says served;
+      served = subst (λ (reply : Reply). IsServed b earlier before s v (Do t (Insert k i)) reply w (newest ∷ between) (counted t lsn rows) next new) says served;
     }
 
 pub deletes_served : (tree : Tree) → TreeLaws tree → DeletesAreServed tree
@@ -141,10 +151,10 @@ deletes_served tree laws b earlier before s v older between rows next old new t 
         not_in = apart;
       };
     } in
-    let served = logged b earlier before s v older rows next old t row h found mark last between way new (Delete k) (Drop k i) lsn page (DeleteKey k i) unowned fits one decides refl refl refl refl (drop_adds b between newest t refl k i refl) in
+    let served = logged b earlier before s v older rows next old t row h found mark last between way new (Delete k) (Drop k i) lsn page (DeleteKey k i) unowned fits one decides (count_below tree b between t lsn law rises) refl refl refl refl (drop_adds b between newest t refl k i refl) in
     record {
       lawful = logs_stay_lawful tree laws b between newest law follows (λ e. absurd cc);
-      served = subst (λ (reply : Reply). IsServed b earlier before s v (Do t (Delete k)) reply w (newest ∷ between) (counted t lsn row rows) next new) says served;
+      served = subst (λ (reply : Reply). IsServed b earlier before s v (Do t (Delete k)) reply w (newest ∷ between) (counted t lsn rows) next new) says served;
     }
 
 -- ---- a Commit

@@ -18,7 +18,7 @@ use Rattle.im_base_types.specs.Refusals.{failed as has_failed, key_length, too_m
 use Rattle.im_base_txn.specs.declared.transaction.Mark as marks
 use Rattle.im_base_txn.specs.declared.transaction.Mark.TheVariants.{Going, MustRollBack, RollingBack, Returning, Committing}
 use Rattle.im_base_txn.specs.declared.transaction.Transaction.{Transaction}
-use Rattle.im_base_txn.specs.Rows.{begun as row_begun, is_of, changed, with_changes, with_mark, with_record}
+use Rattle.im_base_txn.specs.Rows.{begun as row_begun, is_of, changed, with_mark, with_record}
 use Rattle.im_base_txn.specs.LookUps.{without}
 use Rattle.im_base_txn.proofs.LookUps.{look_ups_follow}
 use Rattle.im_theory_machine.specs.Table.{Table, lasting_of, IsReleased}
@@ -31,7 +31,7 @@ use Rattle.im_theory_machine.proofs.Cited.{changes-serve, cases_number, cases_te
 use Rattle.im_theory_steps.specs.Growth.{Stays, TakesBack, IsOfOthers, IsOver, HasNone}
 use Rattle.im_theory_steps.specs.Seen.{IsSeen}
 use Rattle.im_theory_steps.specs.Serving.{IsRow, IsRowOf, IsWaitingRow, IsAt, AreRows, mark_of, IsServing, IsServed}
-use Rattle.im_theory_steps.specs.Steps.{NewStoresServe, OpenedStoresServe, QuietLogsHoldCommitted, ImagesKeepServing, StructureKeepsServing, WaysLeadOn, ChangesAreServed, ReadsAreServed, WaitsAreServed, DiesAreServed, BeginsAreServed, CommitsAreServed, CommitsWait, takes_back, without_all, UnloggedCommitsAreServed, ReturnsStay, ReturnsTurn, DropsAreServed, TurnsAreServed, UndoIsServed, EndsAreServed, FlushesAreServed, ForcesAreServed, CheckpointsAreServed, BarredStepsAreServed, LacksAreServed}
+use Rattle.im_theory_steps.specs.Steps.{NewStoresServe, OpenedStoresServe, QuietLogsHoldCommitted, ImagesKeepServing, StructureKeepsServing, WaysLeadOn, ChangesAreServed, ReadsAreServed, WaitsAreServed, DiesAreServed, BeginsAreServed, CommitsAreServed, CommitsWait, counted, takes_back, with_made, with_undone, without_all, UnloggedCommitsAreServed, ReturnsStay, ReturnsTurn, DropsAreServed, TurnsAreServed, UndoIsServed, EndsAreServed, FlushesAreServed, ForcesAreServed, CheckpointsAreServed, BarredStepsAreServed, LacksAreServed}
 use Rattle.im_theory_steps.proofs.Growth.{images_change_nothing, structure_changes_no_key, stays_then, same_here, same_then, none_last, none_undo, none_finished, none_to_undo, unlogged}
 use Rattle.im_theory_steps.proofs.Together.{together, marked_seen, dropped_seen, empty_seen, begun_seen}
 use Rattle.im_theory_steps.proofs.Holding.{same_itself, kept_none, kept_undone, GoWith, same_locks, released_locks, forced_locks, pends_beside}
@@ -180,20 +180,20 @@ module _ (b : Base) (earlier before : List Effect) (s : Shown) (v : View) (older
 -- ---- accesses
 
 pub changes_served : ChangesAreServed
-changes_served b earlier before s v older longer rows next old new t last undo_next count row a c h found mark unowned fits one decides adds on now_row =
+changes_served b earlier before s v older longer rows next old new t lsn row a c h found mark unowned fits one decides adds on now_row =
     let is = at b earlier before s v older rows next old h t row found (mark_free row.mark Going mark (λ x. cc x)) in
     let going : (v.txns t).mark ≡ answers.Going = is.2 ∙ ap mark_of mark in
     let goes = changes-serve.decided v old new h.locks t a Granted going (beside b earlier before s v older rows next old h t unowned) decides in
     let w = did v t a (lasting_of new t) in
-    served b earlier before s v older rows next old h (Do t a) (answer a v.walk) w longer (map (changed t (with_changes last undo_next count)) rows) next new
+    served b earlier before s v older rows next old h (Do t a) (answer a v.walk) w longer (counted t lsn rows) next new
     (moves_by v w (Do t a) (answer a v.walk) (do_passes v t h.works a unowned going fits) goes.0)
     h.works
     (together.adds b older longer v t a c (lasting_of new t) h.seen_by (new_by b earlier before s v older rows next old h t answers.Going going (λ x. cc x)) one adds)
     adds.commits
     (ap effects (asks_nothing s t a v))
     (record {
-      each = rows_changed t next older longer rows v.txns (did_txn (v.txns t) a v.walk (lasting_of new t)) (with_changes last undo_next count) row (λ r. refl) on h.table.each found is.0 (as_row row.mark (with_changes last undo_next count row) next longer (mark_free row.mark Going mark (λ x. cc x)) now_row) (sym (ap mark_of mark));
-      active = h.table.active ∙ sym (length_map (changed t (with_changes last undo_next count)) rows);
+      each = rows_changed t next older longer rows v.txns (did_txn (v.txns t) a v.walk (lasting_of new t)) (with_made lsn) row (λ r. refl) on h.table.each found is.0 (as_row row.mark (with_made lsn row) next longer (mark_free row.mark Going mark (λ x. cc x)) now_row) (sym (ap mark_of mark));
+      active = h.table.active ∙ sym (length_map (changed t (with_made lsn)) rows);
       numbers = h.table.numbers;
     })
     goes.1
@@ -509,9 +509,9 @@ returns_turn b earlier before s v log rows next held t n row h found mark more f
     remarked b earlier before s v log rows next held t row h found mark (Returning n) (RollTo t n) More (row_marked (Returning n) row next log is.1) moves refl
 
 -- a change of t was taken back, and its row says so
-module _ (b : Base) (earlier before : List Effect) (s : Shown) (v : View) (older longer : History) (rows : List Transaction) (next : ℕ) (held : Table) (t last undo_next count : ℕ) (row : Transaction) (c : Change)
+module _ (b : Base) (earlier before : List Effect) (s : Shown) (v : View) (older longer : History) (rows : List Transaction) (next : ℕ) (held : Table) (t last undo_next : ℕ) (row : Transaction) (c : Change)
     (h : IsServing b earlier before s v older rows next held) (found : find (is_of t) rows ≡ Some row) (taking : takes_back (mark_of row.mark) ≡ true) (on : TakesBack b t c older longer) (others : IsOfOthers t older longer)
-    (now_row : IsRow (with_changes last undo_next count row) next longer) where
+    (now_row : IsRow (with_undone last undo_next row) next longer) where
   taking_free : row.mark ≡ Committing → ⊥
   taking_free e = let never : false ≡ true = sym (ap (λ (m : marks.Mark). takes_back (mark_of m)) e) ∙ taking in cc never
 
@@ -531,10 +531,10 @@ module _ (b : Base) (earlier before : List Effect) (s : Shown) (v : View) (older
   back_view = undid_more v t c (net t longer)
 
   abbrev back_rows : List Transaction
-  back_rows = map (changed t (with_changes last undo_next count)) rows
+  back_rows = map (changed t (with_undone last undo_next)) rows
 
-  pub back_found : find (is_of t) back_rows ≡ Some (with_changes last undo_next count row)
-  back_found = look_ups_follow.changed_own t (with_changes last undo_next count) (λ r. refl) rows row found
+  pub back_found : find (is_of t) back_rows ≡ Some (with_undone last undo_next row)
+  back_found = look_ups_follow.changed_own t (with_undone last undo_next) (λ r. refl) rows row found
 
   pub back_seen : IsSeen b longer back_view
   back_seen = together.takes_back b older longer v t c (net t longer) h.seen_by taking_new back_net on
@@ -544,10 +544,10 @@ module _ (b : Base) (earlier before : List Effect) (s : Shown) (v : View) (older
     each = rows_after t next next older longer rows back_rows v.txns (record (v.txns t) { net = net t longer })
         (λ u differ at_u. same_at u next older longer (others u differ) (find (is_of u) rows) (v.txns u) at_u)
         h.table.each
-        (λ u differ. look_ups_follow.changed_other u t (with_changes last undo_next count) (λ r. refl) rows differ)
+        (λ u differ. look_ups_follow.changed_other u t (with_undone last undo_next) (λ r. refl) rows differ)
         (subst (λ (o : Option Transaction). IsAt t o next longer (record (v.txns t) { net = net t longer })) (sym back_found)
-        (taking_at.0, as_row row.mark (with_changes last undo_next count row) next longer taking_free now_row, taking_at.2));
-    active = h.table.active ∙ sym (length_map (changed t (with_changes last undo_next count)) rows);
+        (taking_at.0, as_row row.mark (with_undone last undo_next row) next longer taking_free now_row, taking_at.2));
+    active = h.table.active ∙ sym (length_map (changed t (with_undone last undo_next)) rows);
     numbers = h.table.numbers;
   }
 
@@ -563,38 +563,38 @@ module _ (b : Base) (earlier before : List Effect) (s : Shown) (v : View) (older
       (moves_by v back_view (Continue t) reply (taking_passes v t h.works takes) goes) h.works back_seen on.commits asks back_table back_locks
 
 pub undo_served : UndoIsServed
-undo_served b earlier before s v older longer rows next held t last undo_next count row c h found mark on left others now_row =
+undo_served b earlier before s v older longer rows next held t last undo_next row c h found mark on left others now_row =
     let taking : takes_back (mark_of row.mark) ≡ true = ap (λ (m : marks.Mark). takes_back (mark_of m)) mark in
-    let is = taking_at b earlier before s v older longer rows next held t last undo_next count row c h found taking on others now_row in
-    let net_is = back_net b earlier before s v older longer rows next held t last undo_next count row c h found taking on others now_row in
+    let is = taking_at b earlier before s v older longer rows next held t last undo_next row c h found taking on others now_row in
+    let net_is = back_net b earlier before s v older longer rows next held t last undo_next row c h found taking on others now_row in
     let more = cases_net (net t longer) left in
-    taken_back b earlier before s v older longer rows next held t last undo_next count row c h found taking on others now_row More refl
+    taken_back b earlier before s v older longer rows next held t last undo_next row c h found taking on others now_row More refl
     (undoes t c more.0 more.1 refl (is.2 ∙ ap mark_of mark) (net_is ∙ ap (λ (e : Effect). c ∷ e) more.2) refl (ap (λ (e : Effect). undid_more v t c e) more.2))
 
 -- it returns to n changes, and has more, or these
-pub gives_served : (b : Base) (earlier before : List Effect) (s : Shown) (v : View) (older longer : History) (rows : List Transaction) (next : ℕ) (held : Table) (t n last undo_next count : ℕ) (row : Transaction) (c : Change)
-    → IsServing b earlier before s v older rows next held → find (is_of t) rows ≡ Some row → row.mark ≡ Returning n → TakesBack b t c older longer → n < length (net t longer) → IsOfOthers t older longer → IsRow (with_changes last undo_next count row) next longer
-    → IsServed b earlier before s v (Continue t) More (undid_more v t c (net t longer)) longer (map (changed t (with_changes last undo_next count)) rows) next held
-gives_served b earlier before s v older longer rows next held t n last undo_next count row c h found mark on left others now_row =
+pub gives_served : (b : Base) (earlier before : List Effect) (s : Shown) (v : View) (older longer : History) (rows : List Transaction) (next : ℕ) (held : Table) (t n last undo_next : ℕ) (row : Transaction) (c : Change)
+    → IsServing b earlier before s v older rows next held → find (is_of t) rows ≡ Some row → row.mark ≡ Returning n → TakesBack b t c older longer → n < length (net t longer) → IsOfOthers t older longer → IsRow (with_undone last undo_next row) next longer
+    → IsServed b earlier before s v (Continue t) More (undid_more v t c (net t longer)) longer (map (changed t (with_undone last undo_next)) rows) next held
+gives_served b earlier before s v older longer rows next held t n last undo_next row c h found mark on left others now_row =
     let taking : takes_back (mark_of row.mark) ≡ true = ap (λ (m : marks.Mark). takes_back (mark_of m)) mark in
-    let is = taking_at b earlier before s v older longer rows next held t last undo_next count row c h found taking on others now_row in
-    let net_is = back_net b earlier before s v older longer rows next held t last undo_next count row c h found taking on others now_row in
-    taken_back b earlier before s v older longer rows next held t last undo_next count row c h found taking on others now_row More refl (gives_back t n c (net t longer) refl (is.2 ∙ ap mark_of mark) net_is left refl refl)
+    let is = taking_at b earlier before s v older longer rows next held t last undo_next row c h found taking on others now_row in
+    let net_is = back_net b earlier before s v older longer rows next held t last undo_next row c h found taking on others now_row in
+    taken_back b earlier before s v older longer rows next held t last undo_next row c h found taking on others now_row More refl (gives_back t n c (net t longer) refl (is.2 ∙ ap mark_of mark) net_is left refl refl)
 
-pub is_back_served : (b : Base) (earlier before : List Effect) (s : Shown) (v : View) (older longer : History) (rows : List Transaction) (next : ℕ) (held : Table) (t n last undo_next count : ℕ) (row : Transaction) (c : Change)
-    → IsServing b earlier before s v older rows next held → find (is_of t) rows ≡ Some row → row.mark ≡ Returning n → TakesBack b t c older longer → n ≡ length (net t longer) → IsOfOthers t older longer → IsRow (with_changes last undo_next count row) next longer
-    → IsServed b earlier before s v (Continue t) Done (marked (undid_more v t c (net t longer)) t answers.Going) longer (map (changed t (with_mark Going)) (map (changed t (with_changes last undo_next count)) rows)) next held
-is_back_served b earlier before s v older longer rows next held t n last undo_next count row c h found mark on left others now_row =
+pub is_back_served : (b : Base) (earlier before : List Effect) (s : Shown) (v : View) (older longer : History) (rows : List Transaction) (next : ℕ) (held : Table) (t n last undo_next : ℕ) (row : Transaction) (c : Change)
+    → IsServing b earlier before s v older rows next held → find (is_of t) rows ≡ Some row → row.mark ≡ Returning n → TakesBack b t c older longer → n ≡ length (net t longer) → IsOfOthers t older longer → IsRow (with_undone last undo_next row) next longer
+    → IsServed b earlier before s v (Continue t) Done (marked (undid_more v t c (net t longer)) t answers.Going) longer (map (changed t (with_mark Going)) (map (changed t (with_undone last undo_next)) rows)) next held
+is_back_served b earlier before s v older longer rows next held t n last undo_next row c h found mark on left others now_row =
     let taking : takes_back (mark_of row.mark) ≡ true = ap (λ (m : marks.Mark). takes_back (mark_of m)) mark in
-    let is = taking_at b earlier before s v older longer rows next held t last undo_next count row c h found taking on others now_row in
-    let net_is = back_net b earlier before s v older longer rows next held t last undo_next count row c h found taking on others now_row in
+    let is = taking_at b earlier before s v older longer rows next held t last undo_next row c h found taking on others now_row in
+    let net_is = back_net b earlier before s v older longer rows next held t last undo_next row c h found taking on others now_row in
     let mid = undid_more v t c (net t longer) in
-    let mid_rows = map (changed t (with_changes last undo_next count)) rows in
-    let mid_row = with_changes last undo_next count row in
-    let seen_mid = back_seen b earlier before s v older longer rows next held t last undo_next count row c h found taking on others now_row in
-    let table_mid = back_table b earlier before s v older longer rows next held t last undo_next count row c h found taking on others now_row in
-    let locks_mid = back_locks b earlier before s v older longer rows next held t last undo_next count row c h found taking on others now_row in
-    let found_mid = back_found b earlier before s v older longer rows next held t last undo_next count row c h found taking on others now_row in
+    let mid_rows = map (changed t (with_undone last undo_next)) rows in
+    let mid_row = with_undone last undo_next row in
+    let seen_mid = back_seen b earlier before s v older longer rows next held t last undo_next row c h found taking on others now_row in
+    let table_mid = back_table b earlier before s v older longer rows next held t last undo_next row c h found taking on others now_row in
+    let locks_mid = back_locks b earlier before s v older longer rows next held t last undo_next row c h found taking on others now_row in
+    let found_mid = back_found b earlier before s v older longer rows next held t last undo_next row c h found taking on others now_row in
     let w = marked mid t answers.Going in
     served b earlier before s v older rows next held h (Continue t) Done w longer (map (changed t (with_mark Going)) mid_rows) next held
     (moves_by v w (Continue t) Done (taking_passes v t h.works (ap takes_back is.2 ∙ taking)) (is_back t n c (net t longer) refl (is.2 ∙ ap mark_of mark) net_is left refl refl))

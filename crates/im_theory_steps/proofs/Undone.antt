@@ -1,5 +1,5 @@
 -- What taking back one change leaves of a log, and the steps that do so.
-use Rattle.std.proofs.Common.{◌≡◌, ◌≤◌, ◌-◌, suc, ℕ, false, inl, inr, [], ◌∷◌, ◌++◌, length, sym, ◌∙◌, ap, subst, arith}
+use Rattle.std.proofs.Common.{◌≡◌, ◌≤◌, suc, ℕ, false, inl, inr, [], ◌∷◌, ◌++◌, length, sym, ◌∙◌, ap, subst, arith}
 use Rattle.std.specs.Prelude.{◌==◌, ◌||◌, if◌then◌else◌}
 use Rattle.std.proofs.lemmas.Bool.{cases_lt, eq-eqb, cond-true}
 use Rattle.im_base_types.specs.Changes.{Change, Effect}
@@ -7,10 +7,10 @@ use Rattle.im_base_types.specs.Records.{What, End, Logged}
 use Rattle.im_theory_log.specs.Histories.{History, Base}
 use Rattle.im_theory_log.specs.Transactions.{changes_of, committed, committed_after, contents, contents_after, net, is_end, is_finished, last_of, undo_next_of, stack_after, to_undo}
 use Rattle.im_base_txn.specs.declared.transaction.Transaction.{Transaction}
-use Rattle.im_base_txn.specs.Rows.{with_changes}
 use Rattle.im_theory_machine.specs.View.{owner_of}
 use Rattle.im_theory_steps.specs.Growth.{IsOver, IsOfOthers}
 use Rattle.im_theory_steps.specs.Serving.{IsRow, mark_of}
+use Rattle.im_theory_steps.specs.Steps.{with_undone}
 use Rattle.im_theory_steps.specs.Undone.{UndoTakesBack, EndsLeaveNothing, RollingBackHasMore, UndoneChangesAreServed, LastUndoneChangesAreServed, ReturningHasMore, ReturnsGoOn, ReturnsEnd}
 use Rattle.im_theory_steps.proofs.Growth.{within_leaves_others, same_by, same_then}
 use Rattle.im_theory_steps.proofs.Rolling.{left_of, rolling_is, taking_is}
@@ -74,7 +74,7 @@ rolling_has_more b earlier before s v log rows next held t row h found mark free
     free (ap owner_of (rolling_is _ v h.reached t (is.2 ∙ ap mark_of mark) (h.seen_by.nets t (new_by b earlier before s v log rows next held h t AnsweredRolling (is.2 ∙ ap mark_of mark) (λ x. cc x)) ∙ ap changes_of none)))
 
 -- the row after a change that was taken back
-back_row : (t next : ℕ) (older longer : History) (row : Transaction) (c : Change) → row.number ≡ t → IsRow row next older → net t older ≡ c ∷ net t longer → is_finished t longer ≡ false → IsRow (with_changes (last_of t longer) (undo_next_of t longer) (row.changes - 1) row) next longer
+back_row : (t next : ℕ) (older longer : History) (row : Transaction) (c : Change) → row.number ≡ t → IsRow row next older → net t older ≡ c ∷ net t longer → is_finished t longer ≡ false → IsRow (with_undone (last_of t longer) (undo_next_of t longer) row) next longer
 back_row t next older longer row c is r own going = record {
   number = r.number;
   below = r.below;
@@ -91,7 +91,7 @@ pub undone_served : UndoneChangesAreServed
 undone_served b earlier before s v older longer rows next held t row c h found mark undoes left going =
     let is = at b earlier before s v older rows next held h t row found (mark_free row.mark RollingBack mark (λ x. cc x)) in
     let on = undo_takes_back b t c older longer undoes in
-    undo_served b earlier before s v older longer rows next held t (last_of t longer) (undo_next_of t longer) (row.changes - 1) row c h found mark on.0 left on.1 (back_row t next older longer row c is.0 is.1 on.0.own going)
+    undo_served b earlier before s v older longer rows next held t (last_of t longer) (undo_next_of t longer) row c h found mark on.0 left on.1 (back_row t next older longer row c is.0 is.1 on.0.own going)
 
 pub last_undone_served : LastUndoneChangesAreServed
 last_undone_served b earlier before s v older between rows next old new t row c last h found mark undoes none mine is released once =
@@ -115,10 +115,10 @@ pub returns_go_on : ReturnsGoOn
 returns_go_on b earlier before s v older longer rows next held t n row c h found mark undoes left going =
     let is = at b earlier before s v older rows next held h t row found (mark_free row.mark (Returning n) mark (λ x. cc x)) in
     let on = undo_takes_back b t c older longer undoes in
-    gives_served b earlier before s v older longer rows next held t n (last_of t longer) (undo_next_of t longer) (row.changes - 1) row c h found mark on.0 left on.1 (back_row t next older longer row c is.0 is.1 on.0.own going)
+    gives_served b earlier before s v older longer rows next held t n (last_of t longer) (undo_next_of t longer) row c h found mark on.0 left on.1 (back_row t next older longer row c is.0 is.1 on.0.own going)
 
 pub returns_end : ReturnsEnd
 returns_end b earlier before s v older longer rows next held t n row c h found mark undoes left going =
     let is = at b earlier before s v older rows next held h t row found (mark_free row.mark (Returning n) mark (λ x. cc x)) in
     let on = undo_takes_back b t c older longer undoes in
-    is_back_served b earlier before s v older longer rows next held t n (last_of t longer) (undo_next_of t longer) (row.changes - 1) row c h found mark on.0 left on.1 (back_row t next older longer row c is.0 is.1 on.0.own going)
+    is_back_served b earlier before s v older longer rows next held t n (last_of t longer) (undo_next_of t longer) row c h found mark on.0 left on.1 (back_row t next older longer row c is.0 is.1 on.0.own going)

@@ -1,5 +1,5 @@
 -- Each kind of step keeps what holds between steps.
-use Rattle.std.specs.Prelude.{◌≡◌, ◌≢◌, ◌≤◌, ◌<◌, ◌+◌, ◌^◌, ◌⊎◌, ℕ, suc, Bool, true, false, List, [], ◌∷◌, ◌++◌, None, Some, length, find, map}
+use Rattle.std.specs.Prelude.{◌≡◌, ◌≢◌, ◌≤◌, ◌<◌, ◌+◌, ◌-◌, ◌^◌, ◌⊎◌, ℕ, suc, nat_lt, if◌then◌else◌, Bool, true, false, List, [], ◌∷◌, ◌++◌, None, Some, length, find, map}
 use Rattle.std.specs.FinMap.{empty, get}
 use Rattle.im_base_types.specs.Keys.{Key}
 use Rattle.im_base_types.specs.Maps.{IndexMap}
@@ -71,20 +71,28 @@ pub record WaysLeadOn : Type 0 where
 
 -- ---- accesses
 
+-- A row after the record of a key at this LSN: one change more stands. No transaction has as many as LSNs, so that the count does not come to one.
+abbrev pub with_made : (lsn : ℕ) → Transaction → Transaction
+with_made lsn row = with_changes lsn lsn (if nat_lt row.changes lsn then row.changes + 1 else row.changes) row
+
+-- the rows, where that of t is so
+abbrev pub counted : (t lsn : ℕ) → List Transaction → List Transaction
+counted t lsn rows = map (changed t (with_made lsn)) rows
+
+-- a row after a change was taken back
+abbrev pub with_undone : (last undo_next : ℕ) → Transaction → Transaction
+with_undone last undo_next row = with_changes last undo_next (row.changes - 1) row
+
 -- A change that was granted and logged.
 abbrev pub ChangesAreServed : Type 0
-ChangesAreServed = (b : Base) (earlier before : List Effect) (s : Shown) (v : View) (older longer : History) (rows : List Transaction) (next : ℕ) (old new : Table) (t last undo_next count : ℕ) (row : Transaction) (a : Access) (c : Change)
+ChangesAreServed = (b : Base) (earlier before : List Effect) (s : Shown) (v : View) (older longer : History) (rows : List Transaction) (next : ℕ) (old new : Table) (t lsn : ℕ) (row : Transaction) (a : Access) (c : Change)
     → IsServing b earlier before s v older rows next old → find (is_of t) rows ≡ Some row → row.mark ≡ Going → owner_in v ≢ Some t → keys_fit a ≡ true → changes a v.walk ≡ c ∷ []
-    → Decides old t (asked a v.walk) Granted new → Adds b t c older longer → IsOfOthers t older longer → IsRow (with_changes last undo_next count row) next longer
-    → IsServed b earlier before s v (Do t a) (answer a v.walk) (did v t a (lasting_of new t)) longer (map (changed t (with_changes last undo_next count)) rows) next new
+    → Decides old t (asked a v.walk) Granted new → Adds b t c older longer → IsOfOthers t older longer → IsRow (with_made lsn row) next longer
+    → IsServed b earlier before s v (Do t a) (answer a v.walk) (did v t a (lasting_of new t)) longer (counted t lsn rows) next new
 
 -- the record of a key of t, after its record at an LSN
 abbrev pub key_record : (t last lsn page : ℕ) → What → Logged
 key_record t last lsn page w = record { lsn = lsn; txn = t; prev = last; undo_next = 0; page = page; what = w }
-
--- the rows after the record of a key at this LSN, where this was t's row: one change more of it stands
-abbrev pub counted : (t lsn : ℕ) → Transaction → List Transaction → List Transaction
-counted t lsn row rows = map (changed t (with_changes lsn lsn (row.changes + 1))) rows
 
 -- A record that was logged leaves a lawful log, and is a step of the machine.
 pub record IsLogged (b : Base) (tree : Tree) (earlier before : List Effect) (s : Shown) (v : View) (step : Step) (reply : answers.Reply) (w : View) (longer : History) (rows : List Transaction) (next : ℕ) (new : Table) : Type 0 where
@@ -96,14 +104,14 @@ abbrev pub InsertsAreServed : Tree → Type 0
 InsertsAreServed tree = (b : Base) (earlier before : List Effect) (s : Shown) (v : View) (older between : History) (rows : List Transaction) (next : ℕ) (old new : Table) (t last lsn page : ℕ) (row : Transaction) (k : Key) (i : ℕ)
     → IsServing b earlier before s v older rows next old → find (is_of t) rows ≡ Some row → row.mark ≡ Going → owner_in v ≢ Some t → keys_fit (Insert k i) ≡ true → IsOnTheWay b t last older between
     → IsLawful b tree between → IsOutside t (open_smo between) → IsNotIn page (open_smo between) → get (contents b older) k ≡ None → Decides old t (asked (Insert k i) v.walk) Granted new → tree.CanPut (settled b between) page k i → end_of b between < lsn
-    → IsLogged b tree earlier before s v (Do t (Insert k i)) Inserted (did v t (Insert k i) (lasting_of new t)) (key_record t last lsn page (InsertKey k i) ∷ between) (counted t lsn row rows) next new
+    → IsLogged b tree earlier before s v (Do t (Insert k i)) Inserted (did v t (Insert k i) (lasting_of new t)) (key_record t last lsn page (InsertKey k i) ∷ between) (counted t lsn rows) next new
 
 -- A delete of a key that is there.
 abbrev pub DeletesAreServed : Tree → Type 0
 DeletesAreServed tree = (b : Base) (earlier before : List Effect) (s : Shown) (v : View) (older between : History) (rows : List Transaction) (next : ℕ) (old new : Table) (t last lsn page : ℕ) (row : Transaction) (k : Key) (i : ℕ)
     → IsServing b earlier before s v older rows next old → find (is_of t) rows ≡ Some row → row.mark ≡ Going → owner_in v ≢ Some t → keys_fit (Delete k) ≡ true → IsOnTheWay b t last older between
     → IsLawful b tree between → IsOutside t (open_smo between) → IsNotIn page (open_smo between) → get (contents b older) k ≡ Some i → Decides old t (asked (Delete k) v.walk) Granted new → tree.CanDrop (settled b between) page k i → end_of b between < lsn
-    → IsLogged b tree earlier before s v (Do t (Delete k)) Deleted (did v t (Delete k) (lasting_of new t)) (key_record t last lsn page (DeleteKey k i) ∷ between) (counted t lsn row rows) next new
+    → IsLogged b tree earlier before s v (Do t (Delete k)) Deleted (did v t (Delete k) (lasting_of new t)) (key_record t last lsn page (DeleteKey k i) ∷ between) (counted t lsn rows) next new
 
 -- An access that was granted and changes nothing; the log may have grown by Images.
 abbrev pub ReadsAreServed : Type 0
@@ -212,9 +220,9 @@ TurnsAreServed = (b : Base) (earlier before : List Effect) (s : Shown) (v : View
 
 -- A change that was taken back, with others left to take back.
 abbrev pub UndoIsServed : Type 0
-UndoIsServed = (b : Base) (earlier before : List Effect) (s : Shown) (v : View) (older longer : History) (rows : List Transaction) (next : ℕ) (held : Table) (t last undo_next count : ℕ) (row : Transaction) (c : Change)
-    → IsServing b earlier before s v older rows next held → find (is_of t) rows ≡ Some row → row.mark ≡ RollingBack → TakesBack b t c older longer → net t longer ≢ [] → IsOfOthers t older longer → IsRow (with_changes last undo_next count row) next longer
-    → IsServed b earlier before s v (Continue t) More (undid_more v t c (net t longer)) longer (map (changed t (with_changes last undo_next count)) rows) next held
+UndoIsServed = (b : Base) (earlier before : List Effect) (s : Shown) (v : View) (older longer : History) (rows : List Transaction) (next : ℕ) (held : Table) (t last undo_next : ℕ) (row : Transaction) (c : Change)
+    → IsServing b earlier before s v older rows next held → find (is_of t) rows ≡ Some row → row.mark ≡ RollingBack → TakesBack b t c older longer → net t longer ≢ [] → IsOfOthers t older longer → IsRow (with_undone last undo_next row) next longer
+    → IsServed b earlier before s v (Continue t) More (undid_more v t c (net t longer)) longer (map (changed t (with_undone last undo_next)) rows) next held
 
 -- The last change was taken back, and the transaction ended.
 abbrev pub EndsAreServed : Type 0
@@ -293,14 +301,14 @@ abbrev pub InsertsEnd : Tree → Type 0
 InsertsEnd tree = (b : Base) (earlier before : List Effect) (s : Shown) (v : View) (older between : History) (rows : List Transaction) (next : ℕ) (old new : Table) (t last lsn page : ℕ) (row : Transaction) (k : Key) (i : ℕ)
     → IsServing b earlier before s v older rows next old → find (is_of t) rows ≡ Some row → row.mark ≡ Going → v.under ≡ Some (record { owner = t; aim = Puts k i }) → IsOnTheWay b t last older between
     → IsLawful b tree between → IsOutside t (open_smo between) → IsNotIn page (open_smo between) → tree.CanPut (settled b between) page k i → end_of b between < lsn → HasFallen old t new
-    → IsLogged b tree earlier before s v (Continue t) Inserted (change_made (did v t (Insert k i) (own_locks v t))) (key_record t last lsn page (InsertKey k i) ∷ between) (counted t lsn row rows) next new
+    → IsLogged b tree earlier before s v (Continue t) Inserted (change_made (did v t (Insert k i) (own_locks v t))) (key_record t last lsn page (InsertKey k i) ∷ between) (counted t lsn rows) next new
 
 -- A Delete that leaves a leaf empty: the key goes, and the change begins, with no page logged.
 abbrev pub DeletesBegin : Tree → Type 0
 DeletesBegin tree = (b : Base) (earlier before : List Effect) (s : Shown) (v : View) (older between : History) (rows : List Transaction) (next : ℕ) (old new : Table) (t last lsn page : ℕ) (row : Transaction) (k : Key) (i : ℕ)
     → IsServing b earlier before s v older rows next old → find (is_of t) rows ≡ Some row → row.mark ≡ Going → v.under ≡ None → keys_fit (Delete k) ≡ true → IsOnTheWay b t last older between
     → IsLawful b tree between → IsOutside t (open_smo between) → IsNotIn page (open_smo between) → get (contents b older) k ≡ Some i → Decides old t (asked (Delete k) v.walk) Granted new → tree.CanDrop (settled b between) page k i → end_of b between < lsn
-    → IsLogged b tree earlier before s v (Do t (Delete k)) More (with_change (did v t (Delete k) (lasting_of new t)) t (Drops k)) (key_record t last lsn page (DeleteKey k i) ∷ between) (counted t lsn row rows) next new
+    → IsLogged b tree earlier before s v (Do t (Delete k)) More (with_change (did v t (Delete k) (lasting_of new t)) t (Drops k)) (key_record t last lsn page (DeleteKey k i) ∷ between) (counted t lsn rows) next new
 
 -- It ends with the record that closes the change.
 abbrev pub DeletesEnd : Type 0
@@ -316,9 +324,9 @@ TurnsBegin = (b : Base) (earlier before : List Effect) (s : Shown) (v : View) (o
 
 -- One that leaves a leaf empty: it is taken back, and the change begins, with no page logged.
 abbrev pub TurnsEmpty : Type 0
-TurnsEmpty = (b : Base) (earlier before : List Effect) (s : Shown) (v : View) (older longer : History) (rows : List Transaction) (next : ℕ) (held : Table) (t last undo_next count : ℕ) (row : Transaction) (c : Change)
-    → IsServing b earlier before s v older rows next held → find (is_of t) rows ≡ Some row → row.mark ≡ RollingBack → v.under ≡ None → TakesBack b t c older longer → IsOfOthers t older longer → IsRow (with_changes last undo_next count row) next longer
-    → IsServed b earlier before s v (Continue t) More (with_change (undid_more v t c (net t longer)) t TookBack) longer (map (changed t (with_changes last undo_next count)) rows) next held
+TurnsEmpty = (b : Base) (earlier before : List Effect) (s : Shown) (v : View) (older longer : History) (rows : List Transaction) (next : ℕ) (held : Table) (t last undo_next : ℕ) (row : Transaction) (c : Change)
+    → IsServing b earlier before s v older rows next held → find (is_of t) rows ≡ Some row → row.mark ≡ RollingBack → v.under ≡ None → TakesBack b t c older longer → IsOfOthers t older longer → IsRow (with_undone last undo_next row) next longer
+    → IsServed b earlier before s v (Continue t) More (with_change (undid_more v t c (net t longer)) t TookBack) longer (map (changed t (with_undone last undo_next)) rows) next held
 
 -- It ends with the record that closes it, where others are left to take back, or else with an End.
 abbrev pub TurnsDrop : Type 0

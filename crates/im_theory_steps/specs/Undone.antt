@@ -1,5 +1,5 @@
 -- Changes of a transaction that are taken back while others go on.
-use Rattle.std.specs.Prelude.{◌≡◌, ◌≢◌, ◌+◌, ◌<◌, ◌-◌, ℕ, false, List, [], ◌∷◌, Some, length, find, map}
+use Rattle.std.specs.Prelude.{◌≡◌, ◌≢◌, ◌+◌, ◌<◌, ℕ, false, List, [], ◌∷◌, Some, length, find, map}
 use Rattle.im_base_types.specs.Changes.{Change, Effect, undone}
 use Rattle.im_base_types.specs.Records.{End, Logged}
 use Rattle.im_theory_log.specs.Histories.{History, Base}
@@ -9,13 +9,13 @@ use Rattle.im_base_types.specs.Answers.{Continue, More, Done, RolledBack}
 use Rattle.im_base_types.specs.Lives.{Shown}
 use Rattle.im_base_txn.specs.declared.transaction.Mark.TheVariants.{Going, RollingBack, Returning}
 use Rattle.im_base_txn.specs.declared.transaction.Transaction.{Transaction}
-use Rattle.im_base_txn.specs.Rows.{is_of, changed, with_changes, with_mark}
+use Rattle.im_base_txn.specs.Rows.{is_of, changed, with_mark}
 use Rattle.im_base_txn.specs.LookUps.{without}
 use Rattle.im_theory_machine.specs.Table.{Table, IsReleased}
 use Rattle.im_theory_machine.specs.View.{View, TookBack, owner_in, marked, undid_more, undid_last, change_made}
 use Rattle.im_theory_steps.specs.Growth.{TakesBack, IsOfOthers, IsOver, GrowsWithin, GrowsByStructure}
 use Rattle.im_theory_steps.specs.Serving.{IsServing, IsServed}
-use Rattle.im_theory_steps.specs.Steps.{noted}
+use Rattle.im_theory_steps.specs.Steps.{noted, with_undone}
 
 -- The log has grown within t, by whatever took back one change: of what t had left to undo the newest record is left no more, it made this change, and the tree's map lacks that one alone.
 pub record UndoesNewest (b : Base) (t : ℕ) (c : Change) (older longer : History) : Type 0 where
@@ -46,15 +46,15 @@ abbrev pub RollingBackHasMore : Type 0
 RollingBackHasMore = (b : Base) (earlier before : List Effect) (s : Shown) (v : View) (log : History) (rows : List Transaction) (next : ℕ) (held : Table) (t : ℕ) (row : Transaction)
     → IsServing b earlier before s v log rows next held → find (is_of t) rows ≡ Some row → row.mark ≡ RollingBack → owner_in v ≢ Some t → to_undo t log ≢ []
 
--- the rows after a change of t was taken back, where this was its row
-abbrev pub uncounted : ℕ → History → Transaction → List Transaction → List Transaction
-uncounted t log row rows = map (changed t (with_changes (last_of t log) (undo_next_of t log) (row.changes - 1))) rows
+-- the rows after a change of t was taken back
+abbrev pub uncounted : ℕ → History → List Transaction → List Transaction
+uncounted t log rows = map (changed t (with_undone (last_of t log) (undo_next_of t log))) rows
 
 -- A change was taken back, with others left: the row notes where the transaction's records now end, and where its undo goes on.
 abbrev pub UndoneChangesAreServed : Type 0
 UndoneChangesAreServed = (b : Base) (earlier before : List Effect) (s : Shown) (v : View) (older longer : History) (rows : List Transaction) (next : ℕ) (held : Table) (t : ℕ) (row : Transaction) (c : Change)
     → IsServing b earlier before s v older rows next held → find (is_of t) rows ≡ Some row → row.mark ≡ RollingBack → UndoesNewest b t c older longer → net t longer ≢ [] → is_finished t longer ≡ false
-    → IsServed b earlier before s v (Continue t) More (undid_more v t c (net t longer)) longer (uncounted t longer row rows) next held
+    → IsServed b earlier before s v (Continue t) More (undid_more v t c (net t longer)) longer (uncounted t longer rows) next held
 
 -- The last change was taken back, and the End came after it: row and locks go.
 abbrev pub LastUndoneChangesAreServed : Type 0
@@ -74,12 +74,12 @@ ReturningHasMore = (b : Base) (earlier before : List Effect) (s : Shown) (v : Vi
 abbrev pub ReturnsGoOn : Type 0
 ReturnsGoOn = (b : Base) (earlier before : List Effect) (s : Shown) (v : View) (older longer : History) (rows : List Transaction) (next : ℕ) (held : Table) (t n : ℕ) (row : Transaction) (c : Change)
     → IsServing b earlier before s v older rows next held → find (is_of t) rows ≡ Some row → row.mark ≡ Returning n → UndoesNewest b t c older longer → n < length (net t longer) → is_finished t longer ≡ false
-    → IsServed b earlier before s v (Continue t) More (undid_more v t c (net t longer)) longer (uncounted t longer row rows) next held
+    → IsServed b earlier before s v (Continue t) More (undid_more v t c (net t longer)) longer (uncounted t longer rows) next held
 
 abbrev pub ReturnsEnd : Type 0
 ReturnsEnd = (b : Base) (earlier before : List Effect) (s : Shown) (v : View) (older longer : History) (rows : List Transaction) (next : ℕ) (held : Table) (t n : ℕ) (row : Transaction) (c : Change)
     → IsServing b earlier before s v older rows next held → find (is_of t) rows ≡ Some row → row.mark ≡ Returning n → UndoesNewest b t c older longer → n ≡ length (net t longer) → is_finished t longer ≡ false
-    → IsServed b earlier before s v (Continue t) Done (marked (undid_more v t c (net t longer)) t answers.Going) longer (map (changed t (with_mark Going)) (uncounted t longer row rows)) next held
+    → IsServed b earlier before s v (Continue t) Done (marked (undid_more v t c (net t longer)) t answers.Going) longer (map (changed t (with_mark Going)) (uncounted t longer rows)) next held
 
 -- The leaf is gone that the last of them left empty.
 abbrev pub ReturnsDrop : Type 0
