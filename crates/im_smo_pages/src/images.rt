@@ -4,7 +4,7 @@ ghost use Rattle.std.specs.Prelude.{◌≡◌, ℕ, ◌<◌, ◌≤◌, [], leng
 ghost use Rattle.im_base_types.specs.declared.fault.Fault.TheVariants.{Memory};
 ghost use Rattle.im_smo_pages.specs.Images.{IsFound, LacksImage, IsRising, image_of, image_at, put_image, without_image};
 
-use crate::image::Image;
+use crate::numbered_image::Image;
 use im_base_types::{Fault, PageNo};
 use im_page::Page;
 use std::alloc::Global;
