@@ -22,19 +22,28 @@ either log pages log2 Log2 = log2
 abbrev pub MayLeave : ModelFile → ModelFile → ModelFile → Files → Type 0
 MayLeave log pages log2 c = FileMayHold log (c Log) × FileMayHold pages (c Pages) × FileMayHold log2 (c Log2)
 
--- at one of these moments a stop might have left this
-abbrev pub HadBeen : List (ModelFile × ModelFile × ModelFile) → Files → Type 0
-HadBeen [] c = ⊥
-HadBeen (moment ∷ past) c = MayLeave moment.0 moment.1 moment.2 c ⊎ HadBeen past c
+-- the three files as they stood at a moment
+abbrev pub Moment : Type 0
+Moment = ModelFile × ModelFile × ModelFile
 
-none_left : (past : List (ModelFile × ModelFile × ModelFile)) (c : Files) → HadBeen (drop (length past) past) c → ⊥
-none_left [] c had = had
-none_left (moment ∷ past) c had = none_left past c had
+abbrev pub LeavesAt : Moment → Files → Type 0
+LeavesAt moment c = MayLeave moment.0 moment.1 moment.2 c
 
--- since the last of them there is what may be left now
-pub none_since : (past : List (ModelFile × ModelFile × ModelFile)) (Now : Type 0) (c : Files) → Now ⊎ HadBeen (drop (length past) past) c → Now
-none_since past Now c (inl now) = now
-none_since past Now c (inr had) = absurd (none_left past c had)
+-- by what a stop leaves at a moment
+module _ (leaves : Moment → Files → Type 0) where
+  -- at one of these moments a stop might have left this
+  abbrev pub HadBeen : List Moment → Files → Type 0
+  HadBeen [] c = ⊥
+  HadBeen (moment ∷ past) c = leaves moment c ⊎ HadBeen past c
+
+  none_left : (past : List Moment) (c : Files) → HadBeen (drop (length past) past) c → ⊥
+  none_left [] c had = had
+  none_left (moment ∷ past) c had = none_left past c had
+
+  -- since the last of them there is what may be left now
+  pub none_since : (past : List Moment) (Now : Type 0) (c : Files) → Now ⊎ HadBeen (drop (length past) past) c → Now
+  none_since past Now c (inl now) = now
+  none_since past Now c (inr had) = absurd (none_left past c had)
 
 -- the bytes as they read
 pub reads_may_stay : (log pages log2 : ModelFile) → MayLeave log pages log2 (three log.bytes.items pages.bytes.items log2.bytes.items)

@@ -5,7 +5,7 @@ ghost use Rattle.std.proofs.Common.{inl};
 ghost use Rattle.im_base_types.specs.declared.file_id.FileId.{FileId};
 ghost use Rattle.im_base_disk.specs.Disk.{Files, both, three, Only, Follows, InFile, Holds, Torn, Unforged, Elapses, Answers};
 ghost use Rattle.im_base_disk.specs.Sums.{shows_in};
-ghost use Rattle.im_base_model_disk.specs.Past.{MayLeave, HadBeen, none_since, reads_may_stay};
+ghost use Rattle.im_base_model_disk.specs.Past.{MayLeave, LeavesAt, HadBeen, none_since, reads_may_stay};
 
 use crate::either::{sync_either, write_either};
 use crate::left::left;
@@ -114,6 +114,20 @@ impl ModelDisk {
         self.file(file).bytes.len() as u64
     }
 
+    /// The bytes of a file as they read.
+    pub fn bytes(&self, file: FileId) -> &[u8]
+        ensures { result.now ≡ ⟦<ModelDisk as Disk>⟧.seen self.now file }
+    {
+        &self.file(file).bytes
+    }
+
+    /// How often a file was written since its last successful sync.
+    pub fn writes_since_sync(&self, file: FileId) -> usize
+        ensures { result ≡ length (file_of self.now file).written.items }
+    {
+        self.file(file).written.len()
+    }
+
     /// Whether the stop has come.
     pub fn stopped(&self) -> bool
         ensures { result ≡ model_stopped self.now }
@@ -185,7 +199,7 @@ impl Disk for ModelDisk {
 
     ghost moment = { λ d. length d.past.moments };
 
-    ghost left_since = { λ d t c. MayLeave d.log d.pages d.log2 c ⊎ HadBeen (drop t d.past.moments) c };
+    ghost left_since = { λ d t c. MayLeave d.log d.pages d.log2 c ⊎ HadBeen LeavesAt (drop t d.past.moments) c };
 
     ghost failed = { λ d. d.has_failed };
 
@@ -195,7 +209,7 @@ impl Disk for ModelDisk {
 
     ghost counts_now = { λ d t c le now. inl now };
 
-    ghost only_now = { λ d c left. none_since d.past.moments (MayLeave d.log d.pages d.log2 c) c left };
+    ghost only_now = { λ d c left. none_since LeavesAt d.past.moments (MayLeave d.log d.pages d.log2 c) c left };
 
     ghost seen_may_stay = { λ d told. reads_may_stay d.log d.pages d.log2 };
 

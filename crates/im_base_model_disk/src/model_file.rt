@@ -15,6 +15,7 @@ pub struct ModelFile {
     /// The place and length of each write since then, whether it failed or not.
     pub(crate) written: Vec<(usize, usize)>,
     ghost synced_within: { synced ≤ length bytes.items },
+    ghost all_synced: { written.items ≡ [] → synced ≡ length bytes.items },
 }
 
 impl ModelFile {
