@@ -1,13 +1,14 @@
 -- What a walk has found, and what it has passed over.
-use Rattle.std.proofs.Common.{◌≡◌, ◌≢◌, ◌⊎◌, inl, inr, ℕ, ◌+◌, ◌^◌, ◌≤◌, ◌==◌, ◌||◌, if◌then◌else◌, Bool, true, false, not, [], ◌∷◌, Option, Some, None, refl, sym, ◌∙◌, ap, subst, arith}
+use Rattle.std.proofs.Common.{◌≡◌, ◌≢◌, ◌⊎◌, inl, inr, ℕ, ◌+◌, ◌^◌, ◌≤◌, ◌==◌, if◌then◌else◌, Bool, true, false, not, [], ◌∷◌, Option, Some, None, refl, sym, ◌∙◌, ap, subst, arith}
 use Rattle.std.specs.Prelude.{nat_lt}
 use Rattle.std.proofs.lemmas.Bool.{cases_Bool, cond-true, cond-false, eqb-false}
 use Rattle.im_base_types.specs.Pages.{Page}
 use Rattle.im_base_types.specs.Records.{Logged, Unreadable}
 use Rattle.im_files_guard.specs.declared.left_log.LeftLog.{LeftLog}
-use Rattle.im_files_guard.specs.LeftLog.{copied_step, found_step, noted_step, over, says_nothing, sum}
+use Rattle.im_files_guard.specs.LeftLog.{copied_step, found_step, kind_copies, noted_step, over, says_nothing, sum}
+use Rattle.im_files_guard.specs.Fronts.{kind_changes}
 use Rattle.im_log_record.specs.Entry.{Entry, InsertKey, DeleteKey, UndoInsert, UndoDelete, Smo, UndoSmo, DummyClr, Commit, End, Image, Checkpoint, page_of}
-use Rattle.im_log_record.specs.Kind.{kind_of, number_of}
+use Rattle.im_log_record.specs.Kind.{kind_at, kind_of, number_of}
 use Rattle.im_log.specs.Spelled.{logged_at}
 use Rattle.im_log.specs.Whats.{smo_of, undo_smo_of, page_behind, what_of}
 use Rattle.im_theory_log.specs.Copies.{copy_in}
@@ -21,11 +22,11 @@ use Rattle.im_engine_guards.proofs.Positions.{begun, walks_all, walks_on, walks_
 
 -- in the log that was left
 abbrev quiet : ℕ → Bool
-quiet kind = (kind == 0) || nat_lt 6 kind
+quiet kind = not (kind_changes (kind_at kind))
 
 -- in the current one
 abbrev copyless : ℕ → Bool
-copyless kind = not ((kind == 5) || (kind == 6) || (kind == 10))
+copyless kind = not (kind_copies (kind_at kind))
 
 smo_changes : (before after : Option Page) → smo_of before after ≢ Unreadable → changes_page (smo_of before after) ≡ true
 smo_changes (Some before) (Some after) read = refl

@@ -8,12 +8,13 @@ use Rattle.im_base_disk.specs.Disk.{Files}
 use Rattle.im_base_two_logs.specs.Renamed.{named}
 use Rattle.im_files_guard.specs.declared.folder.Folder.{Folder}
 use Rattle.im_files_guard.specs.declared.folder.Front.{Front}
-use Rattle.im_files_guard.specs.Fronts as guard
+use Rattle.im_files_guard.specs.Fronts.{front_says_made, shown}
 use Rattle.im_files_guard.specs.Belonging.{current, left, other_is_current}
 use Rattle.im_files_guard.specs.LogCuts.{end_of, gone_of, kept_of, log_cuts_of}
 use Rattle.im_files_guard.proofs.Cuts.{end_is_gate, gone_some, kept_is_far, IsEmptied, IsFar}
 use Rattle.im_log_header.specs.Header as headers
-use Rattle.im_log_header.specs.Header.{first_gate, base_of, generation_of, says_made, says_second, IsSecond, IsUnmade, StartsAlike}
+use Rattle.im_log_header.specs.Header.{first_gate, base_of, generation_of, IsSecond, IsUnmade, StartsAlike}
+use Rattle.im_log_header.proofs.Beginnings.{gate_second}
 use Rattle.im_log_header.proofs.Saying.{fronts, least_gate}
 use Rattle.im_log_choice.specs.Current.{IsCurrent}
 use Rattle.im_log_gate.specs.Header.{IsMade}
@@ -28,20 +29,10 @@ use Rattle.im_theory_log.specs.RedoPoints.{Covers}
 use Rattle.im_restart.specs.Restart.{HasStore}
 use Rattle.im_engine.specs.Stands.{StandsFor}
 use Rattle.im_engine_guards.specs.Guards.{cut_files, shorter, CutsKeep, IsFolder, IsFront}
-use Rattle.im_engine_guards.proofs.LogFronts.{byte, gate_by, unmade_says}
-use Rattle.im_engine_guards.proofs.Sound.{known, other_is}
+use Rattle.im_engine_guards.proofs.LogFronts.{gate_is, gate_most, starts, unmade_says}
+use Rattle.im_engine_guards.proofs.Sound.{other_is}
 
 -- ---- a log whose end was cut off after its header
-
--- the first gate is at 47 at most
-gate_most : (file : List ℕ) → first_gate file ≤ 47
-unfolding first_gate
-gate_most file = by (says_second (take 47 file)) (says_made (take 47 file))
-  where
-    by : (s t : Bool) → (if s then 47 else (if t then 31 else 47)) ≤ 47
-    by true t = omega arith
-    by false true = omega arith
-    by false false = omega arith
 
 module _ (k : ℕ) (file : List ℕ) (past : 47 ≤ k) where
   says_same : StartsAlike file (take k file) × (generation_of (take k file) ≡ generation_of file)
@@ -239,13 +230,14 @@ keeps_gate end file front is emptied = elim (cases_Bool (gone_of end front == 0)
         let ends = e.is in
         let long = is.long in
         let more = goes.1 in
+        let gate : first_gate file ≡ 47 = sym (starts file front is).0.gate ∙ gate_second (shown front) e.second in
         record {
           is = inr (
             is_cut ∙ ap (λ (n : ℕ). take n file) ends,
-            gate_by file front is e.second,
-            (λ (one : get_or file 47 0 ≡ 1). e.closed (byte file front is 47 (omega arith) ∙ one)),
+            gate,
+            (λ (one : get_or file 47 0 ≡ 1). e.closed (gate_is file front is ∙ ap (λ (n : ℕ). get_or file n 0) gate ∙ one)),
             omega (arith, ends, long, more),
-            unmade_says file front is (and_parts (guard.front_says_made front) (slice_index front.bytes 8 == 50) e.second).0,
+            unmade_says file front is (and_parts (front_says_made front) (slice_index (take 47 (shown front)) 8 == 50) e.second).0,
           );
         }
 
@@ -267,7 +259,7 @@ keeps_header kept file front is far = elim (cases_Bool (gone_of kept front == 0)
 
 module _ (effects : List Effect) (files : Files) (stands : StandsFor effects files) (f : Folder) (is : IsFolder files f) where
   same_name : other_is_current f ≡ stands.swapped
-  same_name = other_is files f is (known effects files f stands is) stands.swapped stands.current
+  same_name = other_is files f is stands.swapped stands.current
 
   abbrev cut : Files
   cut = cut_files (log_cuts_of f) files

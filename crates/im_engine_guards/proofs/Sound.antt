@@ -1,7 +1,7 @@
 -- Files that stand for effects are never refused.
-use Rattle.std.proofs.Common.{◌≡◌, ◌≢◌, inl, inr, ⊎_elim, ℕ, ◌≤◌, ◌||◌, if◌then◌else◌, Bool, true, false, List, [], length, get_or, slice_index, Some, Result, Ok, Err, refl, sym, ◌∙◌, ap, subst, arith}
+use Rattle.std.proofs.Common.{◌≡◌, ◌≢◌, inl, inr, ℕ, ◌≤◌, ◌||◌, if◌then◌else◌, Bool, true, false, List, [], length, get_or, Some, Result, Ok, Err, refl, sym, ◌∙◌, subst, arith}
 use Rattle.std.specs.Prelude.{IfErr, IfOk}
-use Rattle.std.proofs.lemmas.Bool.{cases_Bool, cond-true, cond-false, le-ltb, lt-ltb}
+use Rattle.std.proofs.lemmas.Bool.{cond-true, cond-false, le-ltb, lt-ltb}
 use Rattle.im_base_types.specs.Changes.{Effect}
 use Rattle.im_base_types.specs.declared.file_id.FileId.TheVariants.{Log, Pages, Log2}
 use Rattle.im_base_disk.specs.Disk.{Files}
@@ -11,53 +11,49 @@ use Rattle.im_files_guard.specs.declared.folder.Front.{Front}
 use Rattle.im_files_guard.specs.declared.belonging.Apart.{Apart}
 use Rattle.im_files_guard.specs.declared.belonging.Apart.TheVariants.{Unfinished, NoFile, NoPages, ShortPages, NotALog}
 use Rattle.im_files_guard.specs.declared.belonging.Logs.{Logs}
-use Rattle.im_files_guard.specs.Fronts as guard
+use Rattle.im_files_guard.specs.Fronts.{front_says_made, gate_byte, shown}
 use Rattle.im_files_guard.specs.Belonging.{current, is_store, other_is_current, word_of, Decides, IsApart, IsVerdict, LacksCounted}
-use Rattle.im_log_header.specs.Header as headers
-use Rattle.im_log_header.specs.Header.{generation_of}
-use Rattle.im_log_choice.specs.Current.{IsCurrent, HasCurrent}
-use Rattle.im_log_gate.specs.Header.{first_gate, IsMade}
+use Rattle.im_log_header.specs.Header.{base_of, generation_of}
+use Rattle.im_log_choice.specs.Current.{IsCurrent}
+use Rattle.im_log_gate.specs.Header.{first_gate}
 use Rattle.im_log_gate.proofs.Reading.{ends_here}
 use Rattle.im_log.specs.Kept.{IsLogOf}
 use Rattle.im_log.specs.Spelled.{log_of}
 use Rattle.im_log.proofs.Spells.{log_is}
-use Rattle.im_page_file.specs.OtherLog.{IsNewest}
 use Rattle.im_theory_log.specs.Histories.{Base, History}
 use Rattle.im_theory_log.specs.Lawful.{IsLawful}
 use Rattle.im_theory_log.specs.RedoPoints.{Covers}
 use Rattle.im_theory_page.specs.PageFile.{file_page}
 use Rattle.im_theory_tree.specs.Theory.{page_tree}
 use Rattle.im_engine.specs.Stands.{StandsFor}
-use Rattle.im_engine.proofs.Named.{back_has}
 use Rattle.im_engine_guards.specs.Guards.{IsFolder, IsFront, IsLeft, IsPagesFront, NeverRefused}
 use Rattle.im_engine_guards.proofs.Counts.{never_counted}
-use Rattle.im_engine_guards.proofs.LogFronts.{byte, gate_by, generation_same, second_made, second_same, unmade_by}
+use Rattle.im_engine_guards.proofs.LogFronts.{gate_is, starts, unmade_by}
 
--- a log of the second format after whose header no gate is open has no record
-no_record : (base : ℕ) (all : History) (file : List ℕ) (front : Front) → IsFront file front → guard.front_says_second front ≡ true → slice_index front.bytes 47 ≢ 1 → IsLogOf base all file → all ≡ []
-no_record base all file front is second closed (inl none) = absurd (second_made file front is (sym (second_same file front is) ∙ second) none.0)
-no_record base all file front is second closed (inr has) =
-    let gate = gate_by file front is second in
-    let shut : get_or file (first_gate file) 0 ≢ 1 = λ (opened : get_or file (first_gate file) 0 ≡ 1). closed (byte file front is 47 (omega arith) ∙ ap (λ (n : ℕ). get_or file n 0) (sym gate) ∙ opened) in
+-- a log whose first gate is closed has no record
+no_record : (base : ℕ) (all : History) (file : List ℕ) (front : Front) → IsFront file front → gate_byte (shown front) ≢ 1 → IsLogOf base all file → all ≡ []
+no_record base all file front is closed (inl none) = none.1
+no_record base all file front is closed (inr has) =
+    let shut : get_or file (first_gate file) 0 ≢ 1 = λ (opened : get_or file (first_gate file) 0 ≡ 1). closed (gate_is file front is ∙ opened) in
     let low = has.made.low in
     let starts = has.starts in
     let none : log_of base file ≡ Some [] = log_is base file [] [] (ends_here file (first_gate file) has.made.within shut) (omega (arith, low, starts)) refl in
     let same : Some all ≡ Some [] = sym has.spells ∙ none in
     cc
 
-module _ (files : Files) (f : Folder) (is : IsFolder files f) (known : HasCurrent files) where
+module _ (files : Files) (f : Folder) (is : IsFolder files f) where
   -- the guard takes the log of the greater generation too
   pub other_is : (s : Bool) → IsCurrent s files → other_is_current f ≡ s
   other_is s now =
-      let one = generation_same (files Log) f.log is.log known.log in
-      let two = generation_same (files Log2) f.log2 is.log2 known.other in
+      let one = sym (starts (files Log) f.log is.log).1 in
+      let two = sym (starts (files Log2) f.log2 is.log2).1 in
       by one two s now
     where
-      by : generation_of (files Log) ≡ guard.said_generation f.log → generation_of (files Log2) ≡ guard.said_generation f.log2 → (s : Bool) → IsCurrent s files → other_is_current f ≡ s
-      by one two true (inl later) = lt-ltb (guard.said_generation f.log) (guard.said_generation f.log2) (omega (arith, later, one, two))
+      by : generation_of (files Log) ≡ generation_of (shown f.log) → generation_of (files Log2) ≡ generation_of (shown f.log2) → (s : Bool) → IsCurrent s files → other_is_current f ≡ s
+      by one two true (inl later) = lt-ltb (generation_of (shown f.log)) (generation_of (shown f.log2)) (omega (arith, later, one, two))
       by one two true (inr none) = let clash : true ≡ false = none.2 in let never : ⊥ = cc in absurd never
-      by one two false (inl later) = le-ltb (guard.said_generation f.log) (guard.said_generation f.log2) (omega (arith, later, one, two))
-      by one two false (inr none) = let zero = none.0 in let other = none.1 in le-ltb (guard.said_generation f.log) (guard.said_generation f.log2) (omega (arith, zero, other, one, two))
+      by one two false (inl later) = le-ltb (generation_of (shown f.log)) (generation_of (shown f.log2)) (omega (arith, later, one, two))
+      by one two false (inr none) = let zero = none.0 in let other = none.1 in le-ltb (generation_of (shown f.log)) (generation_of (shown f.log2)) (omega (arith, zero, other, one, two))
 
   front_of : (s : Bool) → other_is_current f ≡ s → IsFront (named s files Log) (current f)
   front_of true e = subst (IsFront (files Log2)) (sym (cond-true (other_is_current f) f.log2 f.log e)) is.log2
@@ -72,27 +68,10 @@ module _ (files : Files) (f : Folder) (is : IsFolder files f) (known : HasCurren
     beside_none l none c law at lacks =
         never_counted b (named s files Pages) (subst (λ (h : History). Covers b h (file_page (named s files Pages))) none c) (subst (λ (h : History). IsLawful b page_tree h) none law) at f.pages (pages_of s) lacks
 
-    pub uncounted : slice_index (current f).bytes 47 ≢ 1 → LacksCounted (guard.said_base (current f)) f.pages → ⊥
-    uncounted closed lacks = elim (cases_Bool (guard.front_says_second (current f))) [
-      | inl second ↦ beside_none all (no_record base all (named s files Log) (current f) (front_of s (other_is s now)) second closed log) covers lawful (guard.said_base (current f)) lacks
-      | inr other ↦ (
-          let zero = cond-false (guard.front_says_second (current f)) (guard.said_number 24 (current f)) 0 other in
-          let older = lacks.0 in
-          omega (arith, zero, older))
-    ]
+    pub uncounted : gate_byte (shown (current f)) ≢ 1 → LacksCounted (base_of (shown (current f))) f.pages → ⊥
+    uncounted closed lacks = beside_none all (no_record base all (named s files Log) (current f) (front_of s (other_is s now)) closed log) covers lawful (base_of (shown (current f))) lacks
 
--- ---- each of the two logs is one of either format, or none
-
-made_header : (file : List ℕ) → IsMade file → headers.IsMade file
-made_header file made = record { within = made.within; made = made.made; named = made.named }
-
-newest_has : {b : Base} (base : ℕ) (all : History) (files : Files) → IsLogOf base all (files Log) → IsNewest b files → HasCurrent files
-newest_has {b} base all files log (inl older) = record {
-  log = ⊎_elim (λ none. inl none.0) (λ has. inr (made_header (files Log) has.made)) log;
-  other = older.known;
-  apart = λ same. (let less = older.earlier in absurd (omega (arith, same, less)));
-}
-newest_has {b} base all files log (inr none) = record { log = inl none.0; other = inl none.1; apart = λ same. none }
+-- ---- the verdicts
 
 -- neither of two that are not so
 neither : (x y : Bool) → (x || y) ≡ false → (x ≡ false) × (y ≡ false)
@@ -100,13 +79,10 @@ neither true y is = let never : ⊥ = cc in absurd never
 neither false y is = (refl, is)
 
 module _ (effects : List Effect) (files : Files) (f : Folder) (stands : StandsFor effects files) (is : IsFolder files f) where
-  pub known : HasCurrent files
-  known = back_has stands.swapped files (newest_has stands.base stands.log (named stands.swapped files) stands.has.log stands.has.newest)
-
   module _ (so : IsLeft files f) where
     short : is_store f ≡ false → (length (files Log) ≤ 48) × (length (files Log2) ≤ 48)
     short none =
-        let both = neither (guard.front_says_made f.log) (guard.front_says_made f.log2) none in
+        let both = neither (front_says_made f.log) (front_says_made f.log2) none in
         so.fresh (unmade_by (files Log) f.log is.log both.0) (unmade_by (files Log2) f.log2 is.log2 both.1)
 
     never : (why : Apart) → IsApart why f → ⊥
@@ -115,7 +91,7 @@ module _ (effects : List Effect) (files : Files) (f : Folder) (stands : StandsFo
     never (NoFile Log2) lacks = let clash : true ≡ false = sym is.log2.there ∙ lacks.1 in let never : ⊥ = cc in never
     never (NoFile Pages) lacks = lacks
     never NoPages lacks = let clash : true ≡ false = sym is.pages.there ∙ lacks.1 in let never : ⊥ = cc in never
-    never ShortPages (inl lacks) = uncounted files f is known stands.swapped stands.current stands.b stands.base stands.log stands.has.log stands.has.covers stands.lawful lacks.0 lacks.1
+    never ShortPages (inl lacks) = uncounted files f is stands.swapped stands.current stands.b stands.base stands.log stands.has.log stands.has.covers stands.lawful lacks.0 lacks.1
     never ShortPages (inr (later, few, begins)) =
         let first = so.first begins in
         let long = is.pages.long in
@@ -141,7 +117,7 @@ module _ (effects : List Effect) (files : Files) (f : Folder) (stands : StandsFo
 
   pub current_named : (verdict : Result Logs Apart) → IsVerdict f verdict → IfOk verdict (λ logs. IsCurrent logs.other_is_current files)
   current_named (Err why) apart = tt
-  current_named (Ok logs) so = subst (λ (s : Bool). IsCurrent s files) (sym (so.current ∙ other_is files f is known stands.swapped stands.current)) stands.current
+  current_named (Ok logs) so = subst (λ (s : Bool). IsCurrent s files) (sym (so.current ∙ other_is files f is stands.swapped stands.current)) stands.current
 
 pub sound : NeverRefused
 sound = record {

@@ -1,22 +1,20 @@
 -- Walks over the two logs find no older pages beside files that stand for effects.
-use Rattle.std.proofs.Common.{◌≡◌, ◌⊎◌, inl, inr, ⊎_elim, ℕ, ◌+◌, ◌<◌, ◌==◌, ◌||◌, if◌then◌else◌, Bool, true, false, not, List, ◌++◌, length, take, drop, refl, sym, ◌∙◌, ap, subst, arith}
+use Rattle.std.proofs.Common.{◌≡◌, ◌⊎◌, inl, inr, ℕ, ◌+◌, ◌<◌, ◌==◌, ◌||◌, if◌then◌else◌, Bool, true, false, not, List, ◌++◌, drop, refl, sym, ◌∙◌, ap, subst, arith}
 use Rattle.std.proofs.lemmas.Bool.{cases_Bool, cond-true, cond-false, eq-eqb, eqb-true}
 use Rattle.im_base_types.specs.Changes.{Effect}
 use Rattle.im_base_types.specs.declared.file_id.FileId.TheVariants.{Log, Log2, Pages}
 use Rattle.im_base_disk.specs.Disk.{Files}
 use Rattle.im_base_two_logs.specs.Renamed.{named}
 use Rattle.im_files_guard.specs.declared.folder.Folder.{Folder}
-use Rattle.im_files_guard.specs.declared.folder.Front.{Front}
 use Rattle.im_files_guard.specs.declared.left_log.LeftLog.{LeftLog}
 use Rattle.im_files_guard.specs.Belonging.{current, left, other_is_current}
-use Rattle.im_files_guard.specs.Fronts as guard
-use Rattle.im_files_guard.specs.LeftLog.{IsOlder, current_log_of, guard_gate, left_log_of, step_of}
+use Rattle.im_files_guard.specs.Fronts.{front_says_made, shown}
+use Rattle.im_files_guard.specs.LeftLog.{IsOlder, current_log_of, left_log_of, step_of}
 use Rattle.im_log_header.specs.Header as headers
-use Rattle.im_log_header.specs.Header.{says_made, says_second}
+use Rattle.im_log_header.proofs.Beginnings.{header_says}
 use Rattle.im_log_header.proofs.Saying.{unmade}
 use Rattle.im_log_gate.specs.Header.{IsUnmade, base_of, first_gate}
 use Rattle.im_log.specs.Kept.{HasLog, IsLogOf}
-use Rattle.im_log.proofs.Creations.{not_both}
 use Rattle.im_engine_guards.specs.Walks.{Begins, HasNoCopy, IsAtEnd, NamesChanges, PassesCopied, walked}
 use Rattle.im_engine_guards.proofs.Changes.{current_is_read, left_is_read}
 use Rattle.im_engine_guards.proofs.Pieces.{at_over, walked_cut, walked_on}
@@ -28,9 +26,9 @@ use Rattle.im_theory_page.specs.PageFile.{file_page, page_count}
 use Rattle.im_theory_tree.specs.Theory.{page_tree}
 use Rattle.im_engine.specs.Stands.{StandsFor}
 use Rattle.im_engine_guards.specs.Guards.{IsFolder, IsFront, IsWalked, NeverOlder, walked_log, lsn_in}
-use Rattle.im_engine_guards.proofs.LogFronts.{base_same, gate_by, gate_same, unmade_says}
+use Rattle.im_engine_guards.proofs.LogFronts.{starts, unmade_says}
 use Rattle.im_engine_guards.proofs.Older.{Names, NamesGreatest, NamesNewest, never_older}
-use Rattle.im_engine_guards.proofs.Sound.{known, other_is}
+use Rattle.im_engine_guards.proofs.Sound.{other_is}
 
 -- ---- walks that find nothing
 
@@ -67,20 +65,6 @@ module _ (files : Files) (f : Folder) (is : IsFolder files f) where
   current_front true e = subst (IsFront (files Log2)) (sym (cond-true (other_is_current f) f.log2 f.log e)) is.log2
   current_front false e = subst (IsFront (files Log)) (sym (cond-false (other_is_current f) f.log2 f.log e)) is.log
 
--- a log of the second format is longer than its header
-long_is : (file : List ℕ) → first_gate file < length file → (front : Front) → IsFront file front → guard.front_says_second front ≡ true → 47 < length file
-long_is file within front is second = let gate = gate_by file front is second in omega (arith, gate, within)
-
--- the same header has the same first gate
-first_gate_as : (file other : List ℕ) → take 47 file ≡ take 47 other → first_gate file ≡ first_gate other
-unfolding first_gate
-first_gate_as file other same = ap (λ (bytes : List ℕ). if says_second bytes then 47 else (if says_made bytes then 31 else 47)) same
-
--- a made log is no unmade one
-module _ (base : ℕ) (log : History) (file : List ℕ) (has : HasLog base log file) where
-  made_is : IsUnmade file → ⊥
-  made_is none = not_both file has.made none
-
 -- ---- what they name
 
 names_by : (l m : LeftLog) (before log : History) → NamesChanges l.lsn l.page l.pages before → PassesCopied l m.lsn m.page m.pages log → Names m before log
@@ -110,7 +94,7 @@ module _ (effects : List Effect) (files : Files) (stands : StandsFor effects fil
   cf = named stands.swapped files Log
 
   turned : other_is_current f ≡ stands.swapped
-  turned = other_is files f is (known effects files f stands is) stands.swapped stands.current
+  turned = other_is files f is stands.swapped stands.current
 
   l_is : l ≡ walked w.sizes lf (left_log_of f)
   l_is = w.left ∙ ap (λ (file : List ℕ). walked w.sizes file (left_log_of f)) (left_file (other_is_current f) stands.swapped files turned)
@@ -145,7 +129,7 @@ module _ (effects : List Effect) (files : Files) (stands : StandsFor effects fil
   covered true covers = covers
   covered false covers = covers
 
-  module _ (left_was : guard.front_says_made (left f) ≡ true) (going : (left_log_of f).is_over ≡ false) where
+  module _ (left_was : front_says_made (left f) ≡ true) (going : (left_log_of f).is_over ≡ false) where
     lf_front : IsFront lf (left f)
     lf_front = left_front files f is stands.swapped turned
 
@@ -162,20 +146,17 @@ module _ (effects : List Effect) (files : Files) (stands : StandsFor effects fil
     so : SaysLeft stands.b lf
     so = said says.1
 
-    made : headers.IsMade lf
-    made = ⊎_elim (λ (none : IsUnmade lf). absurd (not_unmade none)) (λ (made : headers.IsMade lf). made) says.0
-
     abbrev whole : List ℕ
     whole = lf ++ so.cut
 
-    gate_is : guard_gate (left f) ≡ first_gate whole
-    gate_is = gate_same lf (left f) lf_front not_unmade ∙ first_gate_as lf whole (sym so.header)
+    gate_is : first_gate (shown (left f)) ≡ first_gate whole
+    gate_is = (starts lf (left f) lf_front).0.gate ∙ sym (header_says lf whole so.header).0.gate
 
     first_begins : Begins (base_of lf) whole (left_log_of f)
     first_begins = record {
       place = gate_is;
       end = gate_is;
-      based = base_same lf (left f) lf_front (long_is lf made.within (left f) lf_front);
+      based = (starts lf (left f) lf_front).0.base;
       going = going;
     }
 
@@ -193,11 +174,11 @@ module _ (effects : List Effect) (files : Files) (stands : StandsFor effects fil
     found : (l.lsn == 0) ≡ false → IsOlder m many at → ⊥
     found some =
         let has = has_log stands.has.newest stands.has.log in
-        let none = made_is stands.base stands.log cf has in
+        let says = (starts cf (current f) cf_front).0 in
         let begins : Begins stands.base cf (current_log_of f l) = record {
-          place = gate_same cf (current f) cf_front none;
-          end = gate_same cf (current f) cf_front none;
-          based = base_same cf (current f) cf_front (long_is cf has.made.within (current f) cf_front) ∙ has.starts;
+          place = says.gate;
+          end = says.gate;
+          based = says.base ∙ has.starts;
           going = some;
         } in
         let ends : IsAtEnd cf (walked w.further cf (current_log_of f l)) = subst (IsAtEnd cf) m_is (subst (λ (file : List ℕ). IsAtEnd file m) cf_is w.ends) in
@@ -218,7 +199,7 @@ module _ (effects : List Effect) (files : Files) (stands : StandsFor effects fil
     | inl over ↦ (
         let same : l ≡ left_log_of f = l_is ∙ still w.sizes lf (left_log_of f) over in
         none_found (ap (λ (x : LeftLog). x.lsn) same) (ap (λ (x : LeftLog). x.pages) same))
-    | inr going ↦ by_found (was (guard.said_base (current f) == 0) (guard.front_says_made (left f)) going) going
+    | inr going ↦ by_found (was (base_of (shown (current f)) == 0) (front_says_made (left f)) going) going
   ]
     where
       was : (x y : Bool) → (x || not y) ≡ false → y ≡ true

@@ -1,9 +1,8 @@
 -- The verdict over a folder does not change where its logs are cut: the one that was left to its first batch, the current one, without a record, to its closed gate.
-use Rattle.std.proofs.Common.{◌≡◌, ◌⊎◌, inl, inr, ⊎_elim, ℕ, ◌+◌, ◌-◌, ◌/◌, ◌<◌, ◌≤◌, ◌==◌, ◌&&◌, ◌||◌, nat_le, nat_lt, not, if◌then◌else◌, Bool, true, false, true≢false, List, ◌++◌, length, take, drop, replicate, slice_index, Result, Ok, Err, refl, sym, ◌∙◌, ap, subst, arith, take_all, append-nil, take-take}
+use Rattle.std.proofs.Common.{◌≡◌, ◌⊎◌, inl, inr, ⊎_elim, ℕ, ◌+◌, ◌-◌, ◌/◌, ◌<◌, ◌≤◌, ◌==◌, ◌&&◌, ◌||◌, nat_le, nat_lt, not, if◌then◌else◌, Bool, true, false, true≢false, List, ◌++◌, length, take, replicate, slice_index, Result, Ok, Err, refl, sym, ◌∙◌, ap, subst, arith, take_all, append-nil, take-take}
 use Rattle.std.specs.Prelude.{◌↔◌}
-use Rattle.std.specs.Int.{w64, from_be_bytes}
-use Rattle.std.proofs.lemmas.Bool.{cases_Bool, cond-true, cond-false, lt-ltb, leb-true, eqb-true, eqb-false, and_parts, or_parts}
-use Rattle.std.proofs.lemmas.List.{drop-append-le, drop-take, get_or-take, get_or_append_left, length-drop, length-take-le, take-append-le}
+use Rattle.std.proofs.lemmas.Bool.{cases_Bool, cond-true, cond-false, leb-true, eqb-false, and_parts, or_parts}
+use Rattle.std.proofs.lemmas.List.{get_or-take, length-take-le, take-append-le}
 use Rattle.im_base_types.specs.declared.file_id.FileId.TheVariants.{Log, Pages, Log2}
 use Rattle.im_files_guard.specs.declared.folder.Folder.{Folder}
 use Rattle.im_files_guard.specs.declared.folder.Front.{Front}
@@ -11,7 +10,10 @@ use Rattle.im_files_guard.specs.declared.folder.PagesFront.{PagesFront}
 use Rattle.im_files_guard.specs.declared.belonging.Logs.{Logs}
 use Rattle.im_files_guard.specs.declared.belonging.Apart.{Apart}
 use Rattle.im_files_guard.specs.declared.belonging.Apart.TheVariants.{Unfinished, NoFile, NoPages, ShortPages, NotALog}
-use Rattle.im_files_guard.specs.Fronts.{said_base, said_generation, said_number, front_says_made, front_says_second, BeginsWithChange, NamesChange}
+use Rattle.im_log_header.specs.Header.{base_of, first_gate, generation_of, says_made, says_second, StartsAlike}
+use Rattle.im_log_header.proofs.Beginnings.{gate_second, header_says}
+use Rattle.im_log_header.proofs.Saying.{least_gate}
+use Rattle.im_files_guard.specs.Fronts.{front_says_made, front_says_second, gate_byte, shown, BeginsWithChange, HasChangeFirst}
 use Rattle.im_files_guard.specs.Belonging.{current, is_store, left, other_is_current, IsApart, IsVerdict, LacksCounted, LacksFirst}
 use Rattle.im_files_guard.specs.LogCuts.{cut_folder, cut_front, end_at, end_of, first_end, gone_of, has_batch_at, is_empty, kept_at, kept_of, log_cuts_of, shortened, size_at, was_left, AreRead, CutsAreSound}
 
@@ -19,45 +21,45 @@ use Rattle.im_files_guard.specs.LogCuts.{cut_folder, cut_front, end_at, end_of, 
 
 -- Both say that the log was made, and are longer than its header.
 pub record WereCut (a b : Front) : Type 0 where
-  pub made : slice_index a.bytes 0 ≡ 1
+  pub made : front_says_made a ≡ true
   pub before : 47 < a.long
   pub after : 47 < b.long
 
--- They have the same bytes where a decision looks at the current log, and are as long, or cut.
+-- They say the same of what a decision asks of the current log, and are as long, or cut.
 pub record Alike (a b : Front) : Type 0 where
   pub there : b.is_there ≡ a.is_there
-  pub first : slice_index b.bytes 0 ≡ slice_index a.bytes 0
-  pub name : slice_index b.bytes 8 ≡ slice_index a.bytes 8
-  pub generation : said_number 16 b ≡ said_number 16 a
-  pub base : said_number 24 b ≡ said_number 24 a
-  pub gate : slice_index b.bytes 47 ≡ slice_index a.bytes 47
+  pub made : front_says_made b ≡ front_says_made a
+  pub second : front_says_second b ≡ front_says_second a
+  pub generation : generation_of (shown b) ≡ generation_of (shown a)
+  pub base : base_of (shown b) ≡ base_of (shown a)
+  pub gate : gate_byte (shown b) ≡ gate_byte (shown a)
   pub long : (b.long ≡ a.long) ⊎ WereCut a b
 
--- with the same bytes they are
-of_bytes : (a b : Front) → b.is_there ≡ a.is_there → b.bytes ≡ a.bytes → (b.long ≡ a.long) ⊎ WereCut a b → Alike a b
-of_bytes a b there same long = record {
+-- with the same bytes they do
+of_shown : (a b : Front) → b.is_there ≡ a.is_there → shown b ≡ shown a → (b.long ≡ a.long) ⊎ WereCut a b → Alike a b
+of_shown a b there same long = record {
   there = there;
-  first = ap (λ (l : List ℕ). slice_index l 0) same;
-  name = ap (λ (l : List ℕ). slice_index l 8) same;
-  generation = ap (λ (l : List ℕ). from_be_bytes w64 (take 8 (drop 16 l))) same;
-  base = ap (λ (l : List ℕ). from_be_bytes w64 (take 8 (drop 24 l))) same;
-  gate = ap (λ (l : List ℕ). slice_index l 47) same;
+  made = ap (λ (l : List ℕ). says_made (take 47 l)) same;
+  second = ap (λ (l : List ℕ). says_second (take 47 l)) same;
+  generation = ap (λ (l : List ℕ). generation_of l) same;
+  base = ap (λ (l : List ℕ). base_of l) same;
+  gate = ap (λ (l : List ℕ). gate_byte l) same;
   long = long;
 }
 
 same_front : (a : Front) → Alike a a
-same_front a = of_bytes a a refl refl (inl refl)
+same_front a = of_shown a a refl refl (inl refl)
 
 module _ (a b : Front) (h : Alike a b) where
   turned : Alike b a
   turned = record {
     there = sym h.there;
-    first = sym h.first;
-    name = sym h.name;
+    made = sym h.made;
+    second = sym h.second;
     generation = sym h.generation;
     base = sym h.base;
     gate = sym h.gate;
-    long = ⊎_elim (λ same. inl (sym same)) (λ cut. inr (record { made = h.first ∙ cut.made; before = cut.after; after = cut.before })) h.long;
+    long = ⊎_elim (λ same. inl (sym same)) (λ cut. inr (record { made = h.made ∙ cut.made; before = cut.after; after = cut.before })) h.long;
   }
 
   longer : (n : ℕ) → n ≤ 47 → n < a.long → n < b.long
@@ -66,43 +68,12 @@ module _ (a b : Front) (h : Alike a b) where
     | inr cut ↦ (let far = cut.after in omega (arith, low, far))
   ]
 
-  some : nat_lt 1 b.long ≡ nat_lt 1 a.long
-  some = elim h.long [
-    | inl same ↦ ap (λ (n : ℕ). nat_lt 1 n) same
-    | inr cut ↦ (let one = cut.before in let two = cut.after in lt-ltb 1 b.long (omega (arith, two)) ∙ sym (lt-ltb 1 a.long (omega (arith, one))))
-  ]
-
   -- one that was not made was not cut
   unmade_longer : front_says_made a ≡ false → 48 < a.long → 48 < b.long
   unmade_longer none more = elim h.long [
     | inl same ↦ omega (arith, same, more)
-    | inr cut ↦ absurd (true≢false (sym (is_made cut) ∙ none))
+    | inr cut ↦ absurd (true≢false (sym cut.made ∙ none))
   ]
-    where
-      is_made : WereCut a b → front_says_made a ≡ true
-      is_made cut =
-          let before = cut.before in
-          ap (λ (t : Bool). t && (slice_index a.bytes 0 == 1)) (lt-ltb 1 a.long (omega (arith, before))) ∙ ap (λ (x : ℕ). x == 1) cut.made
-
-  made_same : front_says_made b ≡ front_says_made a
-  made_same = ap (λ (t : Bool). t && (slice_index b.bytes 0 == 1)) some ∙ ap (λ (x : ℕ). nat_lt 1 a.long && (x == 1)) h.first
-
-  second_same : front_says_second b ≡ front_says_second a
-  second_same = ap (λ (t : Bool). t && (slice_index b.bytes 8 == 50)) made_same ∙ ap (λ (x : ℕ). front_says_made a && (x == 50)) h.name
-
-  generation_same : said_generation b ≡ said_generation a
-  generation_same =
-      ap (λ (t : Bool). if t then said_number 16 b else (if front_says_made b then 1 else 0)) second_same
-      ∙ ap (λ (t : Bool). if front_says_second a then said_number 16 b else (if t then 1 else 0)) made_same
-      ∙ ap (λ (n : ℕ). if front_says_second a then n else (if front_says_made a then 1 else 0)) h.generation
-
-  base_same : said_base b ≡ said_base a
-  base_same =
-      ap (λ (t : Bool). if t then said_number 24 b else 0) second_same
-      ∙ ap (λ (n : ℕ). if front_says_second a then n else 0) h.base
-
-  begins : b.bytes ≡ a.bytes → BeginsWithChange a → BeginsWithChange b
-  begins same change = (made_same ∙ change.0, subst (λ (l : List ℕ). NamesChange (record a { bytes = l })) (sym same) change.1)
 
 -- ---- two folders
 
@@ -124,12 +95,12 @@ one_of false a b c d x y = y
 -- the same log is the current one
 same_current : (f g : Folder) → Alike f.log g.log → Alike f.log2 g.log2 → other_is_current g ≡ other_is_current f
 same_current f g log log2 =
-    ap (λ (n : ℕ). nat_lt n (said_generation g.log2)) (generation_same f.log g.log log)
-    ∙ ap (λ (n : ℕ). nat_lt (said_generation f.log) n) (generation_same f.log2 g.log2 log2)
+    ap (λ (n : ℕ). nat_lt n (generation_of (shown g.log2))) log.generation
+    ∙ ap (λ (n : ℕ). nat_lt (generation_of (shown f.log)) n) log2.generation
 
 module _ (f g : Folder) (h : AlikeFolders f g) where
   store_same : is_store g ≡ is_store f
-  store_same = ap (λ (t : Bool). t || front_says_made g.log2) (made_same f.log g.log h.log) ∙ ap (λ (t : Bool). front_says_made f.log || t) (made_same f.log2 g.log2 h.log2)
+  store_same = ap (λ (t : Bool). t || front_says_made g.log2) h.log.made ∙ ap (λ (t : Bool). front_says_made f.log || t) h.log2.made
 
   other_same : other_is_current g ≡ other_is_current f
   other_same = same_current f g h.log h.log2
@@ -137,14 +108,14 @@ module _ (f g : Folder) (h : AlikeFolders f g) where
   currents : Alike (current f) (current g)
   currents = subst (λ (t : Bool). Alike (current f) (if t then g.log2 else g.log)) (sym other_same) (one_of (other_is_current f) f.log2 g.log2 f.log g.log h.log2 h.log)
 
-  counted : LacksCounted (said_base (current f)) f.pages → LacksCounted (said_base (current g)) g.pages
+  counted : LacksCounted (base_of (shown (current f))) f.pages → LacksCounted (base_of (shown (current g))) g.pages
   counted lacks =
-      subst (λ (at : ℕ). LacksCounted at g.pages) (sym (base_same (current f) (current g) currents))
-      (subst (λ (p : PagesFront). LacksCounted (said_base (current f)) p) (sym h.pages) lacks)
+      subst (λ (at : ℕ). LacksCounted at g.pages) (sym currents.base)
+      (subst (λ (p : PagesFront). LacksCounted (base_of (shown (current f))) p) (sym h.pages) lacks)
 
-  first : LacksFirst (said_base (current f)) (left f) f.pages → LacksFirst (said_base (current g)) (left g) g.pages
+  first : LacksFirst (base_of (shown (current f))) (left f) f.pages → LacksFirst (base_of (shown (current g))) (left g) g.pages
   first lacks = (
-    subst (λ (n : ℕ). 0 < n) (sym (base_same (current f) (current g) currents)) lacks.0,
+    subst (λ (n : ℕ). 0 < n) (sym currents.base) lacks.0,
     subst (λ (p : PagesFront). p.long / 4096 < 2) (sym h.pages) lacks.1,
     h.said.0 lacks.2,
   )
@@ -155,7 +126,7 @@ module _ (f g : Folder) (h : AlikeFolders f g) where
   apart_same : (why : Apart) → IsApart why f → IsApart why g
   apart_same Unfinished half = h.part ∙ half
   apart_same (NoFile Log) lacks = (h.log.there ∙ lacks.0, longer f.log2 g.log2 h.log2 0 (omega arith) lacks.1)
-  apart_same (NoFile Log2) lacks = (second_same f.log g.log h.log ∙ lacks.0, h.log2.there ∙ lacks.1)
+  apart_same (NoFile Log2) lacks = (h.log.second ∙ lacks.0, h.log2.there ∙ lacks.1)
   apart_same (NoFile Pages) lacks = lacks
   apart_same NoPages lacks = (store_same ∙ lacks.0, ap (λ (p : PagesFront). p.is_there) h.pages ∙ lacks.1)
   apart_same ShortPages (inl lacks) = inl ((λ one. lacks.0 (sym currents.gate ∙ one)), counted lacks.1)
@@ -180,23 +151,28 @@ pub record IsFar (kept : ℕ) (front : Front) : Type 0 where
   pub whole : 65 ≤ kept
   pub within : kept ≤ front.long
 
-first_byte : (front : Front) → front_says_made front ≡ true → slice_index front.bytes 0 ≡ 1
-first_byte front made = eqb-true (slice_index front.bytes 0) 1 (and_parts (nat_lt 1 front.long) (slice_index front.bytes 0 == 1) made).1
-
-far_same : (kept : ℕ) (front : Front) → length front.bytes ≡ 65 → IsFar kept front → (cut_front kept front).bytes ≡ front.bytes
-far_same kept front read far =
+bytes_stay : (kept : ℕ) (front : Front) → length front.bytes ≡ 65 → IsFar kept front → (cut_front kept front).bytes ≡ front.bytes
+bytes_stay kept front read far =
     let whole = far.whole in
     let none : length front.bytes - kept ≡ 0 = omega (arith, read, whole) in
     ap (λ (l : List ℕ). l ++ replicate (length front.bytes - kept) 0) (take_all kept front.bytes (omega (arith, read, whole)))
     ∙ ap (λ (n : ℕ). front.bytes ++ replicate n 0) none
     ∙ append-nil front.bytes
 
+far_same : (kept : ℕ) (front : Front) → length front.bytes ≡ 65 → IsFar kept front → shown (cut_front kept front) ≡ shown front
+far_same kept front read far =
+    let whole = far.whole in
+    let within = far.within in
+    ap (λ (l : List ℕ). take kept l) (bytes_stay kept front read far)
+    ∙ take_all kept front.bytes (omega (arith, read, whole))
+    ∙ sym (take_all front.long front.bytes (omega (arith, read, whole, within)))
+
 far_alike : (kept : ℕ) (front : Front) → length front.bytes ≡ 65 → IsFar kept front → Alike front (cut_front kept front)
 far_alike kept front read far =
     let whole = far.whole in
     let within = far.within in
-    of_bytes front (cut_front kept front) refl (far_same kept front read far)
-    (inr (record { made = first_byte front far.made; before = omega (arith, whole, within); after = omega (arith, whole) }))
+    of_shown front (cut_front kept front) refl (far_same kept front read far)
+    (inr (record { made = far.made; before = omega (arith, whole, within); after = omega (arith, whole) }))
 
 -- Where a batch stands after a gate it ends there; else nothing stays.
 kept_far : (gate : ℕ) (front : Front) → front_says_made front ≡ true → 31 ≤ gate → (kept_at gate front ≡ 0) ⊎ IsFar (kept_at gate front) front
@@ -216,53 +192,49 @@ kept_far gate front made low = elim (cases_Bool (has_batch_at gate front)) [
         subst (λ (k : ℕ). IsFar k front) (sym (cond-true (has_batch_at gate front) (end_at gate front) 0 there)) far
 
 first_far : (front : Front) → (first_end front ≡ 0) ⊎ IsFar (first_end front) front
-first_far front = elim (cases_Bool (front_says_second front)) [
-  | inl second ↦ by (kept_at 47 front) (cond-true (front_says_second front) (kept_at 47 front) (if front_says_made front then kept_at 31 front else 0) second)
-      (kept_far 47 front (and_parts (front_says_made front) (slice_index front.bytes 8 == 50) second).0 (omega arith))
-  | inr other ↦ elim (cases_Bool (front_says_made front)) [
-    | inl made ↦ by (kept_at 31 front)
-        (cond-false (front_says_second front) (kept_at 47 front) (if front_says_made front then kept_at 31 front else 0) other ∙ cond-true (front_says_made front) (kept_at 31 front) 0 made)
-        (kept_far 31 front made (omega arith))
-    | inr none ↦ inl (cond-false (front_says_second front) (kept_at 47 front) (if front_says_made front then kept_at 31 front else 0) other ∙ cond-false (front_says_made front) (kept_at 31 front) 0 none)
-  ]
+first_far front = elim (cases_Bool (front_says_made front)) [
+  | inl made ↦ by (cond-true (front_says_made front) (kept_at (first_gate (shown front)) front) 0 made) (kept_far (first_gate (shown front)) front made (least_gate (shown front)))
+  | inr none ↦ inl (cond-false (front_says_made front) (kept_at (first_gate (shown front)) front) 0 none)
 ]
   where
-    by : (n : ℕ) → first_end front ≡ n → (n ≡ 0) ⊎ IsFar n front → (first_end front ≡ 0) ⊎ IsFar (first_end front) front
-    by n is (inl none) = inl (is ∙ none)
-    by n is (inr far) = inr (subst (λ (k : ℕ). IsFar k front) (sym is) far)
+    by : first_end front ≡ kept_at (first_gate (shown front)) front → (kept_at (first_gate (shown front)) front ≡ 0) ⊎ IsFar (kept_at (first_gate (shown front)) front) front
+        → (first_end front ≡ 0) ⊎ IsFar (first_end front) front
+    by is (inl none) = inl (is ∙ none)
+    by is (inr far) = inr (subst (λ (k : ℕ). IsFar k front) (sym is) far)
 
 -- ---- a log without a record that is cut to its closed gate
 
-module _ (front : Front) (read : length front.bytes ≡ 65) where
-  -- of its first 48 bytes each stays
-  byte_stays : (i : ℕ) → i < 48 → slice_index (cut_front 48 front).bytes i ≡ slice_index front.bytes i
-  byte_stays i within =
-      get_or_append_left (take 48 front.bytes) (replicate (length front.bytes - 48) 0) 0 i (omega (arith, within, read, length-take-le 48 front.bytes (omega (arith, read))))
-      ∙ get_or-take 48 front.bytes i 0 within
+module _ (front : Front) (read : length front.bytes ≡ 65) (second : front_says_second front ≡ true) (more : 48 < front.long) where
+  cut_is : shown (cut_front 48 front) ≡ take 48 (shown front)
+  cut_is =
+      take-append-le 48 (take 48 front.bytes) (replicate (length front.bytes - 48) 0) (omega (arith, read, length-take-le 48 front.bytes (omega (arith, read))))
+      ∙ take-take 48 48 front.bytes (omega arith)
+      ∙ sym (take-take 48 front.long front.bytes (omega (arith, more)))
 
-  -- and each number that ends within these
-  number_stays : (at more : ℕ) → at + more ≡ 48 → 8 ≤ more → said_number at (cut_front 48 front) ≡ said_number at front
-  number_stays at more ends room =
-      let kept = length-take-le 48 front.bytes (omega (arith, read)) in
-      let after = length-drop at (take 48 front.bytes) in
-      let rest = replicate (length front.bytes - 48) 0 in
-      ap (λ (l : List ℕ). from_be_bytes w64 l) (
-      ap (λ (l : List ℕ). take 8 l) (drop-append-le at (take 48 front.bytes) rest (omega (arith, kept, ends)))
-      ∙ take-append-le 8 (drop at (take 48 front.bytes)) rest (omega (arith, kept, after, ends, room))
-      ∙ ap (λ (n : ℕ). take 8 (drop at (take n front.bytes))) (sym ends)
-      ∙ ap (λ (l : List ℕ). take 8 l) (drop-take at more front.bytes)
-      ∙ take-take 8 more (drop at front.bytes) room
-      )
+  -- its header stays
+  header : take 47 (shown (cut_front 48 front)) ≡ take 47 (shown front)
+  header = ap (λ (l : List ℕ). take 47 l) cut_is ∙ take-take 47 48 (shown front) (omega arith)
 
-  empty_alike : front_says_made front ≡ true → 48 < front.long → Alike front (cut_front 48 front)
-  empty_alike made more = record {
+  says : StartsAlike (shown front) (shown (cut_front 48 front)) × (generation_of (shown (cut_front 48 front)) ≡ generation_of (shown front))
+  says = header_says (shown front) (shown (cut_front 48 front)) header
+
+  -- and its gate
+  gate_stays : gate_byte (shown (cut_front 48 front)) ≡ gate_byte (shown front)
+  gate_stays =
+      let at = gate_second (shown front) second in
+      ap (λ (n : ℕ). slice_index (shown (cut_front 48 front)) n) says.0.gate
+      ∙ ap (λ (l : List ℕ). slice_index l (first_gate (shown front))) cut_is
+      ∙ get_or-take 48 (shown front) (first_gate (shown front)) 0 (omega (arith, at))
+
+  empty_alike : Alike front (cut_front 48 front)
+  empty_alike = record {
     there = refl;
-    first = byte_stays 0 (omega arith);
-    name = byte_stays 8 (omega arith);
-    generation = number_stays 16 32 refl (omega arith);
-    base = number_stays 24 24 refl (omega arith);
-    gate = byte_stays 47 (omega arith);
-    long = inr (record { made = first_byte front made; before = omega (arith, more); after = omega arith });
+    made = ap (λ (h : List ℕ). says_made h) header;
+    second = ap (λ (h : List ℕ). says_second h) header;
+    generation = says.1;
+    base = says.0.base;
+    gate = gate_stays;
+    long = inr (record { made = (and_parts (front_says_made front) (slice_index (take 47 (shown front)) 8 == 50) second).0; before = omega (arith, more); after = omega arith });
   }
 
 -- ---- what is cut
@@ -283,17 +255,17 @@ shortened_alike kept front cut = elim (cases_Bool (gone_of kept front == 0)) [
   | inr some ↦ subst (λ (g : Front). Alike front g) (sym (cond-false (gone_of kept front == 0) front (cut_front kept front) some)) (cut (eqb-false (gone_of kept front) 0 some))
 ]
 
-shortened_same : (kept : ℕ) (front : Front) → ((gone_of kept front ≡ 0 → ⊥) → (cut_front kept front).bytes ≡ front.bytes) → (shortened kept (gone_of kept front) front).bytes ≡ front.bytes
+shortened_same : (kept : ℕ) (front : Front) → ((gone_of kept front ≡ 0 → ⊥) → shown (cut_front kept front) ≡ shown front) → shown (shortened kept (gone_of kept front) front) ≡ shown front
 shortened_same kept front cut = elim (cases_Bool (gone_of kept front == 0)) [
-  | inl none ↦ ap (λ (g : Front). g.bytes) (cond-true (gone_of kept front == 0) front (cut_front kept front) none)
-  | inr some ↦ ap (λ (g : Front). g.bytes) (cond-false (gone_of kept front == 0) front (cut_front kept front) some) ∙ cut (eqb-false (gone_of kept front) 0 some)
+  | inl none ↦ ap (λ (g : Front). shown g) (cond-true (gone_of kept front == 0) front (cut_front kept front) none)
+  | inr some ↦ ap (λ (g : Front). shown g) (cond-false (gone_of kept front == 0) front (cut_front kept front) some) ∙ cut (eqb-false (gone_of kept front) 0 some)
 ]
 
 -- It has no record, and its header and gate stay.
 pub record IsEmptied (end : ℕ) (front : Front) : Type 0 where
   pub is : end ≡ 48
   pub second : front_says_second front ≡ true
-  pub closed : slice_index front.bytes 47 ≡ 1 → ⊥
+  pub closed : gate_byte (shown front) ≡ 1 → ⊥
 
 module _ (f : Folder) where
   -- where anything of the log that was left goes, more stays than is read
@@ -310,15 +282,15 @@ module _ (f : Folder) where
   -- where anything of the current one goes, that has no record
   pub end_is_gate : (end_of f ≡ 0 → ⊥) → IsEmptied (end_of f) (current f)
   end_is_gate some = elim (cases_Bool (was_left f && is_empty (current f))) [
-    | inr none ↦ absurd (some (cond-false (was_left f && is_empty (current f)) 48 0 none))
-    | inl there ↦ by there (and_parts (front_says_second (current f)) (not (slice_index (current f).bytes 47 == 1)) (and_parts (was_left f) (is_empty (current f)) there).1)
+    | inr none ↦ absurd (some (cond-false (was_left f && is_empty (current f)) (first_gate (shown (current f)) + 1) 0 none))
+    | inl there ↦ by there (and_parts (front_says_second (current f)) (not (gate_byte (shown (current f)) == 1)) (and_parts (was_left f) (is_empty (current f)) there).1)
   ]
     where
-      by : (was_left f && is_empty (current f)) ≡ true → (front_says_second (current f) ≡ true) × (not (slice_index (current f).bytes 47 == 1) ≡ true) → IsEmptied (end_of f) (current f)
+      by : (was_left f && is_empty (current f)) ≡ true → (front_says_second (current f) ≡ true) × (not (gate_byte (shown (current f)) == 1) ≡ true) → IsEmptied (end_of f) (current f)
       by there both = record {
-        is = cond-true (was_left f && is_empty (current f)) 48 0 there;
+        is = cond-true (was_left f && is_empty (current f)) (first_gate (shown (current f)) + 1) 0 there ∙ ap (λ (n : ℕ). n + 1) (gate_second (shown (current f)) both.0);
         second = both.0;
-        closed = λ (one : slice_index (current f).bytes 47 ≡ 1). true≢false (sym both.1 ∙ ap (λ (x : ℕ). not (x == 1)) one);
+        closed = λ (one : gate_byte (shown (current f)) ≡ 1). true≢false (sym both.1 ∙ ap (λ (x : ℕ). not (x == 1)) one);
       }
 
 module _ (f : Folder) (read : AreRead f) where
@@ -339,7 +311,7 @@ module _ (f : Folder) (read : AreRead f) where
   left_alike : Alike (left f) new_left
   left_alike = shortened_alike (kept_of f) (left f) (λ some. far_alike (kept_of f) (left f) (reads_other (other_is_current f)) (kept_is_far f (gone_some (kept_of f) (left f) some).0))
 
-  left_same : new_left.bytes ≡ (left f).bytes
+  left_same : shown new_left ≡ shown (left f)
   left_same = shortened_same (kept_of f) (left f) (λ some. far_same (kept_of f) (left f) (reads_other (other_is_current f)) (kept_is_far f (gone_some (kept_of f) (left f) some).0))
 
   current_alike : Alike (current f) new_current
@@ -348,12 +320,11 @@ module _ (f : Folder) (read : AreRead f) where
       cut : (end_of f ≡ 0 → ⊥) × (end_of f < (current f).long) → Alike (current f) (cut_front (end_of f) (current f))
       cut goes =
           let emptied = end_is_gate f goes.0 in
-          let made = (and_parts (front_says_made (current f)) (slice_index (current f).bytes 8 == 50) emptied.second).0 in
           subst (λ (n : ℕ). Alike (current f) (cut_front n (current f))) (sym emptied.is)
-          (empty_alike (current f) (reads (other_is_current f)) made (subst (λ (n : ℕ). n < (current f).long) emptied.is goes.1))
+          (empty_alike (current f) (reads (other_is_current f)) emptied.second (subst (λ (n : ℕ). n < (current f).long) emptied.is goes.1))
 
   left_said : BeginsWithChange (left f) ↔ BeginsWithChange new_left
-  left_said = (begins (left f) new_left left_alike left_same, begins new_left (left f) (turned (left f) new_left left_alike) (sym left_same))
+  left_said = (subst HasChangeFirst (sym left_same), subst HasChangeFirst left_same)
 
 -- the folder whose logs are these, by which of them is the current one
 abbrev put_together : Bool → Folder → Front → Front → Folder

@@ -1,2 +1,3 @@
 mod Walks
+mod Short
 pub mod Cuts

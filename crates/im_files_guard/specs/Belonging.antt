@@ -1,5 +1,5 @@
 -- Whether the files of a folder belong together.
-use Rattle.std.specs.Prelude.{◌≡◌, ◌≢◌, ◌⊎◌, ◌<◌, ◌+◌, ◌/◌, ◌||◌, if◌then◌else◌, nat_lt, ℕ, Bool, true, false, take, drop, slice_index, Result, Ok, Err}
+use Rattle.std.specs.Prelude.{◌≡◌, ◌≢◌, ◌⊎◌, ◌<◌, ◌+◌, ◌/◌, ◌||◌, if◌then◌else◌, nat_lt, ℕ, Bool, true, false, take, drop, Result, Ok, Err}
 use Rattle.std.specs.Int.{w32, w64, from_be_bytes}
 use Rattle.im_base_types.specs.declared.file_id.FileId.TheVariants.{Log, Pages, Log2}
 use Rattle.im_files_guard.specs.declared.folder.Folder.{Folder}
@@ -8,7 +8,8 @@ use Rattle.im_files_guard.specs.declared.folder.PagesFront.{PagesFront}
 use Rattle.im_files_guard.specs.declared.belonging.Logs.{Logs}
 use Rattle.im_files_guard.specs.declared.belonging.Apart.{Apart}
 use Rattle.im_files_guard.specs.declared.belonging.Apart.TheVariants.{Unfinished, NoFile, NoPages, ShortPages, NotALog}
-use Rattle.im_files_guard.specs.Fronts.{said_base, said_generation, front_says_made, front_says_second, BeginsWithChange}
+use Rattle.im_files_guard.specs.Fronts.{front_says_made, front_says_second, gate_byte, shown, BeginsWithChange}
+use Rattle.im_log_header.specs.Header.{base_of, generation_of}
 
 -- One of the logs says that it was made.
 abbrev pub is_store : Folder → Bool
@@ -16,7 +17,7 @@ is_store f = front_says_made f.log || front_says_made f.log2
 
 -- The current log is that of the greater generation.
 abbrev pub other_is_current : Folder → Bool
-other_is_current f = nat_lt (said_generation f.log) (said_generation f.log2)
+other_is_current f = nat_lt (generation_of (shown f.log)) (generation_of (shown f.log2))
 
 abbrev pub current : Folder → Front
 current f = if other_is_current f then f.log2 else f.log
@@ -58,7 +59,7 @@ LacksFirst base left pages = (0 < base) × (pages.long / 4096 < 2) × BeginsWith
 
 -- The file of pages was cut: it lacks what page 0 counts, where the current log has no record, so that page 0 is as the log found it; or one of the first two pages.
 abbrev pub IsCutShort : Folder → Type 0
-IsCutShort f = ((slice_index (current f).bytes 47 ≢ 1) × LacksCounted (said_base (current f)) f.pages) ⊎ LacksFirst (said_base (current f)) (left f) f.pages
+IsCutShort f = ((gate_byte (shown (current f)) ≢ 1) × LacksCounted (base_of (shown (current f))) f.pages) ⊎ LacksFirst (base_of (shown (current f))) (left f) f.pages
 
 -- ---- the verdict
 

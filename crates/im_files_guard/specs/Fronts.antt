@@ -1,59 +1,72 @@
--- What the first bytes of a log say.
-use Rattle.std.specs.Prelude.{◌≡◌, ◌⊎◌, ◌≤◌, ◌<◌, ◌+◌, ◌==◌, ◌&&◌, if◌then◌else◌, nat_lt, ℕ, Bool, true, false, List, [], ◌∷◌, ◌++◌, take, drop, slice_index, replicate, codes}
+-- What the first bytes of a log say, in the words of headers and records.
+use Rattle.std.specs.Prelude.{◌≡◌, ◌≤◌, ◌<◌, ◌+◌, ℕ, Bool, true, false, List, length, take, drop, slice_index, slice_set, Option, Some, None}
 use Rattle.std.specs.Int.{w64, from_be_bytes}
+use Rattle.im_log_header.specs.Header.{base_of, first_gate, generation_of, least_number, says_made, says_second, IsMade, IsSecond}
+use Rattle.im_log_record.specs.declared.kind.Kind.{Kind}
+use Rattle.im_log_record.specs.declared.kind.Kind.TheVariants.{InsertKey, DeleteKey, UndoInsert, UndoDelete, Smo, UndoSmo, DummyClr, Commit, End, Image, Checkpoint}
+use Rattle.im_log_record.specs.Kind.{kind_at}
 use Rattle.im_files_guard.specs.declared.folder.Front.{Front}
 
--- The log says that it was made. A file of one byte says nothing.
+-- The bytes of a log that were read, as far as the file goes.
+abbrev pub shown : Front → List ℕ
+shown front = take front.long front.bytes
+
+-- The log says that it was made.
 abbrev pub front_says_made : Front → Bool
-front_says_made front = nat_lt 1 front.long && (slice_index front.bytes 0 == 1)
+front_says_made front = says_made (take 47 (shown front))
 
--- And it is of the second format: the name ends in 2.
+-- And it is of the second format.
 abbrev pub front_says_second : Front → Bool
-front_says_second front = front_says_made front && (slice_index front.bytes 8 == 50)
+front_says_second front = says_second (take 47 (shown front))
 
--- the number in the eight bytes from a place on
-abbrev pub said_number : ℕ → Front → ℕ
-said_number at front = from_be_bytes w64 (take 8 (drop at front.bytes))
+-- the byte at the first gate: 1 where that is open
+abbrev pub gate_byte : List ℕ → ℕ
+gate_byte log = slice_index log (first_gate log)
 
--- The generation of a log: 0 where it is not made, and 1 in the first format.
-abbrev pub said_generation : Front → ℕ
-said_generation front = if front_says_second front then said_number 16 front else (if front_says_made front then 1 else 0)
+-- Records of these kinds change a page.
+abbrev pub kind_changes : Option Kind → Bool
+kind_changes None = false
+kind_changes (Some InsertKey) = true
+kind_changes (Some DeleteKey) = true
+kind_changes (Some UndoInsert) = true
+kind_changes (Some UndoDelete) = true
+kind_changes (Some Smo) = true
+kind_changes (Some UndoSmo) = true
+kind_changes (Some DummyClr) = false
+kind_changes (Some Commit) = false
+kind_changes (Some End) = false
+kind_changes (Some Image) = false
+kind_changes (Some Checkpoint) = false
 
--- The LSN of a log's first byte: 0 in the first format.
-abbrev pub said_base : Front → ℕ
-said_base front = if front_says_second front then said_number 24 front else 0
+-- The first gate of a log of either format is open, and the record after it, whose kind stands nine bytes on, changes a page.
+pub record HasChangeFirst (log : List ℕ) : Type 0 where
+  pub whole : IsMade log
+  pub opened : gate_byte log ≡ 1
+  pub changes : kind_changes (kind_at (slice_index log (first_gate log + 9))) ≡ true
 
--- The least number that a transaction of a log may have: 0 where it does not say one.
-abbrev pub said_least : Front → ℕ
-said_least front = if front_says_second front then said_number 32 front else 0
-
--- The first gate, at this place, is open, and the record after it, whose kind stands nine bytes on, changes a page.
-abbrev pub HasChangeAt : ℕ → Front → Type 0
-HasChangeAt gate front = (slice_index front.bytes gate ≡ 1) × (1 ≤ slice_index front.bytes (gate + 9)) × (slice_index front.bytes (gate + 9) ≤ 6)
-
--- Bytes that are named as a log of the first format, or of the second, begin with a record that changes a page.
-abbrev pub NamesChange : Front → Type 0
-NamesChange front = ((take 8 (drop 1 front.bytes) ≡ codes "ARIESIM1") × HasChangeAt 31 front) ⊎ ((take 8 (drop 1 front.bytes) ≡ codes "ARIESIM2") × HasChangeAt 47 front)
-
--- A log that was made begins so.
+-- A log begins so.
 abbrev pub BeginsWithChange : Front → Type 0
-BeginsWithChange front = (front_says_made front ≡ true) × NamesChange front
+BeginsWithChange front = HasChangeFirst (shown front)
 
 -- ---- a log whose first byte may be damaged
 
--- Bytes 1 to 15 of a log of the second format: its name, the size of a page, and zeros.
-abbrev pub second_name : List ℕ
-second_name = codes "ARIESIM2" ++ 0 ∷ 0 ∷ 16 ∷ 0 ∷ 0 ∷ 0 ∷ 0 ∷ []
+-- the same beginning with the first byte of a log that was made
+abbrev pub mended : Front → Front
+mended front = record front { bytes = slice_set front.bytes 0 1 }
 
--- The first record is of a transaction with the header's number or a greater one, and that number is the other log's or a greater one.
+-- the number of the transaction that the first record of the second format is of
+abbrev pub first_transaction : Front → ℕ
+first_transaction front = from_be_bytes w64 (take 8 (drop 57 front.bytes))
+
+-- The first record is of a transaction that the header allows, and the header allows none that is older than the other log.
 pub record HasOwnRecord (front other : Front) : Type 0 where
-  pub numbered : 0 < said_number 57 front
-  pub allowed : said_number 32 front ≤ said_number 57 front
-  pub newer : said_least other ≤ said_number 32 front
+  pub allowed : least_number (shown (mended front)) ≤ first_transaction front
+  pub newer : least_number (shown other) ≤ least_number (shown (mended front))
 
--- A log of the second format but for its first byte, with an open first gate and a record of its own, is of a later generation and a greater base than the other.
+-- A log that has a header of the second format and is not made, with an open first gate and a record of its own: with its first byte it is of a later generation and a greater base
+-- than the other.
 pub record LacksFirstByte (front other : Front) : Type 0 where
   pub unmade : front_says_made front ≡ false
-  pub named : (take 15 (drop 1 front.bytes) ≡ second_name) × (take 7 (drop 40 front.bytes) ≡ replicate 7 0)
-  pub later : (said_generation other < said_number 16 front) × (said_base other < said_number 24 front)
-  pub opened : (slice_index front.bytes 47 ≡ 1) × HasOwnRecord front other
+  pub named : (47 < length (shown front)) × IsSecond (take 46 (drop 1 (shown front)))
+  pub later : (generation_of (shown other) < generation_of (shown (mended front))) × (base_of (shown other) < base_of (shown (mended front)))
+  pub opened : (gate_byte (shown (mended front)) ≡ 1) × HasOwnRecord front other

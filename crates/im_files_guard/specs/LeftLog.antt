@@ -1,26 +1,25 @@
 -- What the log that was left says of the pages.
-use Rattle.std.specs.Prelude.{◌⊎◌, ◌<◌, ◌+◌, ◌-◌, ◌^◌, ◌==◌, ◌||◌, min, not, if◌then◌else◌, nat_lt, ℕ, zero, suc, Bool, true, false, List, length, take, drop, slice_index}
+use Rattle.std.specs.Prelude.{◌⊎◌, ◌<◌, ◌+◌, ◌-◌, ◌^◌, ◌==◌, ◌||◌, min, not, if◌then◌else◌, nat_lt, ℕ, zero, suc, Bool, true, false, List, length, take, drop, slice_index, Option, Some, None}
 use Rattle.std.specs.Int.{w32, from_be_bytes}
 use Rattle.im_files_guard.specs.declared.folder.Folder.{Folder}
-use Rattle.im_files_guard.specs.declared.folder.Front.{Front}
 use Rattle.im_files_guard.specs.declared.left_log.LeftLog.{LeftLog}
-use Rattle.im_files_guard.specs.Fronts.{said_base, front_says_made, front_says_second}
+use Rattle.im_log_header.specs.Header.{base_of, first_gate}
+use Rattle.im_log_record.specs.declared.kind.Kind.{Kind}
+use Rattle.im_log_record.specs.declared.kind.Kind.TheVariants.{InsertKey, DeleteKey, UndoInsert, UndoDelete, Smo, UndoSmo, DummyClr, Commit, End, Image, Checkpoint}
+use Rattle.im_log_record.specs.Kind.{kind_at}
+use Rattle.im_files_guard.specs.Fronts.{front_says_made, kind_changes, shown}
 use Rattle.im_files_guard.specs.Belonging.{current, left, other_is_current}
-
--- the place of the first gate of a log that was made
-abbrev pub guard_gate : Front → ℕ
-guard_gate front = if front_says_second front then 47 else 31
 
 -- the walk at the first gate of the log that was left: over at once where the current log is a first one, or none was left
 abbrev pub left_log_of : Folder → LeftLog
 left_log_of f = record {
-  place = guard_gate (left f);
-  end = guard_gate (left f);
-  base = said_base (left f);
+  place = first_gate (shown (left f));
+  end = first_gate (shown (left f));
+  base = base_of (shown (left f));
   lsn = 0;
   pages = 0;
   page = 0;
-  is_over = (said_base (current f) == 0) || not (front_says_made (left f));
+  is_over = (base_of (shown (current f)) == 0) || not (front_says_made (left f));
   is_log2 = not (other_is_current f);
   is_current = false;
 }
@@ -28,9 +27,9 @@ left_log_of f = record {
 -- and then at that of the current one, with what was found: over at once where that is nothing
 abbrev pub current_log_of : Folder → LeftLog → LeftLog
 current_log_of f l = record l {
-  place = guard_gate (current f);
-  end = guard_gate (current f);
-  base = said_base (current f);
+  place = first_gate (shown (current f));
+  end = first_gate (shown (current f));
+  base = base_of (shown (current f));
   is_over = l.lsn == 0;
   is_log2 = other_is_current f;
   is_current = true;
@@ -69,9 +68,24 @@ copied_step l place page = record l { place = place; lsn = if page == l.page the
 abbrev pub found_step : LeftLog → (place page : ℕ) → LeftLog
 found_step l place page = if l.is_current then copied_step l place page else noted_step l place page
 
--- A record of this kind says nothing: in the log that was left those of the kinds 1 to 6 change a page, in the current one those of the kinds 5, 6 and 10 have a full copy of it.
+-- Records of these kinds have a full copy of their page.
+abbrev pub kind_copies : Option Kind → Bool
+kind_copies None = false
+kind_copies (Some InsertKey) = false
+kind_copies (Some DeleteKey) = false
+kind_copies (Some UndoInsert) = false
+kind_copies (Some UndoDelete) = false
+kind_copies (Some Smo) = true
+kind_copies (Some UndoSmo) = true
+kind_copies (Some DummyClr) = false
+kind_copies (Some Commit) = false
+kind_copies (Some End) = false
+kind_copies (Some Image) = true
+kind_copies (Some Checkpoint) = false
+
+-- A record of this kind says nothing: in the log that was left it changes no page, in the current one it has no full copy.
 abbrev pub says_nothing : Bool → ℕ → Bool
-says_nothing current kind = if current then not ((kind == 5) || (kind == 6) || (kind == 10)) else (kind == 0) || nat_lt 6 kind
+says_nothing current kind = not (if current then kind_copies (kind_at kind) else kind_changes (kind_at kind))
 
 -- Over a record, where it ends within the batch.
 abbrev pub record_step : LeftLog → List ℕ → LeftLog

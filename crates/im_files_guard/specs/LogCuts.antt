@@ -6,7 +6,8 @@ use Rattle.im_files_guard.specs.declared.folder.Front.{Front}
 use Rattle.im_files_guard.specs.declared.belonging.Logs.{Logs}
 use Rattle.im_files_guard.specs.declared.belonging.Apart.{Apart}
 use Rattle.im_files_guard.specs.declared.log_cuts.LogCuts.{LogCuts}
-use Rattle.im_files_guard.specs.Fronts.{said_generation, front_says_made, front_says_second}
+use Rattle.im_log_header.specs.Header.{first_gate, generation_of}
+use Rattle.im_files_guard.specs.Fronts.{front_says_made, front_says_second, gate_byte, shown}
 use Rattle.im_files_guard.specs.Belonging.{current, left, other_is_current, IsVerdict}
 
 -- how long the records of the batch after the gate at a place are, as the four bytes after that say
@@ -27,11 +28,11 @@ kept_at gate front = if has_batch_at gate front then end_at gate front else 0
 
 -- the end of the first batch of a log that was made, 0 where it does not begin with one
 abbrev pub first_end : Front → ℕ
-first_end front = if front_says_second front then kept_at 47 front else (if front_says_made front then kept_at 31 front else 0)
+first_end front = if front_says_made front then kept_at (first_gate (shown front)) front else 0
 
 -- A log of an earlier generation than the current one was left for it.
 abbrev pub was_left : Folder → Bool
-was_left f = front_says_made (left f) && nat_lt (said_generation (left f)) (said_generation (current f))
+was_left f = front_says_made (left f) && nat_lt (generation_of (shown (left f))) (generation_of (shown (current f)))
 
 -- how much stays of the log that was left; 0 where there is none, or nothing of it may go
 abbrev pub kept_of : Folder → ℕ
@@ -39,11 +40,11 @@ kept_of f = if was_left f then first_end (left f) else 0
 
 -- The log, of the second format, has no record: its first gate is closed.
 abbrev pub is_empty : Front → Bool
-is_empty front = front_says_second front && not (slice_index front.bytes 47 == 1)
+is_empty front = front_says_second front && not (gate_byte (shown front) == 1)
 
 -- how much stays of the current log, its header and that gate; 0 where it has a record, or none was left for it
 abbrev pub end_of : Folder → ℕ
-end_of f = if was_left f && is_empty (current f) then 48 else 0
+end_of f = if was_left f && is_empty (current f) then first_gate (shown (current f)) + 1 else 0
 
 -- how much of a log comes after so much that stays
 abbrev pub gone_of : ℕ → Front → ℕ

@@ -1,126 +1,174 @@
 //! What the first bytes of a log say.
-ghost use Rattle.std.specs.Prelude.{◌≡◌, ◌↔◌, ◌<◌, ◌≤◌, true, drop, replicate, slice_index, take};
-ghost use Rattle.std.specs.Int.{from_be_bytes};
-ghost use Rattle.im_files_guard.specs.Fronts.{said_base, said_generation, said_least, said_number, front_says_made, front_says_second, second_name, BeginsWithChange, HasChangeAt, HasOwnRecord, LacksFirstByte, NamesChange};
+ghost use Rattle.std.specs.Prelude.{◌≡◌, ◌↔◌, ◌<◌, ◌≤◌, ◌+◌, true, drop, length, slice_index, take};
+ghost use Rattle.std.specs.Int.{w64, from_be_bytes};
+ghost use Rattle.im_log_header.specs.Header.{base_of, first_gate, generation_of, IsMade, IsSecond};
+ghost use Rattle.im_log_header.specs.Start.{SaysStart};
+ghost use Rattle.im_log_record.specs.Kind.{kind_at};
+ghost use Rattle.im_files_guard.specs.Fronts.{first_transaction, front_says_made, front_says_second, gate_byte, kind_changes, mended, shown, BeginsWithChange, HasOwnRecord, LacksFirstByte};
 
-use crate::folder::Front;
+use crate::folder::{FRONT, Front};
+use im_log_header::{
+    LogStart, has_second_header, is_made_log, is_second_log, is_whole_log, start_of,
+};
+use im_log_record::Kind;
 
-// Bytes 1 to 15 of a log of the second format: its name, the size of a page, and zeros.
-const SECOND_NAME: [u8; 15] = *b"ARIESIM2\0\0\x10\0\0\0\0";
-
-// Bytes 1 to 8 of a log of the first format.
-const FIRST_NAME: [u8; 8] = *b"ARIESIM1";
+// The bytes that were read, as far as the file goes.
+fn shown(front: &Front) -> &[u8]
+    ensures { result.now ≡ shown front.now }
+{
+    if front.long < FRONT as u64 {
+        &front.bytes[..front.long as usize]
+    } else {
+        &front.bytes[..]
+    }
+}
 
 /// The log says that it was made.
 pub(crate) fn is_made(front: &Front) -> bool
     ensures { result ≡ front_says_made front.now }
 {
-    front.long > 1 && front.bytes[0] == 1
+    is_made_log(shown(front))
 }
 
 /// It says so, and is of the second format.
 pub(crate) fn is_second(front: &Front) -> bool
     ensures { result ≡ front_says_second front.now }
 {
-    is_made(front) && front.bytes[8] == b'2'
+    is_second_log(shown(front))
 }
 
-// The number in the eight bytes from this place on.
-fn number(front: &Front, at: usize) -> u64
-    requires within { at ≤ 57 }
-    ensures { result ≡ said_number at front.now }
+// What it says of where its log starts.
+fn start(front: &Front) -> LogStart
+    ensures says { SaysStart result (shown front.now) }
+    ensures gate { result.first_gate ≤ 47 }
 {
-    let mut number = [0; 8];
-    number.copy_from_slice(&front.bytes[at..at + 8]);
-    u64::from_be_bytes(number)
+    start_of(shown(front))
 }
 
 /// The generation of a log: 0 where it is not made, and 1 in the first format.
 pub(crate) fn generation(front: &Front) -> u64
-    ensures { result ≡ said_generation front.now }
+    ensures { result ≡ generation_of (shown front.now) }
 {
-    if is_second(front) {
-        number(front, 16)
-    } else if is_made(front) {
-        1
-    } else {
-        0
-    }
+    start(front).header.generation
 }
 
 /// The LSN of a log's first byte: 0 in the first format.
 pub(crate) fn base(front: &Front) -> u64
-    ensures { result ≡ said_base front.now }
+    ensures { result ≡ base_of (shown front.now) }
 {
-    if is_second(front) {
-        number(front, 24)
+    start(front).header.base
+}
+
+/// The place of its first gate.
+pub(crate) fn first_gate(front: &Front) -> u64
+    ensures is { result ≡ first_gate (shown front.now) }
+    ensures low { result ≤ 47 }
+{
+    start(front).first_gate
+}
+
+// The byte at this place, 0 where the file has none.
+fn byte(front: &Front, place: u64) -> u8
+    requires within { place < 65 }
+    ensures { result ≡ slice_index (shown front.now) place }
+{
+    let bytes = shown(front);
+    if place < bytes.len() as u64 {
+        bytes[place as usize]
     } else {
         0
     }
 }
 
-// The least number that a transaction of a log may have: 0 where it does not say one.
-fn least(front: &Front) -> u64
-    ensures { result ≡ said_least front.now }
+/// The first gate is open.
+pub(crate) fn is_open(front: &Front) -> bool
+    ensures { (result ≡ true) ↔ (gate_byte (shown front.now) ≡ 1) }
 {
-    if is_second(front) {
-        number(front, 32)
-    } else {
-        0
+    byte(front, first_gate(front)) == 1
+}
+
+/// A record of this kind changes a page.
+pub(crate) fn changes_page(kind: u8) -> bool
+    ensures { result ≡ kind_changes (kind_at kind) }
+{
+    match Kind::from_number(kind) {
+        Some(
+            Kind::InsertKey
+            | Kind::DeleteKey
+            | Kind::UndoInsert
+            | Kind::UndoDelete
+            | Kind::Smo
+            | Kind::UndoSmo,
+        ) => true,
+        _ => false,
     }
 }
 
-// The first gate, at this place, is open, and the record after it changes a page, as those of the kinds 1 to 6 do.
-fn has_change_at(front: &Front, gate: usize) -> bool
-    requires within { gate < 56 }
-    ensures { (result ≡ true) ↔ HasChangeAt gate front.now }
+// The record after the first gate is of a kind that changes a page.
+fn has_change_first(front: &Front) -> bool
+    ensures { result ≡ kind_changes (kind_at (slice_index (shown front.now) (first_gate (shown front.now) + 9))) }
 {
-    front.bytes[gate] == 1 && front.bytes[gate + 9] >= 1 && front.bytes[gate + 9] <= 6
+    changes_page(byte(front, first_gate(front) + 9))
 }
 
-// After the name of either format, a record comes first that changes a page.
-fn names_change(front: &Front) -> bool
-    ensures { (result ≡ true) ↔ NamesChange front.now }
+// It is a log of either format.
+fn is_whole(front: &Front) -> bool
+    ensures { (result ≡ true) ↔ IsMade (shown front.now) }
 {
-    (front.bytes[1..9] == FIRST_NAME[..] && has_change_at(front, 31))
-        || (front.bytes[1..9] == SECOND_NAME[..8] && has_change_at(front, 47))
+    is_whole_log(shown(front))
 }
 
-/// The log, of either format, was made, and begins with a record that changes a page.
+/// The log, of either format, begins with a record that changes a page.
 pub(crate) fn begins_with_change(front: &Front) -> bool
     ensures { (result ≡ true) ↔ BeginsWithChange front.now }
 {
-    is_made(front) && names_change(front)
+    if !is_whole(front) {
+        return false;
+    }
+    if !is_open(front) {
+        return false;
+    }
+    has_change_first(front)
 }
 
-// The front has what a header of the second format has around its numbers.
-fn has_second_name(front: &Front) -> bool
-    ensures { (result ≡ true) ↔ (take 15 (drop 1 front.now.bytes) ≡ second_name) × (take 7 (drop 40 front.now.bytes) ≡ replicate 7 0) }
+// The same beginning with the first byte of a log that was made.
+fn mended(front: &Front) -> Front
+    ensures { result ≡ mended front.now }
 {
-    front.bytes[1..16] == SECOND_NAME[..] && front.bytes[40..47] == [0; 7][..]
+    let mut made = *front;
+    made.bytes[0] = 1;
+    made
 }
 
-// The generation and the base that the header says are greater than the other log's.
-fn is_later(front: &Front, other: &Front) -> bool
-    ensures { (result ≡ true) ↔ (said_generation other.now < said_number 16 front.now) × (said_base other.now < said_number 24 front.now) }
+// It has a header of the second format, whatever its first byte is.
+fn is_named(front: &Front) -> bool
+    ensures { (result ≡ true) ↔ (47 < length (shown front.now)) × IsSecond (take 46 (drop 1 (shown front.now))) }
 {
-    generation(other) < number(front, 16) && base(other) < number(front, 24)
+    has_second_header(shown(front))
+}
+
+// With its first byte it is of a later generation than the other log, and of a greater base.
+fn is_later(made: &Front, other: &Front) -> bool
+    ensures { (result ≡ true) ↔ (generation_of (shown other.now) < generation_of (shown made.now)) × (base_of (shown other.now) < base_of (shown made.now)) }
+{
+    generation(other) < generation(made) && base(other) < base(made)
+}
+
+// The number of the transaction that the first record of the second format is of.
+fn transaction(front: &Front) -> u64
+    ensures { result ≡ first_transaction front.now }
+{
+    let mut number = [0; 8];
+    number.copy_from_slice(&front.bytes[57..65]);
+    u64::from_be_bytes(number)
 }
 
 // The first record is of a transaction that the header allows, and the header allows none that is older than the other log.
 fn has_own_record(front: &Front, other: &Front) -> bool
     ensures { (result ≡ true) ↔ HasOwnRecord front.now other.now }
 {
-    let allowed = number(front, 32);
-    let txn = number(front, 57);
-    txn > 0 && allowed <= txn && least(other) <= allowed
-}
-
-// The first gate is open, and the record after it is the log's own.
-fn has_open_gate(front: &Front, other: &Front) -> bool
-    ensures { (result ≡ true) ↔ (slice_index front.now.bytes 47 ≡ 1) × HasOwnRecord front.now other.now }
-{
-    front.bytes[47] == 1 && has_own_record(front, other)
+    let allowed = start(&mended(front)).header.next;
+    allowed <= transaction(front) && start(other).header.next <= allowed
 }
 
 /// The log may have been made, and be the newer one, though its first byte does not say so: it has a whole header of a later generation than the other log and of a
@@ -133,11 +181,12 @@ pub fn may_lack_first_byte(front: &Front, other: &Front) -> bool
     if is_made(front) {
         return false;
     }
-    if !has_second_name(front) {
+    if !is_named(front) {
         return false;
     }
-    if !is_later(front, other) {
+    let made = mended(front);
+    if !is_later(&made, other) {
         return false;
     }
-    has_open_gate(front, other)
+    is_open(&made) && has_own_record(front, other)
 }

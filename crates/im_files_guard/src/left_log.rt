@@ -1,12 +1,14 @@
 //! What the log that was left says of the pages, as far as the current one has no copies of them.
 ghost use Rattle.std.specs.Prelude.{◌≡◌, ◌≤◌, ◌↔◌, true, false, drop, length, take};
 ghost use Rattle.std.specs.Int.{w32, from_be_bytes};
-ghost use Rattle.im_files_guard.specs.LeftLog.{copied_step, current_log_of, found_step, gate_step, guard_gate, leaves_batch, left_log_of, noted_step, record_step, says_nothing, step_of, walk, IsOlder};
+ghost use Rattle.im_log_record.specs.Kind.{kind_at};
+ghost use Rattle.im_files_guard.specs.LeftLog.{copied_step, current_log_of, found_step, gate_step, kind_copies, leaves_batch, left_log_of, noted_step, record_step, says_nothing, step_of, walk, IsOlder};
 
 use crate::folder::{Folder, Front};
-use crate::fronts::{base, is_made, is_second};
+use crate::fronts::{base, changes_page, first_gate, is_made};
 use crate::pages::{current_of, has_current_other, left_of};
 use im_base_types::LONGEST_BATCH;
+use im_log_record::Kind;
 
 /// What stands in front of a batch's records: its gate and its length.
 pub(crate) const AHEAD: u64 = 5;
@@ -37,13 +39,6 @@ pub struct LeftLog {
     pub is_log2: bool,
     /// It is the current one.
     pub is_current: bool,
-}
-
-// The place of the first gate of a log that was made.
-fn first_gate(front: &Front) -> u64
-    ensures { result ≡ guard_gate front.now }
-{
-    if is_second(front) { 47 } else { 31 }
 }
 
 // The number in the first four bytes.
@@ -128,14 +123,24 @@ fn leaves(left: &LeftLog, size: u64) -> bool
     size < HEAD || left.place.saturating_add(size) > left.end
 }
 
+// A record of this kind has a full copy of its page.
+fn has_copy(kind: u8) -> bool
+    ensures { result ≡ kind_copies (kind_at kind) }
+{
+    match Kind::from_number(kind) {
+        Some(Kind::Smo | Kind::UndoSmo | Kind::Image) => true,
+        _ => false,
+    }
+}
+
 // A record of this kind says nothing: in the log that was left it changes no page, in the current one it has no full copy.
 fn is_passed(is_current: bool, kind: u8) -> bool
     ensures { result ≡ says_nothing is_current kind }
 {
     if is_current {
-        !(kind == 5 || kind == 6 || kind == 10)
+        !has_copy(kind)
     } else {
-        kind == 0 || kind > 6
+        !changes_page(kind)
     }
 }
 

@@ -4,13 +4,10 @@ ghost use Rattle.std.specs.Int.{w32, from_be_bytes};
 ghost use Rattle.im_files_guard.specs.LogCuts.{end_at, end_of, first_end, gone_of, has_batch_at, is_empty, kept_at, kept_of, log_cuts_of, size_at, was_left, CutsAreSound};
 
 use crate::folder::{Folder, Front};
-use crate::fronts::{generation, is_made, is_second};
+use crate::fronts::{first_gate, generation, is_made, is_open, is_second};
 use crate::left_log::{AHEAD, HEAD};
 use crate::pages::{current_of, has_current_other, left_of};
 use im_base_types::LONGEST_BATCH;
-
-// How long a log of the second format is that has no record: its header, and the closed gate after it.
-const EMPTY: u64 = 48;
 
 /// How much of the logs of a closed store stays, and how much may go. An opening reads no byte of the log that was left but its header, and then, to tell an older file of pages, one
 /// record after another from the first: what stays tells a file of pages from before that log, and one from that log's own time no more. Of the current log it reads nothing after the
@@ -82,10 +79,8 @@ fn end_if_there(front: &Front, gate: usize) -> u64
 fn end_of_first(front: &Front) -> u64
     ensures { result ≡ first_end front.now }
 {
-    if is_second(front) {
-        end_if_there(front, 47)
-    } else if is_made(front) {
-        end_if_there(front, 31)
+    if is_made(front) {
+        end_if_there(front, first_gate(front) as usize)
     } else {
         0
     }
@@ -116,7 +111,7 @@ fn kept_bytes(folder: &Folder) -> u64
 fn has_no_record(front: &Front) -> bool
     ensures { result ≡ is_empty front.now }
 {
-    is_second(front) && front.bytes[47] != 1
+    is_second(front) && !is_open(front)
 }
 
 // How much of the current log stays; 0 where nothing of it may go.
@@ -125,7 +120,7 @@ fn end_bytes(folder: &Folder) -> u64
 {
     let current = current_of(folder);
     if was_left_for(folder) && has_no_record(&current) {
-        EMPTY
+        first_gate(&current) + 1
     } else {
         0
     }

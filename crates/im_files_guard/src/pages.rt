@@ -1,10 +1,12 @@
 //! Whether the file of pages lacks pages.
-ghost use Rattle.std.specs.Prelude.{◌≡◌, ◌↔◌, ◌<◌, ◌/◌, true, drop, take};
+ghost use Rattle.std.specs.Prelude.{◌≡◌, ◌≢◌, ◌↔◌, ◌<◌, ◌/◌, true, drop, take};
 ghost use Rattle.std.specs.Int.{w32, w64, from_be_bytes};
+ghost use Rattle.im_log_header.specs.Header.{base_of};
+ghost use Rattle.im_files_guard.specs.Fronts.{gate_byte, shown};
 ghost use Rattle.im_files_guard.specs.Belonging.{current, left, other_is_current, IsCutShort, LacksCounted, LacksFirst};
 
 use crate::folder::{Folder, Front, PagesFront};
-use crate::fronts::{base, begins_with_change, generation};
+use crate::fronts::{base, begins_with_change, generation, is_open};
 use im_base_types::PAGE_SIZE;
 
 /// `log2` is the current log: it is of a greater generation.
@@ -69,6 +71,16 @@ fn lacks_counted(base: u64, pages: &PagesFront) -> bool
     lsn(pages) < base && count > 3 && pages_of(pages) + 1 < count
 }
 
+// It lacks what page 0 counts, and the current log has no record.
+fn lacks_beside_none(current: &Front, pages: &PagesFront) -> bool
+    ensures { (result ≡ true) ↔ (gate_byte (shown current.now) ≢ 1) × LacksCounted (base_of (shown current.now)) pages.now }
+{
+    if is_open(current) {
+        return false;
+    }
+    lacks_counted(base(current), pages)
+}
+
 // It lacks one of the first two pages, and the log that was left begins with a record that changes a page.
 fn lacks_first(base: u64, left: &Front, pages: &PagesFront) -> bool
     ensures { (result ≡ true) ↔ LacksFirst base left.now pages.now }
@@ -86,7 +98,5 @@ pub(crate) fn is_cut(folder: &Folder) -> bool
 {
     let current = current_of(folder);
     let left = left_of(folder);
-    let base = base(&current);
-    (current.bytes[47] != 1 && lacks_counted(base, &folder.pages))
-        || lacks_first(base, &left, &folder.pages)
+    lacks_beside_none(&current, &folder.pages) || lacks_first(base(&current), &left, &folder.pages)
 }

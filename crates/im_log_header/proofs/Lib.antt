@@ -1,4 +1,5 @@
 pub mod Saying
 pub mod Fronts
+pub mod Beginnings
 pub mod Stops
 pub mod Runs

@@ -20,7 +20,7 @@
 //! least number 1. Byte 0 is asked first: a file of at most one byte, or whose byte 0 is not 1, is not made and says nothing, whatever header an
 //! earlier log has left after that byte.
 //!
-//! `read_header` reads what a log says; it refuses a made file of neither format. `make_log` makes an empty log of the second format
+//! `read_header` reads what a log says; it refuses a made file of neither format. `start_of` and its kin say the same of bytes that are at hand: a file's beginning, as far as it was read. `make_log` makes an empty log of the second format
 //! of any file, also of one that has a log: byte 0 is closed, the header and a closed first gate are written after it, and byte 0 is
 //! opened, each on the disk before the next. A stop within leaves the file as it was, or not made, or the whole new log.
 //!
@@ -28,12 +28,14 @@
 //! what they say, is the law `headers_say`.
 #![tactic(auto)]
 
+mod beginning;
 mod file_header;
 mod header;
 pub mod headers_say;
 mod making;
 mod spelling;
 
+pub use beginning::{has_second_header, is_made_log, is_second_log, is_whole_log, start_of};
 pub use file_header::read_header;
 pub use header::{Header, LogStart};
 pub use making::make_log;

@@ -28,7 +28,7 @@ fn put_number(bytes: &mut [u8], at: usize, value: u64)
 }
 
 // The number of 8 bytes at this place.
-fn number(bytes: &[u8], at: usize) -> u64
+pub(crate) fn number(bytes: &[u8], at: usize) -> u64
     requires room { at + 8 ≤ length bytes.now }
     ensures { result ≡ from_be_bytes w64 (take 8 (drop at bytes.now)) }
 {
@@ -62,7 +62,7 @@ fn is_ranged(generation: u64, base: u64) -> bool
 }
 
 // The least number that a header with this number allows.
-fn from_one(next: u64) -> u64
+pub(crate) fn from_one(next: u64) -> u64
     ensures { result ≡ max 1 next }
 {
     if next == 0 { 1 } else { next }
