@@ -17,7 +17,7 @@ newest_front [] e = refl
 newest_front (x ∷ xs) e = newest_front xs (change_of x ∷ e) ∙ sym (append_assoc (newest_first xs []) (change_of x ∷ []) e) ∙ ap (λ (l : Effect). l ++ e) (sym (newest_front xs (change_of x ∷ [])))
 
 length-newest : (xs : List Change) (e : Effect) → length (newest_first xs e) ≡ length xs + length e
-length-newest [] e = refl
+length-newest [] e = omega arith
 length-newest (x ∷ xs) e = let rest : length (newest_first xs (change_of x ∷ e)) ≡ length xs + length (change_of x ∷ e) = length-newest xs (change_of x ∷ e) in omega arith
 
 -- all of no more
