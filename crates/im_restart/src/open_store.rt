@@ -49,11 +49,11 @@ const LEAST_ROOM: u64 = 65_536;
 const MOST_ROOM: u64 = 16_777_216;
 
 // How much of the log from an LSN to its end redo reads at once: the least where it has no change to make.
-fn room_size(changes: &[Change], from: Lsn, end: Lsn) -> usize
+fn room_size(is_done: bool, from: Lsn, end: Lsn) -> usize
     ensures least { 65536 ≤ result }
     ensures most { result ≤ 16777216 }
 {
-    if changes.is_empty() || end <= from || end - from <= LEAST_ROOM {
+    if is_done || end <= from || end - from <= LEAST_ROOM {
         return LEAST_ROOM as usize;
     }
     (end - from).min(MOST_ROOM) as usize
@@ -178,7 +178,7 @@ fn restart<D: Disk, H: Redoes>(
     } = found;
     let mut analysed = analysed;
     let point = analysed.redo_point;
-    let size = room_size(&changes, point, log.durable_end());
+    let size = room_size(changes.is_empty(), point, log.durable_end());
     let mut writer = PageWriter::new(alloc, log, frames)?;
     writer.expect(synced_of(last));
     let mut room = make_room(alloc, size)?;
