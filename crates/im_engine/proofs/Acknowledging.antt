@@ -2,7 +2,7 @@
 use Rattle.std.proofs.Common.{◌≡◌, ◌⊎◌, inl, inr, ⊎_elim, ℕ, Bool, true, false, true≢false, List, [], ◌∷◌, ◌++◌, Contains, None, refl, sym, ◌∙◌, ap, subst, arith}
 use Rattle.std.specs.Prelude.{if◌then◌else◌, ◌||◌, ◌==◌}
 use Rattle.std.proofs.lemmas.List.Elements.{Contains-append_left, Contains-append_right, Contains-append_cases, Contains-push_cases}
-use Rattle.im_base_types.specs.Answers.{Insert, Delete, Step, Begin, Do, Commit, Rollback, Continue, FlushPage, Force, Checkpoint, Switch, Reply, Started, Inserted, Deleted, Committed, RolledBack, More, Die, Done, Refused}
+use Rattle.im_base_types.specs.Answers.{Insert, Delete, Step, Begin, Do, Commit, Rollback, Continue, RollTo, FlushPage, Force, Checkpoint, Switch, Reply, Started, Inserted, Deleted, Committed, RolledBack, More, Die, Done, Refused}
 use Rattle.im_base_types.specs.Lives.{Asked, Shown, NoneAcked, all_acked, answered, asks, breaks, cut_off, effect_asked, refused, shows}
 use Rattle.im_base_types.specs.Refusals.{memory, unfinished}
 
@@ -73,6 +73,8 @@ answered_stays (Do t (Delete k)) Deleted s = all_stay s.asked
 answered_stays (Do t a) Die s = all_stay s.asked
 answered_stays (Rollback t) RolledBack s = all_stay s.asked
 answered_stays (Rollback t) More s = all_stay s.asked
+answered_stays (RollTo t n) Done s = all_stay s.asked
+answered_stays (RollTo t n) More s = all_stay s.asked
 answered_stays (Continue t) RolledBack s = all_stay s.asked
 answered_stays step reply s = all_stay s.asked
 

@@ -9,7 +9,7 @@ use Rattle.im_base_types.specs.declared.fault.Fault.TheVariants.{Failed, Unfinis
 use Rattle.im_theory_machine.specs.Locks.{Lock}
 use Rattle.im_theory_machine.specs.View.{View, broken}
 use Rattle.im_theory_store.specs.Store as front
-use Rattle.im_theory_machine.specs.Machine.{barred, Answers, Goes, Moves, begins, does, waits, dies, commits, queues, drops, turns, undoes, ends, puts_later, puts, drops_first, drops_leaf, takes_later, takes_first, takes_leaf, takes_last, logs_page, tree_blocks, tree_halts, flushes, forces, checkpoints, switches, lacks, breaks}
+use Rattle.im_theory_machine.specs.Machine.{barred, Answers, Goes, Moves, begins, does, waits, dies, commits, queues, drops, turns, undoes, ends, puts_later, puts, drops_first, drops_leaf, takes_later, takes_first, takes_leaf, takes_last, stays_back, turns_back, gives_back, is_back, leaf_is_back, logs_page, tree_blocks, tree_halts, flushes, forces, checkpoints, switches, lacks, breaks}
 use Rattle.im_base_steps.specs.declared.step.Step as steps
 use Rattle.im_base_types.specs.declared.fault.Fault.{Fault}
 use Rattle.im_base_types.specs.declared.fault.Fault.TheVariants as faults
@@ -48,6 +48,11 @@ refused_goes v w step n (takes_later u c cs b is none net_is d e) = cc d
 refused_goes v w step n (takes_first u c cs b is none net_is d e) = cc d
 refused_goes v w step n (takes_leaf u c cs b is under net_is d e) = cc d
 refused_goes v w step n (takes_last u b is under empty d e) = cc d
+refused_goes v w step n (stays_back u m b may few d e) = cc d
+refused_goes v w step n (turns_back u m b may more d e) = cc d
+refused_goes v w step n (gives_back u m c cs b at net_is more d e) = cc d
+refused_goes v w step n (is_back u m c cs b at net_is same d e) = cc d
+refused_goes v w step n (leaf_is_back u m b at under same d e) = cc d
 refused_goes v w step n (logs_page u x b under owner d e) = cc d
 refused_goes v w step n (tree_blocks u a x b under other d e) = cc d
 refused_goes v w step n (tree_halts u x b under other d e) = cc d

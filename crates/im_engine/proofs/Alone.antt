@@ -1,18 +1,18 @@
 -- An access that is answered has the answer of one user alone.
-use Rattle.std.proofs.Common.{◌≡◌, ℕ, map, Bool, true, false, cond, is_some, List, [], ◌∷◌, ◌++◌, append_assoc, append-nil, refl, ap, sym, subst, ◌∙◌, inl, inr, eq-eqb}
+use Rattle.std.proofs.Common.{◌≡◌, ℕ, map, Bool, true, false, cond, is_some, List, [], ◌∷◌, ◌++◌, append-nil, refl, ap, sym, subst, ◌∙◌, inl, inr, eq-eqb}
 use Rattle.std.specs.Prelude.{◌&&◌, ◌==◌, if◌then◌else◌, Option, None, Some}
 use Rattle.std.specs.FinMap.{empty, get}
 use Rattle.im_base_types.specs.Maps.{IndexMap}
 use Rattle.im_base_types.specs.Changes.{Effect, Put, Drop, apply, apply_all, seen_effect}
 use Rattle.im_base_types.proofs.Changes.{apply_all_append, apply_seen}
-use Rattle.im_base_types.specs.Answers.{Access, Step, Begin, Do, Commit, Rollback, Continue, FlushPage, Force, Checkpoint, Switch, Reply, Refused, Done, Going, Committing, RolledBack, Inserted, Duplicate, Deleted, Absent, answer, is_answer, changes, dropped, map_after, map_after_all, replay, Insert, Delete, More, BlockedTree}
+use Rattle.im_base_types.specs.Answers.{Access, Step, Begin, Do, Commit, Rollback, Continue, RollTo, FlushPage, Force, Checkpoint, Switch, Reply, Refused, Done, Going, Committing, RolledBack, Inserted, Duplicate, Deleted, Absent, answer, is_answer, changes, dropped, map_after, map_after_all, replay, Insert, Delete, More, BlockedTree}
 use Rattle.im_base_types.specs.Lives.{Asked, Shown, effects, shows}
 use Rattle.im_theory_machine.specs.Locks.{Lock}
 use Rattle.im_base_types.specs.Refusals.{failed as has_failed}
 use Rattle.im_theory_machine.specs.View.{View, Aim, Under, Puts, Drops, pending_for, pending_of, Txn, change_made, did, did_txn, forced_by, is_among, nets_of, relocked}
-use Rattle.im_theory_machine.specs.Machine.{Moves, Answers, Goes, begins, does, waits, dies, commits, queues, drops, turns, undoes, ends, puts_later, puts, drops_first, drops_leaf, takes_later, takes_first, takes_leaf, takes_last, logs_page, tree_blocks, tree_halts, flushes, forces, checkpoints, switches, lacks, breaks, barred, fault_if, Run, start}
-use Rattle.im_theory_machine.specs.Isolation.{access_of, pending_after, finished_from, finished, IsReplay}
-use Rattle.im_theory_machine.proofs.Cited.{Run-push, going_replay, after_story, Moves-upheld, Upheld, clear_do, going_told, nothing_told, run_upheld, tell, tells, IsUnder, ahead, Told, cases_test, idle_others, queue_marks}
+use Rattle.im_theory_machine.specs.Machine.{Moves, Answers, Goes, begins, does, waits, dies, commits, queues, drops, turns, undoes, ends, puts_later, puts, drops_first, drops_leaf, takes_later, takes_first, takes_leaf, takes_last, stays_back, turns_back, gives_back, is_back, leaf_is_back, logs_page, tree_blocks, tree_halts, flushes, forces, checkpoints, switches, lacks, breaks, barred, fault_if, Run, start}
+use Rattle.im_theory_machine.specs.Isolation.{access_of, kept_after, pending_after, finished, IsReplay}
+use Rattle.im_theory_machine.proofs.Cited.{Run-push, finished_none, finished_one, going_replay, after_story, Moves-upheld, Upheld, clear_do, going_told, nothing_told, run_upheld, tell, tells, IsUnder, ahead, Told, cases_test, idle_others, queue_marks}
 use Rattle.im_theory_steps.specs.Seen.{drop_by, drop_of}
 use Rattle.im_base_types.specs.Keys.{Key}
 use Rattle.im_theory_steps.proofs.Cited.{effect_shown, nets_else, no_effects, step_shows, effects_acked, moves_by}
@@ -66,6 +66,11 @@ goes_granted v w t a reply is (takes_later u c cs b at none net_is d e) = absurd
 goes_granted v w t a reply is (takes_first u c cs b at none net_is d e) = absurd (cc b)
 goes_granted v w t a reply is (takes_leaf u c cs b at under net_is d e) = absurd (cc b)
 goes_granted v w t a reply is (takes_last u b at under empty d e) = absurd (cc b)
+goes_granted v w t a reply is (stays_back u n b may few d e) = absurd (cc b)
+goes_granted v w t a reply is (turns_back u n b may more d e) = absurd (cc b)
+goes_granted v w t a reply is (gives_back u n c cs b at net_is more d e) = absurd (cc b)
+goes_granted v w t a reply is (is_back u n c cs b at net_is same d e) = absurd (cc b)
+goes_granted v w t a reply is (leaf_is_back u n b at under same d e) = absurd (cc b)
 goes_granted v w t a reply is (logs_page u x b under owner d e) = absurd (cc b)
 goes_granted v w t a reply is (tree_blocks u c x b under other d e) = no_answer reply _ d refl is
 goes_granted v w t a reply is (tree_halts u x b under other d e) = absurd (cc b)
@@ -85,14 +90,8 @@ passes : (v w : View) (step : Step) (reply : Reply) → is_answer reply ≡ true
 passes v w step reply is None go = refl
 passes v w step reply is (Some n) go = no_answer reply (Refused n) go.0 refl is
 
--- a step that finishes this, whatever goes on
-finished_push : (t : ℕ) (o : Option Access) (xs : List (Step × Reply)) (e : Step × Reply) (more : List (Access × Reply)) → ((p : Option Access) → access_of t p e.0 e.1 ≡ more) → finished_from t o (xs ++ e ∷ []) ≡ finished_from t o xs ++ more
-finished_push t o [] e more is = append-nil (access_of t o e.0 e.1) ∙ is o
-finished_push t o (x ∷ xs) e more is =
-    ap (λ (l : List (Access × Reply)). access_of t o x.0 x.1 ++ l) (finished_push t (pending_after t o x.0 x.1) xs e more is) ∙ sym (append_assoc (access_of t o x.0 x.1) (finished_from t (pending_after t o x.0 x.1) xs) more)
-
-here_of : (t : ℕ) (a : Access) (reply : Reply) → is_answer reply ≡ true → (p : Option Access) → access_of t p (Do t a) reply ≡ (a, reply) ∷ []
-here_of t a reply is p = ap (λ (b : Bool). cond (b && t == t) ((a, reply) ∷ []) []) is ∙ ap (λ (b : Bool). cond b ((a, reply) ∷ []) []) (same_number t)
+here_of : (t : ℕ) (a : Access) (reply : Reply) → is_answer reply ≡ true → (p : Option Access) (gs : List (Access × Reply)) → access_of t p (Do t a) reply ++ kept_after t (Do t a) reply gs ≡ (a, reply) ∷ gs
+here_of t a reply is p gs = ap (λ (b : Bool). cond (b && t == t) ((a, reply) ∷ []) [] ++ gs) is ∙ ap (λ (b : Bool). cond b ((a, reply) ∷ []) [] ++ gs) (same_number t)
 
 -- the last reply of a replay
 last_reply : (m : IndexMap) (fs : List (Access × Reply)) (a : Access) (reply : Reply) → replay m (map (λ f. f.0) (fs ++ (a, reply) ∷ [])) ≡ map (λ f. f.1) (fs ++ (a, reply) ∷ []) → reply ≡ answer a (map_after_all m (map (λ f. f.0) fs))
@@ -110,7 +109,7 @@ force_moves : (x : View) → x.failed ≡ false → Moves x Force Done (forced_b
 force_moves x works = moves_by x (forced_by x) Force Done (ap (λ (b : Bool). fault_if b has_failed) works) (forces refl refl refl)
 
 nothing_more : (t : ℕ) (xs : List (Step × Reply)) → finished t (xs ++ (Force, Done) ∷ []) ≡ finished t xs
-nothing_more t xs = finished_push t None xs (Force, Done) [] (λ p. refl) ∙ append-nil (finished t xs)
+nothing_more t xs = finished_none t xs (Force, Done) (λ p gs. refl)
 
 -- where nothing waits all that was asked was acknowledged
 all_of : (l : List Asked) → IsCleanBut [] l → AllAcked l
@@ -228,6 +227,11 @@ module _ (v w : View) (t : ℕ) (a : Access) (reply : Reply) (is : is_answer rep
     ended_by (takes_first u c cs b at none net_is d e) = no_answer reply More d refl is
     ended_by (takes_leaf u c cs b at under net_is d e) = no_answer reply More d refl is
     ended_by (takes_last u b at under empty d e) = no_answer reply RolledBack d refl is
+    ended_by (stays_back u n b may few d e) = absurd (cc b)
+    ended_by (turns_back u n b may more d e) = absurd (cc b)
+    ended_by (gives_back u n c cs b at net_is more d e) = no_answer reply More d refl is
+    ended_by (is_back u n c cs b at net_is same d e) = no_answer reply Done d refl is
+    ended_by (leaf_is_back u n b at under same d e) = no_answer reply Done d refl is
     ended_by (logs_page u x b under owner d e) = no_answer reply More d refl is
     ended_by (tree_blocks u c x b under other d e) = absurd (cc b)
     ended_by (tree_halts u x b under other d e) = no_answer reply BlockedTree d refl is
@@ -255,7 +259,7 @@ module _ (before : List Effect) (s : Shown) (v w : View) (lived : IsLived (apply
       let forced_run = Run-push (start base r.first) w (forced_by w) longer Force Done run (force_moves w (granted.works ∙ works)) in
       let on : ((forced_by w).txns t).mark ≡ Going = ap (λ (x : Txn). x.mark) (idle_others w.txns w.queue t apart_on) ∙ granted.on in
       let replayed = going_replay base r.first (longer ++ (Force, Done) ∷ []) (forced_by w) forced_run t (inl on) in
-      let pushed = nothing_more t longer ∙ finished_push t None r.trace (Do t a, reply) ((a, reply) ∷ []) (here_of t a reply is) in
+      let pushed = nothing_more t longer ∙ finished_one t r.trace (Do t a, reply) (a, reply) (here_of t a reply is) in
       let same : (forced_by w).committed ≡ (forced_by v).committed =
       ap (λ (q : List ℕ). apply_all w.committed (nets_of w.txns q)) granted.queue ∙ ap (apply_all w.committed) (granted.nets apart) ∙ ap (λ (m : IndexMap). apply_all m (nets_of v.txns v.queue)) granted.still in
       let here = subst (λ (m : IndexMap). IsReplay m (finished t r.trace ++ (a, reply) ∷ [])) same (subst (λ (l : List (Access × Reply)). IsReplay (forced_by w).committed l) pushed replayed) in
@@ -327,6 +331,7 @@ module _ (before : List Effect) (s : Shown) (v w : View) (lived : IsLived (apply
   answers_alone (Commit t) reply moves = tt
   answers_alone (Rollback t) reply moves = tt
   answers_alone (Continue t) reply moves = λ a shown is. on_end t a reply moves is shown
+  answers_alone (RollTo t n) reply moves = tt
   answers_alone (FlushPage p) reply moves = tt
   answers_alone Force reply moves = tt
   answers_alone Checkpoint reply moves = tt

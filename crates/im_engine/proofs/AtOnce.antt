@@ -16,7 +16,7 @@ use Rattle.im_base_disk.specs.Disk.{Files}
 use Rattle.im_base_steps.specs.declared.reply.Blocker.TheVariants as blockers
 use Rattle.im_base_steps.specs.declared.reply.Reply.{Reply}
 use Rattle.im_base_steps.specs.declared.reply.Reply.TheVariants as replies
-use Rattle.im_base_txn.specs.Rows.{is_of, changed, with_mark, with_record}
+use Rattle.im_base_txn.specs.Rows.{is_of, changed, with_mark}
 use Rattle.im_base_txn.specs.declared.transaction.Mark.TheVariants.{MustRollBack}
 use Rattle.im_base_txn.specs.declared.transaction.Transaction.{Transaction}
 use Rattle.im_theory_log.specs.Histories.{Base}
@@ -39,6 +39,8 @@ use Rattle.im_engine.specs.Faults.{told_as, ends_engine}
 use Rattle.im_engine.specs.Numbered.{Numbered, besides_rows}
 use Rattle.im_engine.specs.Running.{IsRunning}
 use Rattle.im_engine.specs.Told.{DeleteCause, IsAnswered, IsMade, WantsHere, fixed_of}
+use Rattle.im_theory_steps.specs.Steps.{with_made}
+use Rattle.im_engine.proofs.Numbers.{with_taken}
 use Rattle.im_engine.proofs.Answered.{dies_plain, exit_made, granted_at, noted_rows, other_at, refused_made, rest_fixed, rest_here, same_rows, waits_plain}
 use Rattle.im_engine.proofs.Causes.{behind, delete_cause, insert_cause, not_refused_for, refused_for}
 use Rattle.im_engine.proofs.Deleting as deleting
@@ -83,9 +85,9 @@ module _ {D : Type 0} (d : Ghosts D) (t : ℕ) (key : Key) (rid : ℕ) (old : En
     put_wants : (o : LockAnswer (Option Noted)) → Put (Ok o) → (reply : Reply) → reply ≢ replies.Inserted → reply ≢ replies.More → ((x : Fault) → reply ≢ replies.Refused x) → (b : Base) (before : List Effect) (s : Shown) (v : View) (r : IsRunning d b before s v old) → WantsHere d b before s v r (Do t (Insert key rid)) reply new
     put_wants o has reply no_insert no_more not b before s v r = inserting.other_wants d old new.locks new.writer new.disk t key rid row found checked (plain_under d old plain) plain before s v r o has.kept reply no_insert no_more not
 
-    put_made : (x : Option Noted) → Put (Ok (Granted x)) → new.failed ≡ false → (noted : Noted) → x ≡ Some noted → new.txns ≡ record old.txns { rows = map (changed t (with_record noted.last noted.undo_next)) old.txns.rows } → IsMade d (Do t (Insert key rid)) replies.Inserted old new
+    put_made : (x : Option Noted) → Put (Ok (Granted x)) → new.failed ≡ false → (noted : Noted) → x ≡ Some noted → new.txns ≡ record old.txns { rows = map (changed t (with_made noted.last)) old.txns.rows } → IsMade d (Do t (Insert key rid)) replies.Inserted old new
     put_made x has on noted some table =
-        exit_made d t (Insert key rid) old new works put_fixed replies.Inserted (record { stays = λ k. refl; late = refl; answered = refl; number = tt; suits = refl; at_once = λ _. refl; grouped = tt }) (ap besides_rows table) (ap (λ (z : Numbered). length z.rows) table ∙ length-map old.txns.rows (changed t (with_record noted.last noted.undo_next))) on has.outcome.ends.alive has.outcome.frames
+        exit_made d t (Insert key rid) old new works put_fixed replies.Inserted (record { stays = λ k. refl; late = refl; answered = refl; number = tt; suits = refl; at_once = λ _. refl; grouped = tt }) (ap besides_rows table) (ap (λ (z : Numbered). length z.rows) table ∙ length-map old.txns.rows (changed t (with_made noted.last))) on has.outcome.ends.alive has.outcome.frames
         (λ before s v life. inserting.insert_made d old new t key rid row found checked (plain_under d old plain) plain put_same before s v (life.running works).1 (Granted x) has.kept x refl noted some table on)
         (put_answered replies.Inserted (λ y e. cc e)) (paced_alone d (Do t (Insert key rid)) replies.Inserted old new put_same (λ e. (let clash : answers.Inserted ≡ answers.BlockedTree = e in cc clash)) plain) (λ b before s v r. inserting.made_wants d old new.locks new.writer new.disk t key rid row found checked (plain_under d old plain) plain before s v r (Granted x) has.kept x refl noted some)
 
@@ -120,10 +122,10 @@ module _ {D : Type 0} (d : Ghosts D) (t : ℕ) (key : Key) (rid : ℕ) (old : En
       put_here = of_seen Put came sight seen (rest_here d new writer disk locks (fixed_of d old) old.room.items rest (InsertsBelow came) has)
 
       -- the key came
-      pub insert_granted : (x : Option Noted) → Ok x ≡ answer_in sight → (noted : Noted) → x ≡ Some noted → (mid : Numbered) → mid ≡ record old.txns { rows = rows_in t sight old.txns.rows } → new.txns ≡ record mid { rows = map (changed t (with_record noted.last noted.undo_next)) mid.rows } → IsMade d (Do t (Insert key rid)) replies.Inserted old new
+      pub insert_granted : (x : Option Noted) → Ok x ≡ answer_in sight → (noted : Noted) → x ≡ Some noted → (mid : Numbered) → mid ≡ record old.txns { rows = rows_in t sight old.txns.rows } → new.txns ≡ record mid { rows = map (changed t (with_made noted.last)) mid.rows } → IsMade d (Do t (Insert key rid)) replies.Inserted old new
       insert_granted x so noted some mid is table =
           let at = granted_at d t (Insert key rid) old new (OfSeen Put) sight put_here fails x so in
-          put_made x at.0 at.1 noted some (noted_rows old.txns mid new.txns (rows_in t sight old.txns.rows) (changed t (with_record noted.last noted.undo_next)) at.2 is table)
+          put_made x at.0 at.1 noted some (noted_rows old.txns mid new.txns (rows_in t sight old.txns.rows) (changed t (with_made noted.last)) at.2 is table)
 
       -- it is there
       pub insert_needless : (x : Option Noted) → Ok x ≡ answer_in sight → x ≡ None → new.txns ≡ record old.txns { rows = rows_in t sight old.txns.rows } → IsMade d (Do t (Insert key rid)) replies.Duplicate old new
@@ -158,9 +160,9 @@ module _ {D : Type 0} (d : Ghosts D) (t : ℕ) (key : Key) (old : Engine D d) (r
     drop_wants : (o : LockAnswer (Option Taken)) → Dropped (Ok o) → (reply : Reply) → reply ≢ replies.More → ((x : Fault) → reply ≢ replies.Refused x) → (b : Base) (before : List Effect) (s : Shown) (v : View) (r : IsRunning d b before s v old) → WantsHere d b before s v r (Do t (Delete key)) reply new
     drop_wants o has reply no_more not b before s v r = deleting.no_wants old.stepped plain _ _ _ _ _ _ _ (not faults.Failed) no_more
 
-    drop_made : (x : Option Taken) → Dropped (Ok (Granted x)) → new.failed ≡ false → (taken : Taken) → x ≡ Some taken → new.txns ≡ record old.txns { rows = map (changed t (with_record taken.last taken.undo_next)) old.txns.rows } → IsMade d (Do t (Delete key)) replies.Deleted old new
+    drop_made : (x : Option Taken) → Dropped (Ok (Granted x)) → new.failed ≡ false → (taken : Taken) → x ≡ Some taken → new.txns ≡ record old.txns { rows = map (changed t (with_taken taken.last taken.undo_next)) old.txns.rows } → IsMade d (Do t (Delete key)) replies.Deleted old new
     drop_made x has on taken some table =
-        exit_made d t (Delete key) old new works drop_fixed replies.Deleted (record { stays = λ k. refl; late = refl; answered = refl; number = tt; suits = refl; at_once = λ _. refl; grouped = tt }) (ap besides_rows table) (ap (λ (z : Numbered). length z.rows) table ∙ length-map old.txns.rows (changed t (with_record taken.last taken.undo_next))) on has.outcome.ends.alive has.outcome.frames
+        exit_made d t (Delete key) old new works drop_fixed replies.Deleted (record { stays = λ k. refl; late = refl; answered = refl; number = tt; suits = refl; at_once = λ _. refl; grouped = tt }) (ap besides_rows table) (ap (λ (z : Numbered). length z.rows) table ∙ length-map old.txns.rows (changed t (with_taken taken.last taken.undo_next))) on has.outcome.ends.alive has.outcome.frames
         (λ before s v life. deleting.delete_made d old t key row found checked (plain_under d old plain) new drop_same before s v (life.running works).1 (Granted x) has.kept x refl taken some table on)
         (drop_answered replies.Deleted (λ y e. cc e)) (paced_alone d (Do t (Delete key)) replies.Deleted old new drop_same (λ e. (let clash : answers.Deleted ≡ answers.BlockedTree = e in cc clash)) plain) (drop_wants (Granted x) has replies.Deleted (λ e. cc e) (λ y e. cc e))
 
@@ -195,10 +197,10 @@ module _ {D : Type 0} (d : Ghosts D) (t : ℕ) (key : Key) (old : Engine D d) (r
       drop_here = of_seen Dropped came sight seen (rest_here d new writer disk locks (fixed_of d old) old.room.items rest (DeletesBelow came) has)
 
       -- the key went
-      pub delete_granted : (x : Option Taken) → Ok x ≡ answer_in sight → (taken : Taken) → x ≡ Some taken → (mid : Numbered) → mid ≡ record old.txns { rows = rows_in t sight old.txns.rows } → new.txns ≡ record mid { rows = map (changed t (with_record taken.last taken.undo_next)) mid.rows } → IsMade d (Do t (Delete key)) replies.Deleted old new
+      pub delete_granted : (x : Option Taken) → Ok x ≡ answer_in sight → (taken : Taken) → x ≡ Some taken → (mid : Numbered) → mid ≡ record old.txns { rows = rows_in t sight old.txns.rows } → new.txns ≡ record mid { rows = map (changed t (with_taken taken.last taken.undo_next)) mid.rows } → IsMade d (Do t (Delete key)) replies.Deleted old new
       delete_granted x so taken some mid is table =
           let at = granted_at d t (Delete key) old new (OfSeen Dropped) sight drop_here fails x so in
-          drop_made x at.0 at.1 taken some (noted_rows old.txns mid new.txns (rows_in t sight old.txns.rows) (changed t (with_record taken.last taken.undo_next)) at.2 is table)
+          drop_made x at.0 at.1 taken some (noted_rows old.txns mid new.txns (rows_in t sight old.txns.rows) (changed t (with_taken taken.last taken.undo_next)) at.2 is table)
 
       -- it is not there
       pub delete_needless : (x : Option Taken) → Ok x ≡ answer_in sight → x ≡ None → new.txns ≡ record old.txns { rows = rows_in t sight old.txns.rows } → IsMade d (Do t (Delete key)) replies.Absent old new

@@ -1,9 +1,9 @@
 -- Steps that a check bars, and steps of an engine that has failed.
-use Rattle.std.proofs.Common.{◌≡◌, inl, inr, ℕ, List, Bool, true, false, Some, None, length, refl, sym, ap, subst, ◌∙◌, is_some}
+use Rattle.std.proofs.Common.{◌≡◌, inl, inr, ℕ, List, [], Bool, true, false, Some, None, length, refl, sym, ap, subst, ◌∙◌, is_some}
 use Rattle.std.specs.Prelude.{◌||◌, ◌==◌, if◌then◌else◌}
 use Rattle.std.specs.FinMap.{empty}
 use Rattle.im_base_types.specs.Answers as answers
-use Rattle.im_base_types.specs.Answers.{Step, Begin, Do, Commit, Rollback, Continue, FlushPage, Force, Checkpoint, Switch, Refused, Mark}
+use Rattle.im_base_types.specs.Answers.{Step, Begin, Do, Commit, Rollback, Continue, RollTo, FlushPage, Force, Checkpoint, Switch, Refused, Mark}
 use Rattle.im_base_types.specs.Changes.{Effect, apply_all}
 use Rattle.im_base_types.specs.Refusals.{memory, unfinished, failed as has_failed}
 use Rattle.im_base_types.specs.Lives.{Asked, Shown, asks, breaks, shows}
@@ -13,10 +13,10 @@ use Rattle.im_base_disk.specs.Runs.{LeavesOnly}
 use Rattle.im_base_disk.proofs.Runs.{started}
 use Rattle.im_page_writer.proofs.Writers.{goes_on_start}
 use Rattle.im_theory_machine.specs.View.{View, pending_of, owns_in}
-use Rattle.im_theory_machine.specs.Machine.{barred, first_check, mark_for}
+use Rattle.im_theory_machine.specs.Machine.{Wants, barred, first_check, mark_for}
 use Rattle.im_theory_steps.specs.Checks.{marks_in}
 use Rattle.im_theory_steps.specs.Durable.{AreCommitted}
-use Rattle.im_theory_steps.proofs.Cited.{going_free, is_shown_so, refusals_ask_nothing, lives_go_on, barred_served}
+use Rattle.im_theory_steps.proofs.Cited.{going_free, images_change_nothing, is_shown_so, lacks_served, refusals_ask_nothing, lives_go_on, barred_served}
 use Rattle.im_engine.specs.declared.engine.Engine.{Engine}
 use Rattle.im_engine.specs.Stands.{Allowed}
 use Rattle.im_engine.specs.Running.{IsLife}
@@ -37,6 +37,7 @@ cut_any d before s (Do t a) old new leaves = leaves
 cut_any d before s (Commit t) old new leaves = cut_leaves d before s t old new leaves
 cut_any d before s (Rollback t) old new leaves = leaves
 cut_any d before s (Continue t) old new leaves = leaves
+cut_any d before s (RollTo t left) old new leaves = leaves
 cut_any d before s (FlushPage p) old new leaves = leaves
 cut_any d before s Force old new leaves = leaves
 cut_any d before s Checkpoint old new leaves = leaves
@@ -49,6 +50,7 @@ failed_asks s (Do t a) is = refl
 failed_asks s (Commit t) is = ap (λ (b : Bool). (if b || has_failed == memory || has_failed == unfinished then s else record (asks t false s) { failed = breaks has_failed }).asked) is
 failed_asks s (Rollback t) is = refl
 failed_asks s (Continue t) is = refl
+failed_asks s (RollTo t left) is = refl
 failed_asks s (FlushPage p) is = refl
 failed_asks s Force is = refl
 failed_asks s Checkpoint is = refl
@@ -60,6 +62,7 @@ first_failed active mark owns (Do t a) = refl
 first_failed active mark owns (Commit t) = refl
 first_failed active mark owns (Rollback t) = refl
 first_failed active mark owns (Continue t) = refl
+first_failed active mark owns (RollTo t left) = refl
 first_failed active mark owns (FlushPage p) = refl
 first_failed active mark owns Force = refl
 first_failed active mark owns Checkpoint = refl
@@ -100,6 +103,20 @@ module _ {D : Type 0} (d : Ghosts D) (before : List Effect) (s : Shown) (v : Vie
         | inl quiet ↦ inl quiet
         | inr still ↦ inr (λ going. still (is_shown_so ((s.running t).mark) ((v.txns t).mark) answers.Going (r.serving.shows.shown.marks t) going (λ x. cc x)))
       ]) in
+      let shown = shows s step (Some (Refused n)) in
+      let running = runs_on d before s v e r shown v e r.now (goes_on_start d b r.base r.now e.writer e.disk only_now r.stands) served.1
+      (subst (λ (l : List Asked). AreCommitted r.earlier before l r.now.durable r.now.log) (sym asks_none) r.commits) r.numbered refl refl in
+      step_made d before s v step (Refused n) e e v served.0 running works (cut_any d before s step e.disk e.disk stops_here) (none_done d before shown v step n e) r (no_images b r.now.log)
+
+  -- one that the machine may refuse so, and that does nothing
+  pub is_lacking : e.failed ≡ false → ((u : ℕ) → step ≡ Commit u → ⊥) → barred v step ≡ None → (n : ℕ) → Wants step n → StepKept d before s v step (Refused n) e e
+  unfolding runs_on
+  is_lacking works other checked n wants =
+      let b = (life.running works).0 in
+      let r = (life.running works).1 in
+      let same = images_change_nothing b r.now.log r.now.log (record { more = []; is = refl; images = tt }) in
+      let served = lacks_served b r.earlier before s v r.now.log r.now.log e.txns.rows e.txns.next e.locks step n r.serving checked wants same.0 same.1 in
+      let asks_none = refusals_ask_nothing n step s (λ t is. absurd (other t is)) in
       let shown = shows s step (Some (Refused n)) in
       let running = runs_on d before s v e r shown v e r.now (goes_on_start d b r.base r.now e.writer e.disk only_now r.stands) served.1
       (subst (λ (l : List Asked). AreCommitted r.earlier before l r.now.durable r.now.log) (sym asks_none) r.commits) r.numbered refl refl in

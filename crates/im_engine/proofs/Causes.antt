@@ -1,5 +1,5 @@
 -- Why a step is refused, from how the calls within it ended.
-use Rattle.std.proofs.Common.{◌≡◌, ◌≢◌, ◌⊎◌, inl, inr, ⊎_elim, ℕ, ◌+◌, ◌^◌, ◌<◌, ◌≤◌, Bool, true, false, length, Option, None, Some, refl, sym, ap, subst, ◌∙◌, arith}
+use Rattle.std.proofs.Common.{◌≡◌, ◌≢◌, ◌⊎◌, inl, inr, ⊎_elim, ℕ, ◌+◌, ◌^◌, ◌<◌, ◌≤◌, Bool, true, false, length, List, Option, None, Some, refl, sym, ap, subst, ◌∙◌, arith}
 use Rattle.std.specs.Prelude.{◌↔◌, find}
 use Rattle.std.proofs.lemmas.Bool.{cases_lt}
 use Rattle.im_base_types.specs.Answers as answers
@@ -27,7 +27,7 @@ use Rattle.im_base_steps.specs.declared.reply.Reply.{Reply}
 use Rattle.im_base_steps.specs.declared.reply.Reply.TheVariants.{Refused}
 use Rattle.im_engine.specs.declared.engine.Engine.{Engine}
 use Rattle.im_engine.specs.Faults.{told_as, ends_engine}
-use Rattle.im_engine.specs.Told.{Where, Checked, HasLogged, IsFor, OfForce, Refuses, ReadCause, FlushCause, DeleteCause, InsertCause, SwitchCause, CallsDevice, EndsNearTop, IsLastLog, check_of, checkpoint_of}
+use Rattle.im_engine.specs.Told.{Where, Checked, HasChanged, HasLogged, IsEmptied, IsFor, OfForce, Refuses, ReadCause, FlushCause, DeleteCause, InsertCause, SwitchCause, CallsDevice, EndsNearTop, IsLastLog, check_of, checkpoint_of}
 use Rattle.im_theory_machine.specs.View.{owns_in}
 use Rattle.im_engine.specs.Aims.{under_of}
 use Rattle.im_engine.proofs.Looked.{not_true}
@@ -173,8 +173,36 @@ module _ {D : Type 0} (d : Ghosts D) (old : Engine D d) (log : LogFile) (disk : 
 -- ---- a Rollback
 
 module _ {D : Type 0} (d : Ghosts D) (old : Engine D d) (log : LogFile) (disk : D) (works : old.failed ≡ false) (t : ℕ) (checked : checked_by old.txns.rows (owns_in (under_of old.under) (answers.Rollback t)) (answers.Rollback t) ≡ None) where
-  pub rollback_made : (reply : Reply) → ((x : Fault) → reply ≢ Refused x) → Answers d old log disk (answers.Rollback t) reply
-  rollback_made reply not = behind d old log disk works (answers.Rollback t) reply checked (λ fault. none (not fault))
+  -- that logs nothing
+  pub rollback_made : (reply : Reply) → (IsEmptied (find (is_of t) old.txns.rows) → ⊥) → ((x : Fault) → reply ≢ Refused x) → Answers d old log disk (answers.Rollback t) reply
+  rollback_made reply empty not = behind d old log disk works (answers.Rollback t) reply checked (λ fault. past empty (none (not fault)))
+
+  -- that logs an End
+  module _ (is_empty : IsEmptied (find (is_of t) old.txns.rows)) where
+    pub rollback_ended : (reply : Reply) → (2 ^ 62 < end_with old.writer.log 33 → ⊥) → (d.failed disk ≡ true → ⊥) → ((x : Fault) → reply ≢ Refused x) → Answers d old log disk (answers.Rollback t) reply
+    rollback_ended reply fits on not = behind d old log disk works (answers.Rollback t) reply checked (λ fault. here is_empty (past fits (past on (none (not fault)))))
+
+    pub rollback_append : (f : Fault) (told : Fault) → told ≡ told_as f → ((f ≡ LogFull) × (d.failed disk ≡ false)) ⊎ ((f ≡ Device) × (d.failed disk ≡ true)) → (f ≡ LogFull → 2 ^ 62 < end_with old.writer.log 33) → (2 ^ 62 < end_with old.writer.log 33 → f ≡ LogFull)
+        → Answers d old log disk (answers.Rollback t) (Refused told)
+    rollback_append f told is (inl full) over exact =
+        behind d old log disk works (answers.Rollback t) (Refused told) checked (λ fault. here is_empty (here (over full.0) (named told fault faults.LogFull (is ∙ ap told_as full.0))))
+    rollback_append f told is (inr lost) over exact =
+        behind d old log disk works (answers.Rollback t) (Refused told) checked (λ fault. here is_empty (past (λ wide. let never : Device ≡ LogFull = sym lost.0 ∙ exact wide in cc never)
+        (here lost.1 (named told fault faults.Device (is ∙ ap told_as lost.0)))))
+
+-- of a row that has changes, or no record
+pub not_emptied : (t : ℕ) (rows : List Transaction) (row : Transaction) → find (is_of t) rows ≡ Some row → (1 ≤ row.changes) ⊎ (row.last ≡ 0) → IsEmptied (find (is_of t) rows) → ⊥
+not_emptied t rows row found (inl more) is = let it = subst IsEmptied found is in let zero_is = it.1 in omega (arith, zero_is, more)
+not_emptied t rows row found (inr zero_is) is = let it = subst IsEmptied found is in let some = it.0 in omega (arith, zero_is, some)
+
+pub is_emptied : (t : ℕ) (rows : List Transaction) (row : Transaction) → find (is_of t) rows ≡ Some row → 1 ≤ row.last → row.changes ≡ 0 → IsEmptied (find (is_of t) rows)
+is_emptied t rows row found some zero_is = subst IsEmptied (sym found) (some, zero_is)
+
+-- ---- a RollTo
+
+module _ {D : Type 0} (d : Ghosts D) (old : Engine D d) (log : LogFile) (disk : D) (works : old.failed ≡ false) (t left : ℕ) (checked : checked_by old.txns.rows (owns_in (under_of old.under) (answers.RollTo t left)) (answers.RollTo t left) ≡ None) where
+  pub return_refused : Answers d old log disk (answers.RollTo t left) (Refused faults.NoTransaction)
+  return_refused = behind d old log disk works (answers.RollTo t left) (Refused faults.NoTransaction) checked (λ fault. named faults.NoTransaction fault faults.NoTransaction refl)
 
 -- ---- a Commit
 
@@ -184,6 +212,13 @@ module _ {D : Type 0} (d : Ghosts D) (old : Engine D d) (log : LogFile) (disk : 
 
   pub unlogged : row.last ≡ 0 → HasLogged (find (is_of t) old.txns.rows) → ⊥
   unlogged zero_is has = let some = subst (λ (o : Option Transaction). HasLogged o) found has in omega (arith, zero_is, some)
+
+  pub has_changed : 1 ≤ row.last → 1 ≤ row.changes → HasChanged (find (is_of t) old.txns.rows)
+  has_changed some more = subst (λ (o : Option Transaction). HasChanged o) (sym found) (some, more)
+
+  pub unchanged : (row.last ≡ 0) ⊎ (row.changes ≡ 0) → HasChanged (find (is_of t) old.txns.rows) → ⊥
+  unchanged (inl zero_is) has = let both = subst (λ (o : Option Transaction). HasChanged o) found has in let some = both.0 in omega (arith, zero_is, some)
+  unchanged (inr zero_is) has = let both = subst (λ (o : Option Transaction). HasChanged o) found has in let more = both.1 in omega (arith, zero_is, more)
 
   -- of a transaction without records
   pub commit_empty : (reply : Reply) → row.last ≡ 0 → ((x : Fault) → reply ≢ Refused x) → Answers d old log disk (answers.Commit t) reply

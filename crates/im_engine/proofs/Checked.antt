@@ -4,7 +4,7 @@ use Rattle.std.specs.Prelude.{find}
 use Rattle.im_base_types.specs.Refusals.{key_length, unfinished}
 use Rattle.im_base_types.specs.Answers.{Access, Do, Commit, Rollback}
 use Rattle.im_base_txn.specs.declared.transaction.Mark.{Mark}
-use Rattle.im_base_txn.specs.declared.transaction.Mark.TheVariants.{Going, MustRollBack, RollingBack, Committing}
+use Rattle.im_base_txn.specs.declared.transaction.Mark.TheVariants.{Going, MustRollBack, RollingBack, Returning, Committing}
 use Rattle.im_base_txn.specs.declared.transaction.Transaction.{Transaction}
 use Rattle.im_base_txn.specs.Rows.{is_of, is_committing, waits_at}
 use Rattle.im_theory_machine.specs.Machine.{keys_fit, barred_to, barred_to_rollback, or_else, fault_if}
@@ -24,6 +24,7 @@ going_by : (m : Mark) (row : Transaction) → row.mark ≡ m → barred_to (mark
 going_by Going row is none = is
 going_by MustRollBack row is none = absurd (let never = sym (ap (λ (x : Mark). barred_to (mark_at (Some (record row { mark = x })))) is) ∙ none in cc never)
 going_by RollingBack row is none = absurd (let never = sym (ap (λ (x : Mark). barred_to (mark_at (Some (record row { mark = x })))) is) ∙ none in cc never)
+going_by (Returning n) row is none = absurd (let never = sym (ap (λ (x : Mark). barred_to (mark_at (Some (record row { mark = x })))) is) ∙ none in cc never)
 going_by Committing row is none = absurd (let never = sym (ap (λ (x : Mark). barred_to (mark_at (Some (record row { mark = x })))) is) ∙ none in cc never)
 
 going_of : (rows : List Transaction) (t : ℕ) (o : Option Transaction) → find (is_of t) rows ≡ o → barred_to (mark_at o) ≡ None → IsGoing rows t
@@ -77,6 +78,7 @@ back_by : (m : Mark) (row : Transaction) → row.mark ≡ m → barred_to_rollba
 back_by Going row is none = inl is
 back_by MustRollBack row is none = inr is
 back_by RollingBack row is none = absurd (let never = sym (ap (λ (x : Mark). barred_to_rollback (mark_at (Some (record row { mark = x })))) is) ∙ none in cc never)
+back_by (Returning n) row is none = absurd (let never = sym (ap (λ (x : Mark). barred_to_rollback (mark_at (Some (record row { mark = x })))) is) ∙ none in cc never)
 back_by Committing row is none = absurd (let never = sym (ap (λ (x : Mark). barred_to_rollback (mark_at (Some (record row { mark = x })))) is) ∙ none in cc never)
 
 pub back_mark : (rows : List Transaction) (owns : Bool) (t : ℕ) (row : Transaction) → find (is_of t) rows ≡ Some row → checked_by rows owns (Rollback t) ≡ None → (row.mark ≡ Going) ⊎ (row.mark ≡ MustRollBack)

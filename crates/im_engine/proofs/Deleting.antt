@@ -21,7 +21,7 @@ use Rattle.im_page_writer.specs.PageWriter.{Evicted}
 use Rattle.im_theory_tree.specs.Levels.{Pages}
 use Rattle.im_base_txn.specs.declared.transaction.Mark.TheVariants.{Going, MustRollBack}
 use Rattle.im_base_txn.specs.declared.transaction.Transaction.{Transaction}
-use Rattle.im_base_txn.specs.Rows.{is_of, changed, with_mark, with_record}
+use Rattle.im_base_txn.specs.Rows.{is_of, changed, with_mark}
 use Rattle.im_base_txn.proofs.LookUps.{look_ups_follow}
 use Rattle.im_theory_machine.specs.Locks.{IsFree, Lock}
 use Rattle.im_theory_machine.specs.Rows.{asked}
@@ -41,6 +41,7 @@ use Rattle.im_engine.specs.Faults.{told_as, ends_engine}
 use Rattle.im_engine.specs.Running.{IsRunning, IsLife}
 use Rattle.im_engine.specs.Kept.{StepKept}
 use Rattle.im_engine.specs.Told.{DeleteFails, DeleteWants}
+use Rattle.im_engine.proofs.Numbers.{with_taken}
 use Rattle.im_engine.proofs.Causes.{refused_inj}
 use Rattle.im_engine.proofs.Checked.{access_fits, access_going}
 use Rattle.im_base_steps.specs.declared.reply.Reply as said
@@ -113,7 +114,7 @@ module _ {D : Type 0} (d : Ghosts D) (old : Engine D d) (t : ℕ) (key : Key) (r
       at result below = kept_here new.locks new.writer new.disk before s v r result below
 
       -- it was made
-      pub delete_made : (o : LockAnswer (Option Taken)) → Of (Ok o) → (x : Option Taken) → o ≡ Granted x → (taken : Taken) → x ≡ Some taken → new.txns ≡ record old.txns { rows = map (changed t (with_record taken.last taken.undo_next)) old.txns.rows } → new.failed ≡ false
+      pub delete_made : (o : LockAnswer (Option Taken)) → Of (Ok o) → (x : Option Taken) → o ≡ Granted x → (taken : Taken) → x ≡ Some taken → new.txns ≡ record old.txns { rows = map (changed t (with_taken taken.last taken.undo_next)) old.txns.rows } → new.failed ≡ false
           → StepKept d before s v (Do t (Delete key)) answers.Deleted old new
       delete_made o below x granted taken some table works_on =
           let kept = subst (λ (y : LockAnswer (Option Taken)). At (Ok y)) (granted ∙ ap Granted some) (at (Ok o) below) in

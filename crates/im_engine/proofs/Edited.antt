@@ -1,13 +1,13 @@
 -- Steps that change a key: what their calls below ask, what a stop within them leaves, and the engine after them.
-use Rattle.std.proofs.Common.{◌≡◌, ◌≢◌, inl, inr, ℕ, ◌≤◌, ◌<◌, ◌^◌, List, [], ◌∷◌, Bool, true, false, cond, is_some, Option, Some, None, map, refl, sym, ap, subst, ◌∙◌, arith}
-use Rattle.std.specs.Prelude.{find, if◌then◌else◌, ◌==◌}
+use Rattle.std.proofs.Common.{◌≡◌, ◌≢◌, inl, inr, ℕ, ◌≤◌, ◌<◌, ◌^◌, List, [], ◌∷◌, true, false, cond, is_some, Option, Some, None, map, refl, sym, ap, subst, ◌∙◌}
+use Rattle.std.specs.Prelude.{find}
 use Rattle.im_base_types.specs.Answers as answers
 use Rattle.im_base_types.specs.Answers.{Access, Blocked, Commit, Delete, Die, Do, Refused, Reply, answer, changes}
 use Rattle.im_base_types.specs.Refusals.{memory}
 use Rattle.im_base_types.specs.declared.fault.Fault.{Fault}
 use Rattle.im_base_types.specs.declared.fault.Fault.TheVariants.{Device, Failed, LogFull, Memory, NotAStore}
 use Rattle.im_base_types.specs.Changes.{Effect}
-use Rattle.im_theory_log.specs.Histories.{Base, History, IsFront, end_of}
+use Rattle.im_theory_log.specs.Histories.{Base, History, IsFront}
 use Rattle.im_base_types.specs.Keys.{Key}
 use Rattle.im_theory_log.specs.Lawful.{IsLawful}
 use Rattle.im_theory_log.specs.Lawful as lawful
@@ -50,7 +50,7 @@ use Rattle.im_base_types.specs.Faults.{number_of}
 use Rattle.im_theory_steps.specs.Checks.{checked_by}
 use Rattle.im_theory_steps.specs.Growth.{AreBelow, AreStructural, GrowsByStructure, GrowsWithin, IsStructural, is_structural}
 use Rattle.im_theory_steps.specs.Serving.{IsRow, IsServing, IsServed, mark_of}
-use Rattle.im_theory_steps.specs.Steps.{IsOnTheWay, key_record}
+use Rattle.im_theory_steps.specs.Steps.{IsOnTheWay, key_record, with_made}
 use Rattle.im_theory_steps.specs.Durable.{AreCommitted}
 use Rattle.im_theory_steps.proofs.Cited.{asks_nothing, dies_ask_nothing, waits_ask_nothing, commits_stand, copies_are_images, images_change_nothing, numbers_stay_new, within_leaves_others, deletes_served, granted_keys_free, at, dies_served, mark_free, reads_served, structure_keeps, waits_served, ways_lead_on}
 use Rattle.im_engine_index.specs.KeyLogs.{LeftByEdit, LeavesEdit}
@@ -70,6 +70,7 @@ use Rattle.im_engine.specs.declared.stepped.Under.{Under}
 use Rattle.im_engine.specs.Aims.{IsChanging, under_of}
 use Rattle.im_engine.proofs.Running.{outside, not_in, closed_now, checks_tell, left_on, read_on}
 use Rattle.im_engine.proofs.Grown.{read_grows}
+use Rattle.im_engine.proofs.Numbers.{fused, with_taken}
 use Rattle.im_engine.proofs.Made.{grown_made, leaves_as, step_made}
 use Rattle.im_engine.proofs.Refused.{KeepsLocks, breaks_with, lacks_with}
 
@@ -97,25 +98,6 @@ all_structural t (r ∷ more) all = (structural t r r.what refl all.0, all_struc
 pub by_structure : (t : ℕ) (older longer : History) → GrowsByChange t older longer → GrowsByStructure t older longer
 by_structure t older longer by = record { more = by.more; is = sym by.is; structural = all_structural t by.more by.all }
 
--- ---- rows
-
-noted_twice_one : (t a b l u : ℕ) (row : Transaction) (c : Bool) → (row.number == t) ≡ c → changed t (with_record a b) (changed t (with_record l u) row) ≡ changed t (with_record a b) row
-noted_twice_one t a b l u row true is =
-    let here : changed t (with_record l u) row ≡ with_record l u row = ap (λ (x : Bool). if x then with_record l u row else row) is in
-    ap (changed t (with_record a b)) here
-    ∙ ap (λ (x : Bool). if x then with_record a b row else with_record l u row) is
-    ∙ sym (ap (λ (x : Bool). if x then with_record a b row else row) is)
-noted_twice_one t a b l u row false is =
-    let here : changed t (with_record l u) row ≡ row = ap (λ (x : Bool). if x then with_record l u row else row) is in
-    ap (changed t (with_record a b)) here
-
--- of two records that are noted the later one stands
-pub noted_twice : (t a b l u : ℕ) (rows : List Transaction) → map (changed t (with_record a b)) (map (changed t (with_record l u)) rows) ≡ map (changed t (with_record a b)) rows
-noted_twice t a b l u [] = refl
-noted_twice t a b l u (row ∷ rows) =
-    ap (λ (x : Transaction). x ∷ map (changed t (with_record a b)) (map (changed t (with_record l u)) rows)) (noted_twice_one t a b l u row (row.number == t) refl)
-    ∙ ap (λ (xs : List Transaction). changed t (with_record a b) row ∷ xs) (noted_twice t a b l u rows)
-
 -- what is free by the table is free for the machine
 free_in : (v : View) (table : Table) (t : ℕ) (row : List Request) → MatchesWithKept v table → locks.IsFree (locks_of table) t row → locks.IsFree (locks_in v) t row
 free_in v table t row h free s p = free s (record {
@@ -132,7 +114,7 @@ module _ {D : Type 0} (d : Ghosts D) {b : Base} (before : List Effect) (s : Show
   way : IsOnTheWay b t row.last r.now.log r.now.log
   way = ways_lead_on.begins b r.earlier before s v r.now.log old.txns.rows old.txns.next old.locks t row r.serving found mark
 
-  is_at : (row.number ≡ t) × IsRow row old.txns.next r.now.log (owner_in v) × ((v.txns t).mark ≡ mark_of row.mark)
+  is_at : (row.number ≡ t) × IsRow row old.txns.next r.now.log × ((v.txns t).mark ≡ mark_of row.mark)
   is_at = at b r.earlier before s v r.now.log old.txns.rows old.txns.next old.locks r.serving t row found (mark_free row.mark Going mark (λ x. cc x))
 
   walk_of : v.walk ≡ contents b r.now.log
@@ -233,7 +215,7 @@ module _ {D : Type 0} (d : Ghosts D) {b : Base} (before : List Effect) (s : Show
     may = law.1.may
 
     abbrev record_rows : List Transaction
-    record_rows = map (changed t (with_record taken.undo_next taken.undo_next)) old.txns.rows
+    record_rows = map (changed t (with_made taken.undo_next)) old.txns.rows
 
     after_record : IsServed b r.earlier before s v (Do t (Delete key)) answers.Deleted (did v t (Delete key) (lasting_of new.locks t)) mid record_rows old.txns.next new.locks
     after_record = (deletes_served page_tree page_tree_laws b r.earlier before s v r.now.log is.before old.txns.rows old.txns.next old.locks new.locks t row.last taken.undo_next is.page row key is.rid r.serving found mark free fits
@@ -242,19 +224,16 @@ module _ {D : Type 0} (d : Ghosts D) {b : Base} (before : List Effect) (s : Show
     says : answer (Delete key) v.walk ≡ answers.Deleted
     says = ap (λ (m : IndexMap). answer (Delete key) m) walk_of ∙ ap (λ (o : Option ℕ). cond (is_some o) answers.Deleted answers.Absent) is.there
 
-    rows_now : map (changed t (with_record (last_of t is.now.log) (undo_next_of t is.now.log))) record_rows ≡ map (changed t (with_record taken.last taken.undo_next)) old.txns.rows
+    rows_now : map (changed t (with_record (last_of t is.now.log) (undo_next_of t is.now.log))) record_rows ≡ map (changed t (with_taken taken.last taken.undo_next)) old.txns.rows
     rows_now =
         ap (λ (n : ℕ). map (changed t (with_record n (undo_next_of t is.now.log))) record_rows) is.stands.newest
         ∙ ap (λ (n : ℕ). map (changed t (with_record taken.last n)) record_rows) is.stands.undo
-        ∙ noted_twice t taken.last taken.undo_next taken.undo_next taken.undo_next old.txns.rows
+        ∙ fused t (with_made taken.undo_next) (with_record taken.last taken.undo_next) (λ x. refl) old.txns.rows
 
-    some_record : 1 ≤ taken.undo_next
-    some_record = let rises : end_of b is.before < taken.undo_next = law.1.rises in omega (arith, rises)
-
-    in_full : IsServing b r.earlier before (shows s (Do t (Delete key)) (Some answers.Deleted)) (did v t (Delete key) (lasting_of new.locks t)) is.now.log (map (changed t (with_record taken.last taken.undo_next)) old.txns.rows) old.txns.next new.locks
+    in_full : IsServing b r.earlier before (shows s (Do t (Delete key)) (Some answers.Deleted)) (did v t (Delete key) (lasting_of new.locks t)) is.now.log (map (changed t (with_taken taken.last taken.undo_next)) old.txns.rows) old.txns.next new.locks
     in_full = subst (λ (rows : List Transaction). IsServing b r.earlier before (shows s (Do t (Delete key)) (Some answers.Deleted)) (did v t (Delete key) (lasting_of new.locks t)) is.now.log rows old.txns.next new.locks) rows_now
-        (structure_keeps b r.earlier before (shows s (Do t (Delete key)) (Some answers.Deleted)) (did v t (Delete key) (lasting_of new.locks t)) mid is.now.log record_rows old.txns.next new.locks t (with_record taken.undo_next taken.undo_next row) after_record.1
-        (look_ups_follow.changed_own t (with_record taken.undo_next taken.undo_next) (λ x. refl) old.txns.rows row found) (mark_free row.mark Going mark (λ x. cc x)) (inl some_record) (by_structure t mid is.now.log is.change))
+        (structure_keeps b r.earlier before (shows s (Do t (Delete key)) (Some answers.Deleted)) (did v t (Delete key) (lasting_of new.locks t)) mid is.now.log record_rows old.txns.next new.locks t (with_made taken.undo_next row) after_record.1
+        (look_ups_follow.changed_own t (with_made taken.undo_next) (λ x. refl) old.txns.rows row found) (mark_free row.mark Going mark (λ x. cc x)) (by_structure t mid is.now.log is.change))
 
     grown : GrowsWithin t r.now.log is.now.log
     grown =
@@ -265,11 +244,11 @@ module _ {D : Type 0} (d : Ghosts D) {b : Base} (before : List Effect) (s : Show
     drops : DropsKey b t key r.now.log is.now.log
     drops = record { before = is.before; images = is.images; rid = is.rid; last = row.last; lsn = taken.undo_next; page = is.page; change = is.change; only = is.only }
 
-    pub deleted : new.txns ≡ record old.txns { rows = map (changed t (with_record taken.last taken.undo_next)) old.txns.rows } → LeavesEdit d b r.base r.now t old.disk new.disk → new.failed ≡ false
+    pub deleted : new.txns ≡ record old.txns { rows = map (changed t (with_taken taken.last taken.undo_next)) old.txns.rows } → LeavesEdit d b r.base r.now t old.disk new.disk → new.failed ≡ false
         → StepKept d before s v (Do t (Delete key)) answers.Deleted old new
     deleted table stops works =
         let w = did v t (Delete key) (lasting_of new.locks t) in
-        let rows = map (changed t (with_record taken.last taken.undo_next)) old.txns.rows in
+        let rows = map (changed t (with_taken taken.last taken.undo_next)) old.txns.rows in
         subst (λ (reply : Reply). StepKept d before s v (Do t (Delete key)) reply old new) says
         (edited (Delete key) new is.now r.redo_end taken.last taken.undo_next is.stands is.durable grown rows table w
         (subst (λ (reply : Reply). IsServed b r.earlier before s v (Do t (Delete key)) reply w is.now.log rows old.txns.next new.locks) (sym says) (after_record.0, in_full)) refl plain stays stops works (subst (λ (reply : Reply). GrowsAs b (FitsRecord old.writer.table) (under_of old.under) (under_of new.under) reply (Do t (Delete key)) r.now.log is.now.log) (sym says) drops))

@@ -35,6 +35,7 @@ use Rattle.im_theory_tree.specs.Theory.{page_tree}
 use Rattle.im_theory_tree.proofs.TheoryLaws.{page_tree_laws}
 use Rattle.im_base_txn.specs.Rows.{AreRising, begun as row_begun, is_of, is_committing, changed, with_mark, waiting_in, waiting_numbers, without_waiting}
 use Rattle.im_base_txn.specs.LookUps.{without}
+use Rattle.im_base_txn.specs.declared.transaction.Mark.{Mark}
 use Rattle.im_base_txn.specs.declared.transaction.Mark.TheVariants.{Going, MustRollBack, RollingBack, Committing}
 use Rattle.im_base_txn.specs.declared.transaction.Transaction.{Transaction}
 use Rattle.im_theory_machine.specs.Table.{Table, AreReleased, IsReleased, locks_of}
@@ -44,7 +45,7 @@ use Rattle.im_theory_steps.specs.Checks.{checked_by}
 use Rattle.im_theory_steps.specs.Durable.{AreCommitted}
 use Rattle.im_theory_steps.specs.Growth.{AreBelow, Stays, IsOfAll}
 use Rattle.im_theory_steps.specs.Serving.{IsServing, mark_of}
-use Rattle.im_theory_steps.proofs.Cited.{empty_asked, copies_are_images, images_change_nothing, numbers_stay_new, unlogged, commits_stand, others_ask_nothing, cut_commits_stand, commit_commits, logged_commits_served, logged_commits_wait, effect_shown, at, mark_free, unlogged_commits_served, begins_served, drops_served, turns_served, flushes_served, forces_served}
+use Rattle.im_theory_steps.proofs.Cited.{empty_asked, copies_are_images, images_change_nothing, numbers_stay_new, unlogged, commits_stand, others_ask_nothing, cut_commits_stand, commit_commits, logged_commits_served, logged_commits_wait, effect_shown, at, mark_free, unlogged_commits_served, begins_served, drops_served, turns_served, flushes_served, forces_served, some_stand}
 use Rattle.im_theory_steps.specs.Steps.{commit_record}
 use Rattle.im_engine.specs.declared.engine.Engine.{Engine}
 use Rattle.im_engine.specs.Numbered.{Numbered}
@@ -55,8 +56,8 @@ use Rattle.im_engine.proofs.Stands.{covered_allowed}
 use Rattle.im_engine.specs.declared.stepped.Under.{Under}
 use Rattle.im_engine.specs.Aims.{IsChanging, under_of}
 use Rattle.im_engine.proofs.GoingOn.{record_goes}
-use Rattle.im_engine.proofs.Running.{never_rolls, outside_of, not_owner, nothing_pending, checks_tell, allowed_as, tells, none_waits, page_is, read_stops, covered_stops, idle_stops, runs_on}
-use Rattle.im_engine.specs.Growing.{with_records, without_records}
+use Rattle.im_engine.proofs.Running.{outside_of, not_owner, nothing_pending, checks_tell, allowed_as, tells, none_waits, page_is, read_stops, covered_stops, idle_stops, runs_on}
+use Rattle.im_engine.specs.Growing.{no_records, with_records, without_records}
 use Rattle.im_engine.proofs.Made.{step_made, step_broke, leaves_as}
 use Rattle.im_engine.proofs.Waits.{out_of, not_waiting, nobody, left_rows, left_count, left_locks}
 
@@ -79,6 +80,11 @@ commit_lawful b earlier before s v older rows next held t lsn row h found mark l
       };
     } in
     logs_stay_lawful page_tree page_tree_laws b older newest law follows (λ e. absurd cc)
+
+-- who is going, or must roll back, does not wait for a force
+pub waits_not : (m : Mark) → (m ≡ Going) ⊎ (m ≡ MustRollBack) → m ≡ Committing → ⊥
+waits_not m (inl is) = mark_free m Going is (λ x. cc x)
+waits_not m (inr is) = mark_free m MustRollBack is (λ x. cc x)
 
 -- records that are none of a transaction's leave it as it is
 stays_here : (b : Base) (log : History) → Stays b log log × IsOfAll log log
@@ -157,7 +163,7 @@ module _ {D : Type 0} (d : Ghosts D) (before : List Effect) (s : Shown) (v : Vie
 
     module _ (t : ℕ) (row : Transaction) (found : find (is_of t) old.txns.rows ≡ Some row) (mark : (row.mark ≡ Going) ⊎ (row.mark ≡ MustRollBack)) (unowned : pending_of (under_of old.under) t ≡ None) where
       free : owner_in v ≢ Some t
-      free = not_owner d before s v old run.1 t row found (never_rolls row.mark mark) unowned
+      free = not_owner d before s v old run.1 t row found mark unowned
 
       rises : Rises run.0 run.1.now.log
       rises = rises_of run.0 page_tree run.1.now.log run.1.lawful
@@ -174,10 +180,12 @@ module _ {D : Type 0} (d : Ghosts D) (before : List Effect) (s : Shown) (v : Vie
           let running = runs_on d before s v old r shown w new r.now on_here
           (subst (λ (x : Numbered). IsServing run.0 r.earlier before shown w r.now.log x.rows x.next new.locks) (sym table) served.1) r.commits
           (subst (λ (n : ℕ). n ≤ 2 ^ 62 → AreBelow n r.now.log) (sym (ap (λ (x : Numbered). x.next) table)) r.numbered) refl stays in
-          step_made d before s v (Rollback t) RolledBack old new w served.0 running works_on (stops_here (shows s (Rollback t) None) refl) tt r refl
+          let is = at run.0 r.earlier before s v r.now.log old.txns.rows old.txns.next old.locks r.serving t row found (waits_not row.mark mark) in
+          let last_is : last_of t r.now.log ≡ 0 = sym (is.1.last ∙ ap (λ (n : ℕ). last_of n r.now.log) is.0) ∙ none in
+          step_made d before s v (Rollback t) RolledBack old new w served.0 running works_on (stops_here (shows s (Rollback t) None) refl) tt r (no_records last_is refl)
 
-      -- it has one, and is marked
-      pub turned : 1 ≤ row.last → new.locks ≡ old.locks → new.txns ≡ record old.txns { rows = map (changed t (with_mark RollingBack)) old.txns.rows } → new.failed ≡ false → StepKept d before s v (Rollback t) More old new
+      -- it has changes left, and is marked
+      pub turned : 1 ≤ row.changes → new.locks ≡ old.locks → new.txns ≡ record old.txns { rows = map (changed t (with_mark RollingBack)) old.txns.rows } → new.failed ≡ false → StepKept d before s v (Rollback t) More old new
       unfolding runs_on
       turned some locks table works_on =
           let r = run.1 in
@@ -213,7 +221,7 @@ module _ {D : Type 0} (d : Ghosts D) (before : List Effect) (s : Shown) (v : Vie
   module _ (t : ℕ) (row : Transaction) (found : find (is_of t) old.txns.rows ≡ Some row) (mark : row.mark ≡ Going) (released : IsReleased old.locks t new.locks) (once : length old.txns.rows ≡ length (without t old.txns.rows) + 1)
       (table : new.txns ≡ record old.txns { rows = without t old.txns.rows }) (works_on : new.failed ≡ false) (unowned : pending_of (under_of old.under) t ≡ None) (stays : new.under ≡ old.under) where
     its_free : owner_in v ≢ Some t
-    its_free = not_owner d before s v old run.1 t row found (never_rolls row.mark (inl mark)) unowned
+    its_free = not_owner d before s v old run.1 t row found (inl mark) unowned
 
     abbrev after : Numbered
     after = record old.txns { rows = without t old.txns.rows }
@@ -240,10 +248,10 @@ module _ {D : Type 0} (d : Ghosts D) (before : List Effect) (s : Shown) (v : Vie
         (without_records last_is refl)
 
   -- a Commit that was logged
-  module _ (t : ℕ) (row : Transaction) (found : find (is_of t) old.txns.rows ≡ Some row) (mark : row.mark ≡ Going) (some : 1 ≤ row.last) (lsn : ℕ) (x : PageWriter) (mid : D) (logged : LoggedOnly d run.0 run.1.base run.1.now (entries.Commit t row.last) lsn x mid)
+  module _ (t : ℕ) (row : Transaction) (found : find (is_of t) old.txns.rows ≡ Some row) (mark : row.mark ≡ Going) (some : 1 ≤ row.last) (has : 1 ≤ row.changes) (lsn : ℕ) (x : PageWriter) (mid : D) (logged : LoggedOnly d run.0 run.1.base run.1.now (entries.Commit t row.last) lsn x mid)
       (unowned : pending_of (under_of old.under) t ≡ None) where
     left_free : owner_in v ≢ Some t
-    left_free = not_owner d before s v old run.1 t row found (never_rolls row.mark (inl mark)) unowned
+    left_free = not_owner d before s v old run.1 t row found (inl mark) unowned
 
     -- the open structure change is another's
     out : IsOutside t (open_smo run.1.now.log)
@@ -268,7 +276,7 @@ module _ {D : Type 0} (d : Ghosts D) (before : List Effect) (s : Shown) (v : Vie
     asked_on : AreCommitted run.1.earlier before (shows s (Commit t) None).asked logged.durable longer
     asked_on =
         let r = run.1 in
-        let cut = cut_commits_stand run.0 r.earlier before s v r.now.log longer r.now.durable old.txns.rows old.txns.next old.locks t row r.serving found mark some left_free
+        let cut = cut_commits_stand run.0 r.earlier before s v r.now.log longer r.now.durable old.txns.rows old.txns.next old.locks t row r.serving found mark has left_free
         (commit_commits run.0 r.now.log (commit_record t row.last lsn) t refl refl) r.commits in
         commits_stand.more r.earlier before (shows s (Commit t) None).asked r.now.durable longer logged.durable cut (record { from = logged.grows; upto = logged.stands.writing.stands.kept.front })
 
@@ -284,7 +292,7 @@ module _ {D : Type 0} (d : Ghosts D) (before : List Effect) (s : Shown) (v : Vie
         → IsReleased old.locks t new.locks → length old.txns.rows ≡ length (without t old.txns.rows) + 1 → new.txns ≡ record old.txns { rows = without t old.txns.rows } → new.failed ≡ false → new.under ≡ old.under → StepKept d before s v (Commit t) Committed old new
     committed_on rising alone on stops released once table works_on stays =
         let r = run.1 in
-        let law = logged_commits_served page_tree page_tree_laws run.0 r.earlier before s v r.now.log old.txns.rows old.txns.next old.locks new.locks t lsn row r.serving found mark some left_free r.lawful out logged.high (nobody run.0 r.earlier before s v r.now.log old.txns.rows old.txns.next old.locks r.serving rising alone) released once in
+        let law = logged_commits_served page_tree page_tree_laws run.0 r.earlier before s v r.now.log old.txns.rows old.txns.next old.locks new.locks t lsn row r.serving found mark has left_free r.lawful out logged.high (nobody run.0 r.earlier before s v r.now.log old.txns.rows old.txns.next old.locks r.serving rising alone) released once in
         let shown = shows s (Commit t) (Some Committed) in
         let w = committed_by v t in
         let is = at run.0 r.earlier before s v r.now.log old.txns.rows old.txns.next old.locks r.serving t row found (mark_free row.mark Going mark (λ x. cc x)) in
@@ -306,14 +314,14 @@ module _ {D : Type 0} (d : Ghosts D) (before : List Effect) (s : Shown) (v : Vie
         } in
         let last_is : row.last ≡ last_of t r.now.log = is.1.last ∙ ap (λ (n : ℕ). last_of n r.now.log) is.0 in
         step_made d before s v (Commit t) Committed old new w law.served.0 running works_on stops tt r
-        (with_records lsn (subst (λ (n : ℕ). 1 ≤ n) last_is some) (ap (λ (n : ℕ). commit_record t n lsn ∷ r.now.log) last_is))
+        (with_records lsn (subst (λ (n : ℕ). 1 ≤ n) last_is some) (some_stand t old.txns.next r.now.log row is.0 is.1 has) (ap (λ (n : ℕ). commit_record t n lsn ∷ r.now.log) last_is))
 
     -- after the record alone: it waits
     pub queued_on : new.writer ≡ x → new.disk ≡ mid → LeavesCovered d run.0 run.1.base run.1.now.durable run.1.now.log old.disk new.disk → new.locks ≡ old.locks → new.txns ≡ record old.txns { rows = map (changed t (with_mark Committing)) old.txns.rows; waiting = old.txns.waiting + 1 } → new.failed ≡ false → new.under ≡ old.under
         → StepKept d before s v (Commit t) More old new
     queued_on writer disk run_stops locks table works_on stays =
         let r = run.1 in
-        let law = logged_commits_wait page_tree page_tree_laws run.0 r.earlier before s v r.now.log old.txns.rows old.txns.next old.locks t lsn row r.serving found mark some left_free r.lawful out logged.high in
+        let law = logged_commits_wait page_tree page_tree_laws run.0 r.earlier before s v r.now.log old.txns.rows old.txns.next old.locks t lsn row r.serving found mark has left_free r.lawful out logged.high in
         let shown = shows s (Commit t) (Some More) in
         let w = queued v t in
         let is = at run.0 r.earlier before s v r.now.log old.txns.rows old.txns.next old.locks r.serving t row found (mark_free row.mark Going mark (λ x. cc x)) in
@@ -338,7 +346,7 @@ module _ {D : Type 0} (d : Ghosts D) (before : List Effect) (s : Shown) (v : Vie
         } in
         let last_is : row.last ≡ last_of t r.now.log = is.1.last ∙ ap (λ (n : ℕ). last_of n r.now.log) is.0 in
         step_made d before s v (Commit t) More old new w law.served.0 running works_on (cut_leaves d before s t old.disk new.disk (covered_stops d before s v old r new.disk run_stops)) tt r
-        (with_records lsn (subst (λ (n : ℕ). 1 ≤ n) last_is some) (ap (λ (n : ℕ). commit_record t n lsn ∷ r.now.log) last_is))
+        (with_records lsn (subst (λ (n : ℕ). 1 ≤ n) last_is some) (some_stand t old.txns.next r.now.log row is.0 is.1 has) (ap (λ (n : ℕ). commit_record t n lsn ∷ r.now.log) last_is))
 
   -- one that a call refused has failed
   pub commit_broke : (t fault : ℕ) → barred v (Commit t) ≡ None → Breaks fault → (fault ≡ memory → ⊥) → (fault ≡ unfinished → ⊥) → new.failed ≡ true → LeavesOnly d old.disk new.disk (Allowed before (shows s (Commit t) None))

@@ -36,7 +36,7 @@ use Rattle.im_smo_split.specs.Tops.{LacksRoomFor}
 use Rattle.im_smo_actions.specs.Structure.{IsUsedUp}
 use Rattle.im_base_txn.specs.declared.transaction.Mark.TheVariants.{Going, MustRollBack}
 use Rattle.im_base_txn.specs.declared.transaction.Transaction.{Transaction}
-use Rattle.im_base_txn.specs.Rows.{is_of, changed, with_mark, with_record}
+use Rattle.im_base_txn.specs.Rows.{is_of, changed, with_mark}
 use Rattle.im_base_txn.proofs.LookUps.{look_ups_follow}
 use Rattle.im_theory_machine.specs.Locks.{Lock, IsFree}
 use Rattle.im_theory_machine.specs.Rows.{asked}
@@ -51,7 +51,7 @@ use Rattle.im_base_types.specs.Faults.{number_of}
 use Rattle.im_theory_steps.specs.Checks.{checked_by}
 use Rattle.im_theory_steps.specs.Growth.{GrowsWithin}
 use Rattle.im_theory_steps.specs.Serving.{IsServed}
-use Rattle.im_theory_steps.specs.Steps.{IsOnTheWay, key_record}
+use Rattle.im_theory_steps.specs.Steps.{IsOnTheWay, key_record, with_made}
 use Rattle.im_theory_steps.proofs.Cited.{inserts_served, lacks_served, ways_lead_on}
 use Rattle.im_engine_index.specs.declared.noted.Noted.{Noted}
 use Rattle.im_engine_index.specs.declared.lock_answer.LockAnswer.{LockAnswer}
@@ -104,14 +104,13 @@ module _ {D : Type 0} (d : Ghosts D) {b : Base} (before : List Effect) (s : Show
         subst (λ (n : ℕ). IsOnTheWay b t n r.now.log is.between) (sym (law.1.chained refl).prev) (ways_lead_on.leads b t row.last r.now.log r.now.log is.between first (by_structure t r.now.log is.between is.change))
 
     abbrev rows : List Transaction
-    rows = map (changed t (with_record noted.last noted.undo_next)) old.txns.rows
+    rows = map (changed t (with_made noted.last)) old.txns.rows
 
     after_record : IsServed b r.earlier before s v (Do t (Insert key rid)) answers.Inserted (did v t (Insert key rid) (lasting_of new.locks t)) is.now.log rows old.txns.next new.locks
     after_record =
-        subst (λ (n : ℕ). IsServed b r.earlier before s v (Do t (Insert key rid)) answers.Inserted (did v t (Insert key rid) (lasting_of new.locks t)) is.now.log (map (changed t (with_record noted.last n)) old.txns.rows) old.txns.next new.locks) (sym is.same)
-        (subst (λ (l : History). IsServed b r.earlier before s v (Do t (Insert key rid)) answers.Inserted (did v t (Insert key rid) (lasting_of new.locks t)) l (map (changed t (with_record noted.last noted.last)) old.txns.rows) old.txns.next new.locks) (sym is.is)
+        subst (λ (l : History). IsServed b r.earlier before s v (Do t (Insert key rid)) answers.Inserted (did v t (Insert key rid) (lasting_of new.locks t)) l rows old.txns.next new.locks) (sym is.is)
         (inserts_served page_tree page_tree_laws b r.earlier before s v r.now.log is.between old.txns.rows old.txns.next old.locks new.locks t is.newest noted.last is.page row key rid r.serving found mark (nobody_owner d before s v old r plain t) fits
-        way law.0 (outside t (open_smo is.between) closed) (not_in is.page (open_smo is.between) closed) is.absent decided may.can_put law.1.rises).served)
+        way law.0 (outside t (open_smo is.between) closed) (not_in is.page (open_smo is.between) closed) is.absent decided may.can_put law.1.rises).served
 
     says : answer (Insert key rid) v.walk ≡ answers.Inserted
     says = ap (λ (m : IndexMap). answer (Insert key rid) m) walk_of ∙ ap (λ (o : Option ℕ). cond (is_some o) answers.Duplicate answers.Inserted) is.absent
@@ -136,7 +135,7 @@ module _ {D : Type 0} (d : Ghosts D) {b : Base} (before : List Effect) (s : Show
       is = is.is;
     }
 
-    pub inserted : new.txns ≡ record old.txns { rows = map (changed t (with_record noted.last noted.undo_next)) old.txns.rows } → LeavesEdit d b r.base r.now t old.disk new.disk → new.failed ≡ false → StepKept d before s v (Do t (Insert key rid)) answers.Inserted old new
+    pub inserted : new.txns ≡ record old.txns { rows = map (changed t (with_made noted.last)) old.txns.rows } → LeavesEdit d b r.base r.now t old.disk new.disk → new.failed ≡ false → StepKept d before s v (Do t (Insert key rid)) answers.Inserted old new
     inserted table stops works =
         let w = did v t (Insert key rid) (lasting_of new.locks t) in
         subst (λ (reply : Reply). StepKept d before s v (Do t (Insert key rid)) reply old new) says
@@ -337,7 +336,7 @@ module _ {D : Type 0} (d : Ghosts D) (old new : Engine D d) (t : ℕ) (key : Key
     kept_now result below = kept_here d old new.locks new.writer new.disk t key rid row found checked plain at_once before s v r result below
 
     -- it was made
-    pub insert_made : (o : LockAnswer (Option Noted)) → Under (Ok o) → (x : Option Noted) → o ≡ Granted x → (noted : Noted) → x ≡ Some noted → new.txns ≡ record old.txns { rows = map (changed t (with_record noted.last noted.undo_next)) old.txns.rows } → new.failed ≡ false
+    pub insert_made : (o : LockAnswer (Option Noted)) → Under (Ok o) → (x : Option Noted) → o ≡ Granted x → (noted : Noted) → x ≡ Some noted → new.txns ≡ record old.txns { rows = map (changed t (with_made noted.last)) old.txns.rows } → new.failed ≡ false
         → StepKept d before s v (Do t (Insert key rid)) answers.Inserted old new
     insert_made o below x granted noted some table works_on =
         let kept = subst (λ (y : LockAnswer (Option Noted)). Now (Ok y)) (granted ∙ ap Granted some) (kept_now (Ok o) below) in

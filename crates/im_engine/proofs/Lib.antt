@@ -11,10 +11,12 @@ pub mod Made
 pub mod Refused
 pub mod Reading
 pub mod Ending
+pub mod Emptied
 pub mod Barred
 pub mod Costs
 pub mod Telling
 pub mod Causes
+pub mod Unserved
 pub mod Stepping
 pub mod Counted
 pub mod Turning

@@ -1,10 +1,13 @@
 -- Numbers of rows that are above another.
-use Rattle.std.proofs.Common.{◌≡◌, ◌≤◌, ◌<◌, ℕ, Bool, true, false, not, List, [], ◌∷◌, ◌++◌, Option, Some, None, IfSome, map, refl, sym, ap, subst, ◌∙◌, arith}
-use Rattle.std.specs.Prelude.{find, ◌==◌, if◌then◌else◌}
+use Rattle.std.proofs.Common.{inl, inr, ◌≡◌, ◌≤◌, ◌<◌, ℕ, Bool, true, false, not, List, [], ◌∷◌, ◌++◌, Option, Some, None, IfSome, map, refl, sym, ap, subst, ◌∙◌, arith}
+use Rattle.std.specs.Prelude.{filter, find, ◌==◌, if◌then◌else◌}
+use Rattle.im_theory_steps.specs.Steps.{with_made}
+use Rattle.im_engine.specs.Numbered.{NoneReturns, Numbered, is_returning}
 use Rattle.im_base_txn.specs.declared.transaction.Transaction.{Transaction}
-use Rattle.im_base_txn.specs.Rows.{AreAbove, begun, changed, is_of}
+use Rattle.std.proofs.lemmas.Bool.{cases_eq, cond-false, cond-true, eq-eqb, ne_eqb}
+use Rattle.im_base_txn.specs.Rows.{AreAbove, AreRising, begun, changed, is_of, with_changes, with_record}
 use Rattle.im_base_txn.specs.LookUps.{Keeps, without}
-use Rattle.im_base_txn.proofs.LookUps.{look_ups_follow}
+use Rattle.im_base_txn.proofs.LookUps.{found_here, found_later, look_ups_follow}
 
 pub above_begun : (n number : ℕ) (rows : List Transaction) → n < number → AreAbove n rows → AreAbove n (rows ++ begun number ∷ [])
 above_begun n number [] le are = (le, tt)
@@ -47,3 +50,106 @@ owned_by number rows are (Some row) is =
     let same = found_number number rows (Some row) (sym is) row refl in
     let above = found_above 0 number rows are (Some row) (sym is) row refl same in
     omega (arith, above, same)
+
+-- ---- none of the rows returns
+
+pub forward_begun : (number : ℕ) (rows : List Transaction) → NoneReturns rows → NoneReturns (rows ++ begun number ∷ [])
+forward_begun number [] are = (refl, tt)
+forward_begun number (row ∷ rows) are = (are.0, forward_begun number rows are.1)
+
+pub forward_changed : (number : ℕ) (f : Transaction → Transaction) → ((row : Transaction) → is_returning row.mark ≡ false → is_returning (f row).mark ≡ false) → (rows : List Transaction) → NoneReturns rows → NoneReturns (map (changed number f) rows)
+forward_changed number f keeps [] are = tt
+forward_changed number f keeps (row ∷ rows) are = (by (row.number == number), forward_changed number f keeps rows are.1)
+  where
+    by : (b : Bool) → is_returning (if b then f row else row).mark ≡ false
+    by true = keeps row are.0
+    by false = are.0
+
+pub forward_part : (p : Transaction → Bool) (rows : List Transaction) → NoneReturns rows → NoneReturns (filter p rows)
+forward_part p [] are = tt
+forward_part p (row ∷ rows) are = by (p row) (forward_part p rows are.1)
+  where
+    by : (b : Bool) → NoneReturns (filter p rows) → NoneReturns (if b then row ∷ filter p rows else filter p rows)
+    by true more = (are.0, more)
+    by false more = more
+
+-- nor one that is found
+pub found_forward : (number : ℕ) (rows : List Transaction) → NoneReturns rows → (row : Transaction) → find (is_of number) rows ≡ Some row → is_returning row.mark ≡ false
+found_forward number [] are row is = absurd (cc is)
+found_forward number (first ∷ rows) are row is = by (is_of number first) refl (found_forward number rows are.1 row)
+  where
+    by : (b : Bool) → is_of number first ≡ b → (find (is_of number) rows ≡ Some row → is_returning row.mark ≡ false) → is_returning row.mark ≡ false
+    by true here more =
+        let same : Some first ≡ Some row = sym (ap (λ (x : Bool). if x then Some first else find (is_of number) rows) here) ∙ is in
+        let it : first ≡ row = cc same in
+        subst (λ (r : Transaction). is_returning r.mark ≡ false) it are.0
+    by false here more = more (sym (ap (λ (x : Bool). if x then Some first else find (is_of number) rows) here) ∙ is)
+
+-- ---- one row is changed
+
+-- above a number nothing is of it
+set_above : (n : ℕ) (f : Transaction → Transaction) (rows : List Transaction) → AreAbove n rows → map (changed n f) rows ≡ rows
+set_above n f [] are = refl
+set_above n f (row ∷ rows) are =
+    let l : n < row.number = are.0 in
+    (λ i. cond-false (row.number == n) (f row) row (ne_eqb row.number n (λ e. absurd (omega (arith, l, e)))) i ∷ set_above n f rows are.1 i)
+
+-- where there is none of this number all stay
+pub none_set : (n : ℕ) (f : Transaction → Transaction) (rows : List Transaction) → find (is_of n) rows ≡ None → map (changed n f) rows ≡ rows
+none_set n f [] none = refl
+none_set n f (row ∷ rows) none = elim (cases_eq row.number n) [
+  | inl is ↦ (let never : Some row ≡ None = sym (found_here n row rows is) ∙ none in absurd cc)
+  | inr other ↦ (λ i. cond-false (row.number == n) (f row) row (ne_eqb row.number n other) i ∷ none_set n f rows (sym (found_later n row rows other) ∙ none) i)
+]
+
+-- and else it is the row that is found
+pub found_set : (n : ℕ) (f g : Transaction → Transaction) (rows : List Transaction) → AreRising rows → (row : Transaction) → find (is_of n) rows ≡ Some row → f row ≡ g row → map (changed n f) rows ≡ map (changed n g) rows
+found_set n f g [] rising row found same = refl
+found_set n f g (first ∷ rows) rising row found same = elim (cases_eq first.number n) [
+  | inl is ↦
+      (let one : Some first ≡ Some row = sym (found_here n first rows is) ∙ found in
+      let it : first ≡ row = cc one in
+      let above : AreAbove n rows = subst (λ (k : ℕ). AreAbove k rows) is rising.0 in
+      let head : changed n f first ≡ changed n g first =
+      cond-true (first.number == n) (f first) first (eq-eqb first.number n is) ∙ ap f it ∙ same ∙ sym (ap g it) ∙ sym (cond-true (first.number == n) (g first) first (eq-eqb first.number n is)) in
+      (λ i. head i ∷ (set_above n f rows above ∙ sym (set_above n g rows above)) i))
+  | inr other ↦
+      (λ i. (cond-false (first.number == n) (f first) first (ne_eqb first.number n other) ∙ sym (cond-false (first.number == n) (g first) first (ne_eqb first.number n other))) i
+      ∷ found_set n f g rows rising.1 row (sym (found_later n first rows other) ∙ found) same i)
+]
+
+-- so a count that is right for the row that is found is right for all
+pub set_changes : (n last undo_next count : ℕ) (g : Transaction → Transaction) (h : Transaction → ℕ) → ((row : Transaction) → with_changes last undo_next (h row) row ≡ g row) → (rows : List Transaction) → AreRising rows → (o : Option Transaction) → o ≡ find (is_of n) rows → IfSome o (λ row. count ≡ h row)
+    → map (changed n (with_changes last undo_next count)) rows ≡ map (changed n g) rows
+set_changes n last undo_next count g h is rows rising None found counts = none_set n (with_changes last undo_next count) rows (sym found) ∙ sym (none_set n g rows (sym found))
+set_changes n last undo_next count g h is rows rising (Some row) found counts = found_set n (with_changes last undo_next count) g rows rising row (sym found) (ap (λ (k : ℕ). with_changes last undo_next k row) counts ∙ is row)
+
+-- ---- two changes of a row, one after the other
+
+fused_one : (t : ℕ) (f g : Transaction → Transaction) → Keeps f → (row : Transaction) (c : Bool) → (row.number == t) ≡ c → changed t g (changed t f row) ≡ changed t (λ x. g (f x)) row
+fused_one t f g keeps row true is =
+    let here : changed t f row ≡ f row = ap (λ (x : Bool). if x then f row else row) is in
+    ap (changed t g) here
+    ∙ ap (λ (n : ℕ). if n == t then g (f row) else f row) (keeps row)
+    ∙ ap (λ (x : Bool). if x then g (f row) else f row) is
+    ∙ sym (ap (λ (x : Bool). if x then g (f row) else row) is)
+fused_one t f g keeps row false is =
+    let here : changed t f row ≡ row = ap (λ (x : Bool). if x then f row else row) is in
+    ap (changed t g) here
+    ∙ ap (λ (x : Bool). if x then g row else row) is
+    ∙ sym (ap (λ (x : Bool). if x then g (f row) else row) is)
+
+-- are one
+pub fused : (t : ℕ) (f g : Transaction → Transaction) → Keeps f → (rows : List Transaction) → map (changed t g) (map (changed t f) rows) ≡ map (changed t (λ x. g (f x))) rows
+fused t f g keeps [] = refl
+fused t f g keeps (row ∷ rows) =
+    ap (λ (x : Transaction). x ∷ map (changed t g) (map (changed t f) rows)) (fused_one t f g keeps row (row.number == t) refl)
+    ∙ ap (λ (xs : List Transaction). changed t (λ x. g (f x)) row ∷ xs) (fused t f g keeps rows)
+
+pub fused_in : (t : ℕ) (f g : Transaction → Transaction) → Keeps f → (old mid new : Numbered) → mid ≡ record old { rows = map (changed t f) old.rows } → new ≡ record mid { rows = map (changed t g) mid.rows } → new ≡ record old { rows = map (changed t (λ x. g (f x))) old.rows }
+fused_in t f g keeps old mid new first second =
+    second ∙ ap (λ (x : Numbered). record x { rows = map (changed t g) x.rows }) first ∙ ap (λ (rows : List Transaction). record old { rows = rows }) (fused t f g keeps old.rows)
+
+-- a row after the record of a key at an LSN, and those of a structure change after it
+abbrev pub with_taken : (last lsn : ℕ) → Transaction → Transaction
+with_taken last lsn row = with_record last lsn (with_made lsn row)

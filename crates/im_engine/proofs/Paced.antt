@@ -1,7 +1,7 @@
 -- How a step goes on with the structure change under way, where it leaves it as it is; and what its owner is never told.
 use Rattle.std.proofs.Common.{◌≡◌, ◌≢◌, ◌⊎◌, inl, inr, ℕ, Bool, true, false, cond, is_some, Option, None, Some, refl, sym, ap, subst, ◌∙◌, ◌==◌, eqb-true}
 use Rattle.im_base_types.specs.Answers as answers
-use Rattle.im_base_types.specs.Answers.{Step, Begin, Do, Commit, Rollback, Continue, FlushPage, Force, Checkpoint, Switch}
+use Rattle.im_base_types.specs.Answers.{Step, Begin, Do, Commit, Rollback, Continue, RollTo, FlushPage, Force, Checkpoint, Switch}
 use Rattle.im_base_types.specs.Maps.{IndexMap}
 use Rattle.im_theory_log.specs.Histories.{History}
 use Rattle.im_base_disk.specs.declared.disk.Disk.{Ghosts}
@@ -39,6 +39,7 @@ bars_none pages beside m log (Continue t) is bars = cc is
 bars_none pages beside m log Begin is bars = bars
 bars_none pages beside m log (Commit t) is bars = bars
 bars_none pages beside m log (Rollback t) is bars = bars
+bars_none pages beside m log (RollTo t n) is bars = bars
 bars_none pages beside m log (FlushPage p) is bars = bars
 bars_none pages beside m log Force is bars = bars
 bars_none pages beside m log Checkpoint is bars = bars

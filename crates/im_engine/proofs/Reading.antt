@@ -20,7 +20,7 @@ use Rattle.im_engine_index.specs.Reads.{IsRead}
 use Rattle.im_base_types.specs.Keys.{Key}
 use Rattle.im_base_types.specs.Maps.{IndexMap}
 use Rattle.im_base_txn.specs.Rows.{changed, with_mark}
-use Rattle.im_base_txn.specs.declared.transaction.Mark.TheVariants.{Going, MustRollBack, RollingBack}
+use Rattle.im_base_txn.specs.declared.transaction.Mark.TheVariants.{Going, MustRollBack}
 use Rattle.im_page_table.specs.DirtyTable.{FitsRecord}
 use Rattle.im_theory_machine.specs.Rows.{asked}
 use Rattle.im_theory_machine.specs.Table.{Decides, lasting_of}
@@ -59,7 +59,7 @@ module _ {D : Type 0} (d : Ghosts D) (before : List Effect) (s : Shown) (v : Vie
   -- who has no structure change under way
   free : owner_in v ≢ Some t
   free =
-      not_owner d before s v old run.1 t going.row going.found (λ rolls. let never : Going ≡ RollingBack = sym going.mark ∙ rolls in cc never)
+      not_owner d before s v old run.1 t going.row going.found (inl going.mark)
       (none_if (pending_of (under_of old.under) t) (access_unowned old.txns.rows t a checked))
 
   no_commit : (u : ℕ) → Do t a ≡ Commit u → ⊥

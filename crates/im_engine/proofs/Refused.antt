@@ -1,6 +1,6 @@
 -- Steps that calls of the writer refuse.
 use Rattle.std.proofs.Common.{◌≡◌, ◌≢◌, inl, inr, ℕ, ◌≤◌, List, true, false, Some, None, refl, sym, subst, ◌∙◌}
-use Rattle.im_base_types.specs.Answers.{Step, Begin, Do, Commit, Rollback, Continue, FlushPage, Force, Checkpoint, Switch, Refused}
+use Rattle.im_base_types.specs.Answers.{Step, Begin, Do, Commit, Rollback, Continue, RollTo, FlushPage, Force, Checkpoint, Switch, Refused}
 use Rattle.im_base_types.specs.Changes.{Effect}
 use Rattle.im_theory_log.specs.Histories.{Base, History}
 use Rattle.im_base_types.specs.Refusals.{memory}
@@ -37,6 +37,7 @@ none_done d before s v (Do t a) n e = tt
 none_done d before s v (Commit t) n e = tt
 none_done d before s v (Rollback t) n e = tt
 none_done d before s v (Continue t) n e = tt
+none_done d before s v (RollTo t left) n e = tt
 none_done d before s v (FlushPage p) n e = tt
 none_done d before s v Force n e = tt
 none_done d before s v Checkpoint n e = tt

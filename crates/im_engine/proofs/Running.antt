@@ -41,6 +41,7 @@ use Rattle.im_theory_machine.specs.Machine.{barred}
 use Rattle.im_theory_steps.specs.Checks.{checked_by}
 use Rattle.im_theory_steps.proofs.Cited.{rows_tell, owners_marked, copies_are_images, images_change_nothing, commits_stand}
 use Rattle.im_theory_steps.specs.Growth.{AreBelow}
+use Rattle.im_theory_steps.specs.Steps.{takes_back}
 use Rattle.im_theory_steps.specs.Serving.{IsAt, IsServing, mark_of}
 use Rattle.im_theory_steps.specs.Durable.{AreCommitted}
 use Rattle.im_engine.specs.declared.engine.Engine.{Engine}
@@ -50,7 +51,6 @@ use Rattle.im_engine.specs.Aims.{IsChanging, under_of}
 use Rattle.im_engine.specs.Running.{IsRunning}
 use Rattle.im_engine.proofs.GoingOn.{images_go, other_than}
 use Rattle.im_engine.proofs.Stands.{covered_allowed}
-use Rattle.im_base_types.specs.Answers as answers
 use Rattle.im_base_types.specs.Answers.{Step}
 
 -- what may be left where the same is asked
@@ -73,15 +73,9 @@ pub plain_under : {D : Type 0} (d : Ghosts D) (e : Engine D d) → e.stepped ≡
 plain_under d e plain = none_if e.under (e.whole plain)
 
 -- who is going, or must roll back, takes nothing back
-pub never_rolls : (m : declared.Mark) → (m ≡ marks.Going) ⊎ (m ≡ marks.MustRollBack) → m ≢ marks.RollingBack
-never_rolls m (inl is) rolls = let never : marks.Going ≡ marks.RollingBack = sym is ∙ rolls in cc never
-never_rolls m (inr is) rolls = let never : marks.MustRollBack ≡ marks.RollingBack = sym is ∙ rolls in cc never
-
-rolls_back : (m : declared.Mark) → mark_of m ≡ answers.RollingBack → m ≡ marks.RollingBack
-rolls_back marks.Going is = absurd (cc is)
-rolls_back marks.MustRollBack is = absurd (cc is)
-rolls_back marks.RollingBack is = refl
-rolls_back marks.Committing is = absurd (cc is)
+takes_none : (m : declared.Mark) → (m ≡ marks.Going) ⊎ (m ≡ marks.MustRollBack) → takes_back (mark_of m) ≡ false
+takes_none m (inl is) = ap (λ (x : declared.Mark). takes_back (mark_of x)) is
+takes_none m (inr is) = ap (λ (x : declared.Mark). takes_back (mark_of x)) is
 
 module _ {D : Type 0} (d : Ghosts D) {b : Base} (before : List Effect) (s : Shown) (v : View) (e : Engine D d) (r : IsRunning d b before s v e) where
   -- what the table, and the structure change under way, tell of the checks
@@ -93,10 +87,10 @@ module _ {D : Type 0} (d : Ghosts D) {b : Base} (before : List Effect) (s : Show
   nothing_pending t none = ap (λ (u : Option views.Under). pending_of u t) r.same ∙ none
 
   -- and who takes nothing back has no structure change under way
-  pub not_owner : (t : ℕ) (row : Transaction) → find (is_of t) e.txns.rows ≡ Some row → row.mark ≢ marks.RollingBack → pending_of (under_of e.under) t ≡ None → owner_in v ≢ Some t
-  not_owner t row found free none =
-      let is = subst (λ (o : Option Transaction). IsAt t o e.txns.next r.now.log (owner_in v) (v.txns t)) found (r.serving.table.each t) in
-      owners_marked.free (apply_all empty before) v r.serving.reached t (nothing_pending t none) (λ rolls. free (rolls_back row.mark (sym is.2 ∙ rolls)))
+  pub not_owner : (t : ℕ) (row : Transaction) → find (is_of t) e.txns.rows ≡ Some row → (row.mark ≡ marks.Going) ⊎ (row.mark ≡ marks.MustRollBack) → pending_of (under_of e.under) t ≡ None → owner_in v ≢ Some t
+  not_owner t row found mark none =
+      let is = subst (λ (o : Option Transaction). IsAt t o e.txns.next r.now.log (v.txns t)) found (r.serving.table.each t) in
+      owners_marked.free (apply_all empty before) v r.serving.reached t (nothing_pending t none) (ap takes_back is.2 ∙ takes_none row.mark mark)
 
   -- so the open one is another's
   pub outside_of : (t : ℕ) → owner_in v ≢ Some t → IsOutside t (open_smo r.now.log)

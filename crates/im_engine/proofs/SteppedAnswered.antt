@@ -30,6 +30,7 @@ use Rattle.im_engine_index.specs.declared.begun.Inserting.TheVariants.{There, Pu
 use Rattle.im_engine_index.specs.declared.lock_answer.LockAnswer.{LockAnswer}
 use Rattle.im_engine_index.specs.declared.lock_answer.LockAnswer.TheVariants.{Granted, Wait, Die}
 use Rattle.im_engine_index.specs.EditsBeside.{DeleteBesideKept, InsertBesideKept, MayEditBeside}
+use Rattle.im_theory_steps.specs.Steps.{with_made}
 use Rattle.im_engine.specs.declared.engine.Engine.{Engine}
 use Rattle.im_engine.specs.declared.stepped.Aim.TheVariants.{Puts, Drops}
 use Rattle.im_engine.specs.Accesses.{answer_in, failed_in, rest_of, rows_in}
@@ -72,10 +73,10 @@ module _ {D : Type 0} (d : Ghosts D) (t : ℕ) (key : Key) (rid : ℕ) (old : En
         inserts.made_there d t key rid old new works row found checked beside told come_fixed (Seen (Granted y)) at.0.kept at.0.outcome at.1 same (ap (λ (z : Inserting). Seen (Granted z)) is) (same_rows old.txns new.txns (rows_in t came old.txns.rows) at.2 table)
 
     -- it came
-    pub insert_granted : (y : Inserting) → Ok y ≡ answer_in came → (lsn : ℕ) → y ≡ PutIn lsn → new.under ≡ old.under → (mid : Numbered) → mid ≡ record old.txns { rows = rows_in t came old.txns.rows } → new.txns ≡ record mid { rows = map (changed t (with_record lsn lsn)) mid.rows } → IsMade d (Do t (Insert key rid)) replies.Inserted old new
+    pub insert_granted : (y : Inserting) → Ok y ≡ answer_in came → (lsn : ℕ) → y ≡ PutIn lsn → new.under ≡ old.under → (mid : Numbered) → mid ≡ record old.txns { rows = rows_in t came old.txns.rows } → new.txns ≡ record mid { rows = map (changed t (with_made lsn)) mid.rows } → IsMade d (Do t (Insert key rid)) replies.Inserted old new
     insert_granted y so lsn is same mid was table =
         let at = come_granted y so in
-        inserts.made_put d t key rid old new works row found checked beside told come_fixed (Seen (Granted y)) at.0.kept at.0.outcome at.1 same lsn (ap (λ (z : Inserting). Seen (Granted z)) is) (noted_rows old.txns mid new.txns (rows_in t came old.txns.rows) (changed t (with_record lsn lsn)) at.2 was table)
+        inserts.made_put d t key rid old new works row found checked beside told come_fixed (Seen (Granted y)) at.0.kept at.0.outcome at.1 same lsn (ap (λ (z : Inserting). Seen (Granted z)) is) (noted_rows old.txns mid new.txns (rows_in t came old.txns.rows) (changed t (with_made lsn)) at.2 was table)
 
     -- a structure change begins for it
     pub insert_begins : old.stepped ≡ true → (y : Inserting) → Ok y ≡ answer_in came → (begun : BegunChange) (leaf : ℕ) → y ≡ Split begun leaf → new.under ≡ Some (record { begun = begun; aim = Puts key rid leaf }) → (mid : Numbered) → mid ≡ record old.txns { rows = rows_in t came old.txns.rows } → new.txns ≡ record mid { rows = map (changed t (with_record begun.change.last begun.change.last)) mid.rows } → IsMade d (Do t (Insert key rid)) replies.More old new
@@ -124,16 +125,16 @@ module _ {D : Type 0} (d : Ghosts D) (t : ℕ) (key : Key) (old : Engine D d) (r
         deletes.made_gone d t key old new works row found checked beside told go_fixed (Seen (Granted y)) at.0.kept at.0.outcome at.1 same (ap (λ (z : Deleting). Seen (Granted z)) is) (same_rows old.txns new.txns (rows_in t came old.txns.rows) at.2 table)
 
     -- it went
-    pub delete_granted : (y : Deleting) → Ok y ≡ answer_in came → (lsn : ℕ) → y ≡ Taken lsn → new.under ≡ old.under → (mid : Numbered) → mid ≡ record old.txns { rows = rows_in t came old.txns.rows } → new.txns ≡ record mid { rows = map (changed t (with_record lsn lsn)) mid.rows } → IsMade d (Do t (Delete key)) replies.Deleted old new
+    pub delete_granted : (y : Deleting) → Ok y ≡ answer_in came → (lsn : ℕ) → y ≡ Taken lsn → new.under ≡ old.under → (mid : Numbered) → mid ≡ record old.txns { rows = rows_in t came old.txns.rows } → new.txns ≡ record mid { rows = map (changed t (with_made lsn)) mid.rows } → IsMade d (Do t (Delete key)) replies.Deleted old new
     delete_granted y so lsn is same mid was table =
         let at = go_granted y so in
-        deletes.made_taken d t key old new works row found checked beside told go_fixed (Seen (Granted y)) at.0.kept at.0.outcome at.1 same lsn (ap (λ (z : Deleting). Seen (Granted z)) is) (noted_rows old.txns mid new.txns (rows_in t came old.txns.rows) (changed t (with_record lsn lsn)) at.2 was table)
+        deletes.made_taken d t key old new works row found checked beside told go_fixed (Seen (Granted y)) at.0.kept at.0.outcome at.1 same lsn (ap (λ (z : Deleting). Seen (Granted z)) is) (noted_rows old.txns mid new.txns (rows_in t came old.txns.rows) (changed t (with_made lsn)) at.2 was table)
 
     -- a structure change begins for it
-    pub delete_begins : old.stepped ≡ true → (y : Deleting) → Ok y ≡ answer_in came → (begun : BegunChange) → y ≡ Dropping begun → new.under ≡ Some (record { begun = begun; aim = Drops key }) → (mid : Numbered) → mid ≡ record old.txns { rows = rows_in t came old.txns.rows } → new.txns ≡ record mid { rows = map (changed t (with_record begun.change.last begun.change.last)) mid.rows } → IsMade d (Do t (Delete key)) replies.More old new
+    pub delete_begins : old.stepped ≡ true → (y : Deleting) → Ok y ≡ answer_in came → (begun : BegunChange) → y ≡ Dropping begun → new.under ≡ Some (record { begun = begun; aim = Drops key }) → (mid : Numbered) → mid ≡ record old.txns { rows = rows_in t came old.txns.rows } → new.txns ≡ record mid { rows = map (changed t (with_made begun.change.last)) mid.rows } → IsMade d (Do t (Delete key)) replies.More old new
     delete_begins stepped y so begun is under mid was table =
         let at = go_granted y so in
-        deletes.made_begun d t key old new works row found checked beside told go_fixed (Seen (Granted y)) at.0.kept at.0.outcome at.1 stepped begun (ap (λ (z : Deleting). Seen (Granted z)) is) under (noted_rows old.txns mid new.txns (rows_in t came old.txns.rows) (changed t (with_record begun.change.last begun.change.last)) at.2 was table)
+        deletes.made_begun d t key old new works row found checked beside told go_fixed (Seen (Granted y)) at.0.kept at.0.outcome at.1 stepped begun (ap (λ (z : Deleting). Seen (Granted z)) is) under (noted_rows old.txns mid new.txns (rows_in t came old.txns.rows) (changed t (with_made begun.change.last)) at.2 was table)
 
     -- its locks were not granted, the tree is blocked, or the call below refused it
     pub delete_otherwise : new.under ≡ old.under → new.txns ≡ record old.txns { rows = rows_in t came old.txns.rows } → ((u : ℕ) (c : Files) → u ≤ d.moment new.disk → d.may_leave new.disk c → d.left_since new.disk u c) → (reply : Reply) → Err reply ≡ answer_in came → IsMade d (Do t (Delete key)) reply old new

@@ -38,11 +38,11 @@ use Rattle.im_engine_rollback.specs.TurnsBeside.{HasEndedBeside, HasMoreBeside}
 use Rattle.im_engine_rollback.specs.declared.undone.Undone.TheVariants as turns
 use Rattle.im_theory_machine.specs.Table.{IsReleased, Table}
 use Rattle.im_theory_machine.specs.View as views
-use Rattle.im_theory_machine.specs.View.{View, change_made, dropped_by, of_others, owner_in, owner_of, undid_last, undid_more}
+use Rattle.im_theory_machine.specs.View.{View, change_made, dropped_by, of_others, undid_last, undid_more}
 use Rattle.im_theory_steps.specs.Checks.{checked_by}
 use Rattle.im_theory_steps.specs.Growth.{AreBelow, GrowsByStructure, GrowsWithin, IsOfOthers, IsOver, Stays}
 use Rattle.im_theory_steps.specs.Serving.{IsServing}
-use Rattle.im_theory_steps.specs.Steps.{noted}
+use Rattle.im_theory_steps.specs.Steps.{noted, with_undone}
 use Rattle.im_theory_steps.proofs.Cited.{turns_drop, turns_end, commits_stand, numbers_stay_new, same_by, same_then, structure_changes_no_key, within_leaves_others, mark_free, structure_keeps, ends_leave_nothing, last_undone_served, undone_served}
 use Rattle.im_engine.specs.declared.engine.Engine.{Engine}
 use Rattle.im_engine.specs.declared.stepped.Aim.{Aim}
@@ -54,7 +54,8 @@ use Rattle.im_engine.specs.Kept.{StepKept}
 use Rattle.im_engine.specs.Numbered.{Numbered}
 use Rattle.im_engine.specs.Running.{IsRunning}
 use Rattle.im_engine.specs.TurningBack.{EndsBack}
-use Rattle.im_engine.proofs.Edited.{by_structure, noted_twice}
+use Rattle.im_engine.proofs.Edited.{by_structure}
+use Rattle.im_engine.proofs.Numbers.{fused}
 use Rattle.im_engine.proofs.Made.{step_made}
 use Rattle.im_engine.proofs.SteppedBacks.{change_back, takes_alone, takes_one, taken_last, taken_newest, taken_next}
 use Rattle.im_engine.proofs.SteppedTurns.{below_next, mark, stops_back}
@@ -140,9 +141,6 @@ module _ {D : Type 0} (d : Ghosts D) {b : Base} (before : List Effect) (s : Show
   was : v.under ≡ Some (owned ends.u)
   was = r.same ∙ ap under_of ends.is
 
-  own_in : owner_in v ≡ Some t
-  own_in = ap owner_of was ∙ ap (λ (n : ℕ). Some n) ends.owner
-
   going : IsGoing b ends.u r.now.log
   going = subst (λ (u : Option Under). IsChanging b u r.now.log) ends.is r.changing
 
@@ -188,7 +186,7 @@ module _ {D : Type 0} (d : Ghosts D) {b : Base} (before : List Effect) (s : Show
     found_now = look_ups_follow.changed_own t (with_record (last_of t closed.log) (undo_next_of t closed.log)) (λ x. refl) old.txns.rows row found
 
     pub serving_now : IsServing b r.earlier before s v closed.log (noted t closed.log old.txns.rows) old.txns.next old.locks
-    serving_now = structure_keeps b r.earlier before s v r.now.log closed.log old.txns.rows old.txns.next old.locks t row r.serving found (mark_free row.mark marks.RollingBack rolling (λ x. cc x)) (inr own_in) grown
+    serving_now = structure_keeps b r.earlier before s v r.now.log closed.log old.txns.rows old.txns.next old.locks t row r.serving found (mark_free row.mark marks.RollingBack rolling (λ x. cc x)) grown
 
     pub closed_last : last_of t closed.log ≡ lsn
     closed_last = ap (λ (x : Loser). x.last) shut.going.row
@@ -212,7 +210,7 @@ module _ {D : Type 0} (d : Ghosts D) {b : Base} (before : List Effect) (s : Show
     -- ---- a split is closed, and the key comes back
 
     pub split_more : (takes : ends.u.aim ≡ TakesBack) (last undo_next : ℕ) → SplitClosed d b r.base r.now r.redo_end t ends.u.begun.change.last ends.u.begun.change.undo_next new.writer new.disk (turns.More last undo_next) → new.locks ≡ old.locks
-        → new.txns ≡ record old.txns { rows = map (changed t (with_record last undo_next)) old.txns.rows } → StepKept d before s v (Continue t) More old new
+        → new.txns ≡ record old.txns { rows = map (changed t (with_undone last undo_next)) old.txns.rows } → StepKept d before s v (Continue t) More old new
     split_more takes last undo_next is locks table =
         let closed = is.closed in
         let shut = is.shut in
@@ -227,12 +225,12 @@ module _ {D : Type 0} (d : Ghosts D) {b : Base} (before : List Effect) (s : Show
         let same = within_leaves_others t closed.log now.log undoes.grows in
         let w = undid_more v t c (net t now.log) in
         let served = undone_served b r.earlier before s v closed.log now.log rows_closed old.txns.next old.locks t (row_now is.lsn closed is.between is.mid shut) c (serving_now is.lsn closed is.between is.mid shut) (found_now is.lsn closed is.between is.mid shut) rolling undoes turned.left taken.going.unfinished in
-        let rows_of : ℕ → ℕ → List Transaction = λ l n. map (changed t (with_record l n)) old.txns.rows in
+        let rows_of : ℕ → ℕ → List Transaction = λ l n. map (changed t (with_undone l n)) old.txns.rows in
         let last_is = taken_last d b r.base closed r.redo_end t turned.entry to (Plain took.page) last is.mid new.writer new.disk taken in
         let next_is = taken_next d b r.base closed r.redo_end t turned.entry to (Plain took.page) last is.mid new.writer new.disk taken in
-        let table_is : new.txns ≡ record old.txns { rows = noted t now.log rows_closed } =
+        let table_is : new.txns ≡ record old.txns { rows = map (changed t (with_undone (last_of t now.log) (undo_next_of t now.log))) rows_closed } =
         table ∙ ap (λ (l : ℕ). record old.txns { rows = rows_of l undo_next }) (sym last_is) ∙ ap (λ (n : ℕ). record old.txns { rows = rows_of (last_of t now.log) n }) (took.leads ∙ sym next_is)
-        ∙ ap (λ (rows : List Transaction). record old.txns { rows = rows }) (sym (noted_twice t (last_of t now.log) (undo_next_of t now.log) (last_of t closed.log) (undo_next_of t closed.log) old.txns.rows)) in
+        ∙ ap (λ (rows : List Transaction). record old.txns { rows = rows }) (sym (fused t (with_record (last_of t closed.log) (undo_next_of t closed.log)) (with_undone (last_of t now.log) (undo_next_of t now.log)) (λ x. refl) old.txns.rows)) in
         let running : IsRunning d b before s w new = record {
           base = r.base;
           start = r.start;
@@ -245,7 +243,7 @@ module _ {D : Type 0} (d : Ghosts D) {b : Base} (before : List Effect) (s : Show
           lawful = taken.going.lawful;
           changing = subst (λ (u : Option Under). IsChanging b u now.log) (sym gone) (taken.going_on ∙ shut.going.can.closed);
           serving = subst (λ (x : Numbered). IsServing b r.earlier before s w now.log x.rows x.next new.locks) (sym table_is)
-              (subst (λ (l : Table). IsServing b r.earlier before s w now.log (noted t now.log rows_closed) old.txns.next l) (sym locks) served.1);
+              (subst (λ (l : Table). IsServing b r.earlier before s w now.log (map (changed t (with_undone (last_of t now.log) (undo_next_of t now.log))) rows_closed) old.txns.next l) (sym locks) served.1);
           commits = commits_stand.more r.earlier before s.asked r.now.durable now.log now.durable (commits_stand.stay r.earlier before s.asked r.now.durable r.now.log now.log r.commits (same.1 ∙ same_committed is.lsn closed is.between is.mid shut))
               (record { from = front_then r.now.durable closed.durable now.durable shut.durable taken.durable; upto = taken.going.stands.writing.stands.kept.front });
           numbered = subst (λ (n : ℕ). n ≤ 2 ^ 62 → AreBelow n now.log) (sym (ap (λ (x : Numbered). x.next) table))

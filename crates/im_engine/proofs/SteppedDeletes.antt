@@ -18,7 +18,7 @@ use Rattle.im_base_steps.specs.declared.reply.Blocker.TheVariants as blockers
 use Rattle.im_base_steps.specs.declared.reply.Reply.{Reply}
 use Rattle.im_base_steps.specs.declared.reply.Reply.TheVariants as replies
 use Rattle.im_base_steps.specs.Calls.{told_by}
-use Rattle.im_base_txn.specs.Rows.{is_of, changed, with_mark, with_record}
+use Rattle.im_base_txn.specs.Rows.{is_of, changed, with_mark}
 use Rattle.im_base_txn.specs.declared.transaction.Mark.TheVariants.{MustRollBack}
 use Rattle.im_base_txn.specs.declared.transaction.Transaction.{Transaction}
 use Rattle.im_theory_log.specs.Histories.{Base}
@@ -45,6 +45,7 @@ use Rattle.im_engine_index.specs.declared.lock_answer.LockAnswer.TheVariants.{Gr
 use Rattle.im_engine_index.specs.Barred as barred
 use Rattle.im_engine_index.specs.Barred.{Bars}
 use Rattle.im_engine_index.specs.Edits.{HasOne}
+use Rattle.im_theory_steps.specs.Steps.{with_made}
 use Rattle.im_engine.specs.declared.engine.Engine.{Engine}
 use Rattle.im_engine.specs.declared.stepped.Aim.TheVariants.{Drops}
 use Rattle.im_engine.specs.declared.stepped.Under.{Under}
@@ -133,10 +134,10 @@ module _ {D : Type 0} (d : Ghosts D) (t : ℕ) (key : Key) (old new : Engine D d
           (ap (dropped key) is.sound.1.0) is.sound.0 is.sound.1.1 answers.Absent (ap (λ (y : Option ℕ). cond (is_some y) answers.Deleted answers.Absent) is.sound.1.0) table works_on)
 
       -- it went
-      pub made_taken : (lsn : ℕ) → o ≡ Seen (Granted (Taken lsn)) → new.txns ≡ record old.txns { rows = map (changed t (with_record lsn lsn)) old.txns.rows } → IsMade d (Do t a) replies.Deleted old new
+      pub made_taken : (lsn : ℕ) → o ≡ Seen (Granted (Taken lsn)) → new.txns ≡ record old.txns { rows = map (changed t (with_made lsn)) old.txns.rows } → IsMade d (Do t a) replies.Deleted old new
       made_taken lsn so table =
           seen_made (Granted (Taken lsn)) so replies.Deleted (record { stays = λ k. refl; late = refl; answered = refl; number = tt; suits = refl; at_once = λ _. refl; grouped = tt }) (ap besides_rows table)
-          (ap (λ (z : Numbered). length z.rows) table ∙ length-map old.txns.rows (changed t (with_record lsn lsn)))
+          (ap (λ (z : Numbered). length z.rows) table ∙ length-map old.txns.rows (changed t (with_made lsn)))
           (λ y e. cc e) (λ e. (let clash : answers.Deleted ≡ answers.BlockedTree = e in cc clash)) (λ e. cc e)
           (λ b before s v r e only. more_is_not_one (settled b r.now.log) key (has_tree b page_tree r.now.log r.lawful).good (at before s v r (Seen (Granted (Taken lsn))) so).sound.1.more only)
           (λ before s v life.
@@ -185,11 +186,11 @@ module _ {D : Type 0} (d : Ghosts D) (t : ℕ) (key : Key) (old new : Engine D d
     -- ---- a structure change begins
 
     pub made_begun : (stepped : old.stepped ≡ true) (begun : BegunChange) → o ≡ Seen (Granted (Dropping begun)) → new.under ≡ Some (record { begun = begun; aim = Drops key })
-        → new.txns ≡ record old.txns { rows = map (changed t (with_record begun.change.last begun.change.last)) old.txns.rows } → IsMade d (Do t a) replies.More old new
+        → new.txns ≡ record old.txns { rows = map (changed t (with_made begun.change.last)) old.txns.rows } → IsMade d (Do t a) replies.More old new
     made_begun stepped begun so under table =
         exit_made d t a old new works fixed replies.More
         (record { stays = λ k. refl; late = refl; answered = refl; number = tt; suits = refl; at_once = λ plain. absurd (let clash : true ≡ false = sym stepped ∙ plain in cc clash); grouped = tt }) (ap besides_rows table)
-        (ap (λ (z : Numbered). length z.rows) table ∙ length-map old.txns.rows (changed t (with_record begun.change.last begun.change.last))) works_on one.ends.alive one.frames
+        (ap (λ (z : Numbered). length z.rows) table ∙ length-map old.txns.rows (changed t (with_made begun.change.last))) works_on one.ends.alive one.frames
         (λ before s v life.
         let r = (life.running works).1 in
         let is = at before s v r (Seen (Granted (Dropping begun))) so in

@@ -9,7 +9,7 @@ use Rattle.im_base_types.specs.Lives.{Shown}
 use Rattle.im_base_types.specs.Records.{DeleteKey}
 use Rattle.im_base_types.specs.declared.fault.Fault.{Fault}
 use Rattle.im_base_disk.specs.declared.disk.Disk.{Ghosts}
-use Rattle.im_base_txn.specs.Rows.{is_of, changed, with_record}
+use Rattle.im_base_txn.specs.Rows.{is_of, changed}
 use Rattle.im_base_txn.specs.declared.transaction.Transaction.{Transaction}
 use Rattle.im_theory_log.specs.Histories.{Base, History, end_of}
 use Rattle.im_theory_log.specs.Lawful as lawful
@@ -24,7 +24,7 @@ use Rattle.im_theory_machine.specs.View as views
 use Rattle.im_theory_machine.specs.View.{View, did, owns_in, with_change}
 use Rattle.im_theory_steps.specs.Checks.{checked_by}
 use Rattle.im_theory_steps.specs.Serving.{IsServed}
-use Rattle.im_theory_steps.specs.Steps.{key_record}
+use Rattle.im_theory_steps.specs.Steps.{key_record, with_made}
 use Rattle.im_theory_steps.proofs.Cited.{deletes_begin, deletes_served}
 use Rattle.im_theory_tree.specs.Levels.{Pages}
 use Rattle.im_theory_tree.specs.Good.{IsGoodTree}
@@ -92,9 +92,9 @@ module _ {D : Type 0} (d : Ghosts D) (t : ℕ) (key : Key) (old new : Engine D d
       may : lawful.MayDelete b page_tree (key_record t row.last lsn is.page (DeleteKey key is.rid)) before_it key is.rid
       may = its_law.1.may
 
-      taken_served : IsServed b r.earlier before s v (Do t (Delete key)) answers.Deleted (did v t (Delete key) (lasting_of new.locks t)) is.logged.now.log (map (changed t (with_record lsn lsn)) old.txns.rows) old.txns.next new.locks
+      taken_served : IsServed b r.earlier before s v (Do t (Delete key)) answers.Deleted (did v t (Delete key) (lasting_of new.locks t)) is.logged.now.log (map (changed t (with_made lsn)) old.txns.rows) old.txns.next new.locks
       taken_served =
-          subst (λ (l : History). IsServed b r.earlier before s v (Do t (Delete key)) answers.Deleted (did v t (Delete key) (lasting_of new.locks t)) l (map (changed t (with_record lsn lsn)) old.txns.rows) old.txns.next new.locks) (sym is.logged.is)
+          subst (λ (l : History). IsServed b r.earlier before s v (Do t (Delete key)) answers.Deleted (did v t (Delete key) (lasting_of new.locks t)) l (map (changed t (with_made lsn)) old.txns.rows) old.txns.next new.locks) (sym is.logged.is)
           (deletes_served page_tree page_tree_laws b r.earlier before s v r.now.log before_it old.txns.rows old.txns.next old.locks new.locks t row.last lsn is.page row key is.rid r.serving found (its_mark d t (Delete key) old row found checked)
           (by_itself d t (Delete key) old row found checked before s v r) fits (way_by_images d before s v old r t row found (its_mark d t (Delete key) old row found checked) (by_itself d t (Delete key) old row found checked before s v r) before_it is.logged.images)
           its_law.0 may.outside may.not_in is.there (decided_here d t (Delete key) old row found checked before s v r beside told GrantedAll new.locks decides) may.can_drop its_law.1.rises).served
@@ -111,13 +111,13 @@ module _ {D : Type 0} (d : Ghosts D) (t : ℕ) (key : Key) (old new : Engine D d
         only = λ has. absurd has;
       }
 
-      pub taken_made : LeavesEdit d b r.base r.now t old.disk new.disk → new.txns ≡ record old.txns { rows = map (changed t (with_record lsn lsn)) old.txns.rows } → new.failed ≡ false → StepKept d before s v (Do t (Delete key)) answers.Deleted old new
+      pub taken_made : LeavesEdit d b r.base r.now t old.disk new.disk → new.txns ≡ record old.txns { rows = map (changed t (with_made lsn)) old.txns.rows } → new.failed ≡ false → StepKept d before s v (Do t (Delete key)) answers.Deleted old new
       taken_made stops table works_on =
           logged_made d before s v (did v t (Delete key) (lasting_of new.locks t)) (Do t (Delete key)) answers.Deleted old new r t (below_next d t (Delete key) old row found checked before s v r)
           is.logged.now is.logged.stands.stands is.logged.stands.over is.logged.stands.lawful
           (subst (λ (u : Option Under). IsChanging b u is.logged.now.log) (sym same) (key_changing d t (Delete key) old row found checked before s v r beside told is.page (DeleteKey key is.rid) lsn new.writer new.disk is.logged refl is.apart))
           is.logged.durable (key_grows d t (Delete key) old row found checked before s v r beside told is.page (DeleteKey key is.rid) lsn new.writer new.disk is.logged refl)
-          (map (changed t (with_record lsn lsn)) old.txns.rows) table taken_served (r.same ∙ ap under_of (sym same)) refl refl (left_by_edit d before s v old r t new.disk stops) works_on tt drops
+          (map (changed t (with_made lsn)) old.txns.rows) table taken_served (r.same ∙ ap under_of (sym same)) refl refl (left_by_edit d before s v old r t new.disk stops) works_on tt drops
 
     -- ---- a structure change that begins
 
@@ -135,12 +135,12 @@ module _ {D : Type 0} (d : Ghosts D) (t : ℕ) (key : Key) (old new : Engine D d
       next = with_change (did v t (Delete key) (lasting_of new.locks t)) t (views.Drops key)
 
       abbrev rows : List Transaction
-      rows = map (changed t (with_record begun.change.last begun.change.last)) old.txns.rows
+      rows = map (changed t (with_made begun.change.last)) old.txns.rows
 
       begun_served : IsServed b r.earlier before s v (Do t (Delete key)) answers.More next is.logged.now.log rows old.txns.next new.locks
       begun_served =
-          subst (λ (n : ℕ). IsServed b r.earlier before s v (Do t (Delete key)) answers.More next is.logged.now.log (map (changed t (with_record n n)) old.txns.rows) old.txns.next new.locks) (sym is.newest)
-          (subst (λ (l : History). IsServed b r.earlier before s v (Do t (Delete key)) answers.More next l (map (changed t (with_record is.lsn is.lsn)) old.txns.rows) old.txns.next new.locks) (sym is.logged.is)
+          subst (λ (n : ℕ). IsServed b r.earlier before s v (Do t (Delete key)) answers.More next is.logged.now.log (map (changed t (with_made n)) old.txns.rows) old.txns.next new.locks) (sym is.newest)
+          (subst (λ (l : History). IsServed b r.earlier before s v (Do t (Delete key)) answers.More next l (map (changed t (with_made is.lsn)) old.txns.rows) old.txns.next new.locks) (sym is.logged.is)
           (deletes_begin page_tree page_tree_laws b r.earlier before s v r.now.log is.logged.before old.txns.rows old.txns.next old.locks new.locks t row.last is.lsn is.page row key is.rid r.serving found (its_mark d t (Delete key) old row found checked) none fits
           (way_by_images d before s v old r t row found (its_mark d t (Delete key) old row found checked) (by_itself d t (Delete key) old row found checked before s v r) is.logged.before is.logged.images)
           begun_law.0 begun_may.outside begun_may.not_in is.there (decided_here d t (Delete key) old row found checked before s v r beside told GrantedAll new.locks decides) begun_may.can_drop begun_law.1.rises).served)

@@ -62,7 +62,7 @@ module _ {D : Type 0} (d : Ghosts D) (t : ℕ) (a : Access) (old : Engine D d) (
     pub way_here : IsOnTheWay b t row.last r.now.log r.now.log
     way_here = ways_lead_on.begins b r.earlier before s v r.now.log old.txns.rows old.txns.next old.locks t row r.serving found its_mark
 
-    is_at : (row.number ≡ t) × IsRow row old.txns.next r.now.log (owner_in v) × ((v.txns t).mark ≡ mark_of row.mark)
+    is_at : (row.number ≡ t) × IsRow row old.txns.next r.now.log × ((v.txns t).mark ≡ mark_of row.mark)
     is_at = at b r.earlier before s v r.now.log old.txns.rows old.txns.next old.locks r.serving t row found (mark_free row.mark Going its_mark (λ x. cc x))
 
     pub below_next : t < old.txns.next

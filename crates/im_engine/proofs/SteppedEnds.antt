@@ -81,6 +81,7 @@ pub going_mark : (m : declared.Mark) → mark_of m ≡ answers.Going → m ≡ m
 going_mark marks.Going is = refl
 going_mark marks.MustRollBack is = absurd (cc is)
 going_mark marks.RollingBack is = absurd (cc is)
+going_mark (marks.Returning n) is = absurd (cc is)
 going_mark marks.Committing is = absurd (cc is)
 
 -- ---- at the last step

@@ -26,8 +26,8 @@ use Rattle.im_theory_machine.specs.View as views
 use Rattle.im_theory_machine.specs.View.{View, change_made, did, own_locks, owns_in}
 use Rattle.im_theory_steps.specs.Checks.{checked_by}
 use Rattle.im_theory_steps.specs.Growth.{GrowsWithin}
-use Rattle.im_theory_steps.specs.Serving.{IsServed}
-use Rattle.im_theory_steps.specs.Steps.{IsOnTheWay, key_record, mark_for_aim, noted}
+use Rattle.im_theory_steps.specs.Serving.{IsServed, mark_of}
+use Rattle.im_theory_steps.specs.Steps.{IsMarkFor, IsOnTheWay, key_record, noted, with_made}
 use Rattle.im_theory_steps.proofs.Cited.{deletes_end, inserts_end, inserts_free, ways_lead_on}
 use Rattle.im_theory_tree.specs.Theory.{page_tree}
 use Rattle.im_theory_tree.proofs.TheoryLaws.{page_tree_laws}
@@ -81,7 +81,7 @@ module _ {D : Type 0} (d : Ghosts D) (old new : Engine D d) (u : Under) (was : o
     own = owner_row d before s v old r u was t refl
 
     mark : own.row.mark ≡ Going
-    mark = going_mark own.row.mark (own.mark ∙ ap (λ (x : Aim). mark_for_aim (aim_of x)) aim)
+    mark = going_mark own.row.mark (subst (λ (x : Aim). IsMarkFor (aim_of x) (mark_of own.row.mark)) aim own.mark)
 
     view : v.under ≡ Some (record { owner = t; aim = views.Puts key rid })
     view = view_has d before s v old r u was t refl ∙ ap (λ (x : Aim). Some (record { owner = t; aim = aim_of x })) aim
@@ -131,7 +131,7 @@ module _ {D : Type 0} (d : Ghosts D) (old new : Engine D d) (u : Under) (was : o
       next = change_made (did v t (Insert key rid) (own_locks v t))
 
       abbrev rows : List Transaction
-      rows = map (changed t (with_record lsn lsn)) old.txns.rows
+      rows = map (changed t (with_made lsn)) old.txns.rows
 
       served : HasFallen old.locks t new.locks → IsServed b r.earlier before s v (Continue t) answers.Inserted next is.now.log rows old.txns.next new.locks
       served falls =
@@ -191,7 +191,7 @@ module _ {D : Type 0} (d : Ghosts D) (old new : Engine D d) (u : Under) (was : o
     end_served : IsServed b r.earlier before s v (Continue whose) answers.Deleted (change_made v) (end ∷ r.now.log) noted_rows old.txns.next old.locks
     end_served =
         subst (λ (x : List Transaction). IsServed b r.earlier before s v (Continue whose) answers.Deleted (change_made v) (end ∷ r.now.log) x old.txns.next old.locks) rows_noted
-        (deletes_end b r.earlier before s v r.now.log (end ∷ r.now.log) old.txns.rows old.txns.next old.locks whose its.row key r.serving its.found (going_mark its.row.mark (its.mark ∙ ap (λ (x : Aim). mark_for_aim (aim_of x)) aim))
+        (deletes_end b r.earlier before s v r.now.log (end ∷ r.now.log) old.txns.rows old.txns.next old.locks whose its.row key r.serving its.found (going_mark its.row.mark (subst (λ (x : Aim). IsMarkFor (aim_of x) (mark_of its.row.mark)) aim its.mark))
         (view_has d before s v old r u was whose refl ∙ ap (λ (x : Aim). Some (record { owner = whose; aim = aim_of x })) aim) (by_structure whose r.now.log (end ∷ r.now.log) grown))
 
     pub delete_finished : LeavesCovered d b r.base r.now.durable r.now.log old.disk new.disk → new.locks ≡ old.locks → new.txns ≡ record old.txns { rows = noted_rows } → new.failed ≡ false → new.under ≡ None → StepKept d before s v (Continue whose) answers.Deleted old new
@@ -216,20 +216,20 @@ module _ {D : Type 0} (d : Ghosts D) (old new : Engine D d) (works : old.failed 
   Checks t = checked_by old.txns.rows (owns_in (under_of old.under) (Continue t)) (Continue t) ≡ None
 
   insert_of_owner : (key : Key) (rid leaf : ℕ) → u.aim ≡ Puts key rid leaf → (lsn : ℕ) → InsertBelow d old new u.begun.change key rid leaf (Ok lsn) → Logs d true none_mild old.writer old.disk new.writer new.disk None
-      → Checks u.begun.change.transaction → HasFallen old.locks u.begun.change.transaction new.locks → new.txns ≡ record old.txns { rows = map (changed u.begun.change.transaction (with_record lsn lsn)) old.txns.rows } → IsMade d (Continue u.begun.change.transaction) replies.Inserted old new
+      → Checks u.begun.change.transaction → HasFallen old.locks u.begun.change.transaction new.locks → new.txns ≡ record old.txns { rows = map (changed u.begun.change.transaction (with_made lsn)) old.txns.rows } → IsMade d (Continue u.begun.change.transaction) replies.Inserted old new
   insert_of_owner key rid leaf aim lsn below one checked falls table =
       let t = u.begun.change.transaction in
       end_made d t old new works u was refl end checked fixed replies.Inserted (λ x e. cc e) (subst (λ (a : Aim). EndsAs a replies.Inserted) (sym aim) refl) (λ clash. (let never : answers.Inserted ≡ answers.BlockedTree = clash in cc never))
-      (record { stays = λ k. refl; late = refl; answered = refl; number = tt; suits = refl; grouped = tt }) (map (changed t (with_record lsn lsn)) old.txns.rows) (length-map old.txns.rows (changed t (with_record lsn lsn))) table works_on one.ends.alive one.frames none
+      (record { stays = λ k. refl; late = refl; answered = refl; number = tt; suits = refl; grouped = tt }) (map (changed t (with_made lsn)) old.txns.rows) (length-map old.txns.rows (changed t (with_made lsn))) table works_on one.ends.alive one.frames none
       (λ before s v life.
       let r = (life.running works).1 in
       let k = below (life.running works).0 r.base r.now r.redo_end (may_end d old new u was key rid leaf aim before s v r) in
       insert_finished d old new u was key rid leaf aim before s v r lsn k.sound falls k.stops table works_on none)
 
   pub made_inserted : (t : ℕ) → u.begun.change.transaction ≡ t → (change : Change) → change ≡ u.begun.change → (key bytes : Key) → bytes ≡ key → (rid leaf : ℕ) → u.aim ≡ Puts key rid leaf → (lsn : ℕ) → InsertBelow d old new change bytes rid leaf (Ok lsn)
-      → Logs d true none_mild old.writer old.disk new.writer new.disk None → Checks t → HasFallen old.locks t new.locks → new.txns ≡ record old.txns { rows = map (changed t (with_record lsn lsn)) old.txns.rows } → IsMade d (Continue t) replies.Inserted old new
+      → Logs d true none_mild old.writer old.disk new.writer new.disk None → Checks t → HasFallen old.locks t new.locks → new.txns ≡ record old.txns { rows = map (changed t (with_made lsn)) old.txns.rows } → IsMade d (Continue t) replies.Inserted old new
   made_inserted t owner plan same key bytes is rid leaf aim lsn below one =
-      subst (λ (n : ℕ). Checks n → HasFallen old.locks n new.locks → new.txns ≡ record old.txns { rows = map (changed n (with_record lsn lsn)) old.txns.rows } → IsMade d (Continue n) replies.Inserted old new) owner
+      subst (λ (n : ℕ). Checks n → HasFallen old.locks n new.locks → new.txns ≡ record old.txns { rows = map (changed n (with_made lsn)) old.txns.rows } → IsMade d (Continue n) replies.Inserted old new) owner
       (insert_of_owner key rid leaf aim lsn (subst (λ (x : Change). InsertBelow d old new x key rid leaf (Ok lsn)) same (subst (λ (k : Key). InsertBelow d old new plan k rid leaf (Ok lsn)) is below)) one)
 
   delete_of_owner : (key : Key) → u.aim ≡ Drops key → (lsn : ℕ) → DeleteBelow d old new u.begun.change (Ok lsn) → Logs d false none_mild old.writer old.disk new.writer new.disk None → new.locks ≡ old.locks

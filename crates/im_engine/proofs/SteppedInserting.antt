@@ -32,7 +32,7 @@ use Rattle.im_theory_machine.specs.View as views
 use Rattle.im_theory_machine.specs.View.{View, did, locked, owns_in, with_change}
 use Rattle.im_theory_steps.specs.Checks.{checked_by}
 use Rattle.im_theory_steps.specs.Serving.{IsServed}
-use Rattle.im_theory_steps.specs.Steps.{key_record, noted}
+use Rattle.im_theory_steps.specs.Steps.{key_record, noted, with_made}
 use Rattle.im_theory_steps.proofs.Cited.{inserts_begin, inserts_served}
 use Rattle.im_theory_page.specs.Split.{HasRoom}
 use Rattle.im_theory_tree.specs.Levels.{Pages}
@@ -116,9 +116,9 @@ module _ {D : Type 0} (d : Ghosts D) (t : ℕ) (key : Key) (rid : ℕ) (old new 
       may : lawful.MayInsert b page_tree (key_record t row.last lsn is.page (InsertKey key rid)) before_it key rid
       may = its_law.1.may
 
-      put_served : IsServed b r.earlier before s v (Do t (Insert key rid)) answers.Inserted (did v t (Insert key rid) (lasting_of new.locks t)) is.logged.now.log (map (changed t (with_record lsn lsn)) old.txns.rows) old.txns.next new.locks
+      put_served : IsServed b r.earlier before s v (Do t (Insert key rid)) answers.Inserted (did v t (Insert key rid) (lasting_of new.locks t)) is.logged.now.log (map (changed t (with_made lsn)) old.txns.rows) old.txns.next new.locks
       put_served =
-          subst (λ (l : History). IsServed b r.earlier before s v (Do t (Insert key rid)) answers.Inserted (did v t (Insert key rid) (lasting_of new.locks t)) l (map (changed t (with_record lsn lsn)) old.txns.rows) old.txns.next new.locks) (sym is.logged.is)
+          subst (λ (l : History). IsServed b r.earlier before s v (Do t (Insert key rid)) answers.Inserted (did v t (Insert key rid) (lasting_of new.locks t)) l (map (changed t (with_made lsn)) old.txns.rows) old.txns.next new.locks) (sym is.logged.is)
           (inserts_served page_tree page_tree_laws b r.earlier before s v r.now.log before_it old.txns.rows old.txns.next old.locks new.locks t row.last lsn is.page row key rid r.serving found (its_mark d t (Insert key rid) old row found checked)
           (by_itself d t (Insert key rid) old row found checked before s v r) fits (way_by_images d before s v old r t row found (its_mark d t (Insert key rid) old row found checked) (by_itself d t (Insert key rid) old row found checked before s v r) before_it is.logged.images)
           its_law.0 may.outside may.not_in is.absent (decided_here d t (Insert key rid) old row found checked before s v r beside told GrantedAll new.locks decides) may.can_put its_law.1.rises).served
@@ -135,13 +135,13 @@ module _ {D : Type 0} (d : Ghosts D) (t : ℕ) (key : Key) (rid : ℕ) (old new 
         is = is.logged.is;
       }
 
-      pub put_made : LeavesEdit d b r.base r.now t old.disk new.disk → new.txns ≡ record old.txns { rows = map (changed t (with_record lsn lsn)) old.txns.rows } → new.failed ≡ false → StepKept d before s v (Do t (Insert key rid)) answers.Inserted old new
+      pub put_made : LeavesEdit d b r.base r.now t old.disk new.disk → new.txns ≡ record old.txns { rows = map (changed t (with_made lsn)) old.txns.rows } → new.failed ≡ false → StepKept d before s v (Do t (Insert key rid)) answers.Inserted old new
       put_made stops table works_on =
           logged_made d before s v (did v t (Insert key rid) (lasting_of new.locks t)) (Do t (Insert key rid)) answers.Inserted old new r t (below_next d t (Insert key rid) old row found checked before s v r)
           is.logged.now is.logged.stands.stands is.logged.stands.over is.logged.stands.lawful
           (subst (λ (u : Option Under). IsChanging b u is.logged.now.log) (sym same) (key_changing d t (Insert key rid) old row found checked before s v r beside told is.page (InsertKey key rid) lsn new.writer new.disk is.logged refl is.apart))
           is.logged.durable (key_grows d t (Insert key rid) old row found checked before s v r beside told is.page (InsertKey key rid) lsn new.writer new.disk is.logged refl)
-          (map (changed t (with_record lsn lsn)) old.txns.rows) table put_served (r.same ∙ ap under_of (sym same)) refl refl (stopped stops) works_on tt puts
+          (map (changed t (with_made lsn)) old.txns.rows) table put_served (r.same ∙ ap under_of (sym same)) refl refl (stopped stops) works_on tt puts
 
     -- ---- a structure change that begins
 

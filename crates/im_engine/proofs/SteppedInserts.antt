@@ -54,6 +54,7 @@ use Rattle.im_engine_index.specs.declared.lock_answer.LockAnswer.TheVariants.{Gr
 use Rattle.im_engine_index.specs.Barred as barred
 use Rattle.im_engine_index.specs.Barred.{Bars}
 use Rattle.im_engine_index.specs.Edits.{IsLimited}
+use Rattle.im_theory_steps.specs.Steps.{with_made}
 use Rattle.im_engine.specs.declared.engine.Engine.{Engine}
 use Rattle.im_engine.specs.declared.stepped.Aim.TheVariants.{Puts}
 use Rattle.im_engine.specs.declared.stepped.Under.{Under}
@@ -171,10 +172,10 @@ module _ {D : Type 0} (d : Ghosts D) (t : ℕ) (key : Key) (rid : ℕ) (old new 
           (ap (λ (y : Option ℕ). cond (is_some y) [] (Put key rid ∷ [])) is.sound.1.1) is.sound.0 is.sound.1.2 answers.Duplicate (ap (λ (y : Option ℕ). cond (is_some y) answers.Duplicate answers.Inserted) is.sound.1.1) table works_on)
 
       -- it came
-      pub made_put : (lsn : ℕ) → o ≡ Seen (Granted (PutIn lsn)) → new.txns ≡ record old.txns { rows = map (changed t (with_record lsn lsn)) old.txns.rows } → IsMade d (Do t a) replies.Inserted old new
+      pub made_put : (lsn : ℕ) → o ≡ Seen (Granted (PutIn lsn)) → new.txns ≡ record old.txns { rows = map (changed t (with_made lsn)) old.txns.rows } → IsMade d (Do t a) replies.Inserted old new
       made_put lsn so table =
           seen_made (Granted (PutIn lsn)) so replies.Inserted (record { stays = λ k. refl; late = refl; answered = refl; number = tt; suits = refl; at_once = λ _. refl; grouped = tt }) (ap besides_rows table)
-          (ap (λ (z : Numbered). length z.rows) table ∙ length-map old.txns.rows (changed t (with_record lsn lsn)))
+          (ap (λ (z : Numbered). length z.rows) table ∙ length-map old.txns.rows (changed t (with_made lsn)))
           (λ y e. cc e) (λ e. (let clash : answers.Inserted ≡ answers.BlockedTree = e in cc clash)) (λ e. cc e)
           (λ b before s v r e lacks. room_is_had (settled b r.now.log) key (has_tree b page_tree r.now.log r.lawful).good (at before s v r (Seen (Granted (PutIn lsn))) so).sound.1.room lacks)
           (λ before s v life.

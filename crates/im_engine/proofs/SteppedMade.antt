@@ -1,12 +1,12 @@
 -- A step beside a structure change that logs records of its own, and one in whose way the change stands.
-use Rattle.std.proofs.Common.{◌≡◌, ◌≢◌, ℕ, ◌≤◌, ◌<◌, ◌^◌, List, false, None, Some, refl, sym, ap, subst, ◌∙◌}
+use Rattle.std.proofs.Common.{inl, ◌≡◌, ◌≢◌, ℕ, ◌≤◌, ◌<◌, ◌^◌, List, false, None, Some, refl, sym, ap, subst, ◌∙◌}
 use Rattle.im_base_types.specs.Answers.{Access, Step, Do, Reply, BlockedTree}
 use Rattle.im_base_types.specs.Changes.{Effect}
 use Rattle.im_base_types.specs.Lives.{Asked, Shown, shows}
 use Rattle.im_base_disk.specs.declared.disk.Disk.{Ghosts}
 use Rattle.im_base_disk.specs.Runs.{LeavesOnly}
 use Rattle.im_base_disk.proofs.Runs.{weakened}
-use Rattle.im_base_txn.specs.declared.transaction.Mark.TheVariants.{Going, RollingBack}
+use Rattle.im_base_txn.specs.declared.transaction.Mark.TheVariants.{Going}
 use Rattle.im_base_txn.specs.declared.transaction.Transaction.{Transaction}
 use Rattle.im_theory_log.specs.Histories.{Base, IsFront}
 use Rattle.im_theory_log.specs.Lawful.{IsLawful}
@@ -80,7 +80,7 @@ module _ {D : Type 0} (d : Ghosts D) (t : ℕ) (a : Access) (old : Engine D d) (
   module _ {b : Base} (before : List Effect) (s : Shown) (v : View) (r : IsRunning d b before s v old) where
     -- that was let through has no structure change of its own beside it
     pub alone : owner_in v ≢ Some t
-    alone = not_owner d before s v old r t going.row going.found (λ rolls. let never : Going ≡ RollingBack = sym going.mark ∙ rolls in cc never) (none_if (pending_of (under_of old.under) t) (access_unowned old.txns.rows t a checked))
+    alone = not_owner d before s v old r t going.row going.found (inl going.mark) (none_if (pending_of (under_of old.under) t) (access_unowned old.txns.rows t a checked))
 
     -- the structure change of another stands in its way
     pub tree_made : (new : Engine D d) → new.under ≡ old.under → Evicted d b r.base r.now old.disk new.writer new.disk → LeavesOnly d old.disk new.disk (Allowed before s) → new.failed ≡ false → (u : Under) → old.under ≡ Some u → new.locks ≡ old.locks → new.txns ≡ old.txns

@@ -18,7 +18,7 @@ use Rattle.im_theory_log.specs.Histories.{Base}
 use Rattle.im_theory_machine.specs.View as views
 use Rattle.im_theory_machine.specs.View.{View, Txn, owner_in, owner_of}
 use Rattle.im_theory_steps.specs.Serving.{IsAt, IsRow, mark_of}
-use Rattle.im_theory_steps.specs.Steps.{mark_for_aim}
+use Rattle.im_theory_steps.specs.Steps.{IsMarkFor, takes_back}
 use Rattle.im_theory_steps.proofs.Cited.{owners_marked, at}
 use Rattle.im_engine.specs.declared.engine.Engine.{Engine}
 use Rattle.im_engine.specs.declared.stepped.Under.{Under}
@@ -36,13 +36,13 @@ unfolding under_in
 some_inj u x same = ap (under_in u) same
 
 -- its mark lets it wait for no force
-never_waits : (aim : views.Aim) (m : declared.Mark) → mark_of m ≡ mark_for_aim aim → m ≡ marks.Committing → ⊥
+never_waits : (aim : views.Aim) (m : declared.Mark) → IsMarkFor aim (mark_of m) → m ≡ marks.Committing → ⊥
 never_waits (views.Puts k r) m is so = let clash : answers.Committing ≡ answers.Going = sym (ap mark_of so) ∙ is in cc clash
 never_waits (views.Drops k) m is so = let clash : answers.Committing ≡ answers.Going = sym (ap mark_of so) ∙ is in cc clash
-never_waits views.TakesBack m is so = let clash : answers.Committing ≡ answers.RollingBack = sym (ap mark_of so) ∙ is in cc clash
-never_waits views.TookBack m is so = let clash : answers.Committing ≡ answers.RollingBack = sym (ap mark_of so) ∙ is in cc clash
+never_waits views.TakesBack m is so = let clash : false ≡ true = sym (ap (λ (x : declared.Mark). takes_back (mark_of x)) so) ∙ is in cc clash
+never_waits views.TookBack m is so = let clash : false ≡ true = sym (ap (λ (x : declared.Mark). takes_back (mark_of x)) so) ∙ is in cc clash
 
-never_idle : (aim : views.Aim) → answers.Idle ≡ mark_for_aim aim → ⊥
+never_idle : (aim : views.Aim) → IsMarkFor aim answers.Idle → ⊥
 never_idle (views.Puts k r) is = cc is
 never_idle (views.Drops k) is = cc is
 never_idle views.TakesBack is = cc is
@@ -52,7 +52,7 @@ never_idle views.TookBack is = cc is
 pub record OwnsRow (rows : List Transaction) (t : ℕ) (aim : views.Aim) : Type 0 where
   pub row : Transaction
   pub found : find (is_of t) rows ≡ Some row
-  pub mark : mark_of row.mark ≡ mark_for_aim aim
+  pub mark : IsMarkFor aim (mark_of row.mark)
   pub free : row.mark ≢ marks.Committing
 
 module _ {D : Type 0} (d : Ghosts D) {b : Base} (before : List Effect) (s : Shown) (v : View) (old : Engine D d) (r : IsRunning d b before s v old) (u : Under) (was : old.under ≡ Some u) (t : ℕ) (owner : u.begun.change.transaction ≡ t) where
@@ -65,17 +65,17 @@ module _ {D : Type 0} (d : Ghosts D) {b : Base} (before : List Effect) (s : Show
   pub goes_here : IsGoing b u r.now.log
   goes_here = subst (λ (x : Option Under). IsChanging b x r.now.log) was r.changing
 
-  marked : (v.txns t).mark ≡ mark_for_aim (aim_of u.aim)
+  marked : IsMarkFor (aim_of u.aim) ((v.txns t).mark)
   marked = owners_marked.marked (apply_all empty before) v r.serving.reached (record { owner = t; aim = aim_of u.aim }) view_has
 
   pub owner_row : OwnsRow old.txns.rows t (aim_of u.aim)
   owner_row = by (find (is_of t) old.txns.rows) refl (r.serving.table.each t)
     where
-      by : (o : Option Transaction) → find (is_of t) old.txns.rows ≡ o → IsAt t o old.txns.next r.now.log (owner_in v) (v.txns t) → OwnsRow old.txns.rows t (aim_of u.aim)
-      by None none is = absurd (never_idle (aim_of u.aim) (sym (ap (λ (x : Txn). x.mark) is.2) ∙ marked))
-      by (Some row) found is = let same = sym is.2 ∙ marked in record { row = row; found = found; mark = same; free = never_waits (aim_of u.aim) row.mark same }
+      by : (o : Option Transaction) → find (is_of t) old.txns.rows ≡ o → IsAt t o old.txns.next r.now.log (v.txns t) → OwnsRow old.txns.rows t (aim_of u.aim)
+      by None none is = absurd (never_idle (aim_of u.aim) (subst (λ (x : Txn). IsMarkFor (aim_of u.aim) (x.mark)) is.2 marked))
+      by (Some row) found is = let same = subst (λ (m : answers.Mark). IsMarkFor (aim_of u.aim) m) is.2 marked in record { row = row; found = found; mark = same; free = never_waits (aim_of u.aim) row.mark same }
 
-  is_at : (owner_row.row.number ≡ t) × IsRow owner_row.row old.txns.next r.now.log (owner_in v) × ((v.txns t).mark ≡ mark_of owner_row.row.mark)
+  is_at : (owner_row.row.number ≡ t) × IsRow owner_row.row old.txns.next r.now.log × ((v.txns t).mark ≡ mark_of owner_row.row.mark)
   is_at = at b r.earlier before s v r.now.log old.txns.rows old.txns.next old.locks r.serving t owner_row.row owner_row.found owner_row.free
 
   pub owner_below : t < old.txns.next

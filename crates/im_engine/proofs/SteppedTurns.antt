@@ -51,8 +51,8 @@ use Rattle.im_theory_machine.specs.View.{View, of_others, owner_in, owner_of, ow
 use Rattle.im_theory_steps.specs.Checks.{checked_by}
 use Rattle.im_theory_steps.specs.Growth.{AreBelow, GrowsByStructure, GrowsWithin}
 use Rattle.im_theory_steps.specs.Serving.{IsRow, IsServed, IsServing, mark_of}
-use Rattle.im_theory_steps.specs.Steps.{noted}
-use Rattle.im_theory_steps.proofs.Cited.{trees_halt, turns_begin, turns_empty, commits_stand, numbers_stay_new, structure_changes_no_key, unlogged, within_leaves_others, at, mark_free, ends_leave_nothing, last_undone_served, rolling_has_more, undo_takes_back, undone_served}
+use Rattle.im_theory_steps.specs.Steps.{noted, with_undone}
+use Rattle.im_theory_steps.proofs.Cited.{trees_halt, turns_begin, turns_empty, commits_stand, numbers_stay_new, structure_changes_no_key, unlogged, within_leaves_others, at, counted_at, mark_free, ends_leave_nothing, last_undone_served, rolling_has_more, undo_takes_back, undone_served}
 use Rattle.im_engine.specs.declared.engine.Engine.{Engine}
 use Rattle.im_engine.specs.declared.stepped.Aim.TheVariants.{TakesBack, TookBack}
 use Rattle.im_engine.specs.declared.stepped.Under.{Under}
@@ -98,9 +98,9 @@ of_others_stays t (Some u) other = cond-false (u.owner == t) None (Some u) (ne_e
 module _ {D : Type 0} (d : Ghosts D) {b : Base} (before : List Effect) (s : Shown) (v : View) (t : ℕ) (row : Transaction) (old : Engine D d) (r : IsRunning d b before s v old)
     (found : find (is_of t) old.txns.rows ≡ Some row) (checked : checked_by old.txns.rows false (Continue t) ≡ None) where
   pub mark : row.mark ≡ marks.RollingBack
-  mark = continue_mark old.txns.rows t row found checked
+  mark = continue_mark old.txns.rows old.forward t row found checked
 
-  pub its : (row.number ≡ t) × IsRow row old.txns.next r.now.log (owner_in v) × ((v.txns t).mark ≡ mark_of row.mark)
+  pub its : (row.number ≡ t) × IsRow row old.txns.next r.now.log × ((v.txns t).mark ≡ mark_of row.mark)
   its = at b r.earlier before s v r.now.log old.txns.rows old.txns.next old.locks r.serving t row found (mark_free row.mark marks.RollingBack mark (λ x. cc x))
 
   -- numbers from the next one on stay new
@@ -161,7 +161,7 @@ module _ {D : Type 0} (d : Ghosts D) (before : List Effect) (s : Shown) (v : Vie
   module _ (other : owner_of (under_of old.under) ≢ Some t) (works_on : new.failed ≡ false) (stops : LeavesUndo d run.0 run.1.base run.1.now t old.disk new.disk) (beside : Beside) (told : IsBesideOf old.under beside) where
     -- beside the change of another, or none: other changes are left
     pub turned_more : (last undo_next : ℕ) → HasMoreBeside d run.0 run.1.base run.1.now run.1.redo_end t last undo_next beside old.disk new.writer new.disk → new.under ≡ old.under → new.locks ≡ old.locks
-        → new.txns ≡ record old.txns { rows = map (changed t (with_record last undo_next)) old.txns.rows } → StepKept d before s v (Continue t) More old new
+        → new.txns ≡ record old.txns { rows = map (changed t (with_undone last undo_next)) old.txns.rows } → StepKept d before s v (Continue t) More old new
     turned_more last undo_next is kept locks table =
         let b = run.0 in
         let r = run.1 in
@@ -174,7 +174,7 @@ module _ {D : Type 0} (d : Ghosts D) (before : List Effect) (s : Shown) (v : Vie
         let same = within_leaves_others t r.now.log now.log undoes.grows in
         let w = undid_more v t c (net t now.log) in
         let served = undone_served b r.earlier before s v r.now.log now.log old.txns.rows old.txns.next old.locks t row c r.serving found rolling undoes is.left taken.going.unfinished in
-        let rows_of : ℕ → ℕ → List Transaction = λ l n. map (changed t (with_record l n)) old.txns.rows in
+        let rows_of : ℕ → ℕ → List Transaction = λ l n. map (changed t (with_undone l n)) old.txns.rows in
         let table_is : new.txns ≡ record old.txns { rows = rows_of (last_of t now.log) (undo_next_of t now.log) } =
         table ∙ ap (λ (l : ℕ). record old.txns { rows = rows_of l undo_next }) (sym (taken_last d b r.base r.now r.redo_end t is.entry to (Plain took.page) last old.disk new.writer new.disk taken))
         ∙ ap (λ (n : ℕ). record old.txns { rows = rows_of (last_of t now.log) n }) (took.leads ∙ sym (taken_next d b r.base r.now r.redo_end t is.entry to (Plain took.page) last old.disk new.writer new.disk taken)) in
@@ -273,7 +273,7 @@ module _ {D : Type 0} (d : Ghosts D) (before : List Effect) (s : Shown) (v : Vie
           let within : GrowsWithin t r.now.log now.log = undo_grows t r.now.log now.log (grows_change t r.now.log now.log change) in
           let stays = structure_changes_no_key b t r.now.log now.log grown in
           let w = with_change v t views.TakesBack in
-          let served = turns_begin b r.earlier before s v r.now.log now.log old.txns.rows old.txns.next old.locks t row r.serving found rolling (row_some d before s v t row old r found checked other) view_none grown in
+          let served = turns_begin b r.earlier before s v r.now.log now.log old.txns.rows old.txns.next old.locks t row r.serving found rolling view_none grown in
           let last_is : last_of t now.log ≡ begun.change.last = ap (last_of t) first.log ∙ cond-true (t == t) begun.change.last (last_of t first.before) (eq-eqb t t refl) in
           let next_is : undo_next_of t now.log ≡ begun.change.last = ap (undo_next_of t) first.log ∙ cond-true (t == t) begun.change.last (undo_next_of t first.before) (eq-eqb t t refl) in
           let up : Rises b (page ∷ first.before) = subst (λ (l : History). Rises b l) first.log (rises b page_tree now.log law) in
@@ -312,7 +312,7 @@ module _ {D : Type 0} (d : Ghosts D) (before : List Effect) (s : Shown) (v : Vie
 
       -- a change was taken back, and a deletion begins
       pub dropping : (begun : BegunChange) → IsDropping d run.0 run.1.base run.1.now run.1.redo_end t beside begun old.disk new.writer new.disk → new.under ≡ Some (record { begun = begun; aim = TookBack }) → new.locks ≡ old.locks
-          → new.txns ≡ record old.txns { rows = map (changed t (with_record begun.change.last begun.change.undo_next)) old.txns.rows } → StepKept d before s v (Continue t) More old new
+          → new.txns ≡ record old.txns { rows = map (changed t (with_undone begun.change.last begun.change.undo_next)) old.txns.rows } → StepKept d before s v (Continue t) More old new
       dropping begun is begins locks table =
           let b = run.0 in
           let r = run.1 in
@@ -327,13 +327,16 @@ module _ {D : Type 0} (d : Ghosts D) (before : List Effect) (s : Shown) (v : Vie
           let on = undo_takes_back b t c r.now.log now.log undoes in
           let last_is : last_of t now.log ≡ last = taken_last d b r.base r.now r.redo_end t is.entry to (Plain is.page) last old.disk new.writer new.disk taken in
           let next_is : undo_next_of t now.log ≡ next = taken_next d b r.base r.now r.redo_end t is.entry to (Plain is.page) last old.disk new.writer new.disk taken ∙ sym is.by.leads in
-          let now_row : IsRow (with_record last next row) old.txns.next now.log (Some t) = record {
+          let now_row : IsRow (with_undone last next row) old.txns.next now.log = record {
             number = row_its.1.number;
             below = row_its.1.below;
             last = sym last_is ∙ ap (λ (n : ℕ). last_of n now.log) (sym row_its.0);
             undo = sym next_is ∙ ap (λ (n : ℕ). undo_next_of n now.log) (sym row_its.0);
             unfinished = ap (λ (n : ℕ). is_finished n now.log) row_its.0 ∙ taken.going.unfinished;
-            logged = λ some. inr (ap (λ (n : ℕ). Some n) (sym row_its.0));
+            changes =
+                let was : row.changes ≡ suc (length (net t now.log)) = counted_at t old.txns.next r.now.log row row_its.0 row_its.1 ∙ ap (λ (e : Effect). length e) on.0.own in
+                let same : length (net row.number now.log) ≡ length (net t now.log) = ap (λ (n : ℕ). length (net n now.log)) row_its.0 in
+                omega (arith, was, same);
           } in
           let w = with_change (undid_more v t c (net t now.log)) t views.TookBack in
           let served = turns_empty b r.earlier before s v r.now.log now.log old.txns.rows old.txns.next old.locks t last next row c r.serving found rolling view_none on.0 on.1 now_row in
@@ -355,7 +358,7 @@ module _ {D : Type 0} (d : Ghosts D) (before : List Effect) (s : Shown) (v : Vie
             lawful = taken.going.lawful;
             changing = subst (λ (u : Option Under). IsChanging b u now.log) (sym begins) going;
             serving = subst (λ (x : Numbered). IsServing b r.earlier before s w now.log x.rows x.next new.locks) (sym table)
-                (subst (λ (l : Table). IsServing b r.earlier before s w now.log (map (changed t (with_record last next)) old.txns.rows) old.txns.next l) (sym locks) served.1);
+                (subst (λ (l : Table). IsServing b r.earlier before s w now.log (map (changed t (with_undone last next)) old.txns.rows) old.txns.next l) (sym locks) served.1);
             commits = commits_stand.more r.earlier before s.asked r.now.durable now.log now.durable (commits_stand.stay r.earlier before s.asked r.now.durable r.now.log now.log r.commits on.0.commits)
                 (record { from = taken.durable; upto = taken.going.stands.writing.stands.kept.front });
             numbered = subst (λ (n : ℕ). n ≤ 2 ^ 62 → AreBelow n now.log) (sym (ap (λ (x : Numbered). x.next) table))

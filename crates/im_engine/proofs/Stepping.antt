@@ -2,7 +2,7 @@
 use Rattle.std.proofs.Common.{◌≡◌, ◌≢◌, inl, inr, ⊎_elim, ℕ, Bool, true, false, List, length, Option, None, Some, refl, sym, ap, subst, ◌∙◌, cond}
 use Rattle.std.specs.Prelude.{◌||◌, ◌==◌, ◌+◌, ◌-◌, if◌then◌else◌, ◌↔◌, nat_lt, not}
 use Rattle.im_base_types.specs.Answers as answers
-use Rattle.im_base_types.specs.Answers.{Step, Begin, Do, Commit, Rollback, Continue, FlushPage, Force, Checkpoint, Switch, Mark, Idle, Going, MustRollBack, RollingBack, Committing}
+use Rattle.im_base_types.specs.Answers.{Step, Begin, Do, Commit, Rollback, Continue, RollTo, FlushPage, Force, Checkpoint, Switch, Mark, Idle, Going, MustRollBack, RollingBack, Returning, Committing}
 use Rattle.im_base_types.specs.Changes.{Effect}
 use Rattle.im_base_types.specs.Lives.{Shown, breaks}
 use Rattle.im_base_types.specs.Maps.{IndexMap}
@@ -15,7 +15,7 @@ use Rattle.im_theory_machine.specs.Locks.{Lock}
 use Rattle.im_theory_machine.specs.Table.{locks_of}
 use Rattle.im_theory_machine.specs.View as views
 use Rattle.im_theory_machine.specs.View.{View, owns_in}
-use Rattle.im_theory_machine.specs.Machine.{Moves, Answers, Goes, begins, does, waits, dies, commits, queues, drops, turns, undoes, ends, puts_later, puts, drops_first, drops_leaf, takes_later, takes_first, takes_leaf, takes_last, logs_page, tree_blocks, tree_halts, flushes, forces, checkpoints, switches, lacks, breaks as breaks_it, Breaks, Wants, barred, barred_to, barred_to_rollback, barred_to_continue, first_check, mark_for, or_else, fault_if, keys_fit}
+use Rattle.im_theory_machine.specs.Machine.{Moves, Answers, Goes, begins, does, waits, dies, commits, queues, drops, turns, undoes, ends, puts_later, puts, drops_first, drops_leaf, takes_later, takes_first, takes_leaf, takes_last, stays_back, turns_back, gives_back, is_back, leaf_is_back, logs_page, tree_blocks, tree_halts, flushes, forces, checkpoints, switches, lacks, breaks as breaks_it, Breaks, Wants, barred, barred_to, barred_to_rollback, barred_to_continue, first_check, mark_for, or_else, fault_if, keys_fit}
 use Rattle.im_theory_machine.proofs.Runs.{reply_answers}
 use Rattle.im_theory_steps.specs.Checks.{marks_in}
 use Rattle.im_base_types.specs.declared.fault.Fault.{Fault}
@@ -89,6 +89,7 @@ module _ (P : ℕ → Type 0) (n : ℕ) where
     by_mark Going is = absurd (cc is)
     by_mark MustRollBack is = let same : 2 ≡ n = cc is in subst P same two
     by_mark RollingBack is = let same : 4 ≡ n = cc is in subst P same four
+    by_mark (Returning k) is = let same : 4 ≡ n = cc is in subst P same four
     by_mark Committing is = let same : 1 ≡ n = cc is in subst P same one
 
     by_rollback : (m : Mark) → barred_to_rollback m ≡ Some n → P n
@@ -96,6 +97,7 @@ module _ (P : ℕ → Type 0) (n : ℕ) where
     by_rollback Going is = absurd (cc is)
     by_rollback MustRollBack is = absurd (cc is)
     by_rollback RollingBack is = let same : 4 ≡ n = cc is in subst P same four
+    by_rollback (Returning k) is = let same : 4 ≡ n = cc is in subst P same four
     by_rollback Committing is = let same : 1 ≡ n = cc is in subst P same one
 
     by_continue : (m : Mark) → barred_to_continue m ≡ Some n → P n
@@ -103,6 +105,7 @@ module _ (P : ℕ → Type 0) (n : ℕ) where
     by_continue Going is = let same : 1 ≡ n = cc is in subst P same one
     by_continue MustRollBack is = let same : 1 ≡ n = cc is in subst P same one
     by_continue RollingBack is = absurd (cc is)
+    by_continue (Returning k) is = absurd (cc is)
     by_continue Committing is = let same : 1 ≡ n = cc is in subst P same one
 
     by_owned : (owns : Bool) → (owns ≡ true → P 17) → fault_if owns unfinished ≡ Some n → P n
@@ -121,6 +124,7 @@ module _ (P : ℕ → Type 0) (n : ℕ) where
     by_check three twelve fifteen owns seventeen active mark (Commit t) is = by_or (barred_to mark) (fault_if owns unfinished) (by_mark mark) (by_owned owns seventeen) is
     by_check three twelve fifteen owns seventeen active mark (Rollback t) is = by_or (barred_to_rollback mark) (fault_if owns unfinished) (by_rollback mark) (by_owned owns seventeen) is
     by_check three twelve fifteen owns seventeen active mark (Continue t) is = by_unowned owns mark is
+    by_check three twelve fifteen owns seventeen active mark (RollTo t left) is = by_or (barred_to_rollback mark) (fault_if owns unfinished) (by_rollback mark) (by_owned owns seventeen) is
     by_check three twelve fifteen owns seventeen active mark (FlushPage p) is = absurd (cc is)
     by_check three twelve fifteen owns seventeen active mark Force is = absurd (cc is)
     by_check three twelve fifteen owns seventeen active mark Checkpoint is = absurd (cc is)
@@ -141,6 +145,8 @@ wants_store Begin is = cc is
 wants_store (Commit t) is = cc is
 wants_store (Rollback t) is = cc is
 wants_store (Continue t) is = cc is
+wants_store (RollTo t left) (inl is) = let never : not_a_store ≡ 1 = is in cc never
+wants_store (RollTo t left) (inr is) = let never : not_a_store ≡ 9 = is in cc never
 wants_store (FlushPage p) is = cc is
 wants_store Force is = cc is
 wants_store Checkpoint is = cc is
@@ -175,6 +181,11 @@ goes_store v w step (takes_later u c cs b is none net_is d e) = cc d
 goes_store v w step (takes_first u c cs b is none net_is d e) = cc d
 goes_store v w step (takes_leaf u c cs b is under net_is d e) = cc d
 goes_store v w step (takes_last u b is under empty d e) = cc d
+goes_store v w step (stays_back u n b may few d e) = cc d
+goes_store v w step (turns_back u n b may more d e) = cc d
+goes_store v w step (gives_back u n c cs b back net_is more d e) = cc d
+goes_store v w step (is_back u n c cs b back net_is is d e) = cc d
+goes_store v w step (leaf_is_back u n b back under is d e) = cc d
 goes_store v w step (logs_page u x b under owner d e) = cc d
 goes_store v w step (tree_blocks u a x b under other d e) = cc d
 goes_store v w step (tree_halts u x b under other d e) = cc d
@@ -202,6 +213,7 @@ refused_alone before s (Do t a) n = λ is. absurd (cc is)
 refused_alone before s Begin n = tt
 refused_alone before s (Commit t) n = tt
 refused_alone before s (Rollback t) n = tt
+refused_alone before s (RollTo t left) n = tt
 refused_alone before s (Continue t) n = λ access goes_on is. absurd (cc is)
 refused_alone before s (FlushPage p) n = tt
 refused_alone before s Force n = tt
@@ -340,6 +352,7 @@ module _ {D : Type 0} (d : Ghosts D) (step : Asked) (e : Engine D d) (only_now :
   wants_none works pages map Still stepped was now Begun nets locks max Begin = tt
   wants_none works pages map Still stepped was now Begun nets locks max (Commit t) = tt
   wants_none works pages map Still stepped was now Begun nets locks max (Rollback t) = tt
+  wants_none works pages map Still stepped was now Begun nets locks max (RollTo t left) = tt
   wants_none works pages map Still stepped was now Begun nets locks max (Continue t) = record { short = λ so. absurd (memory_none works so); used_up = λ so. absurd (asks_none works (wants_numbers so)); broken = λ so. absurd (asks_none works (wants_memory so)); begun = λ _ _ _. inr (fault, refl) }
   wants_none works pages map Still stepped was now Begun nets locks max (FlushPage p) = tt
   wants_none works pages map Still stepped was now Begun nets locks max Force = tt
@@ -350,8 +363,9 @@ module _ {D : Type 0} (d : Ghosts D) (step : Asked) (e : Engine D d) (only_now :
   costs_none : (step : Step) → StepCosts d step (Refused fault) e e
   costs_none Begin = tt
   costs_none (Do t a) = tt
-  costs_none (Commit t) = record { most = most_none d 4 4 e.disk; forces = λ is. absurd (cc is); one = λ is. absurd (cc is); buffered = λ is. absurd (cc is); room = λ is. absurd (cc is) }
-  costs_none (Rollback t) = tt
+  costs_none (Commit t) = record { most = most_none d 4 4 e.disk; forces = λ is. absurd (cc is); one = λ is. absurd (cc is); buffered = λ is. absurd (cc is); room = λ is. absurd (cc is); ends = λ is. absurd (cc is) }
+  costs_none (Rollback t) = most_none d 2 2 e.disk
+  costs_none (RollTo t left) = tt
   costs_none (Continue t) = tt
   costs_none (FlushPage p) = λ is. absurd (cc is)
   costs_none Force = record { most = most_none d 2 2 e.disk; one = λ is. absurd (cc is) }
@@ -364,6 +378,7 @@ module _ {D : Type 0} (d : Ghosts D) (step : Asked) (e : Engine D d) (only_now :
   waits_none (Do t a) = tt
   waits_none (Commit t) = tt
   waits_none (Rollback t) = tt
+  waits_none (RollTo t left) = tt
   waits_none (Continue t) = tt
   waits_none (FlushPage p) = tt
   waits_none Force = tt

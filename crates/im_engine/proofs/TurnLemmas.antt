@@ -3,7 +3,7 @@ use Rattle.std.proofs.Common.{◌≡◌, inl, inr, ◌+◌, ◌<◌, ℕ, Bool, 
 use Rattle.std.specs.Prelude.{if◌then◌else◌}
 use Rattle.std.proofs.lemmas.List.{take_more, length-take-le}
 use Rattle.im_base_types.specs.Answers as answers
-use Rattle.im_base_types.specs.Answers.{Mark, Idle, Going, MustRollBack, RollingBack, Committing}
+use Rattle.im_base_types.specs.Answers.{Mark, Idle, Going, MustRollBack, RollingBack, Returning, Committing}
 use Rattle.im_base_types.specs.Changes.{Effect}
 use Rattle.im_base_types.specs.Lives.{Asked, Shown, StandsForMore, asks, effect_asked, shows, shown_by}
 use Rattle.im_theory_machine.specs.View.{View}
@@ -86,6 +86,7 @@ module _ (before : List Effect) (s : Shown) (c : Files) where
   asked_more t Idle e h = subst (λ (l : List Asked). StandsForMore StandsFor before l c) (sym (append-nil s.asked)) h
   asked_more t MustRollBack e h = subst (λ (l : List Asked). StandsForMore StandsFor before l c) (sym (append-nil s.asked)) h
   asked_more t RollingBack e h = subst (λ (l : List Asked). StandsForMore StandsFor before l c) (sym (append-nil s.asked)) h
+  asked_more t (Returning n) e h = subst (λ (l : List Asked). StandsForMore StandsFor before l c) (sym (append-nil s.asked)) h
   asked_more t Committing e h = subst (λ (l : List Asked). StandsForMore StandsFor before l c) (sym (append-nil s.asked)) h
 
   commit_cut : (t : ℕ) (b : Bool) → Allowed before s c → Allowed before (if b then s else asks t false s) c
@@ -98,6 +99,7 @@ module _ (before : List Effect) (s : Shown) (c : Files) where
   allowed_within (answers.Commit t) h = commit_cut t s.failed h
   allowed_within (answers.Rollback t) h = h
   allowed_within (answers.Continue t) h = h
+  allowed_within (answers.RollTo t left) h = h
   allowed_within (answers.FlushPage p) h = h
   allowed_within answers.Force h = h
   allowed_within answers.Checkpoint h = h

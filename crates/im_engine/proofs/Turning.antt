@@ -43,7 +43,7 @@ use Rattle.im_engine_rollback.specs.Ends.{TurnEnds, may_turn}
 use Rattle.im_engine_rollback.specs.declared.undone.Undone.{Undone}
 use Rattle.im_engine_rollback.specs.declared.undone.Undone.TheVariants as turns
 use Rattle.im_engine_rollback.specs.Turns.{Took, HasMore, HasEndedNow, LacksWayBack, Turned, LacksRoomBack}
-use Rattle.im_base_txn.specs.Rows.{is_of, changed, with_record, is_committing}
+use Rattle.im_base_txn.specs.Rows.{is_of, changed, is_committing}
 use Rattle.im_base_txn.specs.LookUps.{without}
 use Rattle.im_base_txn.specs.declared.transaction.Mark.{Mark}
 use Rattle.im_base_txn.specs.declared.transaction.Mark.TheVariants as marks
@@ -53,16 +53,17 @@ use Rattle.im_base_steps.specs.declared.reply.Reply.{Reply}
 use Rattle.im_base_steps.specs.declared.reply.Reply.TheVariants as replies
 use Rattle.im_base_types.specs.Faults.{number_of}
 use Rattle.im_theory_machine.specs.Table.{Table, IsReleased, locks_of, lasting_of}
-use Rattle.im_theory_machine.specs.View.{View, owner_in, of_others, undid_more, undid_last, owner_of, owns_in}
+use Rattle.im_theory_machine.specs.View.{View, of_others, undid_more, undid_last, owner_of, owns_in}
 use Rattle.im_theory_machine.specs.Machine.{barred, barred_to_continue}
 use Rattle.im_theory_steps.specs.Checks.{checked_by, mark_at}
 use Rattle.im_theory_steps.specs.Growth.{AreBelow, AreWithin, GrowsWithin, IsWithin}
+use Rattle.im_theory_steps.specs.Steps.{with_undone}
 use Rattle.im_theory_steps.specs.Undone.{UndoesNewest}
 use Rattle.im_theory_steps.specs.Serving.{IsRow, IsServing, mark_of}
 use Rattle.im_theory_steps.proofs.Cited.{numbers_stay_new, within_leaves_others, commits_stand, at, mark_free, ends_leave_nothing, last_undone_served, rolling_has_more, undone_served}
 use Rattle.im_engine.specs.declared.engine.Engine.{Engine}
 use Rattle.im_engine.specs.Faults.{told_as, ends_engine}
-use Rattle.im_engine.specs.Numbered.{Numbered}
+use Rattle.im_engine.specs.Numbered.{NoneReturns, Numbered, is_returning}
 use Rattle.im_engine.specs.Stands.{Allowed}
 use Rattle.im_engine.specs.Running.{IsRunning, IsLife}
 use Rattle.im_engine.specs.Kept.{StepKept}
@@ -73,20 +74,23 @@ use Rattle.im_engine.specs.Aims.{IsChanging, under_of}
 use Rattle.im_engine.specs.Growing.{turns as by_turn, ends_by_turn}
 use Rattle.im_engine.proofs.Running.{nobody_owner, closed_now, checks_tell, bodies_are, left_on}
 use Rattle.im_engine.proofs.Made.{step_made}
+use Rattle.im_engine.proofs.Numbers.{found_forward}
 use Rattle.im_engine.proofs.Refused.{breaks_with, lacks_with}
 use Rattle.im_engine.proofs.Causes.{Answers, behind, not_refused_for, refused_for}
 use Rattle.im_engine.proofs.Looked.{not_true}
 
 -- ---- the row of a step that goes on
 
-back_by : (m : Mark) (row : Transaction) → row.mark ≡ m → barred_to_continue (mark_at (Some row)) ≡ None → row.mark ≡ marks.RollingBack
-back_by marks.RollingBack row is none = is
-back_by marks.Going row is none = absurd (let never = sym (ap (λ (x : Mark). barred_to_continue (mark_at (Some (record row { mark = x })))) is) ∙ none in cc never)
-back_by marks.MustRollBack row is none = absurd (let never = sym (ap (λ (x : Mark). barred_to_continue (mark_at (Some (record row { mark = x })))) is) ∙ none in cc never)
-back_by marks.Committing row is none = absurd (let never = sym (ap (λ (x : Mark). barred_to_continue (mark_at (Some (record row { mark = x })))) is) ∙ none in cc never)
+back_by : (m : Mark) (row : Transaction) → row.mark ≡ m → is_returning m ≡ false → barred_to_continue (mark_at (Some row)) ≡ None → row.mark ≡ marks.RollingBack
+back_by marks.RollingBack row is forward none = is
+back_by marks.Going row is forward none = absurd (let never = sym (ap (λ (x : Mark). barred_to_continue (mark_at (Some (record row { mark = x })))) is) ∙ none in cc never)
+back_by marks.MustRollBack row is forward none = absurd (let never = sym (ap (λ (x : Mark). barred_to_continue (mark_at (Some (record row { mark = x })))) is) ∙ none in cc never)
+back_by (marks.Returning n) row is forward none = absurd (cc forward)
+back_by marks.Committing row is forward none = absurd (let never = sym (ap (λ (x : Mark). barred_to_continue (mark_at (Some (record row { mark = x })))) is) ∙ none in cc never)
 
-pub continue_mark : (rows : List Transaction) (t : ℕ) (row : Transaction) → find (is_of t) rows ≡ Some row → checked_by rows false (Continue t) ≡ None → row.mark ≡ marks.RollingBack
-continue_mark rows t row found is = back_by row.mark row refl (sym (ap (λ (o : Option Transaction). barred_to_continue (mark_at o)) found) ∙ is)
+-- none returns to a part of its changes
+pub continue_mark : (rows : List Transaction) → NoneReturns rows → (t : ℕ) (row : Transaction) → find (is_of t) rows ≡ Some row → checked_by rows false (Continue t) ≡ None → row.mark ≡ marks.RollingBack
+continue_mark rows forward t row found is = back_by row.mark row refl (found_forward t rows forward row found) (sym (ap (λ (o : Option Transaction). barred_to_continue (mark_at o)) found) ∙ is)
 
 pub continue_found : (rows : List Transaction) (t : ℕ) → find (is_of t) rows ≡ None → checked_by rows false (Continue t) ≡ None → ⊥
 continue_found rows t none is = let never = sym (ap (λ (o : Option Transaction). barred_to_continue (mark_at o)) none) ∙ is in cc never
@@ -165,9 +169,9 @@ alone_checked d old t plain checked = subst (λ (u : Option Under). checked_by o
 module _ {D : Type 0} (d : Ghosts D) {b : Base} (before : List Effect) (s : Shown) (v : View) (t : ℕ) (row : Transaction) (old : Engine D d) (r : IsRunning d b before s v old)
     (found : find (is_of t) old.txns.rows ≡ Some row) (checked : checked_by old.txns.rows (owns_in (under_of old.under) (Continue t)) (Continue t) ≡ None) (plain : old.under ≡ None) where
   mark : row.mark ≡ marks.RollingBack
-  mark = continue_mark old.txns.rows t row found (alone_checked d old t plain checked)
+  mark = continue_mark old.txns.rows old.forward t row found (alone_checked d old t plain checked)
 
-  its : (row.number ≡ t) × IsRow row old.txns.next r.now.log (owner_in v) × ((v.txns t).mark ≡ mark_of row.mark)
+  its : (row.number ≡ t) × IsRow row old.txns.next r.now.log × ((v.txns t).mark ≡ mark_of row.mark)
   its = at b r.earlier before s v r.now.log old.txns.rows old.txns.next old.locks r.serving t row found (mark_free row.mark marks.RollingBack mark (λ x. cc x))
 
   -- how the transaction stands in front of it
@@ -261,7 +265,7 @@ module _ {D : Type 0} (d : Ghosts D) (before : List Effect) (s : Shown) (v : Vie
   module _ (works_on : new.failed ≡ false) (stops : LeavesUndo d run.0 run.1.base run.1.now t old.disk new.disk) where
     -- other changes are left
     pub has_more : (u : Undone) (last undo_next : ℕ) → u ≡ turns.More last undo_next → Turned d run.0 run.1.base run.1.now run.1.redo_end t old.disk new.writer new.disk u → new.locks ≡ old.locks
-        → new.txns ≡ record old.txns { rows = map (changed t (with_record last undo_next)) old.txns.rows } → StepKept d before s v (Continue t) More old new
+        → new.txns ≡ record old.txns { rows = map (changed t (with_undone last undo_next)) old.txns.rows } → StepKept d before s v (Continue t) More old new
     has_more u last undo_next same turned locks table =
         let b = run.0 in
         let r = run.1 in
@@ -275,7 +279,7 @@ module _ {D : Type 0} (d : Ghosts D) (before : List Effect) (s : Shown) (v : Vie
         let left_same = within_leaves_others t r.now.log now.log undoes.grows in
         let w = undid_more v t c (net t now.log) in
         let served = undone_served b r.earlier before s v r.now.log now.log old.txns.rows old.txns.next old.locks t row c r.serving found (mark d before s v t row old r found checked plain) undoes is.left going.unfinished in
-        let rows_of : ℕ → ℕ → List Transaction = λ l n. map (changed t (with_record l n)) old.txns.rows in
+        let rows_of : ℕ → ℕ → List Transaction = λ l n. map (changed t (with_undone l n)) old.txns.rows in
         let table_is : new.txns ≡ record old.txns { rows = rows_of (last_of t now.log) (undo_next_of t now.log) } =
         table ∙ ap (λ (l : ℕ). record old.txns { rows = rows_of l undo_next }) (sym (took_last d b r.base r.now r.redo_end t last undo_next old.disk new.writer new.disk took))
         ∙ ap (λ (n : ℕ). record old.txns { rows = rows_of (last_of t now.log) n }) (sym (took_next d b r.base r.now r.redo_end t last undo_next old.disk new.writer new.disk took)) in

@@ -7,11 +7,11 @@ use Rattle.im_base_types.specs.Changes.{Effect, apply_all}
 use Rattle.im_base_types.specs.Lives.{Shown}
 use Rattle.im_theory_log.specs.Histories.{Base, History}
 use Rattle.im_base_txn.specs.declared.transaction.Mark.{Mark}
-use Rattle.im_base_txn.specs.declared.transaction.Mark.TheVariants.{Going, MustRollBack, RollingBack, Committing}
+use Rattle.im_base_txn.specs.declared.transaction.Mark.TheVariants.{Going, MustRollBack, RollingBack, Returning, Committing}
 use Rattle.im_base_txn.specs.declared.transaction.Transaction.{Transaction}
 use Rattle.im_base_txn.specs.Rows.{AreRising, is_of, is_committing, waits_at, waiting_in, waiting_numbers, without_waiting}
 use Rattle.im_theory_machine.specs.Table.{Table, AreReleased}
-use Rattle.im_theory_machine.specs.View.{View, Txn, owner_in, is_among}
+use Rattle.im_theory_machine.specs.View.{View, Txn, is_among}
 use Rattle.im_theory_machine.proofs.Cited.{queue_marks, IsQueue}
 use Rattle.im_theory_steps.specs.Steps.{without_all}
 use Rattle.im_theory_steps.specs.Serving.{IsAt, IsServing, mark_of}
@@ -27,21 +27,23 @@ waits_by Committing e = refl
 waits_by Going e = absurd (cc e)
 waits_by MustRollBack e = absurd (cc e)
 waits_by RollingBack e = absurd (cc e)
+waits_by (Returning n) e = absurd (cc e)
 
 marked_by : (m : Mark) → is_committing m ≡ true → mark_of m ≡ answers.Committing
 marked_by Committing e = refl
 marked_by Going e = absurd (cc e)
 marked_by MustRollBack e = absurd (cc e)
 marked_by RollingBack e = absurd (cc e)
+marked_by (Returning n) e = absurd (cc e)
 
 -- a row that is found says whether it waits
-waits_so : (t next : ℕ) (log : History) (who : Option ℕ) (o : Option Transaction) (x : Txn) → IsAt t o next log who x → x.mark ≡ answers.Committing → waits_at o ≡ true
-waits_so t next log who None x is waits = absurd (let never : answers.Idle ≡ answers.Committing = sym (ap (λ (y : Txn). y.mark) is.2) ∙ waits in cc never)
-waits_so t next log who (Some row) x is waits = waits_by row.mark (sym is.2 ∙ waits)
+waits_so : (t next : ℕ) (log : History) (o : Option Transaction) (x : Txn) → IsAt t o next log x → x.mark ≡ answers.Committing → waits_at o ≡ true
+waits_so t next log None x is waits = absurd (let never : answers.Idle ≡ answers.Committing = sym (ap (λ (y : Txn). y.mark) is.2) ∙ waits in cc never)
+waits_so t next log (Some row) x is waits = waits_by row.mark (sym is.2 ∙ waits)
 
-marked_so : (t next : ℕ) (log : History) (who : Option ℕ) (o : Option Transaction) (x : Txn) → IsAt t o next log who x → waits_at o ≡ true → x.mark ≡ answers.Committing
-marked_so t next log who None x is waits = absurd (cc waits)
-marked_so t next log who (Some row) x is waits = is.2 ∙ marked_by row.mark waits
+marked_so : (t next : ℕ) (log : History) (o : Option Transaction) (x : Txn) → IsAt t o next log x → waits_at o ≡ true → x.mark ≡ answers.Committing
+marked_so t next log None x is waits = absurd (cc waits)
+marked_so t next log (Some row) x is waits = is.2 ∙ marked_by row.mark waits
 
 none_of : (queue : List ℕ) → length queue ≡ 0 → queue ≡ []
 none_of [] e = refl
@@ -56,8 +58,8 @@ module _ (b : Base) (earlier before : List Effect) (s : Shown) (v : View) (log :
   queue_is = queue_marks (apply_all empty before) v h.reached
 
   tells : (t : ℕ) → is_among t v.queue ≡ waits_at (find (is_of t) rows)
-  tells t = same_tests (is_among t v.queue) (waits_at (find (is_of t) rows)) (λ some. waits_so t next log (owner_in v) (find (is_of t) rows) (v.txns t) (h.table.each t) (queue_is.waits t some))
-      (λ waits. queue_is.all t (marked_so t next log (owner_in v) (find (is_of t) rows) (v.txns t) (h.table.each t) waits))
+  tells t = same_tests (is_among t v.queue) (waits_at (find (is_of t) rows)) (λ some. waits_so t next log (find (is_of t) rows) (v.txns t) (h.table.each t) (queue_is.waits t some))
+      (λ waits. queue_is.all t (marked_so t next log (find (is_of t) rows) (v.txns t) (h.table.each t) waits))
 
   -- one that does not wait by its row is not in the queue
   pub out_of : (t : ℕ) → waits_at (find (is_of t) rows) ≡ false → is_among t v.queue ≡ false

@@ -1,5 +1,5 @@
 -- Which records join the log in a step.
-use Rattle.std.specs.Prelude.{◌≡◌, ◌≢◌, ◌≤◌, ℕ, true, false, ◌∷◌, length, Option, None, Some}
+use Rattle.std.specs.Prelude.{◌≡◌, ◌≢◌, ◌≤◌, ℕ, true, false, [], ◌∷◌, length, Option, None, Some}
 use Rattle.im_base_types.specs.Answers.{Step, Reply, Do, Insert, Delete, Commit, Rollback, Continue, Force, Checkpoint, Switch, Started, Inserted, Deleted, Committed, RolledBack, More, Done}
 use Rattle.im_base_types.specs.Keys.{Key}
 use Rattle.im_base_types.specs.Pages.{Body}
@@ -8,7 +8,7 @@ use Rattle.im_theory_log.specs.Histories.{Base, History}
 use Rattle.im_theory_log.specs.Copies.{GrowsByImages}
 use Rattle.im_theory_log.specs.LogLaws.{bodies}
 use Rattle.im_theory_log.specs.Structure.{settled}
-use Rattle.im_theory_log.specs.Transactions.{last_of}
+use Rattle.im_theory_log.specs.Transactions.{last_of, net}
 use Rattle.im_log_record.specs.Entry as entries
 use Rattle.im_log.specs.Spelled.{logged_at}
 use Rattle.im_theory_machine.specs.View.{Under, Aim, Puts, TakesBack, TookBack, owner_of}
@@ -20,7 +20,7 @@ use Rattle.im_smo_split.specs.Tops.{LacksRoomFor}
 use Rattle.im_smo_actions.specs.DropPlan.{IsSpare}
 use Rattle.im_restart_undo.specs.Records.{GrowsByUndo, compensations}
 use Rattle.im_theory_steps.specs.Growth.{IsCheckpoint}
-use Rattle.im_theory_steps.specs.Steps.{commit_record, key_record}
+use Rattle.im_theory_steps.specs.Steps.{commit_record, end_record, key_record}
 
 -- A key came: its record is the newest, after Images and, just where its leaf lacked room, a structure change of the transaction.
 pub record PutsKey (b : Base) (t : ℕ) (key : Key) (rid : ℕ) (older longer : History) : Type 0 where
@@ -57,10 +57,16 @@ pub record TakesLastBack (t : ℕ) (older longer : History) : Type 0 where
   pub lsn : ℕ
   pub is : longer ≡ logged_at lsn (entries.End t last) ∷ between
 
--- The transaction has its Commit, after its last record; one without a record has none.
+-- The transaction has its Commit, after its last record; one without a record has none, and one of which no change stands has an End.
 pub data AddsCommit (t : ℕ) (older longer : History) : Type 0 where
   without_records : last_of t older ≡ 0 → longer ≡ older → AddsCommit t older longer
-  with_records : (lsn : ℕ) → 1 ≤ last_of t older → longer ≡ commit_record t (last_of t older) lsn ∷ older → AddsCommit t older longer
+  with_records : (lsn : ℕ) → 1 ≤ last_of t older → net t older ≢ [] → longer ≡ commit_record t (last_of t older) lsn ∷ older → AddsCommit t older longer
+  emptied : (lsn : ℕ) → 1 ≤ last_of t older → net t older ≡ [] → longer ≡ end_record t (last_of t older) lsn ∷ older → AddsCommit t older longer
+
+-- What a Rollback adds that ends its transaction: nothing, or its End where it has records.
+pub data AddsEnd (t : ℕ) (older longer : History) : Type 0 where
+  no_records : last_of t older ≡ 0 → longer ≡ older → AddsEnd t older longer
+  some_records : (lsn : ℕ) → 1 ≤ last_of t older → net t older ≡ [] → longer ≡ end_record t (last_of t older) lsn ∷ older → AddsEnd t older longer
 
 -- One Checkpoint joined: its record is the newest, after Images where pages were written first, and after none where the changed pages were few.
 pub record AddsCheckpoint (b : Base) (Few : Type 0) (older longer : History) : Type 0 where
@@ -155,7 +161,7 @@ pub data EndsBy (was : Option Under) (t : ℕ) (older longer : History) : Type 0
   ends_behind : was ≡ Some (record { owner = t; aim = TakesBack }) → ClosesThen t (λ between. TakesLastBack t between longer) older → EndsBy was t older longer
   ends_drop : was ≡ Some (record { owner = t; aim = TookBack }) → ClosesThen t (λ between. EndsAlone t between longer) older → EndsBy was t older longer
 
--- By the reply and the step, by whether a Checkpoint may list each changed page, and by the structure change that was under way before the step and is after it. A step that is not named here adds Images alone, which writes of pages want, and a Begin, a Rollback and a Force add nothing.
+-- By the reply and the step, by whether a Checkpoint may list each changed page, and by the structure change that was under way before the step and is after it. A step that is not named here adds Images alone, which writes of pages want, and a Begin, a Rollback that begins and a Force add nothing.
 abbrev pub GrowsAs : Base → (Few : Type 0) → (was now : Option Under) → Reply → Step → History → History → Type 0
 GrowsAs b Few was now Inserted (Do t (Insert key rid)) older longer = PutsKey b t key rid older longer
 GrowsAs b Few was now Inserted (Continue t) older longer = ClosesThen t (λ between. PutsPending b was between longer) older
@@ -167,7 +173,7 @@ GrowsAs b Few was now More (Do t (Delete key)) older longer = DropsAlone b t key
 GrowsAs b Few was now More (Commit t) older longer = AddsCommit t older longer
 GrowsAs b Few was now More (Rollback t) older longer = longer ≡ older
 GrowsAs b Few was now More (Continue t) older longer = GoesOnBy b was now t older longer
-GrowsAs b Few was now RolledBack (Rollback t) older longer = longer ≡ older
+GrowsAs b Few was now RolledBack (Rollback t) older longer = AddsEnd t older longer
 GrowsAs b Few was now RolledBack (Continue t) older longer = EndsBy was t older longer
 GrowsAs b Few was now (Started n) step older longer = longer ≡ older
 GrowsAs b Few was now Done Force older longer = longer ≡ older

@@ -1,7 +1,7 @@
 -- Why the structure change of another stands in the way of a step, and how its owner goes on with one.
 use Rattle.std.specs.Prelude.{◌≡◌, ◌≢◌, ◌⊎◌, ◌<◌, ◌==◌, ℕ, suc, Bool, true, false, length, Option, None, Some}
 use Rattle.std.specs.FinMap.{get}
-use Rattle.im_base_types.specs.Answers.{Access, Insert, Delete, Step, Do, Commit, Rollback, Continue}
+use Rattle.im_base_types.specs.Answers.{Access, Insert, Delete, Step, Do, Commit, Rollback, Continue, RollTo}
 use Rattle.im_base_types.specs.Keys.{Key}
 use Rattle.im_base_types.specs.Maps.{IndexMap}
 use Rattle.im_base_types.specs.Records.{What, Logged}
@@ -30,6 +30,7 @@ is_of_owner u (Do t a) = u == t
 is_of_owner u (Commit t) = u == t
 is_of_owner u (Rollback t) = u == t
 is_of_owner u (Continue t) = u == t
+is_of_owner u (RollTo t left) = u == t
 is_of_owner u _ = false
 
 -- ---- in the way

@@ -12,10 +12,10 @@ use Rattle.im_base_disk.specs.Disk.{Files}
 use Rattle.im_base_txn.specs.declared.transaction.Transaction.{Transaction}
 use Rattle.im_base_txn.specs.Rows.{is_of}
 use Rattle.im_theory_machine.specs.View as views
-use Rattle.im_theory_machine.specs.View.{View, Txn, owner_in}
+use Rattle.im_theory_machine.specs.View.{View, Txn}
 use Rattle.im_theory_machine.specs.Machine.{start}
 use Rattle.im_theory_steps.specs.Serving.{IsAt}
-use Rattle.im_theory_steps.specs.Steps.{mark_for_aim}
+use Rattle.im_theory_steps.specs.Steps.{IsMarkFor}
 use Rattle.im_theory_steps.proofs.Cited.{quiet_lives_settle, owners_marked}
 use Rattle.im_base_types.specs.declared.fault.Fault.{Fault}
 use Rattle.im_engine.specs.declared.engine.Engine.{Engine}
@@ -47,7 +47,7 @@ no_rows [] none = refl
 no_rows (row ∷ rows) none = absurd (cc none)
 
 -- who has a structure change under way is active
-never_idle : (aim : views.Aim) → Idle ≡ mark_for_aim aim → ⊥
+never_idle : (aim : views.Aim) → IsMarkFor aim Idle → ⊥
 never_idle (views.Puts k i) is = cc is
 never_idle (views.Drops k) is = cc is
 never_idle views.TakesBack is = cc is
@@ -62,14 +62,14 @@ module _ {D : Type 0} (d : Ghosts D) {b : Base} (before : List Effect) (s : Show
   all_idle : (t : ℕ) → (v.txns t).mark ≡ Idle
   all_idle t =
       let empty : e.txns.rows ≡ [] = no_rows e.txns.rows (sym r.serving.table.active ∙ none) in
-      ap (λ (x : Txn). x.mark) (subst (λ (rows : List Transaction). IsAt t (find (is_of t) rows) e.txns.next r.now.log (owner_in v) (v.txns t)) empty (r.serving.table.each t)).2
+      ap (λ (x : Txn). x.mark) (subst (λ (rows : List Transaction). IsAt t (find (is_of t) rows) e.txns.next r.now.log (v.txns t)) empty (r.serving.table.each t)).2
 
   pub nobody_owns : e.under ≡ None
   nobody_owns = by e.under refl
     where
       by : (under : Option Under) → e.under ≡ under → e.under ≡ None
       by None is = is
-      by (Some u) is = absurd (never_idle (aim_of u.aim) (sym (all_idle u.begun.change.transaction) ∙ owners_marked.marked (apply_all empty before) v r.serving.reached (owned u) (r.same ∙ ap under_of is)))
+      by (Some u) is = absurd (never_idle (aim_of u.aim) (subst (IsMarkFor (aim_of u.aim)) (all_idle u.begun.change.transaction) (owners_marked.marked (apply_all empty before) v r.serving.reached (owned u) (r.same ∙ ap under_of is))))
 
 module _ {D : Type 0} {d : Ghosts D} where
   -- what was acknowledged survives a stop

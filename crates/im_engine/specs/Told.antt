@@ -56,7 +56,7 @@ use Rattle.im_engine.specs.declared.stepped.Under.{Under}
 use Rattle.im_engine.specs.Aims.{under_of, IsSameUnder, IsToldTo}
 use Rattle.im_engine.specs.Paces.{Bars, EndsAs, GoesOnWith, IsRefusal, TreeCause, is_of_owner}
 use Rattle.im_engine.specs.Numbered.{Numbered}
-use Rattle.im_engine.specs.Costs.{CommitCosts, ForceCosts}
+use Rattle.im_engine.specs.Costs.{CommitCosts, ForceCosts, RollbackCosts}
 use Rattle.im_engine.specs.Running.{IsRunning, IsLife}
 use Rattle.im_engine.specs.Kept.{StepKept}
 
@@ -143,10 +143,20 @@ abbrev pub HasLogged : Option Transaction → Type 0
 HasLogged None = ⊥
 HasLogged (Some row) = 1 ≤ row.last
 
--- A Commit is answered at once where Commits do not wait for a force, or its transaction has no records, and else it waits.
+-- it has records, and changes that stand
+abbrev pub HasChanged : Option Transaction → Type 0
+HasChanged None = ⊥
+HasChanged (Some row) = (1 ≤ row.last) × (1 ≤ row.changes)
+
+-- it has records, but all of its changes are taken back
+abbrev pub IsEmptied : Option Transaction → Type 0
+IsEmptied None = ⊥
+IsEmptied (Some row) = (1 ≤ row.last) × (row.changes ≡ 0)
+
+-- A Commit is answered at once where Commits do not wait for a force, or no change of its transaction stands, and else it waits.
 abbrev pub SuitsGroup : answers.Step → Reply → Numbered → Type 0
-SuitsGroup (answers.Commit t) Committed txns = (txns.group ≡ false) ⊎ (HasLogged (find (is_of t) txns.rows) → ⊥)
-SuitsGroup (answers.Commit t) More txns = (txns.group ≡ true) × HasLogged (find (is_of t) txns.rows)
+SuitsGroup (answers.Commit t) Committed txns = (txns.group ≡ false) ⊎ (HasChanged (find (is_of t) txns.rows) → ⊥)
+SuitsGroup (answers.Commit t) More txns = (txns.group ≡ true) × HasChanged (find (is_of t) txns.rows)
 SuitsGroup _ _ txns = Unit {0}
 
 -- The fault is that of the first check that is failed; where none is, it has this cause.
@@ -200,13 +210,14 @@ module _ {D : Type 0} (d : Ghosts D) where
   abbrev pub IsLastLog : Engine D d → Type 0
   IsLastLog e = 2 ^ 62 ≤ generation_at e.writer.log.gate + 1
 
-  -- Steps that make no device call: a Begin, a Rollback, a Commit of a transaction that has no records, or one that waits for a force and whose record fits into the buffer, the flush of a page that was not changed, a force where nothing is buffered, a Switch of a log after which there is no other.
+  -- Steps that make no device call: a Begin, a RollTo, a Rollback, but where all changes are taken back and the End does not fit into the buffer, a Commit of a transaction that has no records, or one that waits for a force, or of which no change stands, and whose record fits into the buffer, the flush of a page that was not changed, a force where nothing is buffered, a Switch of a log after which there is no other.
   abbrev pub CallsDevice : answers.Step → Engine D d → Type 0
   CallsDevice answers.Begin e = ⊥
   CallsDevice (answers.Do t access) e = Unit {0}
-  CallsDevice (answers.Commit t) e = HasLogged (find (is_of t) e.txns.rows) × ((e.txns.group ≡ false) ⊎ (16384 < e.writer.log.used + 33))
-  CallsDevice (answers.Rollback t) e = ⊥
+  CallsDevice (answers.Commit t) e = HasLogged (find (is_of t) e.txns.rows) × ((HasChanged (find (is_of t) e.txns.rows) × (e.txns.group ≡ false)) ⊎ (16384 < e.writer.log.used + 33))
+  CallsDevice (answers.Rollback t) e = IsEmptied (find (is_of t) e.txns.rows) × (16384 < e.writer.log.used + 33)
   CallsDevice (answers.Continue t) e = Unit {0}
+  CallsDevice (answers.RollTo t left) e = ⊥
   CallsDevice (answers.FlushPage page) e = is_changed e.writer.pool page ≡ true
   CallsDevice answers.Force e = 1 ≤ e.writer.log.used
   CallsDevice answers.Checkpoint e = Unit {0}
@@ -214,7 +225,8 @@ module _ {D : Type 0} (d : Ghosts D) where
 
   -- What a step costs that is asked for to bring records or a page to the disk. A Checkpoint costs so little where it need write no page first, as its record has room for each that was changed since its last write, and else no more after these writes.
   abbrev pub StepCosts : answers.Step → Reply → Engine D d → Engine D d → Type 0
-  StepCosts (answers.Commit t) reply old new = CommitCosts d old.writer.log.used (HasLogged (find (is_of t) old.txns.rows)) reply old.disk new.disk
+  StepCosts (answers.Commit t) reply old new = CommitCosts d old.writer.log.used (HasChanged (find (is_of t) old.txns.rows)) reply old.disk new.disk
+  StepCosts (answers.Rollback t) reply old new = RollbackCosts d old.disk new.disk
   StepCosts answers.Force reply old new = ForceCosts d old.writer.log.used reply old.disk new.disk
   StepCosts (answers.FlushPage page) reply old new =
       reply ≡ Done → is_changed old.writer.pool page ≡ true → PageCosts d page (page_count (d.seen old.disk PagesFile)) (has_room page old.writer.table) old.disk new.disk
@@ -239,7 +251,7 @@ module _ {D : Type 0} (d : Ghosts D) where
     abbrev pub OfForce : Type 0
     OfForce = Where (d.failed disk ≡ true) (fault ≡ Device) ⊥
 
-    -- After the checks, why this fault refuses a step that left this log and this disk. The record of a Commit takes 33 bytes. A Checkpoint syncs the file of pages before its record joins the log, so a disk that fails is told first; where it writes pages before that, it may be refused as a flush is, or for its record, and the log is full either way. A Rollback that was let through is never refused.
+    -- After the checks, why this fault refuses a step that left this log and this disk. The record of a Commit takes 33 bytes, and so does the End of one of which no change stands. A Checkpoint syncs the file of pages before its record joins the log, so a disk that fails is told first; where it writes pages before that, it may be refused as a flush is, or for its record, and the log is full either way. A Rollback that was let through is refused only where all changes are taken back, as the End is logged, of 33 bytes too. A RollTo is not served.
     abbrev pub Refuses : answers.Step → Type 0
     Refuses answers.Begin = Where (2 ^ 62 < old.txns.next) (fault ≡ Capacity) ⊥
     Refuses (answers.Do t (answers.Fetch key)) = IsFor (ReadCause d log disk)
@@ -250,7 +262,8 @@ module _ {D : Type 0} (d : Ghosts D) where
     Refuses (answers.Do t (answers.Insert key rid)) = IsFor (InsertCause d log disk)
     Refuses (answers.Do t (answers.Delete key)) = IsFor (DeleteCause d log disk)
     Refuses (answers.Commit t) = Where (HasLogged (find (is_of t) old.txns.rows)) (Where (2 ^ 62 < end_with old.writer.log 33) (fault ≡ LogFull) OfForce) ⊥
-    Refuses (answers.Rollback t) = ⊥
+    Refuses (answers.Rollback t) = Where (IsEmptied (find (is_of t) old.txns.rows)) (Where (2 ^ 62 < end_with old.writer.log 33) (fault ≡ LogFull) OfForce) ⊥
+    Refuses (answers.RollTo t left) = fault ≡ NoTransaction
     Refuses (answers.Continue t) = IsFor (TurnCause d log disk)
     Refuses (answers.FlushPage page) = IsFor (FlushCause d log disk)
     Refuses answers.Force = OfForce
@@ -390,7 +403,7 @@ module _ {D : Type 0} (d : Ghosts D) where
     pub at_once : old.stepped ≡ false → SuitsAtOnce (asked_by step) (told_by reply)
     -- how it goes on with a structure change that is made page by page, or beside it
     pub paced : IsPaced (asked_by step) reply old new
-    -- a Commit that is not refused is answered More just where Commits wait for a force and its transaction has records
+    -- a Commit that is not refused is answered More just where Commits wait for a force and changes of its transaction stand
     pub grouped : SuitsGroup (asked_by step) reply old.txns
     pub wants : old.failed ≡ false → (b : Base) (before : List Effect) (s : Shown) (v : View) (r : IsRunning d b before s v old) → WantsHere b before s v r (asked_by step) reply new
     pub quiet : (CallsDevice d (asked_by step) old → ⊥) → new.disk ≡ old.disk

@@ -1,7 +1,7 @@
 //! Transactions that begin and end.
 
-ghost use Rattle.std.specs.Prelude.{◌≡◌, None, false};
-ghost use Rattle.im_base_txn.specs.Rows.{waiting_numbers};
+ghost use Rattle.std.specs.Prelude.{◌≡◌, ◌≤◌, find, None, Some, false};
+ghost use Rattle.im_base_txn.specs.Rows.{is_of, waiting_numbers};
 ghost use Rattle.im_theory_machine.specs.Table.{AreReleased};
 ghost use Rattle.im_theory_machine.specs.View.{is_among};
 
@@ -37,7 +37,7 @@ impl<D: Disk> Engine<D> {
     }
 
     // Ends a transaction, all of which is then durable: its locks go after the force, and not before. Or its record is logged, and it waits
-    // for the next force with its locks.
+    // for the next force with its locks. One of which no change stands needs no force.
     pub(crate) fn commit(&mut self, t: TxnId) -> Reply
         requires works { self.old.failed ≡ false }
         requires checked { checked_by self.old.txns.rows (owns_in (under_of self.old.under) (answers.Commit t)) (answers.Commit t) ≡ None }
@@ -50,6 +50,9 @@ impl<D: Disk> Engine<D> {
             self.locks.release_all(t);
             self.txns.end(t);
             return Reply::Committed;
+        }
+        if row.changes == 0 {
+            return self.commit_emptied(t, row);
         }
         self.failed = true;
         let commit = Record::Commit {
@@ -74,7 +77,7 @@ impl<D: Disk> Engine<D> {
         Reply::Committed
     }
 
-    // Begins to take a transaction back (`turns_are_served`), or ends one that has no record (`drops_are_served`).
+    // Begins to take a transaction back (`turns_are_served`), or ends one of which nothing is to be taken back (`drops_are_served`).
     pub(crate) fn roll_back(&mut self, t: TxnId) -> Reply
         requires works { self.old.failed ≡ false }
         requires checked { checked_by self.old.txns.rows (owns_in (under_of self.old.under) (answers.Rollback t)) (answers.Rollback t) ≡ None }
@@ -83,13 +86,72 @@ impl<D: Disk> Engine<D> {
         let Some(row) = self.txns.find(t) else {
             return Reply::Refused(Fault::NoTransaction);
         };
-        if row.last != 0 {
+        if row.changes != 0 {
             self.txns.set_mark(t, Mark::RollingBack);
             return Reply::More;
+        }
+        if row.last != 0 {
+            return self.drop_emptied(t, row);
         }
         self.locks.release_all(t);
         self.txns.end(t);
         Reply::RolledBack
+    }
+
+    // Ends a transaction that has records, but no change that stands, with an End (`empty_commits_are_served`). No force is made.
+    fn commit_emptied(&mut self, t: TxnId, row: Transaction) -> Reply
+        requires works { self.old.failed ≡ false }
+        requires found { find (is_of t) self.old.txns.rows ≡ Some row }
+        requires emptied { row.changes ≡ 0 }
+        requires some { 1 ≤ row.last }
+        requires checked { checked_by self.old.txns.rows (owns_in (under_of self.old.under) (answers.Commit t)) (answers.Commit t) ≡ None }
+        ensures { IsMade D.Disk (answers.Commit t) result self.old self.new }
+    {
+        self.failed = true;
+        let end = Record::End {
+            transaction: t,
+            prev: row.last,
+        };
+        if let Err(fault) = self.writer.log_only(&mut self.disk, &end) {
+            return Reply::Refused(told(fault));
+        }
+        self.failed = false;
+        self.locks.release_all(t);
+        self.txns.end(t);
+        Reply::Committed
+    }
+
+    // Ends such a one by its Rollback (`empty_rollbacks_are_served`).
+    fn drop_emptied(&mut self, t: TxnId, row: Transaction) -> Reply
+        requires works { self.old.failed ≡ false }
+        requires found { find (is_of t) self.old.txns.rows ≡ Some row }
+        requires emptied { row.changes ≡ 0 }
+        requires some { 1 ≤ row.last }
+        requires checked { checked_by self.old.txns.rows (owns_in (under_of self.old.under) (answers.Rollback t)) (answers.Rollback t) ≡ None }
+        ensures { IsMade D.Disk (answers.Rollback t) result self.old self.new }
+    {
+        self.failed = true;
+        let end = Record::End {
+            transaction: t,
+            prev: row.last,
+        };
+        if let Err(fault) = self.writer.log_only(&mut self.disk, &end) {
+            return Reply::Refused(told(fault));
+        }
+        self.failed = false;
+        self.locks.release_all(t);
+        self.txns.end(t);
+        Reply::RolledBack
+    }
+
+    // A return to a part of the changes is not served.
+    pub(crate) fn roll_to(&mut self, t: TxnId, left: u64) -> Reply
+        requires works { self.old.failed ≡ false }
+        requires checked { checked_by self.old.txns.rows (owns_in (under_of self.old.under) (answers.RollTo t left)) (answers.RollTo t left) ≡ None }
+        ensures { IsMade D.Disk (answers.RollTo t left) result self.old self.new }
+    {
+        let _asked = (t, left);
+        Reply::Refused(Fault::NoTransaction)
     }
 
     // Makes every record durable, and ends all that wait (`forces_are_served`, `commits_stand.acked`).

@@ -4,6 +4,7 @@ ghost use Rattle.std.specs.Prelude.{◌≡◌, ◌≤◌, length, false, is_some
 ghost use Rattle.std.proofs.Props.{props};
 ghost use Rattle.im_log.proofs.Waiting.{sealed_prop};
 ghost use Rattle.im_page_writer.specs.PageWriter.{IsReadyWriter};
+ghost use Rattle.im_engine.specs.Numbered.{NoneReturns, none_returns_prop};
 
 use crate::engine::checks::{has_length, owns, to_access, to_commit, to_continue, to_rollback};
 use crate::stepped::Under;
@@ -38,6 +39,7 @@ pub struct Engine<D: Disk> {
     ghost ready: { IsReadyWriter D.Disk writer disk } by { Prim.hlevel (props, sealed_prop) },
     ghost working: { failed ≡ false → writer.failed ≡ false },
     ghost first: { 1 ≤ txns.next },
+    ghost forward: { NoneReturns txns.rows } by { none_returns_prop txns.rows },
     ghost sized: { length room.items ≡ 16384 },
     ghost whole: { stepped ≡ false → is_some under ≡ false },
 }
@@ -103,6 +105,7 @@ impl<D: Disk> Engine<D> {
             Step::Commit(t) => to_commit(self.txns.find(*t), owns(&self.under, *t)),
             Step::Rollback(t) => to_rollback(self.txns.find(*t), owns(&self.under, *t)),
             Step::Continue(t) => to_continue(self.txns.find(*t), owns(&self.under, *t)),
+            Step::RollTo(t, _) => to_rollback(self.txns.find(*t), owns(&self.under, *t)),
             Step::FlushPage(_) => None,
             Step::Force => None,
             Step::Checkpoint => None,
@@ -143,7 +146,7 @@ impl<D: TwoLogs> Engine<D> {
 
     /// Makes a step, and answers it. A step by a key reads the pages on the key's way, which makes device calls where the pool does not
     /// hold them; what is read needs a frame, so a page that was changed may be written to make one free. A Commit of a transaction that
-    /// has records forces the log, once where its record fits into the buffer and twice at most; with `Config.group` it is only logged and
+    /// has changes that stand forces the log, once where its record fits into the buffer and twice at most; with `Config.group` it is only logged and
     /// answered `More`, and its transaction keeps its locks up to the next `Force` that is answered `Done`, which commits all that wait.
     /// `Force` forces the log where records are buffered, and `FlushPage` writes a page that was changed. `Checkpoint` syncs the file of
     /// pages, logs one record with the active transactions and the pages that lack changes in their file, and forces the log: redo of a
@@ -159,7 +162,7 @@ impl<D: TwoLogs> Engine<D> {
     ///
     /// Refused by the first of these that holds: `Failed` where an earlier step broke the engine; `TooMany` at Begin where 64 transactions
     /// are active; `Busy` at Switch where one is, or waits for a force; `NoTransaction` where none of that number is active or it waits for
-    /// a force, or at Continue where it has nothing to go on with; `MustRollBack` where it was answered `Die`; `RollingBack` where it is
+    /// a force, or at Continue where it has nothing to go on with, and at RollTo, which is not served; `MustRollBack` where it was answered `Die`; `RollingBack` where it is
     /// taking back; `Unfinished` where an Insert or a Delete of it goes on, but at Continue; `KeyLength`; `PagesFull` where an insert needs
     /// pages past the limit; `Capacity` where page numbers, levels, transaction numbers or generations of the log are used up. In between
     /// come `LogFull` where the log has no room below LSN 2^62, `Device`, `NotAStore` where a page's bytes are none, `Memory`, and `Failed`
@@ -181,6 +184,7 @@ impl<D: TwoLogs> Engine<D> {
             Step::Commit(t) => self.commit(*t),
             Step::Rollback(t) => self.roll_back(*t),
             Step::Continue(t) => self.go_on(*t),
+            Step::RollTo(t, left) => self.roll_to(*t, *left),
             Step::Force => self.force(),
             Step::FlushPage(page) => self.flush_page(*page),
             Step::Checkpoint => self.checkpoint(),

@@ -52,7 +52,7 @@ impl<D: Disk> Engine<D> {
         );
         match self.answered(t, as_seen(came)) {
             Ok(Some(noted)) => {
-                self.txns.note_record(t, noted.last, noted.undo_next);
+                self.txns.note_made(t, noted.last);
                 Reply::Inserted
             }
             Ok(None) => Reply::Duplicate,

@@ -1,9 +1,11 @@
-//! Active transactions, and the number that is given next.
+//! Active transactions, and the number that is given next. None of them is marked as one that returns to a part of its changes.
 
-ghost use Rattle.std.specs.Prelude.{◌≡◌, ◌<◌, ◌≤◌, ◌^◌, ◌+◌, ◌++◌, [], ◌∷◌, not, filter, find, length, map, true, false, IfSome, IfNone, Some};
-ghost use Rattle.im_base_txn.specs.Rows.{AreRising, begun, changed, is_of, is_committing, is_waiting, waits_at, waiting_in, with_mark, with_record, without_waiting};
+ghost use Rattle.std.specs.Prelude.{◌≡◌, ◌<◌, ◌≤◌, ◌^◌, ◌+◌, ◌-◌, ◌++◌, [], ◌∷◌, not, filter, find, length, map, true, false, IfSome, IfNone, Some};
+ghost use Rattle.im_base_txn.specs.Rows.{AreRising, begun, changed, is_of, is_committing, is_waiting, waits_at, waiting_in, with_changes, with_mark, with_record, without_waiting};
+ghost use Rattle.im_theory_steps.specs.Steps.{counted, with_made, with_undone};
 ghost use Rattle.im_base_txn.specs.declared.transaction.Mark.TheVariants.{Committing};
 ghost use Rattle.im_base_txn.specs.declared.transaction.Transaction.{Transaction as Row};
+ghost use Rattle.im_engine.specs.Numbered.{NoneReturns, is_returning};
 
 use im_base_txn::{Mark, Table, Transaction, numbers_stay_below};
 use im_base_types::{LAST_TRANSACTION, Lsn, TxnId};
@@ -21,7 +23,7 @@ pub struct Transactions {
 }
 
 impl Model for Transactions {
-    ghost use Rattle.im_engine.specs.Numbered.{Numbered};
+    ghost use Rattle.im_engine.specs.Numbered.{NoneReturns, Numbered};
     ghost use Rattle.im_base_txn.specs.Rows.{AreAbove, AreBelow, waiting_in};
     ghost use Rattle.std.specs.Prelude.{◌≡◌, false, length, ◌≤◌};
 
@@ -29,14 +31,15 @@ impl Model for Transactions {
 
     ghost view = { λ txns. record { rows = txns.table; next = txns.next; group = txns.group; waiting = txns.waiting } };
 
-    ghost invariant = { λ txns. AreBelow txns.next txns.table × (length txns.table ≤ 64) × AreAbove 0 txns.table × (1 ≤ txns.next) × (txns.waiting ≡ waiting_in txns.table) × (txns.group ≡ false → txns.waiting ≡ 0) };
+    ghost invariant = { λ txns. AreBelow txns.next txns.table × (length txns.table ≤ 64) × AreAbove 0 txns.table × (1 ≤ txns.next) × (txns.waiting ≡ waiting_in txns.table) × (txns.group ≡ false → txns.waiting ≡ 0) × NoneReturns txns.table };
 }
 
 impl Transactions {
     /// No transactions; the first will have this number. A Commit waits for a force, or does not.
     pub fn starting_at(next: TxnId, group: bool) -> Transactions
         requires { 1 ≤ next }
-        ensures { (result.rows ≡ []) × (result.next ≡ next) × (result.group ≡ group) × (result.waiting ≡ 0) }
+        ensures starts { (result.rows ≡ []) × (result.next ≡ next) × (result.group ≡ group) × (result.waiting ≡ 0) }
+        ensures forward { NoneReturns result.rows }
     {
         Transactions {
             table: Table::new(),
@@ -105,6 +108,7 @@ impl Transactions {
         ensures some { IfSome result (λ number. (number ≡ self.old.next) × (number ≤ 2 ^ 62) × (self.new ≡ record self.old { rows = self.old.rows ++ begun number ∷ []; next = number + 1 })) }
         ensures none { IfNone result (self.new ≡ self.old) }
         ensures used_up { IfNone result (2 ^ 62 < self.old.next) }
+        ensures forward { NoneReturns self.new.rows }
     {
         let Transactions { table, next, .. } = self;
         let number = *next;
@@ -119,17 +123,48 @@ impl Transactions {
 
     /// Notes a record of the transaction of this number: its LSN, and the transaction's next LSN to undo.
     pub fn note_record(&mut self, number: TxnId, lsn: Lsn, undo_next: Lsn)
-        ensures { self.new ≡ record self.old { rows = map (changed number (with_record lsn undo_next)) self.old.rows } }
+        ensures table { self.new ≡ record self.old { rows = map (changed number (with_record lsn undo_next)) self.old.rows } }
+        ensures forward { NoneReturns self.new.rows }
     {
         numbers_stay_below();
         self.table.note_record(number, lsn, undo_next);
     }
 
-    /// Marks the transaction of this number, which neither waits for a force nor is to.
+    /// Notes the record of a key at this LSN: one change more of the transaction stands.
+    pub fn note_made(&mut self, number: TxnId, lsn: Lsn)
+        ensures table { self.new ≡ record self.old { rows = counted number lsn self.old.rows } }
+        ensures forward { NoneReturns self.new.rows }
+    {
+        self.are_counted();
+        let changes = count_made(self.table.find(number), lsn);
+        self.note_change(number, lsn, lsn, changes);
+    }
+
+    /// Notes a record with which a change of the transaction was taken back.
+    pub fn note_undone(&mut self, number: TxnId, last: Lsn, undo_next: Lsn)
+        ensures table { self.new ≡ record self.old { rows = map (changed number (with_undone last undo_next)) self.old.rows } }
+        ensures forward { NoneReturns self.new.rows }
+    {
+        self.are_counted();
+        let changes = count_undone(self.table.find(number));
+        self.note_change(number, last, undo_next, changes);
+    }
+
+    fn note_change(&mut self, number: TxnId, lsn: Lsn, undo_next: Lsn, changes: u64)
+        ensures table { self.new ≡ record self.old { rows = map (changed number (with_changes lsn undo_next changes)) self.old.rows } }
+        ensures forward { NoneReturns self.new.rows }
+    {
+        numbers_stay_below();
+        self.table.note_change(number, lsn, undo_next, changes);
+    }
+
+    /// Marks the transaction of this number, which neither waits for a force nor is to, and does not return to a part of its changes.
     pub fn set_mark(&mut self, number: TxnId, mark: Mark)
         requires before { waits_at (find (is_of number) self.old.rows) ≡ false }
         requires after { is_committing mark ≡ false }
-        ensures { self.new ≡ record self.old { rows = map (changed number (with_mark mark)) self.old.rows } }
+        requires forward { is_returning mark ≡ false }
+        ensures table { self.new ≡ record self.old { rows = map (changed number (with_mark mark)) self.old.rows } }
+        ensures forward { NoneReturns self.new.rows }
     {
         self.are_counted();
         numbers_stay_below();
@@ -140,7 +175,8 @@ impl Transactions {
     pub fn wait(&mut self, number: TxnId)
         requires group { self.old.group ≡ true }
         requires there { (row : Row) × (find (is_of number) self.old.rows ≡ Some row) × (is_waiting row ≡ false) }
-        ensures { self.new ≡ record self.old { rows = map (changed number (with_mark Committing)) self.old.rows; waiting = self.old.waiting + 1 } }
+        ensures table { self.new ≡ record self.old { rows = map (changed number (with_mark Committing)) self.old.rows; waiting = self.old.waiting + 1 } }
+        ensures forward { NoneReturns self.new.rows }
     {
         self.are_counted();
         numbers_stay_below();
@@ -150,7 +186,8 @@ impl Transactions {
 
     /// Ends the transactions that wait for a force.
     pub fn end_waiting(&mut self)
-        ensures { self.new ≡ record self.old { rows = without_waiting self.old.rows; waiting = 0 } }
+        ensures table { self.new ≡ record self.old { rows = without_waiting self.old.rows; waiting = 0 } }
+        ensures forward { NoneReturns self.new.rows }
     {
         numbers_stay_below();
         self.table.end_waiting();
@@ -162,9 +199,31 @@ impl Transactions {
         requires { waits_at (find (is_of number) self.old.rows) ≡ false }
         ensures left { self.new ≡ record self.old { rows = filter (λ row. not (is_of number row)) self.old.rows } }
         ensures one { (row : Row) → find (is_of number) self.old.rows ≡ Some row → length self.old.rows ≡ length self.new.rows + 1 }
+        ensures forward { NoneReturns self.new.rows }
     {
         self.are_counted();
         numbers_stay_below();
         self.table.end(number);
+    }
+}
+
+// How many changes of a transaction stand after the record of a key at this LSN.
+fn count_made(row: Option<Transaction>, lsn: Lsn) -> u64
+    ensures { IfSome row (λ was. result ≡ (with_made lsn was).changes) }
+{
+    match row {
+        Some(row) if row.changes < lsn => row.changes + 1,
+        Some(row) => row.changes,
+        None => 0,
+    }
+}
+
+// How many stand after one was taken back.
+fn count_undone(row: Option<Transaction>) -> u64
+    ensures { IfSome row (λ was. result ≡ was.changes - 1) }
+{
+    match row {
+        Some(row) => row.changes.saturating_sub(1),
+        None => 0,
     }
 }

@@ -52,7 +52,7 @@ impl<D: Disk> Engine<D> {
         ) {
             Ok(Undone::More { last, undo_next }) => {
                 self.failed = false;
-                self.txns.note_record(t, last, undo_next);
+                self.txns.note_undone(t, last, undo_next);
                 Reply::More
             }
             Ok(Undone::Ended) => {

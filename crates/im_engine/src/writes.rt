@@ -50,6 +50,7 @@ impl<D: Disk> Engine<D> {
         );
         match self.answered(t, as_seen(came)) {
             Ok(Some(taken)) => {
+                self.txns.note_made(t, taken.undo_next);
                 self.txns.note_record(t, taken.last, taken.undo_next);
                 Reply::Deleted
             }

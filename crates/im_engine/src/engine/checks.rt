@@ -64,11 +64,12 @@ fn by_mark(row: Option<Transaction>) -> Option<Fault>
         Mark::Going => None,
         Mark::MustRollBack => Some(Fault::MustRollBack),
         Mark::RollingBack => Some(Fault::RollingBack),
+        Mark::Returning(_) => Some(Fault::RollingBack),
         Mark::Committing => Some(Fault::NoTransaction),
     }
 }
 
-// What it refuses to a Rollback, where an insert or delete of it goes on or not.
+// What it refuses to a Rollback and a RollTo, where an insert or delete of it goes on or not.
 pub(crate) fn to_rollback(row: Option<Transaction>, owns: bool) -> Option<Fault>
     ensures { numbered result ≡ or_else (barred_to_rollback (mark_at row)) (fault_if owns unfinished) }
 {
@@ -88,6 +89,7 @@ fn by_mark_to_rollback(row: Option<Transaction>) -> Option<Fault>
         Mark::Going => None,
         Mark::MustRollBack => None,
         Mark::RollingBack => Some(Fault::RollingBack),
+        Mark::Returning(_) => Some(Fault::RollingBack),
         Mark::Committing => Some(Fault::NoTransaction),
     }
 }
@@ -106,6 +108,7 @@ pub(crate) fn to_continue(row: Option<Transaction>, owns: bool) -> Option<Fault>
         Mark::Going => Some(Fault::NoTransaction),
         Mark::MustRollBack => Some(Fault::NoTransaction),
         Mark::RollingBack => None,
+        Mark::Returning(_) => None,
         Mark::Committing => Some(Fault::NoTransaction),
     }
 }

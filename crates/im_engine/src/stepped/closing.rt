@@ -43,7 +43,7 @@ impl<D: Disk> Engine<D> {
         ) {
             Ok(lsn) => {
                 self.failed = false;
-                self.txns.note_record(t, lsn, lsn);
+                self.txns.note_made(t, lsn);
                 self.locks.fall_back(t);
                 self.under = None;
                 Reply::Inserted

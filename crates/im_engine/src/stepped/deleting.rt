@@ -41,7 +41,7 @@ impl<D: Disk> Engine<D> {
         match self.answered(t, came) {
             Ok(Deleting::Gone) => Reply::Absent,
             Ok(Deleting::Taken(lsn)) => {
-                self.txns.note_record(t, lsn, lsn);
+                self.txns.note_made(t, lsn);
                 Reply::Deleted
             }
             Ok(Deleting::Dropping(begun)) => {
@@ -50,7 +50,7 @@ impl<D: Disk> Engine<D> {
                     return Reply::Refused(Fault::Failed);
                 };
                 let last = begun.change().last();
-                self.txns.note_record(t, last, last);
+                self.txns.note_made(t, last);
                 let aim = Aim::Drops(key);
                 self.under = Some(Under { begun, aim });
                 Reply::More

@@ -43,7 +43,7 @@ impl<D: Disk> Engine<D> {
         match self.answered(t, came) {
             Ok(Inserting::There) => Reply::Duplicate,
             Ok(Inserting::Put(lsn)) => {
-                self.txns.note_record(t, lsn, lsn);
+                self.txns.note_made(t, lsn);
                 Reply::Inserted
             }
             Ok(Inserting::Split(begun, leaf)) => {

@@ -44,7 +44,7 @@ impl<D: Disk> Engine<D> {
         ) {
             Ok(Sight::Seen(UndoneInSteps::Made(Undone::More { last, undo_next }))) => {
                 self.failed = false;
-                self.txns.note_record(t, last, undo_next);
+                self.txns.note_undone(t, last, undo_next);
                 Reply::More
             }
             Ok(Sight::Seen(UndoneInSteps::Made(Undone::Ended))) => {
@@ -64,7 +64,7 @@ impl<D: Disk> Engine<D> {
             Ok(Sight::Seen(UndoneInSteps::Dropping(begun))) => {
                 self.failed = false;
                 let change = begun.change();
-                self.txns.note_record(t, change.last(), change.undo_next());
+                self.txns.note_undone(t, change.last(), change.undo_next());
                 let aim = Aim::TookBack;
                 self.under = Some(Under { begun, aim });
                 Reply::More

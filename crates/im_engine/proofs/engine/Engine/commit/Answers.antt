@@ -13,7 +13,7 @@ use Rattle.im_engine.proofs.Waits.{not_waiting}
 use Rattle.im_page_writer.specs.Outcome.{none_mild}
 use Rattle.im_base_steps.specs.declared.reply.Reply.TheVariants as replies
 use Rattle.im_engine.proofs.Telling.{alive_now, told_committed, told_queued, told_refused, log_lost, log_ends}
-use Rattle.im_engine.proofs.Causes.{append_cause, force_cause, commit_empty, commit_made, commit_append, commit_lost, logged, unlogged}
+use Rattle.im_engine.proofs.Causes.{append_cause, force_cause, commit_empty, commit_made, commit_append, commit_lost, has_changed, logged, unchanged}
 use Rattle.im_base_disk.proofs.Costs.{forces_by, forces_none, most_as, most_none, most_then}
 use Rattle.im_engine.proofs.Costs.{commit_costs}
 use Rattle.im_theory_machine.specs.View.{pending_of}
@@ -51,7 +51,7 @@ returns-then-row-eq0 g c =
       suits = search rules;
       at_once = λ _. search rules;
       paced = paced_beside g.D.Disk _ _ old _ refl (λ is. cc is) refl;
-      grouped = inr (λ has. unlogged g.D.Disk old old.writer.log old.disk c.requires.works c.args.t c.in-Some.row found c.requires.checked (omega (arith, c.if-row-eq0.true)) has);
+      grouped = inr (λ has. unchanged g.D.Disk old old.writer.log old.disk c.requires.works c.args.t c.in-Some.row found c.requires.checked (inl (omega (arith, c.if-row-eq0.true))) has);
       frames = search rules;
       wants = λ b before s v r. tt;
       quiet = λ calls. refl;
@@ -59,9 +59,10 @@ returns-then-row-eq0 g c =
           record {
             most = most_none g.D.Disk 4 4 old.disk;
             forces = λ is. forces_none g.D.Disk 2 old.disk;
-            one = λ is has. absurd (unlogged g.D.Disk old old.writer.log old.disk c.requires.works c.args.t c.in-Some.row found c.requires.checked (omega (arith, c.if-row-eq0.true)) has);
+            one = λ is has. absurd (unchanged g.D.Disk old old.writer.log old.disk c.requires.works c.args.t c.in-Some.row found c.requires.checked (inl (omega (arith, c.if-row-eq0.true))) has);
             buffered = λ is. absurd (cc is);
             room = λ is. absurd (cc is);
+            ends = λ is none. forces_none g.D.Disk 1 old.disk;
           };
     }
 
@@ -100,6 +101,7 @@ returns-in-Err g c =
             one = λ is. absurd (cc is);
             buffered = λ is. absurd (cc is);
             room = λ is. absurd (cc is);
+            ends = λ is. absurd (cc is);
           };
     }
 
@@ -121,16 +123,16 @@ returns-then-group g c =
       kept = λ before s v life.
           let r = (life.running c.requires.works).1 in
           let logged = written.kept (life.running c.requires.works).0 r.base r.now r.redo_end r.stands r.over (record { page = λ l p. refl; copy = λ l. refl; point = refl }) in
-          queued_on g.D.Disk before s v old _ life c.requires.works c.args.t row found mark (omega (arith, c.if-row-eq0.false)) lsn c.log_only.new.self c.log_only.new.disk logged.ok (none_if (pending_of (under_of old.under) c.args.t) (commit_unowned old.txns.rows c.args.t c.requires.checked)) refl refl logged.stops refl c.wait.ensures refl refl;
+          queued_on g.D.Disk before s v old _ life c.requires.works c.args.t row found mark (omega (arith, c.if-row-eq0.false)) (omega (arith, c.if-row-eq0-2.false)) lsn c.log_only.new.self c.log_only.new.disk logged.ok (none_if (pending_of (under_of old.under) c.args.t) (commit_unowned old.txns.rows c.args.t c.requires.checked)) refl refl logged.stops refl c.wait.ensures.table refl refl;
       told =
-          told_queued g.D.Disk old _ c.requires.works c.args.t (ap besides_rows c.wait.ensures) (ap (λ (x : Numbered). length x.rows) c.wait.ensures ∙ length-map old.txns.rows (changed c.args.t (with_mark Committing))) refl refl written.outcome.ends.alive;
+          told_queued g.D.Disk old _ c.requires.works c.args.t (ap besides_rows c.wait.ensures.table) (ap (λ (x : Numbered). length x.rows) c.wait.ensures.table ∙ length-map old.txns.rows (changed c.args.t (with_mark Committing))) refl refl written.outcome.ends.alive;
       answered =
           commit_made g.D.Disk old c.log_only.new.self.log c.log_only.new.disk c.requires.works c.args.t c.in-Some.row found c.requires.checked (omega (arith, c.if-row-eq0.false)) replies.More
           (λ over. let is = written.full.1 (old.working c.requires.works, over) in cc is) (λ lost. not_true (g.D.Disk.failed c.log_only.new.disk) written.outcome.ends.alive lost) (λ x e. cc e);
       suits = search rules;
       at_once = λ _. search rules;
       paced = paced_beside g.D.Disk _ _ old _ refl (λ is. cc is) refl;
-      grouped = (sym c.group.ensures ∙ c.if-group.true, logged g.D.Disk old old.writer.log old.disk c.requires.works c.args.t c.in-Some.row found c.requires.checked (omega (arith, c.if-row-eq0.false)));
+      grouped = (sym c.group.ensures ∙ c.if-group.true, has_changed g.D.Disk old old.writer.log old.disk c.requires.works c.args.t c.in-Some.row found c.requires.checked (omega (arith, c.if-row-eq0.false)) (omega (arith, c.if-row-eq0-2.false)));
       frames = search rules;
       wants = λ b before s v r. tt;
       quiet = λ calls. written.fits (fits_so old.writer.log.used (λ full. calls (logged g.D.Disk old old.writer.log old.disk c.requires.works c.args.t c.in-Some.row found c.requires.checked (omega (arith, c.if-row-eq0.false)), inr full)));
@@ -141,6 +143,7 @@ returns-then-group g c =
             one = λ is. absurd (cc is);
             buffered = λ is fits. written.fits fits;
             room = λ is. written.forces;
+            ends = λ is. absurd (cc is);
           };
     }
 
@@ -161,7 +164,7 @@ returns-in-Err-force g c =
           let logged = c.in_default-log_only.ensures.kept b r.base r.now r.redo_end r.stands r.over (record { page = λ l p. refl; copy = λ l. refl; point = refl }) in
           let forced = c.in-Err-force.ensures.kept b r.base (record (appended (logged_at lsn (Commit c.args.t row.last)) r.now) { durable = logged.ok.durable }) logged.ok.stands in
           commit_refused g.D.Disk before s v old _ life c.requires.works c.args.t c.requires.checked c.in-Err-force.fault of c.told-in-Err-force.result c.told-in-Err-force.ensures refl
-          (commit_stops g.D.Disk before s v old old life c.requires.works c.args.t row found (commit_mark old.txns.rows _ c.args.t row found c.requires.checked) (omega (arith, c.if-row-eq0.false)) lsn c.log_only.new.self c.log_only.new.disk logged.ok (none_if (pending_of (under_of old.under) c.args.t) (commit_unowned old.txns.rows c.args.t c.requires.checked))
+          (commit_stops g.D.Disk before s v old old life c.requires.works c.args.t row found (commit_mark old.txns.rows _ c.args.t row found c.requires.checked) (omega (arith, c.if-row-eq0.false)) (omega (arith, c.if-row-eq0-2.false)) lsn c.log_only.new.self c.log_only.new.disk logged.ok (none_if (pending_of (under_of old.under) c.args.t) (commit_unowned old.txns.rows c.args.t c.requires.checked))
           c.force.new.disk logged.stops forced.stops)
           (λ t f le left. g.met.D.Disk.counts_now c.force.new.disk t f le left);
       told =
@@ -176,7 +179,7 @@ returns-in-Err-force g c =
       grouped = tt;
       frames = search rules;
       wants = λ b before s v r. tt;
-      quiet = λ calls. absurd (calls (logged g.D.Disk old old.writer.log old.disk c.requires.works c.args.t c.in-Some.row found c.requires.checked (omega (arith, c.if-row-eq0.false)), inl (sym c.group.ensures ∙ c.if-group.false)));
+      quiet = λ calls. absurd (calls (logged g.D.Disk old old.writer.log old.disk c.requires.works c.args.t c.in-Some.row found c.requires.checked (omega (arith, c.if-row-eq0.false)), inl (has_changed g.D.Disk old old.writer.log old.disk c.requires.works c.args.t c.in-Some.row found c.requires.checked (omega (arith, c.if-row-eq0.false)) (omega (arith, c.if-row-eq0-2.false)), sym c.group.ensures ∙ c.if-group.false)));
       costs =
           record {
             most = most_then g.D.Disk 2 2 2 2 old.disk c.log_only.new.disk c.force.new.disk c.log_only.ensures.few c.force.ensures.few;
@@ -184,6 +187,7 @@ returns-in-Err-force g c =
             one = λ is. absurd (cc is);
             buffered = λ is. absurd (cc is);
             room = λ is. absurd (cc is);
+            ends = λ is. absurd (cc is);
           };
     }
 
@@ -202,8 +206,8 @@ returns g c =
           let r = (life.running c.requires.works).1 in
           let logged = c.in_default-log_only.ensures.kept b r.base r.now r.redo_end r.stands r.over (record { page = λ l p. refl; copy = λ l. refl; point = refl }) in
           let forced = c.in_default-force.ensures.kept b r.base (record (appended (logged_at lsn (Commit c.args.t row.last)) r.now) { durable = logged.ok.durable }) logged.ok.stands in
-          committed_on g.D.Disk before s v old _ life c.requires.works c.args.t row found mark (omega (arith, c.if-row-eq0.false)) lsn c.log_only.new.self c.log_only.new.disk logged.ok (none_if (pending_of (under_of old.under) c.args.t) (commit_unowned old.txns.rows c.args.t c.requires.checked))
-          c.are_counted.ensures.rising (sym c.are_counted.ensures.waiting ∙ c.are_counted.ensures.alone (sym c.group.ensures ∙ c.if-group.false)) forced.ok (commit_stops g.D.Disk before s v old old life c.requires.works c.args.t row found mark (omega (arith, c.if-row-eq0.false)) lsn c.log_only.new.self c.log_only.new.disk logged.ok (none_if (pending_of (under_of old.under) c.args.t) (commit_unowned old.txns.rows c.args.t c.requires.checked)) c.force.new.disk logged.stops forced.stops)
+          committed_on g.D.Disk before s v old _ life c.requires.works c.args.t row found mark (omega (arith, c.if-row-eq0.false)) (omega (arith, c.if-row-eq0-2.false)) lsn c.log_only.new.self c.log_only.new.disk logged.ok (none_if (pending_of (under_of old.under) c.args.t) (commit_unowned old.txns.rows c.args.t c.requires.checked))
+          c.are_counted.ensures.rising (sym c.are_counted.ensures.waiting ∙ c.are_counted.ensures.alone (sym c.group.ensures ∙ c.if-group.false)) forced.ok (commit_stops g.D.Disk before s v old old life c.requires.works c.args.t row found mark (omega (arith, c.if-row-eq0.false)) (omega (arith, c.if-row-eq0-2.false)) lsn c.log_only.new.self c.log_only.new.disk logged.ok (none_if (pending_of (under_of old.under) c.args.t) (commit_unowned old.txns.rows c.args.t c.requires.checked)) c.force.new.disk logged.stops forced.stops)
           c.release_all-2.ensures (c.end-2.ensures.one row found ∙ ap (λ (x : Numbered). length x.rows + 1) c.end-2.ensures.left) c.end-2.ensures.left refl refl;
       told =
           told_committed g.D.Disk old _ c.requires.works (ap besides_rows c.end-2.ensures.left) refl (c.end-2.ensures.one c.in-Some.row found) refl
@@ -217,9 +221,9 @@ returns g c =
       grouped = inl (sym c.group.ensures ∙ c.if-group.false);
       frames = search rules;
       wants = λ b before s v r. tt;
-      quiet = λ calls. absurd (calls (logged g.D.Disk old old.writer.log old.disk c.requires.works c.args.t c.in-Some.row found c.requires.checked (omega (arith, c.if-row-eq0.false)), inl (sym c.group.ensures ∙ c.if-group.false)));
+      quiet = λ calls. absurd (calls (logged g.D.Disk old old.writer.log old.disk c.requires.works c.args.t c.in-Some.row found c.requires.checked (omega (arith, c.if-row-eq0.false)), inl (has_changed g.D.Disk old old.writer.log old.disk c.requires.works c.args.t c.in-Some.row found c.requires.checked (omega (arith, c.if-row-eq0.false)) (omega (arith, c.if-row-eq0-2.false)), sym c.group.ensures ∙ c.if-group.false)));
       costs =
           commit_costs g.D.Disk old.writer.log.used _ replies.Committed old.disk c.log_only.new.disk c.force.new.disk c.log_only.ensures.few c.force.ensures.few written.forces
           (forces_by g.D.Disk c.log_only.new.self.log.used c.log_only.new.disk c.force.new.disk synced.costs (λ none. (synced.none written.outcome.ends.works none).2)) written.fits
-          (λ fits. synced.costs (omega (arith, written.used fits))) (λ e. cc e);
+          (λ fits. synced.costs (omega (arith, written.used fits))) (λ e. cc e) (has_changed g.D.Disk old old.writer.log old.disk c.requires.works c.args.t c.in-Some.row found c.requires.checked (omega (arith, c.if-row-eq0.false)) (omega (arith, c.if-row-eq0-2.false)));
     }

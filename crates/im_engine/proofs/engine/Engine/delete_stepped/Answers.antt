@@ -1,6 +1,7 @@
 use Rattle.std.proofs.Common.{◌≡◌, ℕ, ◌≤◌, List, Some, map, sym, subst, ap, ◌∙◌}
 use Rattle.im_base_types.specs.Answers as answers
-use Rattle.im_base_txn.specs.Rows.{changed, with_record}
+use Rattle.im_base_txn.specs.Rows.{changed}
+use Rattle.im_theory_steps.specs.Steps.{with_made}
 use Rattle.im_base_txn.proofs.LookUps.{look_ups_follow}
 use Rattle.im_smo_log.specs.declared.change.Change.{Change}
 use Rattle.im_engine.specs.declared.stepped.Aim.TheVariants.{Drops}
@@ -32,7 +33,7 @@ returns-in-Ok-Taken g c =
     let below = c.delete_beside-came in
     delete_granted g.D.Disk c.args.t c.args.key.now c.args.self.now c.in-Some.row (sym c.in-Some.ensures.found) c.requires.checked c.beside_of.result c.beside_of.ensures _ c.requires.works below.new.writer below.new.disk below.new.locks c.in-Ok-Taken.ensures.rest below.result
     (record { outcome = below.ensures.outcome; kept = below.ensures.kept; table = below.ensures.table; lasting = below.ensures.lasting }) c.in-Ok-Taken.ensures.failed c.in-Ok-Taken.field-0 c.in-Ok-Taken.ensures.answer c.in-Ok-Taken.lsn c.in-Ok-Taken.field-0-is c.in-Ok-Taken.ensures.under
-    c.answered.new.self.txns c.in-Ok-Taken.ensures.table c.note_record.ensures
+    c.answered.new.self.txns c.in-Ok-Taken.ensures.table c.note_made.ensures.table
 
 pub returns-in-Err : goal.returns-in-Err
 returns-in-Err g c =
@@ -51,4 +52,4 @@ returns-in-Ok g c =
     delete_begins g.D.Disk c.args.t c.args.key.now c.args.self.now c.in-Some.row (sym c.in-Some.ensures.found) c.requires.checked c.beside_of.result c.beside_of.ensures _ c.requires.works below.new.writer below.new.disk below.new.locks c.in-Ok-Dropping.ensures.rest below.result
     (record { outcome = below.ensures.outcome; kept = below.ensures.kept; table = below.ensures.table; lasting = below.ensures.lasting }) c.in-Ok-Dropping.ensures.failed c.requires.stepped c.in-Ok-Dropping.field-0 c.in-Ok-Dropping.ensures.answer c.in-Ok-Dropping.begun c.in-Ok-Dropping.field-0-is
     (ap (λ (k : List ℕ). Some (record { begun = c.in-Ok-Dropping.begun; aim = Drops k })) c.in-Ok.ensures.key) c.answered.new.self.txns c.in-Ok-Dropping.ensures.table
-    (c.note_record-in-Ok-Dropping.ensures ∙ ap (λ (n : ℕ). record c.answered.new.self.txns { rows = map (changed c.args.t (with_record n n)) c.answered.new.self.txns.rows }) last)
+    (c.note_made-in-Ok-Dropping.ensures.table ∙ ap (λ (n : ℕ). record c.answered.new.self.txns { rows = map (changed c.args.t (with_made n)) c.answered.new.self.txns.rows }) last)

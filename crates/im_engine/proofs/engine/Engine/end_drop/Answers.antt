@@ -24,7 +24,7 @@ end-requires g c =
     let t = c.args.t in
     let checked = ends_checked rows TookBack t c.args.self.now.under c.requires.end refl c.requires.checked in
     let its = continue_row rows t checked in
-    not_waiting rows t its.0 its.1 (ap is_committing (continue_mark rows t its.0 its.1 checked))
+    not_waiting rows t its.0 its.1 (ap is_committing (continue_mark rows c.args.self.now.forward t its.0 its.1 checked))
 
 pub returns-in-Ok-More : goal.returns-in-Ok-More
 returns-in-Ok-More g c =
@@ -39,10 +39,10 @@ returns-in-Ok-More g c =
           let b = (life.running c.requires.works).0 in
           let r = (life.running c.requires.works).1 in
           let kept = drop_kept g.D.Disk before s v t its.0 old r its.1 checked TookBack ends c.change.result.now same c.close_drop.new.writer c.close_drop.new.disk (Ok c.in-Ok-More.field-0) (Ok (turns.More c.in-Ok-More.last c.in-Ok-More.undo_next)) (ap Ok c.in-Ok-More.field-0-is) (c.in-Ok-More.ensures.kept b r.base r.now r.redo_end r.stands r.over) in
-          drop_more g.D.Disk before s v t its.0 old r its.1 checked TookBack ends _ refl kept.stops refl ends.aim_is c.in-Ok-More.last c.in-Ok-More.undo_next kept.sound refl c.note_record.ensures;
+          drop_more g.D.Disk before s v t its.0 old r its.1 checked TookBack ends _ refl kept.stops refl ends.aim_is c.in-Ok-More.last c.in-Ok-More.undo_next kept.sound refl c.note_record.ensures.table;
       told =
-          told_answered g.D.Disk old _ c.requires.works (ap besides_rows c.note_record.ensures) refl replies.More (λ k. refl) refl refl tt refl
-          (ap (λ (x : Numbered). length x.rows) c.note_record.ensures ∙ length-map old.txns.rows (changed t (with_record c.in-Ok-More.last c.in-Ok-More.undo_next))) c.in-Ok-More.ensures.outcome.ends.alive;
+          told_answered g.D.Disk old _ c.requires.works (ap besides_rows c.note_record.ensures.table) refl replies.More (λ k. refl) refl refl tt refl
+          (ap (λ (x : Numbered). length x.rows) c.note_record.ensures.table ∙ length-map old.txns.rows (changed t (with_record c.in-Ok-More.last c.in-Ok-More.undo_next))) c.in-Ok-More.ensures.outcome.ends.alive;
       answered = continue_made g.D.Disk old c.requires.works t c.requires.checked c.close_drop.new.writer.log c.close_drop.new.disk replies.More (λ x e. cc e);
       suits = search rules;
       at_once = λ _. search rules;

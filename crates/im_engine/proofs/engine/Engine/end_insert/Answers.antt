@@ -9,7 +9,7 @@ returns-in-Ok g c =
     let u : c.in-Some.under ≡ c.requires.owned.owns.u = some_inj c.in-Some.under c.requires.owned.owns.u (sym c.in-Some.is ∙ c.requires.owned.owns.is) in
     let same : c.change.result.now ≡ c.requires.owned.owns.u.begun.change = c.change.ensures ∙ ap (λ (y : Under). y.begun.change) u in
     made_inserted g.D.Disk c.args.self.now _ c.requires.works c.requires.owned.owns.u c.requires.owned.owns.is c.requires.owned.owns.end refl refl refl c.args.t c.requires.owned.owns.owner
-    c.change.result.now same c.in-Puts.key c.bytes.result.now c.bytes.ensures.bytes c.in-Puts.rid c.in-Puts.leaf (ap (λ (y : Under). y.aim) (sym u) ∙ c.in-Puts.is) c.in-Ok.lsn c.in-Ok.ensures.kept c.in-Ok.ensures.outcome c.requires.checked c.fall_back.ensures c.note_record.ensures
+    c.change.result.now same c.in-Puts.key c.bytes.result.now c.bytes.ensures.bytes c.in-Puts.rid c.in-Puts.leaf (ap (λ (y : Under). y.aim) (sym u) ∙ c.in-Puts.is) c.in-Ok.lsn c.in-Ok.ensures.kept c.in-Ok.ensures.outcome c.requires.checked c.fall_back.ensures c.note_made.ensures.table
 
 pub returns-in-Err : goal.returns-in-Err
 returns-in-Err g c =

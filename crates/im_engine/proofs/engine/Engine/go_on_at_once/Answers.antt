@@ -1,6 +1,7 @@
 use Rattle.std.proofs.Common.{inl, refl, sym, ap, ◌∙◌, ◌+◌, length, rules}
 use Rattle.std.proofs.lemmas.List.{length-map}
-use Rattle.im_base_txn.specs.Rows.{changed, is_committing, with_record}
+use Rattle.im_base_txn.specs.Rows.{changed, is_committing}
+use Rattle.im_theory_steps.specs.Steps.{with_undone}
 use Rattle.im_engine.proofs.Waits.{not_waiting}
 use Rattle.im_base_steps.specs.declared.reply.Reply.TheVariants as replies
 use Rattle.im_engine.specs.Numbered.{Numbered, besides_rows}
@@ -16,7 +17,7 @@ use Rattle.im_engine.proofs.Looked.{not_true}
 pub end-requires : goal.end-requires
 end-requires g c =
     let found = sym c.in-Some.ensures.found in
-    not_waiting c.args.self.now.txns.rows c.args.t c.in-Some.row found (ap is_committing (continue_mark c.args.self.now.txns.rows c.args.t c.in-Some.row found (alone_checked g.D.Disk c.args.self.now c.args.t (plain_under g.D.Disk c.args.self.now c.requires.plain) c.requires.checked)))
+    not_waiting c.args.self.now.txns.rows c.args.t c.in-Some.row found (ap is_committing (continue_mark c.args.self.now.txns.rows c.args.self.now.forward c.args.t c.in-Some.row found (alone_checked g.D.Disk c.args.self.now c.args.t (plain_under g.D.Disk c.args.self.now c.requires.plain) c.requires.checked)))
 
 pub returns-in_default : goal.returns-in_default
 returns-in_default g c =
@@ -33,10 +34,10 @@ returns-in-Ok-More g c =
           let b = (life.running c.requires.works).0 in
           let r = (life.running c.requires.works).1 in
           let kept = c.in-Ok-More.ensures.kept b r.base r.now r.redo_end (stands_going g.D.Disk before s v c.args.t row old r found c.requires.checked (plain_under g.D.Disk old c.requires.plain)) (has_more_to_undo g.D.Disk before s v c.args.t row old r found c.requires.checked (plain_under g.D.Disk old c.requires.plain)) in
-          has_more g.D.Disk before s v c.args.t row old _ life c.requires.works found c.requires.checked (plain_under g.D.Disk old c.requires.plain) refl refl kept.stops c.in-Ok-More.field-0 c.in-Ok-More.last c.in-Ok-More.undo_next c.in-Ok-More.field-0-is kept.sound refl c.note_record.ensures;
+          has_more g.D.Disk before s v c.args.t row old _ life c.requires.works found c.requires.checked (plain_under g.D.Disk old c.requires.plain) refl refl kept.stops c.in-Ok-More.field-0 c.in-Ok-More.last c.in-Ok-More.undo_next c.in-Ok-More.field-0-is kept.sound refl c.note_undone.ensures.table;
       told =
-          told_answered g.D.Disk old _ c.requires.works (ap besides_rows c.note_record.ensures) refl replies.More (λ k. refl) refl refl tt refl
-          (ap (λ (x : Numbered). length x.rows) c.note_record.ensures ∙ length-map old.txns.rows (changed c.args.t (with_record c.in-Ok-More.last c.in-Ok-More.undo_next))) c.in-Ok-More.ensures.outcome.ends.alive;
+          told_answered g.D.Disk old _ c.requires.works (ap besides_rows c.note_undone.ensures.table) refl replies.More (λ k. refl) refl refl tt refl
+          (ap (λ (x : Numbered). length x.rows) c.note_undone.ensures.table ∙ length-map old.txns.rows (changed c.args.t (with_undone c.in-Ok-More.last c.in-Ok-More.undo_next))) c.in-Ok-More.ensures.outcome.ends.alive;
       answered = continue_made g.D.Disk old c.requires.works c.args.t c.requires.checked c.undo_next.new.writer.log c.undo_next.new.disk replies.More (λ x e. cc e);
       suits = search rules;
       at_once = λ _. search rules;

@@ -16,7 +16,7 @@ returns-in-Ok-Some g c =
     let below = c.insert-came in
     insert_granted g.D.Disk c.args.t c.args.key.now c.args.rid c.args.self.now c.in-Some.row (sym c.in-Some.ensures.found) c.requires.checked c.requires.plain _ c.requires.works c.in-Ok-Some.ensures.under below.new.writer below.new.disk below.new.locks c.in-Ok-Some.ensures.rest below.result
     (record { outcome = below.ensures.outcome; kept = below.ensures.kept; table = below.ensures.table; lasting = below.ensures.lasting }) c.as_seen.result c.as_seen.ensures c.in-Ok-Some.ensures.failed
-    c.in-Ok-Some.field-0 c.in-Ok-Some.ensures.answer c.in-Ok-Some.noted c.in-Ok-Some.field-0-is c.answered.new.self.txns c.in-Ok-Some.ensures.table c.note_record.ensures
+    c.in-Ok-Some.field-0 c.in-Ok-Some.ensures.answer c.in-Ok-Some.noted c.in-Ok-Some.field-0-is c.answered.new.self.txns c.in-Ok-Some.ensures.table c.note_made.ensures.table
 
 pub returns-in-Ok-None : goal.returns-in-Ok-None
 returns-in-Ok-None g c =

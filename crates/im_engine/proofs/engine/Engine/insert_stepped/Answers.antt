@@ -32,7 +32,7 @@ returns-in-Ok-Put g c =
     let below = c.insert_beside-came in
     insert_granted g.D.Disk c.args.t c.args.key.now c.args.rid c.args.self.now c.in-Some.row (sym c.in-Some.ensures.found) c.requires.checked c.beside_of.result c.beside_of.ensures _ c.requires.works below.new.writer below.new.disk below.new.locks c.in-Ok-Put.ensures.rest below.result
     (record { outcome = below.ensures.outcome; kept = below.ensures.kept; table = below.ensures.table; lasting = below.ensures.lasting }) c.in-Ok-Put.ensures.failed c.in-Ok-Put.field-0 c.in-Ok-Put.ensures.answer c.in-Ok-Put.lsn c.in-Ok-Put.field-0-is c.in-Ok-Put.ensures.under
-    c.answered.new.self.txns c.in-Ok-Put.ensures.table c.note_record.ensures
+    c.answered.new.self.txns c.in-Ok-Put.ensures.table c.note_made.ensures.table
 
 pub returns-in-Err : goal.returns-in-Err
 returns-in-Err g c =
@@ -51,4 +51,4 @@ returns-in-Ok g c =
     insert_begins g.D.Disk c.args.t c.args.key.now c.args.rid c.args.self.now c.in-Some.row (sym c.in-Some.ensures.found) c.requires.checked c.beside_of.result c.beside_of.ensures _ c.requires.works below.new.writer below.new.disk below.new.locks c.in-Ok-Split.ensures.rest below.result
     (record { outcome = below.ensures.outcome; kept = below.ensures.kept; table = below.ensures.table; lasting = below.ensures.lasting }) c.in-Ok-Split.ensures.failed c.requires.stepped c.in-Ok-Split.field-0 c.in-Ok-Split.ensures.answer c.in-Ok-Split.begun c.in-Ok-Split.leaf c.in-Ok-Split.field-0-is
     (ap (λ (k : List ℕ). Some (record { begun = c.in-Ok-Split.begun; aim = Puts k c.args.rid c.in-Ok-Split.leaf })) c.in-Ok.ensures.key) c.answered.new.self.txns c.in-Ok-Split.ensures.table
-    (c.note_record-in-Ok-Split.ensures ∙ ap (λ (n : ℕ). record c.answered.new.self.txns { rows = map (changed c.args.t (with_record n n)) c.answered.new.self.txns.rows }) last)
+    (c.note_record.ensures.table ∙ ap (λ (n : ℕ). record c.answered.new.self.txns { rows = map (changed c.args.t (with_record n n)) c.answered.new.self.txns.rows }) last)

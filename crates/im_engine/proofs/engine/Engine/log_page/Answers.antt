@@ -14,7 +14,7 @@ returns-in-Ok g c =
     let last : c.last-last.result ≡ c.step.new.self.change.last = c.last-last.ensures ∙ ap (λ (y : Change). y.last) c.change.ensures in
     made_page g.D.Disk c.args.t c.args.self.now _ c.requires.works u (record { begun = c.step.new.self; aim = u.aim }) was refl (ap (λ (y : Under). y.begun.change.transaction) (sym owns) ∙ c.requires.owned.owner)
     (subst (λ (y : Under). y.begun.change.done < length y.begun.change.images) owns c.requires.owned.left) c.requires.checked refl c.in-Ok.ensures.plan.0 c.in-Ok.ensures.plan.1 c.in-Ok.ensures.plan.2 c.in-Ok.ensures.plan.3 refl
-    c.in-Ok.ensures.kept c.in-Ok.ensures.outcome refl (c.note_record.ensures ∙ ap (λ (n : ℕ). record c.args.self.now.txns { rows = map (changed c.args.t (with_record n n)) c.args.self.now.txns.rows }) last) refl
+    c.in-Ok.ensures.kept c.in-Ok.ensures.outcome refl (c.note_record.ensures.table ∙ ap (λ (n : ℕ). record c.args.self.now.txns { rows = map (changed c.args.t (with_record n n)) c.args.self.now.txns.rows }) last) refl
 
 pub returns-in-Err : goal.returns-in-Err
 returns-in-Err g c =

@@ -51,8 +51,8 @@ pub returns-in-Ok-restart_current-clause-kept : goal.returns-in-Ok-restart_curre
 returns-in-Ok-restart_current-clause-kept g c before told synced stands =
     let kept = c.in-Ok-restart_current.ensures.kept before told stands in
     record {
-      ok = (engine_opened g.D.Disk before _ c.in-Ok-restart_current.restarted.next c.in-Ok-restart_current.restarted.writer kept.sound.rest refl c.starting_at.ensures.0 c.starting_at.ensures.1 c.new.ensures refl refl, refl);
-      next = subst (λ (n : ℕ). IsNextNumber (least_number (named stands.swapped (g.D.Disk.seen c.args.disk) Log)) n stands.log) (sym c.starting_at.ensures.1) kept.sound.next;
+      ok = (engine_opened g.D.Disk before _ c.in-Ok-restart_current.restarted.next c.in-Ok-restart_current.restarted.writer kept.sound.rest refl c.starting_at.ensures.starts.0 c.starting_at.ensures.starts.1 c.new.ensures refl refl, refl);
+      next = subst (λ (n : ℕ). IsNextNumber (least_number (named stands.swapped (g.D.Disk.seen c.args.disk) Log)) n stands.log) (sym c.starting_at.ensures.starts.1) kept.sound.next;
       report = kept.sound.report;
       second = kept.sound.second;
       stops = kept.stops;

@@ -9,7 +9,8 @@ use Rattle.im_base_txn.specs.Rows.{changed, is_committing, with_mark}
 use Rattle.im_base_txn.specs.declared.transaction.Mark.{Mark}
 use Rattle.im_base_txn.specs.declared.transaction.Mark.TheVariants.{Going, MustRollBack, RollingBack}
 use Rattle.im_engine.proofs.Telling.{alive_now, told_answered, told_rolled_back}
-use Rattle.im_engine.proofs.Causes.{rollback_made}
+use Rattle.im_engine.proofs.Causes.{not_emptied, rollback_made}
+use Rattle.im_base_disk.proofs.Costs.{most_none}
 use Rattle.im_theory_machine.specs.View.{pending_of}
 use Rattle.im_engine.specs.Aims.{under_of}
 use Rattle.im_engine.proofs.Running.{none_if}
@@ -39,11 +40,11 @@ returns-then-row-ne0 g c =
       kept = λ before s v life.
           turned g.D.Disk before s v old _ life c.requires.works refl refl refl (g.met.D.Disk.only_now old.disk) c.args.t c.in-Some.row found (back_mark old.txns.rows _ c.args.t c.in-Some.row found c.requires.checked)
           (none_if (pending_of (under_of old.under) c.args.t) (back_unowned old.txns.rows c.args.t c.requires.checked))
-          (omega (arith, c.if-row-ne0.true)) refl c.set_mark.ensures c.requires.works;
+          (omega (arith, c.if-row-ne0.true)) refl c.set_mark.ensures.table c.requires.works;
       told =
-          told_answered g.D.Disk old _ c.requires.works (ap besides_rows c.set_mark.ensures) refl replies.More (λ k. refl) refl refl tt c.requires.works
-          (ap (λ (x : Numbered). length x.rows) c.set_mark.ensures ∙ length-map old.txns.rows (changed c.args.t (with_mark RollingBack))) (alive_now g.D.Disk old c.requires.works);
-      answered = rollback_made g.D.Disk old old.writer.log old.disk c.requires.works c.args.t c.requires.checked replies.More (λ x e. cc e);
+          told_answered g.D.Disk old _ c.requires.works (ap besides_rows c.set_mark.ensures.table) refl replies.More (λ k. refl) refl refl tt c.requires.works
+          (ap (λ (x : Numbered). length x.rows) c.set_mark.ensures.table ∙ length-map old.txns.rows (changed c.args.t (with_mark RollingBack))) (alive_now g.D.Disk old c.requires.works);
+      answered = rollback_made g.D.Disk old old.writer.log old.disk c.requires.works c.args.t c.requires.checked replies.More (not_emptied c.args.t old.txns.rows c.in-Some.row found (inl (omega (arith, c.if-row-ne0.true)))) (λ x e. cc e);
       suits = search rules;
       at_once = λ _. search rules;
       paced = paced_beside g.D.Disk _ _ old _ refl (λ is. cc is) refl;
@@ -51,7 +52,7 @@ returns-then-row-ne0 g c =
       frames = refl;
       wants = λ b before s v r. tt;
       quiet = λ none. refl;
-      costs = tt;
+      costs = most_none g.D.Disk 2 2 old.disk;
     }
 
 pub returns : goal.returns
@@ -62,11 +63,11 @@ returns g c =
       kept = λ before s v life.
           dropped g.D.Disk before s v old _ life c.requires.works refl refl refl (g.met.D.Disk.only_now old.disk) c.args.t c.in-Some.row found (back_mark old.txns.rows _ c.args.t c.in-Some.row found c.requires.checked)
           (none_if (pending_of (under_of old.under) c.args.t) (back_unowned old.txns.rows c.args.t c.requires.checked))
-          (omega (arith, c.if-row-ne0.false)) c.release_all.ensures (c.end.ensures.one c.in-Some.row found ∙ ap (λ (x : Numbered). length x.rows + 1) c.end.ensures.left) c.end.ensures.left c.requires.works;
+          (omega (arith, c.if-row-ne0-2.false)) c.release_all.ensures (c.end.ensures.one c.in-Some.row found ∙ ap (λ (x : Numbered). length x.rows + 1) c.end.ensures.left) c.end.ensures.left c.requires.works;
       told =
           told_rolled_back g.D.Disk old _ c.requires.works (ap besides_rows c.end.ensures.left) refl (c.end.ensures.one c.in-Some.row found) c.requires.works
           (λ lost. absurd (not_true (g.D.Disk.failed old.disk) (alive_now g.D.Disk old c.requires.works) lost));
-      answered = rollback_made g.D.Disk old old.writer.log old.disk c.requires.works c.args.t c.requires.checked replies.RolledBack (λ x e. cc e);
+      answered = rollback_made g.D.Disk old old.writer.log old.disk c.requires.works c.args.t c.requires.checked replies.RolledBack (not_emptied c.args.t old.txns.rows c.in-Some.row found (inr (omega (arith, c.if-row-ne0-2.false)))) (λ x e. cc e);
       suits = search rules;
       at_once = λ _. search rules;
       paced = paced_beside g.D.Disk _ _ old _ refl (λ is. cc is) refl;
@@ -74,5 +75,5 @@ returns g c =
       frames = refl;
       wants = λ b before s v r. tt;
       quiet = λ none. refl;
-      costs = tt;
+      costs = most_none g.D.Disk 2 2 old.disk;
     }

@@ -50,6 +50,10 @@ pub returns-in-Continue : goal.returns-in-Continue
 returns-in-Continue g c =
     step_as g.D.Disk c.args.step.now _ c.in-Continue.is c.go_on.result c.args.self.now c.go_on.new.self c.in_default.ensures c.go_on.ensures
 
+pub returns-in-RollTo : goal.returns-in-RollTo
+returns-in-RollTo g c =
+    step_as g.D.Disk c.args.step.now _ c.in-RollTo.is c.roll_to.result c.args.self.now c.roll_to.new.self c.in_default.ensures c.roll_to.ensures
+
 pub returns-in-Force : goal.returns-in-Force
 returns-in-Force g c =
     step_as g.D.Disk c.args.step.now _ c.in-Force.is c.force.result c.args.self.now c.force.new.self c.in_default.ensures c.force.ensures

@@ -1,6 +1,7 @@
 use Rattle.std.proofs.Common.{inl, inr, refl, sym, ap, ◌∙◌, ◌+◌, length, map, rules}
 use Rattle.std.proofs.lemmas.List.{length-map}
 use Rattle.im_base_txn.specs.Rows.{changed, is_committing, with_record}
+use Rattle.im_theory_steps.specs.Steps.{with_undone}
 use Rattle.im_base_steps.specs.declared.reply.Reply.TheVariants as replies
 use Rattle.im_base_types.specs.declared.fault.Fault.TheVariants as faults
 use Rattle.im_tree_search.specs.declared.sight.Sight.TheVariants.{Seen, Hidden}
@@ -24,7 +25,7 @@ pub end-requires : goal.end-requires
 end-requires g c =
     let old = c.args.self.now in
     let found = sym c.in-Some.ensures.found in
-    not_waiting old.txns.rows c.args.t c.in-Some.row found (ap is_committing (continue_mark old.txns.rows c.args.t c.in-Some.row found (other_checked old.txns.rows (under_of old.under) c.args.t c.requires.other c.requires.checked)))
+    not_waiting old.txns.rows c.args.t c.in-Some.row found (ap is_committing (continue_mark old.txns.rows old.forward c.args.t c.in-Some.row found (other_checked old.txns.rows (under_of old.under) c.args.t c.requires.other c.requires.checked)))
 
 pub returns-in_default : goal.returns-in_default
 returns-in_default g c =
@@ -47,10 +48,10 @@ returns-in-Ok-Seen-Made-More g c =
           let b = (life.running c.requires.works).0 in
           let r = (life.running c.requires.works).1 in
           let kept = kept_as g.D.Disk b r.base r.now r.redo_end t row.last row.undo_next beside old.disk c.undo_in_steps.new.writer c.undo_in_steps.new.disk c.in-Ok-Seen-Made-More.field-0 (Seen (steps.Made (turns.More c.in-Ok-Seen-Made-More.last c.in-Ok-Seen-Made-More.undo_next))) (c.in-Ok-Seen-Made-More.field-0-is ∙ ap Seen (c.in-Ok-Seen-Made-More.field-0-0-is ∙ ap steps.Made c.in-Ok-Seen-Made-More.field-0-0-0-is)) (c.in-Ok-Seen-Made-More.ensures.kept b r.base r.now r.redo_end (going_beside g.D.Disk before s v t row old r found checked other) (some_left g.D.Disk before s v t row old r found checked other) (told_of b old.under beside r.now.log told_is r.changing)) in
-          turned_more g.D.Disk before s v t row old _ life c.requires.works found checked other refl kept.stops beside told_is c.in-Ok-Seen-Made-More.last c.in-Ok-Seen-Made-More.undo_next kept.sound refl refl c.note_record.ensures;
+          turned_more g.D.Disk before s v t row old _ life c.requires.works found checked other refl kept.stops beside told_is c.in-Ok-Seen-Made-More.last c.in-Ok-Seen-Made-More.undo_next kept.sound refl refl c.note_undone.ensures.table;
       told =
-          told_answered g.D.Disk old _ c.requires.works (ap besides_rows c.note_record.ensures) refl replies.More (λ k. refl) refl refl tt refl
-          (ap (λ (x : Numbered). length x.rows) c.note_record.ensures ∙ length-map old.txns.rows (changed t (with_record c.in-Ok-Seen-Made-More.last c.in-Ok-Seen-Made-More.undo_next))) c.in-Ok-Seen-Made-More.ensures.outcome.ends.alive;
+          told_answered g.D.Disk old _ c.requires.works (ap besides_rows c.note_undone.ensures.table) refl replies.More (λ k. refl) refl refl tt refl
+          (ap (λ (x : Numbered). length x.rows) c.note_undone.ensures.table ∙ length-map old.txns.rows (changed t (with_undone c.in-Ok-Seen-Made-More.last c.in-Ok-Seen-Made-More.undo_next))) c.in-Ok-Seen-Made-More.ensures.outcome.ends.alive;
       answered = continue_made g.D.Disk old c.requires.works t c.requires.checked c.undo_in_steps.new.writer.log c.undo_in_steps.new.disk replies.More (λ x e. cc e);
       suits = search rules;
       at_once = λ _. search rules;
@@ -122,10 +123,10 @@ returns-in-Ok-Seen-Splitting g c =
           let r = (life.running c.requires.works).1 in
           let kept = kept_as g.D.Disk b r.base r.now r.redo_end t row.last row.undo_next beside old.disk c.undo_in_steps.new.writer c.undo_in_steps.new.disk c.in-Ok-Seen-Splitting.field-0 (Seen (steps.Splitting c.in-Ok-Seen-Splitting.begun)) (c.in-Ok-Seen-Splitting.field-0-is ∙ ap Seen c.in-Ok-Seen-Splitting.field-0-0-is) (c.in-Ok-Seen-Splitting.ensures.kept b r.base r.now r.redo_end (going_beside g.D.Disk before s v t row old r found checked other) (some_left g.D.Disk before s v t row old r found checked other) (told_of b old.under beside r.now.log told_is r.changing)) in
           splitting g.D.Disk before s v t row old _ life c.requires.works found checked other refl kept.stops beside told_is (none_under old.under beside told_is kept.sound.alone) c.in-Ok-Seen-Splitting.begun kept.sound refl refl
-          (c.note_record-in-Ok-Seen-Splitting.ensures ∙ ap (λ n. record old.txns { rows = map (changed t (with_record n n)) old.txns.rows }) last_is);
+          (c.note_record.ensures.table ∙ ap (λ n. record old.txns { rows = map (changed t (with_record n n)) old.txns.rows }) last_is);
       told =
-          told_answered g.D.Disk old _ c.requires.works (ap besides_rows c.note_record-in-Ok-Seen-Splitting.ensures) refl replies.More (λ k. refl) refl refl tt refl
-          (ap (λ (x : Numbered). length x.rows) c.note_record-in-Ok-Seen-Splitting.ensures ∙ length-map old.txns.rows (changed t (with_record c.last-last.result c.last-last.result))) c.in-Ok-Seen-Splitting.ensures.outcome.ends.alive;
+          told_answered g.D.Disk old _ c.requires.works (ap besides_rows c.note_record.ensures.table) refl replies.More (λ k. refl) refl refl tt refl
+          (ap (λ (x : Numbered). length x.rows) c.note_record.ensures.table ∙ length-map old.txns.rows (changed t (with_record c.last-last.result c.last-last.result))) c.in-Ok-Seen-Splitting.ensures.outcome.ends.alive;
       answered = continue_made g.D.Disk old c.requires.works t c.requires.checked c.undo_in_steps.new.writer.log c.undo_in_steps.new.disk replies.More (λ x e. cc e);
       suits = search rules;
       at_once = λ _. search rules;
@@ -158,10 +159,10 @@ returns-in-Ok-Seen-Dropping g c =
           let r = (life.running c.requires.works).1 in
           let kept = kept_as g.D.Disk b r.base r.now r.redo_end t row.last row.undo_next beside old.disk c.undo_in_steps.new.writer c.undo_in_steps.new.disk c.in-Ok-Seen-Dropping.field-0 (Seen (steps.Dropping c.in-Ok-Seen-Dropping.begun)) (c.in-Ok-Seen-Dropping.field-0-is ∙ ap Seen c.in-Ok-Seen-Dropping.field-0-0-is) (c.in-Ok-Seen-Dropping.ensures.kept b r.base r.now r.redo_end (going_beside g.D.Disk before s v t row old r found checked other) (some_left g.D.Disk before s v t row old r found checked other) (told_of b old.under beside r.now.log told_is r.changing)) in
           dropping g.D.Disk before s v t row old _ life c.requires.works found checked other refl kept.stops beside told_is (none_under old.under beside told_is kept.sound.alone) c.in-Ok-Seen-Dropping.begun kept.sound refl refl
-          (c.note_record-in-Ok-Seen-Dropping.ensures ∙ ap (λ n. record old.txns { rows = map (changed t (with_record n c.undo_next.result)) old.txns.rows }) last_is ∙ ap (λ n. record old.txns { rows = map (changed t (with_record c.in-Ok-Seen-Dropping.begun.change.last n)) old.txns.rows }) next_is);
+          (c.note_undone-in-Ok-Seen-Dropping.ensures.table ∙ ap (λ n. record old.txns { rows = map (changed t (with_undone n c.undo_next.result)) old.txns.rows }) last_is ∙ ap (λ n. record old.txns { rows = map (changed t (with_undone c.in-Ok-Seen-Dropping.begun.change.last n)) old.txns.rows }) next_is);
       told =
-          told_answered g.D.Disk old _ c.requires.works (ap besides_rows c.note_record-in-Ok-Seen-Dropping.ensures) refl replies.More (λ k. refl) refl refl tt refl
-          (ap (λ (x : Numbered). length x.rows) c.note_record-in-Ok-Seen-Dropping.ensures ∙ length-map old.txns.rows (changed t (with_record c.last.result c.undo_next.result))) c.in-Ok-Seen-Dropping.ensures.outcome.ends.alive;
+          told_answered g.D.Disk old _ c.requires.works (ap besides_rows c.note_undone-in-Ok-Seen-Dropping.ensures.table) refl replies.More (λ k. refl) refl refl tt refl
+          (ap (λ (x : Numbered). length x.rows) c.note_undone-in-Ok-Seen-Dropping.ensures.table ∙ length-map old.txns.rows (changed t (with_undone c.last.result c.undo_next.result))) c.in-Ok-Seen-Dropping.ensures.outcome.ends.alive;
       answered = continue_made g.D.Disk old c.requires.works t c.requires.checked c.undo_in_steps.new.writer.log c.undo_in_steps.new.disk replies.More (λ x e. cc e);
       suits = search rules;
       at_once = λ _. search rules;
