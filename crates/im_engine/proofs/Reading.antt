@@ -1,5 +1,5 @@
 -- Accesses that change nothing.
-use Rattle.std.proofs.Common.{◌≡◌, ◌≢◌, ℕ, ◌≤◌, List, [], Bool, true, false, Some, None, refl, sym, subst, ◌∙◌}
+use Rattle.std.proofs.Common.{◌≡◌, ◌≢◌, inl, ℕ, ◌≤◌, List, [], Bool, true, false, Some, None, refl, sym, subst, ◌∙◌}
 use Rattle.std.specs.Prelude.{map}
 use Rattle.im_base_types.specs.Answers as answers
 use Rattle.im_base_types.specs.Answers.{Access, Do, Commit, Reply, Refused, Blocked, Die, answer, changes}

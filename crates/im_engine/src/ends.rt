@@ -104,6 +104,7 @@ impl<D: Disk> Engine<D> {
         requires found { find (is_of t) self.old.txns.rows ≡ Some row }
         requires emptied { row.changes ≡ 0 }
         requires some { 1 ≤ row.last }
+        requires owned { 1 ≤ t }
         requires checked { checked_by self.old.txns.rows (owns_in (under_of self.old.under) (answers.Commit t)) (answers.Commit t) ≡ None }
         ensures { IsMade D.Disk (answers.Commit t) result self.old self.new }
     {
@@ -127,6 +128,7 @@ impl<D: Disk> Engine<D> {
         requires found { find (is_of t) self.old.txns.rows ≡ Some row }
         requires emptied { row.changes ≡ 0 }
         requires some { 1 ≤ row.last }
+        requires owned { 1 ≤ t }
         requires checked { checked_by self.old.txns.rows (owns_in (under_of self.old.under) (answers.Rollback t)) (answers.Rollback t) ≡ None }
         ensures { IsMade D.Disk (answers.Rollback t) result self.old self.new }
     {

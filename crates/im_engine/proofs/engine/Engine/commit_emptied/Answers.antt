@@ -68,8 +68,8 @@ returns g c =
     let found = c.requires.found in
     let row = c.args.row in
     let mark = commit_mark old.txns.rows _ c.args.t row found c.requires.checked in
-    let lsn = c.in_default-log_only.field-0 in
-    let written = c.in_default-log_only.ensures in
+    let lsn = c.in_default.field-0 in
+    let written = c.in_default.ensures in
     let without_changes = unchanged g.D.Disk old old.writer.log old.disk c.requires.works c.args.t row found c.requires.checked (inr c.requires.emptied) in
     record {
       kept = λ before s v life.

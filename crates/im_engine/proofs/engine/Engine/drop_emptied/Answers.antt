@@ -64,8 +64,8 @@ returns g c =
     let old = c.args.self.now in
     let found = c.requires.found in
     let row = c.args.row in
-    let lsn = c.in_default-log_only.field-0 in
-    let written = c.in_default-log_only.ensures in
+    let lsn = c.in_default.field-0 in
+    let written = c.in_default.ensures in
     let empty = is_emptied c.args.t old.txns.rows row found c.requires.some c.requires.emptied in
     record {
       kept = λ before s v life.
