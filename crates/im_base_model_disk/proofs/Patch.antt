@@ -108,7 +108,7 @@ synced_by old new at bytes (inr refused) = refused.synced
 module _ (old new : ModelFile) (at : ℕ) (bytes : List ℕ) (place : at ≤ length old.bytes.items) (kept : Keeps at (length bytes) old.bytes.items new.bytes.items)
     (wrote : IsWritten at bytes old new ⊎ IsRefused at (length bytes) old new) where
   -- of one file
-  torn_file : (c : List ℕ) → FileMayHold new c → (d : List ℕ) × FileMayHold old d × Torn at (length bytes) d c
+  pub torn_file : (c : List ℕ) → FileMayHold new c → (d : List ℕ) × FileMayHold old d × Torn at (length bytes) d c
   torn_file c may =
       let end = length old.bytes.items in
       let end_new = length new.bytes.items in

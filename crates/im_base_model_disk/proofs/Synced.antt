@@ -20,7 +20,7 @@ outside_each (v ∷ writes) i apart = (apart 0 (omega arith), outside_each write
 none_outside : (writes : List (ℕ × ℕ)) (i : ℕ) → writes ≡ [] → IsOutside writes i
 none_outside writes i none = subst (λ (w : List (ℕ × ℕ)). IsOutside w i) (sym none) tt
 
-synced_file : (file : ModelFile) → file.synced ≡ length file.bytes.items → file.written.items ≡ [] → (c : List ℕ) → FileMayHold file c → c ≡ file.bytes.items
+pub synced_file : (file : ModelFile) → file.synced ≡ length file.bytes.items → file.written.items ≡ [] → (c : List ℕ) → FileMayHold file c → c ≡ file.bytes.items
 synced_file file synced none c may =
     ext_get_or 0 c file.bytes.items (omega (arith, synced, may.no_shorter, may.no_longer))
     (λ i lt. may.same i (omega (arith, lt, synced, may.no_longer)) (none_outside file.written.items i none))

@@ -1,0 +1,3 @@
+pub mod Stopping
+pub mod AtPlaces
+pub mod Stopped
