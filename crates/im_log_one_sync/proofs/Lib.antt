@@ -3,3 +3,4 @@ pub mod Laws
 pub mod TwoSyncs
 pub mod Headers
 pub mod Puts
+mod WorkedSums
