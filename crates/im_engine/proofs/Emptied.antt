@@ -1,5 +1,5 @@
 -- A Commit and a Rollback of a transaction that has records, but no change that stands: its End is logged, and no force is made.
-use Rattle.std.proofs.Common.{◌≢◌, ◌≡◌, ◌⊎◌, inl, inr, ℕ, ◌+◌, ◌≤◌, ◌<◌, ◌^◌, List, [], ◌∷◌, ◌++◌, append-nil, true, false, Option, Some, None, length, refl, sym, ap, subst, ◌∙◌}
+use Rattle.std.proofs.Common.{◌≢◌, ◌≡◌, ◌⊎◌, inl, ℕ, ◌+◌, ◌≤◌, ◌<◌, ◌^◌, List, [], ◌∷◌, ◌++◌, append-nil, true, false, Option, Some, None, length, refl, sym, ap, subst, ◌∙◌}
 use Rattle.std.specs.Prelude.{find}
 use Rattle.im_base_types.specs.Faults.{number_of}
 use Rattle.im_base_types.specs.declared.fault.Fault.{Fault}

@@ -6,7 +6,6 @@ use Rattle.im_base_types.specs.Lives.{Asked, Shown, shows}
 use Rattle.im_base_disk.specs.declared.disk.Disk.{Ghosts}
 use Rattle.im_base_disk.specs.Runs.{LeavesOnly}
 use Rattle.im_base_disk.proofs.Runs.{weakened}
-use Rattle.im_base_txn.specs.declared.transaction.Mark.TheVariants.{Going}
 use Rattle.im_base_txn.specs.declared.transaction.Transaction.{Transaction}
 use Rattle.im_theory_log.specs.Histories.{Base, IsFront}
 use Rattle.im_theory_log.specs.Lawful.{IsLawful}
