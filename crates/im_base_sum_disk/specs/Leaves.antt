@@ -24,17 +24,6 @@ pub record IsHarmless (file : ModelFile) (c : List ℕ) : Type 0 where
   pub once : length file.written.items ≡ 1
   pub shown : ShowsNoMore c file.bytes.items
 
--- The bytes of a log after a stop: as the fill made them, where it was written once and they show no more than the file as it reads; otherwise as it reads.
-abbrev pub LogAfter : ModelFile → (written filled : List ℕ) → List ℕ → Type 0
-LogAfter file written filled bytes = ((bytes ≡ filled) × (length file.written.items ≡ 1) × ShowsNoMore filled written)
-    ⊎ ((bytes ≡ written) × ¬ ((length file.written.items ≡ 1) × ShowsNoMore filled written))
-
--- the same by the stop that was armed
-pub record IsLogAfter (stop : Option Stop) (file : ModelFile) (bytes : List ℕ) : Type 0 where
-  pub filled : List ℕ
-  pub left : IsLeftBy stop file filled
-  pub after : LogAfter file file.bytes.items filled bytes
-
 -- Of a log, these or the bytes as they read.
 abbrev pub LogLeaves : ModelFile → List ℕ → Type 0
 LogLeaves file c = (c ≡ file.bytes.items) ⊎ IsHarmless file c
@@ -47,6 +36,17 @@ FileLeaves Pages = FileMayHold
 
 abbrev pub Leaves : Moment → Files → Type 0
 Leaves moment c = (file : FileId) → FileLeaves file (either moment.0 moment.1 moment.2 file) (c file)
+
+-- The bytes of a log after a stop: as the fill made them, where it was written once and they show no more than the file as it reads; otherwise as it reads.
+abbrev pub LogAfter : ModelFile → (written filled : List ℕ) → List ℕ → Type 0
+LogAfter file written filled bytes = ((bytes ≡ filled) × (length file.written.items ≡ 1) × ShowsNoMore filled written)
+    ⊎ ((bytes ≡ written) × ¬ ((length file.written.items ≡ 1) × ShowsNoMore filled written))
+
+-- the same by the stop that was armed
+pub record IsLogAfter (stop : Option Stop) (file : ModelFile) (bytes : List ℕ) : Type 0 where
+  pub filled : List ℕ
+  pub left : IsLeftBy stop file filled
+  pub after : LogAfter file file.bytes.items filled bytes
 
 -- the bytes as they read
 pub as_read : (file : FileId) (model : ModelFile) → FileMayHold model model.bytes.items → FileLeaves file model model.bytes.items
