@@ -40,7 +40,8 @@ use Rattle.im_theory_steps.proofs.Promises.{granted_keys_free}
 use Rattle.im_theory_steps.proofs.Records.{put_adds, drop_adds}
 use Rattle.im_theory_steps.proofs.Rolling.{rolling_is}
 use Rattle.im_theory_steps.proofs.Rows.{same_at, as_row, counted_at, rows_changed, rows_ended, row_marked, length_map, one_fewer}
-use Rattle.im_theory_steps.proofs.Steps.{moves_by, do_passes, continue_passes, taking_passes, mark_free, cases_net, served, at, new_by, structure_keeps}
+use Rattle.im_theory_steps.proofs.Steps.{moves_by, do_passes, continue_passes, taking_passes, mark_free, cases_net, served, at, new_by}
+use Rattle.im_theory_steps.proofs.Keeping.{structure_keeps}
 use Rattle.im_theory_steps.proofs.Together.{together, marked_seen}
 
 -- ---- what the log and the view say

@@ -9,7 +9,8 @@ pub use Rattle.im_theory_steps.proofs.Acknowledged.{going_free, no_effects, step
 pub use Rattle.im_theory_steps.proofs.Promises.{granted_keys_free}
 pub use Rattle.im_theory_steps.proofs.Holding.{free_by_table}
 pub use Rattle.im_theory_steps.proofs.Owner.{owners_marked}
-pub use Rattle.im_theory_steps.proofs.Steps.{at, barred_served, begins_served, dies_served, drops_served, flushes_served, forces_served, images_keep, lacks_served, mark_free, moves_by, opened_serves, quiet_logs, reads_served, returns_stay, returns_turn, structure_keeps, turns_served, unlogged_commits_served, waits_served, ways_lead_on}
+pub use Rattle.im_theory_steps.proofs.Steps.{at, barred_served, begins_served, dies_served, drops_served, flushes_served, forces_served, lacks_served, mark_free, moves_by, opened_serves, quiet_logs, reads_served, returns_stay, returns_turn, turns_served, unlogged_commits_served, waits_served}
+pub use Rattle.im_theory_steps.proofs.Keeping.{images_keep, structure_keeps, ways_lead_on}
 pub use Rattle.im_theory_steps.proofs.Changing.{deletes_begin, deletes_end, inserts_begin, inserts_end, inserts_free, pages_served, returns_drop, trees_block, trees_halt, turns_begin, turns_drop, turns_empty, turns_end}
 pub use Rattle.im_theory_steps.proofs.Logging.{deletes_served, inserts_served, logged_checkpoints_served, logged_commits_served, logged_commits_wait}
 pub use Rattle.im_theory_steps.proofs.Durable.{commits_stand, cut_commits_stand, others_ask_nothing, quiet_lives_settle}

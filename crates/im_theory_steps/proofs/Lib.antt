@@ -11,6 +11,7 @@ pub mod Rows
 pub mod Holding
 pub mod Owner
 pub mod Steps
+pub mod Keeping
 pub mod Changing
 pub mod Logging
 pub mod WorkedSteps

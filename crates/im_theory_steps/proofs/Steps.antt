@@ -10,7 +10,7 @@ use Rattle.im_theory_log.proofs.Committed.{nets_of}
 use Rattle.im_base_types.proofs.Nets.{no_nets}
 use Rattle.im_theory_log.specs.Tree.{Tree}
 use Rattle.im_theory_log.specs.Histories.{History, Base}
-use Rattle.im_theory_log.specs.Transactions.{committed, contents, net, last_of, undo_next_of, to_undo, is_finished, changes_of}
+use Rattle.im_theory_log.specs.Transactions.{committed, contents, net, last_of, to_undo, is_finished, changes_of}
 use Rattle.im_base_types.specs.Answers as answers
 use Rattle.im_base_types.specs.Answers.{Access, Step, Reply, Begin, Started, Do, Commit, Committed, Rollback, RolledBack, Continue, RollTo, More, Blocked, Die, FlushPage, Force, Checkpoint, Done, Refused, answer}
 use Rattle.im_base_types.specs.Lives.{Shown, Asked, effects, effect_asked, nothing_shown, shows}
@@ -18,7 +18,7 @@ use Rattle.im_base_types.specs.Refusals.{failed as has_failed, key_length, too_m
 use Rattle.im_base_txn.specs.declared.transaction.Mark as marks
 use Rattle.im_base_txn.specs.declared.transaction.Mark.TheVariants.{Going, MustRollBack, RollingBack, Returning, Committing}
 use Rattle.im_base_txn.specs.declared.transaction.Transaction.{Transaction}
-use Rattle.im_base_txn.specs.Rows.{begun as row_begun, is_of, changed, with_mark, with_record}
+use Rattle.im_base_txn.specs.Rows.{begun as row_begun, is_of, changed, with_mark}
 use Rattle.im_base_txn.specs.LookUps.{without}
 use Rattle.im_base_txn.proofs.LookUps.{look_ups_follow}
 use Rattle.im_theory_machine.specs.Table.{Table, lasting_of, IsReleased}
@@ -27,12 +27,12 @@ use Rattle.im_theory_machine.specs.Changing.{MatchesWithKept}
 use Rattle.im_theory_machine.specs.View.{View, Puts, kept_lock, owner_in, pending_of, of_others, Txn, idle, set_txn, begun, did, did_txn, marked, committed_by, dropped_by, undid_more, undid_last, queued, forced_by, is_among, MayRollBack}
 use Rattle.im_theory_machine.specs.Kept.{IsPending}
 use Rattle.im_theory_machine.specs.Machine.{Moves, Answers, Goes, begins, commits, queues, drops, turns, undoes, ends, stays_back, turns_back, gives_back, is_back, flushes, forces, checkpoints, lacks, barred, barred_to, barred_to_rollback, barred_to_continue, or_else, fault_if, keys_fit, start}
-use Rattle.im_theory_machine.proofs.Cited.{changes-serve, cases_number, cases_test, among_other, by_force_txn, nothing_goes_on, queue_marks, by_txn, unowned_clear}
+use Rattle.im_theory_machine.proofs.Cited.{changes-serve, cases_number, cases_test, among_other, by_force_txn, nothing_goes_on, queue_marks, unowned_clear}
 use Rattle.im_theory_steps.specs.Growth.{Stays, TakesBack, IsOfOthers, IsOver, HasNone}
 use Rattle.im_theory_steps.specs.Seen.{IsSeen}
 use Rattle.im_theory_steps.specs.Serving.{IsRow, IsRowOf, IsWaitingRow, IsAt, AreRows, mark_of, IsServing, IsServed}
-use Rattle.im_theory_steps.specs.Steps.{NewStoresServe, OpenedStoresServe, QuietLogsHoldCommitted, ImagesKeepServing, StructureKeepsServing, WaysLeadOn, ChangesAreServed, ReadsAreServed, WaitsAreServed, DiesAreServed, BeginsAreServed, CommitsAreServed, CommitsWait, counted, takes_back, with_made, with_undone, without_all, UnloggedCommitsAreServed, ReturnsStay, ReturnsTurn, DropsAreServed, TurnsAreServed, UndoIsServed, EndsAreServed, FlushesAreServed, ForcesAreServed, CheckpointsAreServed, BarredStepsAreServed, LacksAreServed}
-use Rattle.im_theory_steps.proofs.Growth.{images_change_nothing, structure_changes_no_key, stays_then, same_here, same_then, none_last, none_undo, none_finished, none_to_undo, unlogged}
+use Rattle.im_theory_steps.specs.Steps.{NewStoresServe, OpenedStoresServe, QuietLogsHoldCommitted, ChangesAreServed, ReadsAreServed, WaitsAreServed, DiesAreServed, BeginsAreServed, CommitsAreServed, CommitsWait, counted, takes_back, with_made, with_undone, without_all, UnloggedCommitsAreServed, ReturnsStay, ReturnsTurn, DropsAreServed, TurnsAreServed, UndoIsServed, EndsAreServed, FlushesAreServed, ForcesAreServed, CheckpointsAreServed, BarredStepsAreServed, LacksAreServed}
+use Rattle.im_theory_steps.proofs.Growth.{same_here, none_last, none_undo, none_finished, none_to_undo, unlogged}
 use Rattle.im_theory_steps.proofs.Together.{together, marked_seen, dropped_seen, empty_seen, begun_seen}
 use Rattle.im_theory_steps.proofs.Holding.{same_itself, kept_none, kept_undone, GoWith, same_locks, released_locks, forced_locks, pends_beside}
 use Rattle.im_theory_steps.proofs.Promises.{moves_reach}
@@ -778,63 +778,3 @@ new_serves b earlier made =
 -- where nothing is left to undo, the tree holds what is committed
 pub quiet_logs : (tree : Tree) → QuietLogsHoldCommitted tree
 quiet_logs tree b log law none = no_nets (apply_all b.map (committed log)) (contents b log) (λ (t : ℕ). net t log) (nets_of b tree log law) (λ t. ap changes_of (none t))
-
--- ---- within a step
-
-module _ (b : Base) (earlier before : List Effect) (s : Shown) (v : View) (older : History) (rows : List Transaction) (next : ℕ) (held : Table) (h : IsServing b earlier before s v older rows next held) where
-  -- records that change no key, and leave each transaction in its row
-  kept : (longer : History) (after : List Transaction) → Stays b older longer → ((u : ℕ) → IsAt u (find (is_of u) after) next longer (v.txns u)) → length after ≡ length rows → IsServing b earlier before s v longer after next held
-  kept longer after stays each many = record {
-    made = h.made;
-    works = h.works;
-    seen_by = together.stays b older longer v h.seen_by stays;
-    shows = h.shows;
-    reached = h.reached;
-    says = ap (λ (es : List Effect). earlier ++ seen es) stays.commits ∙ h.says;
-    table = record { each = each; active = h.table.active ∙ sym many; numbers = h.table.numbers };
-    locks = h.locks;
-  }
-
-pub images_keep : ImagesKeepServing
-images_keep b earlier before s v older longer rows next held h grows =
-    let on = images_change_nothing b older longer grows in
-    kept b earlier before s v older rows next held h longer rows on.0 (λ u. same_at u next older longer (on.1 u) (find (is_of u) rows) (v.txns u) (h.table.each u)) refl
-
-pub structure_keeps : StructureKeepsServing
-structure_keeps b earlier before s v older longer rows next held t row h found free grows =
-    let is = at b earlier before s v older rows next held h t row found free in
-    let on = structure_changes_no_key b t older longer grows in
-    let r = is.1 in
-    let f = with_record (last_of t longer) (undo_next_of t longer) in
-    let now : IsRow (f row) next longer = record {
-      number = r.number;
-      below = r.below;
-      last = ap (λ (n : ℕ). last_of n longer) (sym is.0);
-      undo = ap (λ (n : ℕ). undo_next_of n longer) (sym is.0);
-      unfinished = ap (λ (n : ℕ). is_finished n longer) is.0 ∙ on.finished ∙ ap (λ (n : ℕ). is_finished n older) (sym is.0) ∙ r.unfinished;
-      changes = r.changes ∙ ap (λ (e : Effect). length e) (sym (on.stays.nets row.number));
-    } in
-    let each = rows_changed t next older longer rows v.txns (v.txns t) f row (λ x. refl) on.others h.table.each found is.0 (as_row row.mark (f row) next longer free now) is.2 in
-    kept b earlier before s v older rows next held h longer (map (changed t f) rows) on.stays
-    (λ u. subst (λ (x : Txn). IsAt u (find (is_of u) (map (changed t f) rows)) next longer x) (by_txn (λ n y. y ≡ v.txns n) v.txns t (v.txns t) refl (λ n differ. refl) u) (each u))
-    (length_map (changed t f) rows)
-
-pub ways_lead_on : WaysLeadOn
-ways_lead_on = record {
-  begins = λ b earlier before s v log rows next held t row h found mark.
-      let is = at b earlier before s v log rows next held h t row found (mark_free row.mark Going mark (λ x. cc x)) in
-      record {
-        stays = record { commits = refl; walk = refl; nets = λ u. refl };
-        others = λ u differ. same_here u log;
-        newest = sym (is.1.last ∙ ap (λ (n : ℕ). last_of n log) is.0);
-        unfinished = ap (λ (n : ℕ). is_finished n log) (sym is.0) ∙ is.1.unfinished;
-      };
-  leads = λ b t last older between longer way grows.
-      let on = structure_changes_no_key b t between longer grows in
-      record {
-        stays = stays_then b older between longer way.stays on.stays;
-        others = λ u differ. same_then u older between longer (way.others u differ) (on.others u differ);
-        newest = refl;
-        unfinished = on.finished ∙ way.unfinished;
-      };
-}

@@ -1,4 +1,4 @@
-use Rattle.im_theory_steps.proofs.Steps.{images_keep}
+use Rattle.im_theory_steps.proofs.Keeping.{images_keep}
 use Rattle.im_theory_steps.proofs.step_laws.images_keep_serving.Goals as goal
 
 pub returns : goal.returns

@@ -1,4 +1,4 @@
-use Rattle.im_theory_steps.proofs.Steps.{structure_keeps}
+use Rattle.im_theory_steps.proofs.Keeping.{structure_keeps}
 use Rattle.im_theory_steps.proofs.step_laws.structure_keeps_serving.Goals as goal
 
 pub returns : goal.returns

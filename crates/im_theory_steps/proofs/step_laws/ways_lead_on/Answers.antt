@@ -1,4 +1,4 @@
-use Rattle.im_theory_steps.proofs.Steps.{ways_lead_on}
+use Rattle.im_theory_steps.proofs.Keeping.{ways_lead_on}
 use Rattle.im_theory_steps.proofs.step_laws.ways_lead_on.Goals as goal
 
 pub returns : goal.returns
