@@ -28,3 +28,22 @@ pub(crate) fn begins_closed(bytes: &[u8]) -> bool
 {
     !bytes.is_empty() && bytes[0] != 1
 }
+
+/// A gate and the length of its batch have so many bytes.
+pub const AHEAD: usize = 5;
+
+/// A gate of this byte is open.
+pub fn is_open(gate: u8) -> bool
+    ensures { (result ≡ true) ↔ (gate ≡ 1) }
+{
+    gate == 1
+}
+
+/// How many bytes the records of the batch have that begins, after its gate, with these bytes, as they say themselves: of a batch that counts 1 to 16,384.
+#[tactic(auto, unfolding(crate::specs::Batches::batch_length))]
+pub fn length_of(behind: &[u8]) -> u32
+    requires room { 4 ≤ length behind.now }
+    ensures { result ≡ batch_length behind.now }
+{
+    BigEndian::read_u32(&behind[..4])
+}

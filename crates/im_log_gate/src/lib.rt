@@ -57,6 +57,7 @@ mod put;
 mod read_start;
 mod size;
 
+pub use ahead::{AHEAD, is_open, length_of};
 pub use gate::{FIRST_GATE, Gate};
 pub use im_log_header::Header;
 pub use put::seal;
