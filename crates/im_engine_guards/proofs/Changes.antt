@@ -107,13 +107,13 @@ module _ (base : ℕ) (log : History) (readable : AreReadable log) where
       → Noted (passed l p (number_of (kind_of e)) (page_of e)) (logged_at (base + l.place) e ∷ older)
   note l older e p n based some room of = by (kinds e (readable (logged_at (base + l.place) e) of))
     where
-      nothing : says_nothing l.is_current (number_of (kind_of e)) ≡ quiet (number_of (kind_of e))
-      nothing = ap (λ (c : Bool). says_nothing c (number_of (kind_of e))) n.left
+      nothing : says_nothing l.is_current (kind_at (number_of (kind_of e))) ≡ quiet (number_of (kind_of e))
+      nothing = ap (λ (c : Bool). says_nothing c (kind_at (number_of (kind_of e)))) n.left
 
       by : (quiet (number_of (kind_of e)) ≡ true) ⊎ ((quiet (number_of (kind_of e)) ≡ false) × (changes_page (what_of e) ≡ true)) → Noted (passed l p (number_of (kind_of e)) (page_of e)) (logged_at (base + l.place) e ∷ older)
       by (inl is) =
           subst (λ (m : LeftLog). Noted m (logged_at (base + l.place) e ∷ older))
-          (sym (cond-true (says_nothing l.is_current (number_of (kind_of e))) (record l { place = p }) (found_step l p (page_of e)) (nothing ∙ is)))
+          (sym (cond-true (says_nothing l.is_current (kind_at (number_of (kind_of e)))) (record l { place = p }) (found_step l p (page_of e)) (nothing ∙ is)))
           (record { left = n.left; names = names_more l.lsn l.page l.pages (logged_at (base + l.place) e) older n.names })
       by (inr is) =
           let at : base + l.place ≡ sum l.base l.place = omega (arith, based, room) in
@@ -121,7 +121,7 @@ module _ (base : ℕ) (log : History) (readable : AreReadable log) where
           let here = names_this l.lsn l.page l.pages (logged_at (base + l.place) e) older is.1 one n.names (nat_lt l.pages (page_of e + 1)) in
           subst (λ (m : LeftLog). Noted m (logged_at (base + l.place) e ∷ older))
           (sym
-          (cond-false (says_nothing l.is_current (number_of (kind_of e))) (record l { place = p }) (found_step l p (page_of e)) (nothing ∙ is.0)
+          (cond-false (says_nothing l.is_current (kind_at (number_of (kind_of e)))) (record l { place = p }) (found_step l p (page_of e)) (nothing ∙ is.0)
           ∙ cond-false l.is_current (copied_step l p (page_of e)) (noted_step l p (page_of e)) n.left))
           (record {
             left = n.left;
@@ -196,20 +196,20 @@ module _ (from : LeftLog) where
         → Passed (passed l p (number_of (kind_of e)) (page_of e)) (logged_at (base + l.place) e ∷ older)
     pass l older e p n based some room of = by (copies e)
       where
-        nothing : says_nothing l.is_current (number_of (kind_of e)) ≡ copyless (number_of (kind_of e))
-        nothing = ap (λ (c : Bool). says_nothing c (number_of (kind_of e))) n.current
+        nothing : says_nothing l.is_current (kind_at (number_of (kind_of e))) ≡ copyless (number_of (kind_of e))
+        nothing = ap (λ (c : Bool). says_nothing c (kind_at (number_of (kind_of e)))) n.current
 
         by : (copyless (number_of (kind_of e)) ≡ false) ⊎ ((copyless (number_of (kind_of e)) ≡ true) × ((lsn : ℕ) → copy_in lsn (what_of e) ≡ None))
             → Passed (passed l p (number_of (kind_of e)) (page_of e)) (logged_at (base + l.place) e ∷ older)
         by (inl is) =
             subst (λ (m : LeftLog). Passed m (logged_at (base + l.place) e ∷ older))
             (sym
-            (cond-false (says_nothing l.is_current (number_of (kind_of e))) (record l { place = p }) (found_step l p (page_of e)) (nothing ∙ is)
+            (cond-false (says_nothing l.is_current (kind_at (number_of (kind_of e)))) (record l { place = p }) (found_step l p (page_of e)) (nothing ∙ is)
             ∙ cond-true l.is_current (copied_step l p (page_of e)) (noted_step l p (page_of e)) n.current))
             (record { current = n.current; passes = copied_more l.lsn l.page l.pages (logged_at (base + l.place) e) older n.passes })
         by (inr is) =
             subst (λ (m : LeftLog). Passed m (logged_at (base + l.place) e ∷ older))
-            (sym (cond-true (says_nothing l.is_current (number_of (kind_of e))) (record l { place = p }) (found_step l p (page_of e)) (nothing ∙ is.0)))
+            (sym (cond-true (says_nothing l.is_current (kind_at (number_of (kind_of e)))) (record l { place = p }) (found_step l p (page_of e)) (nothing ∙ is.0)))
             (record { current = n.current; passes = plain_more l.lsn l.page l.pages (logged_at (base + l.place) e) older (is.1 (base + l.place)) n.passes })
 
   opens : (l : LeftLog) (older : History) (p e : ℕ) → Passed l older → Passed (record l { place = p; end = e }) older

@@ -5,14 +5,21 @@ use Rattle.std.specs.Int.{w32, from_be_bytes}
 use Rattle.std.proofs.lemmas.Bool.{cases_Bool, cases_lt, cond-true, cond-false, lt-ltb, le-ltb}
 use Rattle.std.proofs.lemmas.List.{drop-take, take-take, drop-drop, drop_all, get_or-take}
 use Rattle.im_files_guard.specs.declared.left_log.LeftLog.{LeftLog}
-use Rattle.im_files_guard.specs.LeftLog.{found_step, gate_step, leaves_batch, number, over, record_step, says_nothing, step_of, sum, walk}
+use Rattle.im_files_guard.specs.LeftLog.{found_step, gate_step, leaves_batch, over, record_step, says_nothing, step_of, sum, walk}
+use Rattle.im_log_gate.specs.Batches.{batch_length}
+use Rattle.im_log_gate.proofs.BatchLemmas.{same_length}
+use Rattle.im_log_record.specs.Kind.{kind_at}
 use Rattle.im_engine_guards.specs.Walks.{walked}
 
 -- ---- steps by what they look at
 
+-- the number in the first four bytes
+abbrev pub number : List ℕ → ℕ
+number bytes = from_be_bytes w32 (take 4 bytes)
+
 -- over a record of this size, kind and page
 abbrev pub passed : LeftLog → (place kind page : ℕ) → LeftLog
-passed l place kind page = if says_nothing l.is_current kind then record l { place = place } else found_step l place page
+passed l place kind page = if says_nothing l.is_current (kind_at kind) then record l { place = place } else found_step l place page
 
 abbrev pub gate_by : LeftLog → (gate size : ℕ) → LeftLog
 gate_by l gate size = if not (gate == 1) || (size == 0) || nat_lt 16384 size then over l else record l { place = sum l.place 5; end = sum (sum l.place 5) size }
@@ -41,7 +48,7 @@ module _ (l : LeftLog) (bytes : List ℕ) where
       pub gate_short : length bytes < 5 → step_of l bytes ≡ l
       gate_short short = step_on ∙ cond-true (l.place == l.end) gated headed here ∙ cond-true (nat_lt (length bytes) 5) l (gate_step l bytes) (lt-ltb (length bytes) 5 short)
 
-      pub at_gate : 5 ≤ length bytes → step_of l bytes ≡ gate_by l (slice_index bytes 0) (number (drop 1 bytes))
+      pub at_gate : 5 ≤ length bytes → step_of l bytes ≡ gate_by l (slice_index bytes 0) (batch_length (drop 1 bytes))
       at_gate long = step_on ∙ cond-true (l.place == l.end) gated headed here ∙ cond-false (nat_lt (length bytes) 5) l (gate_step l bytes) (le-ltb (length bytes) 5 long)
 
     module _ (within : (l.place == l.end) ≡ false) where
@@ -85,7 +92,7 @@ module _ (l : LeftLog) (j : ℕ) (bytes : List ℕ) where
         | inr long ↦ (
             let few : 5 ≤ j = omega (arith, long, length-take j bytes) in
             inr (at_gate l (take j bytes) going here long
-            ∙ ap (λ (g : ℕ). gate_by l g (number (drop 1 (take j bytes)))) (get_or-take j bytes 0 0 (omega (arith, few)))
+            ∙ ap (λ (g : ℕ). gate_by l g (batch_length (drop 1 (take j bytes)))) (get_or-take j bytes 0 0 (omega (arith, few)))
             ∙ same_size few
             ∙ sym (at_gate l bytes going here (omega (arith, long, length-take j bytes)))))
       ]
@@ -103,8 +110,8 @@ module _ (l : LeftLog) (j : ℕ) (bytes : List ℕ) where
       number_in : (at : ℕ) → at + 4 ≤ j → number (drop at (take j bytes)) ≡ number (drop at bytes)
       number_in at fits = ap (λ (four : List ℕ). from_be_bytes w32 four) (take_in j bytes at 4 fits)
 
-      same_size : 5 ≤ j → gate_by l (slice_index bytes 0) (number (drop 1 (take j bytes))) ≡ gate_by l (slice_index bytes 0) (number (drop 1 bytes))
-      same_size few = ap (λ (n : ℕ). gate_by l (slice_index bytes 0) n) (number_in 1 (omega (arith, few)))
+      same_size : 5 ≤ j → gate_by l (slice_index bytes 0) (batch_length (drop 1 (take j bytes))) ≡ gate_by l (slice_index bytes 0) (batch_length (drop 1 bytes))
+      same_size few = ap (λ (n : ℕ). gate_by l (slice_index bytes 0) n) (same_length (drop 1 (take j bytes)) (drop 1 bytes) (take_in j bytes 1 4 (omega (arith, few))))
 
       same_head : 33 ≤ j → record_by l (number (take j bytes)) (slice_index (take j bytes) 4) (number (drop 29 (take j bytes))) ≡ record_by l (number bytes) (slice_index bytes 4) (number (drop 29 bytes))
       same_head few =

@@ -5,21 +5,21 @@ use Rattle.std.specs.Int.{w32, from_be_bytes}
 use Rattle.std.proofs.lemmas.Bool.{cases_Bool, cases_eq, cases_lt, cond-true, cond-false, eq-eqb, ne_eqb, le-ltb}
 use Rattle.im_base_types.specs.Records.{Logged}
 use Rattle.im_files_guard.specs.declared.left_log.LeftLog.{LeftLog}
-use Rattle.im_files_guard.specs.LeftLog.{copied_step, leaves_batch, noted_step, number, over, says_nothing, step_of, sum}
+use Rattle.im_files_guard.specs.LeftLog.{copied_step, leaves_batch, noted_step, over, says_nothing, step_of, sum}
 use Rattle.im_log_gate.specs.Batches.{batch, batch_length, batches, batches_from, in_front, is_whole, size_of}
 use Rattle.im_log_gate.proofs.BatchLemmas.{Sizes, batch_long, sizes}
 use Rattle.im_log_gate.proofs.Reading.{broken, ends_here, missing, steps}
 use Rattle.im_log_gate.proofs.Starts.{gate_behind}
 use Rattle.im_log_header.specs.Header.{first_gate}
 use Rattle.im_log_record.specs.Entry.{Entry, page_of}
-use Rattle.im_log_record.specs.Kind.{kind_of, number_of}
+use Rattle.im_log_record.specs.Kind.{kind_at, kind_of, number_of}
 use Rattle.im_log.specs.Kept.{HasLog}
 use Rattle.im_log.specs.Spelled.{batches_records, first_record, logged_at, record_size, records_from}
 use Rattle.im_log.proofs.Spells.{First, batch_none, batch_step, first, log_records, log_room, none, not_refused, step}
 use Rattle.im_theory_log.specs.Histories.{History, IsRecordOf}
 use Rattle.im_engine_guards.specs.Walks.{Begins, IsAtEnd, walked}
 use Rattle.im_engine_guards.proofs.Heads.{Heads, heads}
-use Rattle.im_engine_guards.proofs.Pieces.{at_gate, at_head, at_over, drop_taken, gate_by, gate_short, passed, record_by, take_in, take_none, walked_on}
+use Rattle.im_engine_guards.proofs.Pieces.{at_gate, at_head, at_over, drop_taken, gate_by, gate_short, number, passed, record_by, take_in, take_none, walked_on}
 
 -- ---- records that bytes spell
 
@@ -138,7 +138,7 @@ pub record Stays (place : ℕ) (l m : LeftLog) : Type 0 where
   pub current : m.is_current ≡ l.is_current
 
 pub passed_stays : (l : LeftLog) (place kind page : ℕ) → Stays place l (passed l place kind page)
-passed_stays l place kind page = by (says_nothing l.is_current kind) l.is_current
+passed_stays l place kind page = by (says_nothing l.is_current (kind_at kind)) l.is_current
   where
     by : (t c : Bool) → Stays place l (if t then record l { place = place } else (if c then copied_step l place page else noted_step l place page))
     by true c = record { at = refl; end = refl; based = refl; over = refl; current = refl }
@@ -243,7 +243,7 @@ module _ (file : List ℕ) (base : ℕ) (log : History) where
         does = elim (cases_lt (length (drop l.place file)) 5) [
           | inl few ↦ inl (gate_short l (drop l.place file) s.going is_gate few)
           | inr long ↦ inr (at_gate l (drop l.place file) s.going is_gate long
-              ∙ gate_shut l (slice_index (drop l.place file) 0) (number (drop 1 (drop l.place file))) (λ one. other (sym gate_byte ∙ one)))
+              ∙ gate_shut l (slice_index (drop l.place file) 0) (batch_length (drop 1 (drop l.place file))) (λ one. other (sym gate_byte ∙ one)))
         ];
       }
         where
@@ -275,9 +275,8 @@ module _ (file : List ℕ) (base : ℕ) (log : History) where
         sizes_are : size_of a.rest ≡ 5 + length (batch behind) + size_of next.rest
         sizes_are = ap size_of next.all_is
 
-        size_said : number (drop 1 (drop l.place file)) ≡ n
-        unfolding batch_length
-        size_said = ap (λ (bytes : List ℕ). from_be_bytes w32 (take 4 bytes)) (drop-drop 1 l.place file)
+        size_said : batch_length (drop 1 (drop l.place file)) ≡ n
+        size_said = ap batch_length (drop-drop 1 l.place file)
 
         -- it lies where the walk goes on
         batch_at : take (l.place + 5 + n - (l.place + 5)) (drop (l.place + 5) file) ≡ batch behind
@@ -304,7 +303,7 @@ module _ (file : List ℕ) (base : ℕ) (log : History) where
             record {
               end = l.place + 5 + n;
               does = at_gate l (drop l.place file) s.going is_gate (omega (arith, far, wide, least, there))
-                  ∙ ap (λ (g : ℕ). gate_by l g (number (drop 1 (drop l.place file)))) gate_byte
+                  ∙ ap (λ (g : ℕ). gate_by l g (batch_length (drop 1 (drop l.place file)))) gate_byte
                   ∙ ap (λ (m : ℕ). gate_by l (get_or file l.place 0) m) size_said
                   ∙ gate_open l (get_or file l.place 0) n one least most (omega (arith, room, are, long));
               at = record {

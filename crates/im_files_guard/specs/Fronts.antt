@@ -1,10 +1,9 @@
 -- What the first bytes of a log say, in the words of headers and records.
 use Rattle.std.specs.Prelude.{◌≡◌, ◌≤◌, ◌<◌, ◌+◌, ℕ, Bool, true, false, List, length, take, drop, slice_index, slice_set, Option, Some, None}
-use Rattle.std.specs.Int.{w64, from_be_bytes}
 use Rattle.im_log_header.specs.Header.{base_of, first_gate, generation_of, least_number, says_made, says_second, IsMade, IsSecond}
 use Rattle.im_log_record.specs.declared.kind.Kind.{Kind}
 use Rattle.im_log_record.specs.declared.kind.Kind.TheVariants.{InsertKey, DeleteKey, UndoInsert, UndoDelete, Smo, UndoSmo, DummyClr, Commit, End, Image, Checkpoint}
-use Rattle.im_log_record.specs.Kind.{kind_at}
+use Rattle.im_log_record.specs.FirstBytes.{kind_in, transaction_in}
 use Rattle.im_files_guard.specs.declared.folder.Front.{Front}
 
 -- The bytes of a log that were read, as far as the file goes.
@@ -38,11 +37,11 @@ kind_changes (Some End) = false
 kind_changes (Some Image) = false
 kind_changes (Some Checkpoint) = false
 
--- The first gate of a log of either format is open, and the record after it, whose kind stands nine bytes on, changes a page.
+-- The first gate of a log of either format is open, and the first record, which comes after the length of its batch, changes a page.
 pub record HasChangeFirst (log : List ℕ) : Type 0 where
   pub whole : IsMade log
   pub opened : gate_byte log ≡ 1
-  pub changes : kind_changes (kind_at (slice_index log (first_gate log + 9))) ≡ true
+  pub changes : kind_changes (kind_in (drop (first_gate log + 5) log)) ≡ true
 
 -- A log begins so.
 abbrev pub BeginsWithChange : Front → Type 0
@@ -56,7 +55,7 @@ mended front = record front { bytes = slice_set front.bytes 0 1 }
 
 -- the number of the transaction that the first record of the second format is of
 abbrev pub first_transaction : Front → ℕ
-first_transaction front = from_be_bytes w64 (take 8 (drop 57 front.bytes))
+first_transaction front = transaction_in (drop 52 front.bytes)
 
 -- The first record is of a transaction that the header allows, and the header allows none that is older than the other log.
 pub record HasOwnRecord (front other : Front) : Type 0 where

@@ -1,12 +1,12 @@
 -- What the log that was left says of the pages.
-use Rattle.std.specs.Prelude.{◌⊎◌, ◌<◌, ◌+◌, ◌-◌, ◌^◌, ◌==◌, ◌||◌, min, not, if◌then◌else◌, nat_lt, ℕ, zero, suc, Bool, true, false, List, length, take, drop, slice_index, Option, Some, None}
-use Rattle.std.specs.Int.{w32, from_be_bytes}
+use Rattle.std.specs.Prelude.{◌⊎◌, ◌<◌, ◌+◌, ◌-◌, ◌^◌, ◌==◌, ◌||◌, min, not, if◌then◌else◌, nat_lt, ℕ, zero, suc, Bool, true, false, List, length, drop, slice_index, Option, Some, None}
 use Rattle.im_files_guard.specs.declared.folder.Folder.{Folder}
 use Rattle.im_files_guard.specs.declared.left_log.LeftLog.{LeftLog}
 use Rattle.im_log_header.specs.Header.{base_of, first_gate}
+use Rattle.im_log_gate.specs.Batches.{batch_length}
 use Rattle.im_log_record.specs.declared.kind.Kind.{Kind}
 use Rattle.im_log_record.specs.declared.kind.Kind.TheVariants.{InsertKey, DeleteKey, UndoInsert, UndoDelete, Smo, UndoSmo, DummyClr, Commit, End, Image, Checkpoint}
-use Rattle.im_log_record.specs.Kind.{kind_at}
+use Rattle.im_log_record.specs.FirstBytes.{kind_in, page_in, size_in}
 use Rattle.im_files_guard.specs.Fronts.{front_says_made, kind_changes, shown}
 use Rattle.im_files_guard.specs.Belonging.{current, left, other_is_current}
 
@@ -39,19 +39,15 @@ current_log_of f l = record l {
 abbrev pub sum : ℕ → ℕ → ℕ
 sum a b = min (a + b) (2 ^ 64 - 1)
 
--- the number in the first four bytes
-abbrev pub number : List ℕ → ℕ
-number bytes = from_be_bytes w32 (take 4 bytes)
-
 abbrev pub over : LeftLog → LeftLog
 over l = record l { is_over = true }
 
 -- Over a gate, where it is open and a length in range stands after it.
 abbrev pub gate_step : LeftLog → List ℕ → LeftLog
 gate_step l bytes =
-    if not (slice_index bytes 0 == 1) || (number (drop 1 bytes) == 0) || nat_lt 16384 (number (drop 1 bytes))
+    if not (slice_index bytes 0 == 1) || (batch_length (drop 1 bytes) == 0) || nat_lt 16384 (batch_length (drop 1 bytes))
     then over l
-    else record l { place = sum l.place 5; end = sum (sum l.place 5) (number (drop 1 bytes)) }
+    else record l { place = sum l.place 5; end = sum (sum l.place 5) (batch_length (drop 1 bytes)) }
 
 -- Over a record of the log that was left which changes this page, to this place.
 abbrev pub noted_step : LeftLog → (place page : ℕ) → LeftLog
@@ -84,17 +80,17 @@ kind_copies (Some Image) = true
 kind_copies (Some Checkpoint) = false
 
 -- A record of this kind says nothing: in the log that was left it changes no page, in the current one it has no full copy.
-abbrev pub says_nothing : Bool → ℕ → Bool
-says_nothing current kind = not (if current then kind_copies (kind_at kind) else kind_changes (kind_at kind))
+abbrev pub says_nothing : Bool → Option Kind → Bool
+says_nothing current kind = not (if current then kind_copies kind else kind_changes kind)
 
 -- Over a record, where it ends within the batch.
 abbrev pub record_step : LeftLog → List ℕ → LeftLog
 record_step l bytes =
-    if leaves_batch l (number bytes)
+    if leaves_batch l (size_in bytes)
     then over l
-    else (if says_nothing l.is_current (slice_index bytes 4)
-    then record l { place = sum l.place (number bytes) }
-    else found_step l (sum l.place (number bytes)) (number (drop 29 bytes)))
+    else (if says_nothing l.is_current (kind_in bytes)
+    then record l { place = sum l.place (size_in bytes) }
+    else found_step l (sum l.place (size_in bytes)) (page_in bytes))
 
 -- One step on, by the bytes from the wanted place on; none where they are too few.
 abbrev pub step_of : LeftLog → List ℕ → LeftLog

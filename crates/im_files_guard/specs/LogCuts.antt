@@ -1,18 +1,18 @@
 -- What may go of the logs of a closed store.
 use Rattle.std.specs.Prelude.{◌≡◌, ◌↔◌, ◌+◌, ◌-◌, ◌==◌, ◌&&◌, not, if◌then◌else◌, nat_le, nat_lt, ℕ, Bool, ◌++◌, length, take, drop, replicate, slice_index, Result}
-use Rattle.std.specs.Int.{w32, from_be_bytes}
 use Rattle.im_files_guard.specs.declared.folder.Folder.{Folder}
 use Rattle.im_files_guard.specs.declared.folder.Front.{Front}
 use Rattle.im_files_guard.specs.declared.belonging.Logs.{Logs}
 use Rattle.im_files_guard.specs.declared.belonging.Apart.{Apart}
 use Rattle.im_files_guard.specs.declared.log_cuts.LogCuts.{LogCuts}
+use Rattle.im_log_gate.specs.Batches.{batch_length}
 use Rattle.im_log_header.specs.Header.{first_gate, generation_of}
 use Rattle.im_files_guard.specs.Fronts.{front_says_made, front_says_second, gate_byte, shown}
 use Rattle.im_files_guard.specs.Belonging.{current, left, other_is_current, IsVerdict}
 
--- how long the records of the batch after the gate at a place are, as the four bytes after that say
+-- how long the records of the batch after the gate at a place are
 abbrev pub size_at : ℕ → Front → ℕ
-size_at gate front = from_be_bytes w32 (take 4 (drop (gate + 1) front.bytes))
+size_at gate front = batch_length (drop (gate + 1) front.bytes)
 
 -- where they end
 abbrev pub end_at : ℕ → Front → ℕ

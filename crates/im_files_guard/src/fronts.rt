@@ -1,16 +1,16 @@
 //! What the first bytes of a log say.
 ghost use Rattle.std.specs.Prelude.{◌≡◌, ◌↔◌, ◌<◌, ◌≤◌, ◌+◌, true, drop, length, slice_index, take};
-ghost use Rattle.std.specs.Int.{w64, from_be_bytes};
 ghost use Rattle.im_log_header.specs.Header.{base_of, first_gate, generation_of, IsMade, IsSecond};
 ghost use Rattle.im_log_header.specs.Start.{SaysStart};
-ghost use Rattle.im_log_record.specs.Kind.{kind_at};
+ghost use Rattle.im_log_record.specs.FirstBytes.{kind_in};
 ghost use Rattle.im_files_guard.specs.Fronts.{first_transaction, front_says_made, front_says_second, gate_byte, kind_changes, mended, shown, BeginsWithChange, HasOwnRecord, LacksFirstByte};
 
 use crate::folder::{FRONT, Front};
+use im_log_gate::AHEAD;
 use im_log_header::{
     LogStart, has_second_header, is_made_log, is_second_log, is_whole_log, start_of,
 };
-use im_log_record::Kind;
+use im_log_record::{Kind, kind_of, transaction_of};
 
 // The bytes that were read, as far as the file goes.
 fn shown(front: &Front) -> &[u8]
@@ -84,14 +84,14 @@ fn byte(front: &Front, place: u64) -> u8
 pub(crate) fn is_open(front: &Front) -> bool
     ensures { (result ≡ true) ↔ (gate_byte (shown front.now) ≡ 1) }
 {
-    byte(front, first_gate(front)) == 1
+    im_log_gate::is_open(byte(front, first_gate(front)))
 }
 
 /// A record of this kind changes a page.
-pub(crate) fn changes_page(kind: u8) -> bool
-    ensures { result ≡ kind_changes (kind_at kind) }
+pub(crate) fn changes_page(kind: Option<Kind>) -> bool
+    ensures { result ≡ kind_changes kind }
 {
-    match Kind::from_number(kind) {
+    match kind {
         Some(
             Kind::InsertKey
             | Kind::DeleteKey
@@ -104,11 +104,24 @@ pub(crate) fn changes_page(kind: u8) -> bool
     }
 }
 
+// What was read of the first record.
+fn first_record(front: &Front) -> &[u8]
+    ensures { result.now ≡ drop (first_gate (shown front.now) + 5) (shown front.now) }
+{
+    let bytes = shown(front);
+    let place = first_gate(front) as usize + AHEAD;
+    if place < bytes.len() {
+        &bytes[place..]
+    } else {
+        &[]
+    }
+}
+
 // The record after the first gate is of a kind that changes a page.
 fn has_change_first(front: &Front) -> bool
-    ensures { result ≡ kind_changes (kind_at (slice_index (shown front.now) (first_gate (shown front.now) + 9))) }
+    ensures { result ≡ kind_changes (kind_in (drop (first_gate (shown front.now) + 5) (shown front.now))) }
 {
-    changes_page(byte(front, first_gate(front) + 9))
+    changes_page(kind_of(first_record(front)))
 }
 
 // It is a log of either format.
@@ -158,9 +171,7 @@ fn is_later(made: &Front, other: &Front) -> bool
 fn transaction(front: &Front) -> u64
     ensures { result ≡ first_transaction front.now }
 {
-    let mut number = [0; 8];
-    number.copy_from_slice(&front.bytes[57..65]);
-    u64::from_be_bytes(number)
+    transaction_of(&front.bytes[52..])
 }
 
 // The first record is of a transaction that the header allows, and the header allows none that is older than the other log.

@@ -1,20 +1,13 @@
 //! What the log that was left says of the pages, as far as the current one has no copies of them.
-ghost use Rattle.std.specs.Prelude.{◌≡◌, ◌≤◌, ◌↔◌, true, false, drop, length, take};
-ghost use Rattle.std.specs.Int.{w32, from_be_bytes};
-ghost use Rattle.im_log_record.specs.Kind.{kind_at};
+ghost use Rattle.std.specs.Prelude.{◌≡◌, ◌≤◌, ◌↔◌, true, false, drop, length};
 ghost use Rattle.im_files_guard.specs.LeftLog.{copied_step, current_log_of, found_step, gate_step, kind_copies, leaves_batch, left_log_of, noted_step, record_step, says_nothing, step_of, walk, IsOlder};
 
 use crate::folder::{Folder, Front};
 use crate::fronts::{base, changes_page, first_gate, is_made};
 use crate::pages::{current_of, has_current_other, left_of};
 use im_base_types::LONGEST_BATCH;
-use im_log_record::Kind;
-
-/// What stands in front of a batch's records: its gate and its length.
-pub(crate) const AHEAD: u64 = 5;
-
-/// What each record begins with, up to its page.
-pub(crate) const HEAD: u64 = 33;
+use im_log_gate::{AHEAD, is_open, length_of};
+use im_log_record::{HEAD, Kind, kind_of, page_of, size_of};
 
 /// A walk by the heads of batches and records, over the log that was left, and then over the current one. The first says which change was the newest before the current log
 /// began, and which page the greatest that had one; the second of which pages it has full copies.
@@ -41,29 +34,19 @@ pub struct LeftLog {
     pub is_current: bool,
 }
 
-// The number in the first four bytes.
-fn number(bytes: &[u8]) -> u32
-    requires room { 4 ≤ length bytes.now }
-    ensures { result ≡ from_be_bytes w32 (take 4 bytes.now) }
-{
-    let mut number = [0; 4];
-    number.copy_from_slice(&bytes[..4]);
-    u32::from_be_bytes(number)
-}
-
 // Over a gate, where it is open and a length in range stands after it.
 fn over_gate(left: LeftLog, bytes: &[u8]) -> LeftLog
     requires room { 5 ≤ length bytes.now }
     ensures { result ≡ gate_step left bytes.now }
 {
-    let size = u64::from(number(&bytes[1..]));
-    if bytes[0] != 1 || size == 0 || size > LONGEST_BATCH as u64 {
+    let size = u64::from(length_of(&bytes[1..]));
+    if !is_open(bytes[0]) || size == 0 || size > LONGEST_BATCH as u64 {
         return LeftLog {
             is_over: true,
             ..left
         };
     }
-    let place = left.place.saturating_add(AHEAD);
+    let place = left.place.saturating_add(AHEAD as u64);
     LeftLog {
         place,
         end: place.saturating_add(size),
@@ -120,21 +103,21 @@ fn found(left: LeftLog, place: u64, page: u32) -> LeftLog
 fn leaves(left: &LeftLog, size: u64) -> bool
     ensures { result ≡ leaves_batch left.now size }
 {
-    size < HEAD || left.place.saturating_add(size) > left.end
+    size < HEAD as u64 || left.place.saturating_add(size) > left.end
 }
 
 // A record of this kind has a full copy of its page.
-fn has_copy(kind: u8) -> bool
-    ensures { result ≡ kind_copies (kind_at kind) }
+fn has_copy(kind: Option<Kind>) -> bool
+    ensures { result ≡ kind_copies kind }
 {
-    match Kind::from_number(kind) {
+    match kind {
         Some(Kind::Smo | Kind::UndoSmo | Kind::Image) => true,
         _ => false,
     }
 }
 
 // A record of this kind says nothing: in the log that was left it changes no page, in the current one it has no full copy.
-fn is_passed(is_current: bool, kind: u8) -> bool
+fn is_passed(is_current: bool, kind: Option<Kind>) -> bool
     ensures { result ≡ says_nothing is_current kind }
 {
     if is_current {
@@ -149,7 +132,7 @@ fn over_record(left: LeftLog, bytes: &[u8]) -> LeftLog
     requires room { 33 ≤ length bytes.now }
     ensures { result ≡ record_step left bytes.now }
 {
-    let size = u64::from(number(bytes));
+    let size = u64::from(size_of(bytes));
     if leaves(&left, size) {
         return LeftLog {
             is_over: true,
@@ -157,10 +140,10 @@ fn over_record(left: LeftLog, bytes: &[u8]) -> LeftLog
         };
     }
     let place = left.place.saturating_add(size);
-    if is_passed(left.is_current, bytes[4]) {
+    if is_passed(left.is_current, kind_of(bytes)) {
         return LeftLog { place, ..left };
     }
-    found(left, place, number(&bytes[29..]))
+    found(left, place, page_of(bytes))
 }
 
 // One step on, by the bytes from the place on that is wanted; none where they are too few.
@@ -170,12 +153,12 @@ fn step(left: LeftLog, bytes: &[u8]) -> LeftLog
     if left.is_over {
         left
     } else if left.place == left.end {
-        if bytes.len() < 5 {
+        if bytes.len() < AHEAD {
             left
         } else {
             over_gate(left, bytes)
         }
-    } else if bytes.len() < 33 {
+    } else if bytes.len() < HEAD {
         left
     } else {
         over_record(left, bytes)
@@ -197,8 +180,8 @@ fn is_stuck(left: &LeftLog, bytes: &[u8]) -> bool
     ensures { result ≡ true → step_of left.now bytes.now ≡ left.now }
 {
     left.is_over
-        || (left.place == left.end && bytes.len() < 5)
-        || (left.place != left.end && bytes.len() < 33)
+        || (left.place == left.end && bytes.len() < AHEAD)
+        || (left.place != left.end && bytes.len() < HEAD)
 }
 
 impl LeftLog {

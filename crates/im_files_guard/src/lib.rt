@@ -4,8 +4,8 @@
 //! and the beginning of its page 0.
 //!
 //! `belong` decides it before a file is made or a byte is written: which log is the current one, or why the files do not belong together. It is asked by
-//! whoever opens a folder, in Rattle and in C (`decide` answers a number). What the beginning of a log says it asks of `im_log_header`, and of
-//! `im_log_record` what the kind of a record is.
+//! whoever opens a folder, in Rattle and in C (`decide` answers a number). What the beginning of a log says it asks of `im_log_header`, of
+//! `im_log_gate` what stands in front of a batch, and of `im_log_record` what the first bytes of a record say.
 //!
 //! After a switch the log that was left tells an older file of pages: `LeftLog` walks over it, a piece at a time, to its newest change, and over the current log for the
 //! copies that this has of pages; `is_older` asks whether the file has that change. `LogCuts` says what of the logs may go once the store was closed in order: of the one that

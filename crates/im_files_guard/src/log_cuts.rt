@@ -1,13 +1,13 @@
 //! What may go of the logs of a closed store: of the one that was left all after its first batch, of the current one, where it has no record, all after its closed gate.
-ghost use Rattle.std.specs.Prelude.{◌≡◌, ◌≤◌, drop, take};
-ghost use Rattle.std.specs.Int.{w32, from_be_bytes};
+ghost use Rattle.std.specs.Prelude.{◌≡◌, ◌≤◌};
 ghost use Rattle.im_files_guard.specs.LogCuts.{end_at, end_of, first_end, gone_of, has_batch_at, is_empty, kept_at, kept_of, log_cuts_of, size_at, was_left, CutsAreSound};
 
 use crate::folder::{Folder, Front};
 use crate::fronts::{first_gate, generation, is_made, is_open, is_second};
-use crate::left_log::{AHEAD, HEAD};
 use crate::pages::{current_of, has_current_other, left_of};
 use im_base_types::LONGEST_BATCH;
+use im_log_gate::{AHEAD, length_of};
+use im_log_record::HEAD;
 
 /// How much of the logs of a closed store stays, and how much may go. An opening reads no byte of the log that was left but its header, and then, to tell an older file of pages, one
 /// record after another from the first: what stays tells a file of pages from before that log, and one from that log's own time no more. Of the current log it reads nothing after the
@@ -27,22 +27,12 @@ pub struct LogCuts {
     pub is_log2: bool,
 }
 
-// The number in the four bytes from this place on.
-fn number_in(front: &Front, at: usize) -> u32
-    requires within { at ≤ 61 }
-    ensures { result ≡ from_be_bytes w32 (take 4 (drop at front.now.bytes)) }
-{
-    let mut number = [0; 4];
-    number.copy_from_slice(&front.bytes[at..at + 4]);
-    u32::from_be_bytes(number)
-}
-
 // How long the records of the batch after the gate at this place are.
 fn batch_size(front: &Front, gate: usize) -> u32
     requires within { gate ≤ 60 }
     ensures { result ≡ size_at gate front.now }
 {
-    number_in(front, gate + 1)
+    length_of(&front.bytes[gate + 1..])
 }
 
 // Where they end.
@@ -50,7 +40,7 @@ fn batch_end(front: &Front, gate: usize) -> u64
     requires within { gate ≤ 60 }
     ensures { result ≡ end_at gate front.now }
 {
-    gate as u64 + AHEAD + u64::from(batch_size(front, gate))
+    gate as u64 + AHEAD as u64 + u64::from(batch_size(front, gate))
 }
 
 // The batch after the gate at this place is there.
@@ -60,7 +50,10 @@ fn has_batch(front: &Front, gate: usize) -> bool
 {
     let size = u64::from(batch_size(front, gate));
     let end = batch_end(front, gate);
-    front.bytes[gate] == 1 && HEAD <= size && size <= LONGEST_BATCH as u64 && end <= front.long
+    im_log_gate::is_open(front.bytes[gate])
+        && HEAD as u64 <= size
+        && size <= LONGEST_BATCH as u64
+        && end <= front.long
 }
 
 // The end of that batch, 0 where it is not there.
