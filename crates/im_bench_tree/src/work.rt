@@ -12,7 +12,7 @@ use im_engine_index::{LockAnswer, fetch};
 use im_engine_locks::LockTable;
 use im_log::open_or_create;
 use im_page_writer::PageWriter;
-use im_tree_search::locate;
+use im_tree_search::{Beside, Sight, locate};
 use std::alloc::Global;
 
 /// A disk with a new log, and these pages.
@@ -82,8 +82,10 @@ pub fn found_locked<D: Disk>(
     let mut found = 0u64;
     for round in 0..rounds {
         let number = scattered(round) % keys.max(1);
-        match fetch(writer, disk, locks, 1, &key_of(number))? {
-            LockAnswer::Granted(Some(rid)) if rid == number => found = found.wrapping_add(1),
+        match fetch(writer, disk, locks, 1, &key_of(number), Beside::none())? {
+            Sight::Seen(LockAnswer::Granted(Some(rid))) if rid == number => {
+                found = found.wrapping_add(1)
+            }
             _ => {}
         }
         if round % LOOK_UPS == LOOK_UPS - 1 {

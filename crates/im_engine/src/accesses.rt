@@ -11,7 +11,7 @@ use im_base_disk::Disk;
 use im_base_steps::{Blocker, Reply};
 use im_base_txn::Mark;
 use im_base_types::{Fault, TxnId};
-use im_engine_index::{LockAnswer, fetch_beside, prev_beside, scan_beside, seek_beside};
+use im_engine_index::{LockAnswer, fetch, prev, scan, seek};
 use im_tree_search::Sight;
 
 // A refusal of the calls below, as a store answers it.
@@ -105,7 +105,7 @@ impl<D: Disk> Engine<D> {
         ensures { IsMade D.Disk (answers.Do t (answers.Fetch key.now)) result self.old self.new }
     {
         self.failed = true;
-        let came = fetch_beside(
+        let came = fetch(
             &mut self.writer,
             &mut self.disk,
             &mut self.locks,
@@ -127,7 +127,7 @@ impl<D: Disk> Engine<D> {
         ensures { IsMade D.Disk (answers.Do t (seek_at inclusive key.now)) result self.old self.new }
     {
         self.failed = true;
-        let came = seek_beside(
+        let came = seek(
             &mut self.writer,
             &mut self.disk,
             &mut self.locks,
@@ -150,7 +150,7 @@ impl<D: Disk> Engine<D> {
         ensures { IsMade D.Disk (answers.Do t (answers.Prev key.now)) result self.old self.new }
     {
         self.failed = true;
-        let came = prev_beside(
+        let came = prev(
             &mut self.writer,
             &mut self.disk,
             &mut self.locks,
@@ -172,7 +172,7 @@ impl<D: Disk> Engine<D> {
         ensures { IsMade D.Disk (answers.Do t (answers.Scan lo.now hi.now limit)) result self.old self.new }
     {
         self.failed = true;
-        let came = scan_beside(
+        let came = scan(
             self.alloc,
             &mut self.writer,
             &mut self.disk,

@@ -8,8 +8,8 @@
 //! - `fetch` answers the row id of a key.
 //! - `seek` answers the first entry at or above a key, or above it; `prev` the last below it.
 //! - `scan` answers the entries of a range.
-//! - `fetch_beside`, `seek_beside`, `prev_beside` and `scan_beside` answer the same beside another transaction's structure change that is made page
-//!   by page (`Beside`), as over the tree from before it; where they would have to read a page that is made, they are hidden, and ask no lock.
+//! - Beside another transaction's structure change that is made page by page (`Beside`) these four answer as over the tree from before it; where
+//!   they would have to read a page that is made, they are hidden, and ask no lock. Beside none, nothing is.
 //! - `ask_delete` asks the locks of a delete, and holds the leaf where it goes.
 //! - `log_insert` and `log_delete` log the change on that leaf, after which the log is lawful and the transaction not finished. Another
 //!   transaction's structure change may be open that has not changed that leaf.
@@ -37,7 +37,6 @@ mod noted;
 mod place;
 mod plan;
 mod reads;
-mod reads_beside;
 mod scans;
 
 pub use begun::{Deleting, Inserting};
@@ -51,5 +50,4 @@ pub use logging::{log_delete, log_insert};
 pub use noted::{Noted, Taken};
 pub use place::Place;
 pub use reads::{fetch, prev, seek};
-pub use reads_beside::{fetch_beside, prev_beside, seek_beside};
-pub use scans::{scan, scan_beside};
+pub use scans::scan;

@@ -11,7 +11,6 @@ ghost use Rattle.im_page_writer.specs.Outcome.{fault_of, AllPages, IsSound};
 ghost use Rattle.im_engine_index.specs.LockCalls.{AsksLocks};
 ghost use Rattle.im_theory_tree.specs.Levels.{walk};
 ghost use Rattle.im_tree_search.specs.Levels.{bodies_of};
-ghost use Rattle.im_tree_search.specs.Found.{HasTree};
 ghost use Rattle.im_tree_search.specs.NextKeys.{IsFar};
 ghost use Rattle.im_tree_search.specs.Sights.{HasTreeBut, IfSeen};
 ghost use Rattle.im_theory_machine.specs.Rows.{asked};
@@ -19,7 +18,7 @@ ghost use Rattle.im_engine_locks.specs.Found.{IsScanOf};
 ghost use Rattle.im_engine_locks.specs.Requests.{named_if};
 ghost use Rattle.im_theory_machine.specs.Table.{Decides, SameLasting, SameTable};
 ghost use Rattle.im_engine_index.specs.LockAnswers.{name_behind, entries_found, IfGranted};
-ghost use Rattle.im_engine_index.specs.Reads.{IsRead, IsReadBeside};
+ghost use Rattle.im_engine_index.specs.Reads.{IsReadBeside};
 
 use crate::asking::outcome_of;
 use crate::lock_answer::LockAnswer;
@@ -28,7 +27,7 @@ use im_base_types::{Fault, Key, MOST_ENTRIES, Rid, TxnId, compare};
 use im_engine_locks::{LockTable, Name, scan_row};
 use im_page_writer::PageWriter;
 use im_theory_machine::Verdict;
-use im_tree_search::{Beside, NextKey, Sight, entries_between, entries_between_beside};
+use im_tree_search::{Beside, NextKey, Sight, entries_between_beside};
 use std::alloc::Global;
 
 // A limit, brought into 1 to 256.
@@ -74,35 +73,6 @@ fn ask_range(
     locks.try_all(transaction, requests.as_slice())
 }
 
-/// Copies of the entries from `lo` to `hi`, in rising key order, the first `limit` of them, which is brought into 1 to 256, and never
-/// more (`most`). The lock of each entry is asked and, where they are fewer than the limit, that of the first key above `hi`, else of
-/// the name past the last key; where `hi` is below `lo` there is no entry, and no lock is asked.
-///
-/// Refused as `im_tree_search::entries_between` is, and `Memory` where it is wanted for the locks. After a refusal, `Wait` and `Die` nobody
-/// holds another lock than before.
-pub fn scan<D: Disk>(
-    alloc: Global,
-    writer: &mut PageWriter,
-    disk: &mut D,
-    locks: &mut LockTable,
-    transaction: TxnId,
-    lo: &[u8],
-    hi: &[u8],
-    limit: usize,
-) -> Result<LockAnswer<Vec<(Key, Rid)>>, Fault>
-    requires ready { IsReadyWriter D.Disk writer.old disk.old }
-    ensures outcome { AsksLocks D.Disk writer.old disk.old writer.new disk.new (fault_of result) }
-    ensures kept { (pages : AllPages) (m : IndexMap) → HasTree D.Disk pages writer.old disk.old → walk (bodies_of pages) ≡ entries m
-        → IsSound result (IsRead entries_found transaction (Scan lo.now hi.now limit) m locks.old locks.new) }
-    ensures most { IfOk result (λ outcome. IfGranted outcome (λ list. length list.items ≤ limit_of limit)) }
-    ensures table { OnErr result (SameTable locks.old locks.new) }
-    ensures lasting { OnErr result (SameLasting locks.old locks.new) }
-{
-    let (list, behind) = entries_between(alloc, writer, disk, lo, hi, bounded(limit))?;
-    let verdict = ask_range(alloc, locks, transaction, list.as_slice(), &behind)?;
-    Ok(outcome_of(verdict, list))
-}
-
 // Whether a range is empty by its bounds.
 fn lacks_keys(lo: &[u8], hi: &[u8]) -> bool
     ensures { result ≡ is_below hi.now lo.now }
@@ -110,12 +80,15 @@ fn lacks_keys(lo: &[u8], hi: &[u8]) -> bool
     compare(hi, lo).is_lt()
 }
 
-/// What `scan` answers, beside a structure change of another transaction that is made page by page. It is hidden where a page that is made
-/// stands on the way to `lo`, or where the walk along the leaves comes to before it has `limit` entries; then no lock was asked. Where `hi`
-/// is below `lo` nothing is read, and so nothing is hidden.
+/// Copies of the entries from `lo` to `hi`, in rising key order, the first `limit` of them, which is brought into 1 to 256, and never
+/// more (`most`). The lock of each entry is asked and, where they are fewer than the limit, that of the first key above `hi`, else of
+/// the name past the last key. It is hidden where a page that a structure change of another transaction makes stands on the way to `lo`, or where
+/// the walk along the leaves comes to before it has `limit` entries; then no lock was asked. Where `hi` is below `lo` nothing is read, and so
+/// nothing is hidden and no lock is asked.
 ///
-/// Refused as `scan` is.
-pub fn scan_beside<D: Disk>(
+/// Refused as `im_tree_search::entries_between_beside` is, and `Memory` where it is wanted for the locks. After a refusal, `Wait` and `Die` nobody
+/// holds another lock than before.
+pub fn scan<D: Disk>(
     alloc: Global,
     writer: &mut PageWriter,
     disk: &mut D,

@@ -9,6 +9,7 @@ use im_engine_index::{LockAnswer, Place, ask_delete, fetch, prev, scan, seek};
 use im_engine_locks::{LockTable, Name, Request};
 use im_page_writer::PageWriter;
 use im_theory_machine::{Duration, Mode, Verdict};
+use im_tree_search::{Beside, Sight, leaf_for};
 use std::alloc::Global;
 use std::test::Fail;
 
@@ -46,6 +47,8 @@ enum Told {
     Die,
     Held,
     Locked(bool),
+    // Another's structure change hides it.
+    Hidden,
     Refused(Fault),
 }
 
@@ -128,8 +131,9 @@ fn fetched<D: Disk>(
     requires ready { IsReadyWriter D.Disk writer.old disk.old }
     ensures ready { IsReadyWriter D.Disk writer.new disk.new }
 {
-    match fetch(writer, disk, locks, t, key) {
-        Ok(outcome) => told_row(outcome),
+    match fetch(writer, disk, locks, t, key, Beside::none()) {
+        Ok(Sight::Seen(outcome)) => told_row(outcome),
+        Ok(Sight::Hidden) => Told::Hidden,
         Err(fault) => Told::Refused(fault),
     }
 }
@@ -146,8 +150,9 @@ fn sought<D: Disk>(
     requires ready { IsReadyWriter D.Disk writer.old disk.old }
     ensures ready { IsReadyWriter D.Disk writer.new disk.new }
 {
-    match seek(writer, disk, locks, t, key, inclusive) {
-        Ok(outcome) => told_entry(outcome),
+    match seek(writer, disk, locks, t, key, inclusive, Beside::none()) {
+        Ok(Sight::Seen(outcome)) => told_entry(outcome),
+        Ok(Sight::Hidden) => Told::Hidden,
         Err(fault) => Told::Refused(fault),
     }
 }
@@ -163,8 +168,9 @@ fn sought_back<D: Disk>(
     requires ready { IsReadyWriter D.Disk writer.old disk.old }
     ensures ready { IsReadyWriter D.Disk writer.new disk.new }
 {
-    match prev(writer, disk, locks, t, key) {
-        Ok(outcome) => told_entry(outcome),
+    match prev(writer, disk, locks, t, key, Beside::none()) {
+        Ok(Sight::Seen(outcome)) => told_entry(outcome),
+        Ok(Sight::Hidden) => Told::Hidden,
         Err(fault) => Told::Refused(fault),
     }
 }
@@ -182,8 +188,23 @@ fn scanned<D: Disk>(
     requires ready { IsReadyWriter D.Disk writer.old disk.old }
     ensures ready { IsReadyWriter D.Disk writer.new disk.new }
 {
-    match scan(alloc, writer, disk, locks, t, bounds.0, bounds.1, limit) {
-        Ok(outcome) => told_many(outcome),
+    // a writer that has failed says so here
+    if let Err(fault) = leaf_for(writer, disk, bounds.0) {
+        return Told::Refused(fault);
+    }
+    match scan(
+        alloc,
+        writer,
+        disk,
+        locks,
+        t,
+        bounds.0,
+        bounds.1,
+        limit,
+        Beside::none(),
+    ) {
+        Ok(Sight::Seen(outcome)) => told_many(outcome),
+        Ok(Sight::Hidden) => Told::Hidden,
         Err(fault) => Told::Refused(fault),
     }
 }

@@ -9,7 +9,7 @@ use Rattle.im_tree_search.proofs.Sighted.{at_hidden, at_seen}
 use Rattle.im_tree_search.proofs.Walks.{memory_not}
 use Rattle.im_engine_index.specs.LockAnswers.{name_in}
 use Rattle.im_engine_index.proofs.Names.{next_is}
-use Rattle.im_engine_index.proofs.reads_beside.fetch_gap_beside.Goals as goal
+use Rattle.im_engine_index.proofs.reads.fetch_gap.Goals as goal
 
 pub returns-in_err-leaf-clause-outcome : goal.returns-in_err-leaf-clause-outcome
 returns-in_err-leaf-clause-outcome g c = refused g.D.Disk c.from_residual.result c.from_residual.ensures.1 (read_more g.D.Disk mild refl c.in_err-leaf.ensures.outcome)
@@ -39,3 +39,15 @@ returns-clause-kept g c pages m tree reached is none =
     let name : name_in c.page.result.now.body.entries c.in-Seen.next ≡ next_name m key =
     ap (λ (x : Page). name_in x.body.entries c.in-Seen.next) c.page.ensures.page ∙ next_is m (walk (bodies_of pages)) key c.next_in_leaf_beside.new.writer.pool c.in-Seen.leaf.number c.in-Seen.next is r.name in
     c.in_ok-answer.ensures.read m none name
+
+pub returns-in_err-leaf-clause-quiet : goal.returns-in_err-leaf-clause-quiet
+returns-in_err-leaf-clause-quiet g c set on within = c.in_err-leaf.ensures.quiet set on within
+
+pub returns-in_default-clause-quiet : goal.returns-in_default-clause-quiet
+returns-in_default-clause-quiet g c set on within = c.in_ok-leaf.ensures.quiet set on within
+
+pub returns-in_err-answer-clause-quiet : goal.returns-in_err-answer-clause-quiet
+returns-in_err-answer-clause-quiet g c set on within = c.in_ok-leaf.ensures.quiet set on within
+
+pub returns-clause-quiet : goal.returns-clause-quiet
+returns-clause-quiet g c set on within = c.in_ok-leaf.ensures.quiet set on within

@@ -6,7 +6,7 @@ use Rattle.im_theory_tree.specs.Levels.{walk}
 use Rattle.im_tree_search.specs.Levels.{bodies_of, start_at}
 use Rattle.im_tree_search.proofs.Sighted.{at_hidden, at_seen}
 use Rattle.im_engine_index.proofs.Names.{none_found, some_found}
-use Rattle.im_engine_index.proofs.reads_beside.found_beside.Goals as goal
+use Rattle.im_engine_index.proofs.reads.found_from.Goals as goal
 
 pub returns-in_err-found-clause-kept : goal.returns-in_err-found-clause-kept
 returns-in_err-found-clause-kept g c pages tree = sound_on c.from_residual.result _ _ c.from_residual.ensures.1 (c.in_err-found.ensures.kept pages tree)
