@@ -1,5 +1,5 @@
 //! Tests of the engine of many transactions: lives on the model disk, in large pools too, a Checkpoint of many changed pages, logs that go on, many transactions at once, devices that fail in the middle of a rollback,
-//! and openings whose redo workers share. Threads that share one through a front are in im_test_threads, which is proved beside this crate.
+//! and openings whose redo workers share. Threads that share one through a front are in im_test_front, which is proved beside this crate.
 #![tactic(auto)]
 
 #[cfg(test)]

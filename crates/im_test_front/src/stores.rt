@@ -72,8 +72,8 @@ pub fn new_store<R: Threads + Sync>(
     made_store(rt, alloc, config, stop, failing)
 }
 
-// The same, as it is configured.
-fn made_store<R: Threads + Sync>(
+/// The same, as it is configured.
+pub fn made_store<R: Threads + Sync>(
     rt: &R,
     alloc: Global,
     config: Config,

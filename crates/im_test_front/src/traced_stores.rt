@@ -1,47 +1,34 @@
-//! New stores over a disk in memory, and fronts over a store.
+//! Stores as they are by default, and fronts with a trace over a store.
 
 ghost use Rattle.std.specs.Prelude.{◌≡◌, IfOk};
 ghost use Rattle.im_front.specs.Held.{IsResting};
 
-use im_base_model_disk::{Fill, Length, ModelDisk, Stop};
+use crate::stores::{NEVER, made_store, stop_at};
+use im_base_model_disk::{ModelDisk, Stop};
 use im_base_two_logs::Renamed;
 use im_base_types::Fault;
-use im_engine::{Config, Engine, every_list_of_lives};
+use im_engine::{Config, Engine};
 use im_front::Front;
 use im_theory_store::Store;
 use std::alloc::Global;
 use std::sync::ledger::{Blank, Ledger};
 use std::thread::Threads;
 
-/// A device call that is never made.
-const NEVER: u64 = 1 << 61;
-
-/// An engine over such a disk.
+/// An engine over a disk in memory.
 pub type Memory = Engine<Renamed<ModelDisk>>;
 
 /// A new store at rest.
 pub fn fresh<R: Threads + Sync>(rt: &R, alloc: Global) -> Result<Memory, Fault>
     ensures resting { IfOk result (λ e. IsResting ⟦<Engine<Renamed<ModelDisk>> as Store>⟧ e) }
 {
-    let never = Stop {
-        call: NEVER,
-        length: Length::Long,
-        fill: Fill::Written,
-    };
-    new_store(rt, alloc, never)
+    default_store(rt, alloc, stop_at(NEVER))
 }
 
 /// A new store at rest, on a disk that will stop.
-pub fn new_store<R: Threads + Sync>(rt: &R, alloc: Global, stop: Stop) -> Result<Memory, Fault>
+pub fn default_store<R: Threads + Sync>(rt: &R, alloc: Global, stop: Stop) -> Result<Memory, Fault>
     ensures resting { IfOk result (λ e. IsResting ⟦<Engine<Renamed<ModelDisk>> as Store>⟧ e) }
 {
-    every_list_of_lives();
-    let mut disk = ModelDisk::new(Vec::new(alloc), Vec::new(alloc));
-    disk.arm(stop);
-    match Engine::open_or_create(rt, alloc, Renamed::new(disk, false), Config::default()) {
-        Ok(engine) => Ok(engine),
-        Err(_) => Err(Fault::Device),
-    }
+    made_store(rt, alloc, Config::default(), stop, NEVER)
 }
 
 /// A front over a store at rest.

@@ -2,7 +2,7 @@
 //! prove nothing.
 
 use crate::memory::mapped;
-use crate::stores::fresh;
+use crate::traced_stores::fresh;
 use im_base_steps::{Reply, Step};
 use im_base_types::Fault;
 use im_front::{Open, Rested, Stats};

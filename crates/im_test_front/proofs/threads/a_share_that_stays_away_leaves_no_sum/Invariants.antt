@@ -1,4 +1,4 @@
-use Rattle.im_test_threads.proofs.threads.read_back.Given as goal
+use Rattle.im_test_front.proofs.threads.a_share_that_stays_away_leaves_no_sum.Given as goal
 
 abbrev pub ghosts-one_caller : goal.ghosts-one_caller
 ghosts-one_caller g a = record { name = a.blank.name; parts = a.blank.parts }

@@ -3,7 +3,7 @@
 ghost use Rattle.std.specs.Prelude.{◌≡◌};
 ghost use Rattle.im_front.specs.Held.{IsResting};
 
-use crate::stores::{Memory, fresh, front_over};
+use crate::traced_stores::{Memory, fresh, front_over};
 use im_base_steps::{Reply, Step};
 use im_base_types::{Fault, WorkerStart};
 use im_front::{Closed, Front, LoadArgs, Share, Stats};

@@ -4,8 +4,9 @@ ghost use Rattle.std.specs.Prelude.{◌≡◌, false};
 ghost use Rattle.im_base_disk.specs.Runs.{IsSynced};
 ghost use Rattle.im_front.specs.Held.{IsResting};
 
-use crate::stores::{Memory, front_over, new_store};
+use crate::stores::CREATION;
 use crate::threads::both_shares;
+use crate::traced_stores::{Memory, default_store, front_over};
 use im_base_disk::Disk;
 use im_base_model_disk::{Fill, Length, ModelDisk, Stop};
 use im_base_steps::{Reply, Step};
@@ -26,9 +27,6 @@ const TXNS: u64 = 40;
 
 /// How many stops are tried: one within each of the first calls of the disk after those of a creation.
 const STOPS: u64 = 100;
-
-/// The device calls of a creation.
-const CREATION: u64 = 6;
 
 // The trace, the entries that were found after the stop, and whether it came.
 #[derive(Drop)]
@@ -218,7 +216,7 @@ fn stopped_at<L: Ledger + Send + Sync, R: Threads + Wait + Sync>(
 ) -> Result<Left, Fault>
     requires blank { (blank.name ≡ L.name) × (blank.parts ≡ L.parts) × (blank.parts ≡ 1024) }
 {
-    let engine = new_store(rt, alloc, stop_at(alloc, call)?)?;
+    let engine = default_store(rt, alloc, stop_at(alloc, call)?)?;
     let closed = both::<Memory, L, R>(rt, alloc, engine, blank)?;
     reopened(rt, alloc, closed)
 }
