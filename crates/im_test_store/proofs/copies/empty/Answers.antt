@@ -5,7 +5,7 @@ use Rattle.im_base_disk.specs.Disk.{Files, both, three}
 use Rattle.im_base_model_disk.specs.declared.model_disk.ModelDisk.{ModelDisk}
 use Rattle.im_base_model_disk.specs.contracts.model_disk.ModelDiskDisk.TheImpl as model
 use Rattle.im_base_two_logs.specs.Renamed.{file_named}
-use Rattle.im_test_copies.proofs.copies.empty.Goals as goal
+use Rattle.im_test_store.proofs.copies.empty.Goals as goal
 
 none : (file : FileId) → three [] [] [] file ≡ []
 none Log = refl
