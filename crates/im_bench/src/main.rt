@@ -13,8 +13,7 @@
 
 use anyhow::{Result, bail};
 use im_bench_layers::{flush, log, page, pool};
-use im_bench_runs::{damage, long};
-use im_bench_store::{store, tree};
+use im_bench_stores::{damage, long, store, tree};
 use std::env;
 use std::thread::Threads;
 

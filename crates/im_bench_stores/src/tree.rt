@@ -1,4 +1,4 @@
-//! A tree of pages: look-ups in one whose pages are made at once (`im_bench_tree`), and a store that is filled, searched and emptied key by key.
+//! A tree of pages: look-ups in one whose pages are made at once (`look_ups`), and a store that is filled, searched and emptied key by key.
 //!
 //! Without words it prints how many steps came out as they should and how many device calls they took, the same each run. With
 //! `--time` it prints the nanoseconds of each step beside them. Keys have eight bytes. The disk is in memory, the pool has 1,024
@@ -39,6 +39,7 @@
 //! | rising | 1,000 | 120 to 260 | 207 | 132 to 203 | 1,100 | 180 to 380 |
 //! | scattered | 1,300 | 310 to 500 | 369 | 310 to 497 | 1,500 | 520 to 730 |
 
+use crate::look_ups::look_up;
 use crate::opened::opened;
 use anyhow::Result;
 use im_base_model_disk::ModelDisk;
@@ -46,7 +47,6 @@ use im_base_two_logs::Renamed;
 use im_base_types::MOST_FRAMES;
 use im_bench_layers::figures::{is_timed, show_of};
 use im_bench_layers::works::{Order, Part, Work, worked};
-use im_bench_tree::look_ups::look_up;
 use im_engine::Engine;
 use std::thread::Threads;
 use std::time::Instant;

@@ -1,9 +1,9 @@
-//! Look-ups in a tree whose pages are made at once.
+//! Look-ups in a tree whose pages are made at once, over a writer of pages, and by a transaction's Fetch with its lock.
 
 ghost use Rattle.im_page_writer.specs.PageWriter.{IsReadyWriter};
 
-use crate::pages::{keys_in, tree};
-use crate::work::{disk_of, found, found_locked, opened};
+use crate::tree_pages::{keys_in, tree};
+use crate::tree_work::{disk_of, found, found_locked, opened};
 use anyhow::Result;
 use im_base_disk::Disk;
 use im_bench_layers::figures::show_of;
