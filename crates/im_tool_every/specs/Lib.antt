@@ -1,3 +1,4 @@
+pub mod Torn
 pub mod Opened
 pub mod Counted
 pub mod Guarded

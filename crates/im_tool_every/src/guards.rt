@@ -4,10 +4,10 @@ ghost use Rattle.std.specs.Prelude.{◌≡◌, ◌↔◌, ◌≤◌, ◌++◌, t
 ghost use Rattle.im_tool_every.specs.Guarded.{front_in, lsn_of_page, pages_front_in, walked_of, FilesAreTaken, AreTogether, HasOlderPages, IsGuarded};
 
 use crate::judged_opening::left_by;
+use crate::torn_disk::bytes_of;
 use im_base_model_disk::ModelDisk;
 use im_base_types::{FileId, PAGE_SIZE};
 use im_files_guard::{FIRST_BYTES, FRONT, Folder, Front, LeftLog, PagesFront, belong, is_older};
-use im_tool_torn::bytes_of;
 use std::alloc::{AllocError, Global};
 
 /// Whether a folder would be opened that has the three files which are left of this disk: they belong together, and the pages are no older than the logs

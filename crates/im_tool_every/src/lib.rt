@@ -10,7 +10,9 @@
 //!
 //! `sweep_text` does either to the last life of a script, in each setting that its words leave open: frames, group, workers, the log's buffer. What
 //! that life begins with (`Start`) stands before what it asked, as one effect that was acknowledged. It stops a life and an opening at their ends
-//! too, where a call that was answered and not synced shows, and leaves single bytes as written (`Stops::Everywhere`).
+//! too, where a call that was answered and not synced shows, and leaves single bytes as written (`Stops::Everywhere`): as a stop of `ModelDisk` leaves one
+//! fill at all places that are not as synced, `torn` makes of two disks that one stop left, with another fill each, a third that it may have left too: of
+//! each file, at each place stands the byte of one of the two (`torn_file`, `IsTornOf`).
 //!
 //! It stands on `im_tool_judge` for the verdicts, on `im_tool_drill` for lives, on `im_files_guard` for the guards, on the engine and the model disk. What it prints is tested, and
 //! stands in no clause; of an opening each verdict is the judge's (`IsJudged`), and a stopped one leaves what the stop does (`IsStopped`). What a stop left
@@ -25,6 +27,7 @@ mod settings;
 mod start;
 mod sweep;
 mod text;
+mod torn_disk;
 mod ways;
 
 pub use every::{Counts, every_restart, every_stop};

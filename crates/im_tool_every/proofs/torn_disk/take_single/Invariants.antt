@@ -1,5 +1,5 @@
 use Rattle.std.proofs.Common.{◌≡◌, ◌⊎◌, ℕ, ◌<◌, length, get_or}
-use Rattle.im_tool_torn.proofs.merged.take_single.Given as goal
+use Rattle.im_tool_every.proofs.torn_disk.take_single.Given as goal
 
 abbrev pub invariant-loop-place : goal.invariant-loop-place
 invariant-loop-place l = record {

@@ -2,7 +2,7 @@
 
 ghost use Rattle.std.specs.Prelude.{◌≡◌, false, IfOk};
 ghost use Rattle.im_base_disk.specs.Runs.{IsSynced};
-ghost use Rattle.im_tool_torn.specs.Torn.{IsTornOf};
+ghost use Rattle.im_tool_every.specs.Torn.{IsTornOf};
 
 use im_base_disk::Disk;
 use im_base_model_disk::ModelDisk;
