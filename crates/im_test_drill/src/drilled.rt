@@ -2,7 +2,7 @@
 
 use crate::texts::{Part, text_of};
 use im_engine::BufferSize;
-use im_tool_text::drill_text;
+use im_tool_script::drill_text;
 use std::alloc::Global;
 use std::io;
 use std::process::Abort;

@@ -1,7 +1,7 @@
 //! Tests of scripts: what a script prints and its exit status, word for word, lines that the grammar lacks, trees that grow and shrink,
 //! Commits that wait for a force, openings whose redo workers share, lives that are stopped everywhere, or in which each call fails, logs that go on in the other file, and damaged files of a store.
 //!
-//! They are calls of what `im_tool_text` and `im_tool_every` show. `drilled` runs a script, and `texts` puts long ones together of parts.
+//! They are calls of what `im_tool_script` and `im_tool_every` show. `drilled` runs a script, and `texts` puts long ones together of parts.
 #![tactic(auto)]
 
 #[cfg(test)]

@@ -2,12 +2,12 @@
 
 ghost use Rattle.std.specs.Prelude.{◌≤◌, IfOk};
 
+use crate::text::drill_text;
 use clap::builder::ValueParser;
 use clap::{Arg, ArgAction, ArgMatches, Command, Error};
 use im_engine::BufferSize;
 use im_tool_every::{Sweep, every_text, sweep_text};
 use im_tool_lines::{reason_of, refused_line};
-use im_tool_text::drill_text;
 use std::alloc::{AllocError, Global};
 use std::io::{BufWriter, ErrorKind, IsTerminal, Read, Write};
 use std::thread::Threads;
