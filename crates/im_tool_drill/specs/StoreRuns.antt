@@ -36,9 +36,9 @@ use Rattle.im_tool_lines.specs.declared.store_life.StoreLine.TheVariants as line
 use Rattle.im_tool_lines.specs.declared.store_life.LifeOptions.{LifeOptions}
 use Rattle.im_tool_lines.specs.declared.store_life.StoreLife.{StoreLife}
 use Rattle.im_tool_lines.specs.declared.store_script.StoreScript.{StoreScript}
-use Rattle.im_tool_answers.specs.declared.store_answers.StoreReply.{StoreReply}
-use Rattle.im_tool_answers.specs.declared.store_answers.StoreReply.TheVariants as replies
-use Rattle.im_tool_answers.specs.declared.store_answers.StoreAnswers.{StoreAnswers}
+use Rattle.im_tool_raw.specs.declared.store_answers.StoreReply.{StoreReply}
+use Rattle.im_tool_raw.specs.declared.store_answers.StoreReply.TheVariants as replies
+use Rattle.im_tool_raw.specs.declared.store_answers.StoreAnswers.{StoreAnswers}
 use Rattle.im_tool_drill.specs.declared.store_drilled.StoreDrilled.{StoreDrilled}
 use Rattle.im_tool_raw.specs.Stops.{IsArmedAll, HasCome, IsNextDisk, IsOpenedOr}
 use Rattle.im_tool_drill.specs.StoreLives.{IsConfigOf, gate_of}

@@ -6,11 +6,10 @@ use crate::start::Start;
 use crate::ways::{Stops, stop_at};
 use im_base_types::Fault;
 use im_engine::BufferSize;
-use im_tool_answers::{StoreAnswers, StoreReply};
 use im_tool_drill::run_store_life;
 use im_tool_judge::{is_by_device, is_disturbed};
 use im_tool_lines::StoreLife;
-use im_tool_raw::Opening;
+use im_tool_raw::{Opening, StoreAnswers, StoreReply};
 use std::alloc::{AllocError, Global};
 use std::thread::Threads;
 

@@ -4,3 +4,5 @@ pub mod Putting
 pub mod RawRunning
 pub mod Replied
 pub mod Stands
+pub mod StoreAsked
+pub mod StoreShown

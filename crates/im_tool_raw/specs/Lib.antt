@@ -3,3 +3,4 @@ pub mod Living
 pub mod RawRuns
 pub mod Answered
 pub mod Stops
+pub mod StoreShown

@@ -4,9 +4,9 @@ use Rattle.im_base_types.specs.Changes.{Effect}
 use Rattle.im_base_types.specs.Lives.{Asked, Survives, Lives}
 use Rattle.im_base_types.specs.declared.fault.Fault.TheVariants.{NotAStore}
 use Rattle.im_tool_lines.specs.declared.store_life.StoreLife.{StoreLife}
-use Rattle.im_tool_answers.specs.declared.store_answers.StoreAnswers.{StoreAnswers}
+use Rattle.im_tool_raw.specs.declared.store_answers.StoreAnswers.{StoreAnswers}
 use Rattle.im_tool_raw.specs.declared.life_answers.Opening.TheVariants as openings
-use Rattle.im_tool_answers.specs.StoreShown.{asked_by_life, asked_in_each, StoreAnswered, EachStoreAnswered, AreStores}
+use Rattle.im_tool_raw.specs.StoreShown.{asked_by_life, asked_in_each, StoreAnswered, EachStoreAnswered, AreStores}
 
 -- one life more, of which it is known what it asked
 lives_push : (before : List Effect) (lives : List (List Asked)) (mid : List Effect) (asked : List Asked) (after : List Effect) → Lives before lives mid → Survives mid asked after → Lives before (lives ++ asked ∷ []) after

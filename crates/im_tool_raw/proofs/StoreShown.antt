@@ -3,8 +3,8 @@ use Rattle.std.proofs.Common.{◌≡◌, ℕ, suc, ◌+◌, ◌<◌, zero, List,
 use Rattle.std.proofs.lemmas.List.{take_more, length-take-le}
 use Rattle.im_base_types.specs.Lives.{Shown}
 use Rattle.im_tool_lines.specs.declared.store_life.StoreLine.{StoreLine}
-use Rattle.im_tool_answers.specs.declared.store_answers.StoreReply.{StoreReply}
-use Rattle.im_tool_answers.specs.StoreShown.{shown_after, shown_in}
+use Rattle.im_tool_raw.specs.declared.store_answers.StoreReply.{StoreReply}
+use Rattle.im_tool_raw.specs.StoreShown.{shown_after, shown_in}
 
 -- one line more
 pub shown_push : (s : Shown) (some : List StoreLine) (told : List StoreReply) (line : StoreLine) (reply : StoreReply) → length told ≡ length some

@@ -1,9 +1,9 @@
 //! What a life of a store answers.
 
+use crate::life_answers::Opening;
 use im_base_steps::Reply;
 use im_base_types::{Fault, PageNo, RedoReport};
 use im_page::Header;
-use im_tool_raw::Opening;
 
 /// What a line of a life of a store answers.
 #[derive(Drop)]

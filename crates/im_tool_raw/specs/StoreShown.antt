@@ -6,9 +6,9 @@ use Rattle.im_base_steps.specs.Calls.{asked_by, told_by}
 use Rattle.im_tool_lines.specs.declared.store_life.StoreLine.{StoreLine}
 use Rattle.im_tool_lines.specs.declared.store_life.StoreLine.TheVariants as lines
 use Rattle.im_tool_lines.specs.declared.store_life.StoreLife.{StoreLife}
-use Rattle.im_tool_answers.specs.declared.store_answers.StoreReply.{StoreReply}
-use Rattle.im_tool_answers.specs.declared.store_answers.StoreReply.TheVariants as replies
-use Rattle.im_tool_answers.specs.declared.store_answers.StoreAnswers.{StoreAnswers}
+use Rattle.im_tool_raw.specs.declared.store_answers.StoreReply.{StoreReply}
+use Rattle.im_tool_raw.specs.declared.store_answers.StoreReply.TheVariants as replies
+use Rattle.im_tool_raw.specs.declared.store_answers.StoreAnswers.{StoreAnswers}
 use Rattle.im_tool_raw.specs.declared.life_answers.Opening.{Opening}
 use Rattle.im_tool_raw.specs.declared.life_answers.Opening.TheVariants as openings
 use Rattle.im_base_types.specs.declared.fault.Fault.TheVariants.{NotAStore}

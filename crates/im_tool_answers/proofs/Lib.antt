@@ -1,2 +1,0 @@
-pub mod StoreAsked
-pub mod StoreShown
