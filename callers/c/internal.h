@@ -32,7 +32,7 @@ uint64_t im_earliest(const struct going *going, size_t len);
 _Bool im_has_own(const struct going *going, size_t len, uint64_t thread);
 _Bool im_is_left_alone(uint64_t now, uint64_t patience, uint64_t since);
 
-/* A question to the proved library, with its answer: crates/im_calls_form/src/call.rt, in the order of C. */
+/* A question to the proved library, with its answer: crates/im_calls/src/call.rt, in the order of C. */
 struct call {
 	uint32_t step, word, fault, limit;
 	uint64_t txn, number;
@@ -42,7 +42,7 @@ struct call {
 };
 _Static_assert(sizeof(struct call) == 68152 && offsetof(struct call, txn) == 16 && offsetof(struct call, key_len) == 32
 	&& offsetof(struct call, out_len) == 40 && offsetof(struct call, key) == 56 && offsetof(struct call, hi) == 312
-	&& offsetof(struct call, out) == 568, "the call is laid out as im_calls_form has it");
+	&& offsetof(struct call, out) == 568, "the call is laid out as im_calls has it");
 _Static_assert(sizeof(vah_entry) == 264 && offsetof(vah_entry, key) == 9, "bindings know the entry by these");
 _Static_assert(sizeof(vah_ref) == 24 && offsetof(vah_ref, rid) == 16, "bindings know a place in an answer by these");
 _Static_assert(sizeof(vah_config) == 72 && offsetof(vah_config, redo_bytes) == 16 && offsetof(vah_config, log_bytes) == 24
@@ -50,7 +50,7 @@ _Static_assert(sizeof(vah_config) == 72 && offsetof(vah_config, redo_bytes) == 1
 	&& offsetof(vah_config, cache_bytes) == 64, "bindings know the config by these");
 _Static_assert(sizeof(vah_info) == 104 && offsetof(vah_info, restarts) == 48, "bindings know the info by these");
 
-/* What is asked, and what is answered, by number: crates/im_calls_form; STAT, OPEN, CLOSE and those of a copy crates/im_calls. */
+/* What is asked, and what is answered, by number: crates/im_calls. */
 enum { BEGIN, FETCH, SEEK, NEXT, SCAN, INSERT, DELETE, COMMIT, ROLLBACK, CONTINUE, FLUSH_PAGE, FORCE, CHECKPOINT, STAT, OPEN, CLOSE, SWITCH, PREV,
 	COPY_BEGIN, COPY_PIECE, COPY_END };
 enum { STARTED, FOUND, ABSENT, ENTRY, END, ENTRIES, INSERTED, DUPLICATE, DELETED, COMMITTED, ROLLED_BACK, MORE, BLOCKED, DIE, DONE, REFUSED, BLOCKED_TREE };

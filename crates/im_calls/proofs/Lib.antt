@@ -1,2 +1,4 @@
+pub mod Buffers
+pub mod Entries
 mod Causes
 mod Limits

@@ -3,7 +3,7 @@ use Rattle.std.proofs.Common.{inl, inr, arith}
 use Rattle.std.proofs.Math.Nat.{lt_of_not-le}
 use Rattle.std.specs.Prelude.{◌≡◌, ◌⊎◌, ◌↔◌, ◌<◌, ◌≤◌, ℕ, true, false, Ok}
 use Rattle.im_base_disk.specs.declared.disk.Disk.{Ghosts}
-use Rattle.im_calls_form.specs.declared.call.Call.{Call}
+use Rattle.im_calls.specs.declared.call.Call.{Call}
 use Rattle.im_calls.specs.Sessions.{HasBounds, IsOpenedOn}
 use Rattle.im_engine.specs.declared.config.Config.{Config}
 use Rattle.im_engine_upkeep.specs.declared.bounds.Bounds.{Bounds}

@@ -8,8 +8,8 @@ use Rattle.im_base_mirror_disk.specs.declared.piece.Piece.{Piece}
 use Rattle.im_base_mirror_disk.specs.declared.piece.Piece.TheVariants as pieces
 use Rattle.im_store.specs.Copies.{IsCopied, IsCopyBegun, IsCopyEnd}
 use Rattle.im_store.specs.declared.open_store.OpenStore.{OpenStore}
-use Rattle.im_calls_form.specs.declared.call.Call.{Call}
-use Rattle.im_calls_form.specs.Calls.{Says, Refuses}
+use Rattle.im_calls.specs.declared.call.Call.{Call}
+use Rattle.im_calls.specs.Calls.{Says, Refuses}
 use Rattle.im_calls.specs.declared.opened.Opened.{Opened}
 
 -- a piece is told as More, where some bytes were copied; End, where nothing is left; Absent, where there is no copy; or as the refusal

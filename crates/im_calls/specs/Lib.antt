@@ -1,3 +1,5 @@
+pub mod Calls
+pub mod Entries
 pub mod Sessions
 pub mod Made
 pub mod Copies

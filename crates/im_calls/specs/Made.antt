@@ -16,8 +16,8 @@ use Rattle.im_base_two_logs.specs.contracts.renamed.Renamed.{the_row as renamed_
 use Rattle.im_base_two_logs.specs.contracts.renamed.RenamedDisk.TheImpl as renamed
 use Rattle.im_base_mirror_disk.specs.declared.mirrored.Mirrored.{Mirrored}
 use Rattle.im_base_mirror_disk.specs.contracts.mirrored.MirroredDisk.TheImpl as mirrored
-use Rattle.im_calls_form.specs.declared.call.Call.{Call}
-use Rattle.im_calls_form.specs.Calls.{IsAnswered, Refuses, Says, Shows, numbers_bytes}
+use Rattle.im_calls.specs.declared.call.Call.{Call}
+use Rattle.im_calls.specs.Calls.{IsAnswered, Refuses, Says, Shows, numbers_bytes}
 use Rattle.im_calls.specs.declared.session.Session.{Session}
 use Rattle.im_calls.specs.Copies.{IsBegunOver, IsCopyEnded, IsPieceMade}
 use Rattle.im_calls.specs.Sessions.{IsClosing, IsOpeningOver, IsForStep, IsServed, standing}

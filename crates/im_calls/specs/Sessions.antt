@@ -14,8 +14,8 @@ use Rattle.im_engine_upkeep.specs.Numbers.{active_of, dirty_of, durable_end_of}
 use Rattle.im_engine_upkeep.specs.declared.bounds.Bounds.{Bounds}
 use Rattle.im_store.specs.Stores.{IsEnd, IsOpenedStore, IsStepKept}
 use Rattle.im_store.specs.declared.open_store.OpenStore.{OpenStore}
-use Rattle.im_calls_form.specs.declared.call.Call.{Call}
-use Rattle.im_calls_form.specs.Calls.{AsksStep, Tells, Says, Refuses}
+use Rattle.im_calls.specs.declared.call.Call.{Call}
+use Rattle.im_calls.specs.Calls.{AsksStep, Tells, Says, Refuses}
 use Rattle.im_calls.specs.declared.opened.Opened.{Opened}
 
 -- a number that is for a step: it asks neither how the store stands, nor an opening, nor an end, nor for a copy

@@ -2,14 +2,15 @@
 
 ghost use Rattle.std.specs.Prelude.{◌≡◌, [], false};
 ghost use Rattle.im_base_types.specs.declared.file_id.FileId.{FileId};
-ghost use Rattle.im_calls_form.specs.Calls.{IsAnswered};
+ghost use Rattle.im_calls.specs.Calls.{IsAnswered};
 ghost use Rattle.im_calls.specs.Copies.{IsBegun, IsCopyEnded, IsPieceMade, TellsCopy, TellsPiece};
 
+use crate::call::Call;
 use crate::opened::Opened;
+use crate::telling::{refuse, tell};
 use im_base_disk::Disk;
 use im_base_mirror_disk::{Mirrored, Piece};
 use im_base_types::Fault;
-use im_calls_form::{Call, refuse, tell};
 
 // A piece has so many bytes at most.
 const PIECE: usize = 65_536;

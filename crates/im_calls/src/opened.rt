@@ -5,10 +5,12 @@ ghost use Rattle.im_base_disk.specs.Runs.{IsSynced};
 ghost use Rattle.im_calls.specs.Sessions.{HasBounds, IsOpenedOn, RefusesOpening};
 ghost use Rattle.im_engine_upkeep.specs.LogBound.{least_or_none};
 
+use crate::call::Call;
+use crate::question::step_of;
+use crate::telling::{answer, refuse, tell, tell_numbers};
 use im_base_disk::Disk;
 use im_base_two_logs::TwoLogs;
 use im_base_types::Fault;
-use im_calls_form::{Call, answer, refuse, step_of, tell, tell_numbers};
 use im_engine::{BufferSize, Config, MoreFrames};
 use im_engine_upkeep::{Bounds, LogBound, RedoBound};
 use im_store::OpenStore;
@@ -22,7 +24,7 @@ pub struct Opened<D: Disk> {
 
 impl<D: TwoLogs + Drop> Opened<D> {
     ghost use Rattle.im_base_disk.specs.Runs.{IsSynced};
-    ghost use Rattle.im_calls_form.specs.Calls.{IsAnswered, Says, Shows, numbers_bytes};
+    ghost use Rattle.im_calls.specs.Calls.{IsAnswered, Says, Shows, numbers_bytes};
     ghost use Rattle.im_calls.specs.Sessions.{IsClosing, IsOpening, Serves, standing};
 
     /// Opens the store of a disk as a call asks it: `limit` frames and `more` of them more, `txn` pages at most, `number` bytes of log that the opening after

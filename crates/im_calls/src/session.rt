@@ -3,15 +3,16 @@
 ghost use Rattle.std.specs.Prelude.{◌≡◌, ◌≢◌, ◌⊎◌, ◌<◌, ◌≤◌, ◌^◌, false, None, IfSome};
 ghost use Rattle.std.specs.Option.{IsSomeAnd};
 ghost use Rattle.im_calls.specs.Copies.{IsBegunOver, IsCopyEnded, IsPieceMade};
-ghost use Rattle.im_calls_form.specs.Calls.{IsAnswered, Refuses, Says, Shows, numbers_bytes};
+ghost use Rattle.im_calls.specs.Calls.{IsAnswered, Refuses, Says, Shows, numbers_bytes};
 ghost use Rattle.im_calls.specs.Sessions.{IsClosing, IsOpeningOver, IsServed, IsForStep, standing};
 
+use crate::call::Call;
 use crate::opened::Opened;
+use crate::telling::refuse;
 use im_base_disk::Disk;
 use im_base_mirror_disk::Mirrored;
 use im_base_two_logs::Renamed;
 use im_base_types::Fault;
-use im_calls_form::{Call, refuse};
 use im_files_caller_disk::{CallerDisk, CallerFiles};
 use std::alloc::Global;
 

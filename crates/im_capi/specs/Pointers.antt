@@ -6,7 +6,7 @@ use base.Fraction.{full_share}
 use prog.Memory.{size, capped}
 use denote.Memory.{lone}
 use denote.RawPtr.{Ptr, lies_at, room_at}
-use Rattle.im_calls_form.specs.contracts.call.Call.{the_row as Call}
+use Rattle.im_calls.specs.contracts.call.Call.{the_row as Call}
 use Rattle.im_calls.specs.contracts.session.Session.{the_row as Pot}
 use Rattle.im_calls.specs.Made.{Makes}
 

@@ -13,8 +13,7 @@ ghost use Rattle.im_files_guard.specs.LeftLog.{current_log_of, left_log_of, walk
 ghost use Rattle.im_base_turns.specs.Turns.{IsAwaitedBy, IsLeastOf, IsPatient, MayBegin, Owns};
 
 use im_base_turns::{Asker, Going};
-use im_calls::{Session, blank, made};
-use im_calls_form::Call;
+use im_calls::{Call, Session, blank, made};
 use std::alloc::Global;
 
 /// What a handle points to.

@@ -5,7 +5,7 @@ use prog.Wp.{WpFn}
 use Rattle.im_capi.specs.Pointers.{store_at, call_at}
 use Rattle.im_calls.specs.Made.{Makes}
 use Rattle.im_calls.specs.contracts.session.Session.{the_row as P}
-use Rattle.im_calls_form.specs.contracts.call.Call.{the_row as K}
+use Rattle.im_calls.specs.contracts.call.Call.{the_row as K}
 use Rattle.im_capi.specs.contracts.im_step as f
 use Rattle.im_capi.proofs.im_step.Statement.{statement}
 use Rattle.im_capi.proofs.im_step.Code as code

@@ -4,7 +4,7 @@ use Rattle.std.specs.List.{flat_map}
 use Rattle.std.specs.Int.{w64, to_le_bytes}
 use Rattle.im_base_types.specs.Answers as answers
 use Rattle.im_base_types.specs.Pages.{Entry}
-use Rattle.im_calls_form.specs.declared.call.Call.{Call}
+use Rattle.im_calls.specs.declared.call.Call.{Call}
 
 -- ---- what is asked
 

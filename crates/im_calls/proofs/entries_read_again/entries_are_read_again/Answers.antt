@@ -1,8 +1,8 @@
 use Rattle.std.proofs.Common.{◌≡◌, ◌∷◌, [], List, ℕ, sym, subst, arith}
-use Rattle.im_calls_form.specs.Calls.{BeginsWith}
-use Rattle.im_calls_form.specs.Entries.{read_entries}
-use Rattle.im_calls_form.proofs.Entries.{read_again, entries_fit, told_again, alone}
-use Rattle.im_calls_form.proofs.entries_read_again.entries_are_read_again.Goals as goal
+use Rattle.im_calls.specs.Calls.{BeginsWith}
+use Rattle.im_calls.specs.Entries.{read_entries}
+use Rattle.im_calls.proofs.Entries.{read_again, entries_fit, told_again, alone}
+use Rattle.im_calls.proofs.entries_read_again.entries_are_read_again.Goals as goal
 
 pub returns-clause-again : goal.returns-clause-again
 returns-clause-again c = read_again

@@ -3,7 +3,7 @@
 ghost use Rattle.std.specs.Prelude.{◌≤◌, ◌++◌, List, ℕ, length};
 ghost use Rattle.im_base_types.specs.Faults.{number_of};
 ghost use Rattle.im_base_steps.specs.Calls.{told_by};
-ghost use Rattle.im_calls_form.specs.Calls.{Tells, Says, Refuses, Shows, BeginsWith, IsAnswered, entry_bytes, entries_bytes, numbers_bytes};
+ghost use Rattle.im_calls.specs.Calls.{Tells, Says, Refuses, Shows, BeginsWith, IsAnswered, entry_bytes, entries_bytes, numbers_bytes};
 
 use crate::call::Call;
 use im_base_steps::{Blocker, Reply};

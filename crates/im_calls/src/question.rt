@@ -3,7 +3,7 @@
 ghost use Rattle.std.specs.Prelude.{◌≡◌, ◌≢◌, ◌<◌, ◌≤◌, ◌⊎◌, ◌↔◌, IfOk, IfErr};
 ghost use Rattle.im_base_types.specs.declared.fault.Fault.TheVariants.{Memory, BadScript};
 ghost use Rattle.im_base_steps.specs.Calls.{asked_by};
-ghost use Rattle.im_calls_form.specs.Calls.{asked_bytes, AsksStep};
+ghost use Rattle.im_calls.specs.Calls.{asked_bytes, AsksStep};
 
 use crate::call::Call;
 use im_base_steps::Step;

@@ -3,9 +3,9 @@
 ghost use Rattle.std.specs.Prelude.{◌≡◌, ◌≤◌, ◌++◌, ◌∷◌, [], List, ℕ, length};
 ghost use Rattle.im_base_types.specs.Pages.{Entry};
 ghost use Rattle.im_base_types.specs.Answers as answers;
-ghost use Rattle.im_calls_form.specs.declared.call.Call.{Call};
-ghost use Rattle.im_calls_form.specs.Calls.{Tells, entries_bytes};
-ghost use Rattle.im_calls_form.specs.Entries.{read_entries, AreEntries};
+ghost use Rattle.im_calls.specs.declared.call.Call.{Call};
+ghost use Rattle.im_calls.specs.Calls.{Tells, entries_bytes};
+ghost use Rattle.im_calls.specs.Entries.{read_entries, AreEntries};
 
 /// Laws of entries as bytes. Who reads them as `read_entries` does has the very entries that were told: the 256 that a scan has at most find room
 /// in the answer, whatever their keys.

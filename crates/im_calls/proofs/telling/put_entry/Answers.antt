@@ -1,5 +1,5 @@
-use Rattle.im_calls_form.proofs.Buffers.{entry_put}
-use Rattle.im_calls_form.proofs.telling.put_entry.Goals as goal
+use Rattle.im_calls.proofs.Buffers.{entry_put}
+use Rattle.im_calls.proofs.telling.put_entry.Goals as goal
 
 pub returns-clause-put : goal.returns-clause-put
 returns-clause-put c = λ before holds.

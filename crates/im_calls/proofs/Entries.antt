@@ -4,8 +4,8 @@ use Rattle.std.specs.Int.{w64, to_le_bytes, from_le_bytes}
 use Rattle.std.proofs.lemmas.Nat.{from_le_bytes-to_le_bytes_8}
 use Rattle.std.proofs.lemmas.List.Concat.{flat_map-cons}
 use Rattle.im_base_types.specs.Pages.{Entry}
-use Rattle.im_calls_form.specs.Calls.{BeginsWith, entry_bytes, entries_bytes}
-use Rattle.im_calls_form.specs.Entries.{read_entries, AreEntries}
+use Rattle.im_calls.specs.Calls.{BeginsWith, entry_bytes, entries_bytes}
+use Rattle.im_calls.specs.Entries.{read_entries, AreEntries}
 
 -- a row id takes eight bytes
 eight : (n : ℕ) → length (to_le_bytes w64 n) ≡ 8

@@ -2,8 +2,8 @@ use Rattle.std.proofs.Common.{◌≡◌, ◌++◌, List, ℕ, length, take, ap, 
 use Rattle.std.proofs.lemmas.Grind.{common_steps}
 use Rattle.std.proofs.lemmas.Slice.{take-put_mid}
 use Rattle.std.proofs.lemmas.List.{places, length-take-le}
-use Rattle.im_calls_form.proofs.Buffers.{put_more}
-use Rattle.im_calls_form.proofs.telling.put.Goals as goal
+use Rattle.im_calls.proofs.Buffers.{put_more}
+use Rattle.im_calls.proofs.telling.put.Goals as goal
 
 pub returns-clause-put : goal.returns-clause-put
 returns-clause-put c = λ before holds.

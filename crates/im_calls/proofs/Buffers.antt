@@ -4,7 +4,7 @@ use Rattle.std.specs.List.{flat_map}
 use Rattle.std.proofs.lemmas.Bool.{cases_lt}
 use Rattle.std.proofs.lemmas.List.{length-append, take_all, take-append-le, append-nil, append_assoc, take_more, flat_map_more}
 use Rattle.std.proofs.Math.Seq.{take-append-add}
-use Rattle.im_calls_form.specs.Calls.{BeginsWith}
+use Rattle.im_calls.specs.Calls.{BeginsWith}
 
 -- a front, and a front of what comes after it, where the first is whole or the second empty
 joined : (before bytes : List ℕ) (at count : ℕ) → (at ≡ length before) ⊎ ((at ≤ length before) × (count ≡ 0))
