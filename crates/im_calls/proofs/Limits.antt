@@ -6,7 +6,7 @@ use Rattle.im_base_disk.specs.declared.disk.Disk.{Ghosts}
 use Rattle.im_calls.specs.declared.call.Call.{Call}
 use Rattle.im_calls.specs.Sessions.{HasBounds, IsOpenedOn}
 use Rattle.im_engine.specs.declared.config.Config.{Config}
-use Rattle.im_engine_upkeep.specs.declared.bounds.Bounds.{Bounds}
+use Rattle.im_store.specs.declared.bounds.Bounds.{Bounds}
 use Rattle.im_store.specs.Stores.{IsOpenedStore}
 use Rattle.im_store.specs.declared.open_store.OpenStore.{OpenStore}
 

@@ -9,9 +9,9 @@ use Rattle.im_base_steps.specs.declared.reply.Reply.{Reply}
 use Rattle.im_base_steps.specs.Calls.{asked_by, told_by}
 use Rattle.im_engine.specs.declared.config.Config.{Config}
 use Rattle.im_engine.specs.declared.engine.Engine.{Engine}
-use Rattle.im_engine_upkeep.specs.LogBound.{least_or_none}
-use Rattle.im_engine_upkeep.specs.Numbers.{active_of, dirty_of, durable_end_of}
-use Rattle.im_engine_upkeep.specs.declared.bounds.Bounds.{Bounds}
+use Rattle.im_store.specs.LogBound.{least_or_none}
+use Rattle.im_store.specs.Numbers.{active_of, dirty_of, durable_end_of}
+use Rattle.im_store.specs.declared.bounds.Bounds.{Bounds}
 use Rattle.im_store.specs.Stores.{IsEnd, IsOpenedStore, IsStepKept}
 use Rattle.im_store.specs.declared.open_store.OpenStore.{OpenStore}
 use Rattle.im_calls.specs.declared.call.Call.{Call}

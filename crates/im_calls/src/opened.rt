@@ -3,7 +3,7 @@
 ghost use Rattle.std.specs.Prelude.{◌≡◌, ◌↔◌, ◌<◌, ◌-◌, ◌^◌, false, true, IfOk, IfErr};
 ghost use Rattle.im_base_disk.specs.Runs.{IsSynced};
 ghost use Rattle.im_calls.specs.Sessions.{HasBounds, IsOpenedOn, RefusesOpening};
-ghost use Rattle.im_engine_upkeep.specs.LogBound.{least_or_none};
+ghost use Rattle.im_store.specs.LogBound.{least_or_none};
 
 use crate::call::Call;
 use crate::question::step_of;
@@ -12,8 +12,7 @@ use im_base_disk::Disk;
 use im_base_two_logs::TwoLogs;
 use im_base_types::Fault;
 use im_engine::{BufferSize, Config, MoreFrames};
-use im_engine_upkeep::{Bounds, LogBound, RedoBound};
-use im_store::OpenStore;
+use im_store::{Bounds, LogBound, OpenStore, RedoBound};
 use std::alloc::Global;
 
 /// A store that is open, with its upkeep.

@@ -3,8 +3,8 @@ use Rattle.std.proofs.Common.{◌∙◌, ap, subst, sym}
 use Rattle.std.specs.Prelude.{◌≡◌, []}
 use Rattle.im_base_disk.specs.declared.disk.Disk.{Ghosts}
 use Rattle.im_engine.specs.declared.engine.Engine.{Engine}
-use Rattle.im_engine_upkeep.specs.Rule.{IsByRule}
-use Rattle.im_engine_upkeep.specs.declared.upkeep.Upkeep.{Upkeep}
+use Rattle.im_store.specs.Rule.{IsByRule}
+use Rattle.im_store.specs.declared.upkeep.Upkeep.{Upkeep}
 
 module _ {D : Type 0} (d : Ghosts D) where
   pub rule_same : (u : Upkeep) (old e f : Engine D d) → f ≡ e → IsByRule d u old e → IsByRule d u old f

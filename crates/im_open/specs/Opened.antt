@@ -3,8 +3,8 @@ use Rattle.std.specs.Prelude.{◌≡◌, false, true, Ok}
 use Rattle.im_base_disk.specs.declared.disk.Disk.{Ghosts}
 use Rattle.im_engine.specs.declared.config.Config.{Config}
 use Rattle.im_engine.specs.declared.engine.Engine.{Engine}
-use Rattle.im_engine_upkeep.specs.Rule.{IsByRule}
-use Rattle.im_engine_upkeep.specs.declared.bounds.Bounds.{Bounds}
+use Rattle.im_store.specs.Rule.{IsByRule}
+use Rattle.im_store.specs.declared.bounds.Bounds.{Bounds}
 use Rattle.im_store.specs.Stores.{IsOpenedStore}
 use Rattle.im_store.specs.declared.open_store.OpenStore.{OpenStore}
 

@@ -10,10 +10,9 @@ use im_base_disk::Disk;
 use im_base_mirror_disk::Mirrored;
 use im_base_two_logs::Renamed;
 use im_engine::{Config, Engine};
-use im_engine_upkeep::{Bounds, LogBound, RedoBound};
 use im_files_disk::FileDisk;
 use im_front::Rested;
-use im_store::OpenStore;
+use im_store::{Bounds, LogBound, OpenStore, RedoBound};
 use im_theory_store::Store;
 use std::thread::Threads;
 

@@ -8,8 +8,8 @@ use Rattle.im_base_disk.specs.declared.disk.Disk.{Ghosts}
 use Rattle.im_base_disk.specs.Runs.{IsSynced, LeavesOnly}
 use Rattle.im_base_disk.proofs.Runs.{started}
 use Rattle.im_engine.specs.declared.engine.Engine.{Engine}
-use Rattle.im_engine_upkeep.specs.Rule.{WasRefused}
-use Rattle.im_engine_upkeep.specs.Upkeep.{IsKeptUp, none}
+use Rattle.im_store.specs.Rule.{WasRefused}
+use Rattle.im_store.specs.Upkeep.{IsKeptUp, none}
 use Rattle.im_store.specs.declared.open_store.OpenStore.{OpenStore}
 use Rattle.im_store.specs.Stores.{IsEnd, WasEnded}
 

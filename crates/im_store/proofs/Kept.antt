@@ -12,13 +12,13 @@ use Rattle.im_base_steps.specs.Calls.{asked_by, is_force, told_by}
 use Rattle.im_base_steps.specs.Replies.{Suits, is_begin, is_commit, is_service}
 use Rattle.im_engine.specs.declared.engine.Engine.{Engine}
 use Rattle.im_engine.specs.Told.{IsStep, Known, after, known_of}
-use Rattle.im_engine_upkeep.specs.declared.due.Due.{Due}
-use Rattle.im_engine_upkeep.specs.declared.due.Due.TheVariants as due
-use Rattle.im_engine_upkeep.specs.declared.upkeep.Upkeep.{Upkeep}
-use Rattle.im_engine_upkeep.specs.Noted.{ahead_of, is_done, is_left, noted, redo_from}
-use Rattle.im_engine_upkeep.specs.Rule.{IsByRule, IsDue, IsTaken, IsWritten, WasRefused}
-use Rattle.im_engine_upkeep.specs.Rule as rule
-use Rattle.im_engine_upkeep.specs.Upkeep.{IsKeptUp, none, more}
+use Rattle.im_store.specs.declared.due.Due.{Due}
+use Rattle.im_store.specs.declared.due.Due.TheVariants as due
+use Rattle.im_store.specs.declared.upkeep.Upkeep.{Upkeep}
+use Rattle.im_store.specs.Noted.{ahead_of, is_done, is_left, noted, redo_from}
+use Rattle.im_store.specs.Rule.{IsByRule, IsDue, IsTaken, IsWritten, WasRefused}
+use Rattle.im_store.specs.Rule as rule
+use Rattle.im_store.specs.Upkeep.{IsKeptUp, none, more}
 use Rattle.im_store.specs.Stores.{SameLimits, follows}
 
 chosen : (b : Bool) (x y : Known) → x.group ≡ y.group → (if b then x else y).group ≡ y.group

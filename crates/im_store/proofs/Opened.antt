@@ -9,10 +9,10 @@ use Rattle.im_base_disk.specs.Runs.{Reads}
 use Rattle.im_engine.specs.declared.config.Config.{Config}
 use Rattle.im_engine.specs.declared.engine.Engine.{Engine}
 use Rattle.im_engine.specs.Opening.{IsOpening}
-use Rattle.im_engine_upkeep.specs.declared.bounds.Bounds.{Bounds}
-use Rattle.im_engine_upkeep.specs.declared.upkeep.Upkeep.{Upkeep}
-use Rattle.im_engine_upkeep.specs.FirstFormat.{HasFirst}
-use Rattle.im_engine_upkeep.specs.Noted.{fresh}
+use Rattle.im_store.specs.declared.bounds.Bounds.{Bounds}
+use Rattle.im_store.specs.declared.upkeep.Upkeep.{Upkeep}
+use Rattle.im_store.specs.FirstFormat.{HasFirst}
+use Rattle.im_store.specs.Noted.{fresh}
 use Rattle.im_store.specs.declared.open_store.OpenStore.{OpenStore}
 use Rattle.im_store.specs.Stores.{AreRight, IsOpenedStore}
 

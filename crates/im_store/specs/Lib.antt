@@ -1,2 +1,9 @@
+pub mod FirstFormat
+pub mod LogBound
+pub mod Noted
+pub mod Numbers
+pub mod RedoBound
+pub mod Rule
+pub mod Upkeep
 pub mod Stores
 pub mod Copies

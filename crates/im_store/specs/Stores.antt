@@ -13,13 +13,13 @@ use Rattle.im_engine.specs.declared.config.Config.{Config}
 use Rattle.im_engine.specs.declared.engine.Engine.{Engine}
 use Rattle.im_engine.specs.Opening.{IsOpening}
 use Rattle.im_engine.specs.Told.{IsStep}
-use Rattle.im_engine_upkeep.specs.declared.bounds.Bounds.{Bounds}
-use Rattle.im_engine_upkeep.specs.declared.upkeep.Upkeep.{Upkeep}
-use Rattle.im_engine_upkeep.specs.FirstFormat.{HasFirst}
-use Rattle.im_engine_upkeep.specs.Noted.{IsNoted, fresh, noted}
-use Rattle.im_engine_upkeep.specs.Numbers.{durable_end_of}
-use Rattle.im_engine_upkeep.specs.Rule.{IsByRule, IsDue, IsEnded, KnowsPages, WasRefused}
-use Rattle.im_engine_upkeep.specs.Upkeep.{IsKeptUp}
+use Rattle.im_store.specs.declared.bounds.Bounds.{Bounds}
+use Rattle.im_store.specs.declared.upkeep.Upkeep.{Upkeep}
+use Rattle.im_store.specs.FirstFormat.{HasFirst}
+use Rattle.im_store.specs.Noted.{IsNoted, fresh, noted}
+use Rattle.im_store.specs.Numbers.{durable_end_of}
+use Rattle.im_store.specs.Rule.{IsByRule, IsDue, IsEnded, KnowsPages, WasRefused}
+use Rattle.im_store.specs.Upkeep.{IsKeptUp}
 use Rattle.im_store.specs.declared.open_store.OpenStore.{OpenStore}
 
 -- a reply after which the log may have grown, or a transaction has ended, so that something may be due

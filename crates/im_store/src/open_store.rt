@@ -3,16 +3,18 @@
 ghost use Rattle.std.specs.Prelude.{◌≡◌, ◌↔◌, false, true, None, IfOk, IfErr, IsTrue};
 ghost use Rattle.im_base_types.specs.declared.fault.Fault.TheVariants.{Device};
 ghost use Rattle.im_base_disk.specs.Runs.{IsSynced, Reads};
-ghost use Rattle.im_engine_upkeep.specs.FirstFormat.{HasFirst};
+ghost use Rattle.im_store.specs.FirstFormat.{HasFirst};
 ghost use Rattle.im_store.specs.Stores.{AreRight, follows};
 
+use crate::bounds::Bounds;
+use crate::first_format::has_first_format;
 use crate::unkept::Unkept;
+use crate::upkeep::Upkeep;
 use im_base_disk::Disk;
 use im_base_steps::{Reply, Step};
 use im_base_two_logs::TwoLogs;
 use im_base_types::{Fault, Key, LEAST_FRAMES, MOST_FRAMES, Rid};
 use im_engine::{Config, Engine, MOST_WORKERS};
-use im_engine_upkeep::{Bounds, Upkeep, has_first_format};
 use std::alloc::Global;
 use std::thread::Threads;
 
@@ -35,9 +37,9 @@ impl<D: TwoLogs + Drop> OpenStore<D> {
     ghost use Rattle.im_engine.specs.Kept.{EntriesKept, LookKept};
     ghost use Rattle.im_engine.specs.Looking.{Looks};
     ghost use Rattle.im_engine.specs.Running.{IsLife};
-    ghost use Rattle.im_engine_upkeep.specs.Rule.{IsHeldUp, WasRefused};
-    ghost use Rattle.im_engine_upkeep.specs.Noted.{fresh};
-    ghost use Rattle.im_engine_upkeep.specs.Upkeep.{IsKeptUp};
+    ghost use Rattle.im_store.specs.Rule.{IsHeldUp, WasRefused};
+    ghost use Rattle.im_store.specs.Noted.{fresh};
+    ghost use Rattle.im_store.specs.Upkeep.{IsKeptUp};
     ghost use Rattle.im_store.specs.Stores.{IsEnd, IsOpenedStore, IsStepKept, SameLimits, WasEnded, WasKept};
 
     /// Opens the store of a disk, or makes a new one, with bounds of what its next opening redoes and reads. Redo is made in threads that the runtime starts.

@@ -4,7 +4,7 @@ use crate::stores::{Store, end, store_of};
 use im_base_model_disk::ModelDisk;
 use im_base_steps::{Reply, Step};
 use im_base_types::LONGEST_KEY;
-use im_engine_upkeep::Bounds;
+use im_store::Bounds;
 use std::alloc::Global;
 use std::process::Abort;
 use std::test::Fail;

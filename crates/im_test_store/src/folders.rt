@@ -3,9 +3,8 @@
 use crate::stores::{FIRST, end, format_of, is_put};
 use im_base_types::Fault;
 use im_engine::Config;
-use im_engine_upkeep::Bounds;
 use im_open::{Files, open_store};
-use im_store::OpenStore;
+use im_store::{Bounds, OpenStore};
 use std::fs;
 use std::process::Abort;
 use std::test::Fail;

@@ -3,8 +3,8 @@
 use crate::copies::{Copies, copies_in, file_in, is_whole};
 use crate::looked::{answered, fill, leave, numbers_of};
 use crate::mixed::has_part;
-use im_engine_upkeep::Bounds;
 use im_files_disk::FileDisk;
+use im_store::Bounds;
 use im_tool::store_program;
 use im_tool_user::Manner;
 use std::alloc::{AllocError, Global};

@@ -14,9 +14,9 @@ use im_base_model_disk::ModelDisk;
 use im_base_two_logs::Renamed;
 use im_base_types::Fault;
 use im_engine::{Config, MOST_WORKERS};
-use im_engine_upkeep::Bounds;
 use im_files_disk::FileDisk;
 use im_files_scratch_disk::ScratchDisk;
+use im_store::Bounds;
 use im_tool_files::{
     Cause, Causes, Ending, Opening, WatchedDisk, print_refused_opening, tell, tell_unopened,
     tell_unread, trim_program,

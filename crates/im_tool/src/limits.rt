@@ -2,7 +2,7 @@
 
 use im_base_types::MOST_FRAMES;
 use im_engine::{BufferSize, Config, MoreFrames};
-use im_engine_upkeep::{Bounds, LogBound, RedoBound};
+use im_store::{Bounds, LogBound, RedoBound};
 use im_tool_user::{MOST_MIB, Options};
 
 const MIB: u64 = 1_048_576;

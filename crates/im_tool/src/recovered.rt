@@ -5,9 +5,8 @@ use im_base_steps::{Reply, Step};
 use im_base_two_logs::Renamed;
 use im_base_types::{Fault, MOST_FRAMES};
 use im_engine::{BufferSize, Config, MoreFrames};
-use im_engine_upkeep::Bounds;
 use im_files_scratch_disk::ScratchDisk;
-use im_store::OpenStore;
+use im_store::{Bounds, OpenStore};
 use std::alloc::Global;
 use std::thread::Threads;
 

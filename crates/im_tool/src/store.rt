@@ -9,8 +9,7 @@ use im_base_steps::{Reply, Step};
 use im_base_two_logs::TwoLogs;
 use im_base_types::Fault;
 use im_engine::Config;
-use im_engine_upkeep::{Bounds, Due};
-use im_store::OpenStore;
+use im_store::{Bounds, Due, OpenStore};
 use im_tool_files::{Cause, Causes, Ending, NoCopy, Opening, print_refused_opening};
 use im_tool_user::{
     LineInput, Manner, end_prompt, is_change, is_help, print_entries, print_prompt, print_refused,

@@ -6,10 +6,9 @@ mod threads;
 
 use im_base_steps::{Reply, Step};
 use im_engine::{BufferSize, Config, Engine, MoreFrames};
-use im_engine_upkeep::Bounds;
 use im_front::{Open, Rested};
 use im_open::{Files, close, copy, open, open_store};
-use im_store::OpenStore;
+use im_store::{Bounds, OpenStore};
 use std::fs;
 use std::sync::Wait;
 use std::thread::Threads;

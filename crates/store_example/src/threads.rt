@@ -7,10 +7,9 @@
 use im_base_steps::{Reply, Step};
 use im_base_types::{Fault, TxnId};
 use im_engine::{Config, Engine};
-use im_engine_upkeep::Bounds;
 use im_front::{Left, Open, Stats};
 use im_open::{Files, open};
-use im_store::OpenStore;
+use im_store::{Bounds, OpenStore};
 use im_theory_store::Store;
 use std::alloc::Global;
 use std::sync::{RwLock, Wait};

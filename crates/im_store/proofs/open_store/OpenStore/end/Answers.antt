@@ -1,6 +1,6 @@
 use Rattle.im_store.proofs.Kept.{kept_then, refused_then}
 use Rattle.im_store.proofs.open_store.OpenStore.end.Goals as goal
-use Rattle.im_engine_upkeep.proofs.Keeping.{ok_on, err_on}
+use Rattle.im_store.proofs.Keeping.{ok_on, err_on}
 
 pub returns-clause-kept : goal.returns-clause-kept
 returns-clause-kept g c = kept_then g.D.Disk c.args.self.now.engine c.keep.new.engine c.close.new.engine c.keep.ensures.kept c.close.ensures.kept

@@ -1,8 +1,8 @@
 use Rattle.std.proofs.Common.{◌∙◌, refl, subst, sym}
 use Rattle.std.specs.Prelude.{◌≡◌, true, false}
-use Rattle.im_engine_upkeep.specs.Numbers.{durable_end_of}
-use Rattle.im_engine_upkeep.specs.Upkeep.{none}
-use Rattle.im_engine_upkeep.specs.declared.upkeep.Upkeep.{Upkeep}
+use Rattle.im_store.specs.Numbers.{durable_end_of}
+use Rattle.im_store.specs.Upkeep.{none}
+use Rattle.im_store.specs.declared.upkeep.Upkeep.{Upkeep}
 use Rattle.im_store.specs.Stores.{WasKept}
 use Rattle.im_store.proofs.Kept.{limits_then, nothing_noted, step_limits}
 use Rattle.im_store.proofs.open_store.OpenStore.step.Goals as goal

@@ -1,3 +1,0 @@
-mod FirstFormats
-pub mod Keeping
-mod Synced
