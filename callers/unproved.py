@@ -8,12 +8,22 @@ program in that copy, whose `main` calls the functions that C sees; these are th
 A try puts checks into the module, of what a proof would have shown. They are taken out, so that the work takes as long as in a proved build: it is
 the same program, and nothing shows that it is right. What is built says so by the symbol `im_unproved`, which the Makefile looks for.
 """
+import itertools
 import os
 import re
 import shutil
 import subprocess
 import sys
 import tempfile
+
+sys.dont_write_bytecode = True
+if len(sys.argv) != 4:
+    sys.exit("usage: unproved.py CRATE TO KIT")
+TOP = os.path.dirname(os.path.dirname(os.path.abspath(__file__)))
+# (it goes by the `rt` in PATH)
+os.environ["PATH"] = f"{os.path.realpath(sys.argv[3])}/bin:{os.environ['PATH']}"
+sys.path.insert(0, f"{TOP}/.ci")
+import kit
 
 LIBRARY = "im_capi"
 SEEN = {"im_size", "im_belong", "im_left_log", "im_left_go_on", "im_left_take", "im_is_older", "im_log_cuts", "im_init", "im_step", "im_may_begin", "im_oldest", "im_earliest", "im_has_own", "im_is_left_alone"}
@@ -40,24 +50,6 @@ fn main(rt: HostRuntime) {
     }
 }
 """
-# A try compiles a small module of its own first. To keep the other, and then to fail, ends the try: nothing is run.
-KEEP = """#!/bin/sh
-for it in "$@"; do
-    case $it in
-        *.bc) if grep -q '{crate}' "$it"; then cp "$it" '{kept}'; exit 1; fi ;;
-    esac
-done
-exec '{clang}' "$@"
-"""
-# Beside a try runs a check that only gives hints, and takes as long.
-NO_HINTS = """#!/bin/sh
-case $* in *'--start no function'*) exit 0 ;; esac
-exec '{rattle}' "$@"
-"""
-TARGET = ["--target=x86_64-unknown-linux-gnu", "-march=x86-64", "--no-default-config", "-no-canonical-prefixes"]
-# As the kit compiles a program.
-LOWERED = "-no-trap-after-noreturn -trap-unreachable -no-x86-call-frame-opt -disable-machine-licm -disable-postra-machine-licm -sink-common-insts=false"
-LINKED = ["-O3", "-fPIC", "-ffunction-sections", "-fdata-sections"]
 
 
 def run(*words):
@@ -80,46 +72,11 @@ def copy_crates(here, to):
         it.write(MAIN)
 
 
-def write_program(path, text):
-    with open(path, "w", encoding="utf-8") as it:
-        it.write(text)
-    os.chmod(path, 0o755)
-
-
-def link_kit(kit, to, crate, kept):
-    """A kit of links, but for `rt`, which finds the rest of the kit beside itself, and for clang, which keeps the crate's module in a file."""
-    for folder, own in (("", ("bin", "toolchain")), ("bin", ("rt", "rtlib.py", "rattle")), ("toolchain", ("bin",)), ("toolchain/bin", ("clang",))):
-        os.makedirs(f"{to}/{folder}")
-        for name in os.listdir(f"{kit}/{folder}"):
-            if name not in own:
-                os.symlink(f"{kit}/{folder}/{name}", f"{to}/{folder}/{name}")
-    for name in ("rt", "rtlib.py"):
-        shutil.copy(f"{kit}/bin/{name}", f"{to}/bin/{name}")
-    write_program(f"{to}/bin/rattle", NO_HINTS.format(rattle=f"{kit}/bin/rattle"))
-    write_program(f"{to}/toolchain/bin/clang", KEEP.format(crate=crate, kept=kept, clang=f"{kit}/toolchain/bin/clang"))
-
-
-def lower(here, kit, crate, work):
+def lower(crate, work):
     """Returns the path of the crate's module, as a try lowers it."""
-    module = f"{work}/module.bc"
-    copy_crates(here, f"{work}/copy")
-    link_kit(kit, f"{work}/kit", crate, module)
-    how = {"stdin": subprocess.DEVNULL, "stdout": subprocess.PIPE, "stderr": subprocess.STDOUT, "text": True}
-    said = subprocess.run([f"{work}/kit/bin/rt", "try"], cwd=f"{work}/copy/crates/{crate}", **how).stdout
-    if not os.path.exists(module):
-        sys.exit(f"{said}unproved.py: the try above gave no module")
-    return module
-
-
-def without_checks(lines):
-    """The lines of a module as text, without the try's checks and its fills of what is let go."""
-    for line in lines:
-        if 'call void @"rattle-llvm-checks::' in line or ("call void @llvm.memset" in line and "i8 -86" in line):
-            continue
-        if line.startswith("attributes #"):
-            line = line.replace(" sanitize_address", "").replace('"frame-pointer"="all"', "nounwind")
-        yield line
-    yield "@im_unproved = constant i8 1\n"
+    copy_crates(TOP, f"{work}/copy")
+    module, said = kit.module_of_try(f"{work}/copy/crates/{crate}", work)
+    return module or sys.exit(f"{said}unproved.py: the try above gave no module")
 
 
 def as_library(lines):
@@ -138,26 +95,21 @@ def as_library(lines):
         sys.exit(f"unproved.py: the module lacks {', '.join(SEEN - found)}")
 
 
-def build(here, kit, crate, to):
-    clang = [f"{kit}/toolchain/bin/clang", *TARGET, f"--sysroot={kit}/toolchain"]
+def build(crate, to):
     with tempfile.TemporaryDirectory(prefix="unproved-") as work:
         text, compiled = f"{work}/text.ll", f"{work}/{crate}.o"
-        module = lower(here, kit, crate, work)
-        run(*clang, "-S", "-emit-llvm", "-Xclang", "-disable-llvm-passes", "-x", "ir", module, "-o", text)
+        module = lower(crate, work)
+        run(*kit.CLANG, "-S", "-emit-llvm", "-Xclang", "-disable-llvm-passes", "-x", "ir", module, "-o", text)
         with open(text, encoding="utf-8") as old, open(f"{work}/turned.ll", "w", encoding="utf-8") as new:
-            lines = without_checks(old)
+            lines = itertools.chain(kit.without_checks(old), ["@im_unproved = constant i8 1\n"])
             new.writelines(as_library(lines) if crate == LIBRARY else lines)
-        words = [it for flag in LOWERED.split() for it in ("-mllvm", flag)]
-        run(*clang, *words, *LINKED, "-c", "-x", "ir", f"{work}/turned.ll", "-o", compiled)
+        run(*kit.CLANG, *kit.COMPILED, "-c", "-x", "ir", f"{work}/turned.ll", "-o", compiled)
         if crate == LIBRARY:
-            run(f"{kit}/toolchain/bin/llvm-ar", "rcsD", f"{work}/built", compiled)
+            run(kit.AR, "rcsD", f"{work}/built", compiled)
         else:
-            run("cc", "-pie", "-Wl,--gc-sections,-z,relro,-z,now", "-o", f"{work}/built", compiled, f"{kit}/c/libos_c.a", f"{kit}/c/liblibc_c.a")
+            run("cc", "-pie", "-Wl,--gc-sections,-z,relro,-z,now", "-o", f"{work}/built", compiled, *kit.ARCHIVES)
         shutil.move(f"{work}/built", to)
 
 
 if __name__ == "__main__":
-    if len(sys.argv) != 4:
-        sys.exit("usage: unproved.py CRATE TO KIT")
-    top = os.path.dirname(os.path.dirname(os.path.abspath(__file__)))
-    build(top, os.path.realpath(sys.argv[3]), sys.argv[1], os.path.abspath(sys.argv[2]))
+    build(sys.argv[1], os.path.abspath(sys.argv[2]))
