@@ -74,12 +74,20 @@ def library_sum(rlib):
     return sum_of(f"{rlib}/format")
 
 
-def own_parts(crate):
-    """What a check of the crate rests on beside its libraries: the toolchain's identity, what crates.txt says of it, and its files with their sums."""
-    parts = [text_of(f"{FOLDER}/KIT-ID"), repr(crate.said), *crate.of_kit]
-    for file in files_of(crate.folder):
-        parts += [os.path.relpath(file, crate.folder), sum_of(file)]
-    return parts
+def own_sum(crate):
+    """A sum of what a check of the crate rests on beside its libraries: the toolchain, what HANDLES and crates.txt say of it, and its files."""
+    return rt.own_sum(crate)
+
+
+def touched(crate):
+    """What tells whether a file that a check of the crate reads was changed meanwhile, also where it was changed back."""
+    return rt.touched(crate)
+
+
+def store(name):
+    """A folder of this name where `rt ci` keeps what it proved: beside the toolchain, on this machine, for this user alone. None where it can keep nothing."""
+    at = rt.Kept([]).at if hasattr(rt, "Kept") else None
+    return at and f"{at}/{name}"
 
 
 def build_static(crate):
