@@ -1,6 +1,6 @@
 //! One entry: that of a key, the next, or the one before; beside a structure change of another transaction that is made page by page, or beside none.
 
-ghost use Rattle.std.specs.Prelude.{◌≡◌, ◌⊎◌, ℕ, Bool, None, false, true, OnErr};
+ghost use Rattle.std.specs.Prelude.{◌≡◌, ◌⊎◌, ◌<◌, ℕ, Bool, None, false, true, length, IfOk, IfErr, OnErr};
 ghost use Rattle.std.specs.FinMap.{entries, get};
 ghost use Rattle.im_base_types.specs.Maps.{IndexMap, From, first_in, last_in};
 ghost use Rattle.im_base_types.specs.Answers.{Fetch, Prev, found as found_reply, entry as entry_found};
@@ -8,6 +8,7 @@ ghost use Rattle.im_page_pool.specs.Pool.{page_at, IsAt};
 ghost use Rattle.im_page_writer.specs.PageWriter.{IsReadyWriter};
 ghost use Rattle.im_page_writer.specs.Outcome.{fault_of, AllPages, IsSound, Reads};
 ghost use Rattle.im_theory_machine.specs.Table.{SameLasting, SameTable};
+ghost use Rattle.im_theory_page.specs.Entry.{entry_at};
 ghost use Rattle.im_theory_tree.specs.Levels.{walk};
 ghost use Rattle.im_tree_search.specs.Backward.{MeetsDoneBack};
 ghost use Rattle.im_tree_search.specs.Beside.{MeetsDone};
@@ -24,6 +25,7 @@ use crate::lock_answer::LockAnswer;
 use im_base_disk::Disk;
 use im_base_types::{Fault, Key, Rid, TxnId};
 use im_engine_locks::LockTable;
+use im_page::Page;
 use im_page_pool::Frame;
 use im_page_writer::PageWriter;
 use im_tree_search::{
