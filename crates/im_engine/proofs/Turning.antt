@@ -169,7 +169,7 @@ alone_checked d old t plain checked = subst (λ (u : Option Under). checked_by o
 module _ {D : Type 0} (d : Ghosts D) {b : Base} (before : List Effect) (s : Shown) (v : View) (t : ℕ) (row : Transaction) (old : Engine D d) (r : IsRunning d b before s v old)
     (found : find (is_of t) old.txns.rows ≡ Some row) (checked : checked_by old.txns.rows (owns_in (under_of old.under) (Continue t)) (Continue t) ≡ None) (plain : old.under ≡ None) where
   mark : row.mark ≡ marks.RollingBack
-  mark = continue_mark old.txns.rows old.forward t row found (alone_checked d old t plain checked)
+  mark = continue_mark old.txns.rows old.numbered.1 t row found (alone_checked d old t plain checked)
 
   its : (row.number ≡ t) × IsRow row old.txns.next r.now.log × ((v.txns t).mark ≡ mark_of row.mark)
   its = at b r.earlier before s v r.now.log old.txns.rows old.txns.next old.locks r.serving t row found (mark_free row.mark marks.RollingBack mark (λ x. cc x))

@@ -38,8 +38,7 @@ pub struct Engine<D: Disk> {
     pub(crate) under: Option<Under>,
     ghost ready: { IsReadyWriter D.Disk writer disk } by { Prim.hlevel (props, sealed_prop) },
     ghost working: { failed ≡ false → writer.failed ≡ false },
-    ghost first: { 1 ≤ txns.next },
-    ghost forward: { NoneReturns txns.rows } by { none_returns_prop txns.rows },
+    ghost numbered: { (1 ≤ txns.next) × NoneReturns txns.rows } by { Prim.hlevel (props, none_returns_prop) },
     ghost sized: { length room.items ≡ 16384 },
     ghost whole: { stepped ≡ false → is_some under ≡ false },
 }

@@ -24,7 +24,7 @@ end-requires g c =
     let t = c.args.t in
     let checked = ends_checked rows TakesBack t c.args.self.now.under c.requires.end refl c.requires.checked in
     let its = continue_row rows t checked in
-    not_waiting rows t its.0 its.1 (ap is_committing (continue_mark rows c.args.self.now.forward t its.0 its.1 checked))
+    not_waiting rows t its.0 its.1 (ap is_committing (continue_mark rows c.args.self.now.numbered.1 t its.0 its.1 checked))
 
 pub returns-in-Ok-More : goal.returns-in-Ok-More
 returns-in-Ok-More g c =

@@ -17,7 +17,7 @@ use Rattle.im_engine.proofs.Looked.{not_true}
 pub end-requires : goal.end-requires
 end-requires g c =
     let found = sym c.in-Some.ensures.found in
-    not_waiting c.args.self.now.txns.rows c.args.t c.in-Some.row found (ap is_committing (continue_mark c.args.self.now.txns.rows c.args.self.now.forward c.args.t c.in-Some.row found (alone_checked g.D.Disk c.args.self.now c.args.t (plain_under g.D.Disk c.args.self.now c.requires.plain) c.requires.checked)))
+    not_waiting c.args.self.now.txns.rows c.args.t c.in-Some.row found (ap is_committing (continue_mark c.args.self.now.txns.rows c.args.self.now.numbered.1 c.args.t c.in-Some.row found (alone_checked g.D.Disk c.args.self.now c.args.t (plain_under g.D.Disk c.args.self.now c.requires.plain) c.requires.checked)))
 
 pub returns-in_default : goal.returns-in_default
 returns-in_default g c =

@@ -25,7 +25,7 @@ pub end-requires : goal.end-requires
 end-requires g c =
     let old = c.args.self.now in
     let found = sym c.in-Some.ensures.found in
-    not_waiting old.txns.rows c.args.t c.in-Some.row found (ap is_committing (continue_mark old.txns.rows old.forward c.args.t c.in-Some.row found (other_checked old.txns.rows (under_of old.under) c.args.t c.requires.other c.requires.checked)))
+    not_waiting old.txns.rows c.args.t c.in-Some.row found (ap is_committing (continue_mark old.txns.rows old.numbered.1 c.args.t c.in-Some.row found (other_checked old.txns.rows (under_of old.under) c.args.t c.requires.other c.requires.checked)))
 
 pub returns-in_default : goal.returns-in_default
 returns-in_default g c =
