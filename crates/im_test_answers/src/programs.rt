@@ -15,7 +15,7 @@ static DRILLS: [(&[&str], u8); 4] = [
     (&["imdrill", "im_tool_script", "two"], 2),
 ];
 
-static STORES: [(&[&str], u8); 11] = [
+static STORES: [(&[&str], u8); 13] = [
     (&["imstore", "im_tool_store"], 0),
     (&["imstore", "im_tool_store", "--workers", "16"], 0),
     (&["imstore", "im_tool_store", "--switch", "0"], 0),
@@ -25,6 +25,8 @@ static STORES: [(&[&str], u8); 11] = [
     (&["imstore", "im_tool_store", "--check", "--switch", "1"], 2),
     (&["imstore", "--workers", "0"], 2),
     (&["imstore", "--workers", "17"], 2),
+    (&["imstore", "im_tool_store", "--stat", "--json"], 0),
+    (&["imstore", "im_tool_store", "--json"], 2),
     (&["imstore", "im_tool_no_folder"], 1),
     (&["imstore", "one", "two"], 2),
 ];

@@ -153,7 +153,7 @@ pub(crate) fn numbers_of<R: Threads + Sync>(
 ) -> Result<(u8, Vec<u8>), Fault> {
     let disk = scratch(alloc, copies)?;
     let mut printed = Vec::new(alloc);
-    let (status, _disk) = stat_text(rt, alloc, &mut printed, disk, &mut Untold);
+    let (status, _disk) = stat_text(rt, alloc, &mut printed, disk, false, &mut Untold);
     Ok((status.unwrap_or(u8::MAX), printed))
 }
 
@@ -163,7 +163,7 @@ fn has_two_leaves<R: Threads + Sync>(
     copies: &Copies,
 ) -> Result<bool, Fault> {
     let (status, printed) = numbers_of(rt, alloc, copies)?;
-    Ok(status == 0 && printed.starts_with(b"entries 16\nheight 2\nleaves 2 fill "))
+    Ok(status == 0 && printed.starts_with(b"entries 16\nheight 2\nleaves 2\nleaf_fill_percent "))
 }
 
 fn has_empty_leaf<R: Threads + Sync>(
@@ -175,8 +175,8 @@ fn has_empty_leaf<R: Threads + Sync>(
     Ok(
         printed
             .as_slice()
-            .windows(15)
-            .any(|line| line == b"\nempty leaves 1".as_slice()),
+            .windows(16)
+            .any(|line| line == b"\nempty_leaves 1\n".as_slice()),
     )
 }
 

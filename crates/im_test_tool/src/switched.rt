@@ -57,11 +57,11 @@ fn make_store<R: Threads + Sync>(
 }
 
 // What is told of a store after so many switches: its current log, and how many commits that has.
-static LOGS: [(u64, &str); 4] = [
-    (0, "\nlog generation 1 in log, from LSN 0\n"),
-    (1, "\nlog generation 2 in log2, from LSN "),
-    (2, "\nlog generation 3 in log, from LSN "),
-    (3, "\nlog generation 4 in log2, from LSN "),
+static LOGS: [(u64, &str, &str); 4] = [
+    (0, "\nlog_generation 1\nlog_base 0\n", "\nlog_file log\n"),
+    (1, "\nlog_generation 2\n", "\nlog_file log2\n"),
+    (2, "\nlog_generation 3\n", "\nlog_file log\n"),
+    (3, "\nlog_generation 4\n", "\nlog_file log2\n"),
 ];
 
 // The files of such a store with keys, whose folder goes again.
@@ -81,6 +81,7 @@ fn is_told<R: Threads + Sync>(
     alloc: Global,
     copies: &Copies,
     said: &str,
+    file: &str,
 ) -> Result<bool, Fault> {
     let whole = is_whole(rt, alloc, copies)?;
     let (status, numbers) = numbers_of(rt, alloc, copies)?;
@@ -89,7 +90,8 @@ fn is_told<R: Threads + Sync>(
             && status == 0
             && has_part(&numbers, said)
             && has_part(&numbers, "\ncommits 2\n")
-            && has_part(&numbers, "\nswitch waits for 0 transactions\n"),
+            && has_part(&numbers, "\ntransactions_to_undo 0\n")
+            && has_part(&numbers, file),
     )
 }
 
@@ -99,18 +101,22 @@ fn is_told_after<R: Threads + Sync>(
     threads: &R,
     switches: u64,
     said: &str,
+    file: &str,
 ) -> Result<bool, Fail> {
     let copies = copies_after(rt, threads, "im_tool_logs", switches)?;
-    Ok(is_told(threads, rt.alloc(), &copies, said)?)
+    Ok(is_told(threads, rt.alloc(), &copies, said, file)?)
 }
 
 fn each_is_told<R: Abort + Threads + Sync>(
     rt: &HostRuntime,
     threads: &R,
-    rows: &[(u64, &str)],
+    rows: &[(u64, &str, &str)],
 ) -> Result<(), Fail> {
-    for (switches, said) in rows {
-        assert!(threads; is_told_after(rt, threads, *switches, said)?, "{switches}");
+    for (switches, said, file) in rows {
+        assert!(threads;
+            is_told_after(rt, threads, *switches, said, file)?,
+            "{switches}"
+        );
     }
     Ok(())
 }

@@ -88,19 +88,20 @@ pub fn check_text<D: Disk + Drop, W: Write, P: Progress, T: Threads + Sync>(
     (status, disk)
 }
 
-/// Writes what a store has, in numbers, and answers the exit status, 0, or 1 where it is broken, and the disk.
+/// Writes what a store has, in numbers, a line for each, or all as an object of JSON, and answers the exit status, 0, or 1 where it is broken, and the disk.
 pub fn stat_text<D: Disk + Drop, W: Write, P: Progress, T: Threads + Sync>(
     rt: &T,
     alloc: Global,
     writer: &mut W,
     disk: ScratchDisk<D>,
+    is_json: bool,
     progress: &mut P,
 ) -> (io::Result<u8>, ScratchDisk<D>)
     ensures { IfOk result.0 (λ status. status ≤ 1) }
 {
     let (looked, disk) = look(rt, alloc, disk, progress);
     let status = match looked {
-        Ok(looked) => numbers_text(writer, &looked.surveyed, &looked.tree),
+        Ok(looked) => numbers_text(writer, &looked.surveyed, &looked.tree, is_json),
         Err(broken) => broken_text(writer, &broken),
     };
     (status, disk)

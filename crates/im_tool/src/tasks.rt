@@ -16,7 +16,7 @@ use im_tool_files::{
     print_refused_opening, tell, tell_unopened, tell_unread,
 };
 use im_tool_look::{LogDamage, log_text, read_log};
-use im_tool_user::{Form, LineInput, Options, Present, Task, WhyBad};
+use im_tool_user::{Form, LineInput, Numbers, Options, Present, Task, WhyBad};
 use std::fmt::{Display, Formatter};
 use std::io::{BufReader, BufWriter, IsTerminal, Write};
 use std::thread::Threads;
@@ -79,7 +79,10 @@ fn look_at<W: Write, T: Threads + Sync>(
     let mut progress = ProgressLine::new(rt.stderr(), rt.stderr().is_terminal(), "MiB read", rt);
     match task {
         Task::Check => check_text(threads, rt.alloc(), writer, disk, &mut progress),
-        Task::Stat => stat_text(threads, rt.alloc(), writer, disk, &mut progress),
+        Task::Stat(numbers) => {
+            let is_json = numbers == Numbers::Json;
+            stat_text(threads, rt.alloc(), writer, disk, is_json, &mut progress)
+        }
         Task::Log => print_log(rt, dir, writer, disk),
         Task::Dump(form) => dump(rt, threads, dir, writer, form, disk),
         Task::Steps | Task::Read | Task::Load(_) | Task::Trim | Task::Copy(_) => (Ok(0), disk),

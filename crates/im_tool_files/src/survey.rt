@@ -143,92 +143,92 @@ pub fn broken_text<W: Write>(writer: &mut W, broken: &Broken) -> io::Result<u8>
     Ok(1)
 }
 
-/// Writes what a store has, in numbers. It answers the exit status.
+/// Writes what a store has, each number with its name: a line for each, or all as an object of JSON. It answers the exit status.
 pub fn numbers_text<W: Write>(
     writer: &mut W,
     surveyed: &Surveyed,
     tree: &TreeSurvey,
+    is_json: bool,
 ) -> io::Result<u8>
     ensures { IfOk result (λ status. status ≤ 1) }
 {
-    tree_text(writer, tree)?;
-    logs_text(writer, surveyed)?;
-    survey_text(writer, &surveyed.said)?;
-    compared_text(writer, &surveyed.compared)?;
+    let file = file_name(surveyed.said.log.file);
+    if is_json {
+        writer.write_all(b"{\"log_file\":\"")?;
+        write!(writer, "{file}\"")?;
+    }
+    tree_text(writer, is_json, tree)?;
+    logs_text(writer, is_json, surveyed)?;
+    survey_text(writer, is_json, &surveyed.said)?;
+    compared_text(writer, is_json, &surveyed.compared)?;
+    if is_json {
+        writer.write_all(b"}\n")?;
+    } else {
+        writeln!(writer, "log_file {file}")?;
+    }
     Ok(0)
 }
 
-fn tree_text<W: Write>(writer: &mut W, tree: &TreeSurvey) -> io::Result<()> {
-    writeln!(writer, "entries {}", tree.entries)?;
-    writeln!(writer, "height {}", tree.height)?;
-    writeln!(
-        writer,
-        "leaves {} fill {}%",
-        tree.leaves,
-        fill(tree.leaf_bytes, tree.leaves)
-    )?;
-    if tree.empty_leaves > 0 {
-        writeln!(writer, "empty leaves {}", tree.empty_leaves)?;
+// Writes numbers, each with its name.
+fn named_text<W: Write>(writer: &mut W, is_json: bool, numbers: &[(&str, u64)]) -> io::Result<()> {
+    for (name, number) in numbers {
+        if is_json {
+            write!(writer, ",\"{name}\":{number}")?;
+        } else {
+            writeln!(writer, "{name} {number}")?;
+        }
     }
-    writeln!(
-        writer,
-        "inner pages {} fill {}%",
-        tree.inner,
-        fill(tree.inner_bytes, tree.inner)
-    )?;
-    writeln!(writer, "free pages {}", tree.free)
+    Ok(())
+}
+
+fn tree_text<W: Write>(writer: &mut W, is_json: bool, tree: &TreeSurvey) -> io::Result<()> {
+    let numbers = [
+        ("entries", tree.entries),
+        ("height", tree.height),
+        ("leaves", tree.leaves),
+        ("leaf_fill_percent", fill(tree.leaf_bytes, tree.leaves)),
+        ("empty_leaves", tree.empty_leaves),
+        ("inner_pages", tree.inner),
+        ("inner_fill_percent", fill(tree.inner_bytes, tree.inner)),
+        ("free_pages", tree.free),
+    ];
+    named_text(writer, is_json, &numbers)
 }
 
 // Which log is the current one, and how much of the files there is.
-fn logs_text<W: Write>(writer: &mut W, surveyed: &Surveyed) -> io::Result<()> {
+fn logs_text<W: Write>(writer: &mut W, is_json: bool, surveyed: &Surveyed) -> io::Result<()> {
     let log = &surveyed.said.log;
-    writeln!(
-        writer,
-        "log generation {} in {}, from LSN {}",
-        log.header().generation,
-        file_name(log.file),
-        log.header().base
-    )?;
-    writeln!(
-        writer,
-        "log bytes {} of {} in the file",
-        surveyed.said.end, surveyed.file
-    )?;
-    writeln!(
-        writer,
-        "other log generation {} bytes {}",
-        log.other_header().generation,
-        surveyed.other
-    )
+    let numbers = [
+        ("log_generation", log.header().generation),
+        ("log_base", log.header().base),
+        ("log_bytes", surveyed.said.end),
+        ("log_file_bytes", surveyed.file),
+        ("other_log_generation", log.other_header().generation),
+        ("other_log_file_bytes", surveyed.other),
+    ];
+    named_text(writer, is_json, &numbers)
 }
 
-fn survey_text<W: Write>(writer: &mut W, said: &Survey) -> io::Result<()> {
-    writeln!(
-        writer,
-        "log batches {} records {}",
-        said.batches, said.records
-    )?;
-    writeln!(writer, "commits {}", said.commits)?;
-    writeln!(writer, "redo point {}", said.analysed.redo_point)?;
-    writeln!(
-        writer,
-        "transactions to be undone {}",
-        said.analysed.losers.len()
-    )?;
-    writeln!(
-        writer,
-        "switch waits for {} transactions",
-        said.analysed.losers.len()
-    )?;
-    writeln!(writer, "next transaction {}", said.analysed.next)
+fn survey_text<W: Write>(writer: &mut W, is_json: bool, said: &Survey) -> io::Result<()> {
+    let losers = said.analysed.losers.len() as u64;
+    let numbers = [
+        ("log_batches", said.batches),
+        ("log_records", said.records),
+        ("commits", said.commits),
+        ("redo_point", said.analysed.redo_point),
+        ("transactions_to_undo", losers),
+        ("next_transaction", said.analysed.next),
+    ];
+    named_text(writer, is_json, &numbers)
 }
 
-fn compared_text<W: Write>(writer: &mut W, compared: &Compared) -> io::Result<()> {
-    writeln!(
-        writer,
-        "pages in the file {}, {} compared with the records below the redo point, {} restored from copies in the log",
-        compared.pages, compared.with_synced, compared.copied
-    )
+fn compared_text<W: Write>(writer: &mut W, is_json: bool, compared: &Compared) -> io::Result<()> {
+    let numbers = [
+        ("pages", compared.pages),
+        ("pages_compared", compared.with_synced),
+        ("pages_restored", compared.copied),
+    ];
+    named_text(writer, is_json, &numbers)
 }
 
 // How full so many pages are, in a hundred.

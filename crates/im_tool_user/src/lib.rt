@@ -25,5 +25,5 @@ pub use manner::{
     refuse_change, run_help, step_in,
 };
 pub use no_step::{NoStep, why_no_step};
-pub use options::{MOST_MIB, Options, Present, Task, parse_options};
+pub use options::{MOST_MIB, Numbers, Options, Present, Task, parse_options};
 pub use replies::{print_entries, print_reply, print_stop};

@@ -25,6 +25,15 @@ pub enum Present {
     Replaced,
 }
 
+/// How numbers are written that have a name.
+#[derive(Clone, Copy, Debug, PartialEq, Eq)]
+pub enum Numbers {
+    /// A line for each, its name and it.
+    Lines,
+    /// All of them as an object of JSON.
+    Json,
+}
+
 /// What the program is asked for.
 #[derive(Clone, Copy, Debug, PartialEq, Eq)]
 pub enum Task<'a> {
@@ -35,7 +44,7 @@ pub enum Task<'a> {
     /// Whether the store is whole, and what is broken where it is not.
     Check,
     /// What the store has, in numbers.
-    Stat,
+    Stat(Numbers),
     /// The records of the log.
     Log,
     /// The entries, as text of a form that `Load` takes.
@@ -99,7 +108,7 @@ fn task_of<'a>(matches: &ArgMatches<'a>) -> Task<'a> {
     } else if matches.get_flag("check") {
         Task::Check
     } else if matches.get_flag("stat") {
-        Task::Stat
+        Task::Stat(numbers_of(matches))
     } else if matches.get_flag("log") {
         Task::Log
     } else if matches.get_flag("dump") {
@@ -112,6 +121,14 @@ fn task_of<'a>(matches: &ArgMatches<'a>) -> Task<'a> {
         Task::Read
     } else {
         Task::Steps
+    }
+}
+
+fn numbers_of(matches: &ArgMatches) -> Numbers {
+    if matches.get_flag("json") {
+        Numbers::Json
+    } else {
+        Numbers::Lines
     }
 }
 
@@ -214,6 +231,11 @@ fn with_flags<'a>(alloc: Global, command: Command<'a>) -> Result<Command<'a>, Er
 
 // What is done in the place of steps.
 fn with_tasks<'a>(alloc: Global, command: Command<'a>) -> Result<Command<'a>, Error> {
+    with_loads(alloc, with_looks(alloc, command)?)
+}
+
+// What is told of a store, or printed of it, and changes nothing.
+fn with_looks<'a>(alloc: Global, command: Command<'a>) -> Result<Command<'a>, Error> {
     let mut command = command;
     command = with_task(
         alloc,
@@ -225,7 +247,14 @@ fn with_tasks<'a>(alloc: Global, command: Command<'a>) -> Result<Command<'a>, Er
         alloc,
         command,
         "stat",
-        "Print what the store has, in numbers, and change nothing",
+        "Print what the store has, numbers with their names, and change nothing",
+    )?;
+    command = with_flag_of(
+        alloc,
+        command,
+        "json",
+        "stat",
+        "Print them as an object of JSON",
     )?;
     command = with_task(
         alloc,
@@ -234,34 +263,40 @@ fn with_tasks<'a>(alloc: Global, command: Command<'a>) -> Result<Command<'a>, Er
         "Print the records of the log, and change nothing",
     )?;
     command = with_task(alloc, command, "dump", "Print all entries as text")?;
-    command = command.arg(flag(
+    with_flag_of(
         alloc,
+        command,
         "portable",
+        "dump",
         "Dump them as LMDB and Berkeley DB do, with row ids of 8 bytes",
     )
-    .requires_arg("dump")?)?;
+}
+
+// What puts entries in, and what cuts the logs.
+fn with_loads<'a>(alloc: Global, command: Command<'a>) -> Result<Command<'a>, Error> {
+    let mut command = command;
     command = with_task(
         alloc,
         command,
         "load",
         "Put in the entries that standard input has, as --dump prints them, in either form",
     )?;
-    command = command
-        .arg(
-            flag(
-                alloc,
-                "skip",
-                "Leave keys that are there as they are, so that a load which broke off goes on",
-            )
-            .requires_arg("load")?
-            .conflicts_with("replace")?,
-        )?
-        .arg(flag(
+    command = command.arg(
+        flag(
             alloc,
-            "replace",
-            "Give keys that are there the row ids of the dump",
+            "skip",
+            "Leave keys that are there as they are, so that a load which broke off goes on",
         )
-        .requires_arg("load")?)?;
+        .requires_arg("load")?
+        .conflicts_with("replace")?,
+    )?;
+    command = with_flag_of(
+        alloc,
+        command,
+        "replace",
+        "load",
+        "Give keys that are there the row ids of the dump",
+    )?;
     with_task(
         alloc,
         command,
@@ -300,6 +335,17 @@ fn with_task<'a>(
     help: &'a str,
 ) -> Result<Command<'a>, Error> {
     Ok(command.arg(task_flag(alloc, name, help)?)?)
+}
+
+// A flag that stands beside another.
+fn with_flag_of<'a>(
+    alloc: Global,
+    command: Command<'a>,
+    name: &'a str,
+    other: &'a str,
+    help: &'a str,
+) -> Result<Command<'a>, Error> {
+    Ok(command.arg(flag(alloc, name, help).requires_arg(other)?)?)
 }
 
 fn flag<'a>(alloc: Global, name: &'a str, help: &'a str) -> Arg<'a> {
