@@ -8,11 +8,13 @@ use std::test::Fail;
 use std::thread::Threads;
 use std::{fs, io};
 
-static DRILLS: [(&[&str], u8); 4] = [
+static DRILLS: [(&[&str], u8); 6] = [
     (&["imdrill", "im_tool_no_such_script"], 1),
     (&["imdrill", "."], 1),
     (&["imdrill", "im_tool_script"], 0),
     (&["imdrill", "im_tool_script", "two"], 2),
+    (&["imdrill", "--help"], 0),
+    (&["imdrill", "--version"], 0),
 ];
 
 static STORES: [(&[&str], u8); 13] = [

@@ -3,11 +3,13 @@
 ghost use Rattle.std.specs.Prelude.{◌≤◌, IfOk};
 
 use crate::text::drill_text;
+use crate::why_bad::why_bad;
 use clap::builder::ValueParser;
 use clap::{Arg, ArgAction, ArgMatches, Command, Error};
 use im_engine::BufferSize;
 use im_tool_every::{Sweep, every_text, sweep_text};
-use im_tool_lines::{reason_of, refused_line};
+use im_tool_lines::refused_line;
+use im_tool_user::VERSION;
 use std::alloc::{AllocError, Global};
 use std::io::{BufWriter, ErrorKind, IsTerminal, Read, Write};
 use std::thread::Threads;
@@ -82,8 +84,9 @@ fn run_file<W: Write, T: Threads + Sync>(
     match fs::read(rt, path) {
         Ok(text) => run_text(rt, threads, &text, run, writer),
         Err(error) if error.kind() == ErrorKind::OutOfMemory => Err(error),
-        Err(_) => {
+        Err(error) => {
             writeln!(writer, "script unreadable")?;
+            let _ = eprintln!(rt; "imdrill: {path}: {error}");
             Ok(1)
         }
     }
@@ -110,7 +113,7 @@ fn run_text<W: Write, T: Threads + Sync>(
     };
     writer.write_all(&printed)?;
     if let Some((number, line)) = refused_line(&printed, text) {
-        let reason = reason_of(line);
+        let reason = why_bad(line);
         let _ = eprintln!(rt; "imdrill: line {number}: {reason}");
     }
     Ok(status)
@@ -218,24 +221,52 @@ fn buffer_of(batches: Option<u64>) -> Option<BufferSize> {
 }
 
 fn parse_words<'a>(alloc: Global, words: &'a [String]) -> Result<ArgMatches<'a>, Error> {
-    let script = Arg::new(alloc, "SCRIPT");
-    let every = Arg::new(alloc, "every")
-        .long("every")
-        .action(ArgAction::SetTrue);
-    let fails = Arg::new(alloc, "every-failure")
-        .long("every-failure")
-        .action(ArgAction::SetTrue);
-    let settings = Arg::new(alloc, "settings")
-        .long("settings")
-        .action(ArgAction::SetTrue);
-    let buffer = Arg::new(alloc, "buffer")
-        .long("buffer")
-        .value_parser(ValueParser::unsigned(1, 64));
-    let command = Command::new(alloc, "imdrill")
-        .arg(every)?
-        .arg(fails)?
-        .arg(settings)?
-        .arg(buffer)?
-        .arg(script)?;
+    let command = Command::new(alloc, "imdrill").version(VERSION).about(
+        "Runs a script of lives of a store, over a disk in memory that can stop within each of its calls, and prints what is there afterwards",
+    );
+    let command = with_buffer(alloc, with_sweeps(alloc, command)?)?;
     command.try_get_matches_from(words)
+}
+
+// What is done with the last life of the script.
+fn with_sweeps<'a>(alloc: Global, command: Command<'a>) -> Result<Command<'a>, Error> {
+    let command = command
+        .arg(flag(
+            alloc,
+            "every",
+            "Stop its one life within each call, and each opening after that, and print how many were bad",
+        ))?
+        .arg(flag(
+            alloc,
+            "every-failure",
+            "Have each call of its last life fail, and each of an opening after it, and print how many were bad",
+        ))?
+        .arg(flag(
+            alloc,
+            "settings",
+            "Beside one of these: in each setting that the life leaves open, with a line for each",
+        ))?;
+    Ok(command)
+}
+
+// How large the log's buffer is, and the script.
+fn with_buffer<'a>(alloc: Global, command: Command<'a>) -> Result<Command<'a>, Error> {
+    let command = command
+        .arg(
+            Arg::new(alloc, "buffer")
+                .long("buffer")
+                .value_parser(ValueParser::unsigned(1, 64))
+                .help(
+                    "Batches that the log's buffer holds, 1 to 64 [1; with --settings 1, 4 and 32]",
+                ),
+        )?
+        .arg(Arg::new(alloc, "SCRIPT").help("The file of the script; without one standard input"))?;
+    Ok(command)
+}
+
+fn flag<'a>(alloc: Global, name: &'a str, help: &'a str) -> Arg<'a> {
+    Arg::new(alloc, name)
+        .long(name)
+        .action(ArgAction::SetTrue)
+        .help(help)
 }

@@ -11,6 +11,7 @@
 mod imdrill;
 mod store_text;
 mod text;
+mod why_bad;
 
 pub use imdrill::drill_program;
 pub use text::drill_text;

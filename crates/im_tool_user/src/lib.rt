@@ -27,3 +27,4 @@ pub use manner::{
 pub use no_step::{NoStep, why_no_step};
 pub use options::{MOST_MIB, Numbers, Options, Present, Task, parse_options};
 pub use replies::{print_entries, print_reply, print_stop};
+pub use version::VERSION;
