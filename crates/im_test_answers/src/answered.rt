@@ -101,7 +101,7 @@ static RUNS: [Run; 12] = [
         manner: IN_WORDS,
         lines: "help die\nhelp force\nhelp di\nbegin\nfetch 1 \"a b\"c\nfetch 1 x'61'62\nfetch 1 \"é\"\nscan 1 \"a\" \"b\"c 9\nquit\nbegin\n",
         end: StoreEnd::Input,
-        printed: "Nothing was done: an older transaction is in the way. `rollback N`, `continue N` while there is `more`, and begin again.\nforce                    makes the log durable\nA commit does that by itself.\nrefused 16: a bad line\nstarted 1\nrefused 16: a bad line: KEY is not written so in `fetch N KEY`, `help KEY` says how\nrefused 16: a bad line: KEY is not written so in `fetch N KEY`, `help KEY` says how\nabsent\nrefused 16: a bad line: KEY is not written so in `scan N KEY KEY LIMIT`, `help KEY` says how\n",
+        printed: "Nothing was done: an older transaction is in the way. `rollback N`, `continue N` while there is `more`, and begin again.\nforce                    makes the log durable\nA commit does that by itself.\nrefused 16: a bad line: `help` has no such word, alone it has all lines\nstarted 1\nrefused 16: a bad line: KEY is not written so in `fetch N KEY`, `help KEY` says how\nrefused 16: a bad line: KEY is not written so in `fetch N KEY`, `help KEY` says how\nabsent\nrefused 16: a bad line: KEY is not written so in `scan N KEY KEY LIMIT`, `help KEY` says how\n",
     },
     Run {
         name: "a store that is only read refuses changes, and goes on",
@@ -187,6 +187,71 @@ static RUNS: [Run; 12] = [
     },
 ];
 
+// Lines for daily use, and the words of bad ones.
+static DAILY: [Run; 6] = [
+    Run {
+        name: "lines that are a transaction by themselves are in words",
+        log: b"",
+        fails: 0,
+        bound: 0,
+        manner: BY_NUMBERS,
+        lines: "put apple 7\nget apple\nput apple 8\nget apple\nget \"a b\"\nput x'6100' 1\nlist\nlist b\nlist x'61' apple\nlist \"b\" a\ndel apple\ndel apple\nlist\nentries\n",
+        end: StoreEnd::Input,
+        printed: "committed\n7\ncommitted\n8\nabsent\ncommitted\ntotal 2\nx'6100' 1\napple 8\ntotal 0\ntotal 2\nx'6100' 1\napple 8\ntotal 0\ncommitted\nabsent\ntotal 1\nx'6100' 1\ntotal 1\n6100 1\n",
+    },
+    Run {
+        name: "a point names the transaction begun last, and what is active is in the way of a line by itself",
+        log: b"",
+        fails: 0,
+        bound: 0,
+        manner: BY_NUMBERS,
+        lines: "insert . a 1\nbegin\ninsert . \"a b\" 1\nfetch . x'612062'\nfetch . \"a b\"\nput c 1\nput \"a b\" 2\nget \"a b\"\nlist\nlist b\ncommit .\ncommit .\nget \"a b\"\nbegin\nput d 1\nrollback .\n",
+        end: StoreEnd::Input,
+        printed: "refused 1: no transaction was begun last, of which `.` would be the number\nstarted 1\ninserted\nfound 1\nfound 1\ncommitted\nrefused 15: an active transaction has a lock on that: commit it, or roll it back, and ask again\nrefused 15: an active transaction has a lock on that: commit it, or roll it back, and ask again\nrefused 15: an active transaction has a lock on that: commit it, or roll it back, and ask again\ntotal 1\nc 1\ncommitted\nrefused 1: no active transaction of that number\n1\nstarted 8\ncommitted\nrolledback\n",
+    },
+    Run {
+        name: "such lines in a store that is only read",
+        log: b"",
+        fails: 0,
+        bound: 0,
+        manner: TO_READ,
+        lines: "put a 1\nget a\ndel a\nlist\nbegin\nfetch . a\ninsert . a 1\ncommit .\n",
+        end: StoreEnd::Input,
+        printed: "refused 110: the store is only read\nabsent\nrefused 110: the store is only read\ntotal 0\nstarted 3\nabsent\nrefused 110: the store is only read\ncommitted\n",
+    },
+    Run {
+        name: "why such lines are bad",
+        log: b"",
+        fails: 0,
+        bound: 0,
+        manner: BY_NUMBERS,
+        lines: "put a\nput a 18446744073709551616\nput \"\" 1\nput a 007\nget\nget a b\nlist a b c\ndel é\nfetch . \ncommit . 1\nflush .\n",
+        end: StoreEnd::Input,
+        printed: "refused 16: a bad line: ROWID is missing in `put KEY ROWID`\nrefused 16: a bad line: ROWID is no number that may stand in `put KEY ROWID`\nrefused 3: a key has 1 to 255 bytes\nrefused 16: a bad line: ROWID is no number that may stand in `put KEY ROWID`\nrefused 16: a bad line: KEY is missing in `get KEY`\nrefused 16: a bad line: nothing may follow `get KEY`\nrefused 16: a bad line: nothing may follow `list [LO [HI]]`\nrefused 16: a bad line: KEY has other bytes than printable ASCII in `del KEY`, which stand in quotation marks, or as x'6100'\nrefused 16: a bad line: KEY is not written so in `fetch N KEY`, `help KEY` says how\nrefused 16: a bad line: nothing may follow `commit N`\nrefused 16\n",
+    },
+    Run {
+        name: "why other lines are bad",
+        log: b"",
+        fails: 0,
+        bound: 0,
+        manner: IN_WORDS,
+        lines: "insert 2 a 007\nflush 4294967296\ninsert 2 é 1\nexit\n# a\n\x1b[A\nfetch x a\n",
+        end: StoreEnd::Input,
+        printed: "refused 16: a bad line: ROWID is no number that may stand in `insert N KEY ROWID`\nrefused 16: a bad line: PAGE is no number that may stand in `flush PAGE`\nrefused 16: a bad line: KEY has other bytes than printable ASCII in `insert N KEY ROWID`, which stand in quotation marks, or as x'6100'\nrefused 16: a bad line: no line begins so, `quit` ends the program, as the end of the input does\nrefused 16: a bad line: lines have no comments\nrefused 16: a bad line: lines are not edited here, `rlwrap imstore` gives arrow keys and a history\nrefused 16: a bad line: N is no number that may stand in `fetch N KEY`\n",
+    },
+    // A creation makes six device calls: the seventh is the first of the Checkpoint that is due after the insert.
+    Run {
+        name: "a Checkpoint that is refused between the steps of a line is told after it",
+        log: b"",
+        fails: 7,
+        bound: 4_096,
+        manner: BY_NUMBERS,
+        lines: "put a 7\nget a\n",
+        end: StoreEnd::Input,
+        printed: "refused 10: the store has failed: open it again\ncheckpoint refused 8: a call of the disk failed\nrefused 10: the store has failed: open it again\n",
+    },
+];
+
 // What a store on a disk answers to these lines, and how the run ended.
 fn answers<D: Disk + Cause + Opening + Ending + Drop, R: Threads + Sync>(
     rt: &R,
@@ -241,6 +306,11 @@ fn each_is_so<R: Abort + Threads + Sync>(rt: &R, alloc: Global, runs: &[Run]) ->
 #[test]
 fn a_store_answers_its_lines(rt: HostRuntime) -> Result<(), Fail> {
     each_is_so(&rt, rt.alloc(), &RUNS)
+}
+
+#[test]
+fn a_store_answers_lines_for_daily_use(rt: HostRuntime) -> Result<(), Fail> {
+    each_is_so(&rt, rt.alloc(), &DAILY)
 }
 
 // What a store in a folder answers to these lines, and how the run ended.

@@ -25,10 +25,10 @@ static STORES: [(&[&str], u8); 13] = [
     (&["imstore", "--switch", "1048577"], 2),
     (&["imstore", "--switch", "-1"], 2),
     (&["imstore", "im_tool_store", "--check", "--switch", "1"], 2),
-    (&["imstore", "--workers", "0"], 2),
-    (&["imstore", "--workers", "17"], 2),
     (&["imstore", "im_tool_store", "--stat", "--json"], 0),
     (&["imstore", "im_tool_store", "--json"], 2),
+    (&["imstore", "--workers", "0"], 2),
+    (&["imstore", "--workers", "17"], 2),
     (&["imstore", "im_tool_no_folder"], 1),
     (&["imstore", "one", "two"], 2),
 ];

@@ -59,9 +59,9 @@ fn read_part<D: TwoLogs + Drop>(
     }
 }
 
-// The least key above one, if there is one: with a byte 0 at its end, or where it has no room for that, without the bytes 255 at its end, and the
-// byte before them greater by one.
-fn key_after(alloc: Global, key: &[u8]) -> Result<Option<Vec<u8>>, Fault> {
+/// The least key above one, if there is one: with a byte 0 at its end, or where it has no room for that, without the bytes 255 at its end, and the
+/// byte before them greater by one.
+pub(crate) fn key_after(alloc: Global, key: &[u8]) -> Result<Option<Vec<u8>>, Fault> {
     let mut after = Vec::from_slice(alloc, key).map_err(|_| Fault::Memory)?;
     if after.len() < LONGEST_KEY {
         after.push(0).map_err(|_| Fault::Memory)?;

@@ -20,6 +20,7 @@ mod recovered;
 mod store;
 mod tasks;
 mod transfer;
+mod whole;
 
 pub use copying::{Copier, NoCopies};
 pub use dump::dump_text;

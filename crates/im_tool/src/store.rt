@@ -4,17 +4,18 @@ ghost use Rattle.std.specs.Prelude.{◌≡◌, false};
 ghost use Rattle.im_base_disk.specs.Runs.{IsSynced};
 
 use crate::copying::Copier;
+use crate::whole::{made_whole, print_whole};
 use im_base_disk::Disk;
 use im_base_steps::{Reply, Step};
 use im_base_two_logs::TwoLogs;
-use im_base_types::Fault;
+use im_base_types::{Fault, TxnId};
 use im_engine::Config;
-use im_store::{Bounds, Due, OpenStore};
+use im_store::{Bounds, Due, OpenStore, Unkept};
 use im_tool_files::{Cause, Causes, Ending, NoCopy, Opening, print_refused_opening};
 use im_tool_user::{
-    LineInput, Manner, end_prompt, is_change, is_help, print_entries, print_prompt, print_refused,
-    print_reply, print_stop, refuse, refuse_change, run_help, step_in, why_no_step,
-    without_newline,
+    Asked, LineInput, Manner, Whole, asked_in, end_prompt, has_noted_key, is_help, manner_of_line,
+    print_entries, print_prompt, print_refused, print_reply, print_stop, refuse, refuse_change,
+    run_help, why_no_step, without_newline,
 };
 use im_tool_words::report_text;
 use std::alloc::{AllocError, Global};
@@ -96,7 +97,7 @@ fn run_to_end<D: TwoLogs + Cause + Drop, R: LineInput, W: Write, E: Write, C: Co
         return run_all_lines(alloc, store, manner, reader, writer, causes, copier);
     }
     store.keep();
-    let refused = tell_unkept(store, manner, writer)?;
+    let refused = tell_unkept(store.unkept(), manner, writer)?;
     causes.tell(store.engine().disk());
     if refused.is_some() && manner.is_batch {
         return Ok(StoreEnd::RefusedLine);
@@ -156,6 +157,16 @@ fn run_all_lines<D: TwoLogs + Cause + Drop, R: LineInput, W: Write, E: Write, C:
     )
 }
 
+// What is known from one line to the next.
+#[derive(Clone, Copy)]
+struct Session {
+    // The transaction of the last line `begin`, unless that was refused.
+    last: Option<TxnId>,
+    // It was told that the log is past its bound, and how a key was read.
+    is_held_up: bool,
+    is_noted: bool,
+}
+
 // Reads line by line into the room for one.
 fn run_lines<D: TwoLogs + Cause + Drop, R: LineInput, W: Write, E: Write, C: Copier<D>>(
     alloc: Global,
@@ -167,8 +178,12 @@ fn run_lines<D: TwoLogs + Cause + Drop, R: LineInput, W: Write, E: Write, C: Cop
     causes: &mut Causes<E>,
     copier: &mut C,
 ) -> io::Result<StoreEnd> {
-    let mut is_told = false;
-    for _count in 0..u64::MAX {
+    let mut session = Session {
+        last: None,
+        is_held_up: false,
+        is_noted: false,
+    };
+    for count in 0..u64::MAX {
         if !reader.has_line() {
             print_prompt(manner, writer)?;
             writer.flush()?;
@@ -183,8 +198,9 @@ fn run_lines<D: TwoLogs + Cause + Drop, R: LineInput, W: Write, E: Write, C: Cop
             return Ok(StoreEnd::Input);
         }
         if !text.is_empty() {
-            let refused = run_line(alloc, store, manner, text, writer, copier)?;
-            is_told = tell_held_up(store, manner, is_told, writer)?;
+            session.is_noted = tell_noted(manner, session.is_noted, text, count, causes);
+            let refused = run_line(alloc, store, manner, &mut session, text, writer, copier)?;
+            session.is_held_up = tell_held_up(store, manner, session.is_held_up, writer)?;
             causes.tell(store.engine().disk());
             if refused == Some(Fault::NotAStore) {
                 causes.tell_broken();
@@ -198,12 +214,12 @@ fn run_lines<D: TwoLogs + Cause + Drop, R: LineInput, W: Write, E: Write, C: Cop
 }
 
 // Writes what was refused of the upkeep after the last step, and answers it, if anything was.
-fn tell_unkept<D: TwoLogs + Drop, W: Write>(
-    store: &OpenStore<D>,
+fn tell_unkept<W: Write>(
+    unkept: Option<Unkept>,
     manner: Manner,
     writer: &mut W,
 ) -> io::Result<Option<Fault>> {
-    let Some(unkept) = store.unkept() else {
+    let Some(unkept) = unkept else {
         return Ok(None);
     };
     write!(writer, "{} ", name_of(unkept.due))?;
@@ -227,6 +243,30 @@ fn tell_held_up<D: TwoLogs + Drop, W: Write>(
     Ok(is_so)
 }
 
+// Says once, where no words are wanted, that a key stands for itself which would be read otherwise with words. It answers whether that was said. Where it cannot
+// be written nobody reads it.
+fn tell_noted<E: Write>(
+    manner: Manner,
+    is_noted: bool,
+    line: &[u8],
+    count: u64,
+    causes: &mut Causes<E>,
+) -> bool {
+    if is_noted || manner.has_words || !has_noted_key(line) {
+        return is_noted;
+    }
+    if manner_of_line(manner, line).has_words {
+        return false;
+    }
+    let _ = writeln!(
+        causes.writer,
+        "imstore: {}: line {}: the key is taken as it stands, with its marks: --words reads \"a b\" and x'6100' as a terminal does",
+        causes.dir,
+        count.saturating_add(1)
+    );
+    true
+}
+
 // What a refusal of what is due is told of. A page that is written when nothing is due is written for the next Checkpoint too.
 fn name_of(due: Due) -> &'static str {
     match due {
@@ -240,6 +280,7 @@ fn run_line<D: TwoLogs + Drop, W: Write, C: Copier<D>>(
     alloc: Global,
     store: &mut OpenStore<D>,
     manner: Manner,
+    session: &mut Session,
     line: &[u8],
     writer: &mut W,
     copier: &mut C,
@@ -266,13 +307,38 @@ fn run_line<D: TwoLogs + Drop, W: Write, C: Copier<D>>(
     if manner.has_words && is_help(line) {
         return run_help(manner, line, writer);
     }
-    match step_in(alloc, manner, line) {
-        Ok(step) if manner.is_read && is_change(&step) => {
+    run_asked(
+        alloc,
+        store,
+        manner_of_line(manner, line),
+        session,
+        line,
+        writer,
+    )
+}
+
+// Makes the step or the transaction that a line asks for.
+fn run_asked<D: TwoLogs + Drop, W: Write>(
+    alloc: Global,
+    store: &mut OpenStore<D>,
+    manner: Manner,
+    session: &mut Session,
+    line: &[u8],
+    writer: &mut W,
+) -> io::Result<Option<Fault>> {
+    match asked_in(alloc, manner, session.last, line) {
+        Ok(asked) if manner.is_read && asked.is_change() => {
             refuse_change(writer, manner)?;
             // (it ends a batch as a line does that is none)
             Ok(Some(Fault::BadScript))
         }
-        Ok(step) => run_step(alloc, store, manner, &step, writer),
+        Ok(Asked::Step(step)) => run_step(alloc, store, manner, session, &step, writer),
+        Ok(Asked::Whole(whole)) => run_whole(alloc, store, manner, whole, writer),
+        Ok(Asked::OfNone) => {
+            let words = "no transaction was begun last, of which `.` would be the number";
+            print_refused(writer, manner, Fault::NoTransaction.number(), &words)?;
+            Ok(Some(Fault::NoTransaction))
+        }
         Err(Fault::BadScript) => {
             let why = why_no_step(alloc, line);
             print_refused(writer, manner, Fault::BadScript.number(), &why)?;
@@ -280,6 +346,21 @@ fn run_line<D: TwoLogs + Drop, W: Write, C: Copier<D>>(
         }
         Err(_) => Err(io::Error::from(AllocError)),
     }
+}
+
+// Makes a transaction by itself, and answers the refusal, if it was refused, or the upkeep after a step of it.
+fn run_whole<D: TwoLogs + Drop, W: Write>(
+    alloc: Global,
+    store: &mut OpenStore<D>,
+    manner: Manner,
+    whole: Whole,
+    writer: &mut W,
+) -> io::Result<Option<Fault>> {
+    let mut unkept = None;
+    let done = made_whole(alloc, store, whole, &mut unkept);
+    let refused = print_whole(alloc, writer, manner, done)?;
+    let told = tell_unkept(unkept, manner, writer)?;
+    Ok(refused.or(told))
 }
 
 // The folder that a line `copy FOLDER` names.
@@ -319,10 +400,14 @@ fn run_step<D: TwoLogs + Drop, W: Write>(
     alloc: Global,
     store: &mut OpenStore<D>,
     manner: Manner,
+    session: &mut Session,
     step: &Step,
     writer: &mut W,
 ) -> io::Result<Option<Fault>> {
     let reply = store.step(step);
+    if matches!(step, Step::Begin) {
+        session.last = begun_by(&reply);
+    }
     if let Reply::Refused(fault) = reply {
         return refuse(writer, manner, fault);
     }
@@ -334,5 +419,13 @@ fn run_step<D: TwoLogs + Drop, W: Write>(
     if matches!(&reply, Reply::Committed) {
         writer.flush()?;
     }
-    tell_unkept(store, manner, writer)
+    tell_unkept(store.unkept(), manner, writer)
+}
+
+// The transaction that a reply says was begun.
+fn begun_by(reply: &Reply) -> Option<TxnId> {
+    match reply {
+        Reply::Started(number) => Some(*number),
+        _ => None,
+    }
 }

@@ -4,7 +4,27 @@ use std::io;
 use std::io::Write;
 
 /// Each line that asks for something: how it is written, what it does, and what else is to be known of it.
-static LINES: [(&str, &str, &str); 20] = [
+static LINES: [(&str, &str, &str); 24] = [
+    (
+        "put KEY ROWID",
+        "puts a key in, or gives it another row id, and keeps that",
+        "A transaction by itself, kept once it answers `committed`. Refused 15 where an active transaction is in the way.",
+    ),
+    (
+        "get KEY",
+        "answers the row id of a key",
+        "Answers it, or `absent`. What active transactions changed is refused, 15.",
+    ),
+    (
+        "del KEY",
+        "takes a key out, and keeps that",
+        "A transaction by itself, kept once it answers `committed`; or it answers `absent`. Refused 15 where an active transaction is in the way.",
+    ),
+    (
+        "list [LO [HI]]",
+        "all keys, or those from LO on, or from LO to HI",
+        "Answers `total COUNT` and a line for each, as they are at one moment. What active transactions changed is refused, 15.",
+    ),
     (
         "begin",
         "a transaction begins; its number is answered",
@@ -43,7 +63,7 @@ static LINES: [(&str, &str, &str); 20] = [
     (
         "scan N KEY KEY LIMIT",
         "answers the keys from one to another, LIMIT at most",
-        "A LIMIT above 256 is taken for 256. Where a scan stops for that, it says how to go on.",
+        "A LIMIT above 256 is taken for 256, and 0 for 1. Where a scan stops for that, it says how to go on.",
     ),
     (
         "commit N",
@@ -98,7 +118,7 @@ static LINES: [(&str, &str, &str); 20] = [
     (
         "help [WORD]",
         "this list, or more on one of its words",
-        "The words are the first of each line, and `KEY`, `blocked`, `die`, `more`.",
+        "The words are the first of each line, and `KEY`, `N`, `blocked`, `die`, `more`.",
     ),
     (
         "quit",
@@ -109,14 +129,19 @@ static LINES: [(&str, &str, &str); 20] = [
 
 const NOTES: &str =
     "KEY is text without spaces, \"text with spaces\", or x'6100'. Up to 64 transactions are active at a time.
+N is the number of a transaction, or `.` for the one begun last. `put`, `get`, `del` and `list` are a transaction by themselves.
 A step that is `blocked` is asked for again once that transaction has ended; after `die` its transaction has to roll back.
 ";
 
 /// The words that begin no line.
-static WORDS: [(&str, &str); 4] = [
+static WORDS: [(&str, &str); 5] = [
     (
         "KEY",
         "A key has 1 to 255 bytes. It is text without spaces, where a+b*3 stands for abbb; \"a b\", any bytes but a quotation mark; or x'6100', in hexadecimal digits.",
+    ),
+    (
+        "N",
+        "The number of a transaction, as `begin` answered it, or `.` for the one that the last `begin` of this run began.",
     ),
     (
         "blocked",

@@ -23,11 +23,20 @@ pub struct Manner {
     pub is_read: bool,
 }
 
+impl Manner {
+    /// The same, in words.
+    pub(crate) fn in_words(self) -> Manner {
+        let mut manner = self;
+        manner.has_words = true;
+        manner
+    }
+}
+
 /// The number that is printed where a line would change a store that is only read. The engine has no such refusal.
 pub const ONLY_READ: u8 = 110;
 
 /// Whether a step asks for a change, of the entries or of the files.
-pub fn is_change(step: &Step) -> bool {
+pub(crate) fn is_change(step: &Step) -> bool {
     match step {
         Step::Insert(..)
         | Step::Delete(..)
@@ -73,7 +82,7 @@ pub fn end_prompt<W: Write>(manner: Manner, writer: &mut W) -> io::Result<()> {
 /// The step that a line asks for, in the notation of keys that is wanted.
 ///
 /// Refused `BadScript` where the line asks for none; `Memory`.
-pub fn step_in(alloc: Global, manner: Manner, line: &[u8]) -> Result<Step, Fault> {
+pub(crate) fn step_in(alloc: Global, manner: Manner, line: &[u8]) -> Result<Step, Fault> {
     if manner.has_words {
         words_step(alloc, line)
     } else {
@@ -105,7 +114,10 @@ pub fn run_help<W: Write>(
     if write_help_on(writer, word)? {
         return Ok(None);
     }
-    refuse(writer, manner, Fault::BadScript)
+    let number = Fault::BadScript.number();
+    let words = "a bad line: `help` has no such word, alone it has all lines";
+    print_refused(writer, manner, number, &words)?;
+    Ok(Some(Fault::BadScript))
 }
 
 /// Writes a refusal by its number, and in words where they are wanted. It answers true.

@@ -2,21 +2,33 @@
 
 use crate::help::usage_of;
 use im_tool_look::noted_key;
+use im_tool_words::{first_piece, number_of, page_of};
 use std::alloc::Global;
 use std::fmt;
 use std::fmt::{Display, Formatter};
+
+/// The byte with which what a terminal sends for an arrow key begins.
+const ESCAPE: u8 = 27;
 
 /// Why a line that asks for no step is none, where that can be told. The usage is how the line of that word is written, and a part of it one of its words.
 #[derive(Clone, Copy, Debug, PartialEq, Eq)]
 pub enum NoStep {
     /// No line begins with this word.
     OtherWord,
+    /// Nor with this one, by which other programs are ended.
+    Quit,
+    /// It is a comment.
+    Comment,
+    /// It has a byte that a key for moving the cursor sends.
+    Cursor,
     /// The line ends before this part.
     Missing(&'static str, &'static str),
     /// This part is no number that may stand there.
     NoNumber(&'static str, &'static str),
     /// The key is not written as a key.
     NoKey(&'static str),
+    /// The key is no text that stands without quotation marks.
+    NoText(&'static str),
     /// What stands for a folder names none.
     NoFolder(&'static str),
     /// Something stands after the last part.
@@ -29,6 +41,15 @@ impl Display for NoStep {
             NoStep::OtherWord => write!(
                 f,
                 "a bad line: no line begins so, `help` has those that do"
+            ),
+            NoStep::Quit => write!(
+                f,
+                "a bad line: no line begins so, `quit` ends the program, as the end of the input does"
+            ),
+            NoStep::Comment => write!(f, "a bad line: lines have no comments"),
+            NoStep::Cursor => write!(
+                f,
+                "a bad line: lines are not edited here, `rlwrap imstore` gives arrow keys and a history"
             ),
             NoStep::Missing(usage, part) => {
                 write!(f, "a bad line: {part} is missing in `{usage}`")
@@ -45,6 +66,12 @@ impl Display for NoStep {
                     "a bad line: KEY is not written so in `{usage}`, `help KEY` says how"
                 )
             }
+            NoStep::NoText(usage) => {
+                write!(
+                    f,
+                    "a bad line: KEY has other bytes than printable ASCII in `{usage}`, which stand in quotation marks, or as x'6100'"
+                )
+            }
             NoStep::NoFolder(usage) => {
                 write!(f, "a bad line: FOLDER names no folder in `{usage}`")
             }
@@ -55,26 +82,51 @@ impl Display for NoStep {
 
 /// Why such a line is none.
 pub fn why_no_step(alloc: Global, line: &[u8]) -> NoStep {
-    let (word, rest) = piece_of(line);
-    let Some(usage) = usage_of(word) else {
-        return NoStep::OtherWord;
-    };
+    if line.contains(&ESCAPE) {
+        return NoStep::Cursor;
+    }
+    let (word, rest) = first_piece(line, b' ');
+    match usage_of(word) {
+        Some(usage) => why_not(alloc, usage, rest),
+        None => why_no_word(word),
+    }
+}
+
+fn why_no_word(word: &[u8]) -> NoStep {
+    if word.starts_with(b"#") {
+        return NoStep::Comment;
+    }
+    match word {
+        b"exit" | b"bye" | b"q" | b".quit" | b".exit" => NoStep::Quit,
+        _ => NoStep::OtherWord,
+    }
+}
+
+// Why what stands after a word does not follow it, in a line that is written so.
+fn why_not(alloc: Global, usage: &'static str, rest: Option<&[u8]>) -> NoStep {
     let mut left = rest;
+    let mut has_other_bytes = false;
     for part in usage.split(' ').skip(1) {
         let Some(text) = left else {
+            if may_lack(part) {
+                break;
+            }
             return NoStep::Missing(usage, part);
         };
         if part == "FOLDER" {
             return NoStep::NoFolder(usage);
         }
-        left = if part == "KEY" {
+        left = if is_key(part) {
             match after_key(alloc, text) {
-                Ok(after) => after,
+                Ok((is_text, after)) => {
+                    has_other_bytes = has_other_bytes || !is_text;
+                    after
+                }
                 Err(()) => return NoStep::NoKey(usage),
             }
         } else {
-            let (number, after) = piece_of(text);
-            if !is_number(number) {
+            let (number, after) = first_piece(text, b' ');
+            if !is_number(part, number) {
                 return NoStep::NoNumber(usage, part);
             }
             after
@@ -82,37 +134,39 @@ pub fn why_no_step(alloc: Global, line: &[u8]) -> NoStep {
     }
     match left {
         Some(_) => NoStep::More(usage),
+        None if has_other_bytes => NoStep::NoText(usage),
         // (what is left to be wrong is a plain key with a sign of repetition that repeats nothing)
         None => NoStep::NoKey(usage),
     }
 }
 
-// A line up to its first space, and what stands after that.
-fn piece_of(line: &[u8]) -> (&[u8], Option<&[u8]>) {
-    for place in 0..line.len() {
-        if line[place] == b' ' {
-            return (&line[..place], Some(&line[place + 1..]));
-        }
-    }
-    (line, None)
+fn is_key(part: &str) -> bool {
+    part == "KEY" || part == "[LO" || part == "[HI]]"
 }
 
-// What stands after a key and a space.
-fn after_key(alloc: Global, text: &[u8]) -> Result<Option<&[u8]>, ()> {
+// Whether a line may end before that part.
+fn may_lack(part: &str) -> bool {
+    part.as_bytes().starts_with(b"[")
+}
+
+// Whether a key is noted, or text of printable ASCII, and what stands after it and a space.
+fn after_key(alloc: Global, text: &[u8]) -> Result<(bool, Option<&[u8]>), ()> {
     match noted_key(alloc, text) {
-        Ok(Some((_, [b' ', after @ ..]))) => Ok(Some(after)),
-        Ok(Some((_, []))) => Ok(None),
-        Ok(None) => Ok(piece_of(text).1),
+        Ok(Some((_, [b' ', after @ ..]))) => Ok((true, Some(after))),
+        Ok(Some((_, []))) => Ok((true, None)),
+        Ok(None) => {
+            let (key, after) = first_piece(text, b' ');
+            Ok((key.iter().all(|byte| byte.is_ascii_graphic()), after))
+        }
         _ => Err(()),
     }
 }
 
-fn is_number(digits: &[u8]) -> bool {
-    if digits.first().copied() == Some(b'+') {
-        return false;
-    }
-    match std::str::from_utf8(digits) {
-        Ok(text) => text.parse::<u64>().is_ok(),
-        Err(_) => false,
+// Whether this is a number that may stand for that part; for that of a transaction also `.`.
+fn is_number(part: &str, word: &[u8]) -> bool {
+    match part {
+        "N" => word == b".".as_slice() || number_of(word).is_some(),
+        "PAGE" => page_of(word).is_ok(),
+        _ => number_of(word).is_some(),
     }
 }

@@ -3,7 +3,7 @@
 ghost use Rattle.std.specs.Prelude.{◌≤◌, length, IfSome};
 
 use im_base_steps::Step;
-use im_base_types::Fault;
+use im_base_types::{Fault, TxnId};
 use im_tool_look::noted_key;
 use im_tool_words::step_line;
 use std::alloc::Global;
@@ -74,6 +74,19 @@ fn append(line: &mut Vec<u8>, text: &[u8]) -> Result<(), Fault> {
     line.extend_from_slice(text).map_err(|_| Fault::Memory)
 }
 
+/// Three texts as one. Refused `Memory`.
+pub(crate) fn joined(
+    alloc: Global,
+    first: &[u8],
+    second: &[u8],
+    third: &[u8],
+) -> Result<Vec<u8>, Fault> {
+    let mut text = Vec::from_slice(alloc, first).map_err(|_| Fault::Memory)?;
+    append(&mut text, second)?;
+    append(&mut text, third)?;
+    Ok(text)
+}
+
 // The step with another key, or the first of two.
 fn with_key(step: Step, key: Option<Vec<u8>>) -> Step {
     let Some(key) = key else {
@@ -98,6 +111,24 @@ fn with_second(step: Step, key: Option<Vec<u8>>) -> Step {
     };
     match step {
         Step::Scan(number, lo, _, limit) => Step::Scan(number, lo, key, limit),
+        other => other,
+    }
+}
+
+/// The step, of another transaction.
+pub(crate) fn with_number(step: Step, number: TxnId) -> Step {
+    match step {
+        Step::Fetch(_, key) => Step::Fetch(number, key),
+        Step::Seek(_, key) => Step::Seek(number, key),
+        Step::Next(_, key) => Step::Next(number, key),
+        Step::Prev(_, key) => Step::Prev(number, key),
+        Step::Scan(_, lo, hi, limit) => Step::Scan(number, lo, hi, limit),
+        Step::Insert(_, key, rid) => Step::Insert(number, key, rid),
+        Step::Delete(_, key) => Step::Delete(number, key),
+        Step::Commit(_) => Step::Commit(number),
+        Step::Rollback(_) => Step::Rollback(number),
+        Step::Continue(_) => Step::Continue(number),
+        Step::RollTo(_, left) => Step::RollTo(number, left),
         other => other,
     }
 }
