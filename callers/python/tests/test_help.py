@@ -1,10 +1,9 @@
 """The examples of `help(vahondrisa)`: each public name has one, and each prints what it says. The package's own is a program, and has types."""
 import doctest
-import importlib.util
 import os
 import re
+import shutil
 import subprocess
-import sys
 import textwrap
 import unittest
 
@@ -32,14 +31,16 @@ class Help(Case):
             self.assertEqual(run.communicate()[0].decode(), PRINTED)
         self.assertEqual(run.returncode, 0)
 
-    @unittest.skipUnless(importlib.util.find_spec("mypy"), "there is no mypy here")
-    def test_the_example_of_the_package_has_types(self):
-        program, package = os.path.join(self.room.name, "program.py"), os.path.dirname(os.path.dirname(vahondrisa.__file__))
+    @unittest.skipUnless(shutil.which("mypy"), "there is no mypy in PATH")
+    def test_the_package_and_its_own_example_have_types(self):
+        package, program = os.path.join(self.room.name, "vahondrisa"), os.path.join(self.room.name, "program.py")
+        shutil.copytree(os.path.dirname(vahondrisa.__file__), package, ignore=lambda _, names: [it for it in names if not it.endswith((".py", ".typed"))])
         with open(program, "w") as file:
-            file.write(own_example())
-        words = [sys.executable, "-m", "mypy", "--strict", "--follow-imports=silent", "--cache-dir", self.dir, program]
-        ran = subprocess.run(words, env=dict(os.environ, MYPYPATH=package), stdout=subprocess.PIPE, stderr=subprocess.STDOUT, text=True)
+            file.write(own_example() + "reveal_type(store.get(b'fig', 0))\n")
+        words = ["mypy", "--strict", "--cache-dir", self.dir, package, program]
+        ran = subprocess.run(words, cwd=self.room.name, stdout=subprocess.PIPE, stderr=subprocess.STDOUT, text=True)
         self.assertEqual(ran.returncode, 0, ran.stdout)
+        self.assertIn('Revealed type is "builtins.int"', ran.stdout)  # and so the package's own types were read
 
     def test_each_public_name_has_an_example(self):
         for name in vahondrisa.__all__:

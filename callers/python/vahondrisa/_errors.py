@@ -2,7 +2,7 @@
 import ctypes
 import errno
 import os
-from typing import Any, NoReturn, Optional, Tuple
+from typing import Any, Dict, NoReturn, Optional, Tuple, Type
 
 from . import _library as c
 
@@ -74,8 +74,8 @@ class _OfFiles(Error, OSError):
 
     def __init__(self, code: int, text: Optional[str] = None, number: Optional[int] = None, path: Optional[str] = None) -> None:
         super().__init__(code, text)
-        self.errno, self.filename = number, path
-        self.strerror = os.strerror(number) if number else None
+        it: Any = self  # which may have no number, as the system's own have
+        it.errno, it.filename, it.strerror = number, path, os.strerror(number) if number else None
 
     def __str__(self) -> str:
         return str(self.args[0])
@@ -158,7 +158,7 @@ class NotCopied(_OfFiles):
     """
 
 
-_KINDS = {
+_KINDS: "Dict[int, Type[Error]]" = {
     c.GIVE_WAY: GiveWay, c.BUSY: Busy, c.DEADLOCK: Deadlock, c.LOCKED: Locked, c.NOT_A_STORE: NotAStore,
     c.CAPACITY: Failed, c.LOG_FULL: Failed, c.DEVICE: Failed, c.FAILED: Failed,
     c.READ_ONLY: ReadOnly, c.NOT_EMPTY: NotCopied, c.NOT_COPIED: NotCopied,

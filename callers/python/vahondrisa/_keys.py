@@ -4,13 +4,14 @@ import itertools
 import threading
 from collections.abc import ItemsView, KeysView, MutableMapping, ValuesView
 from ctypes import byref, c_int, c_size_t, c_uint64, c_void_p
-from typing import Callable, Iterator, Optional, Tuple, TypeVar, Union, overload
+from typing import Callable, Iterable, Iterator, Mapping, Optional, Tuple, TypeVar, Union, overload
 
 from . import _library as c
 from ._arguments import NONE, Alone, Bytes, bytes_of, number_of
 
 Entry = Tuple[bytes, int]
 T = TypeVar("T")
+K = TypeVar("K", bound="Keys")
 
 _fetch, _insert, _put, _delete, _scan = c.lib.vah_fetch, c.lib.vah_insert, c.lib.vah_put, c.lib.vah_delete, c.lib.vah_scan
 _ENTRY_SIZE = ctypes.sizeof(c.Entry)
@@ -147,7 +148,7 @@ class Keys(Alone, MutableMapping[bytes, int]):
     ) -> "Range":
         """The entries from one key to another, both included, in order, or with `reverse` from the last one on; None and b"" are no bound.
 
-        It reads, and so locks, `batch` entries at a time, 2 to 256, and with `reverse` one at a time.
+        It reads, and so locks, `batch` entries at a time, at least 2 and at most 256, and with `reverse` one at a time.
         """
         low, high = (None if bound is None else bytes_of(bound, "key") for bound in (lo, hi))
         low = self._whole(low) if low else self._prefix or b"\0"
@@ -208,8 +209,12 @@ class Keys(Alone, MutableMapping[bytes, int]):
         if not self.delete(key):
             raise KeyError(key)
 
+    def __ior__(self: K, other: "Union[Mapping[bytes, int], Iterable[Entry]]") -> K:
+        self.update(other)
+        return self
+
     def __contains__(self, key: object) -> bool:
-        return self.get(key) is not None  # type: ignore[arg-type]
+        return self.get(key) is not None  # type: ignore[call-overload]
 
     def __iter__(self) -> Iterator[bytes]:
         return (key for key, _ in self.range())
@@ -231,11 +236,15 @@ class Keys(Alone, MutableMapping[bytes, int]):
 
 
 class _KeysView(KeysView[bytes]):
+    _mapping: Keys
+
     def __reversed__(self) -> Iterator[bytes]:
         return reversed(self._mapping)
 
 
 class _RidsView(ValuesView[int]):
+    _mapping: Keys
+
     def __iter__(self) -> Iterator[int]:
         return (rid for _, rid in self._mapping.range())
 
@@ -247,6 +256,8 @@ class _RidsView(ValuesView[int]):
 
 
 class _EntriesView(ItemsView[bytes, int]):
+    _mapping: Keys
+
     def __iter__(self) -> "Iterator[Entry]":
         return self._mapping.range()
 
@@ -273,8 +284,11 @@ class Range(Alone):
 
     def __init__(self, keys: Keys, lo: bytes, hi: bytes, batch: int, reverse: bool) -> None:
         self._keys, self._lo, self._hi, self._is_reverse = keys, lo, hi, reverse
-        self._batch = batch if batch.__class__ is int and 2 <= batch <= c.SCAN_MAX else max(2, min(number_of(batch, 64, "batch"), c.SCAN_MAX))
-        self._room: Optional[ctypes.Array] = None
+        number = batch if batch.__class__ is int else number_of(batch, 64, "batch")
+        if number < 1:
+            raise ValueError(f"batch must be 1 or more, not {number}")
+        self._batch = max(2, min(number, c.SCAN_MAX))
+        self._room: Optional[ctypes.Array[ctypes.c_char]] = None
         self._lock = threading.Lock()
 
     def _end_before(self) -> None:

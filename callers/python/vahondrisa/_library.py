@@ -4,6 +4,7 @@ import functools
 import os
 import struct
 from ctypes import POINTER, c_char_p, c_int, c_size_t, c_uint, c_uint8, c_uint32, c_uint64, c_void_p
+from typing import Any, Dict, Tuple
 
 KEY_MAX = 255
 SCAN_MAX = 256
@@ -63,7 +64,7 @@ def _load() -> ctypes.CDLL:
 
 lib = _load()
 
-_FUNCTIONS = {
+_FUNCTIONS: "Dict[str, Tuple[Any, ...]]" = {
     "vah_open": (c_char_p, POINTER(Config), POINTER(c_void_p)),
     "vah_close": (c_void_p,),
     "vah_begin_within": (c_void_p, c_uint, c_uint64, POINTER(c_void_p)),
@@ -85,8 +86,9 @@ _FUNCTIONS = {
     "vah_stat_with": (c_void_p, POINTER(Info), c_size_t),
     "vah_version": (),
 }
-_TEXTS = {"vah_strerror": (c_int,), "vah_last_error": (), "vah_build": ()}
-for _functions, _result in ((_FUNCTIONS, c_int), (_TEXTS, c_char_p)):
+_TEXTS: "Dict[str, Tuple[Any, ...]]" = {"vah_strerror": (c_int,), "vah_last_error": (), "vah_build": ()}
+_RESULTS: "Tuple[Any, ...]" = ((_FUNCTIONS, c_int), (_TEXTS, c_char_p))
+for _functions, _result in _RESULTS:
     for _name, _arguments in _functions.items():
         try:
             _function = getattr(lib, _name)

@@ -1,6 +1,6 @@
 """Named indexes and long values of a store."""
 from collections.abc import MutableMapping
-from typing import TYPE_CHECKING, Any, Callable, Iterable, Iterator, List, Optional, Tuple, TypeVar, Union, overload
+from typing import TYPE_CHECKING, Any, Callable, Iterable, Iterator, List, Mapping, Optional, Tuple, TypeVar, Union, overload
 
 from . import _library as c
 from ._arguments import NONE, Alone, Bytes, bytes_of
@@ -234,6 +234,10 @@ class Values(Alone, MutableMapping[bytes, bytes]):
     def __delitem__(self, key: Bytes) -> None:
         if not self.delete(key):
             raise KeyError(key)
+
+    def __ior__(self, other: "Union[Mapping[bytes, bytes], Iterable[Tuple[bytes, bytes]]]") -> "Values":
+        self.update(other)
+        return self
 
     def __contains__(self, key: object) -> bool:
         return self.size(key) is not None  # type: ignore[arg-type]

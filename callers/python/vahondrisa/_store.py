@@ -44,7 +44,8 @@ def open(
     config.frames, config.max_pages = number_of(frames, 32, "frames"), number_of(max_pages, 32, "max_pages")
     config.redo_bytes, config.log_bytes = number_of(redo_bytes, 64, "redo_bytes"), number_of(log_bytes, 64, "log_bytes")
     config.read_only, config.cache_bytes = bool(read_only), number_of(cache_bytes, 64, "cache_bytes")
-    timeout, raised = seconds_of(timeout, "timeout"), []
+    timeout = seconds_of(timeout, "timeout")
+    raised: "List[BaseException]" = []
     if progress is not None:
         config.progress = c.Progress(_told(progress, raised))
     # (made before it is opened, so that it is closed where a signal's exception comes in between)
@@ -99,7 +100,8 @@ def build() -> str:
     >>> vahondrisa.build().split()[1] in ("proved", "unproved")
     True
     """
-    return c.lib.vah_build().decode()
+    text: str = c.lib.vah_build().decode()
+    return text
 
 
 def _told(progress: "Callable[[int], object]", raised: "List[BaseException]") -> "Callable[[Optional[int], int], int]":
@@ -159,7 +161,8 @@ class Store(Alone):
         flags, slice_ms = slices(limit)
         txn = Transaction(self, limit, slice_ms)
         at = self._opened()
-        call: "Callable[[], int]" = lambda: c.lib.vah_begin_within(at, flags, slice_ms, byref(txn._at))
+        begin: "Callable[..., int]" = c.lib.vah_begin_within
+        call: "Callable[[], int]" = lambda: begin(at, flags, slice_ms, byref(txn._at))
         code = call()
         if code == c.BUSY:
             code = _wait(self, limit, slice_ms, call)
@@ -329,7 +332,7 @@ class Store(Alone):
 
     def _end(self) -> int:
         """Tries to end the store, which wakes those that wait in a call of it, then rolls back what is active, and tries again."""
-        code = c.lib.vah_close(self._at)
+        code: int = c.lib.vah_close(self._at)
         if code == c.ACTIVE:
             for at in list(self._active.values()):
                 # found by the next try where it is about to begin, or where another thread takes it back, as that may begin it again

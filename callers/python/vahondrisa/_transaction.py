@@ -4,7 +4,7 @@ import threading
 import time
 from ctypes import c_void_p
 from types import TracebackType
-from typing import TYPE_CHECKING, Callable, Dict, Iterator, Optional, Tuple, Type
+from typing import TYPE_CHECKING, Callable, Dict, Generator, Optional, Tuple, Type
 
 from . import _library as c
 from ._errors import Error, refuse
@@ -137,7 +137,7 @@ class Transaction(Keys):
         return f"<vahondrisa.Transaction of {self._store!r}, {state}>"
 
 
-def _guard(active: "Dict[int, c_void_p]", at: c_void_p) -> "Iterator[None]":
+def _guard(active: "Dict[int, c_void_p]", at: c_void_p) -> "Generator[None, None, None]":
     """Rolls back the transaction of a name when it is dropped, unless it has ended and is not among the active ones any more.
 
     It is no `__del__` of the transaction, which would be called for those too that have ended: a Ctrl-C that came just then would be lost in it, as no
