@@ -108,7 +108,8 @@ def build(crate, to):
             run(kit.AR, "rcsD", f"{work}/built", compiled)
         else:
             run("cc", "-pie", "-Wl,--gc-sections,-z,relro,-z,now", "-o", f"{work}/built", compiled, *kit.ARCHIVES)
-        shutil.move(f"{work}/built", to)
+        shutil.copy(f"{work}/built", f"{to}.part")
+        os.replace(f"{to}.part", to)
 
 
 if __name__ == "__main__":
