@@ -5,11 +5,14 @@
 #include <stdlib.h>
 #include <string.h>
 
+/* No version's structures are larger. */
+enum { LARGEST = 4096 };
+
 /* Whether a config is of this size in some version: they grew at the end. */
 static int is_config_size(size_t size)
 {
 	return size == offsetof(vah_config, log_bytes) || size == offsetof(vah_config, wait_ms) || size == offsetof(vah_config, read_only)
-		|| size == offsetof(vah_config, cache_bytes) || size >= sizeof(vah_config);
+		|| size == offsetof(vah_config, cache_bytes) || (size >= sizeof(vah_config) && size <= LARGEST);
 }
 
 /* The fields of a config that this version knows, over the defaults. */
@@ -230,7 +233,7 @@ int vah_stat_with(vah_store *store, vah_info *info, size_t size)
 {
 	struct store *s;
 	vah_info now;
-	int code = info && size >= offsetof(vah_info, restarts) ? enter_store(store, &s) : VAH_INVALID;
+	int code = info && size >= offsetof(vah_info, restarts) && size <= LARGEST ? enter_store(store, &s) : VAH_INVALID;
 	if (code)
 		return fail(NULL, code);
 	if (!(code = stat_in(s, &now))) {

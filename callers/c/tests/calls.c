@@ -44,6 +44,8 @@ static void refusals(const char *dir)
 	IS(vah_open("", NULL, &store), VAH_DEVICE);
 	config.size = 8;
 	IS(vah_open(dir, &config, &store), VAH_INVALID);
+	config.size = SIZE_MAX;
+	IS(vah_open(dir, &config, &store), VAH_INVALID);
 	config = (vah_config)VAH_CONFIG_INIT;
 	config.frames = 7;
 	IS(vah_open(dir, &config, &store), VAH_POOL_SIZE);

@@ -47,6 +47,8 @@ static void sizes(vah_store *store)
 	OK(vah_stat_with(store, &info, offsetof(vah_info, restarts)));
 	HOLDS(!info.active && info.restarts == UINT64_C(0x5555555555555555));
 	IS(vah_stat_with(store, &info, 8), VAH_INVALID);
+	IS(vah_stat_with(store, &info, 1 << 20), VAH_INVALID);
+	IS(vah_stat_with(store, &info, SIZE_MAX), VAH_INVALID);
 	IS(vah_stat_with(store, NULL, sizeof info), VAH_INVALID);
 }
 
