@@ -4,6 +4,7 @@
 #include "files.h"
 #include <errno.h>
 #include <fcntl.h>
+#include <limits.h>
 #include <signal.h>
 #include <stdbool.h>
 #include <stdio.h>
@@ -535,8 +536,8 @@ char *own_path(struct opening *o)
 	char *path = strdup(o->path);
 	if (!path)
 		refuse_files(o, VAH_MEMORY, "out of memory");
-	else if (!*path) {
-		errno = ENOENT;
+	else if (!*path || strlen(path) >= PATH_MAX) { /* no folder of a path is made that the system does not take */
+		errno = *path ? ENAMETOOLONG : ENOENT;
 		refuse_system(o);
 	}
 	return path;

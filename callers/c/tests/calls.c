@@ -2,6 +2,7 @@
  * itself, and signals. */
 #define _GNU_SOURCE
 #include "test.h"
+#include <errno.h>
 #include <pthread.h>
 #include <stdatomic.h>
 #include <signal.h>
@@ -30,6 +31,7 @@ static void by_key(vah_txn *txn, const void *key, size_t len, int code)
 static void refusals(const char *dir)
 {
 	static uint8_t large[300], hi[255];
+	static char too_long[6000];
 	struct { vah_config known; uint64_t later; } longer = { VAH_CONFIG_INIT, 0 };
 	vah_config config = VAH_CONFIG_INIT;
 	vah_store *store = NULL, *other = NULL;
@@ -42,6 +44,9 @@ static void refusals(const char *dir)
 	IS(vah_open(NULL, NULL, &store), VAH_INVALID);
 	IS(vah_open(dir, NULL, NULL), VAH_INVALID);
 	IS(vah_open("", NULL, &store), VAH_DEVICE);
+	for (size_t i = 0; i + 1 < sizeof too_long; i++) too_long[i] = i % 2 ? '/' : 'a';
+	IS(vah_open(too_long, NULL, &store), VAH_DEVICE);
+	HOLDS(errno == ENAMETOOLONG && access("a", F_OK)); /* and not one of its folders is made */
 	config.size = 8;
 	IS(vah_open(dir, &config, &store), VAH_INVALID);
 	config.size = SIZE_MAX;
