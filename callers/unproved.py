@@ -6,7 +6,8 @@ of the crates, from a copy of the kit whose clang only keeps the module that it 
 program in that copy, whose `main` calls the functions that C sees; these are then to be seen from outside, in place of `main`.
 
 A try puts checks into the module, of what a proof would have shown. They are taken out, so that the work takes as long as in a proved build: it is
-the same program, and nothing shows that it is right. What is built says so by the symbol `im_unproved`, which the Makefile looks for.
+the same program, and nothing shows that it is right. What is built says so: a library by the symbol `im_unproved`, which the Makefile looks for, and a
+program by its --version, as the copy has `unproved` where the crates have `proved`.
 """
 import itertools
 import os
@@ -26,6 +27,8 @@ sys.path.insert(0, f"{TOP}/.ci")
 import kit
 
 LIBRARY = "im_capi"
+# Where a program has what it says of itself, and the word of it that is no longer so.
+VERSION, PROVED = "im_tool_user/src/version.rt", ' proved\\n'
 SEEN = {"im_size", "im_belong", "im_left_log", "im_left_go_on", "im_left_take", "im_is_older", "im_log_cuts", "im_init", "im_step", "im_may_begin", "im_oldest", "im_earliest", "im_has_own", "im_is_left_alone"}
 MAIN = """
 fn main(rt: HostRuntime) {
@@ -67,9 +70,19 @@ def copy_crates(here, to):
         for part in ("src", "specs"):
             if os.path.isdir(f"{here}/crates/{name}/{part}"):
                 shutil.copytree(f"{here}/crates/{name}/{part}", f"{to}/crates/{name}/{part}")
+    say_unproved(f"{to}/crates/{VERSION}")
     os.rename(f"{to}/crates/{LIBRARY}/src/lib.rt", f"{to}/crates/{LIBRARY}/src/main.rt")
     with open(f"{to}/crates/{LIBRARY}/src/main.rt", "a", encoding="utf-8") as it:
         it.write(MAIN)
+
+
+def say_unproved(path):
+    with open(path, encoding="utf-8") as it:
+        text = it.read()
+    if text.count(PROVED) != 1:
+        sys.exit(f"unproved.py: {path} does not say once what is to be said of a program without proofs")
+    with open(path, "w", encoding="utf-8") as it:
+        it.write(text.replace(PROVED, PROVED.replace("proved", "unproved")))
 
 
 def lower(crate, work):
