@@ -42,17 +42,31 @@ static int copy_pieces(struct store *s, struct copy *copy, int all, int *is_over
 	return code_of(s, &told, copy);
 }
 
+/* Tells how much is copied, without the lock, as what is called may be any code. Whether that gives the copy up. */
+static int is_given_up(struct store *s, const struct copy *copy)
+{
+	if (!copy->progress)
+		return 0;
+	uint64_t bytes = copy->bytes;
+	done(s);
+	int stops = copy->progress(copy->with, bytes);
+	enter(s);
+	return stops;
+}
+
 /* Copies until nothing is left, and lets others go on in between. */
 static int copy_most(struct store *s, struct copy *copy)
 {
 	uint64_t closings = s->closings;
 	int is_over = 0, code = VAH_OK;
-	while (!is_over && !(code = copy_pieces(s, copy, 0, &is_over)))
-		if (!is_over) {
+	while (!is_over && !(code = copy_pieces(s, copy, 0, &is_over))) {
+		if (is_given_up(s, copy))
+			return refuse(s, VAH_STOPPED, "the copy was given up by its caller");
+		if (!is_over)
 			let_others_in(s);
-			if (s->closings != closings)
-				return refuse(s, VAH_BUSY, "the copy was given up, as the store is to be closed");
-		}
+		if (s->closings != closings)
+			return refuse(s, VAH_BUSY, "the copy was given up, as the store is to be closed");
+	}
 	return code;
 }
 
@@ -98,9 +112,9 @@ static int fill(struct store *s, struct copy *copy)
 }
 
 /* Makes the files of a copy, fills them, and names them; or takes them away. */
-static int make_copy(struct store *s, const char *folder)
+static int make_copy(struct store *s, const char *folder, int (*progress)(void *with, uint64_t bytes), void *with)
 {
-	struct copy copy = { .path = folder };
+	struct copy copy = { .path = folder, .progress = progress, .with = with };
 	size_t size;
 	char *text = error_text(&size);
 #ifdef VAH_TEST
@@ -120,7 +134,9 @@ static int make_copy(struct store *s, const char *folder)
 	return code;
 }
 
-int vah_copy(vah_store *store, const char *folder)
+int vah_copy(vah_store *store, const char *folder) { return vah_copy_with(store, folder, NULL, NULL); }
+
+int vah_copy_with(vah_store *store, const char *folder, int (*progress)(void *with, uint64_t bytes), void *with)
 {
 	struct store *s;
 	int code = folder ? enter_store(store, &s) : VAH_INVALID;
@@ -133,7 +149,7 @@ int vah_copy(vah_store *store, const char *folder)
 	}
 	s->is_copied = 1; /* from now on it is not closed */
 	done(s);
-	code = make_copy(s, folder);
+	code = make_copy(s, folder, progress, with);
 	int why = errno;
 	enter(s);
 	s->is_copied = 0;

@@ -122,8 +122,11 @@ static void count(struct device *device)
 {
 	const struct device_call *q = &device->question;
 	int is_of_pages = q->file == PAGES;
-	if (is_of_copy(q))
+	if (is_of_copy(q)) {
+		if (device->copy && q->kind == WRITE)
+			device->copy->bytes += q->len;
 		return;
+	}
 	device->syncs += q->kind == SYNC;
 	device->page_reads += is_of_pages && q->kind == READ;
 	device->page_writes += is_of_pages && q->kind == WRITE;

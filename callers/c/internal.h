@@ -70,6 +70,9 @@ struct copy {
 	int files[FILES];
 	const char *names[FILES]; /* how each is called; NULL where it was not made */
 	int why;                /* the system's reason for the first call that failed; 0: none did */
+	uint64_t bytes;         /* so many were written to it */
+	int (*progress)(void *with, uint64_t bytes); /* whom this is told; or NULL */
+	void *with;
 	unsigned long fail_at, kill_at; /* in tests, as those of the device */
 };
 

@@ -208,7 +208,8 @@ typedef struct vah_info {
  *  that waits for this one. Nothing was changed, and the transaction goes on:
  *  end one of them. */
 #define VAH_DEADLOCK 107
-/** vah_config.progress gave the opening up. The store is as it was. */
+/** vah_config.progress gave the opening up, or that of a copy the copy. The store
+ *  is as it was, and there is no copy. */
 #define VAH_STOPPED 108
 /** The store was closed: open it again. */
 #define VAH_CLOSED 109
@@ -218,8 +219,10 @@ typedef struct vah_info {
 /** The folder of a copy has something in it, or lies in the store's own: name
  *  another. */
 #define VAH_NOT_EMPTY 111
-/** A call of the system on the folder or the files of a copy failed, as errno says:
- *  there is no copy. The store goes on: copy again, where there is room. */
+/** A call of the system on the folder or the files of a copy failed, as errno says.
+ *  The store goes on: copy again, into another folder, where there is room. There is
+ *  no copy, or half of one, which no opening takes. Where it was the very last call
+ *  that failed, a sync, there is a whole one; but a power cut may leave less of it. */
 #define VAH_NOT_COPIED 112
 /* The refusals of the store, by the numbers that its programs print. */
 /** The transaction has ended: begin another. */
@@ -410,6 +413,16 @@ int vah_flush(vah_store *store);
  *  the store is under way, or another thread called vah_close meanwhile; VAH_DEVICE
  *  and VAH_FAILED where the store itself failed */
 int vah_copy(vah_store *store, const char *folder);
+
+/** As vah_copy, and `progress` is told how many bytes are copied so far, once for
+ *  some 256 KiB, by the thread that copies, while others go on; but while the files
+ *  are synced it is told nothing.
+ *  @param[in] progress where it returns another number than 0 the copy is given up,
+ *  VAH_STOPPED, and its files are taken away. It may call what others may call
+ *  meanwhile. Or NULL
+ *  @param[in] with its first argument */
+int vah_copy_with(vah_store *store, const char *folder, int (*progress)(void *with, uint64_t bytes),
+	void *with);
 
 /** Tell how the store stands.
  *  @param[in] size sizeof(vah_info): a later version's numbers are left out */

@@ -1,4 +1,4 @@
-/* Copies of a store in use: beside threads that commit, into folders of all kinds, where calls on the copy or on the store fail, and over kills. Built with
+/* Copies of a store in use: beside threads that commit, into folders of all kinds, given up, where calls on the copy or on the store fail, and over kills. Built with
  * -DVAH_TEST. copies FOLDER [COPIES [STEP]]: so many beside threads; with a STEP each STEPth call of those that are tried fails, or is that of a kill. copies FOLDER disk: FOLDER/small
  * is a small disk, which fills up. */
 #define _GNU_SOURCE
@@ -386,6 +386,72 @@ static void closed_beside(void)
 	}
 }
 
+/* ---- progress ---- */
+
+/* Who is told of a copy, and gives it up at that call. */
+struct watching { vah_store *store; uint64_t bytes; int calls, gives_up_at, is_to_close; };
+
+static int watch(void *with, uint64_t bytes)
+{
+	struct watching *w = with;
+	vah_txn *txn;
+	uint64_t rid;
+	HOLDS(bytes > w->bytes);
+	w->bytes = bytes;
+	/* what is copied is no store yet, and the store itself goes on */
+	is_half("watched");
+	OK(vah_begin(w->store, &txn));
+	IS(vah_fetch(txn, "none", 4, &rid), VAH_NOT_FOUND);
+	OK(vah_commit(txn));
+	if (w->is_to_close) IS(vah_close(w->store), VAH_ACTIVE);
+	return ++w->calls == w->gives_up_at;
+}
+
+static off_t bytes_of(const char *name)
+{
+	static const char *const names[] = { "log", "log2", "pages" };
+	off_t all = 0;
+	for (int i = 0; i < 3; i++) {
+		char at[4200];
+		struct stat st;
+		snprintf(at, sizeof at, "%.4000s/%s", in_folder(name), names[i]);
+		HOLDS(!stat(at, &st));
+		all += st.st_size;
+	}
+	return all;
+}
+
+/* Each call of its progress gives the copy up in turn: nothing is left of it. One that is not given up is told all of its bytes; one whose store another
+ * thread wants to close is given up too. */
+static void watched(void)
+{
+	vah_store *store = open_at(in_folder("watches"));
+	vah_txn *txn;
+	uint8_t key[250];
+	int rc = VAH_STOPPED, at = 0;
+	memset(key, 'k', sizeof key);
+	OK(vah_begin(store, &txn));
+	for (int i = 0; i < 4000; i++) {
+		snprintf((char *)key, sizeof key, "%d", i);
+		OK(vah_insert(txn, key, sizeof key, 1));
+	}
+	OK(vah_commit(txn));
+	while (rc == VAH_STOPPED) {
+		struct watching w = { .store = store, .gives_up_at = ++at };
+		rc = vah_copy_with(store, in_folder("watched"), watch, &w);
+		HOLDS(names_in(in_folder("watched")) == (rc ? 0 : 3));
+		HOLDS(!rc || (rc == VAH_STOPPED && w.calls == at && strstr(vah_last_error(), "the copy was given up by its caller")));
+		if (!rc) HOLDS((off_t)w.bytes >= bytes_of("watched") - 8192 && (off_t)w.bytes <= bytes_of("watched") + 8192);
+	}
+	OK(rc);
+	HOLDS(at > 4);
+	HOLDS(!remove_folder(in_folder("watched")));
+	struct watching w = { .store = store, .is_to_close = 1 };
+	IS(vah_copy_with(store, in_folder("watched"), watch, &w), VAH_BUSY);
+	HOLDS(names_in(in_folder("watched")) == 0 && w.calls == 1);
+	OK(vah_close(store));
+}
+
 /* ---- calls that fail ---- */
 
 /* A folder into which a copy was not finished: it is empty, or none, or refused by its words, or the copy is whole. */
@@ -556,6 +622,7 @@ int main(int argc, char **argv)
 	beside(argc > 2 ? atoi(argv[2]) : 60);
 	at_once();
 	closed_beside();
+	watched();
 	each_call_of_copy();
 	each_call_of_store();
 	kills("VAH_COPY_KILL_AT", step);

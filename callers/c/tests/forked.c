@@ -38,6 +38,7 @@ static void is_refused(vah_store *store, vah_txn *txn)
 	IS(vah_checkpoint(store), VAH_FORKED);
 	IS(vah_switch(store), VAH_FORKED);
 	IS(vah_copy(store, "never_made"), VAH_FORKED);
+	IS(vah_copy_with(store, "never_made", NULL, NULL), VAH_FORKED);
 	IS(vah_close(store), VAH_FORKED);
 	IS(vah_close(store), VAH_CLOSED);
 	IS(vah_flush(store), VAH_CLOSED);

@@ -47,6 +47,7 @@ static void refuses_store(vah_store *store, int code)
 	IS(vah_checkpoint(store), code);
 	IS(vah_switch(store), code);
 	IS(vah_copy(store, "never_made"), code);
+	IS(vah_copy_with(store, "never_made", NULL, NULL), code);
 	if (store) IS(vah_close(store), code);
 	HOLDS(txn == (vah_txn *)&rounds && info.active == 77);
 }

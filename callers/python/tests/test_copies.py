@@ -3,7 +3,10 @@ import errno
 import hashlib
 import os
 import pickle
+import shutil
+import signal
 import threading
+import time
 import unittest
 
 import vahondrisa
@@ -123,6 +126,50 @@ class Copies(Case):
             self.assertRaisesRegex(vahondrisa.NotAStore, "a copy into it was not finished", vahondrisa.open, self.dir + "5")
         self.assertRaisesRegex(ValueError, "^the store is closed$", store.copy, self.dir + "6")
         self.assertFalse(os.path.exists(self.dir + "6"))
+
+    def test_a_copy_tells_its_progress_and_can_be_given_up(self):
+        with vahondrisa.open(self.dir) as store:
+            store.write(lambda txn: [txn.put(b"%d" % i + b"x" * 200, i) for i in range(5000)])
+            to, told = self.dir + "-copy", []
+
+            def stop(count):
+                told.append(count)
+                if len(told) == 2:
+                    raise LookupError
+
+            self.assertRaises(LookupError, store.copy, to, progress=stop)
+            self.assertEqual((len(told), os.listdir(to)), (2, []))
+            self.assertRaises(TypeError, store.copy, to, progress=5)
+            self.assertEqual(os.listdir(to), [])
+            told.clear()
+            store.copy(to, progress=lambda count: told.append((count, store.get(b"none"))))  # which goes on
+            self.assertTrue(len(told) > 4 and told == sorted(set(told), key=lambda it: it[0]), told)
+            with vahondrisa.open(to) as copy, copy.begin() as txn:
+                self.assertEqual(len(txn), 5000)
+
+    @unittest.skipUnless(threading.current_thread() is threading.main_thread(), "signals come to the main thread alone")
+    def test_ctrl_c_ends_a_copy(self):
+        handler = signal.signal(signal.SIGINT, signal.default_int_handler)
+        self.addCleanup(signal.signal, signal.SIGINT, handler)
+        main, to, given_up = threading.main_thread().ident, self.dir + "-copy", 0
+        with vahondrisa.open(self.dir) as store:
+            store.write(lambda txn: [txn.put(b"%d" % i + b"x" * 200, i) for i in range(20_000)])
+
+            def interrupt():
+                while not os.path.exists(to + "/pages.part"):
+                    store.info()
+                signal.pthread_kill(main, signal.SIGINT)
+
+            for _ in range(20):
+                beside = threading.Thread(target=interrupt)
+                with self.assertRaises(KeyboardInterrupt):
+                    beside.start()
+                    store.copy(to)
+                    time.sleep(5)  # the copy was made before it came
+                beside.join()
+                given_up += os.listdir(to) == []
+                shutil.rmtree(to)
+            self.assertGreater(given_up, 5)
 
     def test_a_close_gives_a_copy_up(self):
         for turn in range(10):

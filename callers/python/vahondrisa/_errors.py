@@ -147,8 +147,9 @@ class ReadOnly(_OfFiles):
 
 
 class NotCopied(_OfFiles):
-    """There is no copy, and the store goes on: the folder has something in it, with the number ENOTEMPTY, or a call of the system on the copy's files failed. An OSError
-    with the system's number, and with the system's error as `__cause__`.
+    """The store was not copied, and goes on: the folder has something in it, with the number ENOTEMPTY, or a call of the system on the copy's files failed. An OSError
+    with the system's number, and with the system's error as `__cause__`. What may be left of a copy raises NotAStore when it is opened; where the very last
+    call failed, a sync, it is a whole one, of which a power cut may leave less.
 
     >>> try:
     ...     store.copy(folder)              # which is the store's own

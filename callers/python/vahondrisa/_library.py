@@ -3,7 +3,8 @@ import ctypes
 import functools
 import os
 import struct
-from ctypes import POINTER, c_char_p, c_int, c_size_t, c_uint, c_uint8, c_uint32, c_uint64, c_void_p
+import types
+from ctypes import POINTER, c_char_p, c_int, c_size_t, c_uint, c_uint8, c_uint32, c_uint64, c_void_p, py_object
 from typing import Any, Dict, Tuple
 
 KEY_MAX = 255
@@ -26,13 +27,15 @@ def entries(count: int) -> struct.Struct:
     return struct.Struct("=" + "Q256p" * count)
 
 
-Progress = ctypes.CFUNCTYPE(c_int, c_void_p, c_uint64)
+# What the library tells how far it is: a generator, which it was given beside this, gets the number, and answers by the next one that it yields.
+Progress = ctypes.CFUNCTYPE(c_int, py_object, c_uint64)
+TELL = Progress(types.GeneratorType.send)
 
 
 class Config(ctypes.Structure):
     _fields_ = [
         ("size", c_size_t), ("frames", c_uint32), ("max_pages", c_uint32), ("redo_bytes", c_uint64), ("log_bytes", c_uint64),
-        ("wait_ms", c_uint64), ("progress", Progress), ("with_", c_void_p), ("read_only", c_uint64), ("cache_bytes", c_uint64),
+        ("wait_ms", c_uint64), ("progress", Progress), ("with_", py_object), ("read_only", c_uint64), ("cache_bytes", c_uint64),
     ]
 
 
@@ -51,14 +54,13 @@ assert (ctypes.sizeof(Entry), ctypes.sizeof(Config), ctypes.sizeof(Info)) == (26
 
 
 def _load() -> ctypes.CDLL:
-    named = os.environ.get("VAHONDRISA_LIBRARY")
-    if named:
-        return ctypes.CDLL(named, use_errno=True)
-    for place in (os.path.join(os.path.dirname(__file__), "libvahondrisa.so.0"), "libvahondrisa.so.0"):
+    named, own = os.environ.get("VAHONDRISA_LIBRARY"), os.path.join(os.path.dirname(__file__), "libvahondrisa.so.0")
+    for place in (named,) if named else (own, "libvahondrisa.so.0"):
         try:
             return ctypes.CDLL(place, use_errno=True)
-        except OSError:
-            continue
+        except OSError as it:
+            if place == named or os.path.exists(own):  # of another machine, or for a later C library
+                raise ImportError(f"the library cannot be loaded: {it}") from None
     raise ImportError("libvahondrisa.so.0 is neither in the package nor where the system looks, and VAHONDRISA_LIBRARY does not name it")
 
 
@@ -82,7 +84,7 @@ _FUNCTIONS: "Dict[str, Tuple[Any, ...]]" = {
     "vah_checkpoint": (c_void_p,),
     "vah_switch": (c_void_p,),
     "vah_flush": (c_void_p,),
-    "vah_copy": (c_void_p, c_char_p),
+    "vah_copy_with": (c_void_p, c_char_p, Progress, py_object),
     "vah_stat_with": (c_void_p, POINTER(Info), c_size_t),
     "vah_version": (),
 }

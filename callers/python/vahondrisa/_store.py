@@ -7,7 +7,7 @@ import time
 import weakref
 from ctypes import byref, c_void_p
 from types import TracebackType
-from typing import Callable, Dict, Iterator, List, Optional, Tuple, Type, TypeVar, Union, overload
+from typing import Callable, Dict, Generator, Iterator, List, Optional, Tuple, Type, TypeVar, Union, overload
 
 from . import _library as c
 from ._arguments import NONE, Alone, Bytes, number_of, seconds_of
@@ -31,8 +31,8 @@ def open(
     default twice what the file of pages has, at most 64 MiB; `max_pages` the most that the store may have; `redo_bytes` the most log that the next
     opening has to redo, 0 for any, and by default 16 MiB, or 7 times the file of pages; `log_bytes` the most that it has to read, where now and then
     no transaction is active, 0 for any, and by default 64 MiB, or 8 times. `timeout` is how many seconds a call waits at most for other transactions
-    before it raises Busy. `progress` is called now and then with the number of bytes read so far; an exception that it raises ends the opening, and
-    leaves the store as it was. With `read_only=True` the files are only read, and no byte of them is changed: what would change a key raises ReadOnly, the store must
+    before it raises Busy. `progress` is called now and then with the number of bytes read so far; an exception that it raises ends the opening, as Ctrl-C
+    does, and leaves the store as it was. With `read_only=True` the files are only read, and no byte of them is changed: what would change a key raises ReadOnly, the store must
     be there, and any number may look at it at a time, while nobody has it open to write.
 
     Raises Locked, NotAStore, Failed where a call of the system failed, all of them OSErrors, and ValueError, TypeError, MemoryError.
@@ -46,8 +46,7 @@ def open(
     config.read_only, config.cache_bytes = bool(read_only), number_of(cache_bytes, 64, "cache_bytes")
     timeout = seconds_of(timeout, "timeout")
     raised: "List[BaseException]" = []
-    if progress is not None:
-        config.progress = c.Progress(_told(progress, raised))
+    config.progress, config.with_ = c.TELL, _told(progress, raised)
     # (made before it is opened, so that it is closed where a signal's exception comes in between)
     store = Store(os.fsdecode(path), timeout)
     code = c.lib.vah_open(name, byref(config), byref(store._at))
@@ -104,18 +103,28 @@ def build() -> str:
     return text
 
 
-def _told(progress: "Callable[[int], object]", raised: "List[BaseException]") -> "Callable[[Optional[int], int], int]":
-    """What the library calls: it tells `progress`, and keeps what that raises, since no exception passes through C."""
+def _told(progress: "Optional[Callable[[int], object]]", raised: "List[BaseException]") -> "Generator[int, int, None]":
+    """What the library sends numbers to: it tells `progress`, and keeps what that raises, since no exception passes through C. It answers 0, and 1 from then on.
 
-    def tell(_: Optional[int], count: int) -> int:
+    The interpreter looks for signals where it is entered. A function would be left by what Ctrl-C raises before its first line, and that be lost; this is
+    entered within its `try`.
+    """
+
+    def tell() -> "Generator[int, int, None]":
         try:
-            progress(count)
-            return 0
+            while True:
+                count = yield 0
+                if progress is not None:
+                    progress(count)
         except BaseException as it:
-            raised.append(it)
-            return 1
+            if not isinstance(it, GeneratorExit):
+                raised.append(it)
+        while raised:
+            yield 1
 
-    return tell
+    told = tell()
+    next(told)
+    return told
 
 
 class Store(Alone):
@@ -289,20 +298,25 @@ class Store(Alone):
         """Makes all records so far durable, those of active transactions too."""
         self._call(c.lib.vah_flush)
 
-    def copy(self, folder: Path) -> None:
+    def copy(self, folder: Path, *, progress: "Optional[Callable[[int], object]]" = None) -> None:
         """Copies the store into a folder that is empty or is to be made, while other threads go on. The copy is a store, and on the disk. It has what a stop at its end
-        might have left: each commit that has returned by then, of the others some, and each of them whole.
+        might have left: each commit that has returned by then, of the others some, and each of them whole. `progress` is called for each 256 KiB with the
+        number of bytes copied so far; an exception that it raises ends the copy, as Ctrl-C does, and its files are taken away.
 
-        Raises NotCopied, and Busy where another copy of the store is under way. Then there is no copy, and an opening of what may be left raises NotAStore.
+        Raises NotCopied, and Busy where another copy of the store is under way.
 
         >>> store.write(lambda txn: txn.put(b"apple", 7))
-        >>> store.copy(folder + "_backup")
+        >>> store.copy(folder + "_backup", progress=lambda count: print(count > 0))
+        True
         >>> with vahondrisa.open(folder + "_backup") as backup:
         ...     backup.get(b"apple")
         7
         """
+        raised: "List[BaseException]" = []
         name = _name_of(folder)
-        code = c.lib.vah_copy(self._opened(), name)
+        code = c.lib.vah_copy_with(self._opened(), name, c.TELL, _told(progress, raised))
+        if raised:
+            raise raised[0]
         if code == c.BUSY:
             self._opened()  # another thread is to close it
         if code:

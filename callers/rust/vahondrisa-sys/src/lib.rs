@@ -140,5 +140,6 @@ extern "C" {
     pub fn vah_switch(store: *mut vah_store) -> c_int;
     pub fn vah_flush(store: *mut vah_store) -> c_int;
     pub fn vah_copy(store: *mut vah_store, folder: *const c_char) -> c_int;
+    pub fn vah_copy_with(store: *mut vah_store, folder: *const c_char, progress: Option<vah_progress>, with: *mut c_void) -> c_int;
     pub fn vah_stat_with(store: *mut vah_store, info: *mut vah_info, size: usize) -> c_int;
 }

@@ -96,13 +96,14 @@ pub enum ErrorKind {
     Invalid,
     /// The store was opened by the process that this one was forked from.
     Forked,
-    /// The progress of an opening was told to stop. The store is as it was.
+    /// The progress of an opening, or of a copy, was told to stop. The store is as it was, and there is no copy.
     Stopped,
     /// The store was opened to be read only. Nothing was changed.
     ReadOnly,
     /// The folder of a copy has something in it, or lies in the store's own.
     NotEmpty,
-    /// A call of the system on the folder or the files of a copy failed; `source` has its error. There is no copy, and the store goes on.
+    /// A call of the system on the folder or the files of a copy failed; `source` has its error. The store goes on. There is no copy, or half of one, which no
+    /// opening takes; where the very last call failed, a sync, there is a whole one, of which a power cut may leave less.
     NotCopied,
     /// A code of a later library.
     Other,

@@ -129,12 +129,7 @@ impl Options {
     /// Opens the store, and tells `progress` now and then how many bytes were read so far. Where it answers false the opening is given up, `Stopped`, and
     /// the store is as it was.
     pub fn open_with_progress<F: FnMut(u64) -> bool>(&self, path: impl AsRef<Path>, progress: F) -> Result<Store> {
-        let mut told = Told { progress, panic: None };
-        let opened = self.open_watched(path.as_ref(), Some(tell::<F>), ptr::addr_of_mut!(told).cast());
-        if let Some(panic) = told.panic {
-            resume_unwind(panic);
-        }
-        opened
+        told(progress, |call, with| self.open_watched(path.as_ref(), Some(call), with))
     }
 
     fn open_watched(&self, path: &Path, progress: Option<sys::vah_progress>, with: *mut c_void) -> Result<Store> {
@@ -179,7 +174,17 @@ pub(crate) fn name_of(path: &Path) -> Result<CString> {
     CString::new(path.as_os_str().as_bytes()).map_err(|it| Error::of_path(it.into()))
 }
 
-/// Who is told of an opening's progress, and the panic that it left, which may not pass through C.
+/// Makes a call that tells `progress` how far it is, by the function that it hands to C with its first argument.
+pub(crate) fn told<F: FnMut(u64) -> bool, T>(progress: F, call: impl FnOnce(sys::vah_progress, *mut c_void) -> Result<T>) -> Result<T> {
+    let mut told = Told { progress, panic: None };
+    let answer = call(tell::<F>, ptr::addr_of_mut!(told).cast());
+    if let Some(panic) = told.panic {
+        resume_unwind(panic);
+    }
+    answer
+}
+
+/// Who is told of the progress of an opening or a copy, and the panic that it left, which may not pass through C.
 struct Told<F> {
     progress: F,
     panic: Option<Box<dyn Any + Send>>,

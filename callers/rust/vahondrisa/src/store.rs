@@ -2,7 +2,7 @@ use crate::blob::Blob;
 use crate::catalogue::{self, Kind};
 use crate::error::{Error, Result};
 use crate::index::Index;
-use crate::options::{name_of, Options};
+use crate::options::{name_of, told, Options};
 use crate::transaction::{milliseconds, Transaction};
 use std::cell::RefCell;
 use std::fmt;
@@ -278,7 +278,6 @@ impl Store {
     /// and on the disk. It has what a stop at its end might have left: each commit that has returned by then, of the others some, and each of them whole.
     ///
     /// Refused `NotEmpty`, `NotCopied`, `Memory`, and `Busy` where another copy of the store is under way; `Device` and `Failed` where the store itself failed.
-    /// Then there is no copy, and an opening of what may be left of it is refused `NotAStore`.
     ///
     /// ```
     /// # let dir = std::env::temp_dir().join(format!("vahondrisa-doc-copy-{}", std::process::id()));
@@ -291,9 +290,27 @@ impl Store {
     /// # Ok::<(), vahondrisa::Error>(())
     /// ```
     pub fn copy(&self, folder: impl AsRef<Path>) -> Result<()> {
+        self.copy_with_progress(folder, |_| true)
+    }
+
+    /// Copies the store as `copy` does, and tells `progress` for each 256 KiB how many bytes are copied so far; but nothing while the files are synced. Where
+    /// it answers false the copy is given up, `Stopped`, and its files are taken away.
+    ///
+    /// ```
+    /// # let dir = std::env::temp_dir().join(format!("vahondrisa-doc-progress-{}", std::process::id()));
+    /// # let backup = dir.with_extension("backup");
+    /// # let store = vahondrisa::Store::open(&dir)?;
+    /// let given_up = store.copy_with_progress(&backup, |bytes| bytes == 0);
+    /// assert_eq!(given_up.unwrap_err().kind(), vahondrisa::ErrorKind::Stopped);
+    /// # store.close()?; std::fs::remove_dir_all(dir).unwrap(); std::fs::remove_dir_all(backup).unwrap();
+    /// # Ok::<(), vahondrisa::Error>(())
+    /// ```
+    pub fn copy_with_progress<F: FnMut(u64) -> bool>(&self, folder: impl AsRef<Path>, progress: F) -> Result<()> {
         let name = name_of(folder.as_ref())?;
-        // SAFETY: the path ends with 0, and lives over the call.
-        done(unsafe { sys::vah_copy(self.at, name.as_ptr()) })
+        told(progress, |call, with| {
+            // SAFETY: the path ends with 0, and lives over the call, as what `call` is called with does.
+            done(unsafe { sys::vah_copy_with(self.at, name.as_ptr(), Some(call), with) })
+        })
     }
 
     /// How the store stands.

@@ -100,6 +100,29 @@ fn two_copies_at_once() {
     }
 }
 
+#[test]
+fn a_copy_tells_its_progress() {
+    let dir = Folder::new("copies-progress");
+    let store = Store::open(dir.0.join("store")).unwrap();
+    store.write(|txn| (0..4_000u64).try_for_each(|i| txn.put([i.to_be_bytes(); 30].concat(), i).map(drop))).unwrap();
+    let to = dir.0.join("copy");
+    let mut told = Vec::new();
+    let stopped = store.copy_with_progress(&to, |bytes| {
+        told.push(bytes);
+        told.len() < 2
+    });
+    assert_eq!((stopped.unwrap_err().kind(), told.len(), fs::read_dir(&to).unwrap().count()), (ErrorKind::Stopped, 2, 0));
+    let panicked = std::panic::catch_unwind(std::panic::AssertUnwindSafe(|| store.copy_with_progress(&to, |_| panic!("on purpose"))));
+    assert!(panicked.is_err() && fs::read_dir(&to).unwrap().count() == 0);
+    told.clear();
+    store.copy_with_progress(&to, |bytes| {
+        told.push(bytes);
+        store.get(b"none").unwrap().is_none() // it goes on
+    }).unwrap();
+    assert!(told.len() > 4 && told.windows(2).all(|it| it[0] < it[1]), "{told:?}");
+    assert_eq!(Store::open(&to).unwrap().begin().unwrap().range(..).count(), 4_000);
+}
+
 fn store_is_there(dir: &Path) {
     Store::open(dir).unwrap().close().unwrap();
 }
