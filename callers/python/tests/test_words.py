@@ -68,8 +68,7 @@ class Words(Case):
             self.assertIn(sorted(model.items())[0], txn.items())
             self.assertIn(next(iter(model.values())), txn.values())
             txn.update({b"1": 1, b"z": 2})
-            txn |= {b"y": 3}
-            self.assertEqual((txn[b"1"], txn[b"z"], txn[b"y"]), (1, 2, 3))
+            self.assertEqual((txn[b"1"], txn[b"z"]), (1, 2))
 
     def test_it_is_one_object(self):
         with self.store.begin() as one, self.store.begin() as other:
@@ -87,13 +86,24 @@ class Words(Case):
             for _ in range(60):
                 lo, hi = (chance.choice([None, b"%d" % chance.randrange(2000)]) for _ in range(2))
                 wanted = [it for it in entries if (lo is None or it[0] >= lo) and (hi is None or it[0] <= hi)]
-                self.assertEqual(list(txn.range(lo, hi, batch=chance.randrange(1, 300))), wanted)
+                self.assertEqual(list(txn.range(lo, hi, batch=chance.randrange(2, 257))), wanted)
                 part = txn.range(lo, hi, batch=7)
                 self.assertEqual([next(part, None) for _ in range(9)] + list(part), (wanted + [None] * 9)[:9] + wanted[9:])
-            for batch in (0, -1):
-                self.assertRaisesRegex(ValueError, f"^batch must be 1 or more, not {batch}$", txn.range, batch=batch)
             self.assertEqual([txn.first(), txn.seek(b"1"), txn.next(keys[-1])], [entries[0], txn.seek(b"1"), None])
             self.assertEqual(list(txn.prefix(b"12")), [it for it in entries if it[0].startswith(b"12")])
+
+            for batch in (-1, 0, 1, 257, 1 << 70):
+                self.assertRaisesRegex(ValueError, "^batch must be ", txn.range, batch=batch)
+                self.assertRaisesRegex(ValueError, "^batch must be ", txn.prefix, b"1", batch=batch)
+            self.assertRaisesRegex(TypeError, "^batch must be an int, not str$", txn.range, batch="2")
+
+    def test_the_entries_of_another_mapping(self):
+        with self.store.begin() as txn:
+            same, txn[b"a"] = txn, 1
+            txn |= {b"a": 2, b"b": 3}
+            txn |= [(b"c", 4)]
+            self.assertIs(txn, same)
+            self.assertEqual(dict(txn), {b"a": 2, b"b": 3, b"c": 4})
 
     def test_slices_and_open_bounds(self):
         chance = random.Random(9)

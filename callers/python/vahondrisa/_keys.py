@@ -148,7 +148,7 @@ class Keys(Alone, MutableMapping[bytes, int]):
     ) -> "Range":
         """The entries from one key to another, both included, in order, or with `reverse` from the last one on; None and b"" are no bound.
 
-        It reads, and so locks, `batch` entries at a time, at least 2 and at most 256, and with `reverse` one at a time.
+        It reads, and so locks, `batch` entries at a time, 2 to 256, and with `reverse` one at a time.
         """
         low, high = (None if bound is None else bytes_of(bound, "key") for bound in (lo, hi))
         low = self._whole(low) if low else self._prefix or b"\0"
@@ -182,6 +182,11 @@ class Keys(Alone, MutableMapping[bytes, int]):
         """The entries, in order."""
         return _EntriesView(self)
 
+    def __ior__(self: K, other: "Union[Mapping[bytes, int], Iterable[Entry]]") -> K:
+        """Puts all entries of another mapping, as a dict's `|=` does."""
+        self.update(other)
+        return self
+
     def popitem(self) -> Entry:
         """Takes the last entry out, and returns it; KeyError where there is none."""
         entry = self.last()
@@ -208,10 +213,6 @@ class Keys(Alone, MutableMapping[bytes, int]):
     def __delitem__(self, key: Bytes) -> None:
         if not self.delete(key):
             raise KeyError(key)
-
-    def __ior__(self: K, other: "Union[Mapping[bytes, int], Iterable[Entry]]") -> K:
-        self.update(other)
-        return self
 
     def __contains__(self, key: object) -> bool:
         return self.get(key) is not None  # type: ignore[call-overload]
@@ -265,6 +266,14 @@ class _EntriesView(ItemsView[bytes, int]):
         return self._mapping.range(reverse=True)
 
 
+def _batch_of(value: object) -> int:
+    """How many entries are read at a time."""
+    batch = number_of(value, 64, "batch")
+    if not 2 <= batch <= c.SCAN_MAX:
+        raise ValueError(f"batch must be 2 to {c.SCAN_MAX}, not {batch}")
+    return batch
+
+
 class Range(Alone):
     """The entries of a range, each as (key, rid), as an iterator; of threads that share it each gets another entry. After an error it has ended.
 
@@ -284,10 +293,7 @@ class Range(Alone):
 
     def __init__(self, keys: Keys, lo: bytes, hi: bytes, batch: int, reverse: bool) -> None:
         self._keys, self._lo, self._hi, self._is_reverse = keys, lo, hi, reverse
-        number = batch if batch.__class__ is int else number_of(batch, 64, "batch")
-        if number < 1:
-            raise ValueError(f"batch must be 1 or more, not {number}")
-        self._batch = max(2, min(number, c.SCAN_MAX))
+        self._batch = batch if batch.__class__ is int and 2 <= batch <= c.SCAN_MAX else _batch_of(batch)
         self._room: Optional[ctypes.Array[ctypes.c_char]] = None
         self._lock = threading.Lock()
 
