@@ -125,7 +125,8 @@ class Named(Case):
         by_city, notes = self.store.index("by_city"), self.store.blob("notes")
         with self.store.begin() as txn:
             by_city.within(txn).update({b"oslo": 7, b"rome": 8})
-            notes.within(txn).update({b"a": b"", b"a\0": value[:300], b"a\0b": value, b"b": value[:240]})
+            texts = notes.within(txn)
+            texts |= {b"a": b"", b"a\0": value[:300], b"a\0b": value, b"b": value[:240]}
             hash, count = 0xCBF29CE484222325, 0
             for key, rid in txn.items():
                 count += 1

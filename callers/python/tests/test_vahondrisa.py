@@ -210,7 +210,7 @@ class Stores(Case):
         self.assertRaises(vahondrisa.NotAStore, vahondrisa.open, self.dir + "2")
 
     def test_a_library_that_is_none_is_told(self):
-        for library, words in (("libc.so.6", b"is of another release than this package: it has no vah_open"), ("/none/such.so", b"/none/such.so")):
+        for library, words in (("libc.so.6", b"is of another release than this package: it has no vah_open"), ("/none/such.so", b"ImportError: the library cannot be loaded: /none/such.so")):
             environment = dict(os.environ, PYTHONPATH=os.pathsep.join(filter(None, sys.path)), VAHONDRISA_LIBRARY=library)
             ran = subprocess.run([sys.executable, "-c", "import vahondrisa"], env=environment, stderr=subprocess.PIPE)
             self.assertEqual(ran.returncode, 1)
