@@ -67,6 +67,11 @@ impl<'a, W: Write, C: Clock> ProgressLine<'a, W, C> {
         self.writer
     }
 
+    /// Whether a count stands in the line, which is then to be ended.
+    pub fn has_count(&self) -> bool {
+        self.has_count
+    }
+
     // The seconds since the first count, at least one.
     fn seconds(&mut self) -> Option<u64> {
         match &self.begun {

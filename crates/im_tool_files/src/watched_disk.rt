@@ -60,7 +60,6 @@ pub struct WatchedDisk<'a, W> {
     line: ProgressLine<'a, W, HostRuntime>,
     rt: &'a HostRuntime,
     is_opening: Cell<bool>,
-    is_told: Cell<bool>,
     // How many bytes were read of a log since they were told last.
     read: u64,
     // How long the file is that was asked for last.
@@ -78,7 +77,6 @@ impl<'a, W: Write> WatchedDisk<'a, W> {
             line: ProgressLine::new(writer, is_shown, "MiB of log read", rt),
             rt,
             is_opening: Cell::new(true),
-            is_told: Cell::new(false),
             read: 0,
             length: 0,
         }
@@ -97,14 +95,13 @@ impl<'a, W: Write> WatchedDisk<'a, W> {
             let done = at.saturating_add(size) / MIB;
             let all = self.length / MIB;
             self.line.show(done.min(all), Some(all));
-            self.is_told.set(true);
         }
     }
 }
 
 impl<W: Write> Opening for WatchedDisk<'_, W> {
     fn is_done(&self) {
-        if self.is_opening.get() && self.is_told.get() {
+        if self.is_opening.get() && self.line.has_count() {
             let _ = writeln!(self.rt.stderr());
         }
         self.is_opening.set(false);

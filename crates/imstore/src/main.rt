@@ -13,9 +13,21 @@ fn main(rt: HostRuntime) -> ExitCode {
         // who reads what it prints has gone, as `head` does, and wants no more
         Err(error) if error.kind() == ErrorKind::BrokenPipe => ExitCode::from(1),
         Err(error) => {
-            let _ = eprintln!(rt; "imstore: what it reads or prints, or its memory: {error}");
+            let what = what_failed(error.kind());
+            let _ = eprintln!(rt; "imstore: {what}: {error}");
             ExitCode::from(1)
         }
+    }
+}
+
+// What it is that an error of this kind came of.
+fn what_failed(kind: ErrorKind) -> &'static str {
+    match kind {
+        ErrorKind::StorageFull | ErrorKind::QuotaExceeded | ErrorKind::FileTooLarge => {
+            "what it prints cannot be written"
+        }
+        ErrorKind::OutOfMemory => "its own memory",
+        _ => "what it reads or prints",
     }
 }
 
