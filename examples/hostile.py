@@ -17,7 +17,7 @@ class Tries:
 
     def fails(self, what, why):
         self.failed += 1
-        print(f"{what[:200]!r}: {why}")
+        print(f"{what[:200]!r}: {why}", flush=True)
 
     def ask(self, words, given=b"", prepare=None, **options):
         """Runs the program. Its status, what it printed and what it said; the status is None where it did not end."""
@@ -55,7 +55,7 @@ class Tries:
         """Ends the whole: so many at least were to be tried."""
         if self.count < least:
             self.fails("the list", f"has {self.count}, and not {least}")
-        print(f"{self.count} tried, {self.failed} failed")
+        print(f"{self.count} tried, {self.failed} failed", flush=True)
         sys.exit(self.failed > 0)
 
 
