@@ -1,5 +1,6 @@
-/* The same work by vahondrisa.h, LMDB and SQLite, keys of 8 bytes. bench vah|lmdb|sqlite FOLDER THREADS prints, for each kind of work, how many a
- * second by the clock, and microseconds of processor each, all threads of the process together. */
+/* The same work by vahondrisa.h, LMDB and SQLite, keys of 8 bytes. bench vah|lmdb|sqlite FOLDER THREADS [KEYS] prints, for each kind of work, how many a
+ * second by the clock, and microseconds of processor each, all threads of the process together. With KEYS, in whole batches of 64, the stores have so many,
+ * and 64 MiB of memory each for pages, of which LMDB takes what the system has. */
 #define _GNU_SOURCE
 #include "vahondrisa.h"
 #include "work.h"
@@ -12,6 +13,8 @@
 enum { MOST = 16 };
 static const uint64_t last = UINT64_MAX;
 static unsigned threads;
+static uint64_t keys = KEYS;
+static int is_grown;
 
 /* What each of the three does, for one thread: begin, a look-up, an insert, a scan, and the end of a transaction. */
 struct user { vah_txn *txn; MDB_txn *mdb; sqlite3 *db; sqlite3_stmt *begin, *write, *end, *get, *put, *scan; unsigned number; };
@@ -29,7 +32,12 @@ struct calls {
 static const struct calls *by;
 static char path[4096];
 
-static void vah_open_(const char *dir) { OK(vah_open(dir, NULL, &store)); }
+static void vah_open_(const char *dir)
+{
+	vah_config config = VAH_CONFIG_INIT;
+	if (is_grown) config.cache_bytes = 64 << 20;
+	OK(vah_open(dir, &config, &store));
+}
 static void vah_join_(struct user *u) { (void)u; }
 static void vah_begin_(struct user *u, int writes) { (void)writes; OK(vah_begin(store, &u->txn)); }
 static uint64_t vah_get_(struct user *u, uint64_t key) { uint64_t n; OK(vah_fetch(u->txn, &key, 8, &n)); return n; }
@@ -110,6 +118,7 @@ static void sql_join_(struct user *u)
 	OK(sqlite3_open(path, &u->db));
 	sqlite3_busy_timeout(u->db, 60000);
 	OK(sqlite3_exec(u->db, "PRAGMA journal_mode=WAL; PRAGMA synchronous=FULL; CREATE TABLE IF NOT EXISTS t(k BLOB PRIMARY KEY, n INTEGER) WITHOUT ROWID", NULL, NULL, NULL));
+	if (is_grown) OK(sqlite3_exec(u->db, "PRAGMA cache_size=-65536", NULL, NULL, NULL));
 	for (int i = 0; i < 6; i++) OK(sqlite3_prepare_v2(u->db, words[i], -1, at[i], NULL));
 }
 static void sql_open_(const char *dir) { mkdir(dir, 0777); snprintf(path, sizeof path, "%s/db", dir); }
@@ -155,7 +164,7 @@ static const struct calls all[] = {
 static void *inserts_64(void *arg)
 {
 	struct user *u = arg;
-	for (uint64_t i = u->number * 64; i < KEYS; i += 64 * threads) {
+	for (uint64_t i = u->number * 64; i < keys; i += 64 * threads) {
 		by->begin(u, 1);
 		for (uint64_t j = i; j < i + 64; ) j = by->put(u, mix(j), j) ? j + 1 : i;
 		by->end(u, 1);
@@ -167,7 +176,7 @@ static void *inserts_1(void *arg)
 	struct user *u = arg;
 	for (uint64_t i = u->number; i < COMMITS; i += threads) {
 		by->begin(u, 1);
-		while (!by->put(u, mix(1000000 + i), i)) ;
+		while (!by->put(u, mix((1u << 30) + i), i)) ;
 		by->end(u, 1);
 	}
 	return NULL;
@@ -178,7 +187,7 @@ static void *look_ups(void *arg)
 	for (uint64_t i = u->number * 100; i < READS; i += 100 * threads) {
 		by->begin(u, 0);
 		for (uint64_t j = i; j < i + 100; j++) {
-			uint64_t wanted = mix(j * 7) % KEYS;
+			uint64_t wanted = mix(j * 7) % keys;
 			if (by->get(u, mix(wanted)) != wanted) exit(2);
 		}
 		by->end(u, 0);
@@ -198,8 +207,12 @@ static void *scans(void *arg)
 
 int main(int argc, char **argv)
 {
+	if (argc > 4) {
+		keys = strtoull(argv[4], NULL, 10) / 64 * 64;
+		is_grown = 1;
+	}
 	struct { const char *name; void *(*work)(void *); double count; } works[] = {
-		{ "inserts, 64 a commit", inserts_64, KEYS }, { "inserts, 1 a commit", inserts_1, COMMITS },
+		{ "inserts, 64 a commit", inserts_64, (double)keys }, { "inserts, 1 a commit", inserts_1, COMMITS },
 		{ "look-ups, 100 a transaction", look_ups, READS }, { "scans of 100", scans, SCANS } };
 	const char *names[] = { "vah", "lmdb", "sqlite" };
 	static struct user users[MOST];
