@@ -51,7 +51,7 @@ def drawn():
     for threads in THREADS:
         x, _ = place(threads, LEAST)
         yield f'<text x="{x}" y="{TOP + HIGH + 18}" text-anchor="middle">{threads}</text>\n'
-    yield f'<text x="{LEFT + WIDE / 2}" y="{TOP + HIGH + 40}" text-anchor="middle">threads, each with one insert a commit; commits a second, all synced</text>\n'
+    yield f'<text x="{LEFT + WIDE / 2}" y="{TOP + HIGH + 40}" text-anchor="middle">threads, an insert a commit; synced commits a second; both axes logarithmic</text>\n'
     for row, name, colour, down in LINES:
         points = [place(*it) for it in zip(THREADS, found[row])]
         width = 3 if name == "this store" else 1.5
