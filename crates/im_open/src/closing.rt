@@ -10,7 +10,7 @@ use im_base_types::Fault;
 use im_store::OpenStore;
 
 /// Ends a store as `OpenStore::close` does, and then gives back the room of its logs: the one that it has left is cut to its first batch, the current one, where it has no record, to
-/// its end. A copy that is under way is let go. What was committed is kept, refused or not.
+/// its end. With nothing active, and a bound of the log, 65,536 bytes of each are left at most. A copy that is under way is let go. What was committed is kept, refused or not.
 ///
 /// Refused as `OpenStore::close` is: then nothing is cut. Else `Device` where a log was not cut: each is as long as it was then, or cut.
 pub fn close(store: OpenStore<Files>) -> Result<(), Fault>

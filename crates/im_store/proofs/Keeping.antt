@@ -1,7 +1,7 @@
 -- What was made is upkeep.
 use Rattle.std.proofs.Common.{◌∙◌, ap, inl, inr, refl, subst, sym, arith}
 use Rattle.std.proofs.lemmas.Bool.{cases_lt}
-use Rattle.std.specs.Prelude.{◌≡◌, ◌+◌, ◌-◌, ◌^◌, ℕ, min, max, Bool, Some, true, false, Result, OnOk, IfErr, Ok, Err, ◌≤◌, IsTrue}
+use Rattle.std.specs.Prelude.{◌≡◌, ◌⊎◌, ◌<◌, ◌+◌, ◌-◌, ◌^◌, ℕ, min, max, Bool, Some, true, false, Result, OnOk, IfErr, Ok, Err, ◌≤◌, IsTrue}
 use Rattle.im_base_types.specs.declared.tables.DirtyPage.{DirtyPage}
 use Rattle.im_page_table.specs.DirtyTable.{oldest}
 use Rattle.im_base_disk.specs.declared.disk.Disk.{Ghosts}
@@ -16,10 +16,12 @@ use Rattle.im_engine.specs.declared.engine.Engine.{Engine}
 use Rattle.im_engine.specs.Told.{IsStep}
 use Rattle.im_store.specs.declared.upkeep.Upkeep.{Upkeep}
 use Rattle.im_store.specs.declared.due.Due.TheVariants as due
-use Rattle.im_store.specs.Noted.{IsNoted, IsNotedBy, after_last, as_before, is_done, is_left, noted, redo_from}
-use Rattle.im_store.specs.Numbers.{durable_end_of}
+use Rattle.im_store.specs.Noted.{IsNoted, IsNotedBy, IsStill, after_last, as_before, is_bare_after, is_done, is_left, noted, redo_from}
+use Rattle.im_store.specs.Numbers.{active_of, dirty_of, durable_end_of, log_length_of}
+use Rattle.im_store.specs.RedoBound.{redo_length}
+use Rattle.im_store.specs.declared.bounds.Bounds.{Bounds}
 use Rattle.im_store.specs.Upkeep.{IsKeptUp, none, more}
-use Rattle.im_store.specs.Rule.{IsByRule, IsDue, IsEnded, IsLongAtEnd, IsWritten, IsTaken, KnowsPages, MadeLast, WasRefused}
+use Rattle.im_store.specs.Rule.{IsByRule, IsDue, IsEnded, IsLongAtEnd, IsWritten, IsTaken, KnowsPages, MadeLast, WasRefused, WentOn}
 use Rattle.im_store.specs.Rule as rule
 
 -- what follows where it was made
@@ -31,6 +33,11 @@ ok_on (Err _) on f = on
 pub err_on : {T : Type 0} {A B : Fault → Type 0} (r : Result T Fault) → IfErr r A → ((e : Fault) → A e → B e) → IfErr r B
 err_on (Ok _) on f = on
 err_on (Err e) on f = f e on
+
+-- both where it was made
+pub ok_both : {T : Type 0} (A B : Type 0) (r : Result T Fault) → OnOk r A → OnOk r B → OnOk r (A × B)
+ok_both A B (Ok _) a b = (a, b)
+ok_both A B (Err _) a b = tt
 
 -- what follows either way
 pub either_way : {T A K : Type 0} {B : Fault → Type 0} (r : Result T Fault) → OnOk r A → IfErr r B → (A → K) → ((e : Fault) → B e → K) → K
@@ -134,8 +141,16 @@ module _ {D : Type 0} (d : Ghosts D) where
   -- ---- what is noted
 
   -- a step that was made
-  pub noted_by : (step : Step) (reply : Reply) (u v : Upkeep) (old new : Engine D d) → IsStep d step reply old new → v ≡ noted d step reply (durable_end_of d old) new u → IsNotedBy d step u old new v
-  noted_by step reply u v old new made is = record { reply = reply; made = made; from = ap (λ (w : Upkeep). w.from) is; left = ap (λ (w : Upkeep). w.is_upgraded) is }
+  pub noted_by : (step : Step) (reply : Reply) (u v : Upkeep) (old new : Engine D d) → IsStep d step reply old new → v ≡ noted d step reply (durable_end_of d old) (log_length_of d old) new u → IsNotedBy d step u old new v
+  noted_by step reply u v old new made is = record {
+    reply = reply;
+    made = made;
+    from = ap (λ (w : Upkeep). w.from) is;
+    left = ap (λ (w : Upkeep). w.is_upgraded) is;
+    bare = ap (λ (w : Upkeep). w.is_bare) is;
+    begun = ap (λ (w : Upkeep). w.begun) is;
+    long = ap (λ (w : Upkeep). w.is_long) is;
+  }
 
   -- the write of a page changes nothing of it
   page_from : (done : Bool) (page end : ℕ) (new : Engine D d) (from : ℕ) → redo_from d done (FlushPage page) end new from ≡ from
@@ -146,25 +161,35 @@ module _ {D : Type 0} (d : Ghosts D) where
   page_left true page is = refl
   page_left false page is = refl
 
-  pub noted_page : (u v : Upkeep) (old new : Engine D d) (page : ℕ) → IsNotedBy d (FlushPage page) u old new v → (v.from ≡ u.from) × (v.is_upgraded ≡ u.is_upgraded)
-  noted_page u v old new page is = (is.from ∙ page_from (is_done is.reply) page (durable_end_of d old) new u.from, is.left ∙ page_left (is_done is.reply) page u.is_upgraded)
+  page_bare : (done : Bool) (page length : ℕ) (is : Bool) → is_bare_after done (FlushPage page) length is ≡ is
+  page_bare true page length is = refl
+  page_bare false page length is = refl
 
-  pub page_still : (first u v : Upkeep) (old new : Engine D d) (page : ℕ) → (u.from ≡ first.from) × (u.is_upgraded ≡ first.is_upgraded) → IsNotedBy d (FlushPage page) u old new v → (v.from ≡ first.from) × (v.is_upgraded ≡ first.is_upgraded)
-  page_still first u v old new page still is = (let flushed = noted_page u v old new page is in (flushed.0 ∙ still.0, flushed.1 ∙ still.1))
+  pub noted_page : (u v : Upkeep) (old new : Engine D d) (page : ℕ) → IsNotedBy d (FlushPage page) u old new v → IsStill u v
+  noted_page u v old new page is =
+      (is.from ∙ page_from (is_done is.reply) page (durable_end_of d old) new u.from, is.left ∙ page_left (is_done is.reply) page u.is_upgraded, is.bare ∙ page_bare (is_done is.reply) page (log_length_of d old) u.is_bare, is.begun, is.long)
 
-  pub noted_still : (u v : Upkeep) (old new : Engine D d) → (v.from ≡ u.from) × (v.is_upgraded ≡ u.is_upgraded) → IsNoted d u old new v
-  noted_still u v old new is = as_before is.0 is.1
+  pub page_still : (first u v : Upkeep) (old new : Engine D d) (page : ℕ) → IsStill first u → IsNotedBy d (FlushPage page) u old new v → IsStill first v
+  page_still first u v old new page still is =
+      (let flushed = noted_page u v old new page is in
+      (flushed.0 ∙ still.0, flushed.1 ∙ still.1, flushed.2 ∙ still.2, flushed.3 ∙ still.3, flushed.4 ∙ still.4))
+
+  pub noted_still : (u v : Upkeep) (old new : Engine D d) → IsStill u v → IsNoted d u old new v
+  noted_still u v old new is = as_before is
 
   pub noted_first : (u v : Upkeep) (old new : Engine D d) (step : Step) → IsNotedBy d step u old new v → IsNoted d u old new v
   noted_first u v old new step is = after_last old step none is
 
   -- a step after writes of pages
-  pub noted_last : (u w v : Upkeep) (old mid new : Engine D d) (step : Step) → IsWritten d old mid → (w.from ≡ u.from) × (w.is_upgraded ≡ u.is_upgraded) → IsNotedBy d step w mid new v → IsNoted d u old new v
+  pub noted_last : (u w v : Upkeep) (old mid new : Engine D d) (step : Step) → IsWritten d old mid → IsStill u w → IsNotedBy d step w mid new v → IsNoted d u old new v
   noted_last u w v old mid new step written still is = after_last mid step (written_kept old mid written) (record {
     reply = is.reply;
     made = is.made;
     from = is.from ∙ ap (λ (from : ℕ). redo_from d (is_done is.reply) step (durable_end_of d mid) new from) still.0;
     left = is.left ∙ ap (λ (left : Bool). is_left (is_done is.reply) step left) still.1;
+    bare = is.bare ∙ ap (λ (bare : Bool). is_bare_after (is_done is.reply) step (log_length_of d mid) bare) still.2;
+    begun = is.begun ∙ still.3;
+    long = is.long ∙ still.4;
   })
 
   -- ---- at the end
@@ -175,11 +200,43 @@ module _ {D : Type 0} (d : Ghosts D) where
   pub unset_is_ended : (u : Upkeep) (e : Engine D d) → e.failed ≡ false → (1 ≤ u.bounds.log.bytes → IsTrue false) → IsEnded d u e e
   unset_is_ended u e works unset = record { failed = λ _. refl; forced = λ _ is. absurd (let never : false ≡ true = unset is in cc never) }
 
-  pub forced_is_ended : (u : Upkeep) (old mid new : Engine D d) → old.failed ≡ false → IsTaken d Force old mid → (IsLongAtEnd d u.bounds.log.bytes mid → IsTaken d Switch mid new) → IsEnded d u old new
-  forced_is_ended u old mid new works forced switched = record {
+  pub forced_is_ended : (u : Upkeep) (old mid new : Engine D d) → old.failed ≡ false → IsTaken d Force old mid → (IsLongAtEnd d u mid → WentOn d mid new)
+      → (1 ≤ u.bounds.log.bytes → active_of d new ≡ 0 → (log_length_of d new < 49152) ⊎ WentOn d mid new) → IsEnded d u old new
+  forced_is_ended u old mid new works forced switched short = record {
     failed = λ fails. absurd (let never : true ≡ false = sym fails ∙ works in cc never);
-    forced = λ _ _. record { mid = mid; reply = forced.reply; forced = forced.made; switched = switched };
+    forced = λ _ bounded. record { mid = mid; reply = forced.reply; forced = forced.made; switched = switched; short = short bounded };
   }
+
+  -- a force changes nothing by which the log is long
+  force_bare : (done : Bool) (length : ℕ) (is : Bool) → is_bare_after done Force length is ≡ is
+  force_bare true length is = refl
+  force_bare false length is = refl
+
+  pub long_after_force : (u v : Upkeep) (old e : Engine D d) → IsNotedBy d Force u old e v → v.bounds ≡ u.bounds → IsLongAtEnd d u e → IsLongAtEnd d v e
+  long_after_force u v old e noted bounds is = record {
+    idle = is.idle;
+    bounded = subst (λ (b : Bounds). 1 ≤ b.log.bytes) (sym bounds) is.bounded;
+    uncut = subst (λ (b : Bool). (b ≡ true) ⊎ (47 < log_length_of d e)) (sym (noted.bare ∙ force_bare (is_done noted.reply) (log_length_of d old) u.is_bare)) is.uncut;
+    long = subst (λ (b : Bool). (b ≡ true) ⊎ (49152 ≤ log_length_of d e) ⊎ (49152 ≤ redo_length v.begun (durable_end_of d e) (dirty_of d e))) (sym noted.long)
+        (subst (λ (n : ℕ). (u.is_long ≡ true) ⊎ (49152 ≤ log_length_of d e) ⊎ (49152 ≤ redo_length n (durable_end_of d e) (dirty_of d e))) (sym noted.begun) is.long);
+  }
+
+  -- a log that is not long is short
+  pub short_unless_long : (u : Upkeep) (e : Engine D d) → (IsLongAtEnd d u e → ⊥) → 1 ≤ u.bounds.log.bytes → active_of d e ≡ 0 → log_length_of d e < 49152
+  short_unless_long u e not bounded idle = elim (cases_lt (log_length_of d e) 49152) [
+    | inl lt ↦ lt
+    | inr ge ↦ absurd (not (record { idle = idle; bounded = bounded; uncut = inr (omega (arith, ge)); long = inr (inl ge) }))
+  ]
+
+  -- a Switch at once, or after other steps
+  pub went_at_once : (old new : Engine D d) → IsTaken d Switch old new → WentOn d old new
+  went_at_once old new taken = record { mid = old; before = none; taken = taken }
+
+  pub went_after : (old mid new : Engine D d) → IsKeptUp d old mid → WentOn d mid new → WentOn d old new
+  went_after old mid new before went = record { mid = went.mid; before = kept_then old mid went.mid before went.before; taken = went.taken }
+
+  pub went_kept : (old new : Engine D d) → WentOn d old new → IsKeptUp d old new
+  went_kept old new went = taken_kept old went.mid new Switch refl went.before went.taken
 
   -- ---- the pages that are known
 

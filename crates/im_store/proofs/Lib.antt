@@ -1,5 +1,6 @@
 mod FirstFormats
 pub mod Keeping
+mod LogLengths
 mod Synced
 pub mod Ended
 pub mod Kept

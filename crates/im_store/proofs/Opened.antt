@@ -12,6 +12,7 @@ use Rattle.im_engine.specs.Opening.{IsOpening}
 use Rattle.im_store.specs.declared.bounds.Bounds.{Bounds}
 use Rattle.im_store.specs.declared.upkeep.Upkeep.{Upkeep}
 use Rattle.im_store.specs.FirstFormat.{HasFirst}
+use Rattle.im_store.specs.LogFiles.{HasLong}
 use Rattle.im_store.specs.Noted.{fresh}
 use Rattle.im_store.specs.declared.open_store.OpenStore.{OpenStore}
 use Rattle.im_store.specs.Stores.{AreRight, IsOpenedStore}
@@ -38,16 +39,23 @@ not_workers frames workers is (_, inr high) = omega (arith, is.1.1, high)
 
 module _ {D : Type 0} (d : Ghosts D) (config : Config) (bounds : Bounds) (old read : D) where
   -- the engine was opened
-  pub store_opened : (s : OpenStore D d) (e : Engine D d) (first : Bool) → s.engine ≡ e → Reads d old read → ((AreRight config → ⊥) → read ≡ old) → IsOpening d config read (Ok e)
-      → s.upkeep ≡ record (fresh d bounds e) { is_upgraded = first } → s.unkept ≡ None → (AreRight config → d.tells → (first ≡ true) ↔ HasFirst (d.seen old)) → IsOpenedStore d config bounds old (Ok s)
-  store_opened s e first same reads still opening stood kept has =
+  pub store_opened : (s : OpenStore D d) (e : Engine D d) (first long bare : Bool) → s.engine ≡ e → Reads d old read → ((AreRight config → ⊥) → read ≡ old) → IsOpening d config read (Ok e)
+      → s.upkeep ≡ record (fresh d bounds e) { is_upgraded = first; is_long = long; is_bare = bare } → s.unkept ≡ None → (AreRight config → d.tells → (first ≡ true) ↔ HasFirst (d.seen old))
+      → (AreRight config → d.tells → (long ≡ true) ↔ HasLong (d.seen old)) → IsOpenedStore d config bounds old (Ok s)
+  store_opened s e first long bare same reads still opening stood kept has had =
       let is = subst (λ (x : Engine D d). IsOpening d config read (Ok x)) (sym same) opening in
-      let stands = subst (λ (x : Engine D d). s.upkeep ≡ record (fresh d bounds x) { is_upgraded = first }) (sym same) stood in
+      let stands = subst (λ (x : Engine D d). s.upkeep ≡ record (fresh d bounds x) { is_upgraded = first; is_long = long; is_bare = bare }) (sym same) stood in
       let left : s.upkeep.is_upgraded ≡ first = ap (λ (u : Upkeep). u.is_upgraded) stood in
+      let lengthy : s.upkeep.is_long ≡ long = ap (λ (u : Upkeep). u.is_long) stood in
+      let stripped : s.upkeep.is_bare ≡ bare = ap (λ (u : Upkeep). u.is_bare) stood in
+      let rights = right config.frames config.workers is.frames.1 is.workers.1 in
       record {
         opening = inl (record { read = read; reads = reads; still = still; opening = is });
-        upkeep = stands ∙ ap (λ (b : Bool). record (fresh d bounds s.engine) { is_upgraded = b }) (sym left);
-        first = λ told. (let both = has (right config.frames config.workers is.frames.1 is.workers.1) told in (λ so. both.0 (sym left ∙ so), λ had. left ∙ both.1 had));
+        upkeep = stands ∙ ap (λ (b : Bool). record (fresh d bounds s.engine) { is_upgraded = b; is_long = long; is_bare = bare }) (sym left)
+            ∙ ap (λ (b : Bool). record (fresh d bounds s.engine) { is_upgraded = s.upkeep.is_upgraded; is_long = b; is_bare = bare }) (sym lengthy)
+            ∙ ap (λ (b : Bool). record (fresh d bounds s.engine) { is_upgraded = s.upkeep.is_upgraded; is_long = s.upkeep.is_long; is_bare = b }) (sym stripped);
+        first = λ told. (let both = has rights told in (λ so. both.0 (sym left ∙ so), λ it. left ∙ both.1 it));
+        long = λ told. (let both = had rights told in (λ so. both.0 (sym lengthy ∙ so), λ it. lengthy ∙ both.1 it));
         unkept = kept;
         opened = (read, reads, is);
         frames = is.frames;
@@ -63,6 +71,7 @@ module _ {D : Type 0} (d : Ghosts D) (config : Config) (bounds : Bounds) (old re
     opening = inl (record { read = read; reads = reads; still = still; opening = is });
     upkeep = tt;
     first = tt;
+    long = tt;
     unkept = tt;
     opened = tt;
     frames = is.frames;
@@ -83,6 +92,7 @@ module _ {D : Type 0} (d : Ghosts D) (config : Config) (bounds : Bounds) (old : 
     opening = inr (record { disk = x; right = rights; reads = reads; fails = fails; is = refl });
     upkeep = tt;
     first = tt;
+    long = tt;
     unkept = tt;
     opened = tt;
     frames = (λ never. absurd (cc never), λ few. absurd (not_frames config.frames config.workers rights few));

@@ -1,5 +1,6 @@
 pub mod FirstFormat
 pub mod LogBound
+pub mod LogFiles
 pub mod Noted
 pub mod Numbers
 pub mod RedoBound

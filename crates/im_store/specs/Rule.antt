@@ -1,5 +1,5 @@
 -- What upkeep makes of an engine, and when: the rule.
-use Rattle.std.specs.Prelude.{◌≡◌, ◌⊎◌, ◌≤◌, ◌+◌, ◌-◌, ◌*◌, ◌^◌, ℕ, min, Some, true, false}
+use Rattle.std.specs.Prelude.{◌≡◌, ◌⊎◌, ◌≤◌, ◌<◌, ◌+◌, ◌-◌, ◌*◌, ◌^◌, ℕ, min, Some, true, false}
 use Rattle.im_base_disk.specs.declared.disk.Disk.{Ghosts}
 use Rattle.im_base_steps.specs.declared.step.Step.{Step}
 use Rattle.im_base_steps.specs.declared.step.Step.TheVariants.{FlushPage, Force, Checkpoint, Switch}
@@ -101,18 +101,30 @@ module _ {D : Type 0} (d : Ghosts D) where
     pub taken : old.failed ≡ false → IsDue u old due.Checkpoint → MadeLast Checkpoint old new
     pub nothing : old.failed ≡ false → IsDue u old due.Nothing → IsWritten old new
 
-  -- At the end a log of so many bytes, which has a bound, is left for an empty one, where nothing is active.
-  pub record IsLongAtEnd (bound : ℕ) (e : Engine D d) : Type 0 where
-    pub idle : active_of d e ≡ 0
-    pub bounded : 1 ≤ bound
-    pub long : 1048576 ≤ log_length_of d e
+  -- A log's file may have more bytes than a close leaves: one had at the opening, or the log has 48 KiB, or so much was logged since, counted with the full copies that the log may get of pages.
+  abbrev pub MayBeLong : Upkeep → Engine D d → Type 0
+  MayBeLong u e = (u.is_long ≡ true) ⊎ (49152 ≤ log_length_of d e) ⊎ (49152 ≤ redo_length u.begun (durable_end_of d e) (dirty_of d e))
 
-  -- The log was forced, and a long one left for an empty one.
+  -- At the end a log that has a bound is then left for an empty one, where nothing is active: if it has a record, or the one that was left before may begin with no batch.
+  pub record IsLongAtEnd (u : Upkeep) (e : Engine D d) : Type 0 where
+    pub idle : active_of d e ≡ 0
+    pub bounded : 1 ≤ u.bounds.log.bytes
+    pub uncut : (u.is_bare ≡ true) ⊎ (47 < log_length_of d e)
+    pub long : MayBeLong u e
+
+  -- The log went on in the other file last.
+  pub record WentOn (old new : Engine D d) : Type 0 where
+    pub mid : Engine D d
+    pub before : IsKeptUp d old mid
+    pub taken : IsTaken Switch mid new
+
+  -- The log was forced, and a long one left for an empty one: where nothing is active the log has less than 48 KiB, or it went on in the other file last.
   pub record WasForced (u : Upkeep) (old new : Engine D d) : Type 0 where
     pub mid : Engine D d
     pub reply : Reply
     pub forced : IsStep d Force reply old mid
-    pub switched : IsLongAtEnd u.bounds.log.bytes mid → IsTaken Switch mid new
+    pub switched : IsLongAtEnd u mid → WentOn mid new
+    pub short : active_of d new ≡ 0 → (log_length_of d new < 49152) ⊎ WentOn mid new
 
   -- What the end wants was made, where the engine works and there is a bound of the log.
   pub record IsEnded (u : Upkeep) (old new : Engine D d) : Type 0 where

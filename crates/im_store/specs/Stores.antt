@@ -16,8 +16,9 @@ use Rattle.im_engine.specs.Told.{IsStep}
 use Rattle.im_store.specs.declared.bounds.Bounds.{Bounds}
 use Rattle.im_store.specs.declared.upkeep.Upkeep.{Upkeep}
 use Rattle.im_store.specs.FirstFormat.{HasFirst}
+use Rattle.im_store.specs.LogFiles.{HasLong}
 use Rattle.im_store.specs.Noted.{IsNoted, fresh, noted}
-use Rattle.im_store.specs.Numbers.{durable_end_of}
+use Rattle.im_store.specs.Numbers.{durable_end_of, log_length_of}
 use Rattle.im_store.specs.Rule.{IsByRule, IsDue, IsEnded, KnowsPages, WasRefused}
 use Rattle.im_store.specs.Upkeep.{IsKeptUp}
 use Rattle.im_store.specs.declared.open_store.OpenStore.{OpenStore}
@@ -62,12 +63,13 @@ module _ {D : Type 0} (d : Ghosts D) where
     pub fails : d.failed disk ≡ true
     pub is : result ≡ Err (Device, disk)
 
-  -- What an opening answers: a store with these bounds, whose engine is what the engine's own opening leaves, and whose upkeep is that of a store that was just opened; it replaces a log of the first format just where the files had one. Or the disk, and why there is none: the frames just where they are too few or too many,
+  -- What an opening answers: a store with these bounds, whose engine is what the engine's own opening leaves, and whose upkeep is that of a store that was just opened; it replaces a log of the first format just where the files had one, and knows just then of a long log that one was. Or the disk, and why there is none: the frames just where they are too few or too many,
   -- after that the workers just where those are, and with both no call was made; the disk just where that has failed.
   pub record IsOpenedStore (config : Config) (bounds : Bounds) (old : D) (result : Result (OpenStore D d) (Fault × D)) : Type 0 where
     pub opening : IsByEngine config old (engine_of result) ⊎ IsLookRefused config old result
-    pub upkeep : IfOk result (λ s. s.upkeep ≡ record (fresh d bounds s.engine) { is_upgraded = s.upkeep.is_upgraded })
+    pub upkeep : IfOk result (λ s. s.upkeep ≡ record (fresh d bounds s.engine) { is_upgraded = s.upkeep.is_upgraded; is_long = s.upkeep.is_long; is_bare = s.upkeep.is_bare })
     pub first : IfOk result (λ s. d.tells → (s.upkeep.is_upgraded ≡ true) ↔ HasFirst (d.seen old))
+    pub long : IfOk result (λ s. d.tells → (s.upkeep.is_long ≡ true) ↔ HasLong (d.seen old))
     pub unkept : IfOk result (λ s. s.unkept ≡ None)
     pub opened : IfOk result (λ s. (read : D) × Reads d old read × IsOpening d config read (Ok s.engine))
     pub frames : IsErrAnd result (λ x. x.0 ≡ PoolSize) ↔ ((config.frames < 8) ⊎ (1024 < config.frames))
@@ -96,7 +98,7 @@ module _ {D : Type 0} (d : Ghosts D) where
     pub between : Engine D d
     pub made : IsStep d step reply old.engine between
     pub kept : IsKeptUp d between new.engine
-    pub follow : follows reply ≡ true → WasKept (noted d step reply (durable_end_of d old.engine) between old.upkeep) between new
+    pub follow : follows reply ≡ true → WasKept (noted d step reply (durable_end_of d old.engine) (log_length_of d old.engine) between old.upkeep) between new
     pub still : follows reply ≡ false → (new.engine ≡ between) × (new.upkeep ≡ old.upkeep) × (new.unkept ≡ None)
     pub bounds : new.upkeep.bounds ≡ old.upkeep.bounds
     pub limits : SameLimits old.engine new.engine

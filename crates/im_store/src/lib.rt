@@ -2,8 +2,8 @@
 //!
 //! A store that is open: an engine, and with it the upkeep that its next opening wants, so that no program puts the two together by hand.
 //!
-//! `OpenStore::open` opens the store of a disk with bounds of what its next opening redoes and reads, and notes a log of the first format that is to be left.
-//! `step` makes a step, and after a reply by which the log may have grown, or a transaction has ended, what is due: a Checkpoint, a Switch, or the write of a
+//! `OpenStore::open` opens the store of a disk with bounds of what its next opening redoes and reads, and notes a log of the first format that is to be left, and
+//! how long the logs' files are. `step` makes a step, and after a reply by which the log may have grown, or a transaction has ended, what is due: a Checkpoint, a Switch, or the write of a
 //! page. Where that is refused, the reply is the step's all the same, and `unkept` says what was refused. `close` leaves little for the next opening, ends the
 //! engine, and hands the disk back, so that no step comes after it.
 //!
@@ -24,7 +24,8 @@
 //! 3. Where that is so but for an eighth, one page is written whose oldest change is from before: so few are left for the Switch, which holds up
 //!    whoever waits for its reply.
 //!
-//! At the end a log of 1 MiB or more is left for an empty one, where nothing is active; else all pages are written and a Checkpoint is taken.
+//! At the end, where nothing is active, a log of 48 KiB or more is left for an empty one, and one that has a record also where its file may be longer than it is;
+//! else all pages are written and a Checkpoint is taken. So whoever cuts what no opening reads leaves no log of more than 64 KiB.
 //!
 //! While some transaction is active nothing can be switched: the log then grows past its bound, until for one moment none is.
 //!
@@ -40,11 +41,13 @@
 //! It stands on `im_engine`, on the headers of logs, and for copies on `im_base_mirror_disk`.
 #![tactic(auto)]
 
+mod ahead;
 mod bounds;
 mod copying;
 mod due;
 mod first_format;
 mod log_bound;
+mod log_files;
 mod open_store;
 mod redo_bound;
 mod unkept;
@@ -54,6 +57,7 @@ pub use bounds::Bounds;
 pub use due::Due;
 pub use first_format::has_first_format;
 pub use log_bound::LogBound;
+pub use log_files::{LogFiles, look_at_logs};
 pub use open_store::OpenStore;
 pub use redo_bound::RedoBound;
 pub use unkept::Unkept;

@@ -16,9 +16,6 @@ const USUAL: u64 = 67_108_864;
 /// bound of what is redone grows with, and less than twice that: so where nothing is active a Switch comes in the place of the Checkpoint.
 const TIMES: u64 = 8;
 
-/// At the end a log of so many bytes is left for an empty one. A shorter one is read in a few milliseconds, and its records can be looked at.
-const AT_END: u64 = 1_048_576;
-
 /// How long the log may get that an opening reads: a number of bytes, and with 0 any.
 #[derive(Clone, Copy, Debug, PartialEq, Eq)]
 pub struct LogBound {
@@ -78,13 +75,6 @@ impl LogBound {
         ensures { IsTrue result ↔ ((1 ≤ self.now.bytes) × (eighths * self.now.bytes ≤ 8 * length)) }
     {
         self.bytes > 0 && eighths as u128 * self.bytes as u128 <= 8 * length as u128
-    }
-
-    /// Whether a log of so many bytes is left for an empty one at the end.
-    pub(crate) fn is_long_at_end(&self, length: u64) -> bool
-        ensures { IsTrue result ↔ ((1 ≤ self.now.bytes) × (1048576 ≤ length)) }
-    {
-        self.bytes > 0 && AT_END <= length
     }
 }
 

@@ -4,10 +4,12 @@ ghost use Rattle.std.specs.Prelude.{◌≡◌, ◌↔◌, false, true, None, IfO
 ghost use Rattle.im_base_types.specs.declared.fault.Fault.TheVariants.{Device};
 ghost use Rattle.im_base_disk.specs.Runs.{IsSynced, Reads};
 ghost use Rattle.im_store.specs.FirstFormat.{HasFirst};
+ghost use Rattle.im_store.specs.LogFiles.{HasLong};
 ghost use Rattle.im_store.specs.Stores.{AreRight, follows};
 
 use crate::bounds::Bounds;
 use crate::first_format::has_first_format;
+use crate::log_files::{LogFiles, look_at_logs};
 use crate::unkept::Unkept;
 use crate::upkeep::Upkeep;
 use im_base_disk::Disk;
@@ -57,12 +59,12 @@ impl<D: TwoLogs + Drop> OpenStore<D> {
         ensures { IsOpenedStore D.Disk config bounds disk result }
     {
         let mut disk = disk;
-        let is_first = match leaves_first(&mut disk, config) {
-            Ok(is_first) => is_first,
+        let found = match look(&mut disk, config) {
+            Ok(found) => found,
             Err(fault) => return Err((fault, disk)),
         };
         match Engine::open_or_create(rt, alloc, disk, config) {
-            Ok(engine) => Ok(OpenStore::kept_by(engine, bounds, is_first)),
+            Ok(engine) => Ok(OpenStore::kept_by(engine, bounds, found)),
             Err(refused) => Err(refused),
         }
     }
@@ -79,17 +81,17 @@ impl<D: TwoLogs + Drop> OpenStore<D> {
         ensures { IsOpenedStore D.Disk config bounds disk result }
     {
         let mut disk = disk;
-        let is_first = match leaves_first(&mut disk, config) {
-            Ok(is_first) => is_first,
+        let found = match look(&mut disk, config) {
+            Ok(found) => found,
             Err(fault) => return Err((fault, disk)),
         };
         match Engine::open_alone(alloc, disk, config) {
-            Ok(engine) => Ok(OpenStore::kept_by(engine, bounds, is_first)),
+            Ok(engine) => Ok(OpenStore::kept_by(engine, bounds, found)),
             Err(refused) => Err(refused),
         }
     }
 
-    /// A store over an engine that was opened otherwise, or that a front gives back.
+    /// A store over an engine that was opened otherwise, or that a front gives back. Its logs may have long files.
     pub fn over(engine: Engine<D>, bounds: Bounds) -> OpenStore<D>
         ensures engine { result.engine ≡ engine }
         ensures upkeep { result.upkeep ≡ fresh D.Disk bounds engine }
@@ -103,14 +105,15 @@ impl<D: TwoLogs + Drop> OpenStore<D> {
         }
     }
 
-    // The same, where a log of the first format is to be left or not.
-    fn kept_by(engine: Engine<D>, bounds: Bounds, is_first: bool) -> OpenStore<D>
+    // The same, over logs of which this was found before the opening.
+    fn kept_by(engine: Engine<D>, bounds: Bounds, found: Found) -> OpenStore<D>
         ensures engine { result.engine ≡ engine }
-        ensures upkeep { result.upkeep ≡ record (fresh D.Disk bounds engine) { is_upgraded = is_first } }
+        ensures upkeep { result.upkeep ≡ record (fresh D.Disk bounds engine) { is_upgraded = found.is_first; is_long = found.files.is_long; is_bare = found.files.is_bare } }
         ensures unkept { result.unkept ≡ None }
     {
         let mut store = OpenStore::over(engine, bounds);
-        if is_first {
+        store.upkeep.know_files(found.files);
+        if found.is_first {
             store.upkeep.leave_first_format();
         }
         store
@@ -137,7 +140,7 @@ impl<D: TwoLogs + Drop> OpenStore<D> {
         ensures rests { self.old.engine.txns.rows ≡ [] → self.new.engine.txns.rows ≡ [] }
     {
         let due = self.upkeep.due(&self.engine);
-        match self.upkeep.keep(&mut self.engine) {
+        match self.upkeep.make_due(&mut self.engine, due) {
             Ok(()) => self.unkept = None,
             Err(fault) => self.unkept = Some(Unkept { due, fault }),
         }
@@ -174,8 +177,9 @@ impl<D: TwoLogs + Drop> OpenStore<D> {
         &self.engine
     }
 
-    /// Ends the store, and hands the disk back: what is due is made, a long log is left for an empty one where nothing is active, else all pages are written
-    /// and a Checkpoint is taken, and the files are synced. What was committed is kept, refused or not; what is active is taken back by the next opening.
+    /// Ends the store, and hands the disk back: what is due is made, a log that is long, or whose file may be, is left for an empty one where nothing is active, else all pages are written
+    /// and a Checkpoint is taken, and the files are synced. What was committed is kept, refused or not; what is active is taken back by the next opening. Where nothing is active and the log
+    /// has a bound, it has less than 48 KiB then, or the Switch came last: 64 KiB of each file are enough for the next opening.
     ///
     /// Refused `Failed`, with no device call, where an earlier step broke the engine; else as the step of upkeep is that was refused, or `Device`.
     pub fn close(self) -> (Result<(), Fault>, D)
@@ -221,12 +225,21 @@ impl<D: TwoLogs + Drop> OpenStore<D> {
     }
 }
 
-// Whether one of the logs is one of the first format. Where the frames or the workers will be refused nothing is read.
-fn leaves_first<D: Disk>(disk: &mut D, config: Config) -> Result<bool, Fault>
+// What was found of the logs before an opening.
+#[derive(Clone, Copy)]
+struct Found {
+    // One of them is one of the first format.
+    is_first: bool,
+    files: LogFiles,
+}
+
+// What is found of the logs. Where the frames or the workers will be refused nothing is read.
+fn look<D: Disk>(disk: &mut D, config: Config) -> Result<Found, Fault>
     requires working { D.failed disk.old ≡ false }
     ensures reads { Reads D.Disk disk.old disk.new }
     ensures synced { IsSynced D.Disk disk.old → IsSynced D.Disk disk.new }
-    ensures says { AreRight config → IfOk result (λ is. D.tells → IsTrue is ↔ HasFirst (D.seen disk.old)) }
+    ensures says { AreRight config → IfOk result (λ found. D.tells → IsTrue found.is_first ↔ HasFirst (D.seen disk.old)) }
+    ensures long { AreRight config → IfOk result (λ found. D.tells → IsTrue found.files.is_long ↔ HasLong (D.seen disk.old)) }
     ensures still { (AreRight config → ⊥) → disk.new ≡ disk.old }
     ensures causes { IfErr result (λ e. (e ≡ Device) × AreRight config) }
     ensures device { result ≡ Err Device ↔ (D.failed disk.new ≡ true) }
@@ -236,9 +249,17 @@ fn leaves_first<D: Disk>(disk: &mut D, config: Config) -> Result<bool, Fault>
         || config.workers < 1
         || config.workers > MOST_WORKERS
     {
-        return Ok(false);
+        return Ok(Found {
+            is_first: false,
+            files: LogFiles {
+                is_long: false,
+                is_bare: false,
+            },
+        });
     }
-    has_first_format(disk)
+    let is_first = has_first_format(disk)?;
+    let files = look_at_logs(disk)?;
+    Ok(Found { is_first, files })
 }
 
 // Whether something may be due after a reply: the log may have grown, or a transaction has ended.

@@ -123,8 +123,8 @@ pub(crate) fn is_closed(from: Lsn, end: Lsn, pages: usize) -> bool
     pages == 0 && redo_length(from, end, 0) <= LITTLE
 }
 
-// How much log an opening would read from an LSN on, once so many pages more have a full copy in it.
-fn redo_length(from: Lsn, end: Lsn, pages: usize) -> u128
+/// How much log an opening would read from an LSN on, once so many pages more have a full copy in it.
+pub(crate) fn redo_length(from: Lsn, end: Lsn, pages: usize) -> u128
     ensures value { result ≡ redo_length from end pages }
     ensures fits { result < 2 ^ 80 }
 {

@@ -1,9 +1,9 @@
-//! Stores over folders: one that is held elsewhere, one that is not there, one that cannot be, and one of the first format.
+//! Stores over folders: one that is held elsewhere, one that is not there, one that cannot be, one of the first format, and one whose logs were long.
 
-use crate::stores::{FIRST, end, format_of, is_put};
+use crate::stores::{FIRST, begun, end, format_of, is_put, is_switched};
 use im_base_types::Fault;
 use im_engine::Config;
-use im_open::{Files, open_store};
+use im_open::{Files, close, open_store};
 use im_store::{Bounds, OpenStore};
 use std::fs;
 use std::process::Abort;
@@ -21,6 +21,12 @@ const OLD: &str = "im_store_first";
 const OLD_LOG: &str = "im_store_first/log";
 
 const OLD_PAGES: &str = "im_store_first/pages";
+
+const LONG: &str = "im_store_long";
+
+const LONG_LOG: &str = "im_store_long/log";
+
+const LONG_LOG2: &str = "im_store_long/log2";
 
 // The store of a folder.
 fn opened<R: Threads + Sync>(
@@ -97,5 +103,44 @@ fn a_folder_of_the_first_format_is_brought_to_the_second(rt: HostRuntime) -> Res
     assert!(rt; format_of(&fs::read(&rt, OLD_LOG)?) == 50);
     assert!(rt; entries_in(&rt, &rt, OLD)? == 2);
     fs::remove_dir_all(&rt, OLD)?;
+    Ok(())
+}
+
+// Two transactions of so many keys that the log has more than 64 KiB, each left by a Switch, and one of one key.
+fn is_long_twice(rt: &HostRuntime, store: &mut OpenStore<Files>) -> Result<bool, Fail> {
+    for t in [1, 2] {
+        if !begun(rt.alloc(), store, t, 1_600)? || !is_switched(store, t) {
+            return Ok(false);
+        }
+    }
+    Ok(is_put(rt.alloc(), store, 3)?)
+}
+
+// How long the longer log is.
+fn longest(rt: &HostRuntime) -> Result<usize, Fail> {
+    let log = fs::read(rt, LONG_LOG)?.len();
+    let other = fs::read(rt, LONG_LOG2)?.len();
+    Ok(log.max(other))
+}
+
+// How long the longer log is after them, and 0 where not all was made.
+fn made_long(rt: &HostRuntime, store: &mut OpenStore<Files>) -> Result<usize, Fail> {
+    if !is_long_twice(rt, store)? {
+        return Ok(0);
+    }
+    longest(rt)
+}
+
+#[test]
+fn a_close_leaves_short_logs(rt: HostRuntime) -> Result<(), Fail> {
+    let _gone = fs::remove_dir_all(&rt, LONG);
+    let mut store = opened(&rt, &rt, LONG)?;
+    let before = made_long(&rt, &mut store);
+    let closed = close(store);
+    assert!(rt; before? > 65_536);
+    closed?;
+    assert!(rt; longest(&rt)? <= 65_536);
+    assert!(rt; entries_in(&rt, &rt, LONG)? == 3_201);
+    fs::remove_dir_all(&rt, LONG)?;
     Ok(())
 }

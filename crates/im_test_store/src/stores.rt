@@ -39,8 +39,8 @@ fn make<D: TwoLogs + Drop>(store: &mut OpenStore<D>, step: &Step) -> Said {
     }
 }
 
-// Begins transaction `t`, inserts so many keys of four bytes, and leaves it open. It answers whether all was made.
-fn begun<D: TwoLogs + Drop>(
+/// Begins transaction `t`, inserts so many keys of four bytes, and leaves it open. It answers whether all was made.
+pub(crate) fn begun<D: TwoLogs + Drop>(
     alloc: Global,
     store: &mut OpenStore<D>,
     t: u16,
@@ -67,6 +67,11 @@ pub(crate) fn is_put<D: TwoLogs + Drop>(
 
 fn commit<D: TwoLogs + Drop>(store: &mut OpenStore<D>, t: u16) -> Said {
     make(store, &Step::Commit(u64::from(t)))
+}
+
+/// Commits transaction `t`, and goes on in the other log. Whether both was done.
+pub(crate) fn is_switched<D: TwoLogs + Drop>(store: &mut OpenStore<D>, t: u16) -> bool {
+    commit(store, t) == Said::Made && matches!(store.step(&Step::Switch), Reply::Done)
 }
 
 // The store of such a log, of which the device call of this number fails, or none with 0.

@@ -6,15 +6,15 @@ use Rattle.im_store.proofs.open_store.OpenStore.open.Goals as goal
 pub returns-in-Err : goal.returns-in-Err
 returns-in-Err g c =
     let why = c.in-Err.ensures.causes in
-    look_refused g.D.Disk c.args.config c.args.bounds c.args.disk c.in-Err.fault c.leaves_first.new.disk why.0 why.1 c.leaves_first.ensures.reads (c.in-Err.ensures.device.0 (ap Err why.0))
+    look_refused g.D.Disk c.args.config c.args.bounds c.args.disk c.in-Err.fault c.look.new.disk why.0 why.1 c.look.ensures.reads (c.in-Err.ensures.device.0 (ap Err why.0))
 
 pub returns-in-Ok-open_or_create : goal.returns-in-Ok-open_or_create
 returns-in-Ok-open_or_create g c =
     let is = c.in-Ok-open_or_create.ensures in
-    let look = c.leaves_first.ensures in
-    store_opened g.D.Disk c.args.config c.args.bounds c.args.disk c.leaves_first.new.disk c.kept_by.result c.in-Ok-open_or_create.engine c.in-Ok.is_first c.kept_by.ensures.engine look.reads look.still
+    let seen = c.look.ensures in
+    store_opened g.D.Disk c.args.config c.args.bounds c.args.disk c.look.new.disk c.kept_by.result c.in-Ok-open_or_create.engine c.in-Ok.found.is_first c.in-Ok.found.files.is_long c.in-Ok.found.files.is_bare c.kept_by.ensures.engine seen.reads seen.still
     (record {
-      kept = λ before told stands. is.kept before told (look.synced c.requires.synced) stands;
+      kept = λ before told stands. is.kept before told (seen.synced c.requires.synced) stands;
       plain = is.plain;
       opened = is.opened;
       limit = is.limit;
@@ -29,15 +29,15 @@ returns-in-Ok-open_or_create g c =
       full = is.full;
       unspelled = is.unspelled;
     })
-    c.kept_by.ensures.upkeep c.kept_by.ensures.unkept c.in-Ok.ensures.says
+    c.kept_by.ensures.upkeep c.kept_by.ensures.unkept c.in-Ok.ensures.says c.in-Ok.ensures.long
 
 pub returns-in-Err-open_or_create : goal.returns-in-Err-open_or_create
 returns-in-Err-open_or_create g c =
     let is = c.in-Err-open_or_create.ensures in
-    let look = c.leaves_first.ensures in
-    store_refused g.D.Disk c.args.config c.args.bounds c.args.disk c.leaves_first.new.disk c.in-Err-open_or_create.refused look.reads look.still
+    let seen = c.look.ensures in
+    store_refused g.D.Disk c.args.config c.args.bounds c.args.disk c.look.new.disk c.in-Err-open_or_create.refused seen.reads seen.still
     (record {
-      kept = λ before told stands. is.kept before told (look.synced c.requires.synced) stands;
+      kept = λ before told stands. is.kept before told (seen.synced c.requires.synced) stands;
       plain = is.plain;
       opened = is.opened;
       limit = is.limit;

@@ -6,13 +6,13 @@ use Rattle.im_store.proofs.open_store.OpenStore.open_alone.Goals as goal
 pub returns-in-Err : goal.returns-in-Err
 returns-in-Err g c =
     let why = c.in-Err.ensures.causes in
-    look_refused g.D.Disk c.args.config c.args.bounds c.args.disk c.in-Err.fault c.leaves_first.new.disk why.0 why.1 c.leaves_first.ensures.reads (c.in-Err.ensures.device.0 (ap Err why.0))
+    look_refused g.D.Disk c.args.config c.args.bounds c.args.disk c.in-Err.fault c.look.new.disk why.0 why.1 c.look.ensures.reads (c.in-Err.ensures.device.0 (ap Err why.0))
 
 pub returns-in-Ok-open_alone : goal.returns-in-Ok-open_alone
 returns-in-Ok-open_alone g c =
-    store_opened g.D.Disk c.args.config c.args.bounds c.args.disk c.leaves_first.new.disk c.kept_by.result c.in-Ok-open_alone.engine c.in-Ok.is_first c.kept_by.ensures.engine c.leaves_first.ensures.reads c.leaves_first.ensures.still
-    c.in-Ok-open_alone.ensures.opening c.kept_by.ensures.upkeep c.kept_by.ensures.unkept c.in-Ok.ensures.says
+    store_opened g.D.Disk c.args.config c.args.bounds c.args.disk c.look.new.disk c.kept_by.result c.in-Ok-open_alone.engine c.in-Ok.found.is_first c.in-Ok.found.files.is_long c.in-Ok.found.files.is_bare c.kept_by.ensures.engine c.look.ensures.reads c.look.ensures.still
+    c.in-Ok-open_alone.ensures.opening c.kept_by.ensures.upkeep c.kept_by.ensures.unkept c.in-Ok.ensures.says c.in-Ok.ensures.long
 
 pub returns-in-Err-open_alone : goal.returns-in-Err-open_alone
 returns-in-Err-open_alone g c =
-    store_refused g.D.Disk c.args.config c.args.bounds c.args.disk c.leaves_first.new.disk c.in-Err-open_alone.refused c.leaves_first.ensures.reads c.leaves_first.ensures.still c.in-Err-open_alone.ensures.opening
+    store_refused g.D.Disk c.args.config c.args.bounds c.args.disk c.look.new.disk c.in-Err-open_alone.refused c.look.ensures.reads c.look.ensures.still c.in-Err-open_alone.ensures.opening

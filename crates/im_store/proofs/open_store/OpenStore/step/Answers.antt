@@ -1,6 +1,6 @@
 use Rattle.std.proofs.Common.{◌∙◌, refl, subst, sym}
 use Rattle.std.specs.Prelude.{◌≡◌, true, false}
-use Rattle.im_store.specs.Numbers.{durable_end_of}
+use Rattle.im_store.specs.Numbers.{durable_end_of, log_length_of}
 use Rattle.im_store.specs.Upkeep.{none}
 use Rattle.im_store.specs.declared.upkeep.Upkeep.{Upkeep}
 use Rattle.im_store.specs.Stores.{WasKept}
@@ -34,7 +34,7 @@ returns g c =
       made = c.step-reply.ensures.made;
       kept = none;
       follow = λ is. absurd (let never : true ≡ false = sym is ∙ nothing in cc never);
-      still = λ not. (refl, c.step-reply.ensures.noted ∙ nothing_noted d c.args.step.now c.step-reply.result (durable_end_of d old) between c.args.self.now.upkeep not, refl);
+      still = λ not. (refl, c.step-reply.ensures.noted ∙ nothing_noted d c.args.step.now c.step-reply.result (durable_end_of d old) (log_length_of d old) between c.args.self.now.upkeep not, refl);
       bounds = c.step-reply.ensures.bounds;
       limits = step_limits d c.args.step.now c.step-reply.result old between c.step-reply.ensures.made;
     }

@@ -1,9 +1,10 @@
-use Rattle.std.proofs.Common.{ℕ, rules, refl, inr, subst}
+use Rattle.std.proofs.Common.{◌≡◌, ◌≤◌, ◌<◌, ◌⊎◌, ℕ, rules, refl, inr, subst}
 use Rattle.im_base_steps.specs.declared.step.Step.TheVariants as steps
 use Rattle.im_store.specs.declared.bounds.Bounds.{Bounds}
-use Rattle.im_store.specs.Rule.{IsLongAtEnd, IsTaken, KnowsPages}
+use Rattle.im_store.specs.Numbers.{active_of, log_length_of}
+use Rattle.im_store.specs.Rule.{KnowsPages, WentOn}
 use Rattle.im_store.specs.Upkeep.{none}
-use Rattle.im_store.proofs.Keeping.{either_way, err_on, failed_is_ended, first_kept, first_refused, forced_is_ended, kept_then, knows_after, ok_on, refused_kept, refused_then, unset_is_ended}
+use Rattle.im_store.proofs.Keeping.{either_way, err_on, failed_is_ended, first_kept, first_refused, forced_is_ended, kept_then, knows_after, long_after_force, ok_both, ok_on, refused_kept, refused_then, unset_is_ended}
 use Rattle.im_store.proofs.upkeep.Upkeep.close.Goals as goal
 
 pub returns-then-failed-clause-rule : goal.returns-then-failed-clause-rule
@@ -28,9 +29,10 @@ returns-clause-kept g c =
 
 pub returns-clause-rule : goal.returns-clause-rule
 returns-clause-rule g c =
-    ok_on c.end.result c.end.ensures.switched
-    (λ switched. forced_is_ended g.D.Disk c.args.self.now c.args.engine.now c.make.new.engine c.end.new.engine (search rules) c.in_default.ensures.taken
-    (subst (λ (b : Bounds). IsLongAtEnd g.D.Disk b.log.bytes c.make.new.engine → IsTaken g.D.Disk steps.Switch c.make.new.engine c.end.new.engine) c.make.ensures.bounds switched))
+    ok_on c.end.result (ok_both _ _ c.end.result c.end.ensures.switched c.end.ensures.short)
+    (λ ended. forced_is_ended g.D.Disk c.args.self.now c.args.engine.now c.make.new.engine c.end.new.engine (search rules) c.in_default.ensures.taken
+    (λ is. ended.0 (long_after_force g.D.Disk c.args.self.now c.make.new.self c.args.engine.now c.make.new.engine c.make.ensures.noted c.make.ensures.bounds is))
+    (subst (λ (b : Bounds). 1 ≤ b.log.bytes → active_of g.D.Disk c.end.new.engine ≡ 0 → (log_length_of g.D.Disk c.end.new.engine < 49152) ⊎ WentOn g.D.Disk c.make.new.engine c.end.new.engine) c.make.ensures.bounds ended.1))
 
 pub returns-clause-refused : goal.returns-clause-refused
 returns-clause-refused g c =

@@ -18,7 +18,7 @@ returns-then-not-wants_write-clause-pages g c =
     knows_more g.D.Disk c.args.engine.now l.engine c.args.self.now.pages l.self.pages _ c.in-Some.change l.invariant.known (written_kept g.D.Disk c.args.engine.now l.engine l.invariant.written) (search rules) (search rules)
 
 pub loop-written-init : goal.loop-written-init
-loop-written-init g c = record { written = rule.none; bounds = refl; still = (refl, refl); known = inl refl }
+loop-written-init g c = record { written = rule.none; bounds = refl; still = (refl, refl, refl, refl, refl); known = inl refl }
 
 pub loop-written-preserved : goal.loop-written-preserved
 loop-written-preserved g c =

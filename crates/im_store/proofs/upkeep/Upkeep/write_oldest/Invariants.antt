@@ -1,4 +1,5 @@
 use Rattle.std.proofs.Common.{◌≡◌}
+use Rattle.im_store.specs.Noted.{IsStill}
 use Rattle.im_store.specs.Rule.{IsWritten, KnowsPages}
 use Rattle.im_store.proofs.upkeep.Upkeep.write_oldest.Given as goal
 
@@ -6,6 +7,6 @@ abbrev pub invariant-loop-written : goal.invariant-loop-written
 invariant-loop-written g l = record {
   written : IsWritten g.D.Disk l.fn.engine l.engine;
   bounds : l.self.bounds ≡ l.fn.self.bounds;
-  still : (l.self.from ≡ l.fn.self.from) × (l.self.is_upgraded ≡ l.fn.self.is_upgraded);
+  still : IsStill l.fn.self l.self;
   known : KnowsPages g.D.Disk l.fn.engine l.fn.self.pages l.self.pages;
 }
