@@ -7,6 +7,7 @@ use crate::copying::{FolderCopier, copy_program};
 use crate::limits::{bounds_of, config_of};
 use crate::store::{StoreEnd, store_text};
 use crate::tasks::{load_program, look_program, tell_damage};
+use crate::trimming::trim_in_folder;
 use clap::Error;
 use im_base_disk::Disk;
 use im_base_mirror_disk::Mirrored;
@@ -19,7 +20,7 @@ use im_files_scratch_disk::ScratchDisk;
 use im_store::Bounds;
 use im_tool_files::{
     Cause, Causes, Ending, Opening, WatchedDisk, print_refused_opening, tell, tell_unopened,
-    tell_unread, trim_program,
+    tell_unread,
 };
 use im_tool_user::{LineInput, Manner, Options, Task, parse_options};
 use std::alloc::AllocError;
@@ -70,7 +71,7 @@ fn run_task<T: Threads + Sync>(rt: &HostRuntime, threads: &T, options: &Options)
         Task::Read => read_in_folder(rt, threads, dir, options),
         Task::Copy(folder) => copy_program(rt, threads, dir, folder),
         Task::Load(present) => load_program(rt, threads, dir, options, present),
-        Task::Trim => trim_program(rt, dir),
+        Task::Trim => trim_in_folder(rt, threads, dir, options),
         task => look_program(rt, threads, dir, task),
     }
 }

@@ -20,6 +20,7 @@ mod recovered;
 mod store;
 mod tasks;
 mod transfer;
+mod trimming;
 mod whole;
 
 pub use copying::{Copier, NoCopies};

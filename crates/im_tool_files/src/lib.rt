@@ -28,6 +28,6 @@ pub use progress::{Progress, ProgressLine, Untold};
 pub use scratch_files::ScratchFiles;
 pub use survey::{Broken, Surveyed, broken_text, numbers_text, survey_files, whole_text};
 pub use telling::{print_refused_opening, tell, tell_unopened, tell_unread};
-pub use trim::trim_program;
+pub use trim::{log_bytes, trim_program};
 pub use watched_disk::{Opening, WatchedDisk};
 pub use watched_files::WatchedFiles;

@@ -17,22 +17,37 @@ use std::io::{BufWriter, Write};
 
 /// Cuts the log of the lower generation of the store in a folder, which no other program has open, to its first batch, which tells a file of pages from before
 /// that log, and is none without the gate after it; and the current one to its end where it has no record. The store goes on in the current one, and makes the
-/// other anew when it leaves that. It answers the exit status: 0, or 1 where nothing was done because of a refusal.
-pub fn trim_program(rt: &HostRuntime, dir: &str) -> io::Result<u8>
+/// other anew when it leaves that. So many bytes that a close gave back before are told with those of the cuts. It answers the exit status: 0, or 1 where nothing was done because of a
+/// refusal.
+pub fn trim_program(rt: &HostRuntime, dir: &str, before: u64) -> io::Result<u8>
     ensures { IfOk result (λ status. status ≤ 1) }
 {
     let mut writer = BufWriter::new(rt.alloc(), io::writer(rt))?;
-    let status = trim_in(rt, dir, &mut writer)?;
+    let status = trim_in(rt, dir, &mut writer, before)?;
     writer.flush()?;
     Ok(status)
 }
 
+/// How many bytes the two logs of the store in a folder have together, and how many the longer one. None where they are not to be had.
+pub fn log_bytes(rt: &HostRuntime, dir: &str) -> Option<(u64, u64)> {
+    let Ok(mut files) = FileDisk::open_to_read(rt, dir) else {
+        return None;
+    };
+    let Ok(log) = files.len(FileId::Log) else {
+        return None;
+    };
+    let Ok(other) = files.len(FileId::Log2) else {
+        return None;
+    };
+    Some((log.saturating_add(other), log.max(other)))
+}
+
 // The same, written without a flush.
-fn trim_in<W: Write>(rt: &HostRuntime, dir: &str, writer: &mut W) -> io::Result<u8>
+fn trim_in<W: Write>(rt: &HostRuntime, dir: &str, writer: &mut W, before: u64) -> io::Result<u8>
     ensures { IfOk result (λ status. status ≤ 1) }
 {
     match FileDisk::open_made(rt, dir) {
-        Ok(files) => trim(rt, dir, writer, files),
+        Ok(files) => trim(rt, dir, writer, files, before),
         Err(error) => {
             print_refused_opening(writer, error.fault())?;
             tell_unread(rt, dir, &error);
@@ -42,7 +57,13 @@ fn trim_in<W: Write>(rt: &HostRuntime, dir: &str, writer: &mut W) -> io::Result<
 }
 
 // The same over its files.
-fn trim<W: Write>(rt: &HostRuntime, dir: &str, writer: &mut W, files: FileDisk) -> io::Result<u8>
+fn trim<W: Write>(
+    rt: &HostRuntime,
+    dir: &str,
+    writer: &mut W,
+    files: FileDisk,
+    before: u64,
+) -> io::Result<u8>
     requires working { ⟦<FileDisk as Disk>⟧.failed files ≡ false }
     ensures { IfOk result (λ status. status ≤ 1) }
 {
@@ -53,10 +74,12 @@ fn trim<W: Write>(rt: &HostRuntime, dir: &str, writer: &mut W, files: FileDisk) 
         tell(rt, dir, error);
     }
     match spare {
-        Ok(Some(spare)) => give_back(rt, dir, writer, disk, spare),
+        Ok(Some(spare)) => give_back(rt, dir, writer, disk, spare, before),
         Ok(None) => {
-            tell(rt, dir, &"there is nothing to trim");
-            writeln!(writer, "trimmed 0")?;
+            if before == 0 {
+                tell(rt, dir, &"there is nothing to trim");
+            }
+            writeln!(writer, "trimmed {before}")?;
             Ok(0)
         }
         Err(LogDamage::Unread(fault)) => {
@@ -148,6 +171,7 @@ fn give_back<W: Write>(
     writer: &mut W,
     disk: ScratchDisk<FileDisk>,
     spare: Spare,
+    before: u64,
 ) -> io::Result<u8>
     ensures { IfOk result (λ status. status ≤ 1) }
 {
@@ -158,7 +182,10 @@ fn give_back<W: Write>(
         writeln!(
             writer,
             "trimmed {}",
-            spare.bytes.saturating_add(spare.behind)
+            spare
+                .bytes
+                .saturating_add(spare.behind)
+                .saturating_add(before)
         )?;
         return Ok(0);
     }

@@ -301,7 +301,7 @@ fn with_loads<'a>(alloc: Global, command: Command<'a>) -> Result<Command<'a>, Er
         alloc,
         command,
         "trim",
-        "Cut the log file that the store has left to its first batch, and the other one to its end where it has no record",
+        "Leave at most 64 KiB of each log file, as the end of the input does",
     )
 }
 
