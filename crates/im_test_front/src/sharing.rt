@@ -20,12 +20,17 @@ fn commit_both<E: Store, R: Wait>(rt: &R, alloc: Global, front: &Open<E>) -> Res
     Ok(waits && front.stats(&mut reader).committed == 2)
 }
 
+// How many steps a front has made, at its end.
+fn made_by<E: Store>(front: Open<E>) -> u64 {
+    front.close().made
+}
+
 #[test]
 fn each_step_of_a_commit_is_counted(rt: HostRuntime) -> Result<(), Fail> {
     let front = grouped(&rt, rt.alloc())?;
     let told = commit_both(&rt, rt.alloc(), &front);
-    let left = front.close();
+    let made = made_by(front);
     assert!(rt; told?);
-    assert!(rt; left.made == 8);
+    assert!(rt; made == 8);
     Ok(())
 }
