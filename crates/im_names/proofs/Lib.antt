@@ -1,0 +1,9 @@
+pub mod Buffers
+pub mod ByNumbers
+pub mod Escapes
+pub mod KeyLemmas
+pub mod KindLemmas
+pub mod LongLemmas
+pub mod Orders
+pub mod PartLemmas
+pub mod SomeOf
