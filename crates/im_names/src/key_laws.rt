@@ -1,4 +1,5 @@
-//! What holds of all keys: each is read again, kinds and names lie apart, order and ranges are those of the user's keys.
+//! What holds of all keys: each is read again, kinds and names lie apart, order and ranges are those of the user's
+//! keys.
 ghost use Rattle.std.specs.Prelude.{◌≡◌, ◌≢◌, ◌≤◌, ◌<◌, ◌+◌, ◌++◌, [], ◌∷◌, ℕ, List, length, drop, get_or, Some};
 ghost use Rattle.std.specs.declared.cmp.Ordering.TheVariants.{Less, Greater};
 ghost use Rattle.im_base_types.specs.Keys.{key_order};
@@ -9,8 +10,9 @@ ghost use Rattle.im_names.specs.Parts.{room_of};
 ghost use Rattle.im_names.specs.Ranges.{Begins, IsBytes, LiesIn};
 ghost use Rattle.im_names.specs.Readings.{bytes_in, number_in};
 
-/// Each key says its kind, so that none of one kind is one of another; and what is written is read again: a name and what follows it, so that no key is of two names; the
-/// key of a long value, so that no part is of two values; a part's number and its bytes.
+/// Each key says its kind, so that none of one kind is one of another; and what is written is read again: a name and
+/// what follows it, so that no key is of two names; the key of a long value, so that no part is of two values; a
+/// part's number and its bytes.
 pub fn keys_apart()
     ensures row { (name : List ℕ) → IsName name → kind_in (row_of name) ≡ Row }
     ensures guard { (name : List ℕ) → length name ≤ 31 → kind_in (guard_of name) ≡ Guard }
@@ -22,8 +24,8 @@ pub fn keys_apart()
     ensures bytes { (front bytes : List ℕ) (number : ℕ) → bytes_in (length front) (part_of front number bytes) ≡ bytes }
 {}
 
-/// Entries of an index, and rows of the catalogue, are in the order of their keys; so are the parts of a value, by their numbers, and all parts of a value are before those
-/// of one with a greater key.
+/// Entries of an index, and rows of the catalogue, are in the order of their keys; so are the parts of a value, by
+/// their numbers, and all parts of a value are before those of one with a greater key.
 pub fn keys_in_order()
     ensures entries { (name one other : List ℕ) → key_order (entry_of name one) (entry_of name other) ≡ key_order one other }
     ensures rows { (one other : List ℕ) → key_order (row_of one) (row_of other) ≡ key_order one other }
@@ -31,8 +33,9 @@ pub fn keys_in_order()
     ensures values { (name one other : List ℕ) (m n : ℕ) (xs ys : List ℕ) → m < 16711680 → key_order one other ≡ Less → key_order (part_of (front_of name one) m xs) (part_of (front_of name other) n ys) ≡ Less }
 {}
 
-/// A range has just what begins with its first key: of an index, its entries; of bytes of a key, the entries whose keys begin so. A guard is above all of its name's. The range of a
-/// long value has its parts, and none of another key.
+/// A range has just what begins with its first key: of an index, its entries; of bytes of a key, the entries whose
+/// keys begin so. A guard is above all of its name's. The range of a long value has its parts, and none of another
+/// key.
 pub fn ranges()
     ensures has { (n : ℕ) (first key : List ℕ) → length first ≤ n → length key ≤ n → IsBytes key → Begins first key → LiesIn first (filled n first) key }
     ensures only { (n : ℕ) (first key : List ℕ) → LiesIn first (filled n first) key → Begins first key }

@@ -11,20 +11,23 @@ pub fn values_read_back()
     ensures value { (front value : List ℕ) → length front ≤ 219 → value_in (length front) (parts_of front value) ≡ value }
 {}
 
-/// Of whatever parts of one value there are, only all of them are found to be whole, and only none to be nothing; any others are half a value.
+/// Of whatever parts of one value there are, only all of them are found to be whole, and only none to be nothing; any
+/// others are half a value.
 pub fn parts_of_one()
     ensures whole { (front value : List ℕ) (there : List Entry) → length front ≤ 219 → IsSomeOf there (parts_of front value) → found_in (length front) there ≡ Whole → there ≡ parts_of front value }
     ensures nothing { (front : ℕ) (there : List Entry) → found_in front there ≡ Nothing → there ≡ [] }
 {}
 
-/// The plainest writer, which takes all old parts out and puts all new ones in, is one of those, and in the end the new value is there, and nothing else.
+/// The plainest writer, which takes all old parts out and puts all new ones in, is one of those, and in the end the
+/// new value is there, and nothing else.
 pub fn put_in_full()
     ensures replaces { (front : List ℕ) (old new : Option (List ℕ)) → Replaces (parts_or_none front old) (parts_or_none front new) (all_out (parts_or_none front old)) (all_in (parts_or_none front new)) }
     ensures ends { (front : List ℕ) (old new : Option (List ℕ)) → after (all_out (parts_or_none front old) ++ all_in (parts_or_none front new)) (parts_or_none front old) ≡ parts_or_none front new }
 {}
 
-/// After any number of a writer's changes, in their order, a reader finds the old value, the new one or none, or is refused: `None` stands for no value, so that a put where none is
-/// and a delete are the same. The changes are those of the index's entries.
+/// After any number of a writer's changes, in their order, a reader finds the old value, the new one or none, or is
+/// refused: `None` stands for no value, so that a put where none is and a delete are the same. The changes are those
+/// of the index's entries.
 pub fn whole_or_refused()
     ensures { (front : List ℕ) (old new : Option (List ℕ)) (outs ins : List Write) (n : ℕ) → length front ≤ 219 → Replaces (parts_or_none front old) (parts_or_none front new) outs ins
         → FindsOneOf front old new (after (take n (outs ++ ins)) (parts_or_none front old)) }

@@ -74,8 +74,8 @@ fn put_part(front: usize, value: &[u8], number: u32, to: &mut [u8]) -> Part
     }
 }
 
-/// Writes the key of the part of a value with this number into a buffer, after the value's front, which lies there (`Which::Front`). None where the value has no such part, or
-/// too many; nothing is written then.
+/// Writes the key of the part of a value with this number into a buffer, after the value's front, which lies there
+/// (`Which::Front`). None where the value has no such part, or too many; nothing is written then.
 pub fn write_part(front: usize, value: &[u8], number: u32, to: &mut [u8]) -> Option<Part>
     requires front { front ≤ 219 }
     requires room { 255 ≤ length to.old }

@@ -62,8 +62,9 @@ impl Reading {
             && (key.len() - (front + 3)) as u64 <= rid
     }
 
-    /// Takes the next entry of a range: its key, whose front has so many bytes, and its row id. False where it is not the value's next part; what was found is then half a value, whatever follows. The
-    /// part's bytes are those of the key after the front and three bytes more.
+    /// Takes the next entry of a range: its key, whose front has so many bytes, and its row id. False where it is not
+    /// the value's next part; what was found is then half a value, whatever follows. The part's bytes are those of
+    /// the key after the front and three bytes more.
     pub fn take(&mut self, front: usize, key: &[u8], rid: u64) -> bool
         ensures reading { self.new ≡ read_on front self.old (key.now, rid) }
         ensures next { result ≡ not self.new.is_half }

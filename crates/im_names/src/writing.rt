@@ -120,8 +120,9 @@ fn put_key(which: Which, name: &[u8], key: &[u8], to: &mut [u8]) -> usize
     }
 }
 
-/// Writes a key into a buffer, and answers how many bytes it has; 0 where it does not fit, as no key has none: the name has 1 to 31 bytes, a key of an index 1 to 253
-/// less those of the name, and one of a long value 1 to 217, with a byte more for each 0 in it. It takes no memory.
+/// Writes a key into a buffer, and answers how many bytes it has; 0 where it does not fit, as no key has none: the
+/// name has 1 to 31 bytes, a key of an index 1 to 253 less those of the name, and one of a long value 1 to 217, with
+/// a byte more for each 0 in it. It takes no memory.
 pub fn write_key(which: Which, name: &[u8], key: &[u8], to: &mut [u8]) -> usize
     requires room { 255 ≤ length to.old }
     ensures size { result ≡ length (key_asked which name.now key.now) }
