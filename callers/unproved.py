@@ -29,7 +29,7 @@ import kit
 LIBRARY = "im_capi"
 # Where a program has what it says of itself, and the word of it that is no longer so.
 VERSION, PROVED = "im_tool_user/src/version.rt", ' proved\\n'
-SEEN = {"im_size", "im_belong", "im_left_log", "im_left_go_on", "im_left_take", "im_is_older", "im_log_cuts", "im_init", "im_step", "im_may_begin", "im_oldest", "im_earliest", "im_has_own", "im_is_left_alone"}
+SEEN = {"im_size", "im_belong", "im_left_log", "im_left_go_on", "im_left_take", "im_is_older", "im_log_cuts", "im_init", "im_step", "im_may_begin", "im_oldest", "im_earliest", "im_has_own", "im_is_left_alone", "im_name_key", "im_long_part", "im_long_read", "im_long_key"}
 MAIN = """
 fn main(rt: HostRuntime) {
     let _size = im_size();
@@ -47,6 +47,14 @@ fn main(rt: HostRuntime) {
     let going = [Going { number: 0, seen: 0, thread: 0, had: 0, agains: 0 }];
     let _may = im_may_begin(&going, 0, &asker) || im_has_own(&going, 0) || im_is_left_alone(0, 0, 0);
     let _least = (im_oldest(&going, &asker, 0), im_earliest(&going));
+    let mut key = [0; 255];
+    let mut rid = 0;
+    let mut front = im_name_key(0, &[1], &[1], &mut key);
+    let _part = im_long_part(1, &[0], 0, &mut key, &mut rid);
+    let mut reading = im_names::Reading::begin();
+    let _next = im_long_read(&mut reading, 1, &[0], rid);
+    let mut to = [0; 255];
+    let _key = im_long_key(&key, &mut to, &mut front);
     unsafe {
         im_init(rt.alloc(), std::ptr::null_mut());
         im_step(std::ptr::null_mut(), std::ptr::null_mut());

@@ -32,6 +32,12 @@ uint64_t im_earliest(const struct going *going, size_t len);
 _Bool im_has_own(const struct going *going, size_t len, uint64_t thread);
 _Bool im_is_left_alone(uint64_t now, uint64_t patience, uint64_t since);
 
+/* Keys of names and parts of long values: crates/im_names. The buffers have room for 255 bytes, a front has at most 219, and a part 255. */
+size_t im_name_key(uint32_t which, const uint8_t *name, size_t name_len, const uint8_t *key, size_t key_len, uint8_t *to, size_t room);
+size_t im_long_part(size_t front, const uint8_t *value, size_t size, uint32_t number, uint8_t *to, size_t room, uint64_t *rid);
+_Bool im_long_read(vah_reading *reading, size_t front, const uint8_t *key, size_t len, uint64_t rid);
+size_t im_long_key(const uint8_t *part, size_t len, uint8_t *to, size_t room, size_t *front);
+
 /* A question to the proved library, with its answer: crates/im_calls/src/call.rt, in the order of C. */
 struct call {
 	uint32_t step, word, fault, limit;

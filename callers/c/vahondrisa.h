@@ -424,6 +424,57 @@ int vah_copy(vah_store *store, const char *folder);
 int vah_copy_with(vah_store *store, const char *folder, int (*progress)(void *with, uint64_t bytes),
 	void *with);
 
+/** Write a key of a name: of an index, or of a set of long values, each with keys
+ *  of its own, as docs/CALLERS.md lays them out. It asks nothing of a store.
+ *  @param[in] which VAH_NAME_ROW and so on
+ *  @param[in] name 1 to 31 bytes
+ *  @param[in] key the key that the index has, or the long value
+ *  @param[out] to room for VAH_KEY_MAX bytes
+ *  @return VAH_KEY_LENGTH where it does not fit, VAH_INVALID */
+int vah_name_key(unsigned which, const void *name, size_t name_len, const void *key,
+	size_t key_len, uint8_t *to, size_t *to_len);
+/** The name's key in the catalogue: its row id is 1 for an index, 2 for long values. */
+#define VAH_NAME_ROW 0u
+/** What lies above all keys of a name, and of no name above the catalogue. */
+#define VAH_NAME_GUARD 1u
+/** An entry of an index. */
+#define VAH_NAME_ENTRY 2u
+/** Where the entries begin whose keys begin with `key`, and where they end; of no
+ *  name, the catalogue. */
+#define VAH_NAME_FIRST 3u
+#define VAH_NAME_LAST 4u
+/** Where the parts of a long value begin, which is what all of them begin with,
+ *  and where they end. */
+#define VAH_NAME_PARTS 5u
+#define VAH_NAME_PARTS_END 6u
+
+/** Write the key of a part of a long value, and its row id.
+ *  @param[in] key its first `front` bytes are what vah_name_key has written for
+ *  VAH_NAME_PARTS; room for VAH_KEY_MAX bytes
+ *  @param[in] number from 0 on; a value of no byte has one part
+ *  @return VAH_NOT_FOUND after the last part, VAH_INVALID where there are too many */
+int vah_long_part(uint8_t *key, size_t front, const void *value, size_t size,
+	uint32_t number, size_t *key_len, uint64_t *rid);
+
+/** How far a long value is read: begin with 0 in all of it. */
+typedef struct vah_reading {
+	uint64_t left;            /**< how many of its bytes are in later parts */
+	uint32_t number;          /**< how many parts were taken */
+	uint8_t is_half;          /**< 1: one was not the next part */
+} vah_reading;
+
+/** Take the next entry of a long value's range. What the part has of the value
+ *  begins `front` + 3 bytes into its key. At the range's end the value is whole where
+ *  `left` is 0, and was not there where `number` is.
+ *  @return VAH_INVALID where it is not the next part: half a value is there */
+int vah_long_read(vah_reading *reading, size_t front, const void *key, size_t len, uint64_t rid);
+
+/** The key of the long value whose part this is.
+ *  @param[out] key room for VAH_KEY_MAX bytes
+ *  @param[out] front what all parts of the value begin with
+ *  @return VAH_INVALID where it is no part */
+int vah_long_key(const void *part, size_t len, uint8_t *key, size_t *key_len, size_t *front);
+
 /** Tell how the store stands.
  *  @param[in] size sizeof(vah_info): a later version's numbers are left out */
 int vah_stat_with(vah_store *store, vah_info *info, size_t size);

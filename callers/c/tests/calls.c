@@ -424,10 +424,61 @@ static void threads(const char *dir)
 	OK(vah_close(store));
 }
 
+/* ---- keys of names ---- */
+
+static void keys_of_names(void)
+{
+	static const uint8_t large[300] = { 1 };
+	uint8_t key[VAH_KEY_MAX], other[VAH_KEY_MAX];
+	size_t len, front, size;
+	uint64_t rid;
+	vah_reading reading = { 0, 0, 0 };
+	OK(vah_name_key(VAH_NAME_ENTRY, "by_city", 7, "oslo", 4, key, &len));
+	HOLDS(len == 12 && !memcmp(key, "\7by_cityoslo", 12));
+	OK(vah_name_key(VAH_NAME_FIRST, NULL, 0, NULL, 0, key, &len));
+	HOLDS(len == 1 && !key[0]);
+	for (size_t more = 1; more; more *= 2) {
+		IS(vah_name_key(VAH_NAME_ENTRY, "by_city", 7, large, 246 + more, key, &len), VAH_KEY_LENGTH);
+		IS(vah_name_key(VAH_NAME_ROW, large, 31 + more, NULL, 0, key, &len), VAH_KEY_LENGTH);
+	}
+	IS(vah_name_key(VAH_NAME_PARTS_END + 1, "n", 1, "k", 1, key, &len), VAH_INVALID);
+	IS(vah_name_key(VAH_NAME_ROW, NULL, 1, "k", 1, key, &len), VAH_INVALID);
+	IS(vah_name_key(VAH_NAME_ENTRY, "n", 1, NULL, 1, key, &len), VAH_INVALID);
+	IS(vah_name_key(VAH_NAME_ROW, "n", 1, "k", 1, NULL, &len), VAH_INVALID);
+	IS(vah_name_key(VAH_NAME_ROW, "n", 1, "k", 1, key, NULL), VAH_INVALID);
+
+	OK(vah_name_key(VAH_NAME_PARTS, "notes", 5, "a\0b", 3, key, &front));
+	IS(vah_long_part(key, front, "abc", 3, 1, &len, &rid), VAH_NOT_FOUND);
+	IS(vah_long_part(key, front, "abc", SIZE_MAX, 0, &len, &rid), VAH_INVALID);
+	IS(vah_long_part(key, 220, "abc", 3, 0, &len, &rid), VAH_INVALID);
+	IS(vah_long_part(NULL, front, "abc", 3, 0, &len, &rid), VAH_INVALID);
+	IS(vah_long_part(key, front, NULL, 3, 0, &len, &rid), VAH_INVALID);
+	IS(vah_long_part(key, front, "abc", 3, 0, NULL, &rid), VAH_INVALID);
+	IS(vah_long_part(key, front, "abc", 3, 0, &len, NULL), VAH_INVALID);
+	OK(vah_long_part(key, front, NULL, 0, 0, &len, &rid));
+	HOLDS(front == 11 && len == 14 && !rid);
+	OK(vah_long_part(key, front, "abc", 3, 0, &len, &rid));
+	HOLDS(len == 17 && rid == 3 && !memcmp(key + 11, "\0\0\0abc", 6));
+
+	OK(vah_long_key(key, len, other, &size, &front));
+	HOLDS(size == 3 && front == 11 && !memcmp(other, "a\0b", 3));
+	IS(vah_long_key(key, 6, other, &size, &front), VAH_INVALID);
+	IS(vah_long_key(NULL, 6, other, &size, &front), VAH_INVALID);
+	IS(vah_long_key(large, 256, other, &size, &front), VAH_INVALID);
+
+	OK(vah_long_read(&reading, 11, key, len, rid));
+	HOLDS(reading.number == 1 && !reading.left && !reading.is_half);
+	IS(vah_long_read(&reading, 11, key, len, rid), VAH_INVALID);
+	HOLDS(reading.is_half == 1);
+	IS(vah_long_read(NULL, 11, key, len, rid), VAH_INVALID);
+	IS(vah_long_read(&reading, 11, NULL, len, rid), VAH_INVALID);
+}
+
 int main(int argc, char **argv)
 {
 	char dir[4096];
 	if (argc < 2) return 1;
+	keys_of_names();
 	snprintf(dir, sizeof dir, "%s/deep/refusals", argv[1]);
 	refusals(dir);
 	snprintf(dir, sizeof dir, "%s/table", argv[1]);

@@ -1,15 +1,20 @@
 //! Which functions does C see?
 //!
 //! The store for C. C hands in memory: as many bytes as `im_size` says for a store, and a `Call` for each question. Beside it decisions over what C
-//! has read or keeps itself: whether the files of a folder belong together, and what may be cut of them after a close (`im_files_guard`), and who may begin now (`im_base_turns`).
+//! has read or keeps itself: whether the files of a folder belong together, and what may be cut of them after a close (`im_files_guard`), who may begin now (`im_base_turns`), and where names
+//! and long values lie among the keys of a store (`im_names`).
 #![tactic(auto)]
 
-ghost use Rattle.std.specs.Prelude.{◌≡◌, ◌≤◌, ◌+◌, ◌↔◌, true, length};
+ghost use Rattle.std.specs.Prelude.{◌≡◌, ◌≤◌, ◌+◌, ◌↔◌, true, not, length, take, drop, MatchOption};
 ghost use Rattle.std.specs.Borrow.{sem};
 ghost use Rattle.im_capi.specs.Pointers.{bytes_of_store, room_for_store, blank_at, store_at, call_at, made_at, Question};
 ghost use Rattle.im_files_guard.specs.Belonging.{Decides};
 ghost use Rattle.im_files_guard.specs.LogCuts.{log_cuts_of};
 ghost use Rattle.im_files_guard.specs.LeftLog.{current_log_of, left_log_of, walk, IsOlder};
+ghost use Rattle.im_names.specs.Asked.{key_by_number};
+ghost use Rattle.im_names.specs.Kinds.{key_of_part};
+ghost use Rattle.im_names.specs.Parts.{part_asked};
+ghost use Rattle.im_names.specs.Readings.{read_on};
 ghost use Rattle.im_base_turns.specs.Turns.{IsAwaitedBy, IsLeastOf, IsPatient, MayBegin, Owns};
 
 use im_base_turns::{Asker, Going};
@@ -136,4 +141,54 @@ pub extern "C" fn im_is_left_alone(now: u64, patience: u64, since: u64) -> bool
     ensures { result ≡ true ↔ (since + patience ≤ now) }
 {
     im_base_turns::is_left_alone(now, patience, since)
+}
+
+/// Writes a key of a name, by the number of `Which`, and answers how many bytes it has; 0 where it does not fit.
+#[unsafe(no_mangle)]
+pub extern "C" fn im_name_key(which: u32, name: &[u8], key: &[u8], to: &mut [u8]) -> usize
+    requires room { 255 ≤ length to.old }
+    ensures size { result ≡ length (key_by_number which name.now key.now) }
+    ensures key { take result to.new ≡ key_by_number which name.now key.now }
+{
+    im_names::write_key_by_number(which, name, key, to)
+}
+
+/// Writes the key of a part of a long value after its front, and its row id; answers how many bytes it has, 0 where there is no such part.
+#[unsafe(no_mangle)]
+pub extern "C" fn im_long_part(
+    front: usize,
+    value: &[u8],
+    number: u32,
+    to: &mut [u8],
+    rid: &mut u64,
+) -> usize
+    requires front { front ≤ 219 }
+    requires room { 255 ≤ length to.old }
+    ensures { MatchOption (part_asked (take front to.old) value.now number) (result ≡ 0) (λ e. (take result to.new ≡ e.0) × (rid.new ≡ e.1)) }
+{
+    im_names::write_part_beside(front, value, number, to, rid)
+}
+
+/// Takes the next entry of a long value's range; false where it is not its next part.
+#[unsafe(no_mangle)]
+pub extern "C" fn im_long_read(
+    reading: &mut im_names::Reading,
+    front: usize,
+    key: &[u8],
+    rid: u64,
+) -> bool
+    ensures reading { reading.new ≡ read_on front reading.old (key.now, rid) }
+    ensures next { result ≡ not reading.new.is_half }
+{
+    reading.take(front, key, rid)
+}
+
+/// The key of the long value whose part this is, and how many bytes its front has; answers how many the key has, 0 where it is no part.
+#[unsafe(no_mangle)]
+pub extern "C" fn im_long_key(part: &[u8], to: &mut [u8], front: &mut usize) -> usize
+    requires size { length part.now ≤ 255 }
+    requires room { 255 ≤ length to.old }
+    ensures { MatchOption (key_of_part part.now) (result ≡ 0) (λ k. (take result to.new ≡ k.0) × (drop front.new part.now ≡ k.1)) }
+{
+    im_names::key_in_beside(part, to, front)
 }
