@@ -32,6 +32,14 @@ pub struct vah_ref {
     pub rid: u64,
 }
 
+#[repr(C)]
+#[derive(Clone, Copy, Debug, Default)]
+pub struct vah_reading {
+    pub left: u64,
+    pub number: u32,
+    pub is_half: u8,
+}
+
 pub type vah_progress = unsafe extern "C" fn(with: *mut c_void, bytes: u64) -> c_int;
 
 #[repr(C)]
@@ -96,6 +104,13 @@ pub const VAH_TOO_MANY: c_int = 12;
 pub const VAH_POOL_SIZE: c_int = 13;
 pub const VAH_LOCKED: c_int = 19;
 pub const VAH_NO_WAIT: c_uint = 1;
+pub const VAH_NAME_ROW: c_uint = 0;
+pub const VAH_NAME_GUARD: c_uint = 1;
+pub const VAH_NAME_ENTRY: c_uint = 2;
+pub const VAH_NAME_FIRST: c_uint = 3;
+pub const VAH_NAME_LAST: c_uint = 4;
+pub const VAH_NAME_PARTS: c_uint = 5;
+pub const VAH_NAME_PARTS_END: c_uint = 6;
 pub const VAH_REDO_GROWS: u64 = u64::MAX;
 pub const VAH_LOG_GROWS: u64 = u64::MAX;
 pub const VAH_CACHE_FITS: u64 = u64::MAX;
@@ -103,6 +118,7 @@ pub const VAH_CACHE_FITS: u64 = u64::MAX;
 // The library's own build tests these sizes and places too.
 const _: () = assert!(core::mem::size_of::<vah_entry>() == 264 && core::mem::offset_of!(vah_entry, key) == 9);
 const _: () = assert!(core::mem::size_of::<vah_ref>() == 24);
+const _: () = assert!(core::mem::size_of::<vah_reading>() == 16 && core::mem::offset_of!(vah_reading, is_half) == 12);
 const _: () = assert!(core::mem::size_of::<vah_config>() == 72 && core::mem::offset_of!(vah_config, redo_bytes) == 16);
 const _: () = assert!(core::mem::offset_of!(vah_config, wait_ms) == 32 && core::mem::offset_of!(vah_config, progress) == 40 && core::mem::offset_of!(vah_config, cache_bytes) == 64);
 const _: () = assert!(core::mem::size_of::<vah_info>() == 104);
@@ -141,5 +157,13 @@ extern "C" {
     pub fn vah_flush(store: *mut vah_store) -> c_int;
     pub fn vah_copy(store: *mut vah_store, folder: *const c_char) -> c_int;
     pub fn vah_copy_with(store: *mut vah_store, folder: *const c_char, progress: Option<vah_progress>, with: *mut c_void) -> c_int;
+    pub fn vah_name_key(
+        which: c_uint, name: *const c_void, name_len: usize, key: *const c_void, key_len: usize, to: *mut u8, to_len: *mut usize,
+    ) -> c_int;
+    pub fn vah_long_part(
+        key: *mut u8, front: usize, value: *const c_void, size: usize, number: u32, key_len: *mut usize, rid: *mut u64,
+    ) -> c_int;
+    pub fn vah_long_read(reading: *mut vah_reading, front: usize, key: *const c_void, len: usize, rid: u64) -> c_int;
+    pub fn vah_long_key(part: *const c_void, len: usize, key: *mut u8, key_len: *mut usize, front: *mut usize) -> c_int;
     pub fn vah_stat_with(store: *mut vah_store, info: *mut vah_info, size: usize) -> c_int;
 }

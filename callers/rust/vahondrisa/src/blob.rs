@@ -1,6 +1,6 @@
-use crate::catalogue::guard_of;
 use crate::error::{Error, Result};
 use crate::index::{check_store, Entry};
+use crate::layout::{key_in, key_of, parts_of, Reading, Which};
 use crate::range::Range;
 use crate::store::Store;
 use crate::transaction::Transaction;
@@ -39,12 +39,11 @@ pub struct Blob {
     prefix: Vec<u8>,
 }
 
-/// Bytes of a part's number, big-endian. Its first one is below FF in every value that has room, as it has fewer than 2^24 - 2^16 parts.
-const NUMBER: usize = 3;
-const MOST_PARTS: usize = 0xff_0000;
-
-/// A key has room beside it for so many bytes of its value at least.
-const LEAST_PART: usize = 32;
+/// Where the parts of a value begin and end. They all begin with the first.
+struct Place {
+    front: Vec<u8>,
+    end: Vec<u8>,
+}
 
 impl Blob {
     pub(crate) fn new(store: &Store, name: &str, prefix: Vec<u8>) -> Blob {
@@ -58,49 +57,26 @@ impl Blob {
 
     /// The value of a key.
     pub fn get(&self, txn: &Transaction<'_>, key: impl AsRef<[u8]>) -> Result<Option<Vec<u8>>> {
-        let front = self.front(txn, key.as_ref())?;
-        let (mut value, mut left, mut number) = (Vec::new(), None, 0u32);
-        parts_of(txn, &front).each(|at, rid| {
-            // each has the next number, and says how many bytes there are from it on
-            let part = at[front.len()..].strip_prefix(number_of(&number.to_be_bytes()));
-            let Some(part) = part.filter(|it| it.len() as u64 <= rid && !left.is_some_and(|left| left != rid)) else {
-                return Err(not_whole(txn));
-            };
-            number += 1;
-            left = Some(rid - part.len() as u64);
-            value.extend_from_slice(part);
-            Ok(())
-        })?;
-        match left {
-            None => Ok(None),
-            Some(0) => Ok(Some(value)),
-            Some(_) => Err(not_whole(txn)),
-        }
+        let place = self.place(txn, key.as_ref())?;
+        let mut reading = Reading::default();
+        place.range(txn).each(|at, rid| if reading.take(place.front.len(), at, rid) { Ok(()) } else { Err(not_whole(txn)) })?;
+        reading.value().map_err(|()| not_whole(txn))
     }
 
     /// How many bytes the value of a key has. It reads the first part alone.
     pub fn len(&self, txn: &Transaction<'_>, key: impl AsRef<[u8]>) -> Result<Option<u64>> {
-        let front = self.front(txn, key.as_ref())?;
-        Ok(txn.seek(&front)?.filter(|(at, _)| at.starts_with(&front) && *at < past(&front)).map(|(_, rid)| rid))
+        let place = self.place(txn, key.as_ref())?;
+        Ok(txn.seek(&place.front)?.filter(|(at, _)| *at <= place.end).map(|(_, rid)| rid))
     }
 
     /// Puts a value in, in place of the one that was there; whether there was one.
     pub fn put(&self, txn: &Transaction<'_>, key: impl AsRef<[u8]>, value: &[u8]) -> Result<bool> {
-        let front = self.front(txn, key.as_ref())?;
-        let room = sys::VAH_KEY_MAX - 1 - front.len() - NUMBER;
-        if value.len() / room >= MOST_PARTS {
+        let place = self.place(txn, key.as_ref())?;
+        let Some(mut new) = parts_of(&place.front, value) else {
             return Err(Error::of(sys::VAH_INVALID, format!("{}: a value of {} bytes has too many parts", txn.store().path().display(), value.len())));
-        }
-        // a value of no byte has one part too
-        let parts = (0..value.len().max(1)).step_by(room).map(|from| &value[from..value.len().min(from + room)]);
-        let mut new: Vec<Entry> = Vec::with_capacity(value.len() / room + 1);
-        let mut left = value.len() as u64;
-        for (number, part) in (0u32..).zip(parts) {
-            new.push(([&front, number_of(&number.to_be_bytes()), part].concat(), left));
-            left -= part.len() as u64;
-        }
+        };
         let (mut places, mut old) = (0, Vec::new());
-        parts_of(txn, &front).each(|at, rid| {
+        place.range(txn).each(|at, rid| {
             match new.get_mut(places) {
                 Some(same) if (same.0.as_slice(), same.1) == (at, rid) => same.0.clear(), // it stays
                 _ => old.push((at.to_vec(), rid)),
@@ -115,8 +91,7 @@ impl Blob {
 
     /// Takes a value out; false where there is none.
     pub fn remove(&self, txn: &Transaction<'_>, key: impl AsRef<[u8]>) -> Result<bool> {
-        let front = self.front(txn, key.as_ref())?;
-        let old: Vec<Entry> = parts_of(txn, &front).collect::<Result<_>>()?;
+        let old: Vec<Entry> = self.place(txn, key.as_ref())?.range(txn).collect::<Result<_>>()?;
         change(txn, &old, &[])?;
         Ok(!old.is_empty())
     }
@@ -124,22 +99,21 @@ impl Blob {
     /// The keys that have a value, in order.
     pub fn keys<'t, 's>(&self, txn: &'t Transaction<'s>) -> BlobKeys<'t, 's> {
         let refusal = check_store(self.store, &self.name, txn).err();
-        BlobKeys { txn, prefix: self.prefix.clone(), at: Some(self.prefix.clone()), refusal }
+        BlobKeys { txn, name: self.name.clone(), at: Some(self.prefix.clone()), refusal }
     }
 
-    /// What all parts of a key's value begin with: the prefix, the key with a byte FF after each 0, and a 0. So no key's parts lie among those of
-    /// another, and keys are in order.
-    fn front(&self, txn: &Transaction<'_>, key: &[u8]) -> Result<Vec<u8>> {
+    fn place(&self, txn: &Transaction<'_>, key: &[u8]) -> Result<Place> {
         check_store(self.store, &self.name, txn)?;
-        let mut front = self.prefix.clone();
-        for byte in key {
-            front.extend_from_slice(if *byte == 0 { &[0, 0xff] } else { std::slice::from_ref(byte) });
+        match (key_of(Which::Parts, &self.name, key), key_of(Which::PartsEnd, &self.name, key)) {
+            (Some(front), Some(end)) => Ok(Place { front, end }),
+            _ => Err(Error::of(sys::VAH_KEY_LENGTH, "a key of a long value has 1 to 217 bytes, fewer by the length of its name and by one for each 0")),
         }
-        front.push(0);
-        if key.is_empty() || front.len() + NUMBER + LEAST_PART >= sys::VAH_KEY_MAX {
-            return Err(Error::of(sys::VAH_KEY_LENGTH, "a key of a long value has 1 to 217 bytes, fewer by the length of its name and by one for each 0"));
-        }
-        Ok(front)
+    }
+}
+
+impl Place {
+    fn range<'t, 's>(&self, txn: &'t Transaction<'s>) -> Range<'t, 's> {
+        Range::new(txn, (Bound::Included(&self.front), Bound::Included(&self.end)))
     }
 }
 
@@ -155,21 +129,6 @@ fn change(txn: &Transaction<'_>, old: &[Entry], new: &[Entry]) -> Result<()> {
         }
     }
     outcome
-}
-
-/// A part's number, as its key has it.
-fn number_of(number: &[u8; 4]) -> &[u8] {
-    &number[4 - NUMBER..]
-}
-
-/// The parts of a value, by what they begin with.
-fn parts_of<'t, 's>(txn: &'t Transaction<'s>, front: &[u8]) -> Range<'t, 's> {
-    Range::new(txn, (Bound::Included(front), Bound::Excluded(&past(front))))
-}
-
-/// The least key after all parts of a value.
-fn past(front: &[u8]) -> Vec<u8> {
-    [front, &[0xff]].concat()
 }
 
 fn not_whole(txn: &Transaction<'_>) -> Error {
@@ -193,7 +152,7 @@ fn not_whole(txn: &Transaction<'_>) -> Error {
 #[derive(Debug)]
 pub struct BlobKeys<'t, 's> {
     txn: &'t Transaction<'s>,
-    prefix: Vec<u8>,
+    name: String,
     /// The next key lies here or after it; nowhere after the last one.
     at: Option<Vec<u8>>,
     refusal: Option<Error>,
@@ -207,16 +166,11 @@ impl BlobKeys<'_, '_> {
         }
         let Some(at) = self.at.take() else { return Ok(None) };
         let Some((part, _)) = self.txn.seek(&at)? else { return Ok(None) };
-        if !part.starts_with(&self.prefix) || part == guard_of(&self.prefix) {
+        if !key_of(Which::Last, &self.name, b"").is_some_and(|last| part <= last) {
             return Ok(None);
         }
-        let mut key = Vec::new();
-        let mut end = self.prefix.len();
-        while end < part.len() && (part[end] != 0 || part.get(end + 1) == Some(&0xff)) {
-            key.push(part[end]);
-            end += if part[end] == 0 { 2 } else { 1 };
-        }
-        self.at = Some(past(&part[..part.len().min(end + 1)]));
+        let key = key_in(&part).ok_or_else(|| not_whole(self.txn))?;
+        self.at = key_of(Which::PartsEnd, &self.name, &key);
         Ok(Some(key))
     }
 }

@@ -1,6 +1,6 @@
-use crate::catalogue::guard_of;
 use crate::error::{Error, Result};
 use crate::key_range::KeyRange;
+use crate::layout::{key_of, Which};
 use crate::range::Range;
 use crate::store::Store;
 use crate::transaction::Transaction;
@@ -78,7 +78,7 @@ impl Index {
     /// The last entry of all.
     pub fn last(&self, txn: &Transaction<'_>) -> Result<Option<Entry>> {
         self.check(txn)?;
-        Ok(self.own(txn.prev(&guard_of(&self.prefix))?))
+        Ok(self.own(txn.prev(self.key(Which::Guard, b"")?)?))
     }
 
     /// The first entry from a key on.
@@ -99,28 +99,33 @@ impl Index {
     /// The entries of a range, in order.
     pub fn range<'t, 's>(&self, txn: &'t Transaction<'s>, range: impl KeyRange) -> Range<'t, 's> {
         let (from, to) = range.bounds();
-        let guard = guard_of(&self.prefix);
-        match (self.edge(txn, from, Bound::Included(&self.prefix)), self.edge(txn, to, Bound::Excluded(&guard))) {
-            (Ok(from), Ok(to)) => Range::new(txn, (from.as_ref().map(Vec::as_slice), to.as_ref().map(Vec::as_slice))).hiding(self.prefix.len()),
-            (Err(error), _) | (_, Err(error)) => Range::refused(txn, error),
+        let edges = self.key(Which::Guard, b"").and_then(|guard| {
+            Ok((self.edge(txn, from, Bound::Included(&self.prefix))?, self.edge(txn, to, Bound::Excluded(&guard))?))
+        });
+        match edges {
+            Ok((from, to)) => Range::new(txn, (from.as_ref().map(Vec::as_slice), to.as_ref().map(Vec::as_slice))).hiding(self.prefix.len()),
+            Err(error) => Range::refused(txn, error),
         }
     }
 
     /// The entries whose keys begin with a prefix, in order.
     pub fn prefix<'t, 's>(&self, txn: &'t Transaction<'s>, prefix: impl AsRef<[u8]>) -> Range<'t, 's> {
-        let from = [&self.prefix, prefix.as_ref()].concat();
-        if let Err(error) = self.check(txn).and_then(|()| check_len(from.len())) {
-            return Range::refused(txn, error);
+        let prefix = prefix.as_ref();
+        match self.check(txn).and_then(|()| Ok((self.key(Which::First, prefix)?, self.key(Which::Last, prefix)?))) {
+            Ok((from, to)) => Range::new(txn, (Bound::Included(&from), Bound::Included(&to))).hiding(self.prefix.len()),
+            Err(error) => Range::refused(txn, error),
         }
-        let to = guard_of(&from); // no entry has as many bytes
-        Range::new(txn, (Bound::Included(&from), Bound::Excluded(&to))).hiding(self.prefix.len())
     }
 
     /// The key of the store that stands for a key.
     fn whole(&self, txn: &Transaction<'_>, key: &[u8]) -> Result<Vec<u8>> {
         self.check(txn)?;
-        check_len(if key.is_empty() { 0 } else { self.prefix.len() + key.len() })?;
-        Ok([&self.prefix, key].concat())
+        self.key(Which::Entry, key)
+    }
+
+    fn key(&self, which: Which, key: &[u8]) -> Result<Vec<u8>> {
+        let key = key_of(which, &self.name, key);
+        key.ok_or_else(|| Error::of(sys::VAH_KEY_LENGTH, "a key has 1 to 253 bytes, fewer by the length of its index's name"))
     }
 
     fn edge(&self, txn: &Transaction<'_>, bound: Bound<&[u8]>, unbounded: Bound<&[u8]>) -> Result<Bound<Vec<u8>>> {
@@ -148,12 +153,4 @@ pub(crate) fn check_store(store: usize, name: &str, txn: &Transaction<'_>) -> Re
         return Ok(());
     }
     Err(Error::of(sys::VAH_INVALID, format!("{}: {name} is of another store", txn.store().path().display())))
-}
-
-/// Whether a key of an index may have so many bytes in the store.
-fn check_len(len: usize) -> Result<()> {
-    if (1..sys::VAH_KEY_MAX).contains(&len) {
-        return Ok(());
-    }
-    Err(Error::of(sys::VAH_KEY_LENGTH, "a key has 1 to 253 bytes, fewer by the length of its index's name"))
 }

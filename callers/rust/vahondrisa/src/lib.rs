@@ -34,6 +34,7 @@ mod catalogue;
 mod error;
 mod index;
 mod key_range;
+mod layout;
 mod options;
 mod range;
 mod store;

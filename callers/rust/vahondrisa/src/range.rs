@@ -59,7 +59,7 @@ impl Edge {
 }
 
 /// Nothing is greater, or equal and a longer key.
-pub(crate) const GREATEST: [u8; sys::VAH_KEY_MAX] = [0xff; sys::VAH_KEY_MAX];
+const GREATEST: [u8; sys::VAH_KEY_MAX] = [0xff; sys::VAH_KEY_MAX];
 
 fn key_of(entry: &sys::vah_entry) -> &[u8] {
     &entry.key[..usize::from(entry.len)]
