@@ -27,6 +27,10 @@ def entries(count: int) -> struct.Struct:
     return struct.Struct("=" + "Q256p" * count)
 
 
+class Reading(ctypes.Structure):
+    _fields_ = [("left", c_uint64), ("number", c_uint32), ("is_half", c_uint8)]
+
+
 # What the library tells how far it is: a generator, which it was given beside this, gets the number, and answers by the next one that it yields.
 Progress = ctypes.CFUNCTYPE(c_int, py_object, c_uint64)
 TELL = Progress(types.GeneratorType.send)
@@ -50,7 +54,7 @@ class Info(ctypes.Structure):
 
 
 # The library's own build tests these sizes too.
-assert (ctypes.sizeof(Entry), ctypes.sizeof(Config), ctypes.sizeof(Info)) == (264, 72, 104) and entries(1).size == 264
+assert (ctypes.sizeof(Entry), ctypes.sizeof(Config), ctypes.sizeof(Info), ctypes.sizeof(Reading)) == (264, 72, 104, 16) and entries(1).size == 264
 
 
 def _load() -> ctypes.CDLL:
@@ -85,6 +89,10 @@ _FUNCTIONS: "Dict[str, Tuple[Any, ...]]" = {
     "vah_switch": (c_void_p,),
     "vah_flush": (c_void_p,),
     "vah_copy_with": (c_void_p, c_char_p, Progress, py_object),
+    "vah_name_key": (c_uint, c_char_p, c_size_t, c_char_p, c_size_t, c_void_p, POINTER(c_size_t)),
+    "vah_long_part": (c_void_p, c_size_t, c_char_p, c_size_t, c_uint32, POINTER(c_size_t), POINTER(c_uint64)),
+    "vah_long_read": (POINTER(Reading), c_size_t, c_char_p, c_size_t, c_uint64),
+    "vah_long_key": (c_char_p, c_size_t, c_void_p, POINTER(c_size_t), POINTER(c_size_t)),
     "vah_stat_with": (c_void_p, POINTER(Info), c_size_t),
     "vah_version": (),
 }

@@ -4,9 +4,9 @@ from typing import TYPE_CHECKING, Any, Callable, Iterable, Iterator, List, Mappi
 
 from . import _library as c
 from ._arguments import NONE, Alone, Bytes, bytes_of
-from ._catalogue import guard_of
 from ._errors import Error
 from ._keys import Entry, Keys
+from ._layout import FIRST, LAST, PARTS, PARTS_END, key_in, key_of, parts_of, value_of
 
 if TYPE_CHECKING:
     from ._store import Store
@@ -93,12 +93,7 @@ class Blob(_Named):
     def within(self, txn: "Transaction") -> "Values":
         """Its values in a transaction."""
         self._check(txn)
-        return Values(txn, self._prefix)
-
-
-_NUMBER = 3  # bytes of a part's number, big-endian
-_MOST_PARTS = 0xFF0000  # so that the first of them is below FF
-_LEAST_PART = 32  # a key leaves so many bytes at least to each part
+        return Values(txn, self._name)
 
 
 class Values(Alone, MutableMapping[bytes, bytes]):
@@ -118,8 +113,8 @@ class Values(Alone, MutableMapping[bytes, bytes]):
     [(b'greeting', b'good-bye')]
     """
 
-    def __init__(self, txn: "Transaction", prefix: bytes) -> None:
-        self._txn, self._prefix = txn, prefix
+    def __init__(self, txn: "Transaction", name: str) -> None:
+        self._txn, self._name = txn, name.encode()
 
     @overload
     def get(self, key: Bytes) -> Optional[bytes]: ...
@@ -127,18 +122,9 @@ class Values(Alone, MutableMapping[bytes, bytes]):
     def get(self, key: Bytes, default: Union[bytes, T]) -> Union[bytes, T]: ...
     def get(self, key: Bytes, default: object = None) -> object:
         """The value of a key, or the default where there is none."""
-        front = self._front(key)
-        parts, left = [], None
-        for number, (at, rid) in enumerate(self._range(front)):
-            part = at[len(front) + _NUMBER :]
-            # each has the next number, and says how many bytes there are from it on
-            if left not in (None, rid) or rid < len(part) or not at.startswith(number.to_bytes(_NUMBER, "big"), len(front)):
-                raise ValueError("the parts of a long value do not agree")
-            left = rid - len(part)
-            parts.append(part)
-        if left:
-            raise ValueError("the parts of a long value do not agree")
-        return default if left is None else b"".join(parts)
+        front, end = self._place(key)
+        value = value_of(front, self._txn.range(front, end))
+        return default if value is None else value
 
     @overload
     def pop(self, key: Bytes) -> bytes: ...
@@ -156,28 +142,26 @@ class Values(Alone, MutableMapping[bytes, bytes]):
 
     def size(self, key: Bytes) -> Optional[int]:
         """How many bytes the value of a key has, or None. It reads the first part alone."""
-        front = self._front(key)
+        front, end = self._place(key)
         found = self._txn.seek(front)
-        return found[1] if found and found[0].startswith(front) and found[0] < front + b"\xff" else None
+        return found[1] if found and found[0] <= end else None
 
     def put(self, key: Bytes, value: Bytes) -> bool:
         """Puts a value in, in place of the one that was there; whether there was one."""
-        front, value = self._front(key), bytes_of(value, "value")
-        room = c.KEY_MAX - 1 - len(front) - _NUMBER
-        if len(value) // room >= _MOST_PARTS:
+        (front, end), value = self._place(key), bytes_of(value, "value")
+        parts = parts_of(front, value)
+        if parts is None:
             raise ValueError(f"a value of {len(value)} bytes has too many parts")
-        # a value of no byte has one part too
-        places = range(0, max(1, len(value)), room)
-        new = {front + number.to_bytes(_NUMBER, "big") + value[at : at + room]: len(value) - at for number, at in enumerate(places)}
+        new = dict(parts)
         with self._txn._long:
-            old = dict(self._range(front))
+            old = dict(self._txn.range(front, end))
             self._change([it for it in old.items() if it not in new.items()], [it for it in new.items() if it not in old.items()])
         return bool(old)
 
     def delete(self, key: Bytes) -> bool:
         """Takes a value out; False where there is none."""
         with self._txn._long:
-            old = list(self._range(self._front(key)))
+            old = list(self._txn.range(*self._place(key)))
             self._change(old, ())
         return bool(old)
 
@@ -208,19 +192,13 @@ class Values(Alone, MutableMapping[bytes, bytes]):
             txn._is_half = was_half or bool(undo)
             raise
 
-    def _range(self, front: bytes) -> "Iterator[Entry]":
-        """The parts of a value."""
-        return self._txn.range(front, front + b"\xfe".ljust(c.KEY_MAX - len(front), b"\xff"))
-
-    def _front(self, key: Bytes) -> bytes:
-        """What all parts of a key's value begin with: the prefix, the key with a byte FF after each 0, and a 0. So no key's parts lie among those of
-        another, and keys are in order."""
+    def _place(self, key: Bytes) -> "Tuple[bytes, bytes]":
+        """Where the parts of a value begin, which is what all of them begin with, and where they end."""
         key = bytes_of(key, "key")
-        front = self._prefix + key.replace(b"\0", b"\0\xff") + b"\0"
-        if not key or len(front) + _NUMBER + _LEAST_PART >= c.KEY_MAX:
-            most = c.KEY_MAX - 2 - len(self._prefix) - _NUMBER - _LEAST_PART
-            raise ValueError(f"a key of a long value has 1 to {most} bytes here, fewer by one for each byte 0 in it, not {len(key)}")
-        return front
+        front, end = key_of(PARTS, self._name, key), key_of(PARTS_END, self._name, key)
+        if front is None or end is None:
+            raise ValueError(f"a key of a long value has 1 to {217 - len(self._name)} bytes here, fewer by one for each byte 0 in it, not {len(key)}")
+        return front, end
 
     def __getitem__(self, key: Bytes) -> bytes:
         value = self.get(key)
@@ -244,17 +222,14 @@ class Values(Alone, MutableMapping[bytes, bytes]):
 
     def __iter__(self) -> Iterator[bytes]:
         """The keys that have a value, in order. It reads one part of each."""
-        at: Optional[bytes] = self._prefix
+        at, last = key_of(FIRST, self._name), key_of(LAST, self._name) or b""
         while at is not None:
             found = self._txn.seek(at)
-            at = None
-            if found and found[0].startswith(self._prefix) and found[0] != guard_of(self._prefix):
-                part = found[0]
-                end = part.find(b"\0", len(self._prefix))
-                while part[end + 1 : end + 2] == b"\xff":
-                    end = part.find(b"\0", end + 2)
-                yield part[len(self._prefix) : end].replace(b"\0\xff", b"\0")
-                at = part[: end + 1] + b"\xff"
+            if found is None or found[0] > last:
+                return
+            key = key_in(found[0])
+            yield key
+            at = key_of(PARTS_END, self._name, key)
 
     def __len__(self) -> int:
         return sum(1 for _ in self)
@@ -268,4 +243,4 @@ class Values(Alone, MutableMapping[bytes, bytes]):
     __hash__ = object.__hash__
 
     def __repr__(self) -> str:
-        return f"<vahondrisa.Values of {self._prefix[1:]!r} in {self._txn!r}>"
+        return f"<vahondrisa.Values of {self._name!r} in {self._txn!r}>"
