@@ -13,8 +13,8 @@ use Rattle.im_base_types.specs.declared.redo_report.RedoReport.{RedoReport}
 use Rattle.im_tool_lines.specs.declared.store_life.StoreLine.{StoreLine}
 use Rattle.im_tool_lines.specs.declared.store_life.StoreLine.TheVariants as lines
 use Rattle.im_tool_lines.specs.declared.store_life.StoreLife.{StoreLife}
-use Rattle.im_tool_raw.specs.declared.store_answers.StoreReply.{StoreReply}
-use Rattle.im_tool_raw.specs.declared.store_answers.StoreAnswers.{StoreAnswers}
+use Rattle.im_tool_lines.specs.declared.store_answers.StoreReply.{StoreReply}
+use Rattle.im_tool_lines.specs.declared.store_answers.StoreAnswers.{StoreAnswers}
 use Rattle.im_base_types.specs.Changes.{Effect}
 use Rattle.im_base_types.specs.Lives.{Shown}
 use Rattle.im_theory_machine.specs.View.{View}
@@ -24,8 +24,8 @@ use Rattle.im_page.specs.declared.header.Header.{Header}
 use Rattle.im_engine.specs.Looking.{Looks, header_of}
 use Rattle.im_engine.specs.Kept.{LookKept}
 use Rattle.im_engine.specs.Running.{IsLife}
-use Rattle.im_tool_raw.specs.declared.store_answers.StoreReply.TheVariants as replies
-use Rattle.im_tool_raw.specs.Stops.{HasCome, IsNextDisk}
+use Rattle.im_tool_lines.specs.declared.store_answers.StoreReply.TheVariants as replies
+use Rattle.im_tool_lines.specs.Stops.{HasCome, IsNextDisk}
 use Rattle.im_tool_drill.specs.StoreLives.{gate_of}
 use Rattle.im_tool_drill.specs.StoreRuns.{AllReport, IsLookRun, IsLineRun, AreLinesRun, IsLifeRun, AreLivesRun}
 

@@ -12,9 +12,9 @@ use Rattle.im_engine.specs.Stands.{Allowed}
 use Rattle.im_engine.specs.Running.{IsLife}
 use Rattle.im_tool_lines.specs.declared.store_life.StoreLine.{StoreLine}
 use Rattle.im_tool_lines.specs.declared.store_life.LifeOptions.{LifeOptions}
-use Rattle.im_tool_raw.specs.declared.store_answers.StoreReply.{StoreReply}
-use Rattle.im_tool_raw.specs.declared.store_answers.StoreReply.TheVariants as replies
-use Rattle.im_tool_raw.specs.StoreShown.{shown_after}
+use Rattle.im_tool_lines.specs.declared.store_answers.StoreReply.{StoreReply}
+use Rattle.im_tool_lines.specs.declared.store_answers.StoreReply.TheVariants as replies
+use Rattle.im_tool_lines.specs.StoreShown.{shown_after}
 
 -- The life has shown this, and its engine is some view of the machine of transactions.
 abbrev pub GoesOn : {D : Type 0} (d : Ghosts D) → List Effect → Shown → Engine D d → Type 0

@@ -30,17 +30,17 @@ use Rattle.im_engine.specs.Kept.{OpenKept, LookKept, disk_of}
 use Rattle.im_engine.specs.Running.{IsLife}
 use Rattle.im_engine.specs.Stands.{StandsFor, SpellsCurrent}
 use Rattle.im_engine.specs.Told.{IsStep, Where}
-use Rattle.im_tool_raw.specs.declared.life_answers.Opening.TheVariants as openings
+use Rattle.im_tool_lines.specs.declared.life_answers.Opening.TheVariants as openings
 use Rattle.im_tool_lines.specs.declared.store_life.StoreLine.{StoreLine}
 use Rattle.im_tool_lines.specs.declared.store_life.StoreLine.TheVariants as lines
 use Rattle.im_tool_lines.specs.declared.store_life.LifeOptions.{LifeOptions}
 use Rattle.im_tool_lines.specs.declared.store_life.StoreLife.{StoreLife}
 use Rattle.im_tool_lines.specs.declared.store_script.StoreScript.{StoreScript}
-use Rattle.im_tool_raw.specs.declared.store_answers.StoreReply.{StoreReply}
-use Rattle.im_tool_raw.specs.declared.store_answers.StoreReply.TheVariants as replies
-use Rattle.im_tool_raw.specs.declared.store_answers.StoreAnswers.{StoreAnswers}
+use Rattle.im_tool_lines.specs.declared.store_answers.StoreReply.{StoreReply}
+use Rattle.im_tool_lines.specs.declared.store_answers.StoreReply.TheVariants as replies
+use Rattle.im_tool_lines.specs.declared.store_answers.StoreAnswers.{StoreAnswers}
 use Rattle.im_tool_drill.specs.declared.store_drilled.StoreDrilled.{StoreDrilled}
-use Rattle.im_tool_raw.specs.Stops.{IsArmedAll, HasCome, IsNextDisk, IsOpenedOr}
+use Rattle.im_tool_lines.specs.Stops.{IsArmedAll, HasCome, IsNextDisk, IsOpenedOr}
 use Rattle.im_tool_drill.specs.StoreLives.{IsConfigOf, gate_of}
 
 -- a life whose options are left out

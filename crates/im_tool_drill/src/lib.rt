@@ -12,7 +12,7 @@
 //!
 //! This crate stands on the engine's contracts over any disk, and on the model disk. Within a life it keeps the engine's fact (`IsLife`), at
 //! what the lines and replies so far have shown (`shown_in`), with some view of the machine of transactions (`GoesOn`). It is kept small, since
-//! its proof cannot begin before the engine's has ended: what needs no engine stands in `im_tool_lines` and `im_tool_raw`.
+//! its proof cannot begin before the engine's has ended: what needs no engine stands in `im_tool_lines`.
 #![tactic(auto)]
 
 mod store_drilled;

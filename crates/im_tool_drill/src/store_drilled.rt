@@ -2,7 +2,7 @@
 
 use im_base_model_disk::ModelDisk;
 use im_base_types::{Fault, Key, Rid};
-use im_tool_raw::StoreAnswers;
+use im_tool_lines::StoreAnswers;
 
 /// What the lives of a store answer, and what stands after the last.
 #[derive(Drop)]

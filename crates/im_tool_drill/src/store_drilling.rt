@@ -7,7 +7,7 @@ ghost use Rattle.im_base_types.specs.Changes.{Effect, apply_all};
 ghost use Rattle.im_base_types.specs.Lives.{Lives};
 ghost use Rattle.im_base_disk.specs.Disk.{three};
 ghost use Rattle.im_engine.specs.Stands.{StandsFor};
-ghost use Rattle.im_tool_raw.specs.StoreShown.{asked_in_each, EachStoreAnswered, AreStores};
+ghost use Rattle.im_tool_lines.specs.StoreShown.{asked_in_each, EachStoreAnswered, AreStores};
 ghost use Rattle.im_tool_drill.specs.StoreRuns.{IsRun};
 
 use crate::store_drilled::StoreDrilled;

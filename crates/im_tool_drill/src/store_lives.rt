@@ -8,9 +8,9 @@ ghost use Rattle.im_base_types.specs.Lives.{Shown, nothing_shown, StandsForMore}
 ghost use Rattle.im_base_disk.specs.Disk.{Files};
 ghost use Rattle.im_base_disk.specs.Runs.{IsSynced};
 ghost use Rattle.im_engine.specs.Stands.{StandsFor, Allowed};
-ghost use Rattle.im_tool_raw.specs.declared.store_answers.StoreReply.TheVariants.{Stopped};
-ghost use Rattle.im_tool_raw.specs.Answered.{AnsweredBy};
-ghost use Rattle.im_tool_raw.specs.StoreShown.{asked_by_life, shown_in, IsStoreReply, StoreAnswered};
+ghost use Rattle.im_tool_lines.specs.declared.store_answers.StoreReply.TheVariants.{Stopped};
+ghost use Rattle.im_tool_lines.specs.Answered.{AnsweredBy};
+ghost use Rattle.im_tool_lines.specs.StoreShown.{asked_by_life, shown_in, IsStoreReply, StoreAnswered};
 ghost use Rattle.im_tool_drill.specs.StoreLives.{in_32_bits, GoesOn, IsConfigOf, LineKept};
 ghost use Rattle.im_tool_drill.specs.StoreRuns.{IsOpening, IsLifeRun, AreLinesRun, IsLineRun, IsStepRun, IsLookRun, IsLastRun};
 
@@ -20,8 +20,10 @@ use im_base_steps::Step;
 use im_base_two_logs::Renamed;
 use im_base_types::{Fault, Key, PageNo, Rid};
 use im_engine::{BufferSize, Config, Engine, look};
-use im_tool_lines::{LifeOptions, StoreLife, StoreLine};
-use im_tool_raw::{Opening, StoreAnswers, StoreReply, arm_life, has_come, refused_opening};
+use im_tool_lines::{
+    LifeOptions, Opening, StoreAnswers, StoreLife, StoreLine, StoreReply, arm_life, has_come,
+    refused_opening,
+};
 use std::alloc::{AllocError, Global};
 use std::thread::Threads;
 

@@ -8,8 +8,7 @@ use im_base_types::Fault;
 use im_engine::BufferSize;
 use im_tool_drill::run_store_life;
 use im_tool_judge::{is_by_device, is_disturbed};
-use im_tool_lines::StoreLife;
-use im_tool_raw::{Opening, StoreAnswers, StoreReply};
+use im_tool_lines::{Opening, StoreAnswers, StoreLife, StoreReply};
 use std::alloc::{AllocError, Global};
 use std::thread::Threads;
 

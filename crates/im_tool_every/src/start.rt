@@ -12,8 +12,7 @@ use im_base_types::{Fault, Key, Rid};
 use im_engine::BufferSize;
 use im_tool_drill::{open_store, run_store_life};
 use im_tool_judge::{AskedEffect, Change, effects_asked};
-use im_tool_lines::{LifeOptions, StoreLife, StoreLine};
-use im_tool_raw::StoreReply;
+use im_tool_lines::{LifeOptions, StoreLife, StoreLine, StoreReply};
 use std::alloc::{AllocError, Global};
 use std::thread::Threads;
 

@@ -1,6 +1,6 @@
 -- Replies that are judged one by one.
 use Rattle.std.proofs.Common.{◌≡◌, ◌↔◌, ℕ, zero, suc, ◌+◌, ◌<◌, ◌||◌, Bool, List, [], ◌∷◌, length, drop, get_or, refl, sym, ap, subst, arith}
-use Rattle.im_tool_raw.specs.declared.store_answers.StoreReply.{StoreReply}
+use Rattle.im_tool_lines.specs.declared.store_answers.StoreReply.{StoreReply}
 use Rattle.im_tool_judge.specs.Disturbed.{AreDisturbed, IsNext, is_by_device}
 
 -- as many replies as undisturbed

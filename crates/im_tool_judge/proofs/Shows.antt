@@ -13,9 +13,9 @@ use Rattle.im_base_steps.specs.Calls.{asked_by}
 use Rattle.im_base_types.specs.Lives.{Running, Shown, Asked, idle, oldest, with_running, adds, pends, shown_change, answered, asks, effect_asked, all_acked, refused, breaks, cut_off}
 use Rattle.im_base_types.specs.Refusals.{memory, unfinished}
 use Rattle.im_tool_lines.specs.declared.store_life.StoreLine.{StoreLine}
-use Rattle.im_tool_raw.specs.declared.store_answers.StoreReply.{StoreReply}
-use Rattle.im_tool_raw.specs.StoreShown.{shown_after, shown_in}
-use Rattle.im_tool_raw.proofs.StoreShown.{shown_push}
+use Rattle.im_tool_lines.specs.declared.store_answers.StoreReply.{StoreReply}
+use Rattle.im_tool_lines.specs.StoreShown.{shown_after, shown_in}
+use Rattle.im_tool_lines.proofs.StoreShown.{shown_push}
 use Rattle.im_tool_judge.specs.declared.change.Change.{Change}
 use Rattle.im_tool_judge.specs.declared.change.AskedEffect.{AskedEffect}
 use Rattle.im_tool_judge.specs.declared.happened.Event.{Event}

@@ -3,10 +3,10 @@ use Rattle.std.specs.Prelude.{◌≡◌, ◌≢◌, ◌⊎◌, ◌||◌, Bool, t
 use Rattle.im_base_types.specs.declared.fault.Fault.TheVariants as faults
 use Rattle.im_base_steps.specs.declared.reply.Reply.TheVariants as said
 use Rattle.im_base_steps.specs.Calls.{told_by}
-use Rattle.im_tool_raw.specs.declared.life_answers.Opening.TheVariants as openings
-use Rattle.im_tool_raw.specs.declared.store_answers.StoreAnswers.{StoreAnswers}
-use Rattle.im_tool_raw.specs.declared.store_answers.StoreReply.{StoreReply}
-use Rattle.im_tool_raw.specs.declared.store_answers.StoreReply.TheVariants as replies
+use Rattle.im_tool_lines.specs.declared.life_answers.Opening.TheVariants as openings
+use Rattle.im_tool_lines.specs.declared.store_answers.StoreAnswers.{StoreAnswers}
+use Rattle.im_tool_lines.specs.declared.store_answers.StoreReply.{StoreReply}
+use Rattle.im_tool_lines.specs.declared.store_answers.StoreReply.TheVariants as replies
 
 -- whether a line is refused by the device
 abbrev pub is_by_device : StoreReply → Bool

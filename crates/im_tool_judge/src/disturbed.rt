@@ -6,7 +6,7 @@ ghost use Rattle.im_tool_judge.specs.Disturbed.{IsDisturbed, AreDisturbed, IsNex
 use crate::same_replies::says_same;
 use im_base_steps::Reply;
 use im_base_types::Fault;
-use im_tool_raw::{Opening, StoreAnswers, StoreReply};
+use im_tool_lines::{Opening, StoreAnswers, StoreReply};
 
 /// Whether a life in which one device call failed may answer so, where it answers as the first without that.
 pub fn is_disturbed(plain: &StoreAnswers, told: &StoreAnswers) -> bool

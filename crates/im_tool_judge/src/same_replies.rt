@@ -7,7 +7,7 @@ ghost use Rattle.im_tool_judge.specs.Replies.{key_in, kind_of, number_in};
 
 use im_base_steps::{Blocker, Reply};
 use im_base_types::{Key, Rid};
-use im_tool_raw::StoreReply;
+use im_tool_lines::StoreReply;
 
 /// Whether the replies to two lines say the same.
 pub(crate) fn says_same(told: &StoreReply, plain: &StoreReply) -> bool

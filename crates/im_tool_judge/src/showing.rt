@@ -9,7 +9,7 @@ ghost use Rattle.im_base_types.specs.Refusals.{memory, unfinished};
 ghost use Rattle.im_base_steps.specs.Calls.{asked_by, told_by};
 ghost use Rattle.im_base_types.specs.Faults.{number_of};
 ghost use Rattle.im_tool_lines.specs.declared.store_life.StoreLine.TheVariants as lines;
-ghost use Rattle.im_tool_raw.specs.StoreShown.{shown_after, shown_in};
+ghost use Rattle.im_tool_lines.specs.StoreShown.{shown_after, shown_in};
 ghost use Rattle.im_tool_judge.specs.Judged.{asked_in, change_of};
 ghost use Rattle.im_tool_judge.specs.Shows.{IsShown, IsFound, transaction_of_access, behind, running_from};
 
@@ -17,8 +17,7 @@ use crate::change::{AskedEffect, Change};
 use crate::happened::{Event, Found, Happened, find};
 use im_base_steps::{Reply, Step};
 use im_base_types::{Fault, Rid, TxnId};
-use im_tool_lines::StoreLine;
-use im_tool_raw::StoreReply;
+use im_tool_lines::{StoreLine, StoreReply};
 use std::alloc::{AllocError, Global};
 use std::mem;
 

@@ -4,3 +4,9 @@ pub mod SetFiles
 pub mod Reading
 pub mod StoreScripts
 pub mod StoreReading
+pub mod Lives
+pub mod Living
+pub mod RawRuns
+pub mod Answered
+pub mod Stops
+pub mod StoreShown

@@ -3,7 +3,7 @@
 use im_base_types::{PageKind, PageNo};
 use im_page::Header;
 use im_tool_drill::StoreDrilled;
-use im_tool_raw::{Opening, StoreAnswers, StoreReply};
+use im_tool_lines::{Opening, StoreAnswers, StoreReply};
 use im_tool_words::{entries_text, reply_text, report_text};
 use std::io;
 use std::io::Write;

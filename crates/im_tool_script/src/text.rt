@@ -6,8 +6,9 @@ use crate::store_text::{print_opening, print_store};
 use im_base_types::Fault;
 use im_engine::BufferSize;
 use im_tool_drill::drill_store;
-use im_tool_lines::{Script, ScriptError, StoreScript, is_raw};
-use im_tool_raw::{Drilled, LifeAnswers, RawReply, drill};
+use im_tool_lines::{
+    Drilled, LifeAnswers, RawReply, Script, ScriptError, StoreScript, drill, is_raw,
+};
 use std::alloc::{AllocError, Global};
 use std::io;
 use std::io::{Read, Write};

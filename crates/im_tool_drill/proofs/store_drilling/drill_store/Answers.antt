@@ -6,12 +6,12 @@ use Rattle.im_base_model_disk.specs.contracts.model_disk.ModelDiskDisk.TheImpl.{
 use Rattle.im_base_disk.specs.Disk.{Files, three}
 use Rattle.im_engine.specs.Stands.{StandsFor}
 use Rattle.im_tool_lines.specs.declared.store_life.StoreLife.{StoreLife}
-use Rattle.im_tool_raw.specs.declared.store_answers.StoreAnswers.{StoreAnswers}
-use Rattle.im_tool_raw.specs.StoreShown.{asked_in_each, EachStoreAnswered, AreStores}
+use Rattle.im_tool_lines.specs.declared.store_answers.StoreAnswers.{StoreAnswers}
+use Rattle.im_tool_lines.specs.StoreShown.{asked_in_each, EachStoreAnswered, AreStores}
 use Rattle.im_tool_drill.specs.StoreRuns.{AreLivesRun}
 use Rattle.im_tool_drill.proofs.NamedDisk.{named_ghosts}
 use Rattle.im_tool_drill.proofs.StoreRunning.{lives_run_push}
-use Rattle.im_tool_raw.proofs.StoreAsked.{store_lives_push, store_answered_push, stores_push}
+use Rattle.im_tool_lines.proofs.StoreAsked.{store_lives_push, store_answered_push, stores_push}
 use Rattle.im_tool_drill.proofs.store_drilling.drill_store.Goals as goal
 
 pub loop-life-init : goal.loop-life-init

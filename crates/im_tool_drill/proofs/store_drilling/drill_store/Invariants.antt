@@ -5,7 +5,7 @@ use Rattle.im_base_model_disk.specs.contracts.model_disk.ModelDiskDisk.TheImpl.{
 use Rattle.im_base_disk.specs.Disk.{three}
 use Rattle.im_base_disk.specs.Runs.{IsSynced}
 use Rattle.im_engine.specs.Stands.{StandsFor}
-use Rattle.im_tool_raw.specs.StoreShown.{asked_in_each, EachStoreAnswered, AreStores}
+use Rattle.im_tool_lines.specs.StoreShown.{asked_in_each, EachStoreAnswered, AreStores}
 use Rattle.im_tool_drill.specs.StoreRuns.{AreLivesRun}
 use Rattle.im_tool_drill.proofs.NamedDisk.{named_ghosts}
 use Rattle.im_tool_drill.proofs.store_drilling.drill_store.Given as goal

@@ -3,8 +3,8 @@ use Rattle.im_page.specs.declared.header.Header.{Header}
 use Rattle.im_base_model_disk.specs.declared.model_disk.ModelDisk.{ModelDisk}
 use Rattle.im_base_two_logs.specs.declared.renamed.Renamed.{Renamed}
 use Rattle.im_engine.proofs.Looked.{look_works, look_fails}
-use Rattle.im_tool_raw.specs.declared.store_answers.StoreReply.TheVariants as replies
-use Rattle.im_tool_raw.specs.Stops.{HasCome}
+use Rattle.im_tool_lines.specs.declared.store_answers.StoreReply.TheVariants as replies
+use Rattle.im_tool_lines.specs.Stops.{HasCome}
 use Rattle.im_tool_drill.proofs.StoreRunning.{look_run}
 use Rattle.im_tool_drill.proofs.StoreLooks.{looked_on, looked_as}
 use Rattle.im_tool_drill.proofs.NamedDisk.{named_ghosts}

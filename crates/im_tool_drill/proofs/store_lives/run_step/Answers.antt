@@ -1,7 +1,7 @@
 use Rattle.std.proofs.Common.{◌≡◌, true, refl, inl, inr, sym, ap, subst, ◌∙◌}
 use Rattle.im_base_model_disk.specs.declared.model_disk.ModelDisk.{ModelDisk}
 use Rattle.im_base_two_logs.specs.declared.renamed.Renamed.{Renamed}
-use Rattle.im_tool_raw.specs.Stops.{HasCome}
+use Rattle.im_tool_lines.specs.Stops.{HasCome}
 use Rattle.im_tool_drill.proofs.store_lives.run_step.Goals as goal
 
 pub returns-then-has_come-clause-run : goal.returns-then-has_come-clause-run

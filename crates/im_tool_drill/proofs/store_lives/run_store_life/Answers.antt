@@ -7,16 +7,16 @@ use Rattle.im_base_disk.specs.Disk.{Files}
 use Rattle.im_base_model_disk.specs.Model.{model_calls}
 use Rattle.im_engine.specs.Stands.{StandsFor, Allowed}
 use Rattle.im_engine.proofs.Named.{allowed_nameless}
-use Rattle.im_tool_raw.specs.declared.life_answers.Opening.TheVariants as openings
+use Rattle.im_tool_lines.specs.declared.life_answers.Opening.TheVariants as openings
 use Rattle.im_tool_lines.specs.declared.store_life.StoreLine.{StoreLine}
-use Rattle.im_tool_raw.specs.declared.store_answers.StoreReply.{StoreReply}
-use Rattle.im_tool_raw.specs.declared.store_answers.StoreReply.TheVariants.{Stopped}
-use Rattle.im_tool_raw.specs.Answered.{AnsweredBy}
-use Rattle.im_tool_raw.specs.Stops.{IsOpenedOr}
-use Rattle.im_tool_raw.specs.StoreShown.{shown_in, IsStoreReply}
+use Rattle.im_tool_lines.specs.declared.store_answers.StoreReply.{StoreReply}
+use Rattle.im_tool_lines.specs.declared.store_answers.StoreReply.TheVariants.{Stopped}
+use Rattle.im_tool_lines.specs.Answered.{AnsweredBy}
+use Rattle.im_tool_lines.specs.Stops.{IsOpenedOr}
+use Rattle.im_tool_lines.specs.StoreShown.{shown_in, IsStoreReply}
 use Rattle.im_tool_drill.specs.StoreRuns.{AreLinesRun}
-use Rattle.im_tool_raw.proofs.RawRunning.{opened_still}
-use Rattle.im_tool_raw.proofs.StoreShown.{shown_none}
+use Rattle.im_tool_lines.proofs.RawRunning.{opened_still}
+use Rattle.im_tool_lines.proofs.StoreShown.{shown_none}
 use Rattle.im_tool_drill.proofs.NamedDisk.{named_ghosts, left_named, own_seen, own_synced, own_working}
 use Rattle.im_tool_drill.proofs.StoreRunning.{lines_report}
 use Rattle.im_tool_drill.proofs.store_lives.run_store_life.Goals as goal

@@ -1,6 +1,6 @@
 use Rattle.std.proofs.Common.{sym, subst}
 use Rattle.im_tool_lines.specs.declared.store_life.StoreLine.{StoreLine}
-use Rattle.im_tool_raw.specs.declared.store_answers.StoreReply.TheVariants as replies
+use Rattle.im_tool_lines.specs.declared.store_answers.StoreReply.TheVariants as replies
 use Rattle.im_tool_drill.specs.StoreLives.{LineKept}
 use Rattle.im_tool_drill.proofs.NamedDisk.{named_ghosts}
 use Rattle.im_tool_drill.proofs.store_lives.run_store_line.Goals as goal

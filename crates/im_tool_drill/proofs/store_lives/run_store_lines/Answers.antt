@@ -2,15 +2,15 @@ use Rattle.std.proofs.lemmas.List.{take_more}
 use Rattle.std.proofs.Common.{inl, inr, ◌++◌, ◌≡◌, List, ℕ, ◌+◌, [], ◌∷◌, length, take, sym, ◌∙◌, ap, subst, length-append}
 use Rattle.im_base_types.specs.Lives.{Shown, nothing_shown}
 use Rattle.im_engine.specs.Stands.{Allowed}
-use Rattle.im_tool_raw.specs.declared.store_answers.StoreReply.{StoreReply}
+use Rattle.im_tool_lines.specs.declared.store_answers.StoreReply.{StoreReply}
 use Rattle.im_tool_lines.specs.declared.store_life.StoreLine.{StoreLine}
-use Rattle.im_tool_raw.specs.declared.store_answers.StoreReply.TheVariants.{Stopped}
-use Rattle.im_tool_raw.specs.Answered.{RepliedBy}
-use Rattle.im_tool_raw.specs.StoreShown.{shown_in, IsStoreReply}
+use Rattle.im_tool_lines.specs.declared.store_answers.StoreReply.TheVariants.{Stopped}
+use Rattle.im_tool_lines.specs.Answered.{RepliedBy}
+use Rattle.im_tool_lines.specs.StoreShown.{shown_in, IsStoreReply}
 use Rattle.im_tool_drill.specs.StoreLives.{GoesOn}
-use Rattle.im_tool_raw.proofs.Replied.{replied_push}
+use Rattle.im_tool_lines.proofs.Replied.{replied_push}
 use Rattle.im_tool_drill.specs.StoreRuns.{AreLinesRun}
-use Rattle.im_tool_raw.proofs.StoreShown.{shown_to, shown_whole}
+use Rattle.im_tool_lines.proofs.StoreShown.{shown_to, shown_whole}
 use Rattle.im_tool_drill.proofs.StoreRunning.{no_line_run, lines_run_push}
 use Rattle.im_tool_drill.proofs.NamedDisk.{named_ghosts}
 use Rattle.im_tool_drill.proofs.store_lives.run_store_lines.Goals as goal

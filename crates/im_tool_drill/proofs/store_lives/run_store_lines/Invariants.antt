@@ -1,8 +1,8 @@
 use Rattle.std.proofs.Common.{◌≡◌, List, length, take}
 use Rattle.im_base_types.specs.Changes.{Effect}
 use Rattle.im_base_types.specs.Lives.{nothing_shown}
-use Rattle.im_tool_raw.specs.Answered.{RepliedBy}
-use Rattle.im_tool_raw.specs.StoreShown.{shown_in, IsStoreReply}
+use Rattle.im_tool_lines.specs.Answered.{RepliedBy}
+use Rattle.im_tool_lines.specs.StoreShown.{shown_in, IsStoreReply}
 use Rattle.im_tool_drill.specs.StoreLives.{GoesOn}
 use Rattle.im_tool_drill.specs.StoreRuns.{AreLinesRun}
 use Rattle.im_tool_drill.proofs.NamedDisk.{named_ghosts}

@@ -1,6 +1,6 @@
 use Rattle.std.proofs.Common.{◌<◌, ◌≤◌, ◌⊎◌, inl, inr, length, take, sym, ◌∙◌, ap, subst, arith}
 use Rattle.im_base_types.specs.Lives.{Shown, nothing_shown}
-use Rattle.im_tool_raw.specs.StoreShown.{shown_in}
+use Rattle.im_tool_lines.specs.StoreShown.{shown_in}
 use Rattle.im_tool_judge.specs.Shows.{IsShown}
 use Rattle.im_tool_judge.proofs.Shows.{shown_more, shown_end}
 use Rattle.im_tool_judge.proofs.showing.effects_asked.Goals as goal
