@@ -12,7 +12,7 @@ use im_engine_index::{LockAnswer, fetch};
 use im_engine_locks::LockTable;
 use im_log::open_or_create;
 use im_page_writer::PageWriter;
-use im_tree_search::{Beside, Sight, locate};
+use im_tree_search::{Beside, Sight, leaf_for, value_of};
 use std::alloc::Global;
 
 /// A disk with a new log, and these pages.
@@ -58,7 +58,9 @@ pub fn found<D: Disk>(
     let mut found = 0u64;
     for round in 0..rounds {
         let number = scattered(round) % keys.max(1);
-        if locate(writer, disk, &key_of(number))? == Some(number) {
+        let key = key_of(number);
+        let leaf = leaf_for(writer, disk, &key)?;
+        if value_of(writer.page(leaf), &key) == Some(number) {
             found = found.wrapping_add(1);
         }
     }

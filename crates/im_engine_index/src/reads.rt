@@ -29,8 +29,7 @@ use im_page::Page;
 use im_page_pool::Frame;
 use im_page_writer::PageWriter;
 use im_tree_search::{
-    Beside, Sight, leaf_beside, next_entry_beside, next_in_leaf_beside, place_around,
-    prev_entry_beside, value_of,
+    Beside, Sight, leaf_beside, next_entry, next_in_leaf_beside, place_around, prev_entry, value_of,
 };
 
 // Asks the name after a key that is not there. Its leaf is held.
@@ -66,7 +65,7 @@ fn fetch_gap<D: Disk>(
 /// stands on the key's way or, of a key that is not there, where the walk to the next one comes to; then no lock was asked. Where the pages of the
 /// key's way are held, page 0 and the leaves after too, nothing is asked of the disk, whatever is answered (`quiet`).
 ///
-/// Refused as `im_tree_search::next_entry_beside` is, and `Memory` where the lock table wants it. After a refusal, `Wait` and `Die` nobody holds
+/// Refused as `im_tree_search::next_entry` is, and `Memory` where the lock table wants it. After a refusal, `Wait` and `Die` nobody holds
 /// another lock than before.
 pub fn fetch<D: Disk>(
     writer: &mut PageWriter,
@@ -116,7 +115,7 @@ fn found_from<D: Disk>(
     ensures kept { (pages : AllPages) → HasTreeBut D.Disk pages beside.entry writer.old disk.old
         → IsSound result (IfSeen (λ found. found ≡ first_in (start_at inclusive key.now) (walk (bodies_of pages))) (MeetsDone (bodies_of pages) (is_done beside.entry) (start_at inclusive key.now))) }
 {
-    let Sight::Seen(found) = next_entry_beside(writer, disk, key, inclusive, beside)? else {
+    let Sight::Seen(found) = next_entry(writer, disk, key, inclusive, beside)? else {
         return Ok(Sight::Hidden);
     };
     let Some(place) = found else {
@@ -166,7 +165,7 @@ fn found_below<D: Disk>(
     ensures kept { (pages : AllPages) → HasTreeBut D.Disk pages beside.entry writer.old disk.old
         → IsSound result (IfSeen (λ found. found ≡ last_in key.now (walk (bodies_of pages))) (MeetsDoneBack (bodies_of pages) (is_done beside.entry) key.now)) }
 {
-    let Sight::Seen(found) = prev_entry_beside(writer, disk, key, beside)? else {
+    let Sight::Seen(found) = prev_entry(writer, disk, key, beside)? else {
         return Ok(Sight::Hidden);
     };
     let Some(place) = found else {

@@ -27,7 +27,7 @@ use im_base_types::{Fault, Key, MOST_ENTRIES, Rid, TxnId, compare};
 use im_engine_locks::{LockTable, Name, scan_row};
 use im_page_writer::PageWriter;
 use im_theory_machine::Verdict;
-use im_tree_search::{Beside, NextKey, Sight, entries_between_beside};
+use im_tree_search::{Beside, NextKey, Sight, entries_between};
 use std::alloc::Global;
 
 // A limit, brought into 1 to 256.
@@ -86,7 +86,7 @@ fn lacks_keys(lo: &[u8], hi: &[u8]) -> bool
 /// the walk along the leaves comes to before it has `limit` entries; then no lock was asked. Where `hi` is below `lo` nothing is read, and so
 /// nothing is hidden and no lock is asked.
 ///
-/// Refused as `im_tree_search::entries_between_beside` is, and `Memory` where it is wanted for the locks. After a refusal, `Wait` and `Die` nobody
+/// Refused as `im_tree_search::entries_between` is, and `Memory` where it is wanted for the locks. After a refusal, `Wait` and `Die` nobody
 /// holds another lock than before.
 pub fn scan<D: Disk>(
     alloc: Global,
@@ -112,7 +112,7 @@ pub fn scan<D: Disk>(
     if lacks_keys(lo, hi) {
         return Ok(Sight::Seen(LockAnswer::Granted(Vec::new(alloc))));
     }
-    let Sight::Seen((list, behind)) = entries_between_beside(
+    let Sight::Seen((list, behind)) = entries_between(
         alloc,
         writer,
         disk,

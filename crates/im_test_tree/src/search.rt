@@ -7,7 +7,8 @@ use im_base_disk::Disk;
 use im_base_types::{Fault, Key, PageNo, Rid};
 use im_page_writer::PageWriter;
 use im_tree_search::{
-    NextKey, entries, entries_between, leaf_and_next, leaf_for, locate, next_entry, prev_entry,
+    Beside, NextKey, Sight, entries, entries_between, leaf_and_next, leaf_for, next_entry,
+    prev_entry, value_of,
 };
 use std::alloc::Global;
 use std::test::Fail;
@@ -49,6 +50,8 @@ enum Told {
     Range(bool, u8),
     // Whether the entries are those that were said.
     All(bool),
+    // Nothing is hidden beside no structure change.
+    Hidden,
     Refused(Fault),
 }
 
@@ -57,10 +60,13 @@ fn located<D: Disk>(writer: &mut PageWriter, disk: &mut D, key: &[u8]) -> Told
     requires ready { IsReadyWriter D.Disk writer.old disk.old }
     ensures ready { IsReadyWriter D.Disk writer.new disk.new }
 {
-    match locate(writer, disk, key) {
-        Ok(Some(rid)) => Told::Row(rid),
-        Ok(None) => Told::Absent,
-        Err(fault) => Told::Refused(fault),
+    let frame = match leaf_for(writer, disk, key) {
+        Ok(frame) => frame,
+        Err(fault) => return Told::Refused(fault),
+    };
+    match value_of(writer.page(frame), key) {
+        Some(rid) => Told::Row(rid),
+        None => Told::Absent,
     }
 }
 
@@ -80,9 +86,10 @@ fn next<D: Disk>(writer: &mut PageWriter, disk: &mut D, key: &[u8], inclusive: b
     requires ready { IsReadyWriter D.Disk writer.old disk.old }
     ensures ready { IsReadyWriter D.Disk writer.new disk.new }
 {
-    match next_entry(writer, disk, key, inclusive) {
-        Ok(None) => Told::Absent,
-        Ok(Some(place)) => {
+    match next_entry(writer, disk, key, inclusive, Beside::none()) {
+        Ok(Sight::Hidden) => Told::Hidden,
+        Ok(Sight::Seen(None)) => Told::Absent,
+        Ok(Sight::Seen(Some(place))) => {
             let leaf = writer.page(place.frame);
             Told::Entry(leaf.key(place.at)[0], leaf.value(place.at))
         }
@@ -95,9 +102,10 @@ fn prev<D: Disk>(writer: &mut PageWriter, disk: &mut D, key: &[u8]) -> Told
     requires ready { IsReadyWriter D.Disk writer.old disk.old }
     ensures ready { IsReadyWriter D.Disk writer.new disk.new }
 {
-    match prev_entry(writer, disk, key) {
-        Ok(None) => Told::Absent,
-        Ok(Some(place)) => {
+    match prev_entry(writer, disk, key, Beside::none()) {
+        Ok(Sight::Hidden) => Told::Hidden,
+        Ok(Sight::Seen(None)) => Told::Absent,
+        Ok(Sight::Seen(Some(place))) => {
             let leaf = writer.page(place.frame);
             Told::Entry(leaf.key(place.at)[0], leaf.value(place.at))
         }
@@ -147,8 +155,10 @@ fn range<D: Disk>(
     requires ready { IsReadyWriter D.Disk writer.old disk.old }
     ensures ready { IsReadyWriter D.Disk writer.new disk.new }
 {
-    let (list, next) = match entries_between(alloc, writer, disk, bounds.0, bounds.1, limit) {
-        Ok(found) => found,
+    let none = Beside::none();
+    let (list, next) = match entries_between(alloc, writer, disk, bounds.0, bounds.1, limit, none) {
+        Ok(Sight::Hidden) => return Told::Hidden,
+        Ok(Sight::Seen(found)) => found,
         Err(fault) => return Told::Refused(fault),
     };
     let behind = match next {

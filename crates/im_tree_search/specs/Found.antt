@@ -1,7 +1,6 @@
 -- What searches ask and answer.
-use Rattle.std.specs.Prelude.{◌≡◌, ◌<◌, ◌≤◌, ◌+◌, ◌++◌, ℕ, List, length, Option, Some}
-use Rattle.std.specs.FinMap.Entries.{find}
-use Rattle.im_base_types.specs.Keys.{Key, key_order}
+use Rattle.std.specs.Prelude.{◌≡◌, ◌<◌, ◌≤◌, ◌+◌, ◌++◌, ℕ, List, length, Some}
+use Rattle.im_base_types.specs.Keys.{Key}
 use Rattle.im_base_types.specs.Pages.{Entry}
 use Rattle.im_base_types.specs.Maps.{Start, first_in}
 use Rattle.im_base_disk.specs.declared.disk.Disk.{Ghosts}
@@ -10,7 +9,7 @@ use Rattle.im_page_pool.specs.declared.frame.Frame.{Frame}
 use Rattle.im_page_pool.specs.Pool.{PoolView, page_at, IsAt}
 use Rattle.im_page_writer.specs.declared.page_writer.PageWriter.{PageWriter}
 use Rattle.im_page_writer.specs.Outcome.{AllPages, AreLoaded, HasPages}
-use Rattle.im_theory_tree.specs.Levels.{Pages, Node, leaves_under, entries_in, the_root, height, walk}
+use Rattle.im_theory_tree.specs.Levels.{Pages, Node, leaves_under, entries_in, the_root, height}
 use Rattle.im_theory_tree.specs.Good.{first_page, IsGoodTree}
 use Rattle.im_theory_tree.specs.Search.{IsOnWay}
 use Rattle.im_theory_tree.specs.Lookups.{IsAhead}
@@ -70,11 +69,6 @@ pub record Descends (pages : AllPages) (key : Key) (h p old_gets : ℕ) (pool : 
 -- The key's leaf, by one get for each level.
 pub record IsLeafFor (pages : AllPages) (key : Key) (p old_gets : ℕ) (pool : PoolView) : Type 0 where
   pub reached : IsReached pages key 0 p pool
-  pub gets : pool.gets ≡ old_gets + (height (bodies_of pages) + 1)
-
--- The row id of the key on the walk, by one get for each level.
-pub record IsLocated (pages : AllPages) (key : Key) (rid : Option ℕ) (old_gets : ℕ) (pool : PoolView) : Type 0 where
-  pub answer : rid ≡ find key_order key (walk (bodies_of pages))
   pub gets : pool.gets ≡ old_gets + (height (bodies_of pages) + 1)
 
 -- The first entry past the start stands in the leaves from page p on, or nowhere; the leaves passed and those that may still come are together as many as there are pages.

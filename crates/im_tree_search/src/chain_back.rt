@@ -7,7 +7,7 @@ ghost use Rattle.im_page_writer.specs.PageWriter.{IsReadyWriter};
 ghost use Rattle.im_page_writer.specs.Outcome.{fault_of, AllPages, IsSound, Reads};
 ghost use Rattle.im_theory_tree.specs.Levels.{walk};
 ghost use Rattle.im_tree_search.specs.Backward.{ComesBack, IsAround, IsLastOf, MeetsDoneBack};
-ghost use Rattle.im_tree_search.specs.Found.{HasTree, entry_of};
+ghost use Rattle.im_tree_search.specs.Found.{entry_of};
 ghost use Rattle.im_tree_search.specs.HeldPages.{HoldsBack, IsQuiet};
 ghost use Rattle.im_tree_search.specs.Levels.{bodies_of};
 ghost use Rattle.im_tree_search.specs.Sights.{HasTreeBut, IfSeen, is_done};
@@ -18,7 +18,6 @@ use crate::entry_place::EntryPlace;
 use crate::leaf_chain::{count_beside, place_past};
 use crate::levels::page_beside;
 use crate::sight::Sight;
-use crate::sights::seen;
 use im_base_disk::Disk;
 use im_base_types::{Fault, PageNo};
 use im_page::Page;
@@ -89,12 +88,14 @@ fn last_along<D: Disk>(
     Ok(Sight::Seen(None))
 }
 
-/// Where the last entry below a key stands beside a structure change; `None` where the index has none. It is hidden where a page on the
-/// key's way is made, or a leaf that the walk back along the chain comes to. Page 0 is read for the page count alone, and hides nothing.
+/// Where the last entry below a key stands; `None` where the index has none. Nothing is copied: the entry's leaf lends the key as long
+/// as it is held. Beside a structure change it is hidden where a page on the key's way is made, or a leaf that the walk back along the
+/// chain comes to.
 ///
-/// Refused as `prev_entry` is.
+/// The search goes down to the key's leaf, and from there back along the leaf chain past leaves that have no such entry. It gets page 0,
+/// and is refused, as `next_entry`.
 #[tactic(auto, using(im_page_writer::proofs::Outcomes::then, im_page_writer::proofs::Outcomes::refused))]
-pub fn prev_entry_beside<D: Disk>(
+pub fn prev_entry<D: Disk>(
     writer: &mut PageWriter,
     disk: &mut D,
     key: &[u8],
@@ -116,26 +117,4 @@ pub fn prev_entry_beside<D: Disk>(
     }
     let prev = leaf.prev();
     last_along(writer, disk, prev, key, beside)
-}
-
-/// Where the last entry below a key stands; `None` where the index has none. Nothing is copied: the entry's leaf lends the key as long
-/// as it is held.
-///
-/// The search goes down to the key's leaf, and from there back along the leaf chain past leaves that have no such entry; it gets page 0
-/// only then, for the page count. Refused `NotAStore` as `leaf_for` is, where a page of the chain is no leaf or page 0 no meta page,
-/// and where the chain has as many leaves as there are pages; otherwise as `PageWriter::get` is. After `NotAStore` the writer goes
-/// on.
-pub fn prev_entry<D: Disk>(
-    writer: &mut PageWriter,
-    disk: &mut D,
-    key: &[u8],
-) -> Result<Option<EntryPlace>, Fault>
-    requires ready { IsReadyWriter D.Disk writer.old disk.old }
-    ensures outcome { Reads D.Disk writer.old disk.old writer.new disk.new (fault_of result) }
-    ensures kept { (pages : AllPages) → HasTree D.Disk pages writer.old disk.old
-        → IsSound result (λ found. option_map (entry_of writer.new.pool) found ≡ last_in key.now (walk (bodies_of pages))) }
-    ensures last { IfOk result (λ found. IfSome found (IsLastOf key.now writer.new.pool)) }
-    ensures quiet { (set : ℕ → Bool) → writer.old.failed ≡ false → HoldsBack key.now writer.old.pool set → IsQuiet writer.old disk.old writer.new disk.new }
-{
-    seen(prev_entry_beside(writer, disk, key, Beside::none()))
 }

@@ -10,7 +10,7 @@ ghost use Rattle.im_theory_tree.specs.Levels.{walk};
 ghost use Rattle.im_theory_tree.specs.Lookups.{IsAhead, IsFirstAt};
 ghost use Rattle.im_tree_search.specs.Levels.{bodies_of, start_at};
 ghost use Rattle.im_page_pool.specs.Pool.{Holds};
-ghost use Rattle.im_tree_search.specs.Found.{HasTree, IsFirstOf, entry_of};
+ghost use Rattle.im_tree_search.specs.Found.{IsFirstOf, entry_of};
 ghost use Rattle.im_tree_search.specs.HeldPages.{HoldsOn, IsQuiet};
 ghost use Rattle.im_tree_search.specs.Ranges.{IsParted};
 ghost use Rattle.im_tree_search.specs.Beside.{Comes, MeetsDone};
@@ -21,7 +21,6 @@ use crate::descent::leaf_beside;
 use crate::entry_place::EntryPlace;
 use crate::levels::page_beside;
 use crate::sight::Sight;
-use crate::sights::seen;
 use im_base_disk::Disk;
 use im_base_types::{Fault, PageKind, PageNo};
 use im_page::Page;
@@ -128,13 +127,16 @@ pub(crate) fn first_along<D: Disk>(
     Ok(Sight::Seen(None))
 }
 
-/// Where the first entry at or above a key stands beside a structure change (`inclusive`), or the first above it; `None` where the index
-/// has none. It is hidden where a page on the key's way is made, or a leaf that the walk along the chain comes to. Page 0 is read for the
-/// page count alone, and hides nothing.
+/// Where the first entry at or above a key stands (`inclusive`), or the first above it; `None` where the index has none. Nothing is
+/// copied: the entry's leaf lends the key as long as it is held. Beside a structure change it is hidden where a page on the key's way is
+/// made, or a leaf that the walk along the chain comes to.
 ///
-/// Refused as `next_entry` is.
+/// The search goes down to the key's leaf, and from there along the leaf chain past leaves that have no such entry; it gets page 0
+/// only then, for the page count alone, which hides nothing. Refused `NotAStore` as `leaf_for` is, where a page of the chain is no leaf or
+/// page 0 no meta page, and where the chain has as many leaves as there are pages; otherwise as `PageWriter::get` is. After `NotAStore` the
+/// writer goes on.
 #[tactic(auto, using(im_page_writer::proofs::Outcomes::then, im_page_writer::proofs::Outcomes::refused))]
-pub fn next_entry_beside<D: Disk>(
+pub fn next_entry<D: Disk>(
     writer: &mut PageWriter,
     disk: &mut D,
     key: &[u8],
@@ -157,27 +159,4 @@ pub fn next_entry_beside<D: Disk>(
     }
     let next = leaf.next();
     first_along(writer, disk, next, key, inclusive, beside)
-}
-
-/// Where the first entry at or above a key stands (`inclusive`), or the first above it; `None` where the index has none. Nothing is
-/// copied: the entry's leaf lends the key as long as it is held.
-///
-/// The search goes down to the key's leaf, and from there along the leaf chain past leaves that have no such entry; it gets page 0
-/// only then, for the page count. Refused `NotAStore` as `leaf_for` is, where a page of the chain is no leaf or page 0 no meta page,
-/// and where the chain has as many leaves as there are pages; otherwise as `PageWriter::get` is. After `NotAStore` the writer goes
-/// on.
-pub fn next_entry<D: Disk>(
-    writer: &mut PageWriter,
-    disk: &mut D,
-    key: &[u8],
-    inclusive: bool,
-) -> Result<Option<EntryPlace>, Fault>
-    requires ready { IsReadyWriter D.Disk writer.old disk.old }
-    ensures outcome { Reads D.Disk writer.old disk.old writer.new disk.new (fault_of result) }
-    ensures kept { (pages : AllPages) → HasTree D.Disk pages writer.old disk.old
-        → IsSound result (λ found. option_map (entry_of writer.new.pool) found ≡ first_in (start_at inclusive key.now) (walk (bodies_of pages))) }
-    ensures first { IfOk result (λ found. IfSome found (IsFirstOf (start_at inclusive key.now) writer.new.pool)) }
-    ensures quiet { (set : ℕ → Bool) → writer.old.failed ≡ false → HoldsOn key.now writer.old.pool set → IsQuiet writer.old disk.old writer.new disk.new }
-{
-    seen(next_entry_beside(writer, disk, key, inclusive, Beside::none()))
 }

@@ -1,9 +1,9 @@
 //! Where is a key, and which is next?
 //!
-//! Search: the leaf of a key, the row id of a key, the next entry, and all entries, over a writer of pages.
+//! Search: the leaf of a key, the next entry and the one before, the entries of a range, and all, over a writer of pages.
 //!
 //! - `leaf_for` goes from page 1 down to the leaf in whose range a key lies, by one get for each level.
-//! - `locate` answers the row id of a key.
+//! - `value_of` answers the row id of a key, of its leaf.
 //! - `next_entry` answers where the first entry at or above a key stands, or the first above it: it goes down to the key's
 //!   leaf, and from there along the leaf chain past leaves that have no such entry.
 //! - `prev_entry` answers where the last entry below a key stands: down to the key's leaf, and from there back along the leaf chain.
@@ -16,9 +16,8 @@
 //! - `root` gets page 1, `tree_page` gets a page that is to be of a level, and `has_level` tests whether a page is.
 //!
 //! Beside a structure change that is made page by page (`Beside`) a search goes on over the pages that are not made yet, and answers as over
-//! the tree from before the change; where it would have to read a page that is made, it answers `Hidden` (`leaf_beside`, `locate_beside`,
-//! `next_entry_beside`, `prev_entry_beside`, `next_in_leaf_beside`, `leaf_and_next_beside`, `entries_between_beside`). The others are these
-//! beside nothing.
+//! the tree from before the change; where it would have to read a page that is made, it answers `Hidden`. Where nothing is hidden, beside
+//! nothing (`Beside::none`), three have a form for who has no change: `leaf_for` of `leaf_beside`, `next_in_leaf` and `leaf_and_next`.
 //!
 //! The contract: where the pages are a good tree, all with their copies loaded (`HasTree`), the answers are those of the
 //! walk, the entries of the leaves from left to right; the number of gets is the root's level plus one; and no search is
@@ -56,18 +55,18 @@ pub mod search_laws;
 mod sight;
 mod sights;
 
-pub use chain_back::{place_around, prev_entry, prev_entry_beside};
+pub use chain_back::{place_around, prev_entry};
 pub use change_beside::Beside;
 pub use child_place::{Child, ChildPlace};
 pub use descent::{leaf_beside, leaf_for, root};
 pub use entry_place::EntryPlace;
-pub use leaf_chain::{next_entry, next_entry_beside};
+pub use leaf_chain::next_entry;
 pub use level_and_child::{child_in, child_of, level_of};
 pub use levels::{has_level, tree_page};
 pub use listing::entries;
-pub use lookup::{locate, locate_beside, value_of};
+pub use lookup::value_of;
 pub use next_key::{
     NextKey, leaf_and_next, leaf_and_next_beside, next_in_leaf, next_in_leaf_beside,
 };
-pub use range::{entries_between, entries_between_beside};
+pub use range::entries_between;
 pub use sight::Sight;

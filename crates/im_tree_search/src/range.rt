@@ -7,7 +7,6 @@ ghost use Rattle.im_theory_page.specs.Entry.{entry_at};
 ghost use Rattle.im_page_writer.specs.PageWriter.{IsReadyWriter};
 ghost use Rattle.im_page_writer.specs.Outcome.{fault_of, AllPages, IsSound, Lists};
 ghost use Rattle.im_tree_search.specs.Levels.{bodies_of};
-ghost use Rattle.im_tree_search.specs.Found.{HasTree};
 ghost use Rattle.im_tree_search.specs.NextKeys.{IsFar};
 ghost use Rattle.im_tree_search.specs.Ranges.{IsAlong, IsPart, Ranged, RangesAlong};
 ghost use Rattle.im_tree_search.specs.RangesBeside.{ScanMeetsDone};
@@ -19,7 +18,6 @@ use crate::leaf_chain::{count_beside, place_past};
 use crate::levels::page_beside;
 use crate::next_key::{NextKey, copied};
 use crate::sight::Sight;
-use crate::sights::seen;
 use im_base_disk::Disk;
 use im_base_types::{Fault, Key, MOST_ENTRIES, PageNo, Rid, compare, push_entry};
 use im_page::Page;
@@ -119,12 +117,16 @@ fn range_along<D: Disk>(
     Ok(Sight::Seen(Some(NextKey::End)))
 }
 
-/// Copies of the entries of a range beside a structure change, and the key after them, as `entries_between` answers them. It is hidden
-/// where a page on the way to `lo` is made, or a leaf that the walk along the chain comes to before it has `limit` entries.
+/// Copies of the entries from `lo` to `hi`, in rising key order, the first `limit` of them, and the key after them: where they are
+/// fewer than `limit`, and `hi` is not below `lo`, the first key above `hi`, copied, or the end; else nothing is said of it. Beside a
+/// structure change they are hidden where a page on the way to `lo` is made, or a leaf that the walk along the chain comes to before it has
+/// `limit` entries.
 ///
-/// Refused as `entries_between` is.
+/// It goes down once, to the leaf of `lo`, by one get for each level, and then along the leaf chain, by one get for each leaf, until
+/// a leaf has a key above `hi`. Refused `Memory` where there is no room for the list too; otherwise as `next_entry` is. After
+/// `NotAStore` and `Memory` the writer goes on.
 #[tactic(auto, using(im_page_writer::proofs::Outcomes::then, im_page_writer::proofs::Outcomes::refused))]
-pub fn entries_between_beside<D: Disk>(
+pub fn entries_between<D: Disk>(
     alloc: Global,
     writer: &mut PageWriter,
     disk: &mut D,
@@ -160,28 +162,4 @@ pub fn entries_between_beside<D: Disk>(
         return Ok(Sight::Hidden);
     };
     Ok(Sight::Seen((list, behind)))
-}
-
-/// Copies of the entries from `lo` to `hi`, in rising key order, the first `limit` of them, and the key after them: where they are
-/// fewer than `limit`, and `hi` is not below `lo`, the first key above `hi`, copied, or the end; else nothing is said of it.
-///
-/// It goes down once, to the leaf of `lo`, by one get for each level, and then along the leaf chain, by one get for each leaf, until
-/// a leaf has a key above `hi`. Refused `Memory` where there is no room for the list too; otherwise as `next_entry` is. After
-/// `NotAStore` and `Memory` the writer goes on.
-pub fn entries_between<D: Disk>(
-    alloc: Global,
-    writer: &mut PageWriter,
-    disk: &mut D,
-    lo: &[u8],
-    hi: &[u8],
-    limit: usize,
-) -> Result<(Vec<(Key, Rid)>, Option<NextKey>), Fault>
-    requires ready { IsReadyWriter D.Disk writer.old disk.old }
-    ensures outcome { Lists D.Disk writer.old disk.old writer.new disk.new (fault_of result) }
-    ensures kept { (pages : AllPages) → HasTree D.Disk pages writer.old disk.old
-        → IsSound result (λ x. Ranged (bodies_of pages) lo.now hi.now limit x.0.items x.1 writer.old.pool.gets writer.new.pool.gets) }
-    ensures far { IfOk result (λ x. IfSome x.1 IsFar) }
-    ensures most { IfOk result (λ x. length x.0.items ≤ limit) }
-{
-    seen(entries_between_beside(alloc, writer, disk, lo, hi, limit, Beside::none()))
 }

@@ -16,11 +16,11 @@ returns-in_default-clause-kept g c pages tree = at_hidden c.in_ok-found.field-0 
 
 pub returns-in_default-found-clause-kept : goal.returns-in_default-found-clause-kept
 returns-in_default-found-clause-kept g c pages tree =
-    none_found c.prev_entry_beside.new.writer.pool c.in-Seen.found (last_in c.args.key.now (walk (bodies_of pages))) c.in_default-found.not-Some
+    none_found c.prev_entry.new.writer.pool c.in-Seen.found (last_in c.args.key.now (walk (bodies_of pages))) c.in_default-found.not-Some
     (at_seen c.in_ok-found.field-0 c.in-Seen.found _ _ c.in-Seen.is (c.in_ok-found.ensures.kept pages tree))
 
 pub returns-clause-kept : goal.returns-clause-kept
 returns-clause-kept g c pages tree =
     ap (λ (e : Entry). Some e) c.in_ok-entry.ensures.entry
-    ∙ some_found c.prev_entry_beside.new.writer.pool c.in-Seen.found c.in-Some.place (last_in c.args.key.now (walk (bodies_of pages))) c.page.result.now c.in-Some.is
+    ∙ some_found c.prev_entry.new.writer.pool c.in-Seen.found c.in-Some.place (last_in c.args.key.now (walk (bodies_of pages))) c.page.result.now c.in-Some.is
     (at_seen c.in_ok-found.field-0 c.in-Seen.found _ _ c.in-Seen.is (c.in_ok-found.ensures.kept pages tree)) c.page.ensures.page
