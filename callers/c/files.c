@@ -1,5 +1,6 @@
 /* The files of a store, and the calls of the system that it asks for. Whether the files of a folder belong together is decided by what FileDisk asks too
- * (crates/im_files_guard), which is proved: here they are opened, locked, read and synced. The two are tested on one list, examples/imstore_guards_files. */
+ * (crates/im_files_guard), which is proved: here they are opened, locked, read and synced. The two are tested on one list,
+ * examples/programs/imstore_guards_files. */
 #define _GNU_SOURCE
 #include "files.h"
 #include <errno.h>

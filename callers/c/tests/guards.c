@@ -1,6 +1,6 @@
 /* Files that a stop leaves, which no guard refuses: page 0 whose write was cut so that its LSN is old and its count new; a log that was being made, whose bytes
  * are any. And a file of pages that was cut, or is older than its logs, is refused; and a close cuts the logs. What imstore guards too is in
- * examples/imstore_guards_files. guards FOLDER */
+ * examples/programs/imstore_guards_files. guards FOLDER */
 #define _GNU_SOURCE
 #include "test.h"
 #include <fcntl.h>

@@ -1,5 +1,5 @@
-/* The lines of imstore, as far as examples/imstore_guards_files and examples/failing_calls write them, over this library: so one list guards both, and
- * the calls of both fail in turn. lines FOLDER, or lines --check FOLDER. */
+/* The lines of imstore, as far as examples/programs/imstore_guards_files and examples/programs/failing_calls write them, over this library: so one list
+ * guards both, and the calls of both fail in turn. lines FOLDER, or lines --check FOLDER. */
 #include "test.h"
 #include <inttypes.h>
 
