@@ -13,6 +13,7 @@ of a structure change made page by page only that it goes on:
 """
 
 import os
+import pathlib
 import re
 
 MOST_ACTIVE = 64
@@ -267,6 +268,11 @@ def entries_in(lines):
     if not re.fullmatch(r"final \d+", lines[0]) or len(lines) != int(lines[0].split(" ")[1]) + 1:
         return None
     return dict(line.split(" ") for line in lines[1:])
+
+
+def scripts_in(folder, below):
+    """The scripts of the folders below this one that are named so, in the order of their names."""
+    return sorted(map(str, pathlib.Path(folder).glob(f"{below}/*.script")), key=os.path.basename)
 
 
 def in_order(pool, work, cases, size):
