@@ -1,5 +1,5 @@
 -- Steps that change one page or two, among the images.
-use Rattle.std.proofs.Common.{◌≡◌, ℕ, zero, suc, ◌≤◌, List, Some, sym, ap, subst, ◌∙◌, arith}
+use Rattle.std.proofs.Common.{◌≡◌, ℕ, zero, suc, ◌≤◌, Bool, List, Some, sym, ap, subst, ◌∙◌, arith}
 use Rattle.im_base_types.specs.Pages.{Body, Page}
 use Rattle.im_theory_log.specs.Tree.{with_body}
 use Rattle.im_base_types.specs.declared.page_kind.PageKind.TheVariants.{Free}
@@ -107,7 +107,7 @@ pub unlinked_same : (new pages : Pages) (prev next : ℕ) → SamePages new page
 unlinked_same new pages prev next h = prev_same (linked_next new prev next) (linked_next pages prev next) next prev (next_same new pages prev next h)
 
 -- a leaf that is parted, and the link after it
-pub leaf_then_link : (a b c : List Numbered) (page : Body) (parent p q n : ℕ) (pages : Pages) → PartsLeaf a b page parent p q n → Becomes b c (λ h. linked_prev h page.next q)
+pub leaf_then_link : {dense : Bool} (a b c : List Numbered) (page : Body) (parent p q n : ℕ) (pages : Pages) → PartsLeaf dense a b page parent p q n → Becomes b c (λ h. linked_prev h page.next q)
     → held pages a p ≡ page → SamePages (held pages c) (leaf_split_pages (held pages a) parent p q n)
 leaf_then_link a b c page parent p q n pages parts linked page_is =
     subst (λ (x : Body). SamePages (held pages c) (linked_prev (leaf_parted_pages (held pages a) parent p q n) x.next q)) (sym page_is)

@@ -1,5 +1,5 @@
 -- After a split of a key's leaf among the images: its way leads to a leaf with room.
-use Rattle.std.proofs.Common.{◌≡◌, ◌≢◌, ℕ, zero, suc, ◌≤◌, true, List, ◌∷◌, take, drop, Some, refl, sym, ap, subst, ◌∙◌, ⊎_elim}
+use Rattle.std.proofs.Common.{◌≡◌, ◌≢◌, ℕ, zero, suc, ◌≤◌, true, Bool, List, ◌∷◌, take, drop, Some, refl, sym, ap, subst, ◌∙◌, ⊎_elim}
 use Rattle.im_base_types.specs.Keys.{Key, IsBelow}
 use Rattle.im_base_types.specs.Pages.{Entry, Body}
 use Rattle.im_theory_log.specs.Tree.{with_body}
@@ -50,12 +50,12 @@ room_at old new spare key es p q n m left right well keeps g ways half =
     }))
     half
 
-pub leaf_has_room : (a b c : List Numbered) (page : Body) (parent p q n m : ℕ) (key : Key) (pages : Pages) (spare : List ℕ) → PartsLeaf a b page parent p q n
+pub leaf_has_room : {dense : Bool} (a b c : List Numbered) (page : Body) (parent p q n m : ℕ) (key : Key) (pages : Pages) (spare : List ℕ) → PartsLeaf dense a b page parent p q n
     → Becomes b c (λ h. linked_prev h page.next q) → Rises page.entries → IsHalf (entry_at page.entries n).0 key p q m
     → IsGoodTree (held pages a) (q ∷ spare) → IsOnWay (held pages a) (suc zero) key parent → IsChild (held pages a parent) key p → held pages a p ≡ page
     → HasRoomIn (held pages a) (held pages c) spare key p m
-leaf_has_room a b c page parent p q n m key pages spare parts linked rises half good way goes page_is =
-    subst (λ (y : Body). PartsLeaf a b y parent p q n → Becomes b c (λ h. linked_prev h y.next q) → Rises y.entries → IsHalf (entry_at y.entries n).0 key p q m
+leaf_has_room {dense} a b c page parent p q n m key pages spare parts linked rises half good way goes page_is =
+    subst (λ (y : Body). PartsLeaf dense a b y parent p q n → Becomes b c (λ h. linked_prev h y.next q) → Rises y.entries → IsHalf (entry_at y.entries n).0 key p q m
     → HasRoomIn (held pages a) (held pages c) spare key p m) page_is
     (λ parts0 linked0 rises0 half0.
     let new_is = leaf_then_link a b c (held pages a p) parent p q n pages parts0 linked0 refl in
@@ -65,11 +65,11 @@ leaf_has_room a b c page parent p q n m key pages spare parts linked rises half 
     (key_leaf_split (held pages a) (held pages c) spare key parent p q n split) p (key_leaf_ways (held pages a) (held pages c) spare key parent p q n split) half0)
     parts linked rises half
 
-pub root_has_room : (a b : List Numbered) (page : Body) (l r n m : ℕ) (key : Key) (pages : Pages) (spare : List ℕ) → PartsRootLeaf a b page l r n → Rises page.entries
+pub root_has_room : {dense : Bool} (a b : List Numbered) (page : Body) (l r n m : ℕ) (key : Key) (pages : Pages) (spare : List ℕ) → PartsRootLeaf dense a b page l r n → Rises page.entries
     → IsHalf (entry_at page.entries n).0 key l r m → IsGoodTree (held pages a) (l ∷ r ∷ spare) → height (held pages a) ≡ zero → held pages a 1 ≡ page
     → HasRoomIn (held pages a) (held pages b) spare key 1 m
-root_has_room a b page l r n m key pages spare parts rises half good tall page_is =
-    subst (λ (y : Body). PartsRootLeaf a b y l r n → Rises y.entries → IsHalf (entry_at y.entries n).0 key l r m → HasRoomIn (held pages a) (held pages b) spare key 1 m) page_is
+root_has_room {dense} a b page l r n m key pages spare parts rises half good tall page_is =
+    subst (λ (y : Body). PartsRootLeaf dense a b y l r n → Rises y.entries → IsHalf (entry_at y.entries n).0 key l r m → HasRoomIn (held pages a) (held pages b) spare key 1 m) page_is
     (λ parts0 rises0 half0.
     let split = root_leaf_step (held pages a) (held pages b) spare l r n good tall rises0 parts0.at (parts0.pages pages refl) in
     let f = split.pages_split in
@@ -78,11 +78,11 @@ root_has_room a b page l r n m key pages spare parts rises half good tall page_i
     parts rises half
 
 -- the leaf after a leaf that is split is a leaf still
-pub next_still_leaf : (a b : List Numbered) (page : Body) (parent p q n : ℕ) (key : Key) (pages : Pages) (spare : List ℕ) → PartsLeaf a b page parent p q n
+pub next_still_leaf : {dense : Bool} (a b : List Numbered) (page : Body) (parent p q n : ℕ) (key : Key) (pages : Pages) (spare : List ℕ) → PartsLeaf dense a b page parent p q n
     → IsGoodTree (held pages a) (q ∷ spare) → IsOnWay (held pages a) (suc zero) key parent → IsChild (held pages a parent) key p → held pages a p ≡ page
     → 1 ≤ page.next → (held pages b page.next).kind ≡ Leaf
-next_still_leaf a b page parent p q n key pages spare parts good way goes page_is =
-    subst (λ (y : Body). PartsLeaf a b y parent p q n → 1 ≤ y.next → (held pages b y.next).kind ≡ Leaf) page_is
+next_still_leaf {dense} a b page parent p q n key pages spare parts good way goes page_is =
+    subst (λ (y : Body). PartsLeaf dense a b y parent p q n → 1 ≤ y.next → (held pages b y.next).kind ≡ Leaf) page_is
     (λ parts0 some.
     let h : Pages = held pages a in
     let apart = leaf_apart h spare key parent p q good way goes in

@@ -1,5 +1,5 @@
 -- The pages of an inner page's split that the code makes are those of a split of the tree.
-use Rattle.std.proofs.Common.{◌≡◌, ℕ, suc, ◌+◌, List, [], ◌∷◌, take, drop, refl, sym, ap, ◌∙◌, arith}
+use Rattle.std.proofs.Common.{◌≡◌, ℕ, suc, ◌+◌, false, List, [], ◌∷◌, take, drop, refl, sym, ap, ◌∙◌, arith}
 use Rattle.im_base_types.specs.Keys.{Key}
 use Rattle.im_base_types.specs.Pages.{Body}
 use Rattle.im_theory_log.specs.Tree.{with_body, with_entries}
@@ -96,7 +96,7 @@ module _ (pages new : Pages) (h parent p q n : ℕ) (apart : InnerApart parent p
 
 -- the images of an inner page's split, in a good tree, are a split of the page on the key's way
 pub inner_step : (pages new : Pages) (spare : List ℕ) (h : ℕ) (key : Key) (parent p q n : ℕ) → IsGoodTree pages (q ∷ spare) → IsOnWay pages (suc (suc h)) key parent
-    → IsChild (pages parent) key p → Rises (pages parent).entries → Rises (pages p).entries → SplitsAt Inner (pages p) n → SamePages new (inner_split_pages pages parent p q n)
+    → IsChild (pages parent) key p → Rises (pages parent).entries → Rises (pages p).entries → SplitsAt false Inner (pages p) n → SamePages new (inner_split_pages pages parent p q n)
     → SplitsKeyInner pages new spare h key parent p q n
 inner_step pages new spare h key parent p q n good way child parent_rises rises at is =
     let down = way_inner pages h key p (step_way pages (suc h) key parent p way child) in

@@ -1,5 +1,5 @@
 -- The pages of a leaf's split that the code makes are those of a split of the tree.
-use Rattle.std.proofs.Common.{◌≡◌, ℕ, zero, suc, ◌+◌, ◌≤◌, List, [], ◌∷◌, ◌++◌, take, drop, refl, sym, ap, subst, ◌∙◌, arith}
+use Rattle.std.proofs.Common.{◌≡◌, ℕ, zero, suc, ◌+◌, ◌≤◌, Bool, List, [], ◌∷◌, ◌++◌, take, drop, refl, sym, ap, subst, ◌∙◌, arith}
 use Rattle.std.proofs.lemmas.List.{map-append}
 use Rattle.im_base_types.specs.Keys.{Key}
 use Rattle.im_base_types.specs.Pages.{Body}
@@ -163,8 +163,8 @@ module _ (pages new : Pages) (parent p q n : ℕ) (apart : LeafApart pages paren
           (links_of (leaf_first x) (new x) (e ∙ at_other leaf_second p leaf_left x l ∙ at_other leaf_first q leaf_right x r))
 
 -- the images of a leaf's split, in a good tree, are a split of the key's leaf
-pub leaf_step : (pages new : Pages) (spare : List ℕ) (key : Key) (parent p q n : ℕ) → IsGoodTree pages (q ∷ spare) → IsOnWay pages (suc zero) key parent → IsChild (pages parent) key p
-    → Rises (pages parent).entries → Rises (pages p).entries → SplitsAt Leaf (pages p) n → SamePages new (leaf_split_pages pages parent p q n)
+pub leaf_step : {dense : Bool} (pages new : Pages) (spare : List ℕ) (key : Key) (parent p q n : ℕ) → IsGoodTree pages (q ∷ spare) → IsOnWay pages (suc zero) key parent → IsChild (pages parent) key p
+    → Rises (pages parent).entries → Rises (pages p).entries → SplitsAt dense Leaf (pages p) n → SamePages new (leaf_split_pages pages parent p q n)
     → SplitsKeyLeaf pages new spare key parent p q n
 leaf_step pages new spare key parent p q n good way child parent_rises rises at is = record {
   good = good;

@@ -1,5 +1,5 @@
 -- The pages of a split, put among the images.
-use Rattle.std.proofs.Common.{◌≡◌, ℕ, ◌+◌, List, [], ◌∷◌, take, drop, Some, sym, ap, subst, ◌∙◌}
+use Rattle.std.proofs.Common.{◌≡◌, ℕ, ◌+◌, Bool, List, [], ◌∷◌, take, drop, Some, sym, ap, subst, ◌∙◌}
 use Rattle.im_base_types.specs.Pages.{Body, Page}
 use Rattle.im_theory_log.specs.Tree.{with_body, with_entries}
 use Rattle.im_theory_page.specs.Entry.{entry_at, Rises}
@@ -21,8 +21,8 @@ above_is h parent p q n page old_above above page_is above_was now =
     ∙ ap (λ (b : Body). with_separator b (entry_at page.body.entries n).0 q) (sym above_was)
     ∙ ap (λ (b : Body). with_separator (h parent) (entry_at b.entries n).0 q) (sym page_is)
 
-pub parts_leaf : (xs new : List Numbered) (page old_left old_right old_above left right above : Page) (parent p q n : ℕ) → IsRising xs → image_of xs parent ≡ Some old_above → Rises old_above.body.entries
-    → LeafSplit page old_left old_right old_above left right above p q n → new ≡ put_three parent above q right p left xs → PartsLeaf xs new page.body parent p q n
+pub parts_leaf : {dense : Bool} (xs new : List Numbered) (page old_left old_right old_above left right above : Page) (parent p q n : ℕ) → IsRising xs → image_of xs parent ≡ Some old_above → Rises old_above.body.entries
+    → LeafSplit dense page old_left old_right old_above left right above p q n → new ≡ put_three parent above q right p left xs → PartsLeaf dense xs new page.body parent p q n
 parts_leaf xs new page old_left old_right old_above left right above parent p q n up there rises split is = record {
   at = split.at;
   rises = λ pages. subst (λ (b : Body). Rises b.entries) (sym (held_there pages xs parent old_above there)) rises;
@@ -60,8 +60,8 @@ parts_inner xs new page old_left old_right old_above left right above parent p q
       (ap (λ (x : Page). x.body) split.left ∙ ap (λ (b : Body). with_entries b (take n b.entries)) (sym page_is))));
 }
 
-pub parts_root_leaf : (xs new : List Numbered) (page old_root old_left old_right root left right : Page) (l r n : ℕ) → IsRising xs
-    → RootLeafSplit page old_root old_left old_right root left right l r n → new ≡ put_three 1 root r right l left xs → PartsRootLeaf xs new page.body l r n
+pub parts_root_leaf : {dense : Bool} (xs new : List Numbered) (page old_root old_left old_right root left right : Page) (l r n : ℕ) → IsRising xs
+    → RootLeafSplit dense page old_root old_left old_right root left right l r n → new ≡ put_three 1 root r right l left xs → PartsRootLeaf dense xs new page.body l r n
 parts_root_leaf xs new page old_root old_left old_right root left right l r n up split is = record {
   at = split.at;
   kept = subst (KeepsAll xs) (sym is) (three_keep 1 root r right l left xs up);

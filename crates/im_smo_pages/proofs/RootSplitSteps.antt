@@ -1,5 +1,5 @@
 -- The pages of a root's split that the code makes are those of a split of the tree.
-use Rattle.std.proofs.Common.{◌≡◌, ℕ, zero, suc, ◌+◌, ◌≤◌, List, [], ◌∷◌, take, drop, refl, sym, ap, subst, ◌∙◌, arith}
+use Rattle.std.proofs.Common.{◌≡◌, ℕ, zero, suc, ◌+◌, ◌≤◌, Bool, false, List, [], ◌∷◌, take, drop, refl, sym, ap, subst, ◌∙◌, arith}
 use Rattle.im_base_types.specs.Pages.{Body}
 use Rattle.im_theory_log.specs.Tree.{with_body, with_entries}
 use Rattle.im_base_types.specs.declared.page_kind.PageKind.TheVariants.{Leaf, Inner}
@@ -78,7 +78,7 @@ module _ (pages new : Pages) (l r n : ℕ) (apart : RootApart l r) (is : SamePag
   }
 
 -- the images of the split of a root that is a leaf
-pub root_leaf_step : (pages new : Pages) (spare : List ℕ) (l r n : ℕ) → IsGoodTree pages (l ∷ r ∷ spare) → height pages ≡ zero → Rises (pages 1).entries → SplitsAt Leaf (pages 1) n
+pub root_leaf_step : {dense : Bool} (pages new : Pages) (spare : List ℕ) (l r n : ℕ) → IsGoodTree pages (l ∷ r ∷ spare) → height pages ≡ zero → Rises (pages 1).entries → SplitsAt dense Leaf (pages 1) n
     → SamePages new (root_leaf_split_pages pages l r n) → SplitsKeyRootLeaf pages new spare l r n
 root_leaf_step pages new spare l r n good tall rises at is = record {
   good = good;
@@ -139,7 +139,7 @@ module _ (pages new : Pages) (h l r n : ℕ) (apart : RootApart l r) (kind : (pa
           ∙ at_other (with_body pages 1 root_inner_above) r root_inner_right x (not_first x r [] (not_later x l (r ∷ []) t))
 
 -- the images of the split of a root that is an inner page
-pub root_inner_step : (pages new : Pages) (spare : List ℕ) (h l r n : ℕ) → IsGoodTree pages (l ∷ r ∷ spare) → height pages ≡ suc h → SplitsAt Inner (pages 1) n
+pub root_inner_step : (pages new : Pages) (spare : List ℕ) (h l r n : ℕ) → IsGoodTree pages (l ∷ r ∷ spare) → height pages ≡ suc h → SplitsAt false Inner (pages 1) n
     → SamePages new (root_inner_split_pages pages l r n) → SplitsKeyRootInner pages new spare h l r n
 root_inner_step pages new spare h l r n good tall at is = record {
   good = good;

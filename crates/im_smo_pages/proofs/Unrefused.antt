@@ -1,12 +1,11 @@
 -- A page of a good tree that lacks room can be split, under a parent with room.
-use Rattle.std.proofs.Common.{◌≡◌, ℕ, zero, suc, ◌+◌, ◌<◌, ◌≤◌, true, false, List, ◌∷◌, ◌++◌, length, map, take, drop, Some, sym, ap, subst, ◌∙◌, arith}
+use Rattle.std.proofs.Common.{◌≡◌, ℕ, zero, suc, ◌+◌, ◌<◌, ◌≤◌, Bool, true, false, List, ◌∷◌, ◌++◌, length, map, take, drop, Some, sym, ap, subst, ◌∙◌, arith}
 use Rattle.im_base_types.specs.Keys.{Key, IsBelow}
 use Rattle.im_base_types.specs.Pages.{Entry}
 use Rattle.im_base_types.specs.declared.page_kind.PageKind.TheVariants.{Leaf, Inner}
 use Rattle.im_theory_page.specs.Entry.{entry_at, Rises}
 use Rattle.im_theory_page.specs.Child.{IsChild}
-use Rattle.im_theory_page.specs.Split.{half_page, IsSplitPoint, HasRoom}
-use Rattle.im_theory_page.proofs.SplitLemmas.{half_is_bound}
+use Rattle.im_theory_page.specs.Split.{HasRoom}
 use Rattle.im_theory_page.proofs.Order.{below_irrefl}
 use Rattle.im_theory_tree.specs.Levels.{Pages, Node, child_of, below, leaves_under, height, the_root}
 use Rattle.im_theory_tree.specs.Good.{AllOf, AtOrAbove, IsUnder, InRange, next_bound, IsAfter, AreOrdered, IsGoodTree}
@@ -14,7 +13,8 @@ use Rattle.im_theory_tree.specs.Search.{IsOnWay}
 use Rattle.im_theory_tree.specs.Halves.{FitsPage, LacksRoom, SplitsWell}
 use Rattle.im_theory_tree.proofs.Cited.{AllOf-append, AllOf-from, ordered_right, leaves_descend, step_way, split_at, Ascends, ascends_from_rises, at_all as all_place, splits_well, separator_after, ChildPlace, child_place, children_were, below_at, high_behind, ordered_bounds, bounds_of_level, separator_in_range, way_leaf, way_inner}
 use Rattle.im_smo_pages.specs.Bodies.{HasNoKey}
-use Rattle.im_smo_pages.specs.Parts.{CanHalve, CanSplit}
+use Rattle.im_smo_pages.specs.Parts.{split_bound, IsPoint, CanHalve, CanSplit}
+use Rattle.im_smo_pages.proofs.PartLemmas.{is_bound}
 
 -- keys on both sides of another one
 no_key_between : (u v : List Entry) (s : Key) → AllOf (λ (x : Entry). IsBelow x.0 s) u → AllOf (λ (x : Entry). IsBelow s x.0) v → HasNoKey (u ++ v) s
@@ -77,12 +77,12 @@ inner_separator_is_new pages spare h key parent p n good way child parent_rises 
     subst (λ x. HasNoKey (pages x).entries (entry_at (pages p).entries n).0) way.page (subst (λ x. HasNoKey (pages way.node.page).entries (entry_at (pages x).entries n).0) place.page none)
 
 -- a leaf that lacks room, under a parent with room
-pub leaf_can_split : (pages : Pages) (spare : List ℕ) (key : Key) (parent p q : ℕ) (e : Entry) → IsGoodTree pages spare → IsOnWay pages (suc zero) key parent → IsChild (pages parent) key p
+pub leaf_can_split : (dense : Bool) (pages : Pages) (spare : List ℕ) (key : Key) (parent p q : ℕ) (e : Entry) → IsGoodTree pages spare → IsOnWay pages (suc zero) key parent → IsChild (pages parent) key p
     → Rises (pages parent).entries → Rises (pages p).entries → FitsPage true (pages p).entries → LacksRoom true (pages p).entries e
-    → ((n : ℕ) → IsSplitPoint half_page true (pages p).entries n → HasRoom false (pages parent).entries ((entry_at (pages p).entries n).0, q))
-    → CanSplit Leaf (pages p) (pages parent) q
-leaf_can_split pages spare key parent p q e good way child parent_rises rises fits lacks room =
-    let well : (n : ℕ) → IsSplitPoint half_page true (pages p).entries n → SplitsWell true (pages p).entries n = λ n point. splits_well half_page true (pages p).entries n e half_is_bound fits point lacks in
+    → ((n : ℕ) → IsPoint dense true (pages p) n → HasRoom false (pages parent).entries ((entry_at (pages p).entries n).0, q))
+    → CanSplit dense Leaf (pages p) (pages parent) q
+leaf_can_split dense pages spare key parent p q e good way child parent_rises rises fits lacks room =
+    let well : (n : ℕ) → IsPoint dense true (pages p) n → SplitsWell true (pages p).entries n = λ n point. splits_well (split_bound true dense (pages p).next) true (pages p).entries n e (is_bound true dense (pages p).next) fits point lacks in
     record {
       halves = record { kind = (way_leaf pages key p (step_way pages zero key parent p way child)).0; well = well };
       takes = λ n point. record {
@@ -95,10 +95,10 @@ leaf_can_split pages spare key parent p q e good way child parent_rises rises fi
 -- an inner page that lacks room, under a parent with room
 pub inner_can_split : (pages : Pages) (spare : List ℕ) (h : ℕ) (key : Key) (parent p q : ℕ) (e : Entry) → IsGoodTree pages spare → IsOnWay pages (suc (suc h)) key parent
     → IsChild (pages parent) key p → Rises (pages parent).entries → FitsPage false (pages p).entries → LacksRoom false (pages p).entries e
-    → ((n : ℕ) → IsSplitPoint half_page false (pages p).entries n → HasRoom false (pages parent).entries ((entry_at (pages p).entries n).0, q))
-    → CanSplit Inner (pages p) (pages parent) q
+    → ((n : ℕ) → IsPoint false false (pages p) n → HasRoom false (pages parent).entries ((entry_at (pages p).entries n).0, q))
+    → CanSplit false Inner (pages p) (pages parent) q
 inner_can_split pages spare h key parent p q e good way child parent_rises fits lacks room =
-    let well : (n : ℕ) → IsSplitPoint half_page false (pages p).entries n → SplitsWell false (pages p).entries n = λ n point. splits_well half_page false (pages p).entries n e half_is_bound fits point lacks in
+    let well : (n : ℕ) → IsPoint false false (pages p) n → SplitsWell false (pages p).entries n = λ n point. splits_well (split_bound false false (pages p).next) false (pages p).entries n e (is_bound false false (pages p).next) fits point lacks in
     record {
       halves = record { kind = (way_inner pages h key p (step_way pages (suc h) key parent p way child)).0; well = well };
       takes = λ n point. record {
@@ -109,8 +109,8 @@ inner_can_split pages spare h key parent p q e good way child parent_rises fits 
     }
 
 -- a page that lacks room, by its kind
-pub leaf_can_halve : (pages : Pages) (p : ℕ) (e : Entry) → (pages p).kind ≡ Leaf → FitsPage true (pages p).entries → LacksRoom true (pages p).entries e → CanHalve Leaf (pages p)
-leaf_can_halve pages p e kind fits lacks = record { kind = kind; well = λ n point. splits_well half_page true (pages p).entries n e half_is_bound fits point lacks }
+pub leaf_can_halve : (dense : Bool) (pages : Pages) (p : ℕ) (e : Entry) → (pages p).kind ≡ Leaf → FitsPage true (pages p).entries → LacksRoom true (pages p).entries e → CanHalve dense Leaf (pages p)
+leaf_can_halve dense pages p e kind fits lacks = record { kind = kind; well = λ n point. splits_well (split_bound true dense (pages p).next) true (pages p).entries n e (is_bound true dense (pages p).next) fits point lacks }
 
-pub inner_can_halve : (pages : Pages) (p : ℕ) (e : Entry) → (pages p).kind ≡ Inner → FitsPage false (pages p).entries → LacksRoom false (pages p).entries e → CanHalve Inner (pages p)
-inner_can_halve pages p e kind fits lacks = record { kind = kind; well = λ n point. splits_well half_page false (pages p).entries n e half_is_bound fits point lacks }
+pub inner_can_halve : (pages : Pages) (p : ℕ) (e : Entry) → (pages p).kind ≡ Inner → FitsPage false (pages p).entries → LacksRoom false (pages p).entries e → CanHalve false Inner (pages p)
+inner_can_halve pages p e kind fits lacks = record { kind = kind; well = λ n point. splits_well (split_bound false false (pages p).next) false (pages p).entries n e (is_bound false false (pages p).next) fits point lacks }

@@ -1,5 +1,5 @@
 -- Steps of a structure change on its images, over pages as they were before it.
-use Rattle.std.specs.Prelude.{◌≡◌, ℕ, ◌≤◌, List}
+use Rattle.std.specs.Prelude.{◌≡◌, ℕ, ◌≤◌, Bool, false, List}
 use Rattle.im_base_types.specs.Pages.{Body}
 use Rattle.im_base_types.specs.declared.page_kind.PageKind.TheVariants.{Leaf, Inner}
 use Rattle.im_theory_page.specs.Entry.{Rises}
@@ -9,8 +9,8 @@ use Rattle.im_smo_pages.specs.Images.{Numbered, held, Has, KeepsAll}
 use Rattle.im_smo_pages.specs.Changed.{SamePages, leaf_parted_pages, inner_split_pages, root_leaf_split_pages, root_inner_split_pages, free_taken_pages, count_taken_pages}
 
 -- leaf p, which held this body, is split at place n; the leaf after it is not told of q yet
-pub record PartsLeaf (old new : List Numbered) (page : Body) (parent p q n : ℕ) : Type 0 where
-  pub at : SplitsAt Leaf page n
+pub record PartsLeaf (dense : Bool) (old new : List Numbered) (page : Body) (parent p q n : ℕ) : Type 0 where
+  pub at : SplitsAt dense Leaf page n
   pub kept : KeepsAll old new
   pub left : Has new p
   pub right : Has new q
@@ -19,7 +19,7 @@ pub record PartsLeaf (old new : List Numbered) (page : Body) (parent p q n : ℕ
 
 -- inner page p, which held this body, is split at place n
 pub record PartsInner (old new : List Numbered) (page : Body) (parent p q n : ℕ) : Type 0 where
-  pub at : SplitsAt Inner page n
+  pub at : SplitsAt false Inner page n
   pub kept : KeepsAll old new
   pub left : Has new p
   pub right : Has new q
@@ -27,8 +27,8 @@ pub record PartsInner (old new : List Numbered) (page : Body) (parent p q n : �
   pub pages : (pages : Pages) → held pages old p ≡ page → SamePages (held pages new) (inner_split_pages (held pages old) parent p q n)
 
 -- the root, a leaf that held this body, is split at place n
-pub record PartsRootLeaf (old new : List Numbered) (page : Body) (l r n : ℕ) : Type 0 where
-  pub at : SplitsAt Leaf page n
+pub record PartsRootLeaf (dense : Bool) (old new : List Numbered) (page : Body) (l r n : ℕ) : Type 0 where
+  pub at : SplitsAt dense Leaf page n
   pub kept : KeepsAll old new
   pub root : Has new 1
   pub left : Has new l
@@ -37,7 +37,7 @@ pub record PartsRootLeaf (old new : List Numbered) (page : Body) (l r n : ℕ) :
 
 -- the root, an inner page that held this body, is split at place n
 pub record PartsRootInner (old new : List Numbered) (page : Body) (l r n : ℕ) : Type 0 where
-  pub at : SplitsAt Inner page n
+  pub at : SplitsAt false Inner page n
   pub kept : KeepsAll old new
   pub root : Has new 1
   pub left : Has new l

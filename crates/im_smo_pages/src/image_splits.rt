@@ -1,6 +1,6 @@
 //! Splits among the pages of a structure change.
 
-ghost use Rattle.std.specs.Prelude.{◌≡◌, ◌⊎◌, ◌<◌, Err, IfOk, IfErr};
+ghost use Rattle.std.specs.Prelude.{◌≡◌, ◌⊎◌, ◌<◌, false, Err, IfOk, IfErr};
 ghost use Rattle.im_base_types.specs.declared.fault.Fault.TheVariants.{Capacity, Memory, NotAStore};
 ghost use Rattle.im_base_types.specs.declared.page_kind.PageKind.TheVariants.{Leaf, Inner};
 ghost use Rattle.im_theory_tree.specs.Levels.{Pages};
@@ -28,10 +28,11 @@ impl Images {
         parent: PageNo,
         p: PageNo,
         q: PageNo,
+        dense: bool,
     ) -> Result<usize, Fault>
-        ensures parts { IfOk result (λ n. PartsLeaf self.old self.new page.now.body parent p q n) }
+        ensures parts { IfOk result (λ n. PartsLeaf dense self.old self.new page.now.body parent p q n) }
         ensures causes { IfErr result (λ e. (e ≡ Memory) ⊎ (e ≡ NotAStore)) }
-        ensures sound { (pages : Pages) → Has self.old parent → CanSplit Leaf page.now.body (held pages self.old parent) q → result ≡ Err NotAStore → ⊥ }
+        ensures sound { (pages : Pages) → Has self.old parent → CanSplit dense Leaf page.now.body (held pages self.old parent) q → result ≡ Err NotAStore → ⊥ }
     {
         self.rise();
         let Some(mut above) = self.take(parent) else {
@@ -40,7 +41,7 @@ impl Images {
         above.content();
         let mut left = blank(alloc)?;
         let mut right = blank(alloc)?;
-        let n = splits::split_leaf(page, &mut left, &mut right, &mut above, p, q)?;
+        let n = splits::split_leaf(page, &mut left, &mut right, &mut above, p, q, dense)?;
         self.put(parent, above)?;
         self.put(q, right)?;
         self.put(p, left)?;
@@ -62,7 +63,7 @@ impl Images {
     ) -> Result<usize, Fault>
         ensures parts { IfOk result (λ n. PartsInner self.old self.new page.now.body parent p q n) }
         ensures causes { IfErr result (λ e. (e ≡ Memory) ⊎ (e ≡ NotAStore)) }
-        ensures sound { (pages : Pages) → Has self.old parent → CanSplit Inner page.now.body (held pages self.old parent) q → result ≡ Err NotAStore → ⊥ }
+        ensures sound { (pages : Pages) → Has self.old parent → CanSplit false Inner page.now.body (held pages self.old parent) q → result ≡ Err NotAStore → ⊥ }
     {
         self.rise();
         let Some(mut above) = self.take(parent) else {
@@ -87,16 +88,17 @@ impl Images {
         page: &Page,
         l: PageNo,
         r: PageNo,
+        dense: bool,
     ) -> Result<usize, Fault>
-        ensures parts { IfOk result (λ n. PartsRootLeaf self.old self.new page.now.body l r n) }
+        ensures parts { IfOk result (λ n. PartsRootLeaf dense self.old self.new page.now.body l r n) }
         ensures causes { IfErr result (λ e. (e ≡ Memory) ⊎ (e ≡ NotAStore)) }
-        ensures sound { CanHalve Leaf page.now.body → result ≡ Err NotAStore → ⊥ }
+        ensures sound { CanHalve dense Leaf page.now.body → result ≡ Err NotAStore → ⊥ }
     {
         self.rise();
         let mut root = blank(alloc)?;
         let mut left = blank(alloc)?;
         let mut right = blank(alloc)?;
-        let n = splits::split_root_leaf(page, &mut root, &mut left, &mut right, l, r)?;
+        let n = splits::split_root_leaf(page, &mut root, &mut left, &mut right, l, r, dense)?;
         self.put(1, root)?;
         self.put(r, right)?;
         self.put(l, left)?;
@@ -115,7 +117,7 @@ impl Images {
     ) -> Result<usize, Fault>
         ensures parts { IfOk result (λ n. PartsRootInner self.old self.new page.now.body l r n) }
         ensures causes { IfErr result (λ e. (e ≡ Memory) ⊎ ((e ≡ NotAStore) ⊎ ((e ≡ Capacity) × (page.now.body.level ≡ 255)))) }
-        ensures sound { CanHalve Inner page.now.body → page.now.body.level < 255 → result ≡ Err NotAStore → ⊥ }
+        ensures sound { CanHalve false Inner page.now.body → page.now.body.level < 255 → result ≡ Err NotAStore → ⊥ }
     {
         self.rise();
         let mut root = blank(alloc)?;

@@ -7,7 +7,8 @@
 //!
 //! - `split_leaf`, `split_inner`, `split_root_leaf`, `split_root_inner` make the two parts of a page, from the page as it
 //!   was, and put the separator into the parent. The left part has the longest front of entries whose cells and slots take
-//!   at most 2,032 bytes; of an inner page the entry after it moves up. No page is copied whole.
+//!   at most 2,032 bytes (`point_of`); of an inner page the entry after it moves up. Where splits are `dense` the last leaf of the
+//!   chain keeps 3,796, so that rising keys leave nearly full leaves behind them. No page is copied whole.
 //! - `link_prev`, `link_next` change one link of a leaf.
 //! - `drop_entry`, `drop_leftmost` take a child out of its parent; `empty_root` is the root left without a child.
 //! - `take_free`, `take_count`, `give_free` change the meta page: the first free page is taken, else the page of the number
@@ -69,5 +70,5 @@ pub use deletions::{drop_entry, drop_leftmost, empty_root};
 pub use images::Images;
 pub use page_image::image;
 pub use seen_images::images_are_seen;
-pub use splits::{split_inner, split_leaf, split_root_inner, split_root_leaf};
+pub use splits::{point_of, split_inner, split_leaf, split_root_inner, split_root_leaf};
 pub use writer_allocations::{allocate, free};

@@ -1,26 +1,69 @@
 //! Splits: the pages of each, from the page as it was.
 
-ghost use Rattle.std.specs.Prelude.{◌≡◌, ◌⊎◌, ◌+◌, ◌<◌, ◌≤◌, [], ◌∷◌, OnErr, IfOk, IfErr, IsOk, length, take, drop};
+ghost use Rattle.std.specs.Prelude.{◌≡◌, ◌⊎◌, ◌+◌, ◌<◌, ◌≤◌, true, false, [], ◌∷◌, OnErr, IfOk, IfErr, IsOk, length, take, drop};
 ghost use Rattle.im_base_types.specs.declared.fault.Fault.TheVariants.{Capacity, NotAStore};
 ghost use Rattle.im_base_types.specs.declared.page_kind.PageKind.TheVariants.{Leaf, Inner};
 ghost use Rattle.im_theory_log.specs.Tree.{with_entries};
 ghost use Rattle.im_theory_page.specs.Entry.{entry_at};
+ghost use Rattle.im_theory_page.specs.Page.{is_leaf_kind};
+ghost use Rattle.im_theory_page.specs.Split.{IsSplitBound, HasRoomForAny};
 ghost use Rattle.im_smo_pages.specs.Bodies.{says, inner_body, with_separator};
-ghost use Rattle.im_smo_pages.specs.Parts.{SplitsAt, TakesSeparator, CanHalve, CanSplit, LeafSplit, InnerSplit, RootLeafSplit, RootInnerSplit};
+ghost use Rattle.im_smo_pages.specs.Parts.{split_bound, IsPoint, SplitsAt, TakesSeparator, CanHalve, CanSplit, LeafSplit, InnerSplit, RootLeafSplit, RootInnerSplit};
 
 use im_base_types::{Fault, PageKind, PageNo};
 use im_page::{HALF_PAGE, Page};
 
+// So many bytes of cells and slots leave room for an entry of any size.
+const MOST: usize = 3_796;
+
+// How many bytes of cells and slots stay left at most where a page is split: half of its room; of the last leaf of the chain, where
+// splits are dense, nearly all of it.
+fn bound_of(page: &Page, dense: bool) -> usize
+    ensures rule { result ≡ split_bound (is_leaf_kind page.now.body.kind) dense page.now.body.next }
+    ensures bound { IsSplitBound result }
+{
+    if page.kind() != PageKind::Leaf {
+        return HALF_PAGE;
+    }
+    if dense {
+        return dense_bound(page.next());
+    }
+    HALF_PAGE
+}
+
+// The same of a leaf where splits are dense, by the leaf after it.
+fn dense_bound(next: PageNo) -> usize
+    ensures rule { result ≡ split_bound true true next }
+    ensures bound { IsSplitBound result }
+{
+    if next == 0 {
+        return MOST;
+    }
+    HALF_PAGE
+}
+
+/// How many entries stay left where a page is split: the longest front whose cells and slots take at most 2,032 bytes, half of its room,
+/// and that leaves two entries; of the last leaf of the chain, where splits are dense, at most 3,796. Both parts then have room for one
+/// more entry of any size.
+pub fn point_of(page: &Page, dense: bool) -> usize
+    ensures point { IsPoint dense (is_leaf_kind page.now.body.kind) page.now.body result }
+    ensures left { HasRoomForAny (is_leaf_kind page.now.body.kind) (take result page.now.body.entries) }
+    ensures right { HasRoomForAny (is_leaf_kind page.now.body.kind) (drop result page.now.body.entries) }
+{
+    let bound = bound_of(page, dense);
+    page.split_point(bound)
+}
+
 // The split point of a page of a kind, where an entry or more stays and two or more do not.
-fn place(page: &Page, kind: PageKind) -> Result<usize, Fault>
-    ensures at { IfOk result (λ n. SplitsAt kind page.now.body n) }
+fn place(page: &Page, kind: PageKind, dense: bool) -> Result<usize, Fault>
+    ensures at { IfOk result (λ n. SplitsAt dense kind page.now.body n) }
     ensures refused { IfErr result (λ e. e ≡ NotAStore) }
-    ensures ok { CanHalve kind page.now.body → IsOk result }
+    ensures ok { CanHalve dense kind page.now.body → IsOk result }
 {
     if page.kind() != kind {
         return Err(Fault::NotAStore);
     }
-    let point = page.split_point(HALF_PAGE);
+    let point = point_of(page, dense);
     if point == 0 {
         return Err(Fault::NotAStore);
     }
@@ -50,8 +93,8 @@ fn put_separator(page: &Page, n: usize, parent: &mut Page, q: PageNo) -> Result<
 }
 
 /// Splits a leaf under its parent. `left` and `right`, whatever they were, become its parts, of numbers p and q: the
-/// longest front of entries that takes at most half of the page's room, and the rest, after it in the leaf chain.
-/// The parent gets the right part's first key, with q. It answers how many entries stay left. The page after the
+/// longest front of entries that takes at most half of the page's room, and the rest, after it in the leaf chain. Where splits are
+/// `dense` and no leaf is after it, the front takes at most 3,796 bytes, and leaves two entries. The parent gets the right part's first key, with q. It answers how many entries stay left. The page after the
 /// right part, if there is one, has then to be told of q by `link_prev`.
 ///
 /// Refused `NotAStore`, with nothing changed, where the page is no leaf or has too few entries to be split, or the
@@ -64,13 +107,14 @@ pub fn split_leaf(
     parent: &mut Page,
     p: PageNo,
     q: PageNo,
+    dense: bool,
 ) -> Result<usize, Fault>
-    ensures split { IfOk result (λ n. LeafSplit page.now left.old right.old parent.old left.new right.new parent.new p q n) }
+    ensures split { IfOk result (λ n. LeafSplit dense page.now left.old right.old parent.old left.new right.new parent.new p q n) }
     ensures same { OnErr result ((left.new ≡ left.old) × (right.new ≡ right.old) × (parent.new ≡ parent.old)) }
     ensures refused { IfErr result (λ e. e ≡ NotAStore) }
-    ensures ok { CanSplit Leaf page.now.body parent.old.body q → IsOk result }
+    ensures ok { CanSplit dense Leaf page.now.body parent.old.body q → IsOk result }
 {
-    let n = place(page, PageKind::Leaf)?;
+    let n = place(page, PageKind::Leaf, dense)?;
     put_separator(page, n, parent, q)?;
     left.become_leaf(page.prev(), q);
     left.copy_entries(page, 0, n);
@@ -97,9 +141,9 @@ pub fn split_inner(
     ensures split { IfOk result (λ n. InnerSplit page.now left.old right.old parent.old left.new right.new parent.new q n) }
     ensures same { OnErr result ((left.new ≡ left.old) × (right.new ≡ right.old) × (parent.new ≡ parent.old)) }
     ensures refused { IfErr result (λ e. e ≡ NotAStore) }
-    ensures ok { CanSplit Inner page.now.body parent.old.body q → IsOk result }
+    ensures ok { CanSplit false Inner page.now.body parent.old.body q → IsOk result }
 {
-    let up = place(page, PageKind::Inner)?;
+    let up = place(page, PageKind::Inner, false)?;
     put_separator(page, up, parent, q)?;
     halve_inner(page, up, left, right);
     Ok(up)
@@ -107,7 +151,7 @@ pub fn split_inner(
 
 // Makes two pages the parts of an inner page that is split at a place.
 fn halve_inner(page: &Page, up: usize, left: &mut Page, right: &mut Page)
-    requires { SplitsAt Inner page.now.body up }
+    requires { SplitsAt false Inner page.now.body up }
     ensures left { left.new ≡ says left.old (with_entries page.now.body (take up page.now.body.entries)) }
     ensures right { right.new ≡ says right.old (inner_body page.now.body.level (entry_at page.now.body.entries up).1 (drop (up + 1) page.now.body.entries)) }
 {
@@ -133,13 +177,14 @@ pub fn split_root_leaf(
     right: &mut Page,
     l: PageNo,
     r: PageNo,
+    dense: bool,
 ) -> Result<usize, Fault>
-    ensures split { IfOk result (λ n. RootLeafSplit page.now root.old left.old right.old root.new left.new right.new l r n) }
+    ensures split { IfOk result (λ n. RootLeafSplit dense page.now root.old left.old right.old root.new left.new right.new l r n) }
     ensures same { OnErr result ((root.new ≡ root.old) × (left.new ≡ left.old) × (right.new ≡ right.old)) }
     ensures refused { IfErr result (λ e. e ≡ NotAStore) }
-    ensures ok { CanHalve Leaf page.now.body → IsOk result }
+    ensures ok { CanHalve dense Leaf page.now.body → IsOk result }
 {
-    let n = place(page, PageKind::Leaf)?;
+    let n = place(page, PageKind::Leaf, dense)?;
     left.become_leaf(0, r);
     left.copy_entries(page, 0, n);
     right.become_leaf(l, 0);
@@ -165,9 +210,9 @@ pub fn split_root_inner(
     ensures split { IfOk result (λ n. RootInnerSplit page.now root.old left.old right.old root.new left.new right.new l r n) }
     ensures same { OnErr result ((root.new ≡ root.old) × (left.new ≡ left.old) × (right.new ≡ right.old)) }
     ensures refused { IfErr result (λ e. (e ≡ NotAStore) ⊎ ((e ≡ Capacity) × (page.now.body.level ≡ 255))) }
-    ensures ok { CanHalve Inner page.now.body → page.now.body.level < 255 → IsOk result }
+    ensures ok { CanHalve false Inner page.now.body → page.now.body.level < 255 → IsOk result }
 {
-    let up = place(page, PageKind::Inner)?;
+    let up = place(page, PageKind::Inner, false)?;
     if page.level() == 255 {
         return Err(Fault::Capacity);
     }

@@ -1,13 +1,13 @@
 //! What the calls on pages mean for the tree: the pages that they leave are those of a step.
 
-ghost use Rattle.std.specs.Prelude.{◌≡◌, ℕ, zero, suc, ◌-◌, ◌<◌, ◌≤◌, true, false, List, ◌∷◌, ◌++◌, length, Some, None};
+ghost use Rattle.std.specs.Prelude.{◌≡◌, ◌⊎◌, ℕ, zero, suc, ◌+◌, ◌-◌, ◌<◌, ◌≤◌, Bool, true, false, List, ◌∷◌, ◌++◌, length, take, Some, None};
 ghost use Rattle.im_base_types.specs.Keys.{Key};
 ghost use Rattle.im_base_types.specs.Pages.{Entry, Body, Page};
 ghost use Rattle.im_theory_log.specs.Tree.{with_body};
 ghost use Rattle.im_base_types.specs.declared.page_kind.PageKind.TheVariants.{Free, Leaf, Inner};
-ghost use Rattle.im_theory_page.specs.Entry.{entry_at, Rises};
+ghost use Rattle.im_theory_page.specs.Entry.{entry_at, taken, Rises};
 ghost use Rattle.im_theory_page.specs.Child.{IsChild};
-ghost use Rattle.im_theory_page.specs.Split.{half_page, IsSplitPoint, HasRoom};
+ghost use Rattle.im_theory_page.specs.Split.{HasRoom};
 ghost use Rattle.im_theory_tree.specs.Levels.{Pages, height, walk};
 ghost use Rattle.im_theory_tree.specs.Good.{IsGoodTree};
 ghost use Rattle.im_theory_tree.specs.Search.{IsOnWay};
@@ -19,22 +19,28 @@ ghost use Rattle.im_theory_tree.specs.Plans.{applied, KnowsPages, PagesAscend};
 ghost use Rattle.im_smo_pages.specs.Bodies.{without_entry, without_leftmost};
 ghost use Rattle.im_smo_pages.specs.OnImages.{PartsLeaf, Becomes, TakesFirst, TakesNext};
 ghost use Rattle.im_smo_pages.specs.OnWay.{KeepsTree, PlansKeepWays};
-ghost use Rattle.im_smo_pages.specs.Parts.{SplitsAt, CanHalve, CanSplit};
+ghost use Rattle.im_smo_pages.specs.Parts.{IsPoint, SplitsAt, CanHalve, CanSplit};
 ghost use Rattle.im_smo_pages.specs.Images.{Numbered, IsRising, image_of, put_image, without_image, plan_of, held};
 ghost use Rattle.im_smo_pages.specs.Changed.{SamePages, linked_prev, unlinked_pages, leaf_split_pages, inner_split_pages, root_leaf_split_pages, root_inner_split_pages, entry_dropped_pages, leftmost_dropped_pages, root_emptied_pages, free_taken_pages, count_taken_pages, free_given_pages};
 
 /// In a good tree the pages of a split are those of a split of the page on a key's way, or of the root.
 pub fn split_pages_are_splits()
-    ensures leaf { (pages new : Pages) (spare : List ℕ) (key : Key) (parent p q n : ℕ) → IsGoodTree pages (q ∷ spare) → IsOnWay pages (suc zero) key parent → IsChild (pages parent) key p
-        → Rises (pages parent).entries → Rises (pages p).entries → SplitsAt Leaf (pages p) n → SamePages new (leaf_split_pages pages parent p q n)
+    ensures leaf { (dense : Bool) (pages new : Pages) (spare : List ℕ) (key : Key) (parent p q n : ℕ) → IsGoodTree pages (q ∷ spare) → IsOnWay pages (suc zero) key parent → IsChild (pages parent) key p
+        → Rises (pages parent).entries → Rises (pages p).entries → SplitsAt dense Leaf (pages p) n → SamePages new (leaf_split_pages pages parent p q n)
         → SplitsKeyLeaf pages new spare key parent p q n }
     ensures inner { (pages new : Pages) (spare : List ℕ) (h : ℕ) (key : Key) (parent p q n : ℕ) → IsGoodTree pages (q ∷ spare) → IsOnWay pages (suc (suc h)) key parent
-        → IsChild (pages parent) key p → Rises (pages parent).entries → Rises (pages p).entries → SplitsAt Inner (pages p) n → SamePages new (inner_split_pages pages parent p q n)
+        → IsChild (pages parent) key p → Rises (pages parent).entries → Rises (pages p).entries → SplitsAt false Inner (pages p) n → SamePages new (inner_split_pages pages parent p q n)
         → SplitsKeyInner pages new spare h key parent p q n }
-    ensures root_leaf { (pages new : Pages) (spare : List ℕ) (l r n : ℕ) → IsGoodTree pages (l ∷ r ∷ spare) → height pages ≡ zero → Rises (pages 1).entries → SplitsAt Leaf (pages 1) n
+    ensures root_leaf { (dense : Bool) (pages new : Pages) (spare : List ℕ) (l r n : ℕ) → IsGoodTree pages (l ∷ r ∷ spare) → height pages ≡ zero → Rises (pages 1).entries → SplitsAt dense Leaf (pages 1) n
         → SamePages new (root_leaf_split_pages pages l r n) → SplitsKeyRootLeaf pages new spare l r n }
-    ensures root_inner { (pages new : Pages) (spare : List ℕ) (h l r n : ℕ) → IsGoodTree pages (l ∷ r ∷ spare) → height pages ≡ suc h → SplitsAt Inner (pages 1) n
+    ensures root_inner { (pages new : Pages) (spare : List ℕ) (h l r n : ℕ) → IsGoodTree pages (l ∷ r ∷ spare) → height pages ≡ suc h → SplitsAt false Inner (pages 1) n
         → SamePages new (root_inner_split_pages pages l r n) → SplitsKeyRootInner pages new spare h l r n }
+{}
+
+/// Where splits are dense the last leaf of the chain keeps all but two entries, or as many as take 3,796 bytes: with one more they would
+/// take more than that, of the 4,064 that a page has.
+pub fn dense_splits_fill_the_last_leaf()
+    ensures { (page : Body) (n : ℕ) → SplitsAt true Leaf page n → page.next ≡ 0 → (n + 2 ≡ length page.entries) ⊎ (3796 < taken true (take (n + 1) page.entries)) }
 {}
 
 /// In a good tree the pages of a deletion are those of a deletion of a chain of pages without entries: of the child of an
@@ -61,16 +67,16 @@ pub fn allocation_pages_are_allocations()
 /// In a good tree no call on pages is refused `NotAStore`: a page that lacks room can be split where its parent has room for
 /// the separator; the leaves beside a leaf are leaves; and the first free page is free.
 pub fn good_trees_are_not_refused()
-    ensures leaf { (pages : Pages) (spare : List ℕ) (key : Key) (parent p q : ℕ) (e : Entry) → IsGoodTree pages spare → IsOnWay pages (suc zero) key parent → IsChild (pages parent) key p
+    ensures leaf { (dense : Bool) (pages : Pages) (spare : List ℕ) (key : Key) (parent p q : ℕ) (e : Entry) → IsGoodTree pages spare → IsOnWay pages (suc zero) key parent → IsChild (pages parent) key p
         → Rises (pages parent).entries → Rises (pages p).entries → FitsPage true (pages p).entries → LacksRoom true (pages p).entries e
-        → ((n : ℕ) → IsSplitPoint half_page true (pages p).entries n → HasRoom false (pages parent).entries ((entry_at (pages p).entries n).0, q))
-        → CanSplit Leaf (pages p) (pages parent) q }
+        → ((n : ℕ) → IsPoint dense true (pages p) n → HasRoom false (pages parent).entries ((entry_at (pages p).entries n).0, q))
+        → CanSplit dense Leaf (pages p) (pages parent) q }
     ensures inner { (pages : Pages) (spare : List ℕ) (h : ℕ) (key : Key) (parent p q : ℕ) (e : Entry) → IsGoodTree pages spare → IsOnWay pages (suc (suc h)) key parent
         → IsChild (pages parent) key p → Rises (pages parent).entries → FitsPage false (pages p).entries → LacksRoom false (pages p).entries e
-        → ((n : ℕ) → IsSplitPoint half_page false (pages p).entries n → HasRoom false (pages parent).entries ((entry_at (pages p).entries n).0, q))
-        → CanSplit Inner (pages p) (pages parent) q }
-    ensures root_leaf { (pages : Pages) (p : ℕ) (e : Entry) → (pages p).kind ≡ Leaf → FitsPage true (pages p).entries → LacksRoom true (pages p).entries e → CanHalve Leaf (pages p) }
-    ensures root_inner { (pages : Pages) (p : ℕ) (e : Entry) → (pages p).kind ≡ Inner → FitsPage false (pages p).entries → LacksRoom false (pages p).entries e → CanHalve Inner (pages p) }
+        → ((n : ℕ) → IsPoint false false (pages p) n → HasRoom false (pages parent).entries ((entry_at (pages p).entries n).0, q))
+        → CanSplit false Inner (pages p) (pages parent) q }
+    ensures root_leaf { (dense : Bool) (pages : Pages) (p : ℕ) (e : Entry) → (pages p).kind ≡ Leaf → FitsPage true (pages p).entries → LacksRoom true (pages p).entries e → CanHalve dense Leaf (pages p) }
+    ensures root_inner { (pages : Pages) (p : ℕ) (e : Entry) → (pages p).kind ≡ Inner → FitsPage false (pages p).entries → LacksRoom false (pages p).entries e → CanHalve false Inner (pages p) }
     ensures next { (pages : Pages) (spare : List ℕ) (key : Key) (p : ℕ) → IsGoodTree pages spare → IsOnWay pages zero key p → 1 ≤ (pages p).next → (pages (pages p).next).kind ≡ Leaf }
     ensures prev { (pages : Pages) (spare : List ℕ) (key : Key) (p : ℕ) → IsGoodTree pages spare → IsOnWay pages zero key p → 1 ≤ (pages p).prev → (pages (pages p).prev).kind ≡ Leaf }
     ensures first_free { (pages : Pages) (spare : List ℕ) → IsGoodTree pages spare → 1 ≤ (pages 0).prev → (pages (pages 0).next).kind ≡ Free }
@@ -92,7 +98,7 @@ pub fn images_are_a_plan()
 /// Steps on images one after another: the parting of a leaf and the link after it are its split; the parent's change and
 /// the links beside the leaf are a deletion.
 pub fn steps_on_images_compose()
-    ensures leaf { (a b c : List Numbered) (page : Body) (parent p q n : ℕ) (pages : Pages) → PartsLeaf a b page parent p q n → Becomes b c (λ h. linked_prev h page.next q)
+    ensures leaf { (dense : Bool) (a b c : List Numbered) (page : Body) (parent p q n : ℕ) (pages : Pages) → PartsLeaf dense a b page parent p q n → Becomes b c (λ h. linked_prev h page.next q)
         → held pages a p ≡ page → SamePages (held pages c) (leaf_split_pages (held pages a) parent p q n) }
     ensures entry { (a b c : List Numbered) (page : Body) (parent leaf i : ℕ) (pages : Pages) → Becomes a b (λ h. with_body h parent (without_entry (h parent) i))
         → Becomes b c (λ h. unlinked_pages h page.prev page.next) → held pages a leaf ≡ page → SamePages (held pages c) (entry_dropped_pages (held pages a) parent leaf i) }

@@ -44,6 +44,7 @@ impl Images {
         parent: PageNo,
         p: PageNo,
         q: PageNo,
+        dense: bool,
     ) -> Result<PageNo, Fault>
         ensures kept { IfOk result (λ _. KeepsAll self.old self.new) }
         ensures goes { IfOk result (λ m. (pages : Pages) (spare : List ℕ) → IsGoodTree (held pages self.old) (q ∷ spare) → IsOnWay (held pages self.old) (suc zero) key.now parent
@@ -53,11 +54,11 @@ impl Images {
         ensures half { IfOk result (Has self.new) }
         ensures sound { (pages : Pages) (spare : List ℕ) → IsGoodTree (held pages self.old) (q ∷ spare) → IsOnWay (held pages self.old) (suc zero) key.now parent
             → IsChild (held pages self.old parent) key.now p → held pages self.old p ≡ page.now.body → Has self.old parent → (1 ≤ page.now.body.next → Has self.old page.now.body.next)
-            → CanSplit Leaf page.now.body (held pages self.old parent) q → result ≡ Err NotAStore → ⊥ }
+            → CanSplit dense Leaf page.now.body (held pages self.old parent) q → result ≡ Err NotAStore → ⊥ }
         ensures causes { IfErr result (λ e. (e ≡ Memory) ⊎ (e ≡ NotAStore)) }
     {
         page.content();
-        let n = self.split_leaf(alloc, page, parent, p, q)?;
+        let n = self.split_leaf(alloc, page, parent, p, q, dense)?;
         self.link_prev(page.next(), q)?;
         Ok(half(page, n, key, p, q))
     }
@@ -73,6 +74,7 @@ impl Images {
         page: &Page,
         l: PageNo,
         r: PageNo,
+        dense: bool,
     ) -> Result<PageNo, Fault>
         ensures kept { IfOk result (λ _. KeepsAll self.old self.new) }
         ensures goes { IfOk result (λ m. (pages : Pages) (spare : List ℕ) → IsGoodTree (held pages self.old) (l ∷ r ∷ spare) → height (held pages self.old) ≡ zero
@@ -80,11 +82,11 @@ impl Images {
             → HasRoomIn (held pages self.old) (held pages self.new) spare key.now 1 m) }
         ensures there { IfOk result (λ _. Has self.new 1) }
         ensures half { IfOk result (Has self.new) }
-        ensures sound { CanHalve Leaf page.now.body → result ≡ Err NotAStore → ⊥ }
+        ensures sound { CanHalve dense Leaf page.now.body → result ≡ Err NotAStore → ⊥ }
         ensures causes { IfErr result (λ e. (e ≡ Memory) ⊎ (e ≡ NotAStore)) }
     {
         page.content();
-        let n = self.split_root_leaf(alloc, page, l, r)?;
+        let n = self.split_root_leaf(alloc, page, l, r, dense)?;
         Ok(half(page, n, key, l, r))
     }
 }

@@ -4,7 +4,7 @@ use Rattle.im_smo_pages.proofs.Becoming.{leaf_then_link, drop_then_unlink}
 use Rattle.im_smo_pages.proofs.tree_steps.steps_on_images_compose.Goals as goal
 
 pub returns-clause-leaf : goal.returns-clause-leaf
-returns-clause-leaf c = leaf_then_link
+returns-clause-leaf c dense = leaf_then_link {dense = dense}
 
 pub returns-clause-entry : goal.returns-clause-entry
 returns-clause-entry c a b d page parent leaf i pages drops unlinks is =

@@ -11,7 +11,7 @@ use Rattle.im_smo_pages.proofs.images.Images.split_leaf.Goals as goal
 pub returns-in_err-n-clause-sound : goal.returns-in_err-n-clause-sound
 returns-in_err-n-clause-sound c pages has can e =
     let there = c.in-Some.ensures.page ∙ ap Some (sym c.deref_mut-3.ensures.value) in
-    let fine = c.split_leaf.ensures.ok (subst (λ (b : Body). CanSplit Leaf c.args.page.now.body b c.args.q) (held_there pages c.args.self.now c.args.parent c.deref_mut-3.result.now there) can) in
+    let fine = c.split_leaf.ensures.ok (subst (λ (b : Body). CanSplit c.args.dense Leaf c.args.page.now.body b c.args.q) (held_there pages c.args.self.now c.args.parent c.deref_mut-3.result.now there) can) in
     let clash : true ≡ false = sym fine ∙ ap is_ok c.in_err-n.was in cc clash
 
 pub returns-clause-parts : goal.returns-clause-parts
