@@ -41,55 +41,55 @@ fits_inner (suc k) page some is content = record {
 
 module _ (s : AllPages) (key : Key) (images new : List Numbered) (numbers : List ℕ) where
   -- a step on the images
-  pub pending_kept : (r : Result PendingSplit Fault) → IfOk r (λ pending. GoesOnTo (seen s images) (seen s new) new (newest_first numbers) key pending.level pending.parent pending.page) → (r ≡ Err NotAStore → ⊥)
-      → IsSound r (λ pending. LeavesPending s key images pending new numbers)
-  pending_kept r is never = sound_own r _ _ is (refused_not r never) (λ pending goes. record { pending_is = goes.0; parent = goes.2; same = goes.1; ways = goes.3 })
+  pub pending_kept : (dense : Bool) (r : Result PendingSplit Fault) → IfOk r (λ pending. GoesOnTo dense (seen s images) (seen s new) new (newest_first numbers) key pending.level pending.parent pending.page) → (r ≡ Err NotAStore → ⊥)
+      → IsSound r (λ pending. LeavesPending dense s key images pending new numbers)
+  pending_kept dense r is never = sound_own r _ _ is (refused_not r never) (λ pending goes. record { pending_is = goes.0; parent = goes.2; same = goes.1; ways = goes.3 })
 
   module _ (up : IsRising images) (out : List Numbered) (page : Page) (r : Result PendingSplit Fault) where
-    inner_at : (k parent p q : ℕ) → IsPending (seen s images) (q ∷ newest_first numbers) key (suc k) parent p → Has images parent → page ≡ page_in s images p → out ≡ without_image p images
+    inner_at : {dense : Bool} (k parent p q : ℕ) → IsPending dense (seen s images) (q ∷ newest_first numbers) key (suc k) parent p → Has images parent → page ≡ page_in s images p → out ≡ without_image p images
         → IfOk r (λ next. HalvesInner out new page.body key parent p q next.parent next.page) → IfOk r (λ next. next.level + 1 ≡ suc k)
         → ((pages : Pages) → Has out parent → HasLevel (suc k) page.body
-        → ((c : ℕ) → FitsPage false page.body.entries → IsChild page.body key c → CanSplit Inner page.body (held pages out parent) q) → r ≡ Err NotAStore → ⊥)
-        → IsSound r (λ pending. LeavesPending s key images pending new numbers)
-    inner_at k parent p q pending has is less halves below sound =
+        → ((c : ℕ) → FitsPage false page.body.entries → IsChild page.body key c → CanSplit false Inner page.body (held pages out parent) q) → r ≡ Err NotAStore → ⊥)
+        → IsSound r (λ pending. LeavesPending dense s key images pending new numbers)
+    inner_at {dense} k parent p q pending has is less halves below sound =
         let spare = newest_first numbers in
-        pending_kept r
+        pending_kept dense r
         (both_ok r _ _ _ halves below (λ next half level.
         let same : next.level ≡ k = omega (arith, level) in
-        subst (λ (h : ℕ). GoesOnTo (seen s images) (seen s new) new spare key h next.parent next.page) (sym same)
+        subst (λ (h : ℕ). GoesOnTo dense (seen s images) (seen s new) new spare key h next.parent next.page) (sym same)
         (pending_on s images up spare key k parent p q pending page is new next.parent next.page (subst (λ (o : List Numbered). HalvesInner o new page.body key parent p q next.parent next.page) less half))))
         (sound (beneath s images p page up is) (subst (λ (o : List Numbered). Has o parent) (sym less) (parent_stays s images up spare key k parent p q pending page is has))
         (pending_level s images up spare key k parent p q pending page is)
-        (subst (λ (o : List Numbered). (c : ℕ) → FitsPage false page.body.entries → IsChild page.body key c → CanSplit Inner page.body (held (beneath s images p page up is) o parent) q) (sym less)
+        (subst (λ (o : List Numbered). (c : ℕ) → FitsPage false page.body.entries → IsChild page.body key c → CanSplit false Inner page.body (held (beneath s images p page up is) o parent) q) (sym less)
         (can_split s images up spare key k parent p q pending page is)))
 
     -- an inner page was split
-    pub inner_kept : (level parent p q : ℕ) → 1 ≤ level → IsPending (seen s images) (q ∷ newest_first numbers) key level parent p → Has images parent → page ≡ page_in s images p → out ≡ without_image p images
+    pub inner_kept : {dense : Bool} (level parent p q : ℕ) → 1 ≤ level → IsPending dense (seen s images) (q ∷ newest_first numbers) key level parent p → Has images parent → page ≡ page_in s images p → out ≡ without_image p images
         → IfOk r (λ next. HalvesInner out new page.body key parent p q next.parent next.page) → IfOk r (λ next. next.level + 1 ≡ level)
         → ((pages : Pages) → Has out parent → HasLevel level page.body
-        → ((c : ℕ) → FitsPage false page.body.entries → IsChild page.body key c → CanSplit Inner page.body (held pages out parent) q) → r ≡ Err NotAStore → ⊥)
-        → IsSound r (λ pending. LeavesPending s key images pending new numbers)
+        → ((c : ℕ) → FitsPage false page.body.entries → IsChild page.body key c → CanSplit false Inner page.body (held pages out parent) q) → r ≡ Err NotAStore → ⊥)
+        → IsSound r (λ pending. LeavesPending dense s key images pending new numbers)
     inner_kept zero parent p q some = absurd (omega (arith, some))
     inner_kept (suc k) parent p q some = inner_at k parent p q
 
-    root_at : (k left right : ℕ) → IsRootPending (seen s images) (right ∷ left ∷ newest_first numbers) key (suc k) → page ≡ page_in s images 1 → out ≡ without_image 1 images
+    root_at : {dense : Bool} (k left right : ℕ) → IsRootPending dense (seen s images) (right ∷ left ∷ newest_first numbers) key (suc k) → page ≡ page_in s images 1 → out ≡ without_image 1 images
         → IfOk r (λ next. HalvesRoot out new page.body key left right next.parent next.page) → IfOk r (λ next. next.level + 1 ≡ suc k)
-        → (HasLevel (suc k) page.body → ((c : ℕ) → FitsPage false page.body.entries → IsChild page.body key c → CanHalve Inner page.body) → r ≡ Err NotAStore → ⊥)
-        → IsSound r (λ pending. LeavesPending s key images pending new numbers)
-    root_at k left right was is less halves below sound =
+        → (HasLevel (suc k) page.body → ((c : ℕ) → FitsPage false page.body.entries → IsChild page.body key c → CanHalve false Inner page.body) → r ≡ Err NotAStore → ⊥)
+        → IsSound r (λ pending. LeavesPending dense s key images pending new numbers)
+    root_at {dense} k left right was is less halves below sound =
         let spare = newest_first numbers in
         let pending = root_relisted (seen s images) spare key (suc k) left right was in
-        pending_kept r
+        pending_kept dense r
         (both_ok r _ _ _ halves below (λ next half level.
         let same : next.level ≡ k = omega (arith, level) in
-        subst (λ (h : ℕ). GoesOnTo (seen s images) (seen s new) new spare key h next.parent next.page) (sym same)
+        subst (λ (h : ℕ). GoesOnTo dense (seen s images) (seen s new) new spare key h next.parent next.page) (sym same)
         (root_pending_on s images up spare key k left right pending page is new next.parent next.page (subst (λ (o : List Numbered). HalvesRoot o new page.body key left right next.parent next.page) less half))))
         (sound (root_level s images up spare key k left right pending page is) (can_halve s images up spare key k left right pending page is))
 
     -- the root was split
-    pub root_kept : (level left right : ℕ) → 1 ≤ level → IsRootPending (seen s images) (right ∷ left ∷ newest_first numbers) key level → page ≡ page_in s images 1 → out ≡ without_image 1 images
+    pub root_kept : {dense : Bool} (level left right : ℕ) → 1 ≤ level → IsRootPending dense (seen s images) (right ∷ left ∷ newest_first numbers) key level → page ≡ page_in s images 1 → out ≡ without_image 1 images
         → IfOk r (λ next. HalvesRoot out new page.body key left right next.parent next.page) → IfOk r (λ next. next.level + 1 ≡ level)
-        → (HasLevel level page.body → ((c : ℕ) → FitsPage false page.body.entries → IsChild page.body key c → CanHalve Inner page.body) → r ≡ Err NotAStore → ⊥)
-        → IsSound r (λ pending. LeavesPending s key images pending new numbers)
+        → (HasLevel level page.body → ((c : ℕ) → FitsPage false page.body.entries → IsChild page.body key c → CanHalve false Inner page.body) → r ≡ Err NotAStore → ⊥)
+        → IsSound r (λ pending. LeavesPending dense s key images pending new numbers)
     root_kept zero left right some = absurd (omega (arith, some))
     root_kept (suc k) left right some = root_at k left right

@@ -1,5 +1,5 @@
 -- One split after another, down to the leaf.
-use Rattle.std.proofs.Common.{◌≡◌, ℕ, ◌≤◌, List, length, None, subst, ◌∙◌}
+use Rattle.std.proofs.Common.{◌≡◌, ℕ, ◌≤◌, Bool, List, length, None, subst, ◌∙◌}
 use Rattle.im_base_types.specs.Keys.{Key}
 use Rattle.im_base_disk.specs.declared.disk.Disk.{Ghosts}
 use Rattle.im_page_writer.specs.declared.page_writer.PageWriter.{PageWriter}
@@ -27,12 +27,12 @@ module _ (s : AllPages) (key : Key) (images : List Numbered) where
     has = end.3;
   }
 
-  module _ (pending : PendingSplit) (mid : List Numbered) (numbers : List ℕ) (one : LeavesPending s key images pending mid numbers) where
+  module _ {dense : Bool} (pending : PendingSplit) (mid : List Numbered) (numbers : List ℕ) (one : LeavesPending dense s key images pending mid numbers) where
     pub has_split : {D : Type 0} (d : Ghosts D) {w : PageWriter} {disk : D} → HasPages d AreLoaded s w disk → HasImages d s mid (newest_first numbers) w disk
     has_split {D} d {w} {disk} has = record { has = has; good = one.pending_is.good }
 
     -- the next one
-    pub split_then : (next : PendingSplit) (new : List Numbered) (left : List ℕ) → LeavesPending s key mid next new left → LeavesPending s key images next new left
+    pub split_then : (next : PendingSplit) (new : List Numbered) (left : List ℕ) → LeavesPending dense s key mid next new left → LeavesPending dense s key images next new left
     split_then next new left two = record { pending_is = two.pending_is; parent = two.parent; same = two.same ∙ one.same; ways = λ k q way all. two.ways k q (one.ways k q way tt) tt }
 
     -- the end

@@ -1,5 +1,5 @@
 -- The key's leaf split, the last step: what is seen after it.
-use Rattle.std.proofs.Common.{◌≡◌, ◌≢◌, ℕ, zero, suc, ◌≤◌, ◌<◌, true, List, [], ◌∷◌, ◌++◌, length, refl, sym, ap, subst, ◌∙◌, arith, length-append}
+use Rattle.std.proofs.Common.{◌≡◌, ◌≢◌, ℕ, zero, suc, ◌≤◌, ◌<◌, true, Bool, List, [], ◌∷◌, ◌++◌, length, refl, sym, ap, subst, ◌∙◌, arith, length-append}
 use Rattle.im_base_types.specs.Keys.{Key}
 use Rattle.im_base_types.specs.Pages.{Body, Page}
 use Rattle.im_page_writer.specs.Outcome.{AllPages}
@@ -63,7 +63,7 @@ pub fits_leaf : (b : Body) → b.kind ≡ Leaf → ((i : ℕ) → i < length b.e
 fits_leaf b leaf short fits = record { short = short; fits = subst (λ (k : PageKind). taken (is_leaf_kind k) b.entries ≤ 4064) leaf fits }
 
 -- what the parting of a leaf asks, where this body was taken out
-pub record IsPartable (out : List Numbered) (pages : Pages) (key : Key) (parent p q : ℕ) (b : Body) : Type 0 where
+pub record IsPartable (dense : Bool) (out : List Numbered) (pages : Pages) (key : Key) (parent p q : ℕ) (b : Body) : Type 0 where
   pub good : IsGoodTree (held pages out) (q ∷ [])
   pub way : IsOnWay (held pages out) (suc zero) key parent
   pub child : IsChild (held pages out parent) key p
@@ -71,15 +71,15 @@ pub record IsPartable (out : List Numbered) (pages : Pages) (key : Key) (parent 
   pub above : Has out parent
   pub next : 1 ≤ b.next → Has out b.next
   pub leaf : b.kind ≡ Leaf
-  pub can : Rises b.entries → FitsPage true b.entries → CanSplit Leaf b (held pages out parent) q
+  pub can : Rises b.entries → FitsPage true b.entries → CanSplit dense Leaf b (held pages out parent) q
 
-module _ (s : AllPages) (key : Key) (old : Pages) (xs : List Numbered) (up : IsRising xs) (p parent q : ℕ) (g : Page) (same : seen s xs ≡ old) (page : g ≡ page_in s xs p)
-    (pending : IsPending old (q ∷ []) key zero parent p) where
+module _ {dense : Bool} (s : AllPages) (key : Key) (old : Pages) (xs : List Numbered) (up : IsRising xs) (p parent q : ℕ) (g : Page) (same : seen s xs ≡ old) (page : g ≡ page_in s xs p)
+    (pending : IsPending dense old (q ∷ []) key zero parent p) where
   was : held (beneath s xs p g up page) (without_image p xs) ≡ old
   was = out_same s xs p g up page ∙ same
 
-  pending_out : IsPending (held (beneath s xs p g up page) (without_image p xs)) (q ∷ []) key zero parent p
-  pending_out = subst (λ (pages : Pages). IsPending pages (q ∷ []) key zero parent p) (sym was) pending
+  pending_out : IsPending dense (held (beneath s xs p g up page) (without_image p xs)) (q ∷ []) key zero parent p
+  pending_out = subst (λ (pages : Pages). IsPending dense pages (q ∷ []) key zero parent p) (sym was) pending
 
   pub leaf_ended : (out new : List Numbered) (half : ℕ) → out ≡ without_image p xs → HalvesLeaf out new g.body key parent p q half → IsEnd old (seen s new) key p half × (1 ≤ length new) × Has new p × Has new half
   leaf_ended out new half out_is parts =
@@ -103,16 +103,16 @@ module _ (s : AllPages) (key : Key) (old : Pages) (xs : List Numbered) (up : IsR
       subst (λ (n : ℕ). Has (without_image p xs) n) (sym is)
       (out_has p (old p).next xs up (λ e. (leaf_apart old [] key parent p q pending.good pending.way pending.child).next_left more (sym e)) (has (old p).next refl more))
 
-  can_part : Rises g.body.entries → FitsPage true g.body.entries → CanSplit Leaf g.body (held (beneath s xs p g up page) (without_image p xs) parent) q
+  can_part : Rises g.body.entries → FitsPage true g.body.entries → CanSplit dense Leaf g.body (held (beneath s xs p g up page) (without_image p xs) parent) q
   can_part rises fits =
       let out = held (beneath s xs p g up page) (without_image p xs) in
       let is : out p ≡ g.body = out_at s xs p g up page in
-      subst (λ (c : Body). CanSplit Leaf c (out parent) q) is
+      subst (λ (c : Body). CanSplit dense Leaf c (out parent) q) is
       (leaf_can out (q ∷ []) key parent p q pending_out (subst (λ (c : Body). Rises c.entries) (sym is) rises) (subst (λ (c : Body). FitsPage true c.entries) (sym is) fits))
 
-  pub leaf_partable : (out : List Numbered) → out ≡ without_image p xs → Has xs parent → (1 ≤ (old p).next → Has xs (old p).next) → IsPartable out (beneath s xs p g up page) key parent p q g.body
+  pub leaf_partable : (out : List Numbered) → out ≡ without_image p xs → Has xs parent → (1 ≤ (old p).next → Has xs (old p).next) → IsPartable dense out (beneath s xs p g up page) key parent p q g.body
   leaf_partable out out_is above next =
-      subst (λ (l : List Numbered). IsPartable l (beneath s xs p g up page) key parent p q g.body) (sym out_is)
+      subst (λ (l : List Numbered). IsPartable dense l (beneath s xs p g up page) key parent p q g.body) (sym out_is)
       (record {
         good = pending_out.good;
         way = pending_out.way;
@@ -126,12 +126,12 @@ module _ (s : AllPages) (key : Key) (old : Pages) (xs : List Numbered) (up : IsR
 
 -- ---- the root
 
-module _ (s : AllPages) (key : Key) (xs : List Numbered) (up : IsRising xs) (l r : ℕ) (g : Page) (page : g ≡ page_in s xs 1) (pending : IsRootPending (seen s xs) (r ∷ l ∷ []) key zero) where
+module _ {dense : Bool} (s : AllPages) (key : Key) (xs : List Numbered) (up : IsRising xs) (l r : ℕ) (g : Page) (page : g ≡ page_in s xs 1) (pending : IsRootPending dense (seen s xs) (r ∷ l ∷ []) key zero) where
   root_was : held (beneath s xs 1 g up page) (without_image 1 xs) ≡ seen s xs
   root_was = out_same s xs 1 g up page
 
-  root_out : IsRootPending (held (beneath s xs 1 g up page) (without_image 1 xs)) (r ∷ l ∷ []) key zero
-  root_out = subst (λ (pages : Pages). IsRootPending pages (r ∷ l ∷ []) key zero) (sym root_was) pending
+  root_out : IsRootPending dense (held (beneath s xs 1 g up page) (without_image 1 xs)) (r ∷ l ∷ []) key zero
+  root_out = subst (λ (pages : Pages). IsRootPending dense pages (r ∷ l ∷ []) key zero) (sym root_was) pending
 
   pub root_ended : (out new : List Numbered) (half : ℕ) → out ≡ without_image 1 xs → HalvesRootLeaf out new g.body key l r half → IsEnd (seen s xs) (seen s new) key 1 half × (1 ≤ length new) × Has new 1 × Has new half
   root_ended out new half out_is parts =
@@ -151,8 +151,8 @@ module _ (s : AllPages) (key : Key) (xs : List Numbered) (up : IsRising xs) (l r
       ∙ (way_leaf (held (beneath s xs 1 g up page) (without_image 1 xs)) key 1
       (subst (λ (h : ℕ). IsOnWay (held (beneath s xs 1 g up page) (without_image 1 xs)) h key 1) root_out.tall (way_begins (held (beneath s xs 1 g up page) (without_image 1 xs)) (r ∷ l ∷ []) key root_out.good))).0
 
-  pub can_part_root : FitsPage true g.body.entries → CanHalve Leaf g.body
+  pub can_part_root : FitsPage true g.body.entries → CanHalve dense Leaf g.body
   can_part_root fits =
       let now = held (beneath s xs 1 g up page) (without_image 1 xs) in
       let is : now 1 ≡ g.body = out_at s xs 1 g up page in
-      subst (CanHalve Leaf) is (root_leaf_can now (r ∷ l ∷ []) key root_out (subst (λ (c : Body). FitsPage true c.entries) (sym is) fits))
+      subst (CanHalve dense Leaf) is (root_leaf_can now (r ∷ l ∷ []) key root_out (subst (λ (c : Body). FitsPage true c.entries) (sym is) fits))

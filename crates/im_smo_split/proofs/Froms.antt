@@ -1,5 +1,5 @@
 -- A split over pages that are taken for it.
-use Rattle.std.proofs.Common.{◌≡◌, ◌≢◌, ◌+◌, ◌-◌, ◌^◌, ◌<◌, ℕ, zero, true, false, List, [], refl, sym, ap, subst, ◌∙◌}
+use Rattle.std.proofs.Common.{◌≡◌, ◌≢◌, ◌+◌, ◌-◌, ◌^◌, ◌<◌, ℕ, zero, true, false, Bool, List, [], refl, sym, ap, subst, ◌∙◌}
 use Rattle.std.proofs.Math.Path.{fun_ext}
 use Rattle.im_base_types.specs.Keys.{Key}
 use Rattle.im_base_disk.specs.declared.disk.Disk.{Ghosts}
@@ -30,17 +30,17 @@ module _ (s : AllPages) (first : List Numbered) (none : first ≡ []) where
   pub too_few : (count : ℕ) → 2 ^ 32 - 1 + (seen s first 0).prev < (seen s first 0).leftmost + count → 2 ^ 32 - 1 + (bodies s 0).prev < (bodies s 0).leftmost + count
   too_few count = subst (λ (pages : Pages). 2 ^ 32 - 1 + (pages 0).prev < (pages 0).leftmost + count) (seen_none s first none)
 
-  module _ (key : Key) (top : Top) (is_top : IsTop (bodies s) key top) (mid : List Numbered) (numbers : List ℕ) (one : Taken s first numbers mid) where
+  module _ {dense : Bool} (key : Key) (top : Top) (is_top : IsTop dense (bodies s) key top) (mid : List Numbered) (numbers : List ℕ) (one : Taken s first numbers mid) where
     rest : (x : ℕ) → x ≢ 0 → seen s mid x ≡ bodies s x
     rest x other = one.rest x other ∙ ap (λ (pages : Pages). pages x) (seen_none s first none)
 
     pub has_taken_all : {D : Type 0} (d : Ghosts D) {w : PageWriter} {disk : D} → HasPages d AreLoaded s w disk → HasImages d s mid (newest_first numbers) w disk
     has_taken_all {D} d {w} {disk} has = record { has = has; good = one.good }
 
-    pub root_on : top.root ≡ true → IsRootPending (seen s mid) (newest_first numbers) key top.level
+    pub root_on : top.root ≡ true → IsRootPending dense (seen s mid) (newest_first numbers) key top.level
     root_on e = root_pending_stays (bodies s) (seen s mid) [] (newest_first numbers) key top.level (is_top.root e) one.good rest
 
-    pub under_on : top.root ≡ false → IsPending (seen s mid) (newest_first numbers) key top.level top.parent top.page
+    pub under_on : top.root ≡ false → IsPending dense (seen s mid) (newest_first numbers) key top.level top.parent top.page
     under_on e = pending_stays (bodies s) (seen s mid) [] (newest_first numbers) key top.level top.parent top.page (is_top.under e) one.good rest
 
     -- the split

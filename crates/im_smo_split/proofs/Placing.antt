@@ -72,21 +72,21 @@ leaf_at (suc k) = search rules
 -- ---- a step down
 
 -- the separator of c fits into page p
-module _ (pages : Pages) (key : Key) (k p c bytes : ℕ) (t : Top) (r : Bool) (good : IsGoodTree pages []) (was : IsPlaced pages key (suc k) p t) (child : IsChild (pages p) key c)
-    (up : HasUp (is_leaf_level k) (pages c) bytes) (room : IsRoom false (pages p) bytes r) where
+module _ {dense : Bool} (pages : Pages) (key : Key) (k p c bytes : ℕ) (t : Top) (r : Bool) (good : IsGoodTree pages []) (was : IsPlaced dense pages key (suc k) p t) (child : IsChild (pages p) key c)
+    (up : HasUp dense (is_leaf_level k) (pages c) bytes) (room : IsRoom false (pages p) bytes r) where
   abbrev next : OnPath
   next = record { page = c; point = up.point }
 
   goes : IsOnWay pages k key c
   goes = step_way pages k key p c was.way child
 
-  path_down : IsPath pages key k (next ∷ was.here ∷ was.above)
+  path_down : IsPath dense pages key k (next ∷ was.here ∷ was.above)
   path_down = (up.at, subst (λ (x : ℕ). IsChild (pages x) key c) (sym was.page) child, was.path)
 
   size_is : size false (separator pages next, 0) ≡ 1 + bytes + width false
   size_is = let e : length (separator pages next) ≡ bytes = sym up.bytes_are in omega (arith, e)
 
-  pub placed_under : r ≡ true → IsPlaced pages key k c (record { level = k; page = c; parent = p; root = false; pages = 1 })
+  pub placed_under : r ≡ true → IsPlaced dense pages key k c (record { level = k; page = c; parent = p; root = false; pages = 1 })
   placed_under fitting =
       let le : taken false (pages p).entries + (1 + bytes + width false + 2) ≤ 4064 = room.tells.0 (search (rules, fitting)) in
       let le_up : taken false (pages p).entries + (size false (separator pages next, 0) + 2) ≤ 4064 = omega (arith, le, size_is) in
@@ -115,7 +115,7 @@ module _ (pages : Pages) (key : Key) (k p c bytes : ℕ) (t : Top) (r : Bool) (g
       taken_one : taken false (pages was.here.page).entries + (size false (separator pages next, 0) + 2) ≤ 4064 → 1 ≡ pages_taken pages (next ∷ was.here ∷ was.above)
       taken_one le = grind (arith, le)
 
-  pub placed_over : r ≡ false → IsPlaced pages key k c (record t { pages = t.pages + 1 })
+  pub placed_over : r ≡ false → IsPlaced dense pages key k c (record t { pages = t.pages + 1 })
   placed_over full =
       let more : 4064 < taken false (pages p).entries + (1 + bytes + width false + 2) = over (cases_lt 4064 (taken false (pages p).entries + (1 + bytes + width false + 2))) in
       let more_up : 4064 < taken false (pages p).entries + (size false (separator pages next, 0) + 2) = omega (arith, more, size_is) in
@@ -128,7 +128,7 @@ module _ (pages : Pages) (key : Key) (k p c bytes : ℕ) (t : Top) (r : Bool) (g
         count = taken_more (subst (λ (x : ℕ). 4064 < taken false (pages x).entries + (size false (separator pages next, 0) + 2)) (sym was.page) more_up);
         splits = λ splits.
             let top = was.splits (λ d other.
-            subst (λ (x : ℕ). PassesUp pages (is_leaf_level k) x p × SplitsDown pages key k x) (one_child (pages p) key c d room.rises child other)
+            subst (λ (x : ℕ). PassesUp dense pages (is_leaf_level k) x p × SplitsDown dense pages key k x) (one_child (pages p) key c d room.rises child other)
             (record { point = up.point; at = up.at; lacks = record { key = omega (arith, up.short, up.bytes_are); more = more_up } }, splits)) in
             record { root = top.root; under = top.under };
       }
@@ -141,22 +141,22 @@ module _ (pages : Pages) (key : Key) (k p c bytes : ℕ) (t : Top) (r : Bool) (g
       taken_more lt = grind (arith, lt, was.count)
 
   pub placed : (level number : ℕ) (top : Top) → level ≡ k → number ≡ c → (r ≡ true → top ≡ record { level = level; page = c; parent = p; root = false; pages = 1 }) → (r ≡ false → top ≡ record t { pages = t.pages + 1 })
-      → IsPlaced pages key level number top
+      → IsPlaced dense pages key level number top
   placed level number top is_level is_number if_fits if_full =
       elim (cases_Bool r) [
         | inl fits_page ↦
-            subst (λ (x : ℕ). IsPlaced pages key x number top) (sym is_level)
-            (subst (λ (x : ℕ). IsPlaced pages key k x top) (sym is_number)
-            (subst (IsPlaced pages key k c) (sym (if_fits fits_page ∙ ap (λ (x : ℕ). record { level = x; page = c; parent = p; root = false; pages = 1 }) is_level)) (placed_under fits_page)))
+            subst (λ (x : ℕ). IsPlaced dense pages key x number top) (sym is_level)
+            (subst (λ (x : ℕ). IsPlaced dense pages key k x top) (sym is_number)
+            (subst (IsPlaced dense pages key k c) (sym (if_fits fits_page ∙ ap (λ (x : ℕ). record { level = x; page = c; parent = p; root = false; pages = 1 }) is_level)) (placed_under fits_page)))
         | inr over ↦
-            subst (λ (x : ℕ). IsPlaced pages key x number top) (sym is_level)
-            (subst (λ (x : ℕ). IsPlaced pages key k x top) (sym is_number) (subst (IsPlaced pages key k c) (sym (if_full over)) (placed_over over)))
+            subst (λ (x : ℕ). IsPlaced dense pages key x number top) (sym is_level)
+            (subst (λ (x : ℕ). IsPlaced dense pages key k x top) (sym is_number) (subst (IsPlaced dense pages key k c) (sym (if_full over)) (placed_over over)))
       ]
 
 -- ---- the root and the leaf
 
-pub root_placed : (pages : Pages) (key : Key) (h : ℕ) → IsGoodTree pages [] → h ≡ height pages
-    → IsPlaced pages key h 1 (record { level = h; page = 1; parent = 0; root = true; pages = 2 })
+pub root_placed : {dense : Bool} (pages : Pages) (key : Key) (h : ℕ) → IsGoodTree pages [] → h ≡ height pages
+    → IsPlaced dense pages key h 1 (record { level = h; page = 1; parent = 0; root = true; pages = 2 })
 root_placed pages key h good is = record {
   way = subst (λ (x : ℕ). IsOnWay pages x key 1) (sym is) (way_begins pages [] key good);
   here = record { page = 1; point = 0 };
@@ -170,11 +170,11 @@ root_placed pages key h good is = record {
   };
 }
 
-module _ (pages : Pages) (key : Key) (p : ℕ) (t : Top) (r : Bool) (was : IsPlaced pages key zero p t) (room : IsRoom true (pages p) (length key) r) where
+module _ {dense : Bool} (pages : Pages) (key : Key) (p : ℕ) (t : Top) (r : Bool) (was : IsPlaced dense pages key zero p t) (room : IsRoom true (pages p) (length key) r) where
   leaf_fits : IsTrue r → taken true (pages p).entries + (size true (key, 0) + 2) ≤ 4064
   leaf_fits fitting = let le : taken true (pages p).entries + (1 + length key + width true + 2) ≤ 4064 = room.tells.0 fitting in le
 
-  pub found_room : r ≡ true → IsFound pages key None
+  pub found_room : r ≡ true → IsFound dense pages key None
   found_room fitting =
       let le : taken true (pages p).entries + (size true (key, 0) + 2) ≤ 4064 = leaf_fits (search (rules, fitting)) in
       record {
@@ -187,7 +187,7 @@ module _ (pages : Pages) (key : Key) (p : ℕ) (t : Top) (r : Bool) (was : IsPla
       no_pages : taken true (pages was.here.page).entries + (size true (key, 0) + 2) ≤ 4064 → new_pages pages key (was.here ∷ was.above) ≡ 0
       no_pages le = grind (arith, le)
 
-  pub found_top : r ≡ false → length key ≤ 255 → IsFound pages key (Some t)
+  pub found_top : r ≡ false → length key ≤ 255 → IsFound dense pages key (Some t)
   found_top full short =
       let more : 4064 < taken true (pages p).entries + (size true (key, 0) + 2) = over (cases_lt 4064 (taken true (pages p).entries + (size true (key, 0) + 2))) in
       record {

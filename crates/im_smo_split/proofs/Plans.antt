@@ -1,5 +1,5 @@
 -- The plan of a split, from where it begins to what it answers.
-use Rattle.std.proofs.Common.{◌≡◌, ℕ, zero, ◌+◌, ◌-◌, ◌≤◌, ◌<◌, ◌^◌, true, List, [], length, Option, Some, None, inl, inr, refl, sym, ap, subst, ◌∙◌, arith}
+use Rattle.std.proofs.Common.{◌≡◌, ℕ, zero, ◌+◌, ◌-◌, ◌≤◌, ◌<◌, ◌^◌, true, Bool, List, [], length, Option, Some, None, inl, inr, refl, sym, ap, subst, ◌∙◌, arith}
 use Rattle.std.specs.Prelude.{Result, Ok, Err, IfErr}
 use Rattle.im_base_types.specs.declared.fault.Fault.{Fault}
 use Rattle.im_base_types.specs.declared.fault.Fault.TheVariants.{Capacity, PagesFull}
@@ -34,7 +34,7 @@ none_is xs some none = omega (arith, some, ap length none)
 
 module _ (s : AllPages) (key : Key) (max : Option ℕ) (images : List Numbered) (leaf : ℕ) where
   -- the leaf has room
-  pub planned_none : IsGoodTree (bodies s) [] → IsFound (bodies s) key None → images ≡ [] → Planned s key max images leaf
+  pub planned_none : {dense : Bool} → IsGoodTree (bodies s) [] → IsFound dense (bodies s) key None → images ≡ [] → Planned dense s key max images leaf
   planned_none good found none =
       let room : HasRoomFor (bodies s) key = (found.room refl).0 in
       let same : bodies s ≡ seen s images = sym (seen_none s images none) in
@@ -54,7 +54,7 @@ module _ (s : AllPages) (key : Key) (max : Option ℕ) (images : List Numbered) 
       }
 
   -- the leaf is split
-  pub planned : length key ≤ 255 → (top : Top) → IsFound (bodies s) key (Some top) → ((m : ℕ) → max ≡ Some m → IsWithin (bodies s) key m) → Ended s key [] images leaf → Planned s key max images leaf
+  pub planned : {dense : Bool} → length key ≤ 255 → (top : Top) → IsFound dense (bodies s) key (Some top) → ((m : ℕ) → max ≡ Some m → IsWithin dense (bodies s) key m) → Ended s key [] images leaf → Planned dense s key max images leaf
   planned short top found within end =
       let here : HasRoomFor (seen s images) key = room_for (seen s images) key short end.room in
       record {
@@ -76,12 +76,12 @@ module _ (s : AllPages) (key : Key) (max : Option ℕ) (images : List Numbered) 
 
 module _ (pages : Pages) (key : Key) (max : Option ℕ) where
   -- no pages were wanted
-  pub wants_none : (e : Fault) → (e ≡ Capacity → ⊥) → (e ≡ PagesFull → ⊥) → WantsPages pages key max e
+  pub wants_none : {dense : Bool} (e : Fault) → (e ≡ Capacity → ⊥) → (e ≡ PagesFull → ⊥) → WantsPages dense pages key max e
   wants_none e up full = record { full = λ is. absurd (full is); used_up = λ is. absurd (up is); whole_way = λ is. absurd (up is); lacks = λ is. elim is [ inl same ↦ absurd (up same) | inr same ↦ absurd (full same) ] }
 
-  module _ (top : Top) (found : IsFound pages key (Some top)) where
+  module _ {dense : Bool} (top : Top) (found : IsFound dense pages key (Some top)) where
     -- too many for the store
-    pub wants_fewer : (e : Fault) → (e ≡ Capacity → ⊥) → (e ≡ PagesFull → (m : ℕ) × (max ≡ Some m) × (m + (pages 0).prev < (pages 0).leftmost + top.pages)) → WantsPages pages key max e
+    pub wants_fewer : (e : Fault) → (e ≡ Capacity → ⊥) → (e ≡ PagesFull → (m : ℕ) × (max ≡ Some m) × (m + (pages 0).prev < (pages 0).leftmost + top.pages)) → WantsPages dense pages key max e
     wants_fewer e up full = record {
       full = λ is. let over = full is in (over.0, over.1, many_found pages key top over.0 found over.2);
       used_up = λ is. absurd (up is);
@@ -90,7 +90,7 @@ module _ (pages : Pages) (key : Key) (max : Option ℕ) where
     }
 
     -- the root is of the last level
-    pub wants_level : top.root ≡ true → top.level ≡ 255 → WantsPages pages key max Capacity
+    pub wants_level : top.root ≡ true → top.level ≡ 255 → WantsPages dense pages key max Capacity
     wants_level root level = record {
       full = λ is. absurd (let never : ⊥ = cc is in never);
       used_up = λ is. inr (last_level pages key top found root level);
@@ -99,8 +99,8 @@ module _ (pages : Pages) (key : Key) (max : Option ℕ) where
     }
 
     -- too many for page numbers
-    pub wants_numbers : {A : Type 0} (r : Result A Fault) → IfErr r (λ e. e ≡ PagesFull → ⊥) → IfErr r (λ e. e ≡ Capacity → 2 ^ 32 - 1 + (pages 0).prev < (pages 0).leftmost + top.pages) → IfErr r (WantsPages pages key max)
+    pub wants_numbers : {A : Type 0} (r : Result A Fault) → IfErr r (λ e. e ≡ PagesFull → ⊥) → IfErr r (λ e. e ≡ Capacity → 2 ^ 32 - 1 + (pages 0).prev < (pages 0).leftmost + top.pages) → IfErr r (WantsPages dense pages key max)
     wants_numbers {A} (Ok a) full up = tt
     wants_numbers {A} (Err e) full up =
-        let over : e ≡ Capacity → IsOver pages key (2 ^ 32 - 1) = λ is. many_found pages key top (2 ^ 32 - 1) found (up is) in
+        let over : e ≡ Capacity → IsOver dense pages key (2 ^ 32 - 1) = λ is. many_found pages key top (2 ^ 32 - 1) found (up is) in
         record { full = λ is. absurd (full is); used_up = λ is. inl (over is); whole_way = λ is. inl (over is); lacks = λ is. found.splits.2 }

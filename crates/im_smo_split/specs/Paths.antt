@@ -3,9 +3,9 @@ use Rattle.std.specs.Prelude.{◌≡◌, ℕ, suc, ◌+◌, Bool, true, false, L
 use Rattle.im_base_types.specs.Keys.{Key}
 use Rattle.im_theory_page.specs.Entry.{entry_at, taken, size}
 use Rattle.im_theory_page.specs.Child.{IsChild}
-use Rattle.im_theory_page.specs.Split.{half_page, IsSplitPoint}
 use Rattle.im_theory_tree.specs.Levels.{Pages, height}
 use Rattle.im_theory_tree.specs.KeySplits.{is_leaf_level}
+use Rattle.im_smo_pages.specs.Parts.{IsPoint}
 
 -- a page on a key's way, and the place where it would be split
 pub record OnPath : Type 0 where
@@ -16,11 +16,11 @@ pub record OnPath : Type 0 where
 abbrev pub separator : Pages → OnPath → Key
 separator pages x = (entry_at (pages x.page).entries x.point).0
 
--- the pages on a key's way, from the one of level k up to the root, each but the root with its split point
-abbrev pub IsPath : Pages → Key → ℕ → List OnPath → Type 0
-IsPath pages key k [] = ⊥
-IsPath pages key k (x ∷ []) = (x.page ≡ 1) × (height pages ≡ k)
-IsPath pages key k (x ∷ y ∷ up) = IsSplitPoint half_page (is_leaf_level k) (pages x.page).entries x.point × IsChild (pages y.page) key x.page × IsPath pages key (suc k) (y ∷ up)
+-- the pages on a key's way, from the one of level k up to the root, each but the root with its split point, where splits are dense or not
+abbrev pub IsPath : Bool → Pages → Key → ℕ → List OnPath → Type 0
+IsPath dense pages key k [] = ⊥
+IsPath dense pages key k (x ∷ []) = (x.page ≡ 1) × (height pages ≡ k)
+IsPath dense pages key k (x ∷ y ∷ up) = IsPoint dense (is_leaf_level k) (pages x.page) x.point × IsChild (pages y.page) key x.page × IsPath dense pages key (suc k) (y ∷ up)
 
 -- an entry with this key fits into the page
 abbrev pub fits_page : Pages → Bool → ℕ → Key → Bool

@@ -3,12 +3,12 @@ use Rattle.std.specs.Prelude.{◌≡◌, ◌↔◌, ◌+◌, ◌≤◌, ◌<◌,
 use Rattle.std.specs.Bool.{IsTrue}
 use Rattle.im_base_types.specs.Pages.{Body}
 use Rattle.im_theory_page.specs.Entry.{entry_at, taken, width, Rises}
-use Rattle.im_theory_page.specs.Split.{half_page, IsSplitPoint}
+use Rattle.im_smo_pages.specs.Parts.{IsPoint}
 
 -- the key that would move up to the parent has so many bytes
-pub record HasUp (leaf : Bool) (page : Body) (bytes : ℕ) : Type 0 where
+pub record HasUp (dense leaf : Bool) (page : Body) (bytes : ℕ) : Type 0 where
   pub point : ℕ
-  pub at : IsSplitPoint half_page leaf page.entries point
+  pub at : IsPoint dense leaf page point
   pub bytes_are : bytes ≡ length (entry_at page.entries point).0
   pub short : bytes ≤ 255
 

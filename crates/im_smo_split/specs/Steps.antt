@@ -1,5 +1,5 @@
 -- What the steps of a split keep.
-use Rattle.std.specs.Prelude.{◌≡◌, ℕ, List}
+use Rattle.std.specs.Prelude.{◌≡◌, ℕ, Bool, List}
 use Rattle.im_base_types.specs.Keys.{Key}
 use Rattle.im_base_types.specs.Pages.{Body}
 use Rattle.im_theory_page.specs.Entry.{entry_at, Rises}
@@ -38,8 +38,8 @@ pub record Brought (store : AllPages) (images : List Numbered) (number : ℕ) (n
   pub same : seen store new ≡ seen store images
 
 -- A page is to be split whose parent is among the images, and the walk is that of before.
-pub record LeavesPending (store : AllPages) (key : Key) (images : List Numbered) (pending : PendingSplit) (new : List Numbered) (numbers : List ℕ) : Type 0 where
-  pub pending_is : IsPending (seen store new) (newest_first numbers) key pending.level pending.parent pending.page
+pub record LeavesPending (dense : Bool) (store : AllPages) (key : Key) (images : List Numbered) (pending : PendingSplit) (new : List Numbered) (numbers : List ℕ) : Type 0 where
+  pub pending_is : IsPending dense (seen store new) (newest_first numbers) key pending.level pending.parent pending.page
   pub parent : Has new pending.parent
   pub same : walk (seen store new) ≡ walk (seen store images)
   pub ways : KeepsAllWays (seen store images) (seen store new)

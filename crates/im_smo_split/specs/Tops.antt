@@ -1,5 +1,5 @@
 -- Where a split begins: the highest page that splits.
-use Rattle.std.specs.Prelude.{◌≡◌, ◌+◌, ℕ, true, false, List, [], ◌∷◌, Option, None, IfSome}
+use Rattle.std.specs.Prelude.{◌≡◌, ◌+◌, ℕ, true, false, Bool, List, [], ◌∷◌, Option, None, IfSome}
 use Rattle.im_base_types.specs.Keys.{Key}
 use Rattle.im_theory_page.specs.Split.{HasRoom}
 use Rattle.im_theory_tree.specs.Levels.{Pages}
@@ -12,9 +12,9 @@ use Rattle.im_smo_split.specs.PendingSplits.{SplitsDown, IsPending, IsRootPendin
 use Rattle.im_smo_split.specs.Paths.{OnPath, IsPath, pages_taken, new_pages}
 
 -- the page that was found is to be split
-pub record IsTop (pages : Pages) (key : Key) (top : Top) : Type 0 where
-  pub root : top.root ≡ true → IsRootPending pages [] key top.level
-  pub under : top.root ≡ false → IsPending pages [] key top.level top.parent top.page
+pub record IsTop (dense : Bool) (pages : Pages) (key : Key) (top : Top) : Type 0 where
+  pub root : top.root ≡ true → IsRootPending dense pages [] key top.level
+  pub under : top.root ≡ false → IsPending dense pages [] key top.level top.parent top.page
 
 -- the split of the page of this level takes a page for each level from there up to the highest page that splits, and one more for the root
 pub record IsCounted (level : ℕ) (top : Top) : Type 0 where
@@ -28,14 +28,14 @@ pub record StandsAt (pool : PoolView) (place : Place) : Type 0 where
   pub counted : IsCounted place.level place.top
 
 -- A page on the key's way, with the highest page that splits where this one does.
-pub record IsPlaced (pages : Pages) (key : Key) (level number : ℕ) (top : Top) : Type 0 where
+pub record IsPlaced (dense : Bool) (pages : Pages) (key : Key) (level number : ℕ) (top : Top) : Type 0 where
   pub way : IsOnWay pages level key number
   pub here : OnPath
   pub above : List OnPath
   pub page : here.page ≡ number
-  pub path : IsPath pages key level (here ∷ above)
+  pub path : IsPath dense pages key level (here ∷ above)
   pub count : top.pages ≡ pages_taken pages (here ∷ above)
-  pub splits : SplitsDown pages key level number → IsTop pages key top
+  pub splits : SplitsDown dense pages key level number → IsTop dense pages key top
 
 -- the key's leaf has room for its entry
 pub record HasRoomFor (pages : Pages) (key : Key) : Type 0 where
@@ -50,8 +50,8 @@ pub record LacksRoomFor (pages : Pages) (key : Key) : Type 0 where
   pub lacks : HasRoom true (pages page).entries (key, 0) → ⊥
 
 -- Where the key's leaf lacks room for its entry, the highest page that splits, and how many pages the split takes; none where it has room.
-pub record IsFound (pages : Pages) (key : Key) (found : Option Top) : Type 0 where
+pub record IsFound (dense : Bool) (pages : Pages) (key : Key) (found : Option Top) : Type 0 where
   pub path : List OnPath
-  pub is_path : IsPath pages key 0 path
+  pub is_path : IsPath dense pages key 0 path
   pub room : found ≡ None → HasRoomFor pages key × (new_pages pages key path ≡ 0)
-  pub splits : IfSome found (λ t. IsTop pages key t × (t.pages ≡ new_pages pages key path) × LacksRoomFor pages key)
+  pub splits : IfSome found (λ t. IsTop dense pages key t × (t.pages ≡ new_pages pages key path) × LacksRoomFor pages key)

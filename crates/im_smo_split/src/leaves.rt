@@ -67,16 +67,17 @@ fn part_leaf(
     pending: PendingSplit,
     q: PageNo,
     key: &[u8],
+    dense: bool,
 ) -> Result<PageNo, Fault>
     ensures halves { IfOk result (HalvesLeaf images.old images.new page.now.body key.now pending.parent pending.page q) }
     ensures causes { IfErr result (λ e. (e ≡ Memory) ⊎ (e ≡ NotAStore)) }
     ensures sound { (pages : Pages) (spare : List ℕ) → IsGoodTree (held pages images.old) (q ∷ spare) → IsOnWay (held pages images.old) (suc zero) key.now pending.parent
         → IsChild (held pages images.old pending.parent) key.now pending.page → held pages images.old pending.page ≡ page.now.body → Has images.old pending.parent
         → (1 ≤ page.now.body.next → Has images.old page.now.body.next)
-        → page.now.body.kind ≡ Leaf → (Rises page.now.body.entries → FitsPage true page.now.body.entries → CanSplit Leaf page.now.body (held pages images.old pending.parent) q) → result ≡ Err NotAStore → ⊥ }
+        → page.now.body.kind ≡ Leaf → (Rises page.now.body.entries → FitsPage true page.now.body.entries → CanSplit dense Leaf page.now.body (held pages images.old pending.parent) q) → result ≡ Err NotAStore → ⊥ }
 {
     page.content();
-    let half = images.split_leaf_for(alloc, key, page, pending.parent, pending.page, q)?;
+    let half = images.split_leaf_for(alloc, key, page, pending.parent, pending.page, q, dense)?;
     Ok(half)
 }
 
@@ -88,13 +89,14 @@ fn part_root_leaf(
     left: PageNo,
     right: PageNo,
     key: &[u8],
+    dense: bool,
 ) -> Result<PageNo, Fault>
     ensures halves { IfOk result (HalvesRootLeaf images.old images.new page.now.body key.now left right) }
     ensures causes { IfErr result (λ e. (e ≡ Memory) ⊎ (e ≡ NotAStore)) }
-    ensures sound { page.now.body.kind ≡ Leaf → (FitsPage true page.now.body.entries → CanHalve Leaf page.now.body) → result ≡ Err NotAStore → ⊥ }
+    ensures sound { page.now.body.kind ≡ Leaf → (FitsPage true page.now.body.entries → CanHalve dense Leaf page.now.body) → result ≡ Err NotAStore → ⊥ }
 {
     page.content();
-    let half = images.split_root_leaf_for(alloc, key, page, left, right)?;
+    let half = images.split_root_leaf_for(alloc, key, page, left, right, dense)?;
     Ok(half)
 }
 
@@ -112,20 +114,21 @@ pub(crate) fn split_pending_leaf<D: Disk>(
     disk: &mut D,
     key: &[u8],
     pending: PendingSplit,
+    dense: bool,
 ) -> Result<PageNo, Fault>
     requires ready { IsReadyWriter D.Disk writer.old disk.old }
     requires working { writer.old.failed ≡ false }
     requires counted { length numbers.old.items ≡ 1 }
     ensures outcome { Plans D.Disk writer.old disk.old writer.new disk.new (fault_of result) }
     ensures kept { (store : AllPages) → HasImages D.Disk store images.old (newest_first numbers.old.items) writer.old disk.old
-        → IsPending (seen store images.old) (newest_first numbers.old.items) key.now zero pending.parent pending.page → Has images.old pending.parent
+        → IsPending dense (seen store images.old) (newest_first numbers.old.items) key.now zero pending.parent pending.page → Has images.old pending.parent
         → IsSound result (Ended store key.now images.old images.new) }
 {
     let q = numbers.take_last();
     bring_both(alloc, images, writer, disk, pending.page)?;
     images.rise();
     let page = image(alloc, images, writer, disk, pending.page)?;
-    part_leaf(alloc, images, &page, pending, q, key)
+    part_leaf(alloc, images, &page, pending, q, key, dense)
 }
 
 /// Splits the root, a leaf, into the two pages that were taken, and answers the key's. Refused as `split_pending_leaf` is.
@@ -136,18 +139,19 @@ pub(crate) fn split_root_leaf<D: Disk>(
     writer: &mut PageWriter,
     disk: &mut D,
     key: &[u8],
+    dense: bool,
 ) -> Result<PageNo, Fault>
     requires ready { IsReadyWriter D.Disk writer.old disk.old }
     requires working { writer.old.failed ≡ false }
     requires counted { length numbers.old.items ≡ 2 }
     ensures outcome { Plans D.Disk writer.old disk.old writer.new disk.new (fault_of result) }
     ensures kept { (store : AllPages) → HasImages D.Disk store images.old (newest_first numbers.old.items) writer.old disk.old
-        → IsRootPending (seen store images.old) (newest_first numbers.old.items) key.now zero
+        → IsRootPending dense (seen store images.old) (newest_first numbers.old.items) key.now zero
         → IsSound result (Ended store key.now images.old images.new) }
 {
     let right = numbers.take_last();
     let left = numbers.take_last();
     images.rise();
     let page = image(alloc, images, writer, disk, 1)?;
-    part_root_leaf(alloc, images, &page, left, right, key)
+    part_root_leaf(alloc, images, &page, left, right, key, dense)
 }

@@ -1,6 +1,6 @@
 //! From one page that splits to the next.
 
-ghost use Rattle.std.specs.Prelude.{◌≡◌, ◌≤◌, ◌<◌, ◌⊎◌, ◌+◌, ℕ, true, false, Ok, Err, IfErr, IfOk, length};
+ghost use Rattle.std.specs.Prelude.{◌≡◌, ◌≤◌, ◌<◌, ◌⊎◌, ◌+◌, ℕ, true, false, Ok, Err, IfErr, IfOk, length, Bool};
 ghost use Rattle.im_base_types.specs.declared.fault.Fault.TheVariants.{Memory, NotAStore};
 ghost use Rattle.im_base_types.specs.declared.page_kind.PageKind.TheVariants.{Inner};
 ghost use Rattle.im_theory_page.specs.Entry.{entry_at};
@@ -83,7 +83,7 @@ fn part_inner(
     ensures level { IfOk result (λ next. next.level + 1 ≡ pending.level) }
     ensures causes { IfErr result (λ e. (e ≡ Memory) ⊎ (e ≡ NotAStore)) }
     ensures sound { (pages : Pages) → Has images.old pending.parent → HasLevel pending.level page.now.body
-        → ((c : ℕ) → FitsPage false page.now.body.entries → IsChild page.now.body key.now c → CanSplit Inner page.now.body (held pages images.old pending.parent) q) → result ≡ Err NotAStore → ⊥ }
+        → ((c : ℕ) → FitsPage false page.now.body.entries → IsChild page.now.body key.now c → CanSplit false Inner page.now.body (held pages images.old pending.parent) q) → result ≡ Err NotAStore → ⊥ }
 {
     page.content();
     let child = child_in(page, pending.level, key)?;
@@ -110,7 +110,7 @@ fn part_root(
     ensures halves { IfOk result (λ next. HalvesRoot images.old images.new page.now.body key.now left right next.parent next.page) }
     ensures level { IfOk result (λ next. next.level + 1 ≡ level) }
     ensures causes { IfErr result (λ e. (e ≡ Memory) ⊎ (e ≡ NotAStore)) }
-    ensures sound { HasLevel level page.now.body → ((c : ℕ) → FitsPage false page.now.body.entries → IsChild page.now.body key.now c → CanHalve Inner page.now.body) → result ≡ Err NotAStore → ⊥ }
+    ensures sound { HasLevel level page.now.body → ((c : ℕ) → FitsPage false page.now.body.entries → IsChild page.now.body key.now c → CanHalve false Inner page.now.body) → result ≡ Err NotAStore → ⊥ }
 {
     page.content();
     let child = child_in(page, level, key)?;
@@ -139,9 +139,9 @@ pub(crate) fn split_pending_inner<D: Disk>(
     requires inner { 1 ≤ pending.level }
     requires counted { length numbers.old.items ≡ pending.level + 1 }
     ensures outcome { Plans D.Disk writer.old disk.old writer.new disk.new (fault_of result) }
-    ensures kept { (store : AllPages) → HasImages D.Disk store images.old (newest_first numbers.old.items) writer.old disk.old
-        → IsPending (seen store images.old) (newest_first numbers.old.items) key.now pending.level pending.parent pending.page → Has images.old pending.parent
-        → IsSound result (λ next. LeavesPending store key.now images.old next images.new numbers.new.items) }
+    ensures kept { (dense : Bool) (store : AllPages) → HasImages D.Disk store images.old (newest_first numbers.old.items) writer.old disk.old
+        → IsPending dense (seen store images.old) (newest_first numbers.old.items) key.now pending.level pending.parent pending.page → Has images.old pending.parent
+        → IsSound result (λ next. LeavesPending dense store key.now images.old next images.new numbers.new.items) }
     ensures level { IfOk result (λ next. next.level + 1 ≡ pending.level) }
     ensures counted { IfOk result (λ next. length numbers.new.items ≡ next.level + 1) }
 {
@@ -168,9 +168,9 @@ pub(crate) fn split_pending_root<D: Disk>(
     requires low { level < 255 }
     requires counted { length numbers.old.items ≡ level + 2 }
     ensures outcome { Plans D.Disk writer.old disk.old writer.new disk.new (fault_of result) }
-    ensures kept { (store : AllPages) → HasImages D.Disk store images.old (newest_first numbers.old.items) writer.old disk.old
-        → IsRootPending (seen store images.old) (newest_first numbers.old.items) key.now level
-        → IsSound result (λ next. LeavesPending store key.now images.old next images.new numbers.new.items) }
+    ensures kept { (dense : Bool) (store : AllPages) → HasImages D.Disk store images.old (newest_first numbers.old.items) writer.old disk.old
+        → IsRootPending dense (seen store images.old) (newest_first numbers.old.items) key.now level
+        → IsSound result (λ next. LeavesPending dense store key.now images.old next images.new numbers.new.items) }
     ensures level { IfOk result (λ next. next.level + 1 ≡ level) }
     ensures counted { IfOk result (λ next. length numbers.new.items ≡ next.level + 1) }
 {
@@ -199,10 +199,10 @@ pub(crate) fn first_pending<D: Disk>(
     requires is_counted { IsCounted 0 top }
     requires counted { length numbers.old.items ≡ top.pages }
     ensures outcome { Plans D.Disk writer.old disk.old writer.new disk.new (fault_of result) }
-    ensures kept { (store : AllPages) → HasImages D.Disk store images.old (newest_first numbers.old.items) writer.old disk.old
-        → (top.root ≡ true → IsRootPending (seen store images.old) (newest_first numbers.old.items) key.now top.level)
-        → (top.root ≡ false → IsPending (seen store images.old) (newest_first numbers.old.items) key.now top.level top.parent top.page)
-        → IsSound result (λ next. LeavesPending store key.now images.old next images.new numbers.new.items) }
+    ensures kept { (dense : Bool) (store : AllPages) → HasImages D.Disk store images.old (newest_first numbers.old.items) writer.old disk.old
+        → (top.root ≡ true → IsRootPending dense (seen store images.old) (newest_first numbers.old.items) key.now top.level)
+        → (top.root ≡ false → IsPending dense (seen store images.old) (newest_first numbers.old.items) key.now top.level top.parent top.page)
+        → IsSound result (λ next. LeavesPending dense store key.now images.old next images.new numbers.new.items) }
     ensures counted { IfOk result (λ pending. length numbers.new.items ≡ pending.level + 1) }
 {
     if top.root {

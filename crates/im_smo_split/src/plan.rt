@@ -61,6 +61,7 @@ fn split_down<D: Disk>(
     disk: &mut D,
     key: &[u8],
     top: Top,
+    dense: bool,
 ) -> Result<PageNo, Fault>
     requires ready { IsReadyWriter D.Disk writer.old disk.old }
     requires working { writer.old.failed ≡ false }
@@ -69,18 +70,18 @@ fn split_down<D: Disk>(
     requires counted { length numbers.old.items ≡ top.pages }
     ensures outcome { Plans D.Disk writer.old disk.old writer.new disk.new (fault_of result) }
     ensures kept { (store : AllPages) → HasImages D.Disk store images.old (newest_first numbers.old.items) writer.old disk.old
-        → (top.root ≡ true → IsRootPending (seen store images.old) (newest_first numbers.old.items) key.now top.level)
-        → (top.root ≡ false → IsPending (seen store images.old) (newest_first numbers.old.items) key.now top.level top.parent top.page)
+        → (top.root ≡ true → IsRootPending dense (seen store images.old) (newest_first numbers.old.items) key.now top.level)
+        → (top.root ≡ false → IsPending dense (seen store images.old) (newest_first numbers.old.items) key.now top.level top.parent top.page)
         → IsSound result (Ended store key.now images.old images.new) }
 {
     if top.root && top.level == 0 {
-        return split_root_leaf(alloc, images, numbers, writer, disk, key);
+        return split_root_leaf(alloc, images, numbers, writer, disk, key, dense);
     }
     let mut pending = first_pending(alloc, images, numbers, writer, disk, key, top)?;
     while 0 < pending.level {
         pending = split_pending_inner(alloc, images, numbers, writer, disk, key, pending)?;
     }
-    split_pending_leaf(alloc, images, numbers, writer, disk, key, pending)
+    split_pending_leaf(alloc, images, numbers, writer, disk, key, pending, dense)
 }
 
 // Takes the pages that a split needs, and splits from the highest page down.
@@ -90,26 +91,36 @@ fn split_from<D: Disk>(
     disk: &mut D,
     key: &[u8],
     top: Top,
+    dense: bool,
 ) -> Result<SplitPlan, Fault>
     requires ready { IsReadyWriter D.Disk writer.old disk.old }
     requires working { writer.old.failed ≡ false }
     requires low { top.root ≡ true → top.level < 255 }
     requires is_counted { IsCounted 0 top }
     ensures outcome { Outcome D.Disk AreLoaded mild_to_take writer.old disk.old writer.new disk.new (fault_of result) }
-    ensures kept { (store : AllPages) → HasPages D.Disk AreLoaded store writer.old disk.old → IsGoodTree (bodies store) [] → IsTop (bodies store) key.now top
+    ensures kept { (store : AllPages) → HasPages D.Disk AreLoaded store writer.old disk.old → IsGoodTree (bodies store) [] → IsTop dense (bodies store) key.now top
         → IsSound result (λ plan. Ended store key.now [] plan.images plan.leaf) }
-    ensures used_up { (store : AllPages) → HasPages D.Disk AreLoaded store writer.old disk.old → IsGoodTree (bodies store) [] → IsTop (bodies store) key.now top
+    ensures used_up { (store : AllPages) → HasPages D.Disk AreLoaded store writer.old disk.old → IsGoodTree (bodies store) [] → IsTop dense (bodies store) key.now top
         → IfErr result (λ e. e ≡ Capacity → 2 ^ 32 - 1 + (bodies store 0).prev < (bodies store 0).leftmost + top.pages) }
 {
     let mut images = Images::new(alloc);
     let mut numbers = take_pages(alloc, &mut images, writer, disk, top.pages)?;
-    let leaf = split_down(alloc, &mut images, &mut numbers, writer, disk, key, top)?;
+    let leaf = split_down(
+        alloc,
+        &mut images,
+        &mut numbers,
+        writer,
+        disk,
+        key,
+        top,
+        dense,
+    )?;
     Ok(SplitPlan { images, leaf })
 }
 
 /// The pages that have to be written before a key's entry goes into its leaf, as images: none where the leaf has room for it. Put in
 /// the place of the pages that are there they are a good tree with the same entries, whose leaf for the key has room; which page that
-/// is, is answered beside them.
+/// is, is answered beside them. Where splits are `dense` the last leaf of the chain keeps nearly all of its room (`point_of` of im_smo_pages).
 ///
 /// Refused `PagesFull` exactly where the store would have more than `max` pages that are not free, which is decided before a page is
 /// taken; `Capacity` where it would have more than 2^32 - 1, or the root is of level 255 and has to be split; otherwise as `image` is.
@@ -120,15 +131,16 @@ pub fn plan_split<D: Disk>(
     disk: &mut D,
     key: &[u8],
     max: Option<PageNo>,
+    dense: bool,
 ) -> Result<SplitPlan, Fault>
     requires ready { IsReadyWriter D.Disk writer.old disk.old }
     requires working { writer.old.failed ≡ false }
     requires short { length key.now ≤ 255 }
     ensures outcome { Outcome D.Disk AreLoaded (mild_to_split max) writer.old disk.old writer.new disk.new (fault_of result) }
-    ensures kept { (store : AllPages) → HasPages D.Disk AreLoaded store writer.old disk.old → IsGoodTree (bodies store) [] → IsSound result (λ plan. Planned store key.now max plan.images plan.leaf) }
-    ensures wants { (store : AllPages) → HasPages D.Disk AreLoaded store writer.old disk.old → IsGoodTree (bodies store) [] → IfErr result (WantsPages (bodies store) key.now max) }
+    ensures kept { (store : AllPages) → HasPages D.Disk AreLoaded store writer.old disk.old → IsGoodTree (bodies store) [] → IsSound result (λ plan. Planned dense store key.now max plan.images plan.leaf) }
+    ensures wants { (store : AllPages) → HasPages D.Disk AreLoaded store writer.old disk.old → IsGoodTree (bodies store) [] → IfErr result (WantsPages dense (bodies store) key.now max) }
 {
-    let Some(top) = find_top(writer, disk, key)? else {
+    let Some(top) = find_top(writer, disk, key, dense)? else {
         let images = Images::new(alloc);
         return Ok(SplitPlan { images, leaf: 0 });
     };
@@ -136,5 +148,5 @@ pub fn plan_split<D: Disk>(
     if top.root && top.level == 255 {
         return Err(Fault::Capacity);
     }
-    split_from(alloc, writer, disk, key, top)
+    split_from(alloc, writer, disk, key, top, dense)
 }

@@ -14,8 +14,9 @@ ghost use Rattle.im_smo_split.specs.Readings.{HasUp, IsRoom, IsKeyRoom, IsFull};
 
 use im_base_disk::Disk;
 use im_base_types::{Fault, PageKind, PageNo};
-use im_page::{HALF_PAGE, Page};
+use im_page::Page;
 use im_page_writer::PageWriter;
+use im_smo_pages::point_of;
 
 /// The child of a page above the leaves on a key's way.
 pub(crate) fn child_at(page: &Page, level: u8, key: &[u8]) -> PageNo
@@ -26,13 +27,13 @@ pub(crate) fn child_at(page: &Page, level: u8, key: &[u8]) -> PageNo
     page.child(key) as u32
 }
 
-/// How many bytes the key has that moves up where a page of this level is split.
-pub(crate) fn up_in(page: &Page, level: u8) -> usize
+/// How many bytes the key has that moves up where a page of this level is split, dense or not.
+pub(crate) fn up_in(page: &Page, level: u8, dense: bool) -> usize
     requires { HasLevel level page.now.body }
-    ensures up { HasUp (is_leaf_kind (kind_at level)) page.now.body result }
+    ensures up { HasUp dense (is_leaf_kind (kind_at level)) page.now.body result }
     ensures short { result ≤ 255 }
 {
-    let point = page.split_point(HALF_PAGE);
+    let point = point_of(page, dense);
     if point == page.len() {
         return 0;
     }

@@ -43,6 +43,7 @@ fn step_down<D: Disk>(
     disk: &mut D,
     place: Place,
     key: &[u8],
+    dense: bool,
 ) -> Result<Place, Fault>
     requires ready { IsReadyWriter D.Disk writer.old disk.old }
     requires at { IsAt writer.old.pool place.frame }
@@ -50,8 +51,8 @@ fn step_down<D: Disk>(
     requires inner { 1 ≤ place.level }
     requires counted { IsCounted place.level place.top }
     ensures outcome { Reads D.Disk writer.old disk.old writer.new disk.new (fault_of result) }
-    ensures kept { (store : AllPages) → HasPages D.Disk AreLoaded store writer.old disk.old → IsGoodTree (bodies store) [] → IsPlaced (bodies store) key.now place.level place.frame.number place.top
-        → IsSound result (λ next. IsPlaced (bodies store) key.now next.level next.frame.number next.top) }
+    ensures kept { (store : AllPages) → HasPages D.Disk AreLoaded store writer.old disk.old → IsGoodTree (bodies store) [] → IsPlaced dense (bodies store) key.now place.level place.frame.number place.top
+        → IsSound result (λ next. IsPlaced dense (bodies store) key.now next.level next.frame.number next.top) }
     ensures stands { IfOk result (StandsAt writer.new.pool) }
     ensures level { IfOk result (λ next. next.level + 1 ≡ place.level) }
     ensures gets { OnOk result (writer.new.pool.gets ≡ writer.old.pool.gets + 1) }
@@ -61,7 +62,7 @@ fn step_down<D: Disk>(
     let child = child_at(page, place.level, key);
     let room = key_room(page, place.level);
     let frame = tree_page(writer, disk, child, level)?;
-    let bytes = up_in(writer.page(frame), level);
+    let bytes = up_in(writer.page(frame), level, dense);
     let fits = fits_in(room, bytes);
     Ok(next_place(place, frame, fits))
 }
@@ -96,8 +97,8 @@ fn next_place(place: Place, child: Frame, fits: bool) -> Place
     }
 }
 
-/// The highest page that splits before a key's entry goes into its leaf; none where the leaf has room for it. It takes one get for each
-/// level.
+/// The highest page that splits before a key's entry goes into its leaf, where splits are dense or not; none where the leaf has room for it.
+/// It takes one get for each level.
 ///
 /// Refused `NotAStore` where a page on the way is none of its level; otherwise as `PageWriter::get` is.
 #[tactic(auto, using(im_page_writer::proofs::Outcomes::then, im_page_writer::proofs::Outcomes::refused))]
@@ -105,11 +106,12 @@ pub(crate) fn find_top<D: Disk>(
     writer: &mut PageWriter,
     disk: &mut D,
     key: &[u8],
+    dense: bool,
 ) -> Result<Option<Top>, Fault>
     requires ready { IsReadyWriter D.Disk writer.old disk.old }
     requires short { length key.now ≤ 255 }
     ensures outcome { Reads D.Disk writer.old disk.old writer.new disk.new (fault_of result) }
-    ensures kept { (store : AllPages) → HasPages D.Disk AreLoaded store writer.old disk.old → IsGoodTree (bodies store) [] → IsSound result (IsFound (bodies store) key.now) }
+    ensures kept { (store : AllPages) → HasPages D.Disk AreLoaded store writer.old disk.old → IsGoodTree (bodies store) [] → IsSound result (IsFound dense (bodies store) key.now) }
     ensures counted { IfOk result (λ found. IfSome found (IsCounted 0)) }
     ensures gets { (store : AllPages) → HasPages D.Disk AreLoaded store writer.old disk.old → IsGoodTree (bodies store) [] → OnOk result (writer.new.pool.gets ≡ writer.old.pool.gets + (height (bodies store) + 1)) }
 {
@@ -127,7 +129,7 @@ pub(crate) fn find_top<D: Disk>(
         },
     };
     while 0 < place.level {
-        place = step_down(writer, disk, place, key)?;
+        place = step_down(writer, disk, place, key, dense)?;
     }
     if room_in(writer.page(place.frame), place.level, key.len()) {
         return Ok(None);

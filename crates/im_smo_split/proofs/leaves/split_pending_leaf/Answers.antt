@@ -27,8 +27,8 @@ pub returns-clause-kept : goal.returns-clause-kept
 returns-clause-kept g c store has pending above =
     let both = c.in_ok-bring_both.ensures.kept store has.has in
     let q = c.take_last-q.result in
-    let one : IsPending (seen store c.args.images.now) (q ∷ []) c.args.key.now zero c.args.pending.parent c.args.pending.page =
-    subst (λ (ns : List ℕ). IsPending (seen store c.args.images.now) ns c.args.key.now zero c.args.pending.parent c.args.pending.page)
+    let one : IsPending c.args.dense (seen store c.args.images.now) (q ∷ []) c.args.key.now zero c.args.pending.parent c.args.pending.page =
+    subst (λ (ns : List ℕ). IsPending c.args.dense (seen store c.args.images.now) ns c.args.key.now zero c.args.pending.parent c.args.pending.page)
     (last_one c.args.numbers.now.items c.take_last-q.new.self.items q c.take_last-q.ensures.items c.requires.counted) pending in
     let page = c.deref.result.now in
     let page_is = c.deref.ensures ∙ c.in_ok-page.ensures.kept store (pages_still g.D.Disk has.has c.in_ok-bring_both.ensures.outcome) in

@@ -18,8 +18,8 @@ pub returns-clause-kept : goal.returns-clause-kept
 returns-clause-kept g c store has pending =
     let l = c.take_last-left.result in
     let r = c.take_last-right.result in
-    let one : IsRootPending (seen store c.args.images.now) (r ∷ l ∷ []) c.args.key.now zero =
-    subst (λ (ns : List ℕ). IsRootPending (seen store c.args.images.now) ns c.args.key.now zero)
+    let one : IsRootPending c.args.dense (seen store c.args.images.now) (r ∷ l ∷ []) c.args.key.now zero =
+    subst (λ (ns : List ℕ). IsRootPending c.args.dense (seen store c.args.images.now) ns c.args.key.now zero)
     (last_two c.args.numbers.now.items c.take_last-right.new.self.items c.take_last-left.new.self.items l r c.take_last-right.ensures.items c.take_last-left.ensures.items c.requires.counted) pending in
     let page = c.deref.result.now in
     let page_is = c.deref.ensures ∙ c.in_ok-page.ensures.kept store has.has in

@@ -12,9 +12,9 @@ invariant-loop-pending g l = record {
   outcome : Plans g.D.Disk l.fn.writer l.fn.disk l.writer l.disk None;
   counted : length l.numbers.items ≡ l.pending.level + 1;
   kept : (store : AllPages) → HasImages g.D.Disk store l.fn.images (newest_first l.fn.numbers.items) l.fn.writer l.fn.disk
-      → (l.fn.top.root ≡ true → IsRootPending (seen store l.fn.images) (newest_first l.fn.numbers.items) l.key l.fn.top.level)
-      → (l.fn.top.root ≡ false → IsPending (seen store l.fn.images) (newest_first l.fn.numbers.items) l.key l.fn.top.level l.fn.top.parent l.fn.top.page)
-      → LeavesPending store l.key l.fn.images l.pending l.images l.numbers.items;
+      → (l.fn.top.root ≡ true → IsRootPending l.dense (seen store l.fn.images) (newest_first l.fn.numbers.items) l.key l.fn.top.level)
+      → (l.fn.top.root ≡ false → IsPending l.dense (seen store l.fn.images) (newest_first l.fn.numbers.items) l.key l.fn.top.level l.fn.top.parent l.fn.top.page)
+      → LeavesPending l.dense store l.key l.fn.images l.pending l.images l.numbers.items;
 }
 
 abbrev pub decreases-loop-pending : goal.decreases-loop-pending

@@ -26,7 +26,7 @@ loop-place-init g c =
           let r = e.kept store c.args.key.now (record { has = has; spare = []; good = good }) in
           let same : c.page.result.now ≡ store 1 = c.page.ensures.page ∙ r.shown ∙ ap store e.root in
           let tall : c.level-level.result ≡ height (bodies store) = c.level-level.ensures ∙ ap (λ (x : Page). x.body.level) same in
-          subst (λ (n : ℕ). IsPlaced (bodies store) c.args.key.now c.level-level.result n (record { level = c.level-level.result; page = 1; parent = 0; root = true; pages = 2 })) (sym e.root)
+          subst (λ (n : ℕ). IsPlaced c.args.dense (bodies store) c.args.key.now c.level-level.result n (record { level = c.level-level.result; page = 1; parent = 0; root = true; pages = 2 })) (sym e.root)
           (root_placed (bodies store) c.args.key.now c.level-level.result good tall);
       gets = λ store has good.
           let r = e.kept store c.args.key.now (record { has = has; spare = []; good = good }) in
@@ -58,7 +58,7 @@ pub returns-then-room_in-clause-kept : goal.returns-then-room_in-clause-kept
 returns-then-room_in-clause-kept g c store has good =
     let l = c.loop-place in
     let end : l.place.level ≡ 0 = omega (arith, c.loop-place-test.false) in
-    let leaf : IsPlaced (bodies store) c.args.key.now 0 l.place.frame.number l.place.top = subst (λ (h : ℕ). IsPlaced (bodies store) c.args.key.now h l.place.frame.number l.place.top) end (l.invariant.kept store has good) in
+    let leaf : IsPlaced c.args.dense (bodies store) c.args.key.now 0 l.place.frame.number l.place.top = subst (λ (h : ℕ). IsPlaced c.args.dense (bodies store) c.args.key.now h l.place.frame.number l.place.top) end (l.invariant.kept store has good) in
     let says : c.page-2.result.now.body ≡ bodies store l.place.frame.number = ap (λ (x : Page). x.body) (c.page-2.ensures.page ∙ held_is g.D.Disk l.place.frame (pages_still g.D.Disk has l.invariant.outcome) l.invariant.at) in
     let room : IsRoom true (bodies store l.place.frame.number) (length c.args.key.now) c.room_in.result = subst (λ (h : ℕ). IsRoom (is_leaf_kind (kind_at h)) (bodies store l.place.frame.number) (length c.args.key.now) c.room_in.result) end
     (subst (λ (b : Body). IsRoom (is_leaf_kind (kind_at l.place.level)) b (length c.args.key.now) c.room_in.result) says c.room_in.ensures) in
@@ -68,7 +68,7 @@ pub returns-clause-kept : goal.returns-clause-kept
 returns-clause-kept g c store has good =
     let l = c.loop-place in
     let end : l.place.level ≡ 0 = omega (arith, c.loop-place-test.false) in
-    let leaf : IsPlaced (bodies store) c.args.key.now 0 l.place.frame.number l.place.top = subst (λ (h : ℕ). IsPlaced (bodies store) c.args.key.now h l.place.frame.number l.place.top) end (l.invariant.kept store has good) in
+    let leaf : IsPlaced c.args.dense (bodies store) c.args.key.now 0 l.place.frame.number l.place.top = subst (λ (h : ℕ). IsPlaced c.args.dense (bodies store) c.args.key.now h l.place.frame.number l.place.top) end (l.invariant.kept store has good) in
     let says : c.page-2.result.now.body ≡ bodies store l.place.frame.number = ap (λ (x : Page). x.body) (c.page-2.ensures.page ∙ held_is g.D.Disk l.place.frame (pages_still g.D.Disk has l.invariant.outcome) l.invariant.at) in
     let room : IsRoom true (bodies store l.place.frame.number) (length c.args.key.now) c.room_in.result = subst (λ (h : ℕ). IsRoom (is_leaf_kind (kind_at h)) (bodies store l.place.frame.number) (length c.args.key.now) c.room_in.result) end
     (subst (λ (b : Body). IsRoom (is_leaf_kind (kind_at l.place.level)) b (length c.args.key.now) c.room_in.result) says c.room_in.ensures) in

@@ -14,7 +14,7 @@ invariant-loop-place g l = record {
   at : IsAt l.writer.pool l.place.frame;
   page : HasLevel l.place.level (page_at l.writer.pool l.place.frame.number).body;
   counted : IsCounted l.place.level l.place.top;
-  kept : (store : AllPages) → HasPages g.D.Disk AreLoaded store l.fn.writer l.fn.disk → IsGoodTree (bodies store) [] → IsPlaced (bodies store) l.key l.place.level l.place.frame.number l.place.top;
+  kept : (store : AllPages) → HasPages g.D.Disk AreLoaded store l.fn.writer l.fn.disk → IsGoodTree (bodies store) [] → IsPlaced l.dense (bodies store) l.key l.place.level l.place.frame.number l.place.top;
   gets : (store : AllPages) → HasPages g.D.Disk AreLoaded store l.fn.writer l.fn.disk → IsGoodTree (bodies store) [] → l.writer.pool.gets + l.place.level ≡ l.fn.writer.pool.gets + (height (bodies store) + 1);
 }
 

@@ -39,9 +39,9 @@ returns-clause-kept g c store has good was =
     let k : ℕ = a.place.level - 1 in
     let e : a.place.level ≡ suc k = omega (arith, c.requires.inner) in
     let below : c.next_place.result.level ≡ k = omega (arith, c.next_place.ensures.level) in
-    let upper : IsPlaced (bodies store) a.key.now (suc k) p a.place.top = subst (λ (h : ℕ). IsPlaced (bodies store) a.key.now h p a.place.top) e was in
-    let up : HasUp (is_leaf_level k) (bodies store frame.number) c.up_in-bytes.result =
-    subst (λ (x : Bool). HasUp x (bodies store frame.number) c.up_in-bytes.result) (leaf_at k) (subst (λ (b : Body). HasUp (is_leaf_kind (kind_at k)) b c.up_in-bytes.result) below_says c.up_in-bytes.ensures.up) in
+    let upper : IsPlaced c.args.dense (bodies store) a.key.now (suc k) p a.place.top = subst (λ (h : ℕ). IsPlaced c.args.dense (bodies store) a.key.now h p a.place.top) e was in
+    let up : HasUp c.args.dense (is_leaf_level k) (bodies store frame.number) c.up_in-bytes.result =
+    subst (λ (x : Bool). HasUp c.args.dense x (bodies store frame.number) c.up_in-bytes.result) (leaf_at k) (subst (λ (b : Body). HasUp c.args.dense (is_leaf_kind (kind_at k)) b c.up_in-bytes.result) below_says c.up_in-bytes.ensures.up) in
     let room_is : IsKeyRoom (is_leaf_kind (kind_at a.place.level)) (bodies store p) c.key_room-room.result =
     subst (λ (b : Body). IsKeyRoom (is_leaf_kind (kind_at a.place.level)) b c.key_room-room.result) says c.key_room-room.ensures in
     let room : IsRoom false (bodies store p) c.up_in-bytes.result c.fits_in-fits.result =
