@@ -31,7 +31,7 @@ use Rattle.im_smo_actions.proofs.Standing.{pages_stay, still_ready, unfinished_g
 -- ---- refusals
 
 -- a plan that wants numbers or levels wants them in each way that its refusal is told
-pub runs_out : (pages : Pages) (key : Key) (max : Option ℕ) (f : Fault) → WantsPages pages key max f → f ≡ Capacity → IsUsedUp pages key
+pub runs_out : {dense : Bool} (pages : Pages) (key : Key) (max : Option ℕ) (f : Fault) → WantsPages dense pages key max f → f ≡ Capacity → IsUsedUp dense pages key
 runs_out pages key max f wants is = elim (wants.used_up is) [ inl over ↦ inl over | inr tall ↦ elim (wants.whole_way is) [ inl over ↦ inl over | inr down ↦ inr (tall, down) ] ]
 
 module _ {D : Type 0} (d : Ghosts D) where

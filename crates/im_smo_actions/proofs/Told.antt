@@ -105,7 +105,7 @@ plans_have_trees {D} d b base s e beside w disk stands over law told = record {
 -- ---- where a change begins
 
 pub splits_stand : SplitsStand
-splits_stand pages key max images leaf plan = record { good = plan.good; same = plan.same; ways = plan.ways }
+splits_stand dense pages key max images leaf plan = record { good = plan.good; same = plan.same; ways = plan.ways }
 
 pub deletions_stand : DeletionsStand
 deletions_stand pages p images good plan = record { good = plan.good; same = plan.same; ways = deletion_plans_keep_ways pages p images good plan }

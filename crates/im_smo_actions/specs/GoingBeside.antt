@@ -64,7 +64,7 @@ PlansHaveTrees {D} d = (b : Base) (base : ℕ) (s : Writer) (e : ℕ) (beside : 
 
 -- The images of the split of a key's leaf, where there are some, stand for the pages over which they were planned.
 abbrev pub SplitsStand : Type 0
-SplitsStand = (pages : AllPages) (key : Key) (max : Option ℕ) (images : List Numbered) (leaf : ℕ) → Planned pages key max images leaf → StandsFor (bodies_of pages) (held (bodies_of pages) images) (IsApart images)
+SplitsStand = (dense : Bool) (pages : AllPages) (key : Key) (max : Option ℕ) (images : List Numbered) (leaf : ℕ) → Planned dense pages key max images leaf → StandsFor (bodies_of pages) (held (bodies_of pages) images) (IsApart images)
 
 -- And so do those with which an empty leaf leaves a good tree.
 abbrev pub DeletionsStand : Type 0

@@ -1,5 +1,5 @@
 -- How a transaction stands between two structure changes, and what those keep that a key asks for.
-use Rattle.std.specs.Prelude.{◌≡◌, ◌⊎◌, ◌-◌, ◌^◌, ℕ, false, [], Option, Some, None, Result, IfErr, IfOk}
+use Rattle.std.specs.Prelude.{◌≡◌, ◌⊎◌, ◌-◌, ◌^◌, ℕ, false, [], Option, Some, None, Result, IfErr, IfOk, Bool}
 use Rattle.im_base_types.specs.declared.fault.Fault.{Fault}
 use Rattle.im_base_types.specs.declared.fault.Fault.TheVariants.{Failed, Memory}
 use Rattle.im_base_types.specs.declared.page_kind.PageKind.TheVariants.{Free}
@@ -22,9 +22,9 @@ use Rattle.im_smo_split.specs.PendingSplits.{SplitsDown}
 use Rattle.im_smo_split.specs.Plan.{IsOver}
 use Rattle.im_smo_actions.specs.DropPlan.{IsSpare, IsKept}
 
--- Page numbers would be used up by the pages that the split of the key's leaf takes, or levels are: the root is of the last one, and has to be split.
-abbrev pub IsUsedUp : Pages → Key → Type 0
-IsUsedUp pages key = IsOver pages key (2 ^ 32 - 1) ⊎ ((height pages ≡ 255) × SplitsDown pages key 255 1)
+-- Page numbers would be used up by the pages that the split of the key's leaf takes, dense or not, or levels are: the root is of the last one, and has to be split.
+abbrev pub IsUsedUp : Bool → Pages → Key → Type 0
+IsUsedUp dense pages key = IsOver dense pages key (2 ^ 32 - 1) ⊎ ((height pages ≡ 255) × SplitsDown dense pages key 255 1)
 
 module _ {D : Type 0} (d : Ghosts D) (b : Base) (base : ℕ) where
   -- Redo is over, the log lawful, and no structure change open; the transaction is not finished, its records end at this LSN, and its undo goes on at this one.
