@@ -177,7 +177,7 @@ module _ {D : Type 0} (d : Ghosts D) (b : Base) (base : ℕ) where
           stands : StandsFor (settled b now.log) (held (settled b now.log) change.images) (IsApart change.images)
           stands =
               let parts = split_of (settled_pages b s) (what_of entry) plan planned.can in
-              let here : StandsFor (settled b s.log) (held (settled b s.log) plan.images) (IsApart plan.images) = splits_stand (settled_pages b s) parts.key None plan.images plan.leaf parts.planned in
+              let here : StandsFor (settled b s.log) (held (settled b s.log) plan.images) (IsApart plan.images) = splits_stand false (settled_pages b s) parts.key None plan.images plan.leaf parts.planned in
               subst (λ (f : Pages). StandsFor f (held f change.images) (IsApart change.images)) (sym pages)
               (subst (λ (xs : List Numbered). StandsFor (settled b s.log) (held (settled b s.log) xs) (IsApart xs)) (sym same) here)
 

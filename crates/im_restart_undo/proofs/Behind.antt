@@ -46,7 +46,7 @@ pub record IsSplitOf (pages : AllPages) (w : What) (plan : SplitPlan) : Type 0 w
   pub key : Key
   pub rid : ℕ
   pub same : w ≡ whats.DeleteKey key rid
-  pub planned : Planned pages key None plan.images plan.leaf
+  pub planned : Planned false pages key None plan.images plan.leaf
   pub some : 1 ≤ length plan.images
 
 pub split_of : (pages : AllPages) (w : What) (plan : SplitPlan) → SplitsFor pages w plan → IsSplitOf pages w plan

@@ -141,7 +141,7 @@ module _ (pages : AllPages) (beside : Beside) (page : ℕ) (key : Key) (rid : �
     pub in_needs : (HasRoom true (page_at pool p).body.entries (key, 0) → ⊥) → LacksRoomFor (bodies_of pages) key
     in_needs full = record { page = p; way = leaf.way; lacks = subst (λ (g : Page). HasRoom true g.body.entries (key, 0) → ⊥) leaf.shown full }
 
-    pub in_splits : beside.pages.now ≡ [] → (HasRoom true (page_at pool p).body.entries (key, 0) → ⊥) → (plan : SplitPlan) → Planned pages key None plan.images plan.leaf → IsBack pages beside (DeleteKey key rid) (Split plan)
+    pub in_splits : beside.pages.now ≡ [] → (HasRoom true (page_at pool p).body.entries (key, 0) → ⊥) → (plan : SplitPlan) → Planned false pages key None plan.images plan.leaf → IsBack pages beside (DeleteKey key rid) (Split plan)
     in_splits none full plan planned = record { can = (planned, planned.some p leaf.way (subst (λ (g : Page). HasRoom true g.body.entries (key, 0) → ⊥) leaf.shown full)); clear = none; whole = tt }
 
 -- ---- refusals
@@ -187,7 +187,7 @@ drop_refused {D} d pages beside page key rid f r here needs cause {v} {old} {u} 
       let clash : false ≡ true = ends.0 in cc clash);
 }
 
-pub split_refused : (pages : AllPages) (beside : Beside) (page : ℕ) (key : Key) (rid : ℕ) (f : Fault) (r : Result (Sight Back) Fault) → IsErrAnd r (λ x. x ≡ f) → LacksRoomFor (bodies_of pages) key → f ≢ NotAStore → WantsPages (bodies_of pages) key None f
+pub split_refused : (pages : AllPages) (beside : Beside) (page : ℕ) (key : Key) (rid : ℕ) (f : Fault) (r : Result (Sight Back) Fault) → IsErrAnd r (λ x. x ≡ f) → LacksRoomFor (bodies_of pages) key → f ≢ NotAStore → WantsPages false (bodies_of pages) key None f
     → BackPlanned pages beside page (DeleteKey key rid) r
 split_refused pages beside page key rid f r here lacks cause wants = record {
   sound = sound_on r f (IfSeen (IsBack pages beside (DeleteKey key rid)) (HiddenBack (bodies_of pages) beside page (DeleteKey key rid))) here cause;

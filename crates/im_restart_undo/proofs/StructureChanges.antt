@@ -1,5 +1,5 @@
 -- Structure changes on the way of an undo.
-use Rattle.std.proofs.Common.{◌≡◌, ◌≤◌, ℕ, true, List, [], length, None, Result, Ok, Err, ap, sym, subst, ◌∙◌}
+use Rattle.std.proofs.Common.{◌≡◌, ◌≤◌, ℕ, true, false, List, [], length, None, Result, Ok, Err, ap, sym, subst, ◌∙◌}
 use Rattle.std.proofs.Math.Path.{fun_ext}
 use Rattle.im_base_types.specs.declared.fault.Fault.{Fault}
 use Rattle.im_base_types.specs.Keys.{Key}
@@ -89,7 +89,7 @@ module _ {D : Type 0} (d : Ghosts D) (b : Base) (base : ℕ) where
 
     -- ---- the split of a key's leaf
 
-    pub split_kept : (key : Key) (images : List Numbered) (leaf : ℕ) → Planned (settled_pages b s) key None images leaf → 1 ≤ length images → (w : PageWriter) (disk : D) (r : Result ℕ Fault) → ChangeKept d b base s e images t undo_next old w disk r
+    pub split_kept : (key : Key) (images : List Numbered) (leaf : ℕ) → Planned false (settled_pages b s) key None images leaf → 1 ≤ length images → (w : PageWriter) (disk : D) (r : Result ℕ Fault) → ChangeKept d b base s e images t undo_next old w disk r
         → SplitKept d b base s e t undo_next key leaf old w disk r
     unfolding restructured grows_change
     split_kept key images leaf plan some w disk (Ok l) kept =

@@ -62,7 +62,7 @@ IsWayOfMade pages beside _ = ⊥
 
 -- these pages are the split of the leaf of a key that comes back
 abbrev pub SplitsFor : AllPages → What → SplitPlan → Type 0
-SplitsFor pages (DeleteKey k i) plan = Planned pages k None plan.images plan.leaf × (1 ≤ length plan.images)
+SplitsFor pages (DeleteKey k i) plan = Planned false pages k None plan.images plan.leaf × (1 ≤ length plan.images)
 SplitsFor pages _ plan = ⊥
 
 -- The page is the leaf of the key, which has nothing else, and these pages take it out of the tree once the key is gone.

@@ -46,7 +46,7 @@ TakesIt pages p _ = Unit {0}
 -- The key's leaf lacks room for it, and the pages that its split takes are more than there are numbers for, or the root is of the last level.
 pub record CanNotSplit (pages : Pages) (key : Key) : Type 0 where
   pub lacks : LacksRoomFor pages key
-  pub used_up : IsUsedUp pages key
+  pub used_up : IsUsedUp false pages key
 
 -- the leaf of the key that a record dropped lacks room for it; no other record asks for room
 abbrev pub WantsRoom : Pages → What → Type 0

@@ -95,7 +95,7 @@ fn plan_in<D: Disk>(
     if !beside.is_none() {
         return Ok(Sight::Hidden);
     }
-    let plan = plan_split(alloc, writer, disk, key, None)?;
+    let plan = plan_split(alloc, writer, disk, key, None, false)?;
     Ok(Sight::Seen(Back::Split(plan)))
 }
 
