@@ -1,5 +1,5 @@
 -- An insert that is laid down beside a structure change of another: what it asks, what bars it, and what is kept of it.
-use Rattle.std.proofs.Common.{◌≡◌, ◌≢◌, ◌⊎◌, inl, inr, ⊎_elim, ◌≤◌, ℕ, true, false, List, [], length, None, Some, Option, Result, Ok, Err, refl, sym, ◌∙◌, ap, subst, ◌==◌}
+use Rattle.std.proofs.Common.{◌≡◌, ◌≢◌, ◌⊎◌, inl, inr, ⊎_elim, ◌≤◌, ℕ, true, false, Bool, List, [], length, None, Some, Option, Result, Ok, Err, refl, sym, ◌∙◌, ap, subst, ◌==◌}
 use Rattle.std.specs.Prelude.{IsErrAnd}
 use Rattle.std.specs.FinMap.{entries, get}
 use Rattle.std.specs.FinMap.Entries.{find}
@@ -135,57 +135,57 @@ files_refused d v old w new f works one sound = absurd (let clash : false ≡ tr
 -- ---- the plan
 
 -- a plan of what bars nothing
-coming_limited : (pages : AllPages) (key : Key) (max : ℕ) (plan : Plan) → IsGoodTree (bodies_of pages) [] → IsInsertPlan pages key max plan → find key_order key (walk (bodies_of pages)) ≡ None → IsLimited (bodies_of pages) key max
-coming_limited pages key max plan good is none = limited_by pages key max [] good plan is none
+coming_limited : (pages : AllPages) (key : Key) (dense : Bool) (max : ℕ) (plan : Plan) → IsGoodTree (bodies_of pages) [] → IsInsertPlan pages key dense max plan → find key_order key (walk (bodies_of pages)) ≡ None → IsLimited dense (bodies_of pages) key max
+coming_limited pages key dense max plan good is none = limited_by pages key dense max [] good plan is none
 
-pub plan_splits : (pages : AllPages) (beside : Beside) (key : Key) (max : ℕ) (m : IndexMap) (split : SplitPlan) (plan : PlannedChange) → get m key ≡ None → find key_order key (walk (bodies_of pages)) ≡ None → IsGoodTree (bodies_of pages) [] → beside.pages.now ≡ []
-    → LacksRoomFor (bodies_of pages) key → IsInsertPlan pages key max (plans.TheVariants.Split split) → plan.images ≡ split.images → IsRising plan.images → plan.count ≡ (bodies_of pages 0).leftmost → ComingPlanned pages beside key max m (Ok (Splits plan split.leaf))
-plan_splits pages beside key max m split plan none lacks_it good alone lacks is same rising count = record {
+pub plan_splits : (pages : AllPages) (beside : Beside) (key : Key) (dense : Bool) (max : ℕ) (m : IndexMap) (split : SplitPlan) (plan : PlannedChange) → get m key ≡ None → find key_order key (walk (bodies_of pages)) ≡ None → IsGoodTree (bodies_of pages) [] → beside.pages.now ≡ []
+    → LacksRoomFor (bodies_of pages) key → IsInsertPlan pages key dense max (plans.TheVariants.Split split) → plan.images ≡ split.images → IsRising plan.images → plan.count ≡ (bodies_of pages 0).leftmost → ComingPlanned pages beside key dense max m (Ok (Splits plan split.leaf))
+plan_splits pages beside key dense max m split plan none lacks_it good alone lacks is same rising count = record {
   sound = record {
     absent = none;
     alone = alone;
     lacks = lacks;
-    planned = subst (λ (xs : List Numbered). Planned pages key (Some max) xs split.leaf) (sym same) is.1;
+    planned = subst (λ (xs : List Numbered). Planned dense pages key (Some max) xs split.leaf) (sym same) is.1;
     some = subst (λ (xs : List Numbered). 1 ≤ length xs) (sym same) is.0;
     rising = rising;
     count = count;
   };
-  limited = coming_limited pages key max (plans.TheVariants.Split split) good is lacks_it;
+  limited = coming_limited pages key dense max (plans.TheVariants.Split split) good is lacks_it;
   full = tt;
 }
 
-pub plan_used_up : (pages : AllPages) (beside : Beside) (key : Key) (max : ℕ) (m : IndexMap) (plan : Plan) → get m key ≡ None → find key_order key (walk (bodies_of pages)) ≡ None → IsGoodTree (bodies_of pages) [] → beside.pages.now ≡ [] → LacksRoomFor (bodies_of pages) key
-    → ((split : SplitPlan) → plan ≡ plans.TheVariants.Split split → ⊥) → IsInsertPlan pages key max plan → ComingPlanned pages beside key max m (Ok UsedUp)
-plan_used_up pages beside key max m plans.TheVariants.Fits none lacks_it good alone lacks not is =
+pub plan_used_up : (pages : AllPages) (beside : Beside) (key : Key) (dense : Bool) (max : ℕ) (m : IndexMap) (plan : Plan) → get m key ≡ None → find key_order key (walk (bodies_of pages)) ≡ None → IsGoodTree (bodies_of pages) [] → beside.pages.now ≡ [] → LacksRoomFor (bodies_of pages) key
+    → ((split : SplitPlan) → plan ≡ plans.TheVariants.Split split → ⊥) → IsInsertPlan pages key dense max plan → ComingPlanned pages beside key dense max m (Ok UsedUp)
+plan_used_up pages beside key dense max m plans.TheVariants.Fits none lacks_it good alone lacks not is =
     absurd (⊎_elim (λ (there : find key_order key (walk (bodies_of pages)) ≢ None). there lacks_it) (λ (room : HasRoomFor (bodies_of pages) key). room_not (bodies_of pages) [] key room.page good room.way room.room lacks) is)
-plan_used_up pages beside key max m (plans.TheVariants.Split split) none lacks_it good alone lacks not is = absurd (not split refl)
-plan_used_up pages beside key max m plans.TheVariants.UsedUp none lacks_it good alone lacks not is = record {
+plan_used_up pages beside key dense max m (plans.TheVariants.Split split) none lacks_it good alone lacks not is = absurd (not split refl)
+plan_used_up pages beside key dense max m plans.TheVariants.UsedUp none lacks_it good alone lacks not is = record {
   sound = record { absent = none; alone = alone; lacks = lacks; used_up = is.used_up };
   limited = λ l. inr is.used_up;
   full = tt;
 }
 
-pub plan_coming_refused : (pages : AllPages) (beside : Beside) (key : Key) (max : ℕ) (m : IndexMap) (f : Fault) (r : Result Coming Fault) → IsErrAnd r (λ y. y ≡ f) → f ≢ NotAStore → (f ≡ PagesFull → LacksRoomFor (bodies_of pages) key × IsOver (bodies_of pages) key max)
-    → ComingPlanned pages beside key max m r
-plan_coming_refused pages beside key max m f (Ok x) is sound full = absurd is
-plan_coming_refused pages beside key max m f (Err y) is sound full = record { sound = λ same. sound (sym is ∙ same); limited = tt; full = λ same. full (sym is ∙ same) }
+pub plan_coming_refused : (pages : AllPages) (beside : Beside) (key : Key) (dense : Bool) (max : ℕ) (m : IndexMap) (f : Fault) (r : Result Coming Fault) → IsErrAnd r (λ y. y ≡ f) → f ≢ NotAStore → (f ≡ PagesFull → LacksRoomFor (bodies_of pages) key × IsOver dense (bodies_of pages) key max)
+    → ComingPlanned pages beside key dense max m r
+plan_coming_refused pages beside key dense max m f (Ok x) is sound full = absurd is
+plan_coming_refused pages beside key dense max m f (Err y) is sound full = record { sound = λ same. sound (sym is ∙ same); limited = tt; full = λ same. full (sym is ∙ same) }
 
 -- ---- what is kept
 
-module _ (pages : AllPages) (beside : Beside) (t : ℕ) (key : Key) (rid max : ℕ) (m : IndexMap) (old new : Table) where
+module _ (pages : AllPages) (beside : Beside) (t : ℕ) (key : Key) (rid : ℕ) (dense : Bool) (max : ℕ) (m : IndexMap) (old new : Table) where
   abbrev Kept : Result (Sight (LockAnswer Coming)) Fault → Type 0
-  Kept r = ComingKept pages beside t key rid max m old new r
+  Kept r = ComingKept pages beside t key rid dense max m old new r
 
   -- where it is hidden
   pub coming_hidden : TreeCause (bodies_of pages) beside (Insert key rid) m → new ≡ old → Kept (Ok Hidden)
   coming_hidden why same = record { sound = (why, same); full = tt; limited = tt; first = λ bars. (tt, tt) }
 
   -- where the change beside bars nothing
-  pub coming_seen : {D : Type 0} (d : Ghosts D) {v : PageWriter} {before : D} {w : PageWriter} {disk : D} (coming : Coming) (r : Result (Sight (LockAnswer Coming)) Fault) → AsksLocks d v before w disk (fault_of r) → IsComing pages beside key max m coming
-      → (get m key ≡ None → IsLimited (bodies_of pages) key max) → (Bars (bodies_of pages) beside (Insert key rid) m → ⊥)
+  pub coming_seen : {D : Type 0} (d : Ghosts D) {v : PageWriter} {before : D} {w : PageWriter} {disk : D} (coming : Coming) (r : Result (Sight (LockAnswer Coming)) Fault) → AsksLocks d v before w disk (fault_of r) → IsComing pages beside key dense max m coming
+      → (get m key ≡ None → IsLimited dense (bodies_of pages) key max) → (Bars (bodies_of pages) beside (Insert key rid) m → ⊥)
       → IsSound r (IfSeen (IsComingDecided (λ x. x ≡ coming) old t key rid m new) (TreeCause (bodies_of pages) beside (Insert key rid) m × (new ≡ old))) → Kept r
   coming_seen {D} d {v} {before} {w} {disk} coming (Ok (Seen answer)) one may limited never sound = record {
-    sound = coming_so (IsComing pages beside key max m) coming old new t key rid m answer may sound;
+    sound = coming_so (IsComing pages beside key dense max m) coming old new t key rid m answer may sound;
     full = tt;
     limited = limited;
     first = λ bars. absurd (never bars);
@@ -194,7 +194,7 @@ module _ (pages : AllPages) (beside : Beside) (t : ℕ) (key : Key) (rid max : �
   coming_seen {D} d {v} {before} {w} {disk} coming (Err y) one may limited never sound = record { sound = sound; full = λ full. absurd (never_pages_full d refl one full); limited = tt; first = λ bars. absurd (never bars) }
 
   -- where it is refused
-  pub coming_refused : (f : Fault) (r : Result (Sight (LockAnswer Coming)) Fault) → IsErrAnd r (λ y. y ≡ f) → f ≢ NotAStore → (f ≡ PagesFull → (get m key ≡ None) × LacksRoomFor (bodies_of pages) key × IsOver (bodies_of pages) key max)
+  pub coming_refused : (f : Fault) (r : Result (Sight (LockAnswer Coming)) Fault) → IsErrAnd r (λ y. y ≡ f) → f ≢ NotAStore → (f ≡ PagesFull → (get m key ≡ None) × LacksRoomFor (bodies_of pages) key × IsOver dense (bodies_of pages) key max)
       → (Bars (bodies_of pages) beside (Insert key rid) m → (f ≡ Device) ⊎ (f ≡ LogFull)) → Kept r
   coming_refused f (Ok x) is sound full first = absurd is
   coming_refused f (Err y) is sound full first = record {
@@ -215,9 +215,9 @@ memory_full f is same = let clash : Memory ≡ PagesFull = sym is ∙ same in cc
 pub memory_numbers : (f : Fault) → f ≡ Memory → f ≢ Capacity
 memory_numbers f is same = let clash : Memory ≡ Capacity = sym is ∙ same in cc clash
 
-pub there_kept : (pages : AllPages) (beside : Beside) (t : ℕ) (key : Key) (rid max : ℕ) (m : IndexMap) (old new : Table) (answer : LockAnswer Coming) (i : ℕ) → get m key ≡ Some i → IsComingDecided (λ x. x ≡ There) old t key rid m new answer → ComingKept pages beside t key rid max m old new (Ok (Seen answer))
-there_kept pages beside t key rid max m old new answer i there decided = record {
-  sound = coming_so (IsComing pages beside key max m) There old new t key rid m answer (i, there) decided;
+pub there_kept : (pages : AllPages) (beside : Beside) (t : ℕ) (key : Key) (rid : ℕ) (dense : Bool) (max : ℕ) (m : IndexMap) (old new : Table) (answer : LockAnswer Coming) (i : ℕ) → get m key ≡ Some i → IsComingDecided (λ x. x ≡ There) old t key rid m new answer → ComingKept pages beside t key rid dense max m old new (Ok (Seen answer))
+there_kept pages beside t key rid dense max m old new answer i there decided = record {
+  sound = coming_so (IsComing pages beside key dense max m) There old new t key rid m answer (i, there) decided;
   full = tt;
   limited = λ none. absurd (some_never m key i there none);
   first = λ bars. absurd (some_never m key i there bars.0);

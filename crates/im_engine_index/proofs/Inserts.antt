@@ -140,7 +140,7 @@ module _ {D : Type 0} (d : Ghosts D) (b : Base) (base : ℕ) where
     pub calls_left : {m : Fault → Bool} {x : PageWriter} {new : D} {why : Option Fault} → Ends d AreLoaded m w disk x new why → LeavesEdit d b base s t disk new
     calls_left {m} {x} {new} {why} one = left_edit d b base s t disk new (left_images d b base s t disk new u.lawful (leaves_of_end d one b base s u.stands loaded))
 
-  module _ (s : Writer) (e t last undo_next : ℕ) (key : Key) (max : ℕ) (w : PageWriter) (disk : D) (to : ComesTo d b base s e t last undo_next key max w disk) (owner : 1 ≤ t) where
+  module _ (s : Writer) (e t last undo_next : ℕ) (key : Key) (dense : Bool) (max : ℕ) (w : PageWriter) (disk : D) (to : ComesTo d b base s e t last undo_next key dense max w disk) (owner : 1 ≤ t) where
     abbrev pub now : Writer
     now = to.made.now
 
@@ -165,7 +165,7 @@ module _ {D : Type 0} (d : Ghosts D) (b : Base) (base : ℕ) where
     }
 
     -- the record
-    pub put_done : (page rid lsn : ℕ) (x : PageWriter) (new : D) → KeyLogKept d b base to.made.now e t last page (InsertKey key rid) disk x new (Ok lsn) → PutKept d b base s e t key rid max to.since x new (Ok (record { last = lsn; undo_next = lsn }))
+    pub put_done : (page rid lsn : ℕ) (x : PageWriter) (new : D) → KeyLogKept d b base to.made.now e t last page (InsertKey key rid) disk x new (Ok lsn) → PutKept d b base s e t key rid dense max to.since x new (Ok (record { last = lsn; undo_next = lsn }))
     put_done page rid lsn x new kept =
         let k = kept.sound in
         record {
@@ -188,13 +188,13 @@ module _ {D : Type 0} (d : Ghosts D) (b : Base) (base : ℕ) where
           stops = left_behind new kept.stops;
         }
 
-    pub put_refused : (f : Fault) (rid : ℕ) (x : PageWriter) (new : D) (r : Result Noted Fault) → IsErrAnd r (λ y. y ≡ f) → f ≢ NotAStore → LeavesEdit d b base to.made.now t disk new → PutKept d b base s e t key rid max to.since x new r
+    pub put_refused : (f : Fault) (rid : ℕ) (x : PageWriter) (new : D) (r : Result Noted Fault) → IsErrAnd r (λ y. y ≡ f) → f ≢ NotAStore → LeavesEdit d b base to.made.now t disk new → PutKept d b base s e t key rid dense max to.since x new r
     put_refused f rid x new (Ok noted) is sound stops = absurd is
     put_refused f rid x new (Err y) is sound stops = record { sound = λ same. sound (sym is ∙ same); stops = left_behind new stops }
 
   -- ---- from a plan on
 
-  module _ (s : Writer) (e t last undo_next : ℕ) (key : Key) (max : ℕ) (plan : Plan) (page : ℕ) (w : PageWriter) (disk : D) (may : MayInsert d b base s e t last undo_next key max plan page w disk) (owner : 1 ≤ t) where
+  module _ (s : Writer) (e t last undo_next : ℕ) (key : Key) (dense : Bool) (max : ℕ) (plan : Plan) (page : ℕ) (w : PageWriter) (disk : D) (may : MayInsert d b base s e t last undo_next key dense max plan page w disk) (owner : 1 ≤ t) where
     abbrev pub at : Evicted d b base s may.since w disk
     at = stands_behind s e t last undo_next may.start may.since may.unfinished may.calls
 
@@ -207,7 +207,7 @@ module _ {D : Type 0} (d : Ghosts D) (b : Base) (base : ℕ) where
     -- the leaf has room
     module _ (fits : plan ≡ Fits) where
       pub has_room_for : HasRoomFor (bodies s) key
-      has_room_for = ⊎_elim (λ (there : find key_order key (walk (bodies s)) ≢ None). absurd (there lacks_it)) (λ (r : HasRoomFor (bodies s) key). r) (subst (IsInsertPlan (pages_of s) key max) fits may.planned)
+      has_room_for = ⊎_elim (λ (there : find key_order key (walk (bodies s)) ≢ None). absurd (there lacks_it)) (λ (r : HasRoomFor (bodies s) key). r) (subst (IsInsertPlan (pages_of s) key dense max) fits may.planned)
 
       here : has_room_for.page ≡ page
       here = one_leaf (bodies s) [] key has_room_for.page page tree has_room_for.way may.way
@@ -215,7 +215,7 @@ module _ {D : Type 0} (d : Ghosts D) (b : Base) (base : ℕ) where
       pub none_lacks : {A : Type 0} → LacksRoomFor (bodies s) key → A
       none_lacks {A} l = absurd (l.lacks (subst (λ (p : ℕ). HasRoom true (bodies s p).entries (key, 0)) (one_leaf (bodies s) [] key has_room_for.page l.page tree has_room_for.way l.way) has_room_for.room))
 
-      abbrev pub comes_first : ComesTo d b base s e t last undo_next key max w disk
+      abbrev pub comes_first : ComesTo d b base s e t last undo_next key dense max w disk
       comes_first = record {
         since = may.since;
         free = may.free;
@@ -238,7 +238,7 @@ module _ {D : Type 0} (d : Ghosts D) (b : Base) (base : ℕ) where
           (subst (λ (p : ℕ). HasRoom true (bodies s p).entries (key, 0)) here has_room_for.room)
 
     -- where the plan is known
-    abbrev pub planned_as : (known : Plan) → plan ≡ known → MayInsert d b base s e t last undo_next key max known page w disk
+    abbrev pub planned_as : (known : Plan) → plan ≡ known → MayInsert d b base s e t last undo_next key dense max known page w disk
     planned_as known is = record {
       start = may.start;
       since = may.since;
@@ -247,15 +247,15 @@ module _ {D : Type 0} (d : Ghosts D) (b : Base) (base : ℕ) where
       absent = may.absent;
       calls = may.calls;
       way = may.way;
-      planned = subst (IsInsertPlan (pages_of s) key max) is may.planned;
+      planned = subst (IsInsertPlan (pages_of s) key dense max) is may.planned;
     }
 
     -- page numbers are used up
-    pub none_put : (rid : ℕ) → PutKept d b base s e t key rid max may.since w disk (Err Capacity)
+    pub none_put : (rid : ℕ) → PutKept d b base s e t key rid dense max may.since w disk (Err Capacity)
     none_put rid = record { sound = λ same. let never : ⊥ = cc same in never; stops = calls_left s e t last undo_next may.start may.since may.unfinished may.calls }
 
   -- it has none: the pages of the plan are logged
-  module _ (s : Writer) (e t last undo_next : ℕ) (key : Key) (max : ℕ) (plan : SplitPlan) (page : ℕ) (w : PageWriter) (disk : D) (may : MayInsert d b base s e t last undo_next key max (Split plan) page w disk) (owner : 1 ≤ t) where
+  module _ (s : Writer) (e t last undo_next : ℕ) (key : Key) (dense : Bool) (max : ℕ) (plan : SplitPlan) (page : ℕ) (w : PageWriter) (disk : D) (may : MayInsert d b base s e t last undo_next key dense max (Split plan) page w disk) (owner : 1 ≤ t) where
     abbrev pub from : Evicted d b base s may.since w disk
     from = stands_behind s e t last undo_next may.start may.since may.unfinished may.calls
 
@@ -279,7 +279,7 @@ module _ {D : Type 0} (d : Ghosts D) (b : Base) (base : ℕ) where
     pub run_left : (new : D) → LeavesChange d b base from.now t disk new → LeavesEdit d b base s t may.since new
     run_left new stops = left_edit d b base s t may.since new (left_then d b base s t may.since from.now w disk may.unfinished.lawful from.on new stops)
 
-    pub not_none : (plan.images ≡ []) ⊎ IsWithin (bodies s) key max → IsWithin (bodies s) key max
+    pub not_none : (plan.images ≡ []) ⊎ IsWithin dense (bodies s) key max → IsWithin dense (bodies s) key max
     not_none (inl none) = let some : 1 ≤ length plan.images = may.planned.0 in let zero_is : length plan.images ≡ 0 = ap (λ (l : List Numbered). length l) none in absurd (omega (arith, some, zero_is))
     not_none (inr is) = is
 
@@ -287,7 +287,7 @@ module _ {D : Type 0} (d : Ghosts D) (b : Base) (base : ℕ) where
       pub pages_made : bodies kept.sound.now ≡ seen (pages_of s) plan.images
       pages_made = fun_ext kept.sound.pages ∙ ap (λ (store : AllPages). seen store plan.images) (pages_stay b s from.now from.on.goes.keeps)
 
-      abbrev pub comes_split : ComesTo d b base s e t lsn undo_next key max x new
+      abbrev pub comes_split : ComesTo d b base s e t lsn undo_next key dense max x new
       comes_split =
           let made = kept.sound in
           let before = from.on.goes.keeps.log in
@@ -316,10 +316,10 @@ module _ {D : Type 0} (d : Ghosts D) (b : Base) (base : ℕ) where
       pub split_room : HasRoom true (bodies comes_split.made.now plan.leaf).entries (key, 0)
       split_room = subst (λ (pages : Pages). HasRoom true (pages plan.leaf).entries (key, 0)) (sym pages_made) (may.planned.1.fits plan.leaf (may.planned.1.way may.planned.0))
 
-    pub run_refused : (f : Fault) (rid : ℕ) (x : PageWriter) (new : D) (r : Result Noted Fault) → IsErrAnd r (λ y. y ≡ f) → ChangeKept d b base from.now e plan.images t undo_next disk x new (Err f) → PutKept d b base s e t key rid max may.since x new r
+    pub run_refused : (f : Fault) (rid : ℕ) (x : PageWriter) (new : D) (r : Result Noted Fault) → IsErrAnd r (λ y. y ≡ f) → ChangeKept d b base from.now e plan.images t undo_next disk x new (Err f) → PutKept d b base s e t key rid dense max may.since x new r
     run_refused f rid x new (Ok noted) is kept = absurd is
     run_refused f rid x new (Err y) is kept = record { sound = λ same. kept.sound (sym is ∙ same); stops = run_left new kept.stops }
 
   -- what is answered late
-  pub put_late : (s : Writer) (e t : ℕ) (key : Key) (rid max : ℕ) (old : D) (w : PageWriter) (disk : D) (f g : Fault) → (f ≡ Memory → g ≡ Failed) → (f ≢ Memory → g ≡ f) → PutKept d b base s e t key rid max old w disk (Err f) → PutKept d b base s e t key rid max old w disk (Err g)
-  put_late s e t key rid max old w disk f g memory other kept = record { sound = late_sound f g memory other kept.sound; stops = kept.stops }
+  pub put_late : (s : Writer) (e t : ℕ) (key : Key) (rid : ℕ) (dense : Bool) (max : ℕ) (old : D) (w : PageWriter) (disk : D) (f g : Fault) → (f ≡ Memory → g ≡ Failed) → (f ≢ Memory → g ≡ f) → PutKept d b base s e t key rid dense max old w disk (Err f) → PutKept d b base s e t key rid dense max old w disk (Err g)
+  put_late s e t key rid dense max old w disk f g memory other kept = record { sound = late_sound f g memory other kept.sound; stops = kept.stops }

@@ -139,25 +139,25 @@ first_late {D} d b base s e v old w new f g stands over works one memory other i
 module _ {D : Type 0} (d : Ghosts D) (b : Base) (base : ℕ) where
   -- ---- what was laid down is logged
 
-  module _ (s : Writer) (e t last undo_next : ℕ) (key : Key) (rid max : ℕ) (beside : Beside) (coming : Coming) (w : PageWriter) (disk : D) (may : MayCome d b base s e t last undo_next key max beside coming w disk) (owner : 1 ≤ t) where
+  module _ (s : Writer) (e t last undo_next : ℕ) (key : Key) (rid : ℕ) (dense : Bool) (max : ℕ) (beside : Beside) (coming : Coming) (w : PageWriter) (disk : D) (may : MayCome d b base s e t last undo_next key dense max beside coming w disk) (owner : 1 ≤ t) where
     pub from : Evicted d b base s may.since w disk
     from = going_evicted d b base s e t last undo_next may.start may.since may.going may.calls
 
     so_far : LeavesEdit d b base s t may.since disk
     so_far = going_left d b base s e t last undo_next may.start may.since may.going may.calls
 
-    pub comes_as : (known : Coming) → coming ≡ known → IsComing (settled_pages b s) beside key max (contents b s.log) known
-    comes_as known is = subst (IsComing (settled_pages b s) beside key max (contents b s.log)) is may.comes
+    pub comes_as : (known : Coming) → coming ≡ known → IsComing (settled_pages b s) beside key dense max (contents b s.log) known
+    comes_as known is = subst (IsComing (settled_pages b s) beside key dense max (contents b s.log)) is may.comes
 
     pub going_now : IsGoingOn d b base from.now e t last undo_next w disk
     going_now = going_on d b base s e t last undo_next may.start may.since may.going owner from.now w disk from.on
 
     -- it is there
-    pub logs_there : coming ≡ There → ComingLogKept d b base s e t last undo_next key rid max beside coming may.since w disk (Ok inserting.TheVariants.There)
+    pub logs_there : coming ≡ There → ComingLogKept d b base s e t last undo_next key rid dense max beside coming may.since w disk (Ok inserting.TheVariants.There)
     logs_there is = let found = comes_as There is in record { laid = sym (ap begins is); sound = (found.0, found.1, from); stops = so_far; used_up = tt; begun = tt }
 
     -- page numbers are used up
-    pub logs_none : coming ≡ UsedUp → ComingLogKept d b base s e t last undo_next key rid max beside coming may.since w disk (Err Capacity)
+    pub logs_none : coming ≡ UsedUp → ComingLogKept d b base s e t last undo_next key rid dense max beside coming may.since w disk (Err Capacity)
     logs_none is = record { laid = tt; sound = λ same. (let never : ⊥ = cc same in never); stops = so_far; used_up = λ same. is; begun = λ same. absurd (let never : ⊥ = cc same in never) }
 
     -- its leaf has room
@@ -171,7 +171,7 @@ module _ {D : Type 0} (d : Ghosts D) (b : Base) (base : ℕ) where
       behind : (new : D) → LeavesEdit d b base from.now t disk new → LeavesEdit d b base s t may.since new
       behind new stops = left_on d b base s e t last undo_next may.start may.since may.going owner from.now w disk from.on may.calls new stops
 
-      pub logs_put : (lsn : ℕ) (x : PageWriter) (new : D) → KeyLogKept d b base from.now e t last page (InsertKey key rid) disk x new (Ok lsn) → ComingLogKept d b base s e t last undo_next key rid max beside coming may.since x new (Ok (inserting.TheVariants.Put lsn))
+      pub logs_put : (lsn : ℕ) (x : PageWriter) (new : D) → KeyLogKept d b base from.now e t last page (InsertKey key rid) disk x new (Ok lsn) → ComingLogKept d b base s e t last undo_next key rid dense max beside coming may.since x new (Ok (inserting.TheVariants.Put lsn))
       logs_put lsn x new kept = record {
         laid = sym (ap begins is);
         sound = record {
@@ -187,31 +187,31 @@ module _ {D : Type 0} (d : Ghosts D) (b : Base) (base : ℕ) where
       }
 
       pub put_fails : (f : Fault) (x : PageWriter) (new : D) (r : Result Inserting Fault) → IsErrAnd r (λ y. y ≡ f) → f ≢ Capacity → f ≢ Failed → KeyLogKept d b base from.now e t last page (InsertKey key rid) disk x new (Err f)
-          → ComingLogKept d b base s e t last undo_next key rid max beside coming may.since x new r
+          → ComingLogKept d b base s e t last undo_next key rid dense max beside coming may.since x new r
       put_fails f x new (Ok y) same numbers failed kept = absurd same
       put_fails f x new (Err y) same numbers failed kept = record { laid = tt; sound = λ z. kept.sound (sym same ∙ z); stops = behind new kept.stops; used_up = λ z. absurd (numbers (sym same ∙ z)); begun = λ z. absurd (failed (sym same ∙ z)) }
 
     -- it is split first
     module _ (plan : PlannedChange) (leaf : ℕ) (is : coming ≡ Splits plan leaf) (begun : BegunChange) (same : (begun.change.images ≡ plan.images) × (begun.change.done ≡ 0)) (whose : (begun.change.transaction ≡ t) × (begun.change.last ≡ last) × (begun.change.undo_next ≡ undo_next))
         (counts : begun.count ≡ plan.count) where
-      splits : KeySplits (settled_pages b s) beside key max (contents b s.log) plan leaf
+      splits : KeySplits (settled_pages b s) beside key dense max (contents b s.log) plan leaf
       splits = comes_as (Splits plan leaf) is
 
       grown : (new : D) → LeavesGrown d b base from.now disk new → LeavesEdit d b base s t may.since new
       grown new stops = left_on d b base s e t last undo_next may.start may.since may.going owner from.now w disk from.on may.calls new (left_edit d b base from.now t disk new (left_images d b base from.now t disk new going_now.lawful stops))
 
       pub logs_split : (more : BegunChange) (x : PageWriter) (new : D) → FirstKept d b base from.now begun disk x new (Ok more) → more.count ≡ begun.count
-          → ComingLogKept d b base s e t last undo_next key rid max beside coming may.since x new (Ok (inserting.TheVariants.Split more leaf))
+          → ComingLogKept d b base s e t last undo_next key rid dense max beside coming may.since x new (Ok (inserting.TheVariants.Split more leaf))
       logs_split more x new kept count = record {
         laid = sym (ap begins is);
-        sound = insert_begun d b base s e t last undo_next may.start may.since may.going owner beside may.told key max plan leaf splits from.now w disk from.on begun same.0 same.1 whose.0 whose.1 whose.2 counts more x new kept.sound count;
+        sound = insert_begun d b base s e t last undo_next may.start may.since may.going owner beside may.told key dense max plan leaf splits from.now w disk from.on begun same.0 same.1 whose.0 whose.1 whose.2 counts more x new kept.sound count;
         stops = grown new kept.stops;
         used_up = tt;
         begun = tt;
       }
 
       pub split_fails : (f : Fault) (x : PageWriter) (new : D) (r : Result Inserting Fault) → IsErrAnd r (λ y. y ≡ f) → f ≢ Capacity → FirstKept d b base from.now begun disk x new (Err f)
-          → ComingLogKept d b base s e t last undo_next key rid max beside coming may.since x new r
+          → ComingLogKept d b base s e t last undo_next key rid dense max beside coming may.since x new r
       split_fails f x new (Ok y) that numbers kept = absurd that
       split_fails f x new (Err y) that numbers kept = record {
         laid = tt;
@@ -223,7 +223,7 @@ module _ {D : Type 0} (d : Ghosts D) (b : Base) (base : ℕ) where
 
   -- ---- the whole
 
-  module _ (s : Writer) (e t last undo_next : ℕ) (key : Key) (rid max : ℕ) (beside : Beside) (table : Table) (v : PageWriter) (old : D) (may : MayEditBeside d b base s e t last undo_next (Insert key rid) beside table v old) (owner : 1 ≤ t) where
+  module _ (s : Writer) (e t last undo_next : ℕ) (key : Key) (rid : ℕ) (dense : Bool) (max : ℕ) (beside : Beside) (table : Table) (v : PageWriter) (old : D) (may : MayEditBeside d b base s e t last undo_next (Insert key rid) beside table v old) (owner : 1 ≤ t) where
     pub has_tree_but : HasWholeTreeBut d (settled_pages b s) beside v old
     has_tree_but = going_tree d b base s e t last undo_next v old may.going beside may.told
 
@@ -232,13 +232,13 @@ module _ {D : Type 0} (d : Ghosts D) (b : Base) (base : ℕ) where
 
     module _ (new : Table) (w : PageWriter) (disk : D) where
       abbrev Kept : Result (Sight (LockAnswer Coming)) Fault → Type 0
-      Kept r = ComingKept (settled_pages b s) beside t key rid max (contents b s.log) table new r
+      Kept r = ComingKept (settled_pages b s) beside t key rid dense max (contents b s.log) table new r
 
       -- refused in front of the grant
       pub beside_refused : (f : Fault) → Ends d AreLoaded (mild_to_split (Some max)) v old w disk (Some f) → f ≢ Capacity → Kept (Err f) → (r : Result (Sight (LockAnswer Inserting)) Fault) → IsErrAnd r (λ y. y ≡ f)
-          → InsertBesideKept d b base s e t last undo_next key rid max beside table new old w disk r
+          → InsertBesideKept d b base s e t last undo_next key rid dense max beside table new old w disk r
       beside_refused f one numbers kept (Ok x) is = absurd is
-      beside_refused f one numbers kept (Err y) is = subst (λ (z : Fault). InsertBesideKept d b base s e t last undo_next key rid max beside table new old w disk (Err z)) (sym is) (record {
+      beside_refused f one numbers kept (Err y) is = subst (λ (z : Fault). InsertBesideKept d b base s e t last undo_next key rid dense max beside table new old w disk (Err z)) (sym is) (record {
         sound = kept.sound;
         stops = going_left d b base s e t last undo_next v old may.going one;
         full = kept.full;
@@ -255,25 +255,25 @@ module _ {D : Type 0} (d : Ghosts D) (b : Base) (base : ℕ) where
         left : LeavesEdit d b base s t old disk
         left = going_left d b base s e t last undo_next v old may.going one
 
-        pub beside_hidden : sight ≡ Hidden → InsertBesideKept d b base s e t last undo_next key rid max beside table new old w disk (Ok Hidden)
+        pub beside_hidden : sight ≡ Hidden → InsertBesideKept d b base s e t last undo_next key rid dense max beside table new old w disk (Ok Hidden)
         beside_hidden is =
-            let why = subst (IfSeen (IsComingDecided (IsComing (settled_pages b s) beside key max (contents b s.log)) table t key rid (contents b s.log) new) (TreeCause (settled b s.log) beside (Insert key rid) (contents b s.log) × (new ≡ table))) is kept.sound in
+            let why = subst (IfSeen (IsComingDecided (IsComing (settled_pages b s) beside key dense max (contents b s.log)) table t key rid (contents b s.log) new) (TreeCause (settled b s.log) beside (Insert key rid) (contents b s.log) × (new ≡ table))) is kept.sound in
             record { sound = (why.0, why.1, at); stops = left; full = tt; used_up = tt; limited = tt; begun = tt; first = λ bars. (tt, tt) }
 
         module _ (answer : LockAnswer Coming) (seen : sight ≡ Seen answer) where
-          decided : IsComingDecided (IsComing (settled_pages b s) beside key max (contents b s.log)) table t key rid (contents b s.log) new answer
-          decided = subst (IfSeen (IsComingDecided (IsComing (settled_pages b s) beside key max (contents b s.log)) table t key rid (contents b s.log) new) (TreeCause (settled b s.log) beside (Insert key rid) (contents b s.log) × (new ≡ table))) seen kept.sound
+          decided : IsComingDecided (IsComing (settled_pages b s) beside key dense max (contents b s.log)) table t key rid (contents b s.log) new answer
+          decided = subst (IfSeen (IsComingDecided (IsComing (settled_pages b s) beside key dense max (contents b s.log)) table t key rid (contents b s.log) new) (TreeCause (settled b s.log) beside (Insert key rid) (contents b s.log) × (new ≡ table))) seen kept.sound
 
-          within : get (contents b s.log) key ≡ None → IsLimited (settled b s.log) key max
-          within = subst (IfSeen (λ _. get (contents b s.log) key ≡ None → IsLimited (settled b s.log) key max) (Unit {0})) seen kept.limited
+          within : get (contents b s.log) key ≡ None → IsLimited dense (settled b s.log) key max
+          within = subst (IfSeen (λ _. get (contents b s.log) key ≡ None → IsLimited dense (settled b s.log) key max) (Unit {0})) seen kept.limited
 
           -- the change beside bars nothing
           not_barred : Bars (settled b s.log) beside (Insert key rid) (contents b s.log) → ⊥
           not_barred bars = subst (IfSeen (λ x. ⊥) (Unit {0})) seen (kept.first bars).0
 
-          pub beside_waits : (holder : ℕ) → answer ≡ Wait holder → InsertBesideKept d b base s e t last undo_next key rid max beside table new old w disk (Ok (Seen (Wait holder)))
+          pub beside_waits : (holder : ℕ) → answer ≡ Wait holder → InsertBesideKept d b base s e t last undo_next key rid dense max beside table new old w disk (Ok (Seen (Wait holder)))
           beside_waits holder is = record {
-            sound = (subst (IsComingDecided (IsComing (settled_pages b s) beside key max (contents b s.log)) table t key rid (contents b s.log) new) is decided, at);
+            sound = (subst (IsComingDecided (IsComing (settled_pages b s) beside key dense max (contents b s.log)) table t key rid (contents b s.log) new) is decided, at);
             stops = left;
             full = tt;
             used_up = tt;
@@ -282,9 +282,9 @@ module _ {D : Type 0} (d : Ghosts D) (b : Base) (base : ℕ) where
             first = λ bars. absurd (not_barred bars);
           }
 
-          pub beside_dies : answer ≡ Die → InsertBesideKept d b base s e t last undo_next key rid max beside table new old w disk (Ok (Seen Die))
+          pub beside_dies : answer ≡ Die → InsertBesideKept d b base s e t last undo_next key rid dense max beside table new old w disk (Ok (Seen Die))
           beside_dies is = record {
-            sound = (subst (IsComingDecided (IsComing (settled_pages b s) beside key max (contents b s.log)) table t key rid (contents b s.log) new) is decided, at);
+            sound = (subst (IsComingDecided (IsComing (settled_pages b s) beside key dense max (contents b s.log)) table t key rid (contents b s.log) new) is decided, at);
             stops = left;
             full = tt;
             used_up = tt;
@@ -295,16 +295,16 @@ module _ {D : Type 0} (d : Ghosts D) (b : Base) (base : ℕ) where
 
           -- it is granted
           module _ (coming : Coming) (granted : answer ≡ Granted coming) where
-            pub asks : Decides table t (asks_of coming key rid (contents b s.log)) GrantedAll new × IsComing (settled_pages b s) beside key max (contents b s.log) coming
-            asks = subst (IsComingDecided (IsComing (settled_pages b s) beside key max (contents b s.log)) table t key rid (contents b s.log) new) granted decided
+            pub asks : Decides table t (asks_of coming key rid (contents b s.log)) GrantedAll new × IsComing (settled_pages b s) beside key dense max (contents b s.log) coming
+            asks = subst (IsComingDecided (IsComing (settled_pages b s) beside key dense max (contents b s.log)) table t key rid (contents b s.log) new) granted decided
 
             pub asks_as : (known : Coming) → coming ≡ known → Decides table t (asks_of known key rid (contents b s.log)) GrantedAll new
             asks_as known is = subst (λ (x : Coming). Decides table t (asks_of x key rid (contents b s.log)) GrantedAll new) is asks.0
 
-            pub comes_known : (known : Coming) → coming ≡ known → IsComing (settled_pages b s) beside key max (contents b s.log) known
-            comes_known known is = subst (IsComing (settled_pages b s) beside key max (contents b s.log)) is asks.1
+            pub comes_known : (known : Coming) → coming ≡ known → IsComing (settled_pages b s) beside key dense max (contents b s.log) known
+            comes_known known is = subst (IsComing (settled_pages b s) beside key dense max (contents b s.log)) is asks.1
 
-            abbrev pub may_come : MayCome d b base s e t last undo_next key max beside coming w disk
+            abbrev pub may_come : MayCome d b base s e t last undo_next key dense max beside coming w disk
             may_come = record {
               start = v;
               since = old;
@@ -315,7 +315,7 @@ module _ {D : Type 0} (d : Ghosts D) (b : Base) (base : ℕ) where
               comes = asks.1;
             }
 
-            pub beside_granted : (x : Inserting) (y : PageWriter) (end : D) → ComingLogKept d b base s e t last undo_next key rid max beside coming old y end (Ok x) → InsertBesideKept d b base s e t last undo_next key rid max beside table new old y end (Ok (Seen (Granted x)))
+            pub beside_granted : (x : Inserting) (y : PageWriter) (end : D) → ComingLogKept d b base s e t last undo_next key rid dense max beside coming old y end (Ok x) → InsertBesideKept d b base s e t last undo_next key rid dense max beside table new old y end (Ok (Seen (Granted x)))
             beside_granted x y end log = record {
               sound = (asked_by b s t key rid table new x (subst (λ (begins : Bool). Decides table t (asks_row begins key rid (contents b s.log)) GrantedAll new) (sym log.laid) (asked_row coming table t key rid (contents b s.log) new asks.0)), log.sound);
               stops = log.stops;
@@ -327,10 +327,10 @@ module _ {D : Type 0} (d : Ghosts D) (b : Base) (base : ℕ) where
             }
 
             -- it could not be logged
-            pub beside_fails : (f : Fault) (y : PageWriter) (end : D) → f ≢ PagesFull → ComingLogKept d b base s e t last undo_next key rid max beside coming old y end (Err f) → (r : Result (Sight (LockAnswer Inserting)) Fault) → IsErrAnd r (λ z. z ≡ f)
-                → InsertBesideKept d b base s e t last undo_next key rid max beside table new old y end r
+            pub beside_fails : (f : Fault) (y : PageWriter) (end : D) → f ≢ PagesFull → ComingLogKept d b base s e t last undo_next key rid dense max beside coming old y end (Err f) → (r : Result (Sight (LockAnswer Inserting)) Fault) → IsErrAnd r (λ z. z ≡ f)
+                → InsertBesideKept d b base s e t last undo_next key rid dense max beside table new old y end r
             beside_fails f y end never log (Ok x) is = absurd is
-            beside_fails f y end never log (Err z) is = subst (λ (q : Fault). InsertBesideKept d b base s e t last undo_next key rid max beside table new old y end (Err q)) (sym is) (record {
+            beside_fails f y end never log (Err z) is = subst (λ (q : Fault). InsertBesideKept d b base s e t last undo_next key rid dense max beside table new old y end (Err q)) (sym is) (record {
               sound = log.sound;
               stops = log.stops;
               full = λ same. absurd (never same);

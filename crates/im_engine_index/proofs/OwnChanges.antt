@@ -1,5 +1,5 @@
 -- A structure change of its own that an insert or a delete begins, and the end of an insert after one.
-use Rattle.std.proofs.Common.{◌≡◌, ◌≢◌, inl, inr, ◌≤◌, ℕ, suc, true, List, [], ◌∷◌, length, None, Some, Option, Result, Ok, Err, refl, sym, ◌∙◌, ap, subst, arith}
+use Rattle.std.proofs.Common.{◌≡◌, ◌≢◌, inl, inr, ◌≤◌, ℕ, suc, true, Bool, List, [], ◌∷◌, length, None, Some, Option, Result, Ok, Err, refl, sym, ◌∙◌, ap, subst, arith}
 use Rattle.std.specs.Prelude.{IsSome, ◌⊎◌, ◌==◌}
 use Rattle.std.specs.FinMap.{get}
 use Rattle.std.proofs.Math.Path.{fun_ext}
@@ -76,9 +76,9 @@ some_image : (o : Option Page) → IsSome o → (g : Page) × (o ≡ Some g)
 some_image None is = absurd (let never : ⊥ = cc is in never)
 some_image (Some g) is = (g, refl)
 
-some_within : (pages : Pages) (key : Key) (max : ℕ) (images : List Numbered) → 1 ≤ length images → (images ≡ []) ⊎ IsWithin pages key max → IsWithin pages key max
-some_within pages key max images some (inl none) = absurd (let zero_is : length images ≡ 0 = ap (λ (xs : List Numbered). length xs) none in omega (arith, some, zero_is))
-some_within pages key max images some (inr is) = is
+some_within : (pages : Pages) (key : Key) (dense : Bool) (max : ℕ) (images : List Numbered) → 1 ≤ length images → (images ≡ []) ⊎ IsWithin dense pages key max → IsWithin dense pages key max
+some_within pages key dense max images some (inl none) = absurd (let zero_is : length images ≡ 0 = ap (λ (xs : List Numbered). length xs) none in omega (arith, some, zero_is))
+some_within pages key dense max images some (inr is) = is
 
 -- a leaf is not page 0
 not_zero : (pages : Pages) (spare : List ℕ) (key : Key) (p : ℕ) → IsGoodTree pages spare → IsOnWay pages 0 key p → p ≢ 0
@@ -92,7 +92,7 @@ module _ {D : Type 0} (d : Ghosts D) (b : Base) (base : ℕ) (s : Writer) (e t l
 module _ {D : Type 0} (d : Ghosts D) (b : Base) (base : ℕ) (s : Writer) (e t last undo_next : ℕ) (v : PageWriter) (old : D) (g : IsGoingOn d b base s e t last undo_next v old) (owner : 1 ≤ t) (beside : Beside) (told : IsToldOf b beside s.log) where
   -- ---- a split, with its first page
 
-  module _ (key : Key) (max : ℕ) (plan : PlannedChange) (leaf : ℕ) (splits : KeySplits (settled_pages b s) beside key max (contents b s.log) plan leaf) (now : Writer) (w : PageWriter) (disk : D) (on : GoesOn d b base s old now w disk)
+  module _ (key : Key) (dense : Bool) (max : ℕ) (plan : PlannedChange) (leaf : ℕ) (splits : KeySplits (settled_pages b s) beside key dense max (contents b s.log) plan leaf) (now : Writer) (w : PageWriter) (disk : D) (on : GoesOn d b base s old now w disk)
       (begun : BegunChange) (same : begun.change.images ≡ plan.images) (none : begun.change.done ≡ 0) (whose : begun.change.transaction ≡ t) (newest : begun.change.last ≡ last) (leads : begun.change.undo_next ≡ undo_next) (counts : begun.count ≡ plan.count) where
     closed : open_smo s.log ≡ []
     closed = told.none splits.alone
@@ -103,7 +103,7 @@ module _ {D : Type 0} (d : Ghosts D) (b : Base) (base : ℕ) (s : Writer) (e t l
     pub begun_goes : Goes b begun.change now.log
     begun_goes = goes_as b begun.change now.log t undo_next plan.images 0 last whose leads same none newest
         (change_begins d b base now e t last undo_next w disk (going_on d b base s e t last undo_next v old g owner now w disk on) owner plan.images (open_longer b s.log now.log on.goes.keeps.log ∙ closed) splits.rising
-        (subst (λ (f : Pages). StandsFor f (held f plan.images) (IsApart plan.images)) (sym on_now) (splits_stand (settled_pages b s) key (Some max) plan.images leaf splits.planned)))
+        (subst (λ (f : Pages). StandsFor f (held f plan.images) (IsApart plan.images)) (sym on_now) (splits_stand dense (settled_pages b s) key (Some max) plan.images leaf splits.planned)))
 
     module _ (more : BegunChange) (x : PageWriter) (new : D) (step : Stepped d b base now begun.change true more.change x new) (count : more.count ≡ begun.count) where
       abbrev page : ℕ
@@ -139,13 +139,13 @@ module _ {D : Type 0} (d : Ghosts D) (b : Base) (base : ℕ) (s : Writer) (e t l
             room = subst (λ (y : Body). HasRoom true y.entries (key, 0)) body (splits.planned.fits leaf way);
           }
 
-      pub insert_begun : InsertBegun d b base s e t last undo_next key max beside more leaf x new
+      pub insert_begun : InsertBegun d b base s e t last undo_next key dense max beside more leaf x new
       insert_begun = record {
         absent = splits.absent;
         alone = splits.alone;
         closed = closed;
         lacks = splits.lacks;
-        within = some_within (settled b s.log) key max plan.images splits.some (splits.planned.within max refl);
+        within = some_within (settled b s.log) key dense max plan.images splits.some (splits.planned.within max refl);
         now = record (changed_as step.logged.known record_of step.logged.before) { durable = step.logged.durable };
         stands = step.logged.stands;
         over = step.logged.keeps.redo_end ∙ on.goes.keeps.redo_end ∙ g.over;

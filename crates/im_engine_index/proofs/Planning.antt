@@ -75,14 +75,14 @@ is_there rid found there is true_is same none = let clash : true ≡ false = sym
 -- ---- a plan
 
 -- none is wanted: the key is there, or its leaf has room for it
-pub nothing_planned : (pages : AllPages) (key : Key) (max : ℕ) (m : IndexMap) (pool : PoolView) (place : Place) → walk (bodies_of pages) ≡ entries m → IsPlace pages key m pool place
-    → (place.rid ≢ None) ⊎ HasRoom true (page_at pool place.leaf.number).body.entries (key, 0) → IsInsertPlan pages key max Fits
-nothing_planned pages key max m pool place same at (inl there) = inl (λ none. there (at.value ∙ sym (walk_says_map m (walk (bodies_of pages)) key same) ∙ none))
-nothing_planned pages key max m pool place same at (inr room) = inr (record { page = place.leaf.number; way = at.leaf.way; room = subst (λ (x : Page). HasRoom true x.body.entries (key, 0)) at.leaf.shown room })
+pub nothing_planned : (pages : AllPages) (key : Key) (dense : Bool) (max : ℕ) (m : IndexMap) (pool : PoolView) (place : Place) → walk (bodies_of pages) ≡ entries m → IsPlace pages key m pool place
+    → (place.rid ≢ None) ⊎ HasRoom true (page_at pool place.leaf.number).body.entries (key, 0) → IsInsertPlan pages key dense max Fits
+nothing_planned pages key dense max m pool place same at (inl there) = inl (λ none. there (at.value ∙ sym (walk_says_map m (walk (bodies_of pages)) key same) ∙ none))
+nothing_planned pages key dense max m pool place same at (inr room) = inr (record { page = place.leaf.number; way = at.leaf.way; room = subst (λ (x : Page). HasRoom true x.body.entries (key, 0)) at.leaf.shown room })
 
-pub plan_refused : (pages : AllPages) (key : Key) (max : ℕ) (f : Fault) (r : Result Plan Fault) → IsErrAnd r (λ y. y ≡ f) → f ≢ NotAStore → (f ≡ PagesFull → IsFullForKey pages key max) → PlanKept pages key max r
-plan_refused pages key max f (Ok plan) is sound full = absurd is
-plan_refused pages key max f (Err y) is sound full = record { sound = λ same. sound (sym is ∙ same); full = λ same. full (sym is ∙ same) }
+pub plan_refused : (pages : AllPages) (key : Key) (dense : Bool) (max : ℕ) (f : Fault) (r : Result Plan Fault) → IsErrAnd r (λ y. y ≡ f) → f ≢ NotAStore → (f ≡ PagesFull → IsFullForKey pages key dense max) → PlanKept pages key dense max r
+plan_refused pages key dense max f (Ok plan) is sound full = absurd is
+plan_refused pages key dense max f (Err y) is sound full = record { sound = λ same. sound (sym is ∙ same); full = λ same. full (sym is ∙ same) }
 
 pub unplanned : {D : Type 0} (d : Ghosts D) {m : Fault → Bool} {v : PageWriter} {old : D} {w : PageWriter} {new : D} (f : Fault) (r : Result Plan Fault) → IfOk r (λ plan. (plan ≡ UsedUp) × (f ≡ Capacity)) → IfErr r (λ y. (y ≡ f) × (y ≢ Capacity))
     → Ends d AreLoaded m v old w new (Some f) → Ends d AreLoaded m v old w new (fault_of r)
@@ -91,19 +91,19 @@ unplanned d {m} {v} {old} {w} {new} f (Ok plan) used others one =
     record { ready = moved.ready; frames = moved.frames; ends = moved.ends.1 }
 unplanned d {m} {v} {old} {w} {new} f (Err y) used others one = subst (λ (x : Fault). Ends d AreLoaded m v old w new (Some x)) (sym others.0) one
 
-over_of : (pages : Pages) (key : Key) (max : ℕ) → (m : ℕ) × (Some max ≡ Some m) × IsOver pages key m → IsOver pages key max
-over_of pages key max is = subst (λ (n : ℕ). IsOver pages key n) (let same : is.0 ≡ max = cc is.1 in same) is.2
+over_of : (pages : Pages) (key : Key) (dense : Bool) (max : ℕ) → (m : ℕ) × (Some max ≡ Some m) × IsOver dense pages key m → IsOver dense pages key max
+over_of pages key dense max is = subst (λ (n : ℕ). IsOver dense pages key n) (let same : is.0 ≡ max = cc is.1 in same) is.2
 
-pub unplanned_kept : (pages : AllPages) (key : Key) (max : ℕ) (f : Fault) (r : Result Plan Fault) → IfOk r (λ plan. (plan ≡ UsedUp) × (f ≡ Capacity)) → IfErr r (λ y. (y ≡ f) × (y ≢ Capacity))
-    → find key_order key (walk (bodies_of pages)) ≡ None → f ≢ NotAStore → WantsPages (bodies_of pages) key (Some max) f → PlanKept pages key max r
-unplanned_kept pages key max f (Ok plan) used others absent sound wants =
+pub unplanned_kept : (pages : AllPages) (key : Key) (dense : Bool) (max : ℕ) (f : Fault) (r : Result Plan Fault) → IfOk r (λ plan. (plan ≡ UsedUp) × (f ≡ Capacity)) → IfErr r (λ y. (y ≡ f) × (y ≢ Capacity))
+    → find key_order key (walk (bodies_of pages)) ≡ None → f ≢ NotAStore → WantsPages dense (bodies_of pages) key (Some max) f → PlanKept pages key dense max r
+unplanned_kept pages key dense max f (Ok plan) used others absent sound wants =
     record {
-      sound = subst (IsInsertPlan pages key max) (sym used.0) (record { absent = absent; lacks = wants.lacks (inl used.1); used_up = runs_out (bodies_of pages) key (Some max) f wants used.1 });
+      sound = subst (IsInsertPlan pages key dense max) (sym used.0) (record { absent = absent; lacks = wants.lacks (inl used.1); used_up = runs_out (bodies_of pages) key (Some max) f wants used.1 });
       full = tt;
     }
-unplanned_kept pages key max f (Err y) used others absent sound wants = record {
+unplanned_kept pages key dense max f (Err y) used others absent sound wants = record {
   sound = λ same. sound (sym others.0 ∙ same);
-  full = λ same. let full : f ≡ PagesFull = sym others.0 ∙ same in record { absent = absent; lacks = wants.lacks (inr full); over = over_of (bodies_of pages) key max (wants.full full) };
+  full = λ same. let full : f ≡ PagesFull = sym others.0 ∙ same in record { absent = absent; lacks = wants.lacks (inr full); over = over_of (bodies_of pages) key dense max (wants.full full) };
 }
 
 pub never_so : {A : Type 0} (r : Result A Fault) (f : Fault) → IfErr r (λ y. (y ≡ f) × (y ≢ Capacity)) → IfErr r (λ y. y ≢ Capacity)
@@ -113,30 +113,30 @@ never_so {A} (Err y) f is = is.1
 -- ---- its locks
 
 -- a plan keeps the limit of pages, or is told that page numbers or levels are used up
-pub limited_by : (pages : AllPages) (key : Key) (max : ℕ) (spare : List ℕ) → IsGoodTree (bodies_of pages) spare → (plan : Plan) → IsInsertPlan pages key max plan → find key_order key (walk (bodies_of pages)) ≡ None → IsLimited (bodies_of pages) key max
-limited_by pages key max spare good Fits (inl there) none lacks = absurd (there none)
-limited_by pages key max spare good Fits (inr fits) none lacks = absurd (lacks.lacks (subst (λ (p : ℕ). HasRoom true (bodies_of pages p).entries (key, 0)) (one_leaf (bodies_of pages) spare key fits.page lacks.page good fits.way lacks.way) fits.room))
-limited_by pages key max spare good (Split plan) planned none lacks =
+pub limited_by : (pages : AllPages) (key : Key) (dense : Bool) (max : ℕ) (spare : List ℕ) → IsGoodTree (bodies_of pages) spare → (plan : Plan) → IsInsertPlan pages key dense max plan → find key_order key (walk (bodies_of pages)) ≡ None → IsLimited dense (bodies_of pages) key max
+limited_by pages key dense max spare good Fits (inl there) none lacks = absurd (there none)
+limited_by pages key dense max spare good Fits (inr fits) none lacks = absurd (lacks.lacks (subst (λ (p : ℕ). HasRoom true (bodies_of pages p).entries (key, 0)) (one_leaf (bodies_of pages) spare key fits.page lacks.page good fits.way lacks.way) fits.room))
+limited_by pages key dense max spare good (Split plan) planned none lacks =
     ⊎_elim (λ (no_image : plan.images ≡ []). absurd (let some : 1 ≤ length plan.images = planned.0 in let zero_is : length plan.images ≡ 0 = ap (λ (l : List Numbered). length l) no_image in omega (arith, some, zero_is)))
-    (λ (within : IsWithin (bodies_of pages) key max). inl within) (planned.1.within max refl)
-limited_by pages key max spare good UsedUp left none lacks = inr left.used_up
+    (λ (within : IsWithin dense (bodies_of pages) key max). inl within) (planned.1.within max refl)
+limited_by pages key dense max spare good UsedUp left none lacks = inr left.used_up
 
-pub prepared_is : (pages : AllPages) (t : ℕ) (key : Key) (rid max : ℕ) (m : IndexMap) (old new : Table) (pool : PoolView) (plan : Plan) (outcome : LockAnswer Place) (spare : List ℕ) → IsGoodTree (bodies_of pages) spare → IsAsked pages t (Insert key rid) key m old new pool outcome
-    → IsInsertPlan pages key max plan → IsPrepared pages t key rid max m old new pool (prepared_with plan outcome)
-prepared_is pages t key rid max m old new pool plan (Granted place) spare good is planned = record { decides = is.decides; ready = (is.place, planned); limited = limited_by pages key max spare good plan planned }
-prepared_is pages t key rid max m old new pool plan (Wait holder) spare good is planned = record { decides = is.decides; ready = tt; limited = limited_by pages key max spare good plan planned }
-prepared_is pages t key rid max m old new pool plan Die spare good is planned = record { decides = is.decides; ready = tt; limited = limited_by pages key max spare good plan planned }
+pub prepared_is : (pages : AllPages) (t : ℕ) (key : Key) (rid : ℕ) (dense : Bool) (max : ℕ) (m : IndexMap) (old new : Table) (pool : PoolView) (plan : Plan) (outcome : LockAnswer Place) (spare : List ℕ) → IsGoodTree (bodies_of pages) spare → IsAsked pages t (Insert key rid) key m old new pool outcome
+    → IsInsertPlan pages key dense max plan → IsPrepared pages t key rid dense max m old new pool (prepared_with plan outcome)
+prepared_is pages t key rid dense max m old new pool plan (Granted place) spare good is planned = record { decides = is.decides; ready = (is.place, planned); limited = limited_by pages key dense max spare good plan planned }
+prepared_is pages t key rid dense max m old new pool plan (Wait holder) spare good is planned = record { decides = is.decides; ready = tt; limited = limited_by pages key dense max spare good plan planned }
+prepared_is pages t key rid dense max m old new pool plan Die spare good is planned = record { decides = is.decides; ready = tt; limited = limited_by pages key dense max spare good plan planned }
 
-pub prepare_refused : (pages : AllPages) (t : ℕ) (key : Key) (rid max : ℕ) (m : IndexMap) (old new : Table) (pool : PoolView) (f : Fault) (r : Result (LockAnswer Prepared) Fault) → IsErrAnd r (λ y. y ≡ f) → f ≢ NotAStore → (f ≡ PagesFull → IsFullForKey pages key max)
-    → PreparedKept pages t key rid max m old new pool r
-prepare_refused pages t key rid max m old new pool f (Ok x) is sound full = absurd is
-prepare_refused pages t key rid max m old new pool f (Err y) is sound full = record { sound = λ same. sound (sym is ∙ same); full = λ same. full (sym is ∙ same) }
+pub prepare_refused : (pages : AllPages) (t : ℕ) (key : Key) (rid : ℕ) (dense : Bool) (max : ℕ) (m : IndexMap) (old new : Table) (pool : PoolView) (f : Fault) (r : Result (LockAnswer Prepared) Fault) → IsErrAnd r (λ y. y ≡ f) → f ≢ NotAStore → (f ≡ PagesFull → IsFullForKey pages key dense max)
+    → PreparedKept pages t key rid dense max m old new pool r
+prepare_refused pages t key rid dense max m old new pool f (Ok x) is sound full = absurd is
+prepare_refused pages t key rid dense max m old new pool f (Err y) is sound full = record { sound = λ same. sound (sym is ∙ same); full = λ same. full (sym is ∙ same) }
 
 -- where they are asked alone, without a plan
-pub prepared_kept : {D : Type 0} (d : Ghosts D) {v : PageWriter} {old : D} {w : PageWriter} {disk : D} (pages : AllPages) (t : ℕ) (key : Key) (rid max : ℕ) (m : IndexMap) (held new : Table) (pool : PoolView) (r : Result (LockAnswer Prepared) Fault)
-    → AsksLocks d v old w disk (fault_of r) → IsSound r (IsPrepared pages t key rid max m held new pool) → PreparedKept pages t key rid max m held new pool r
-prepared_kept {D} d {v} {old} {w} {disk} pages t key rid max m held new pool (Ok x) one sound = record { sound = sound; full = tt }
-prepared_kept {D} d {v} {old} {w} {disk} pages t key rid max m held new pool (Err y) one sound = record { sound = sound; full = λ full. absurd (never_pages_full d refl one full) }
+pub prepared_kept : {D : Type 0} (d : Ghosts D) {v : PageWriter} {old : D} {w : PageWriter} {disk : D} (pages : AllPages) (t : ℕ) (key : Key) (rid : ℕ) (dense : Bool) (max : ℕ) (m : IndexMap) (held new : Table) (pool : PoolView) (r : Result (LockAnswer Prepared) Fault)
+    → AsksLocks d v old w disk (fault_of r) → IsSound r (IsPrepared pages t key rid dense max m held new pool) → PreparedKept pages t key rid dense max m held new pool r
+prepared_kept {D} d {v} {old} {w} {disk} pages t key rid dense max m held new pool (Ok x) one sound = record { sound = sound; full = tt }
+prepared_kept {D} d {v} {old} {w} {disk} pages t key rid dense max m held new pool (Err y) one sound = record { sound = sound; full = λ full. absurd (never_pages_full d refl one full) }
 
 -- a search has no refusal for want of page numbers
 pub none_used_up : {D : Type 0} (d : Ghosts D) {A : Type 0} {v : PageWriter} {old : D} {w : PageWriter} {disk : D} (r : Result A Fault) → AsksLocks d v old w disk (fault_of r) → IfErr r (λ y. y ≢ Capacity)
@@ -159,7 +159,7 @@ late_why f g memory other is = by (want_of_memory f) refl
     by true short = inl (is_memory f short)
     by false short = inr (sym (other (λ same. let clash : true ≡ false = ap want_of_memory (sym same) ∙ short in cc clash)) ∙ is)
 
-module _ {D : Type 0} (d : Ghosts D) (b : Base) (base : ℕ) (s : Writer) (e t last undo_next : ℕ) (key : Key) (rid max : ℕ) (held : Table) (v : PageWriter) (old : D) (may : MayEdit d b base s e t last undo_next (Insert key rid) held v old) (owner : 1 ≤ t) where
+module _ {D : Type 0} (d : Ghosts D) (b : Base) (base : ℕ) (s : Writer) (e t last undo_next : ℕ) (key : Key) (rid : ℕ) (dense : Bool) (max : ℕ) (held : Table) (v : PageWriter) (old : D) (may : MayEdit d b base s e t last undo_next (Insert key rid) held v old) (owner : 1 ≤ t) where
   pub has_pages : HasPages d AreLoaded (pages_of s) v old
   has_pages = unfinished_pages d b base s e t last undo_next v old may.unfinished
 
@@ -173,11 +173,11 @@ module _ {D : Type 0} (d : Ghosts D) (b : Base) (base : ℕ) (s : Writer) (e t l
   tree_lacks none = sym (walk_says d b base s e t last undo_next v old may.unfinished owner key) ∙ none
 
   -- refused in front of the grant
-  pub insert_refused : (new : Table) (w : PageWriter) (disk : D) (f : Fault) → Ends d AreLoaded (mild_to_split (Some max)) v old w disk (Some f) → f ≢ Capacity → f ≢ NotAStore → (f ≡ PagesFull → IsFullForKey (pages_of s) key max)
-      → (r : Result (LockAnswer (Option Noted)) Fault) → IsErrAnd r (λ y. y ≡ f) → InsertKept d b base s e t key rid max held new old w disk r
+  pub insert_refused : (new : Table) (w : PageWriter) (disk : D) (f : Fault) → Ends d AreLoaded (mild_to_split (Some max)) v old w disk (Some f) → f ≢ Capacity → f ≢ NotAStore → (f ≡ PagesFull → IsFullForKey (pages_of s) key dense max)
+      → (r : Result (LockAnswer (Option Noted)) Fault) → IsErrAnd r (λ y. y ≡ f) → InsertKept d b base s e t key rid dense max held new old w disk r
   insert_refused new w disk f one never sound full (Ok x) is = absurd is
   insert_refused new w disk f one never sound full (Err y) is =
-      subst (λ (z : Fault). InsertKept d b base s e t key rid max held new old w disk (Err z)) (sym is) (record {
+      subst (λ (z : Fault). InsertKept d b base s e t key rid dense max held new old w disk (Err z)) (sym is) (record {
         sound = sound;
         stops = calls_left d b base s e t last undo_next v old may.unfinished one;
         full = λ same. (tree_lacks (full same).absent, (full same).lacks, (full same).over);
@@ -186,14 +186,14 @@ module _ {D : Type 0} (d : Ghosts D) (b : Base) (base : ℕ) (s : Writer) (e t l
         begun = λ same. absurd (never_failed d f may.unfinished.stands.working one same);
       })
 
-  module _ (new : Table) (w : PageWriter) (disk : D) (one : Ends d AreLoaded (mild_to_split (Some max)) v old w disk None) (outcome : LockAnswer Prepared) (is : IsPrepared (pages_of s) t key rid max (contents b s.log) held new w.pool outcome) where
+  module _ (new : Table) (w : PageWriter) (disk : D) (one : Ends d AreLoaded (mild_to_split (Some max)) v old w disk None) (outcome : LockAnswer Prepared) (is : IsPrepared (pages_of s) t key rid dense max (contents b s.log) held new w.pool outcome) where
     pub left : LeavesEdit d b base s t old disk
     left = calls_left d b base s e t last undo_next v old may.unfinished one
 
-    within : get (contents b s.log) key ≡ None → IsLimited (bodies s) key max
+    within : get (contents b s.log) key ≡ None → IsLimited dense (bodies s) key max
     within none lacks = is.limited (walk_says d b base s e t last undo_next v old may.unfinished owner key ∙ none) lacks
 
-    pub insert_waits : (holder : ℕ) → outcome ≡ Wait holder → InsertKept d b base s e t key rid max held new old w disk (Ok (Wait holder))
+    pub insert_waits : (holder : ℕ) → outcome ≡ Wait holder → InsertKept d b base s e t key rid dense max held new old w disk (Ok (Wait holder))
     insert_waits holder same = record {
       sound = (subst (λ (o : LockAnswer Prepared). Decides held t (asked (Insert key rid) (contents b s.log)) (verdict_of o) new) same is.decides, stands_behind d b base s e t last undo_next v old may.unfinished one);
       stops = left;
@@ -203,7 +203,7 @@ module _ {D : Type 0} (d : Ghosts D) (b : Base) (base : ℕ) (s : Writer) (e t l
       begun = tt;
     }
 
-    pub insert_dies : outcome ≡ Die → InsertKept d b base s e t key rid max held new old w disk (Ok Die)
+    pub insert_dies : outcome ≡ Die → InsertKept d b base s e t key rid dense max held new old w disk (Ok Die)
     insert_dies same = record {
       sound = (subst (λ (o : LockAnswer Prepared). Decides held t (asked (Insert key rid) (contents b s.log)) (verdict_of o) new) same is.decides, stands_behind d b base s e t last undo_next v old may.unfinished one);
       stops = left;
@@ -217,11 +217,11 @@ module _ {D : Type 0} (d : Ghosts D) (b : Base) (base : ℕ) (s : Writer) (e t l
       pub decided : Decides held t (asked (Insert key rid) (contents b s.log)) GrantedAll new
       decided = subst (λ (o : LockAnswer Prepared). Decides held t (asked (Insert key rid) (contents b s.log)) (verdict_of o) new) same is.decides
 
-      pub ready : IsPlace (pages_of s) key (contents b s.log) w.pool x.place × IsInsertPlan (pages_of s) key max x.plan
-      ready = subst (λ (o : LockAnswer Prepared). IfGranted o (λ y. IsPlace (pages_of s) key (contents b s.log) w.pool y.place × IsInsertPlan (pages_of s) key max y.plan)) same is.ready
+      pub ready : IsPlace (pages_of s) key (contents b s.log) w.pool x.place × IsInsertPlan (pages_of s) key dense max x.plan
+      ready = subst (λ (o : LockAnswer Prepared). IfGranted o (λ y. IsPlace (pages_of s) key (contents b s.log) w.pool y.place × IsInsertPlan (pages_of s) key dense max y.plan)) same is.ready
 
       -- the key is there
-      pub insert_duplicate : (there : Bool) → there ≡ is_some x.place.rid → there ≡ true → InsertKept d b base s e t key rid max held new old w disk (Ok (Granted None))
+      pub insert_duplicate : (there : Bool) → there ≡ is_some x.place.rid → there ≡ true → InsertKept d b base s e t key rid dense max held new old w disk (Ok (Granted None))
       insert_duplicate there has found_it =
           let found = some_of x.place.rid (sym has ∙ found_it) in
           record {
@@ -241,7 +241,7 @@ module _ {D : Type 0} (d : Ghosts D) (b : Base) (base : ℕ) (s : Writer) (e t l
         pub one_change : changes (Insert key rid) (contents b s.log) ≡ Put key rid ∷ []
         one_change = ap (λ (o : Option ℕ). cond (is_some o) [] (Put key rid ∷ [])) absent
 
-        abbrev pub may_insert : MayInsert d b base s e t last undo_next key max x.plan x.place.leaf.number w disk
+        abbrev pub may_insert : MayInsert d b base s e t last undo_next key dense max x.plan x.place.leaf.number w disk
         may_insert = record {
           start = v;
           since = old;
@@ -253,20 +253,20 @@ module _ {D : Type 0} (d : Ghosts D) (b : Base) (base : ℕ) (s : Writer) (e t l
           planned = ready.1;
         }
 
-        pub insert_put : (noted : Noted) (y : PageWriter) (end : D) → PutKept d b base s e t key rid max old y end (Ok noted) → InsertKept d b base s e t key rid max held new old y end (Ok (Granted (Some noted)))
+        pub insert_put : (noted : Noted) (y : PageWriter) (end : D) → PutKept d b base s e t key rid dense max old y end (Ok noted) → InsertKept d b base s e t key rid dense max held new old y end (Ok (Granted (Some noted)))
         insert_put noted y end kept = record { sound = (decided, kept.sound); stops = kept.stops; full = tt; used_up = tt; limited = within; begun = tt }
 
         -- its leaf lacks room, or nothing but Images joined
         lacks_or_none : (y : PageWriter) (end : D) (plan : Plan) → x.plan ≡ plan → (x.plan ≡ Fits → Stays d AreLoaded w disk y end) → LacksRoomFor (bodies s) key ⊎ Evicted d b base s old y end
         lacks_or_none y end Fits is none = inr ((stays_then d AreLoaded loaded_same v old w disk one.ends y end (none is)).goes b base s may.unfinished.stands (loaded d b base s e t last undo_next v old may.unfinished))
-        lacks_or_none y end (Split images) is none = let planned = subst (IsInsertPlan (pages_of s) key max) is ready.1 in inl (planned.1.lacks planned.0)
-        lacks_or_none y end UsedUp is none = inl (subst (IsInsertPlan (pages_of s) key max) is ready.1).lacks
+        lacks_or_none y end (Split images) is none = let planned = subst (IsInsertPlan (pages_of s) key dense max) is ready.1 in inl (planned.1.lacks planned.0)
+        lacks_or_none y end UsedUp is none = inl (subst (IsInsertPlan (pages_of s) key dense max) is ready.1).lacks
 
         -- after the grant a want of memory is answered late
-        pub insert_fails : (y : PageWriter) (end : D) (f g : Fault) → (f ≡ Memory → g ≡ Failed) → (f ≢ Memory → g ≡ f) → f ≢ PagesFull → (f ≡ Capacity → x.plan ≡ UsedUp) → ((f ≡ Memory) ⊎ (f ≡ Failed) → x.plan ≡ Fits → Stays d AreLoaded w disk y end) → PutKept d b base s e t key rid max old y end (Err f)
-            → InsertKept d b base s e t key rid max held new old y end (Err g)
+        pub insert_fails : (y : PageWriter) (end : D) (f g : Fault) → (f ≡ Memory → g ≡ Failed) → (f ≢ Memory → g ≡ f) → f ≢ PagesFull → (f ≡ Capacity → x.plan ≡ UsedUp) → ((f ≡ Memory) ⊎ (f ≡ Failed) → x.plan ≡ Fits → Stays d AreLoaded w disk y end) → PutKept d b base s e t key rid dense max old y end (Err f)
+            → InsertKept d b base s e t key rid dense max held new old y end (Err g)
         insert_fails y end f g memory other never used none kept =
-            let none_left = λ (is_capacity : g ≡ Capacity). subst (IsInsertPlan (pages_of s) key max) (used (late_is f g Capacity memory other (λ clash. let no_such : ⊥ = cc clash in no_such) is_capacity)) ready.1 in
+            let none_left = λ (is_capacity : g ≡ Capacity). subst (IsInsertPlan (pages_of s) key dense max) (used (late_is f g Capacity memory other (λ clash. let no_such : ⊥ = cc clash in no_such) is_capacity)) ready.1 in
             record {
               sound = late_sound f g memory other kept.sound;
               stops = kept.stops;

@@ -46,28 +46,28 @@ pub record KeyFits (pages : AllPages) (beside : Beside) (key : Key) (m : IndexMa
   pub room : HasRoom true (bodies_of pages page).entries (key, 0)
 
 -- The key is not there, its leaf lacks room for it, and no change is under way: these pages are the split of that leaf, this one the key's leaf after it.
-pub record KeySplits (pages : AllPages) (beside : Beside) (key : Key) (max : ℕ) (m : IndexMap) (plan : PlannedChange) (leaf : ℕ) : Type 0 where
+pub record KeySplits (pages : AllPages) (beside : Beside) (key : Key) (dense : Bool) (max : ℕ) (m : IndexMap) (plan : PlannedChange) (leaf : ℕ) : Type 0 where
   pub absent : get m key ≡ None
   pub alone : beside.pages.now ≡ []
   pub lacks : LacksRoomFor (bodies_of pages) key
-  pub planned : Planned pages key (Some max) plan.images leaf
+  pub planned : Planned dense pages key (Some max) plan.images leaf
   pub some : 1 ≤ length plan.images
   pub rising : IsRising plan.images
   pub count : plan.count ≡ (bodies_of pages 0).leftmost
 
 -- The same, where page numbers or levels are used up.
-pub record KeyLacksNumbers (pages : AllPages) (beside : Beside) (key : Key) (m : IndexMap) : Type 0 where
+pub record KeyLacksNumbers (pages : AllPages) (beside : Beside) (key : Key) (dense : Bool) (m : IndexMap) : Type 0 where
   pub absent : get m key ≡ None
   pub alone : beside.pages.now ≡ []
   pub lacks : LacksRoomFor (bodies_of pages) key
-  pub used_up : IsUsedUp (bodies_of pages) key
+  pub used_up : IsUsedUp dense (bodies_of pages) key
 
 -- so a key may come
-abbrev pub IsComing : AllPages → Beside → Key → ℕ → IndexMap → Coming → Type 0
-IsComing pages beside key max m There = (i : ℕ) × (get m key ≡ Some i)
-IsComing pages beside key max m (Fits page) = KeyFits pages beside key m page
-IsComing pages beside key max m (Splits plan leaf) = KeySplits pages beside key max m plan leaf
-IsComing pages beside key max m UsedUp = KeyLacksNumbers pages beside key m
+abbrev pub IsComing : AllPages → Beside → Key → Bool → ℕ → IndexMap → Coming → Type 0
+IsComing pages beside key dense max m There = (i : ℕ) × (get m key ≡ Some i)
+IsComing pages beside key dense max m (Fits page) = KeyFits pages beside key m page
+IsComing pages beside key dense max m (Splits plan leaf) = KeySplits pages beside key dense max m plan leaf
+IsComing pages beside key dense max m UsedUp = KeyLacksNumbers pages beside key dense m
 
 -- its locks: the next name until the change ends, where one begins
 abbrev pub asks_of : Coming → Key → ℕ → IndexMap → List Request
@@ -89,11 +89,11 @@ asks_row true key rid m = asked_begun key m
 asks_row false key rid m = asked (Insert key rid) m
 
 -- what planning the split keeps
-pub record ComingPlanned (pages : AllPages) (beside : Beside) (key : Key) (max : ℕ) (m : IndexMap) (result : Result Coming Fault) : Type 0 where
-  pub sound : IsSound result (IsComing pages beside key max m)
+pub record ComingPlanned (pages : AllPages) (beside : Beside) (key : Key) (dense : Bool) (max : ℕ) (m : IndexMap) (result : Result Coming Fault) : Type 0 where
+  pub sound : IsSound result (IsComing pages beside key dense max m)
   -- the locks are asked as for a change that begins, or for page numbers that are wanting
-  pub limited : IfOk result (λ _. IsLimited (bodies_of pages) key max)
-  pub full : IfErr result (λ e. e ≡ PagesFull → LacksRoomFor (bodies_of pages) key × IsOver (bodies_of pages) key max)
+  pub limited : IfOk result (λ _. IsLimited dense (bodies_of pages) key max)
+  pub full : IfErr result (λ e. e ≡ PagesFull → LacksRoomFor (bodies_of pages) key × IsOver dense (bodies_of pages) key max)
 
 -- The lock table has decided them; where they are granted, the key may come so. Who waits or dies has asked as an Insert asks that ends at once.
 abbrev pub IsComingDecided : (Coming → Type 0) → Table → ℕ → Key → ℕ → IndexMap → Table → LockAnswer Coming → Type 0
@@ -102,11 +102,11 @@ IsComingDecided P old t key rid m new (Wait holder) = Decides old t (asked (Inse
 IsComingDecided P old t key rid m new Die = Decides old t (asked (Insert key rid) m) MustDie new
 
 -- what laying an insert down keeps
-pub record ComingKept (pages : AllPages) (beside : Beside) (t : ℕ) (key : Key) (rid max : ℕ) (m : IndexMap) (old new : Table) (result : Result (Sight (LockAnswer Coming)) Fault) : Type 0 where
-  pub sound : IsSound result (IfSeen (IsComingDecided (IsComing pages beside key max m) old t key rid m new) (TreeCause (bodies_of pages) beside (Insert key rid) m × (new ≡ old)))
-  pub full : IfErr result (λ e. e ≡ PagesFull → (get m key ≡ None) × LacksRoomFor (bodies_of pages) key × IsOver (bodies_of pages) key max)
+pub record ComingKept (pages : AllPages) (beside : Beside) (t : ℕ) (key : Key) (rid : ℕ) (dense : Bool) (max : ℕ) (m : IndexMap) (old new : Table) (result : Result (Sight (LockAnswer Coming)) Fault) : Type 0 where
+  pub sound : IsSound result (IfSeen (IsComingDecided (IsComing pages beside key dense max m) old t key rid m new) (TreeCause (bodies_of pages) beside (Insert key rid) m × (new ≡ old)))
+  pub full : IfErr result (λ e. e ≡ PagesFull → (get m key ≡ None) × LacksRoomFor (bodies_of pages) key × IsOver dense (bodies_of pages) key max)
   -- whatever was decided: a plan over the limit has asked no lock
-  pub limited : IfOk result (IfSeen (λ _. get m key ≡ None → IsLimited (bodies_of pages) key max) (Unit {0}))
+  pub limited : IfOk result (IfSeen (λ _. get m key ≡ None → IsLimited dense (bodies_of pages) key max) (Unit {0}))
   pub first : Bars (bodies_of pages) beside (Insert key rid) m → IsBarredOff result
 
 -- ---- a key that goes

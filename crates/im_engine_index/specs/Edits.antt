@@ -1,5 +1,5 @@
 -- What an insert or a delete of a transaction among many keeps.
-use Rattle.std.specs.Prelude.{◌≡◌, ◌≢◌, ◌⊎◌, ℕ, true, false, [], ◌∷◌, length, Option, None, Some, Result, IfOk, IfErr}
+use Rattle.std.specs.Prelude.{◌≡◌, ◌≢◌, ◌⊎◌, ℕ, true, false, [], ◌∷◌, length, Option, None, Some, Result, IfOk, IfErr, Bool}
 use Rattle.std.specs.FinMap.{get}
 use Rattle.im_base_types.specs.declared.fault.Fault.{Fault}
 use Rattle.im_base_types.specs.declared.fault.Fault.TheVariants.{Capacity, Failed, PagesFull}
@@ -55,8 +55,8 @@ pub record HasOne (pages : Pages) (key : Key) : Type 0 where
 -- ---- the leaf of a key that comes
 
 -- Where it lacks room, its split takes no page over the limit, or page numbers or levels are used up.
-abbrev pub IsLimited : Pages → Key → ℕ → Type 0
-IsLimited pages key max = LacksRoomFor pages key → IsWithin pages key max ⊎ IsUsedUp pages key
+abbrev pub IsLimited : Bool → Pages → Key → ℕ → Type 0
+IsLimited dense pages key max = LacksRoomFor pages key → IsWithin dense pages key max ⊎ IsUsedUp dense pages key
 
 module _ {D : Type 0} (d : Ghosts D) (b : Base) (base : ℕ) where
   -- The transaction may log a change: it is not finished; and where it is granted the locks of this access, no other net has the key.
@@ -67,7 +67,7 @@ module _ {D : Type 0} (d : Ghosts D) (b : Base) (base : ℕ) where
   -- ---- a key that comes
 
   -- Its record joined the log, after Images and, just where its leaf lacked room, a structure change of the transaction, which then kept the limit of pages.
-  pub record Inserted (s : Writer) (e t : ℕ) (key : Key) (rid max : ℕ) (noted : Noted) (w : PageWriter) (disk : D) : Type 0 where
+  pub record Inserted (s : Writer) (e t : ℕ) (key : Key) (rid : ℕ) (dense : Bool) (max : ℕ) (noted : Noted) (w : PageWriter) (disk : D) : Type 0 where
     pub absent : get (contents b s.log) key ≡ None
     pub now : Writer
     pub stands : IsUnfinished d b base now e t noted.last noted.undo_next w disk
@@ -81,23 +81,23 @@ module _ {D : Type 0} (d : Ghosts D) (b : Base) (base : ℕ) where
     pub is : now.log ≡ key_record t newest noted.last page (InsertKey key rid) ∷ between
     pub some : LacksRoomFor (bodies s) key → HasRecordOf t change.more
     pub only : HasRecordOf t change.more → LacksRoomFor (bodies s) key
-    pub within : LacksRoomFor (bodies s) key → IsWithin (bodies s) key max
+    pub within : LacksRoomFor (bodies s) key → IsWithin dense (bodies s) key max
 
   -- by the outcome: nothing is logged of a key that is there, nor where a lock is in the way
-  abbrev pub IsInsert : Writer → ℕ → ℕ → Key → ℕ → ℕ → D → PageWriter → D → LockAnswer (Option Noted) → Type 0
-  IsInsert s e t key rid max old w disk (Granted None) = (i : ℕ) × (get (contents b s.log) key ≡ Some i) × Evicted d b base s old w disk
-  IsInsert s e t key rid max old w disk (Granted (Some noted)) = Inserted s e t key rid max noted w disk
-  IsInsert s e t key rid max old w disk (Wait holder) = Evicted d b base s old w disk
-  IsInsert s e t key rid max old w disk Die = Evicted d b base s old w disk
+  abbrev pub IsInsert : Writer → ℕ → ℕ → Key → ℕ → Bool → ℕ → D → PageWriter → D → LockAnswer (Option Noted) → Type 0
+  IsInsert s e t key rid dense max old w disk (Granted None) = (i : ℕ) × (get (contents b s.log) key ≡ Some i) × Evicted d b base s old w disk
+  IsInsert s e t key rid dense max old w disk (Granted (Some noted)) = Inserted s e t key rid dense max noted w disk
+  IsInsert s e t key rid dense max old w disk (Wait holder) = Evicted d b base s old w disk
+  IsInsert s e t key rid dense max old w disk Die = Evicted d b base s old w disk
 
   -- What an insert keeps. Pages are wanted before a lock is asked, page numbers after the grant, both only where the key is absent and its leaf lacks room for it: so an absent key has an answer, a lock that stands in the way included, only within the limit of pages. `Failed` comes after the grant of
   -- the locks of a key that is absent, where its leaf lacks room or nothing but Images joined the log.
-  pub record InsertKept (s : Writer) (e t : ℕ) (key : Key) (rid max : ℕ) (held new : Table) (old : D) (w : PageWriter) (disk : D) (result : Result (LockAnswer (Option Noted)) Fault) : Type 0 where
-    pub sound : IsSound result (λ outcome. Decides held t (asked (Insert key rid) (contents b s.log)) (verdict_of outcome) new × IsInsert s e t key rid max old w disk outcome)
+  pub record InsertKept (s : Writer) (e t : ℕ) (key : Key) (rid : ℕ) (dense : Bool) (max : ℕ) (held new : Table) (old : D) (w : PageWriter) (disk : D) (result : Result (LockAnswer (Option Noted)) Fault) : Type 0 where
+    pub sound : IsSound result (λ outcome. Decides held t (asked (Insert key rid) (contents b s.log)) (verdict_of outcome) new × IsInsert s e t key rid dense max old w disk outcome)
     pub stops : LeavesEdit d b base s t old disk
-    pub full : IfErr result (λ e. e ≡ PagesFull → (get (contents b s.log) key ≡ None) × LacksRoomFor (bodies s) key × IsOver (bodies s) key max)
-    pub used_up : IfErr result (λ e. e ≡ Capacity → (get (contents b s.log) key ≡ None) × LacksRoomFor (bodies s) key × IsUsedUp (bodies s) key × Decides held t (asked (Insert key rid) (contents b s.log)) GrantedAll new)
-    pub limited : IfOk result (λ _. get (contents b s.log) key ≡ None → IsLimited (bodies s) key max)
+    pub full : IfErr result (λ e. e ≡ PagesFull → (get (contents b s.log) key ≡ None) × LacksRoomFor (bodies s) key × IsOver dense (bodies s) key max)
+    pub used_up : IfErr result (λ e. e ≡ Capacity → (get (contents b s.log) key ≡ None) × LacksRoomFor (bodies s) key × IsUsedUp dense (bodies s) key × Decides held t (asked (Insert key rid) (contents b s.log)) GrantedAll new)
+    pub limited : IfOk result (λ _. get (contents b s.log) key ≡ None → IsLimited dense (bodies s) key max)
     pub begun : IfErr result (λ e. e ≡ Failed → (get (contents b s.log) key ≡ None) × Decides held t (asked (Insert key rid) (contents b s.log)) GrantedAll new × (LacksRoomFor (bodies s) key ⊎ Evicted d b base s old w disk))
 
   -- ---- a key that goes

@@ -93,12 +93,12 @@ module _ {D : Type 0} (d : Ghosts D) (b : Base) (base : ℕ) where
     pub logged : KeyLogged d b base s e t last page (InsertKey key rid) lsn w disk
 
   -- A change of the transaction began, with none under way, since the key's leaf lacked room: its first page joined the log, after Images; the key goes into this leaf after it. It takes no page over the limit.
-  pub record InsertBegun (s : Writer) (e t last undo_next : ℕ) (key : Key) (max : ℕ) (beside : Beside) (begun : BegunChange) (leaf : ℕ) (w : PageWriter) (disk : D) : Type 0 where
+  pub record InsertBegun (s : Writer) (e t last undo_next : ℕ) (key : Key) (dense : Bool) (max : ℕ) (beside : Beside) (begun : BegunChange) (leaf : ℕ) (w : PageWriter) (disk : D) : Type 0 where
     pub absent : get (contents b s.log) key ≡ None
     pub alone : beside.pages.now ≡ []
     pub closed : open_smo s.log ≡ []
     pub lacks : LacksRoomFor (settled b s.log) key
-    pub within : IsWithin (settled b s.log) key max
+    pub within : IsWithin dense (settled b s.log) key max
     pub now : Writer
     pub stands : StandsAs d b base now w disk
     pub over : now.redo_end ≡ Some e
@@ -120,44 +120,44 @@ module _ {D : Type 0} (d : Ghosts D) (b : Base) (base : ℕ) where
     pub to : KeyGoesTo b now.log begun.change.images key leaf
 
   -- by what was granted
-  abbrev pub IsInserting : Writer → ℕ → ℕ → ℕ → ℕ → Key → ℕ → ℕ → Beside → D → PageWriter → D → Inserting → Type 0
-  IsInserting s e t last undo_next key rid max beside old w disk There = (i : ℕ) × (get (contents b s.log) key ≡ Some i) × Evicted d b base s old w disk
-  IsInserting s e t last undo_next key rid max beside old w disk (Put lsn) = PutBeside s e t last key rid beside lsn w disk
-  IsInserting s e t last undo_next key rid max beside old w disk (Split begun leaf) = InsertBegun s e t last undo_next key max beside begun leaf w disk
+  abbrev pub IsInserting : Writer → ℕ → ℕ → ℕ → ℕ → Key → ℕ → Bool → ℕ → Beside → D → PageWriter → D → Inserting → Type 0
+  IsInserting s e t last undo_next key rid dense max beside old w disk There = (i : ℕ) × (get (contents b s.log) key ≡ Some i) × Evicted d b base s old w disk
+  IsInserting s e t last undo_next key rid dense max beside old w disk (Put lsn) = PutBeside s e t last key rid beside lsn w disk
+  IsInserting s e t last undo_next key rid dense max beside old w disk (Split begun leaf) = InsertBegun s e t last undo_next key dense max beside begun leaf w disk
 
   -- by the answer; where it is hidden no lock was asked
-  abbrev pub IsInsertBeside : Writer → ℕ → ℕ → ℕ → ℕ → Key → ℕ → ℕ → Beside → Table → Table → D → PageWriter → D → Sight (LockAnswer Inserting) → Type 0
-  IsInsertBeside s e t last undo_next key rid max beside table new old w disk (Seen (Granted x)) = IsAskedFor b s t key rid table new x × IsInserting s e t last undo_next key rid max beside old w disk x
-  IsInsertBeside s e t last undo_next key rid max beside table new old w disk (Seen (Wait holder)) = Decides table t (asked (Insert key rid) (contents b s.log)) (MustWait holder) new × Evicted d b base s old w disk
-  IsInsertBeside s e t last undo_next key rid max beside table new old w disk (Seen Die) = Decides table t (asked (Insert key rid) (contents b s.log)) MustDie new × Evicted d b base s old w disk
-  IsInsertBeside s e t last undo_next key rid max beside table new old w disk Hidden = TreeCause (settled b s.log) beside (Insert key rid) (contents b s.log) × (new ≡ table) × Evicted d b base s old w disk
+  abbrev pub IsInsertBeside : Writer → ℕ → ℕ → ℕ → ℕ → Key → ℕ → Bool → ℕ → Beside → Table → Table → D → PageWriter → D → Sight (LockAnswer Inserting) → Type 0
+  IsInsertBeside s e t last undo_next key rid dense max beside table new old w disk (Seen (Granted x)) = IsAskedFor b s t key rid table new x × IsInserting s e t last undo_next key rid dense max beside old w disk x
+  IsInsertBeside s e t last undo_next key rid dense max beside table new old w disk (Seen (Wait holder)) = Decides table t (asked (Insert key rid) (contents b s.log)) (MustWait holder) new × Evicted d b base s old w disk
+  IsInsertBeside s e t last undo_next key rid dense max beside table new old w disk (Seen Die) = Decides table t (asked (Insert key rid) (contents b s.log)) MustDie new × Evicted d b base s old w disk
+  IsInsertBeside s e t last undo_next key rid dense max beside table new old w disk Hidden = TreeCause (settled b s.log) beside (Insert key rid) (contents b s.log) × (new ≡ table) × Evicted d b base s old w disk
 
   -- What an insert keeps. Pages are wanted before a lock is asked, page numbers after the grant, both only where the key is absent and its leaf lacks room for it. `Failed` comes after the grant, in front of the first page of the change that it begins. A change beside that bars it is told before anything is locked.
-  pub record InsertBesideKept (s : Writer) (e t last undo_next : ℕ) (key : Key) (rid max : ℕ) (beside : Beside) (table new : Table) (old : D) (w : PageWriter) (disk : D) (result : Result (Sight (LockAnswer Inserting)) Fault) : Type 0 where
-    pub sound : IsSound result (IsInsertBeside s e t last undo_next key rid max beside table new old w disk)
+  pub record InsertBesideKept (s : Writer) (e t last undo_next : ℕ) (key : Key) (rid : ℕ) (dense : Bool) (max : ℕ) (beside : Beside) (table new : Table) (old : D) (w : PageWriter) (disk : D) (result : Result (Sight (LockAnswer Inserting)) Fault) : Type 0 where
+    pub sound : IsSound result (IsInsertBeside s e t last undo_next key rid dense max beside table new old w disk)
     pub stops : LeavesEdit d b base s t old disk
-    pub full : IfErr result (λ e. e ≡ PagesFull → (get (contents b s.log) key ≡ None) × LacksRoomFor (settled b s.log) key × IsOver (settled b s.log) key max)
-    pub used_up : IfErr result (λ e. e ≡ Capacity → (get (contents b s.log) key ≡ None) × LacksRoomFor (settled b s.log) key × IsUsedUp (settled b s.log) key × Decides table t (asked (Insert key rid) (contents b s.log)) GrantedAll new)
-    pub limited : IfOk result (IfSeen (λ _. get (contents b s.log) key ≡ None → IsLimited (settled b s.log) key max) (Unit {0}))
+    pub full : IfErr result (λ e. e ≡ PagesFull → (get (contents b s.log) key ≡ None) × LacksRoomFor (settled b s.log) key × IsOver dense (settled b s.log) key max)
+    pub used_up : IfErr result (λ e. e ≡ Capacity → (get (contents b s.log) key ≡ None) × LacksRoomFor (settled b s.log) key × IsUsedUp dense (settled b s.log) key × Decides table t (asked (Insert key rid) (contents b s.log)) GrantedAll new)
+    pub limited : IfOk result (IfSeen (λ _. get (contents b s.log) key ≡ None → IsLimited dense (settled b s.log) key max) (Unit {0}))
     pub begun : IfErr result (λ e. e ≡ Failed → (get (contents b s.log) key ≡ None) × LacksRoomFor (settled b s.log) key × Decides table t (asked_begun key (contents b s.log)) GrantedAll new × Evicted d b base s old w disk)
     pub first : Bars (settled b s.log) beside (Insert key rid) (contents b s.log) → IsBarredOff result
 
   -- ---- where it goes on: what was laid down, after calls that change no page
 
-  pub record MayCome (s : Writer) (e t last undo_next : ℕ) (key : Key) (max : ℕ) (beside : Beside) (coming : Coming) (w : PageWriter) (disk : D) : Type 0 where
+  pub record MayCome (s : Writer) (e t last undo_next : ℕ) (key : Key) (dense : Bool) (max : ℕ) (beside : Beside) (coming : Coming) (w : PageWriter) (disk : D) : Type 0 where
     pub start : PageWriter
     pub since : D
     pub going : IsGoingOn d b base s e t last undo_next start since
     pub told : IsToldOf b beside s.log
     pub free : (page : ℕ) → coming ≡ Fits page → lawful.IsFree t key s.log
     pub calls : Ends d AreLoaded (mild_to_split (Some max)) start since w disk None
-    pub comes : IsComing (settled_pages b s) beside key max (contents b s.log) coming
+    pub comes : IsComing (settled_pages b s) beside key dense max (contents b s.log) coming
 
   -- what logging it keeps
-  pub record ComingLogKept (s : Writer) (e t last undo_next : ℕ) (key : Key) (rid max : ℕ) (beside : Beside) (coming : Coming) (old : D) (w : PageWriter) (disk : D) (result : Result Inserting Fault) : Type 0 where
+  pub record ComingLogKept (s : Writer) (e t last undo_next : ℕ) (key : Key) (rid : ℕ) (dense : Bool) (max : ℕ) (beside : Beside) (coming : Coming) (old : D) (w : PageWriter) (disk : D) (result : Result Inserting Fault) : Type 0 where
     -- a change has begun where one was to
     pub laid : IfOk result (λ x. has_begun x ≡ begins coming)
-    pub sound : IsSound result (IsInserting s e t last undo_next key rid max beside old w disk)
+    pub sound : IsSound result (IsInserting s e t last undo_next key rid dense max beside old w disk)
     pub stops : LeavesEdit d b base s t old disk
     pub used_up : IfErr result (λ e. e ≡ Capacity → coming ≡ UsedUp)
     pub begun : IfErr result (λ e. e ≡ Failed → (plan : PlannedChange) × (leaf : ℕ) × (coming ≡ Splits plan leaf) × Evicted d b base s old w disk)

@@ -1,6 +1,6 @@
 //! Inserts.
 
-ghost use Rattle.std.specs.Prelude.{◌≡◌, ◌≢◌, ◌≤◌, ◌⊎◌, ℕ, [], None, Some, length, false, true, IfOk, IfErr, OnErr};
+ghost use Rattle.std.specs.Prelude.{◌≡◌, ◌≢◌, ◌≤◌, ◌⊎◌, ℕ, Bool, [], None, Some, length, false, true, IfOk, IfErr, OnErr};
 ghost use Rattle.std.specs.FinMap.{entries, get};
 ghost use Rattle.std.specs.FinMap.Entries.{find};
 ghost use Rattle.im_base_types.specs.declared.fault.Fault.TheVariants.{Memory, PagesFull, Capacity, Failed};
@@ -78,16 +78,17 @@ pub(crate) fn plan_pages<D: Disk>(
     disk: &mut D,
     key: &[u8],
     max: PageNo,
+    dense: bool,
 ) -> Result<Plan, Fault>
     requires ready { IsReadyWriter D.Disk writer.old disk.old }
     requires working { writer.old.failed ≡ false }
     requires short { length key.now ≤ 255 }
     ensures outcome { Ends D.Disk AreLoaded (mild_to_split (Some max)) writer.old disk.old writer.new disk.new (fault_of result) }
     ensures kept { (pages : AllPages) → HasPages D.Disk AreLoaded pages writer.old disk.old → IsGoodTree (bodies_of pages) [] → find key_order key.now (walk (bodies_of pages)) ≡ None
-        → LacksRoomFor (bodies_of pages) key.now → PlanKept pages key.now max result }
+        → LacksRoomFor (bodies_of pages) key.now → PlanKept pages key.now dense max result }
     ensures never { IfErr result (λ e. e ≢ Capacity) }
 {
-    match plan_split(alloc, writer, disk, key, Some(max)) {
+    match plan_split(alloc, writer, disk, key, Some(max), dense) {
         Ok(plan) => Ok(Plan::Split(plan)),
         Err(fault) => not_planned(fault),
     }
@@ -119,8 +120,8 @@ fn ask_planned<D: Disk>(
     requires at { IsAt writer.old.pool place.leaf }
     requires leaf { HasLevel 0 (page_at writer.old.pool place.leaf.number).body }
     ensures outcome { AsksLocks D.Disk writer.old disk.old writer.new disk.new (fault_of result) }
-    ensures kept { (pages : AllPages) (m : IndexMap) (rid max : ℕ) → HasTree D.Disk pages writer.old disk.old → walk (bodies_of pages) ≡ entries m → IsPlace pages key.now m writer.old.pool place
-        → IsInsertPlan pages key.now max plan → IsSound result (IsPrepared pages transaction key.now rid max m locks.old locks.new writer.new.pool) }
+    ensures kept { (pages : AllPages) (m : IndexMap) (rid : ℕ) (dense : Bool) (max : ℕ) → HasTree D.Disk pages writer.old disk.old → walk (bodies_of pages) ≡ entries m → IsPlace pages key.now m writer.old.pool place
+        → IsInsertPlan pages key.now dense max plan → IsSound result (IsPrepared pages transaction key.now rid dense max m locks.old locks.new writer.new.pool) }
     ensures table { OnErr result (SameTable locks.old locks.new) }
     ensures lasting { OnErr result (SameLasting locks.old locks.new) }
 {
@@ -139,6 +140,7 @@ fn prepare_split<D: Disk>(
     key: &[u8],
     page: PageNo,
     max: PageNo,
+    dense: bool,
 ) -> Result<LockAnswer<Prepared>, Fault>
     requires ready { IsReadyWriter D.Disk writer.old disk.old }
     requires working { writer.old.failed ≡ false }
@@ -146,12 +148,12 @@ fn prepare_split<D: Disk>(
     ensures outcome { Ends D.Disk AreLoaded (mild_to_split (Some max)) writer.old disk.old writer.new disk.new (fault_of result) }
     ensures kept { (pages : AllPages) (m : IndexMap) (rid : ℕ) → HasPages D.Disk AreLoaded pages writer.old disk.old → IsGoodTree (bodies_of pages) [] → walk (bodies_of pages) ≡ entries m
         → get m key.now ≡ None → IsOnWay (bodies_of pages) 0 key.now page → ¬ (HasRoom true (pages page).body.entries (key.now, 0))
-        → PreparedKept pages transaction key.now rid max m locks.old locks.new writer.new.pool result }
+        → PreparedKept pages transaction key.now rid dense max m locks.old locks.new writer.new.pool result }
     ensures never { IfErr result (λ e. e ≢ Capacity) }
     ensures table { OnErr result (SameTable locks.old locks.new) }
     ensures lasting { OnErr result (SameLasting locks.old locks.new) }
 {
-    let plan = plan_pages(alloc, writer, disk, key, max)?;
+    let plan = plan_pages(alloc, writer, disk, key, max, dense)?;
     let leaf = tree_page(writer, disk, page, 0)?;
     let place = Place { leaf, rid: None };
     ask_planned(writer, disk, locks, transaction, key, place, plan)
@@ -167,13 +169,14 @@ fn prepare<D: Disk>(
     transaction: TxnId,
     key: &[u8],
     max: PageNo,
+    dense: bool,
 ) -> Result<LockAnswer<Prepared>, Fault>
     requires ready { IsReadyWriter D.Disk writer.old disk.old }
     requires working { writer.old.failed ≡ false }
     requires short { length key.now ≤ 255 }
     ensures outcome { Ends D.Disk AreLoaded (mild_to_split (Some max)) writer.old disk.old writer.new disk.new (fault_of result) }
     ensures kept { (pages : AllPages) (m : IndexMap) (rid : ℕ) → HasPages D.Disk AreLoaded pages writer.old disk.old → IsGoodTree (bodies_of pages) [] → walk (bodies_of pages) ≡ entries m
-        → PreparedKept pages transaction key.now rid max m locks.old locks.new writer.new.pool result }
+        → PreparedKept pages transaction key.now rid dense max m locks.old locks.new writer.new.pool result }
     ensures never { IfErr result (λ e. e ≢ Capacity) }
     ensures table { OnErr result (SameTable locks.old locks.new) }
     ensures lasting { OnErr result (SameLasting locks.old locks.new) }
@@ -193,6 +196,7 @@ fn prepare<D: Disk>(
         key,
         leaf.number,
         max,
+        dense,
     )
 }
 
@@ -213,9 +217,9 @@ fn put<D: Disk>(
     requires keyed { 1 ≤ length key.now }
     requires short { length key.now ≤ 255 }
     ensures outcome { Logs D.Disk false no_page writer.old disk.old writer.new disk.new (fault_of result) }
-    ensures kept { (b : Base) (base : ℕ) (s : Writer) (e undo_next max : ℕ) (to : ComesTo D.Disk b base s e transaction last undo_next key.now max writer.old disk.old)
+    ensures kept { (b : Base) (base : ℕ) (s : Writer) (e undo_next : ℕ) (dense : Bool) (max : ℕ) (to : ComesTo D.Disk b base s e transaction last undo_next key.now dense max writer.old disk.old)
         → IsOnWay (bodies to.made.now) 0 key.now page → HasRoom true (bodies to.made.now page).entries (key.now, 0)
-        → PutKept D.Disk b base s e transaction key.now rid max to.since writer.new disk.new result }
+        → PutKept D.Disk b base s e transaction key.now rid dense max to.since writer.new disk.new result }
 {
     let lsn = log_insert(writer, disk, transaction, last, page, key, rid)?;
     Ok(Noted {
@@ -239,8 +243,8 @@ fn split_and_put<D: Disk>(
     requires keyed { 1 ≤ length key.now }
     requires short { length key.now ≤ 255 }
     ensures outcome { Logs D.Disk true mild writer.old disk.old writer.new disk.new (fault_of result) }
-    ensures kept { (b : Base) (base : ℕ) (s : Writer) (e max page : ℕ) (may : MayInsert D.Disk b base s e transaction.now.number transaction.now.last transaction.now.undo_next key.now max (Split plan.now) page writer.old disk.old)
-        → PutKept D.Disk b base s e transaction.now.number key.now rid max may.since writer.new disk.new result }
+    ensures kept { (b : Base) (base : ℕ) (s : Writer) (e : ℕ) (dense : Bool) (max : ℕ) (page : ℕ) (may : MayInsert D.Disk b base s e transaction.now.number transaction.now.last transaction.now.undo_next key.now dense max (Split plan.now) page writer.old disk.old)
+        → PutKept D.Disk b base s e transaction.now.number key.now rid dense max may.since writer.new disk.new result }
 {
     let last = run(
         writer,
@@ -272,8 +276,8 @@ fn log_prepared<D: Disk>(
     requires keyed { 1 ≤ length key.now }
     requires short { length key.now ≤ 255 }
     ensures outcome { Logs D.Disk true (mild_to_split None) writer.old disk.old writer.new disk.new (fault_of result) }
-    ensures kept { (b : Base) (base : ℕ) (s : Writer) (e max : ℕ) (may : MayInsert D.Disk b base s e transaction.now.number transaction.now.last transaction.now.undo_next key.now max plan page writer.old disk.old)
-        → PutKept D.Disk b base s e transaction.now.number key.now rid max may.since writer.new disk.new result }
+    ensures kept { (b : Base) (base : ℕ) (s : Writer) (e : ℕ) (dense : Bool) (max : ℕ) (may : MayInsert D.Disk b base s e transaction.now.number transaction.now.last transaction.now.undo_next key.now dense max plan page writer.old disk.old)
+        → PutKept D.Disk b base s e transaction.now.number key.now rid dense max may.since writer.new disk.new result }
     ensures used_up { IfErr result (λ e. e ≡ Capacity → plan ≡ UsedUp) }
     ensures none { IfErr result (λ e. (e ≡ Memory) ⊎ (e ≡ Failed) → plan ≡ Fits → Stays D.Disk AreLoaded writer.old disk.old writer.new disk.new) }
 {
@@ -312,6 +316,7 @@ pub fn insert<D: Disk>(
     key: &[u8],
     rid: Rid,
     max: PageNo,
+    dense: bool,
 ) -> Result<LockAnswer<Option<Noted>>, Fault>
     requires ready { IsReadyWriter D.Disk writer.old disk.old }
     requires working { writer.old.failed ≡ false }
@@ -320,11 +325,20 @@ pub fn insert<D: Disk>(
     requires short { length key.now ≤ 255 }
     ensures outcome { Logs D.Disk true (mild_to_split (Some max)) writer.old disk.old writer.new disk.new (fault_of result) }
     ensures kept { (b : Base) (base : ℕ) (s : Writer) (e : ℕ) → MayEdit D.Disk b base s e transaction.now.number transaction.now.last transaction.now.undo_next (Insert key.now rid) locks.old writer.old disk.old
-        → InsertKept D.Disk b base s e transaction.now.number key.now rid max locks.old locks.new disk.old writer.new disk.new result }
+        → InsertKept D.Disk b base s e transaction.now.number key.now rid dense max locks.old locks.new disk.old writer.new disk.new result }
     ensures table { IfErr result (λ e. (e ≡ Memory) ⊎ (e ≡ PagesFull) → SameTable locks.old locks.new) }
     ensures lasting { IfErr result (λ e. (e ≡ Memory) ⊎ (e ≡ PagesFull) → SameLasting locks.old locks.new) }
 {
-    let prepared = match prepare(alloc, writer, disk, locks, transaction.number, key, max)? {
+    let prepared = match prepare(
+        alloc,
+        writer,
+        disk,
+        locks,
+        transaction.number,
+        key,
+        max,
+        dense,
+    )? {
         LockAnswer::Granted(prepared) => prepared,
         LockAnswer::Wait(holder) => return Ok(LockAnswer::Wait(holder)),
         LockAnswer::Die => return Ok(LockAnswer::Die),

@@ -1,6 +1,6 @@
 //! Inserts beside a structure change of another, which may begin one of their own that goes on over several steps.
 
-ghost use Rattle.std.specs.Prelude.{◌≡◌, ◌≢◌, ◌≤◌, ◌<◌, ◌⊎◌, ℕ, [], None, Some, length, false, true, IfOk, IfErr, OnErr};
+ghost use Rattle.std.specs.Prelude.{◌≡◌, ◌≢◌, ◌≤◌, ◌<◌, ◌⊎◌, ℕ, Bool, [], None, Some, length, false, true, IfOk, IfErr, OnErr};
 ghost use Rattle.std.specs.FinMap.{entries, get};
 ghost use Rattle.im_base_types.specs.declared.fault.Fault.TheVariants.{Memory, PagesFull, Capacity, Failed};
 ghost use Rattle.im_base_types.specs.Answers.{Insert};
@@ -114,16 +114,17 @@ fn plan_coming<D: Disk>(
     disk: &mut D,
     key: &[u8],
     max: PageNo,
+    dense: bool,
 ) -> Result<Coming, Fault>
     requires ready { IsReadyWriter D.Disk writer.old disk.old }
     requires working { writer.old.failed ≡ false }
     requires short { length key.now ≤ 255 }
     ensures outcome { Ends D.Disk AreLoaded (mild_to_split (Some max)) writer.old disk.old writer.new disk.new (fault_of result) }
     ensures kept { (pages : AllPages) (beside : BesideOf) (m : IndexMap) → HasPages D.Disk AreLoaded pages writer.old disk.old → IsGoodTree (bodies_of pages) [] → walk (bodies_of pages) ≡ entries m → get m key.now ≡ None
-        → LacksRoomFor (bodies_of pages) key.now → beside.pages.now ≡ [] → ComingPlanned pages beside key.now max m result }
+        → LacksRoomFor (bodies_of pages) key.now → beside.pages.now ≡ [] → ComingPlanned pages beside key.now dense max m result }
     ensures never { IfErr result (λ e. e ≢ Capacity) }
 {
-    let pages = plan_pages(alloc, writer, disk, key, max)?;
+    let pages = plan_pages(alloc, writer, disk, key, max, dense)?;
     let Plan::Split(split) = pages else {
         return Ok(Coming::UsedUp);
     };
@@ -142,6 +143,7 @@ fn prepare_coming_split<D: Disk>(
     page: PageNo,
     key: &[u8],
     max: PageNo,
+    dense: bool,
     beside: Beside<'_>,
 ) -> Result<Sight<LockAnswer<Coming>>, Fault>
     requires ready { IsReadyWriter D.Disk writer.old disk.old }
@@ -150,12 +152,12 @@ fn prepare_coming_split<D: Disk>(
     ensures outcome { Ends D.Disk AreLoaded (mild_to_split (Some max)) writer.old disk.old writer.new disk.new (fault_of result) }
     ensures kept { (pages : AllPages) (m : IndexMap) (rid : ℕ) → HasWholeTreeBut D.Disk pages beside.entry writer.old disk.old → walk (bodies_of pages) ≡ entries m → get m key.now ≡ None
         → IsOnWay (bodies_of pages) 0 key.now page → ¬ (HasRoom true (pages page).body.entries (key.now, 0)) → beside.entry.pages.now ≡ []
-        → ComingKept pages beside.entry transaction key.now rid max m locks.old locks.new result }
+        → ComingKept pages beside.entry transaction key.now rid dense max m locks.old locks.new result }
     ensures never { IfErr result (λ e. e ≢ Capacity) }
     ensures table { OnErr result (SameTable locks.old locks.new) }
     ensures lasting { OnErr result (SameLasting locks.old locks.new) }
 {
-    let coming = plan_coming(alloc, writer, disk, key, max)?;
+    let coming = plan_coming(alloc, writer, disk, key, max, dense)?;
     let held = tree_page(writer, disk, page, 0)?;
     ask_coming(writer, disk, locks, transaction, held, key, coming, beside)
 }
@@ -170,6 +172,7 @@ fn prepare_coming<D: Disk>(
     transaction: TxnId,
     key: &[u8],
     max: PageNo,
+    dense: bool,
     beside: Beside<'_>,
 ) -> Result<Sight<LockAnswer<Coming>>, Fault>
     requires ready { IsReadyWriter D.Disk writer.old disk.old }
@@ -177,7 +180,7 @@ fn prepare_coming<D: Disk>(
     requires short { length key.now ≤ 255 }
     ensures outcome { Ends D.Disk AreLoaded (mild_to_split (Some max)) writer.old disk.old writer.new disk.new (fault_of result) }
     ensures kept { (pages : AllPages) (m : IndexMap) (rid : ℕ) → HasWholeTreeBut D.Disk pages beside.entry writer.old disk.old → walk (bodies_of pages) ≡ entries m
-        → ComingKept pages beside.entry transaction key.now rid max m locks.old locks.new result }
+        → ComingKept pages beside.entry transaction key.now rid dense max m locks.old locks.new result }
     ensures never { IfErr result (λ e. e ≢ Capacity) }
     ensures table { OnErr result (SameTable locks.old locks.new) }
     ensures lasting { OnErr result (SameLasting locks.old locks.new) }
@@ -210,6 +213,7 @@ fn prepare_coming<D: Disk>(
         page,
         key,
         max,
+        dense,
         beside,
     )
 }
@@ -253,8 +257,8 @@ fn log_coming<D: Disk>(
     requires keyed { 1 ≤ length key.now }
     requires short { length key.now ≤ 255 }
     ensures outcome { Logs D.Disk true wants_numbers writer.old disk.old writer.new disk.new (fault_of result) }
-    ensures kept { (b : Base) (base : ℕ) (s : Writer) (e max : ℕ) (beside : BesideOf) (may : MayCome D.Disk b base s e transaction.now.number transaction.now.last transaction.now.undo_next key.now max beside coming writer.old disk.old)
-        → ComingLogKept D.Disk b base s e transaction.now.number transaction.now.last transaction.now.undo_next key.now rid max beside coming may.since writer.new disk.new result }
+    ensures kept { (b : Base) (base : ℕ) (s : Writer) (e : ℕ) (dense : Bool) (max : ℕ) (beside : BesideOf) (may : MayCome D.Disk b base s e transaction.now.number transaction.now.last transaction.now.undo_next key.now dense max beside coming writer.old disk.old)
+        → ComingLogKept D.Disk b base s e transaction.now.number transaction.now.last transaction.now.undo_next key.now rid dense max beside coming may.since writer.new disk.new result }
 {
     match coming {
         Coming::There => Ok(Inserting::There),
@@ -290,6 +294,7 @@ pub fn insert_beside<D: Disk>(
     key: &[u8],
     rid: Rid,
     max: PageNo,
+    dense: bool,
     beside: Beside<'_>,
 ) -> Result<Sight<LockAnswer<Inserting>>, Fault>
     requires ready { IsReadyWriter D.Disk writer.old disk.old }
@@ -299,12 +304,14 @@ pub fn insert_beside<D: Disk>(
     requires short { length key.now ≤ 255 }
     ensures outcome { Logs D.Disk true (mild_to_split (Some max)) writer.old disk.old writer.new disk.new (fault_of result) }
     ensures kept { (b : Base) (base : ℕ) (s : Writer) (e : ℕ) → MayEditBeside D.Disk b base s e transaction.now.number transaction.now.last transaction.now.undo_next (Insert key.now rid) beside.entry locks.old writer.old disk.old
-        → InsertBesideKept D.Disk b base s e transaction.now.number transaction.now.last transaction.now.undo_next key.now rid max beside.entry locks.old locks.new disk.old writer.new disk.new result }
+        → InsertBesideKept D.Disk b base s e transaction.now.number transaction.now.last transaction.now.undo_next key.now rid dense max beside.entry locks.old locks.new disk.old writer.new disk.new result }
     ensures table { IfErr result (λ e. (e ≡ Memory) ⊎ (e ≡ PagesFull) → SameTable locks.old locks.new) }
     ensures lasting { IfErr result (λ e. (e ≡ Memory) ⊎ (e ≡ PagesFull) → SameLasting locks.old locks.new) }
 {
     let number = transaction.number;
-    let Sight::Seen(answer) = prepare_coming(alloc, writer, disk, locks, number, key, max, beside)?
+    let Sight::Seen(answer) = prepare_coming(
+        alloc, writer, disk, locks, number, key, max, dense, beside,
+    )?
     else {
         return Ok(Sight::Hidden);
     };

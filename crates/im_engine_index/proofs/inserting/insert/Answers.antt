@@ -12,9 +12,9 @@ pub returns-in_err-prepared-clause-kept : goal.returns-in_err-prepared-clause-ke
 returns-in_err-prepared-clause-kept g c b base s e may =
     let a = c.args in
     let t = a.transaction.now in
-    let kept = c.in_err-prepared.ensures.kept (pages_of s) (contents b s.log) a.rid (has_pages g.D.Disk b base s e t.number t.last t.undo_next a.key.now a.rid a.max a.locks.now a.writer.now a.disk.now may c.requires.owner)
-    (good_tree g.D.Disk b base s e t.number t.last t.undo_next a.key.now a.rid a.max a.locks.now a.writer.now a.disk.now may c.requires.owner) (map_is g.D.Disk b base s e t.number t.last t.undo_next a.key.now a.rid a.max a.locks.now a.writer.now a.disk.now may c.requires.owner) in
-    insert_refused g.D.Disk b base s e t.number t.last t.undo_next a.key.now a.rid a.max a.locks.now a.writer.now a.disk.now may c.requires.owner c.prepare.new.locks c.prepare.new.writer c.prepare.new.disk c.in_err-prepared.field-0.0
+    let kept = c.in_err-prepared.ensures.kept (pages_of s) (contents b s.log) a.rid (has_pages g.D.Disk b base s e t.number t.last t.undo_next a.key.now a.rid a.dense a.max a.locks.now a.writer.now a.disk.now may c.requires.owner)
+    (good_tree g.D.Disk b base s e t.number t.last t.undo_next a.key.now a.rid a.dense a.max a.locks.now a.writer.now a.disk.now may c.requires.owner) (map_is g.D.Disk b base s e t.number t.last t.undo_next a.key.now a.rid a.dense a.max a.locks.now a.writer.now a.disk.now may c.requires.owner) in
+    insert_refused g.D.Disk b base s e t.number t.last t.undo_next a.key.now a.rid a.dense a.max a.locks.now a.writer.now a.disk.now may c.requires.owner c.prepare.new.locks c.prepare.new.writer c.prepare.new.disk c.in_err-prepared.field-0.0
     c.in_err-prepared.ensures.outcome c.in_err-prepared.ensures.never kept.sound kept.full c.from_residual.result c.from_residual.ensures.1
 
 pub returns-in-Wait-clause-outcome : goal.returns-in-Wait-clause-outcome
@@ -24,9 +24,9 @@ pub returns-in-Wait-clause-kept : goal.returns-in-Wait-clause-kept
 returns-in-Wait-clause-kept g c b base s e may =
     let a = c.args in
     let t = a.transaction.now in
-    let kept = c.in_ok-prepared.ensures.kept (pages_of s) (contents b s.log) a.rid (has_pages g.D.Disk b base s e t.number t.last t.undo_next a.key.now a.rid a.max a.locks.now a.writer.now a.disk.now may c.requires.owner)
-    (good_tree g.D.Disk b base s e t.number t.last t.undo_next a.key.now a.rid a.max a.locks.now a.writer.now a.disk.now may c.requires.owner) (map_is g.D.Disk b base s e t.number t.last t.undo_next a.key.now a.rid a.max a.locks.now a.writer.now a.disk.now may c.requires.owner) in
-    insert_waits g.D.Disk b base s e t.number t.last t.undo_next a.key.now a.rid a.max a.locks.now a.writer.now a.disk.now may c.requires.owner c.prepare.new.locks c.prepare.new.writer c.prepare.new.disk c.in_ok-prepared.ensures.outcome _ kept.sound c.in-Wait.holder c.in-Wait.is
+    let kept = c.in_ok-prepared.ensures.kept (pages_of s) (contents b s.log) a.rid (has_pages g.D.Disk b base s e t.number t.last t.undo_next a.key.now a.rid a.dense a.max a.locks.now a.writer.now a.disk.now may c.requires.owner)
+    (good_tree g.D.Disk b base s e t.number t.last t.undo_next a.key.now a.rid a.dense a.max a.locks.now a.writer.now a.disk.now may c.requires.owner) (map_is g.D.Disk b base s e t.number t.last t.undo_next a.key.now a.rid a.dense a.max a.locks.now a.writer.now a.disk.now may c.requires.owner) in
+    insert_waits g.D.Disk b base s e t.number t.last t.undo_next a.key.now a.rid a.dense a.max a.locks.now a.writer.now a.disk.now may c.requires.owner c.prepare.new.locks c.prepare.new.writer c.prepare.new.disk c.in_ok-prepared.ensures.outcome _ kept.sound c.in-Wait.holder c.in-Wait.is
 
 pub returns-in-Die-clause-outcome : goal.returns-in-Die-clause-outcome
 returns-in-Die-clause-outcome g c = logs_late g.D.Disk (λ e is. is) c.requires.working (changed_none g.D.Disk (λ e is. is) c.in_ok-prepared.ensures.outcome)
@@ -35,9 +35,9 @@ pub returns-in-Die-clause-kept : goal.returns-in-Die-clause-kept
 returns-in-Die-clause-kept g c b base s e may =
     let a = c.args in
     let t = a.transaction.now in
-    let kept = c.in_ok-prepared.ensures.kept (pages_of s) (contents b s.log) a.rid (has_pages g.D.Disk b base s e t.number t.last t.undo_next a.key.now a.rid a.max a.locks.now a.writer.now a.disk.now may c.requires.owner)
-    (good_tree g.D.Disk b base s e t.number t.last t.undo_next a.key.now a.rid a.max a.locks.now a.writer.now a.disk.now may c.requires.owner) (map_is g.D.Disk b base s e t.number t.last t.undo_next a.key.now a.rid a.max a.locks.now a.writer.now a.disk.now may c.requires.owner) in
-    insert_dies g.D.Disk b base s e t.number t.last t.undo_next a.key.now a.rid a.max a.locks.now a.writer.now a.disk.now may c.requires.owner c.prepare.new.locks c.prepare.new.writer c.prepare.new.disk c.in_ok-prepared.ensures.outcome _ kept.sound c.in-Die.is
+    let kept = c.in_ok-prepared.ensures.kept (pages_of s) (contents b s.log) a.rid (has_pages g.D.Disk b base s e t.number t.last t.undo_next a.key.now a.rid a.dense a.max a.locks.now a.writer.now a.disk.now may c.requires.owner)
+    (good_tree g.D.Disk b base s e t.number t.last t.undo_next a.key.now a.rid a.dense a.max a.locks.now a.writer.now a.disk.now may c.requires.owner) (map_is g.D.Disk b base s e t.number t.last t.undo_next a.key.now a.rid a.dense a.max a.locks.now a.writer.now a.disk.now may c.requires.owner) in
+    insert_dies g.D.Disk b base s e t.number t.last t.undo_next a.key.now a.rid a.dense a.max a.locks.now a.writer.now a.disk.now may c.requires.owner c.prepare.new.locks c.prepare.new.writer c.prepare.new.disk c.in_ok-prepared.ensures.outcome _ kept.sound c.in-Die.is
 
 pub returns-then-is_there-clause-outcome : goal.returns-then-is_there-clause-outcome
 returns-then-is_there-clause-outcome g c = logs_late g.D.Disk (λ e is. is) c.requires.working (changed_none g.D.Disk (λ e is. is) c.in_ok-prepared.ensures.outcome)
@@ -46,9 +46,9 @@ pub returns-then-is_there-clause-kept : goal.returns-then-is_there-clause-kept
 returns-then-is_there-clause-kept g c b base s e may =
     let a = c.args in
     let t = a.transaction.now in
-    let kept = c.in_ok-prepared.ensures.kept (pages_of s) (contents b s.log) a.rid (has_pages g.D.Disk b base s e t.number t.last t.undo_next a.key.now a.rid a.max a.locks.now a.writer.now a.disk.now may c.requires.owner)
-    (good_tree g.D.Disk b base s e t.number t.last t.undo_next a.key.now a.rid a.max a.locks.now a.writer.now a.disk.now may c.requires.owner) (map_is g.D.Disk b base s e t.number t.last t.undo_next a.key.now a.rid a.max a.locks.now a.writer.now a.disk.now may c.requires.owner) in
-    insert_duplicate g.D.Disk b base s e t.number t.last t.undo_next a.key.now a.rid a.max a.locks.now a.writer.now a.disk.now may c.requires.owner c.prepare.new.locks c.prepare.new.writer c.prepare.new.disk c.in_ok-prepared.ensures.outcome _ kept.sound c.in-Granted.prepared c.in-Granted.is
+    let kept = c.in_ok-prepared.ensures.kept (pages_of s) (contents b s.log) a.rid (has_pages g.D.Disk b base s e t.number t.last t.undo_next a.key.now a.rid a.dense a.max a.locks.now a.writer.now a.disk.now may c.requires.owner)
+    (good_tree g.D.Disk b base s e t.number t.last t.undo_next a.key.now a.rid a.dense a.max a.locks.now a.writer.now a.disk.now may c.requires.owner) (map_is g.D.Disk b base s e t.number t.last t.undo_next a.key.now a.rid a.dense a.max a.locks.now a.writer.now a.disk.now may c.requires.owner) in
+    insert_duplicate g.D.Disk b base s e t.number t.last t.undo_next a.key.now a.rid a.dense a.max a.locks.now a.writer.now a.disk.now may c.requires.owner c.prepare.new.locks c.prepare.new.writer c.prepare.new.disk c.in_ok-prepared.ensures.outcome _ kept.sound c.in-Granted.prepared c.in-Granted.is
     c.is_there.result c.is_there.ensures c.if-is_there.true
 
 pub returns-in-Ok-clause-outcome : goal.returns-in-Ok-clause-outcome
@@ -58,12 +58,12 @@ pub returns-in-Ok-clause-kept : goal.returns-in-Ok-clause-kept
 returns-in-Ok-clause-kept g c b base s e may =
     let a = c.args in
     let t = a.transaction.now in
-    let kept = c.in_ok-prepared.ensures.kept (pages_of s) (contents b s.log) a.rid (has_pages g.D.Disk b base s e t.number t.last t.undo_next a.key.now a.rid a.max a.locks.now a.writer.now a.disk.now may c.requires.owner)
-    (good_tree g.D.Disk b base s e t.number t.last t.undo_next a.key.now a.rid a.max a.locks.now a.writer.now a.disk.now may c.requires.owner) (map_is g.D.Disk b base s e t.number t.last t.undo_next a.key.now a.rid a.max a.locks.now a.writer.now a.disk.now may c.requires.owner) in
-    insert_put g.D.Disk b base s e t.number t.last t.undo_next a.key.now a.rid a.max a.locks.now a.writer.now a.disk.now may c.requires.owner c.prepare.new.locks c.prepare.new.writer c.prepare.new.disk c.in_ok-prepared.ensures.outcome _ kept.sound c.in-Granted.prepared c.in-Granted.is
+    let kept = c.in_ok-prepared.ensures.kept (pages_of s) (contents b s.log) a.rid (has_pages g.D.Disk b base s e t.number t.last t.undo_next a.key.now a.rid a.dense a.max a.locks.now a.writer.now a.disk.now may c.requires.owner)
+    (good_tree g.D.Disk b base s e t.number t.last t.undo_next a.key.now a.rid a.dense a.max a.locks.now a.writer.now a.disk.now may c.requires.owner) (map_is g.D.Disk b base s e t.number t.last t.undo_next a.key.now a.rid a.dense a.max a.locks.now a.writer.now a.disk.now may c.requires.owner) in
+    insert_put g.D.Disk b base s e t.number t.last t.undo_next a.key.now a.rid a.dense a.max a.locks.now a.writer.now a.disk.now may c.requires.owner c.prepare.new.locks c.prepare.new.writer c.prepare.new.disk c.in_ok-prepared.ensures.outcome _ kept.sound c.in-Granted.prepared c.in-Granted.is
     c.is_there.result c.is_there.ensures c.if-is_there.false c.in-Ok.noted c.log_prepared.new.writer c.log_prepared.new.disk
-    (c.in-Ok.ensures.kept b base s e a.max
-    (may_insert g.D.Disk b base s e t.number t.last t.undo_next a.key.now a.rid a.max a.locks.now a.writer.now a.disk.now may c.requires.owner c.prepare.new.locks c.prepare.new.writer c.prepare.new.disk c.in_ok-prepared.ensures.outcome _ kept.sound c.in-Granted.prepared c.in-Granted.is
+    (c.in-Ok.ensures.kept b base s e a.dense a.max
+    (may_insert g.D.Disk b base s e t.number t.last t.undo_next a.key.now a.rid a.dense a.max a.locks.now a.writer.now a.disk.now may c.requires.owner c.prepare.new.locks c.prepare.new.writer c.prepare.new.disk c.in_ok-prepared.ensures.outcome _ kept.sound c.in-Granted.prepared c.in-Granted.is
     c.is_there.result c.is_there.ensures c.if-is_there.false))
 
 pub returns-in-Err-clause-outcome : goal.returns-in-Err-clause-outcome
@@ -73,12 +73,12 @@ pub returns-in-Err-clause-kept : goal.returns-in-Err-clause-kept
 returns-in-Err-clause-kept g c b base s e may =
     let a = c.args in
     let t = a.transaction.now in
-    let kept = c.in_ok-prepared.ensures.kept (pages_of s) (contents b s.log) a.rid (has_pages g.D.Disk b base s e t.number t.last t.undo_next a.key.now a.rid a.max a.locks.now a.writer.now a.disk.now may c.requires.owner)
-    (good_tree g.D.Disk b base s e t.number t.last t.undo_next a.key.now a.rid a.max a.locks.now a.writer.now a.disk.now may c.requires.owner) (map_is g.D.Disk b base s e t.number t.last t.undo_next a.key.now a.rid a.max a.locks.now a.writer.now a.disk.now may c.requires.owner) in
-    insert_fails g.D.Disk b base s e t.number t.last t.undo_next a.key.now a.rid a.max a.locks.now a.writer.now a.disk.now may c.requires.owner c.prepare.new.locks c.prepare.new.writer c.prepare.new.disk c.in_ok-prepared.ensures.outcome _ kept.sound c.in-Granted.prepared c.in-Granted.is
+    let kept = c.in_ok-prepared.ensures.kept (pages_of s) (contents b s.log) a.rid (has_pages g.D.Disk b base s e t.number t.last t.undo_next a.key.now a.rid a.dense a.max a.locks.now a.writer.now a.disk.now may c.requires.owner)
+    (good_tree g.D.Disk b base s e t.number t.last t.undo_next a.key.now a.rid a.dense a.max a.locks.now a.writer.now a.disk.now may c.requires.owner) (map_is g.D.Disk b base s e t.number t.last t.undo_next a.key.now a.rid a.dense a.max a.locks.now a.writer.now a.disk.now may c.requires.owner) in
+    insert_fails g.D.Disk b base s e t.number t.last t.undo_next a.key.now a.rid a.dense a.max a.locks.now a.writer.now a.disk.now may c.requires.owner c.prepare.new.locks c.prepare.new.writer c.prepare.new.disk c.in_ok-prepared.ensures.outcome _ kept.sound c.in-Granted.prepared c.in-Granted.is
     c.is_there.result c.is_there.ensures c.if-is_there.false c.log_prepared.new.writer c.log_prepared.new.disk c.in-Err.fault c.late.result c.late.ensures.memory c.late.ensures.others (never_full g.D.Disk c.in-Err.ensures.outcome) c.in-Err.ensures.used_up c.in-Err.ensures.none
-    (c.in-Err.ensures.kept b base s e a.max
-    (may_insert g.D.Disk b base s e t.number t.last t.undo_next a.key.now a.rid a.max a.locks.now a.writer.now a.disk.now may c.requires.owner c.prepare.new.locks c.prepare.new.writer c.prepare.new.disk c.in_ok-prepared.ensures.outcome _ kept.sound c.in-Granted.prepared c.in-Granted.is
+    (c.in-Err.ensures.kept b base s e a.dense a.max
+    (may_insert g.D.Disk b base s e t.number t.last t.undo_next a.key.now a.rid a.dense a.max a.locks.now a.writer.now a.disk.now may c.requires.owner c.prepare.new.locks c.prepare.new.writer c.prepare.new.disk c.in_ok-prepared.ensures.outcome _ kept.sound c.in-Granted.prepared c.in-Granted.is
     c.is_there.result c.is_there.ensures c.if-is_there.false))
 
 pub returns-in-Err-clause-table : goal.returns-in-Err-clause-table

@@ -12,12 +12,12 @@ pub returns-in-Fits-clause-outcome : goal.returns-in-Fits-clause-outcome
 returns-in-Fits-clause-outcome g c = logs_late g.D.Disk (no_page_for (mild_to_split None) refl) c.requires.working c.put.ensures.outcome
 
 pub returns-in-Fits-clause-kept : goal.returns-in-Fits-clause-kept
-returns-in-Fits-clause-kept g c b base s e max may =
+returns-in-Fits-clause-kept g c b base s e dense max may =
     let a = c.args in
     let t = a.transaction.now in
-    c.put.ensures.kept b base s e t.undo_next max (comes_first g.D.Disk b base s e t.number t.last t.undo_next a.key.now max a.plan a.page a.writer.now a.disk.now may c.requires.owner c.in-Fits.is)
-    (first_way g.D.Disk b base s e t.number t.last t.undo_next a.key.now max a.plan a.page a.writer.now a.disk.now may c.requires.owner c.in-Fits.is)
-    (first_room g.D.Disk b base s e t.number t.last t.undo_next a.key.now max a.plan a.page a.writer.now a.disk.now may c.requires.owner c.in-Fits.is)
+    c.put.ensures.kept b base s e t.undo_next dense max (comes_first g.D.Disk b base s e t.number t.last t.undo_next a.key.now dense max a.plan a.page a.writer.now a.disk.now may c.requires.owner c.in-Fits.is)
+    (first_way g.D.Disk b base s e t.number t.last t.undo_next a.key.now dense max a.plan a.page a.writer.now a.disk.now may c.requires.owner c.in-Fits.is)
+    (first_room g.D.Disk b base s e t.number t.last t.undo_next a.key.now dense max a.plan a.page a.writer.now a.disk.now may c.requires.owner c.in-Fits.is)
 
 pub returns-in-Fits-clause-used_up : goal.returns-in-Fits-clause-used_up
 returns-in-Fits-clause-used_up g c = never_used_up g.D.Disk refl (c.args.plan ≡ UsedUp) c.put.result c.put.ensures.outcome
@@ -26,11 +26,11 @@ pub returns-in-Split-clause-outcome : goal.returns-in-Split-clause-outcome
 returns-in-Split-clause-outcome g c = logs_for_more g.D.Disk (mild_splits None) c.split_and_put.ensures.outcome
 
 pub returns-in-Split-clause-kept : goal.returns-in-Split-clause-kept
-returns-in-Split-clause-kept g c b base s e max may =
+returns-in-Split-clause-kept g c b base s e dense max may =
     let a = c.args in
     let t = a.transaction.now in
-    c.split_and_put.ensures.kept b base s e max a.page
-    (planned_as g.D.Disk b base s e t.number t.last t.undo_next a.key.now max a.plan a.page a.writer.now a.disk.now may c.requires.owner (Split c.in-Split.plan) c.in-Split.is)
+    c.split_and_put.ensures.kept b base s e dense max a.page
+    (planned_as g.D.Disk b base s e t.number t.last t.undo_next a.key.now dense max a.plan a.page a.writer.now a.disk.now may c.requires.owner (Split c.in-Split.plan) c.in-Split.is)
 
 pub returns-in-Split-clause-used_up : goal.returns-in-Split-clause-used_up
 returns-in-Split-clause-used_up g c = never_used_up g.D.Disk refl (c.args.plan ≡ UsedUp) c.split_and_put.result c.split_and_put.ensures.outcome
@@ -39,10 +39,10 @@ pub returns-in-UsedUp-clause-outcome : goal.returns-in-UsedUp-clause-outcome
 returns-in-UsedUp-clause-outcome g c = none_left g.D.Disk {m = mild_to_split None} (idle g.D.Disk g.met.D.Disk.only_now c.args.writer.now c.args.disk.now c.requires.working c.requires.ready)
 
 pub returns-in-UsedUp-clause-kept : goal.returns-in-UsedUp-clause-kept
-returns-in-UsedUp-clause-kept g c b base s e max may =
+returns-in-UsedUp-clause-kept g c b base s e dense max may =
     let a = c.args in
     let t = a.transaction.now in
-    none_put g.D.Disk b base s e t.number t.last t.undo_next a.key.now max a.plan a.page a.writer.now a.disk.now may c.requires.owner a.rid
+    none_put g.D.Disk b base s e t.number t.last t.undo_next a.key.now dense max a.plan a.page a.writer.now a.disk.now may c.requires.owner a.rid
 
 pub returns-in-UsedUp-clause-used_up : goal.returns-in-UsedUp-clause-used_up
 returns-in-UsedUp-clause-used_up g c = λ same. c.in-UsedUp.is

@@ -11,7 +11,7 @@ returns-in-Err-clause-outcome g c = unplanned g.D.Disk c.in-Err.fault c.not_plan
 
 pub returns-in-Err-clause-kept : goal.returns-in-Err-clause-kept
 returns-in-Err-clause-kept g c pages has good absent lacks =
-    unplanned_kept pages c.args.key.now c.args.max c.in-Err.fault c.not_planned.result c.not_planned.ensures.used_up c.not_planned.ensures.others absent (c.in-Err.ensures.kept pages has good) (c.in-Err.ensures.wants pages has good)
+    unplanned_kept pages c.args.key.now c.args.dense c.args.max c.in-Err.fault c.not_planned.result c.not_planned.ensures.used_up c.not_planned.ensures.others absent (c.in-Err.ensures.kept pages has good) (c.in-Err.ensures.wants pages has good)
 
 pub returns-in-Err-clause-never : goal.returns-in-Err-clause-never
 returns-in-Err-clause-never g c = never_so c.not_planned.result c.in-Err.fault c.not_planned.ensures.others

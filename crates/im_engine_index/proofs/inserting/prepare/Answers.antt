@@ -15,7 +15,7 @@ returns-in_err-leaf-clause-outcome g c = refused g.D.Disk c.from_residual.result
 
 pub returns-in_err-leaf-clause-kept : goal.returns-in_err-leaf-clause-kept
 returns-in_err-leaf-clause-kept g c pages m rid has good is =
-    prepare_refused pages c.args.transaction c.args.key.now rid c.args.max m c.args.locks.now c.args.locks.now _ c.in_err-leaf.field-0.0 c.from_residual.result c.from_residual.ensures.1
+    prepare_refused pages c.args.transaction c.args.key.now rid c.args.dense c.args.max m c.args.locks.now c.args.locks.now _ c.in_err-leaf.field-0.0 c.from_residual.result c.from_residual.ensures.1
     (c.in_err-leaf.ensures.kept pages (record { has = has; spare = []; good = good })) (λ full. absurd (never_pages_full g.D.Disk refl c.in_err-leaf.ensures.outcome full))
 
 pub returns-in_err-leaf-clause-never : goal.returns-in_err-leaf-clause-never
@@ -31,9 +31,9 @@ returns-then-goes_in-clause-kept g c pages m rid has good is =
     let r = (c.in_ok-leaf.ensures.kept pages tree).reached in
     let pool = c.leaf_for.new.writer.pool in
     let place = place_found pages [] m key pool c.in_ok-leaf.leaf c.page.result.now c.rid_in-rid.result good is r c.page.ensures.page c.rid_in-rid.ensures in
-    prepared_kept g.D.Disk pages c.args.transaction key rid c.args.max m c.args.locks.now c.ask_planned.new.locks c.ask_planned.new.writer.pool c.ask_planned.result c.ask_planned.ensures.outcome
-    (c.ask_planned.ensures.kept pages m rid c.args.max (tree_still g.D.Disk tree c.in_ok-leaf.ensures.outcome) is place
-    (nothing_planned pages key c.args.max m pool _ is place (c.goes_in.ensures.goes c.if-goes_in.true)))
+    prepared_kept g.D.Disk pages c.args.transaction key rid c.args.dense c.args.max m c.args.locks.now c.ask_planned.new.locks c.ask_planned.new.writer.pool c.ask_planned.result c.ask_planned.ensures.outcome
+    (c.ask_planned.ensures.kept pages m rid c.args.dense c.args.max (tree_still g.D.Disk tree c.in_ok-leaf.ensures.outcome) is place
+    (nothing_planned pages key c.args.dense c.args.max m pool _ is place (c.goes_in.ensures.goes c.if-goes_in.true)))
 
 pub returns-then-goes_in-clause-never : goal.returns-then-goes_in-clause-never
 returns-then-goes_in-clause-never g c = none_used_up g.D.Disk c.ask_planned.result c.ask_planned.ensures.outcome

@@ -21,7 +21,7 @@ pub returns-in_err-plan-clause-kept : goal.returns-in_err-plan-clause-kept
 returns-in_err-plan-clause-kept g c pages m rid has good is absent way full =
     let lacks : LacksRoomFor (bodies_of pages) c.args.key.now = record { page = c.args.page; way = way; lacks = full } in
     let plan = c.in_err-plan.ensures.kept pages has good (walk_says_map m (walk (bodies_of pages)) c.args.key.now is ∙ absent) lacks in
-    prepare_refused pages c.args.transaction c.args.key.now rid c.args.max m c.args.locks.now c.args.locks.now _ c.in_err-plan.field-0.0 c.from_residual.result c.from_residual.ensures.1 plan.sound plan.full
+    prepare_refused pages c.args.transaction c.args.key.now rid c.args.dense c.args.max m c.args.locks.now c.args.locks.now _ c.in_err-plan.field-0.0 c.from_residual.result c.from_residual.ensures.1 plan.sound plan.full
 
 pub returns-in_err-plan-clause-never : goal.returns-in_err-plan-clause-never
 returns-in_err-plan-clause-never g c = err_on c.from_residual.result _ _ c.from_residual.ensures.1 c.in_err-plan.ensures.never
@@ -33,7 +33,7 @@ returns-in_err-leaf-clause-outcome g c =
 
 pub returns-in_err-leaf-clause-kept : goal.returns-in_err-leaf-clause-kept
 returns-in_err-leaf-clause-kept g c pages m rid has good is absent way full =
-    prepare_refused pages c.args.transaction c.args.key.now rid c.args.max m c.args.locks.now c.args.locks.now _ c.in_err-leaf.field-0.0 c.from_residual-in_err-leaf.result c.from_residual-in_err-leaf.ensures.1
+    prepare_refused pages c.args.transaction c.args.key.now rid c.args.dense c.args.max m c.args.locks.now c.args.locks.now _ c.in_err-leaf.field-0.0 c.from_residual-in_err-leaf.result c.from_residual-in_err-leaf.ensures.1
     (c.in_err-leaf.ensures.kept pages (pages_still g.D.Disk has c.in_ok-plan.ensures.outcome) (way_level (bodies_of pages) 0 c.args.key.now c.args.page way))
     (λ over. absurd (never_pages_full g.D.Disk refl c.in_err-leaf.ensures.outcome over))
 
@@ -56,8 +56,8 @@ returns-clause-kept g c pages m rid has good is absent way full =
     let here : Place = record { leaf = c.in_ok-leaf.leaf; rid = None } in
     let place : IsPlace pages key m pool here = record { leaf = subst (λ n. IsReached pages key 0 n pool) (sym c.in_ok-leaf.ensures.frame) reached; value = sym absent } in
     let mid : HasTree g.D.Disk pages c.plan_pages.new.writer c.plan_pages.new.disk = record { has = still; spare = []; good = good } in
-    prepared_kept g.D.Disk pages c.args.transaction key rid c.args.max m c.args.locks.now c.ask_planned.new.locks c.ask_planned.new.writer.pool c.ask_planned.result c.ask_planned.ensures.outcome
-    (c.ask_planned.ensures.kept pages m rid c.args.max (tree_still g.D.Disk mid c.in_ok-leaf.ensures.outcome) is place plan.sound)
+    prepared_kept g.D.Disk pages c.args.transaction key rid c.args.dense c.args.max m c.args.locks.now c.ask_planned.new.locks c.ask_planned.new.writer.pool c.ask_planned.result c.ask_planned.ensures.outcome
+    (c.ask_planned.ensures.kept pages m rid c.args.dense c.args.max (tree_still g.D.Disk mid c.in_ok-leaf.ensures.outcome) is place plan.sound)
 
 pub returns-clause-never : goal.returns-clause-never
 returns-clause-never g c = none_used_up g.D.Disk c.ask_planned.result c.ask_planned.ensures.outcome
