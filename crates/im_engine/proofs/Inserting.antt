@@ -78,7 +78,7 @@ use Rattle.im_engine.proofs.Running.{outside, not_in, nobody_owner, checks_tell,
 -- ---- a key that came
 
 module _ {D : Type 0} (d : Ghosts D) {b : Base} (before : List Effect) (s : Shown) (v : View) (old : Engine D d) (r : IsRunning d b before s v old) (t : ℕ) (row : Transaction) (found : find (is_of t) old.txns.rows ≡ Some row) (mark : row.mark ≡ Going) (plain : old.under ≡ None) where
-  module _ (key : Key) (rid max : ℕ) (new : Engine D d) (fits : keys_fit (Insert key rid) ≡ true) (noted : Noted) (is : Inserted d b r.base r.now r.redo_end t key rid max noted new.writer new.disk)
+  module _ (key : Key) (rid : ℕ) (dense : Bool) (max : ℕ) (new : Engine D d) (fits : keys_fit (Insert key rid) ≡ true) (noted : Noted) (is : Inserted d b r.base r.now r.redo_end t key rid dense max noted new.writer new.disk)
       (decides : Decides old.locks t (asked (Insert key rid) (contents b r.now.log)) GrantedAll new.locks) (stays : new.under ≡ old.under) where
     abbrev newest : Logged
     newest = key_record t is.newest noted.last is.page (InsertKey key rid)
@@ -214,9 +214,9 @@ used_up_is g is = absurd (cc is)
 -- ---- what an insert wants
 
 -- one that was not refused
-wants_answered : (stepped : Bool) → stepped ≡ false → (pages : Pages) (m : IndexMap) (Idle : Type 0) (locks : ℕ → List Lock) (max t : ℕ) (key : Key) (rid : ℕ) (reply : said.Reply) → (reply ≡ replies.More → ⊥) → ((x : Fault) → reply ≢ replies.Refused x) → (get m key ≡ None → IsLimited pages key max) → (reply ≡ replies.Inserted → LacksRoomFor pages key → IsWithin pages key max)
-    → InsertWants pages m Idle stepped locks max t key rid reply
-wants_answered stepped plain pages m Idle locks max t key rid reply no_more not limited within = record {
+wants_answered : (stepped : Bool) → stepped ≡ false → (pages : Pages) (m : IndexMap) (Idle : Type 0) (locks : ℕ → List Lock) (dense : Bool) (max t : ℕ) (key : Key) (rid : ℕ) (reply : said.Reply) → (reply ≡ replies.More → ⊥) → ((x : Fault) → reply ≢ replies.Refused x) → (get m key ≡ None → IsLimited dense pages key max) → (reply ≡ replies.Inserted → LacksRoomFor pages key → IsWithin dense pages key max)
+    → InsertWants pages m Idle stepped locks dense max t key rid reply
+wants_answered stepped plain pages m Idle locks dense max t key rid reply no_more not limited within = record {
   made = within;
   at_once = λ _ _. plain;
   begun = λ is. absurd (no_more is);
@@ -240,11 +240,11 @@ module _ {D : Type 0} (d : Ghosts D) (old : Engine D d) (locks : Table) (writer 
   -- what the call below kept, whatever it stood on
   abbrev pub Below : Result (LockAnswer (Option Noted)) Fault → Type 0
   Below result = (b : Base) (base : ℕ) (s : Writer) (e : ℕ) → MayEdit d b base s e row.number row.last row.undo_next (Insert key rid) old.locks old.writer old.disk
-      → InsertKept d b base s e row.number key rid old.max_pages old.locks locks old.disk writer disk result
+      → InsertKept d b base s e row.number key rid old.dense old.max_pages old.locks locks old.disk writer disk result
 
   module _ {b : Base} (before : List Effect) (s : Shown) (v : View) (r : IsRunning d b before s v old) where
     abbrev pub Here : Result (LockAnswer (Option Noted)) Fault → Type 0
-    Here result = InsertKept d b r.base r.now r.redo_end t key rid old.max_pages old.locks locks old.disk writer disk result
+    Here result = InsertKept d b r.base r.now r.redo_end t key rid old.dense old.max_pages old.locks locks old.disk writer disk result
 
     mark : row.mark ≡ Going
     mark = access_mark old.txns.rows _ t (Insert key rid) row found checked
@@ -254,7 +254,7 @@ module _ {D : Type 0} (d : Ghosts D) (old : Engine D d) (locks : Table) (writer 
 
     pub kept_here : (result : Result (LockAnswer (Option Noted)) Fault) → Below result → Here result
     kept_here result below =
-        subst (λ (n : ℕ). InsertKept d b r.base r.now r.redo_end n key rid old.max_pages old.locks locks old.disk writer disk result) number
+        subst (λ (n : ℕ). InsertKept d b r.base r.now r.redo_end n key rid old.dense old.max_pages old.locks locks old.disk writer disk result) number
         (below b r.base r.now r.redo_end (subst (λ (n : ℕ). MayEdit d b r.base r.now r.redo_end n row.last row.undo_next (Insert key rid) old.locks old.writer old.disk) (sym number) (may_edit d before s v old r t row found mark (nobody_owner d before s v old r plain t) plain (Insert key rid))))
 
     pages_are : bodies_of (pages_of r.now) ≡ settled b r.now.log
@@ -264,22 +264,22 @@ module _ {D : Type 0} (d : Ghosts D) (old : Engine D d) (locks : Table) (writer 
     abbrev pub Idle : Type 0
     Idle = Evicted d b r.base r.now old.disk writer disk
 
-    limits : (o : LockAnswer (Option Noted)) → Below (Ok o) → get v.walk key ≡ None → IsLimited (settled b r.now.log) key old.max_pages
-    limits o below none = subst (λ (pages : Pages). IsLimited pages key old.max_pages) pages_are ((kept_here (Ok o) below).limited (sym (ap (λ (m : IndexMap). get m key) r.serving.seen_by.walk) ∙ none))
+    limits : (o : LockAnswer (Option Noted)) → Below (Ok o) → get v.walk key ≡ None → IsLimited old.dense (settled b r.now.log) key old.max_pages
+    limits o below none = subst (λ (pages : Pages). IsLimited old.dense pages key old.max_pages) pages_are ((kept_here (Ok o) below).limited (sym (ap (λ (m : IndexMap). get m key) r.serving.seen_by.walk) ∙ none))
 
     -- what is said of its pages
-    pub made_wants : (o : LockAnswer (Option Noted)) → Below (Ok o) → (x : Option Noted) → o ≡ Granted x → (noted : Noted) → x ≡ Some noted → InsertWants (settled b r.now.log) v.walk Idle old.stepped (locks_of old.locks) old.max_pages t key rid replies.Inserted
+    pub made_wants : (o : LockAnswer (Option Noted)) → Below (Ok o) → (x : Option Noted) → o ≡ Granted x → (noted : Noted) → x ≡ Some noted → InsertWants (settled b r.now.log) v.walk Idle old.stepped (locks_of old.locks) old.dense old.max_pages t key rid replies.Inserted
     made_wants o below x granted noted some =
         let kept = subst (λ (y : LockAnswer (Option Noted)). Here (Ok y)) (granted ∙ ap Granted some) (kept_here (Ok o) below) in
-        wants_answered old.stepped at_once (settled b r.now.log) v.walk Idle (locks_of old.locks) old.max_pages t key rid replies.Inserted (λ e. cc e) (λ x e. cc e) (limits o below)
-        (λ is. subst (λ (pages : Pages). LacksRoomFor pages key → IsWithin pages key old.max_pages) pages_are kept.sound.1.within)
+        wants_answered old.stepped at_once (settled b r.now.log) v.walk Idle (locks_of old.locks) old.dense old.max_pages t key rid replies.Inserted (λ e. cc e) (λ x e. cc e) (limits o below)
+        (λ is. subst (λ (pages : Pages). LacksRoomFor pages key → IsWithin old.dense pages key old.max_pages) pages_are kept.sound.1.within)
 
     -- answered otherwise
-    pub other_wants : (o : LockAnswer (Option Noted)) → Below (Ok o) → (reply : said.Reply) → reply ≢ replies.Inserted → reply ≢ replies.More → ((x : Fault) → reply ≢ replies.Refused x) → InsertWants (settled b r.now.log) v.walk Idle old.stepped (locks_of old.locks) old.max_pages t key rid reply
-    other_wants o below reply no_insert no_more not = wants_answered old.stepped at_once (settled b r.now.log) v.walk Idle (locks_of old.locks) old.max_pages t key rid reply no_more not (limits o below) (λ is. absurd (no_insert is))
+    pub other_wants : (o : LockAnswer (Option Noted)) → Below (Ok o) → (reply : said.Reply) → reply ≢ replies.Inserted → reply ≢ replies.More → ((x : Fault) → reply ≢ replies.Refused x) → InsertWants (settled b r.now.log) v.walk Idle old.stepped (locks_of old.locks) old.dense old.max_pages t key rid reply
+    other_wants o below reply no_insert no_more not = wants_answered old.stepped at_once (settled b r.now.log) v.walk Idle (locks_of old.locks) old.dense old.max_pages t key rid reply no_more not (limits o below) (λ is. absurd (no_insert is))
 
     -- refused, and why
-    pub refused_wants : (f : Fault) → Below (Err f) → LogEnds d true (mild_to_split (Some old.max_pages)) old.writer old.disk writer disk (Some f) → (told : Fault) → told ≡ told_as f → InsertWants (settled b r.now.log) v.walk Idle old.stepped (locks_of old.locks) old.max_pages t key rid (replies.Refused told)
+    pub refused_wants : (f : Fault) → Below (Err f) → LogEnds d true (mild_to_split (Some old.max_pages)) old.writer old.disk writer disk (Some f) → (told : Fault) → told ≡ told_as f → InsertWants (settled b r.now.log) v.walk Idle old.stepped (locks_of old.locks) old.dense old.max_pages t key rid (replies.Refused told)
     refused_wants f below ends told is = record {
       made = λ clash lacks. absurd (cc clash);
       at_once = λ clash lacks. absurd (cc clash);
@@ -287,10 +287,10 @@ module _ {D : Type 0} (d : Ghosts D) (old : Engine D d) (locks : Table) (writer 
       limited = λ not. absurd (not told refl);
       full = λ full.
           let why = kept.full (full_is f (sym is ∙ refused_inj told faults.PagesFull full)) in
-          subst (λ (pages : Pages). LacksRoomFor pages key × IsOver pages key old.max_pages) same (why.1, why.2);
+          subst (λ (pages : Pages). LacksRoomFor pages key × IsOver old.dense pages key old.max_pages) same (why.1, why.2);
       used_up = λ full.
           let why = kept.used_up (used_up_is f (sym is ∙ refused_inj told faults.Capacity full)) in
-          subst (λ (pages : Pages). LacksRoomFor pages key × IsUsedUp pages key) same (why.1, why.2);
+          subst (λ (pages : Pages). LacksRoomFor pages key × IsUsedUp old.dense pages key) same (why.1, why.2);
       granted = λ is_late. subst (λ (m : IndexMap). IsFree (locks_of old.locks) t (asked (Insert key rid) m)) (sym r.serving.seen_by.walk) (free is_late);
       absent = asks;
       broken = broke;
@@ -340,7 +340,7 @@ module _ {D : Type 0} (d : Ghosts D) (old new : Engine D d) (t : ℕ) (key : Key
         → StepKept d before s v (Do t (Insert key rid)) answers.Inserted old new
     insert_made o below x granted noted some table works_on =
         let kept = subst (λ (y : LockAnswer (Option Noted)). Now (Ok y)) (granted ∙ ap Granted some) (kept_now (Ok o) below) in
-        inserted d before s v old r t row found its_mark plain key rid old.max_pages new fits noted kept.sound.1 kept.sound.0 stays table kept.stops works_on
+        inserted d before s v old r t row found its_mark plain key rid old.dense old.max_pages new fits noted kept.sound.1 kept.sound.0 stays table kept.stops works_on
 
     -- the key is there
     pub insert_there : (o : LockAnswer (Option Noted)) → Under (Ok o) → (x : Option Noted) → o ≡ Granted x → x ≡ None → new.txns ≡ old.txns → new.failed ≡ false → StepKept d before s v (Do t (Insert key rid)) answers.Duplicate old new

@@ -57,6 +57,7 @@ module _ {D : Type 0} (d : Ghosts D) (old new : Engine D d) where
     pub txns : new.txns ≡ old.txns
     pub locks : new.locks ≡ old.locks
     pub max_pages : new.max_pages ≡ old.max_pages
+    pub dense : new.dense ≡ old.dense
     pub report : new.report ≡ old.report
     pub stepped : new.stepped ≡ old.stepped
     pub under : new.under ≡ old.under
@@ -102,6 +103,7 @@ module _ {D : Type 0} (d : Ghosts D) (old new : Engine D d) where
       txns = one.txns;
       locks = one.locks;
       max_pages = one.max_pages;
+      dense = one.dense;
       report = one.report;
       stepped = one.stepped;
       under = one.under;

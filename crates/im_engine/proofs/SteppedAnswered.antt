@@ -48,7 +48,7 @@ module _ {D : Type 0} (d : Ghosts D) (t : ℕ) (key : Key) (rid : ℕ) (old : En
   -- what the call below says of what it came to, and of what it left
   pub record InsertsBeside (came : Result (Sight (LockAnswer Inserting)) Fault) (writer : PageWriter) (disk : D) (locks : Table) : Type 0 where
     pub outcome : Logs d true (mild_to_split (Some old.max_pages)) old.writer old.disk writer disk (fault_of came)
-    pub kept : (b : Base) (base : ℕ) (s : Writer) (e : ℕ) → MayEditBeside d b base s e row.number row.last row.undo_next (Insert key rid) beside old.locks old.writer old.disk → InsertBesideKept d b base s e row.number row.last row.undo_next key rid old.max_pages beside old.locks locks old.disk writer disk came
+    pub kept : (b : Base) (base : ℕ) (s : Writer) (e : ℕ) → MayEditBeside d b base s e row.number row.last row.undo_next (Insert key rid) beside old.locks old.writer old.disk → InsertBesideKept d b base s e row.number row.last row.undo_next key rid old.dense old.max_pages beside old.locks locks old.disk writer disk came
     pub table : IfErr came (λ e. (e ≡ Memory) ⊎ (e ≡ PagesFull) → SameTable old.locks locks)
     pub lasting : IfErr came (λ e. (e ≡ Memory) ⊎ (e ≡ PagesFull) → SameLasting old.locks locks)
 

@@ -108,7 +108,7 @@ module _ {D : Type 0} (d : Ghosts D) {b : Base} (before : List Effect) (s : Show
   needs_next entry to needs = needed_by pages v.walk (what_of entry) (changes_of to.next.rest) to.next.key (subst (λ (e : Effect). NeedsBack pages v.walk e) (net_is entry to) needs)
 
   -- a key that comes back finds its leaf without room, and no way to a split
-  pub lacks_numbers : old.under ≡ None → HasNoWayBack d b r.base r.now t → (wants : LacksRoom pages v.walk ((v.txns t).net)) × IsUsedUp pages wants.key
+  pub lacks_numbers : old.under ≡ None → HasNoWayBack d b r.base r.now t → (wants : LacksRoom pages v.walk ((v.txns t).net)) × IsUsedUp false pages wants.key
   lacks_numbers none is = by (what_of is.entry) refl is.used_up
     where
       closed : open_smo r.now.log ≡ []
@@ -117,7 +117,7 @@ module _ {D : Type 0} (d : Ghosts D) {b : Base} (before : List Effect) (s : Show
       can : IsUndoable b page_tree r.now.log
       can = record { lawful = r.lawful; closed = closed }
 
-      by : (w : What) → what_of is.entry ≡ w → UsesUp pages w → (wants : LacksRoom pages v.walk ((v.txns t).net)) × IsUsedUp pages wants.key
+      by : (w : What) → what_of is.entry ≡ w → UsesUp pages w → (wants : LacksRoom pages v.walk ((v.txns t).net)) × IsUsedUp false pages wants.key
       by (DeleteKey k i) same full =
           let shows = subst (λ (w : What). ShowsChange (logs.bodies b r.now.log) w) same (shows_change b r.now.log can t (logged_at is.next.lsn is.entry) is.next.next) in (
             record {

@@ -80,19 +80,19 @@ module _ {D : Type 0} (d : Ghosts D) (t : ℕ) (key : Key) (rid : ℕ) (old new 
   -- what the call below kept, whatever it stood on
   abbrev pub Below : Result (Sight (LockAnswer Inserting)) Fault → Type 0
   Below result = (b : Base) (base : ℕ) (s : Writer) (e : ℕ) → MayEditBeside d b base s e row.number row.last row.undo_next (Insert key rid) beside old.locks old.writer old.disk
-      → InsertBesideKept d b base s e row.number row.last row.undo_next key rid old.max_pages beside old.locks new.locks old.disk new.writer new.disk result
+      → InsertBesideKept d b base s e row.number row.last row.undo_next key rid old.dense old.max_pages beside old.locks new.locks old.disk new.writer new.disk result
 
   pub fits : keys_fit (Insert key rid) ≡ true
   fits = access_fits old.txns.rows _ t (Insert key rid) checked
 
   module _ {b : Base} (before : List Effect) (s : Shown) (v : View) (r : IsRunning d b before s v old) where
     abbrev pub Here : Result (Sight (LockAnswer Inserting)) Fault → Type 0
-    Here result = InsertBesideKept d b r.base r.now r.redo_end t row.last row.undo_next key rid old.max_pages beside old.locks new.locks old.disk new.writer new.disk result
+    Here result = InsertBesideKept d b r.base r.now r.redo_end t row.last row.undo_next key rid old.dense old.max_pages beside old.locks new.locks old.disk new.writer new.disk result
 
     pub kept_here : (result : Result (Sight (LockAnswer Inserting)) Fault) → Below result → Here result
     kept_here result below =
         let number = its_number d t (Insert key rid) old row found checked in
-        subst (λ (n : ℕ). InsertBesideKept d b r.base r.now r.redo_end n row.last row.undo_next key rid old.max_pages beside old.locks new.locks old.disk new.writer new.disk result) number
+        subst (λ (n : ℕ). InsertBesideKept d b r.base r.now r.redo_end n row.last row.undo_next key rid old.dense old.max_pages beside old.locks new.locks old.disk new.writer new.disk result) number
         (below b r.base r.now r.redo_end (subst (λ (n : ℕ). MayEditBeside d b r.base r.now r.redo_end n row.last row.undo_next (Insert key rid) beside old.locks old.writer old.disk) (sym number) (may_edit_here d t (Insert key rid) old row found checked before s v r beside told)))
 
     pub stopped : LeavesEdit d b r.base r.now t old.disk new.disk → LeavesOnly d old.disk new.disk (Allowed before s)
@@ -145,7 +145,7 @@ module _ {D : Type 0} (d : Ghosts D) (t : ℕ) (key : Key) (rid : ℕ) (old new 
 
     -- ---- a structure change that begins
 
-    module _ (begun : BegunChange) (leaf : ℕ) (is : InsertBegun d b r.base r.now r.redo_end t row.last row.undo_next key old.max_pages beside begun leaf new.writer new.disk) (decides : Decides old.locks t (asked_begun key (contents b r.now.log)) GrantedAll new.locks)
+    module _ (begun : BegunChange) (leaf : ℕ) (is : InsertBegun d b r.base r.now r.redo_end t row.last row.undo_next key old.dense old.max_pages beside begun leaf new.writer new.disk) (decides : Decides old.locks t (asked_begun key (contents b r.now.log)) GrantedAll new.locks)
         (under : new.under ≡ Some (record { begun = begun; aim = Puts key rid leaf })) where
       abbrev lsn : ℕ
       lsn = begun.change.last

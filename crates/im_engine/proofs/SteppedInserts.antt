@@ -91,10 +91,10 @@ asks_begun k i w absent f t free s p = free s (record {
 
 -- ---- what it wants
 
-module _ (pages : Pages) (m : IndexMap) (Idle : Type 0) (stepped : Bool) (held : ℕ → List Lock) (max t : ℕ) (key : Key) (rid : ℕ) where
+module _ (pages : Pages) (m : IndexMap) (Idle : Type 0) (stepped : Bool) (held : ℕ → List Lock) (dense : Bool) (max t : ℕ) (key : Key) (rid : ℕ) where
   -- one that was not refused
-  wants_here : (reply : Reply) → ((x : Fault) → reply ≢ replies.Refused x) → (told_by reply ≢ answers.BlockedTree → get m key ≡ None → IsLimited pages key max) → (reply ≡ replies.Inserted → LacksRoomFor pages key → ⊥) → (reply ≡ replies.More → LacksRoomFor pages key × IsWithin pages key max)
-      → InsertWants pages m Idle stepped held max t key rid reply
+  wants_here : (reply : Reply) → ((x : Fault) → reply ≢ replies.Refused x) → (told_by reply ≢ answers.BlockedTree → get m key ≡ None → IsLimited dense pages key max) → (reply ≡ replies.Inserted → LacksRoomFor pages key → ⊥) → (reply ≡ replies.More → LacksRoomFor pages key × IsWithin dense pages key max)
+      → InsertWants pages m Idle stepped held dense max t key rid reply
   wants_here reply not limited fits begun = record {
     made = λ is lacks. absurd (fits is lacks);
     at_once = λ is lacks. absurd (fits is lacks);
@@ -138,7 +138,7 @@ module _ {D : Type 0} (d : Ghosts D) (t : ℕ) (key : Key) (rid : ℕ) (old new 
       ended = stopped d t key rid old new row found checked beside told before s v r at_first.stops
 
       -- what is said of pages where it was seen
-      within : (x : LockAnswer Inserting) → o ≡ Seen x → get v.walk key ≡ None → IsLimited (settled b r.now.log) key old.max_pages
+      within : (x : LockAnswer Inserting) → o ≡ Seen x → get v.walk key ≡ None → IsLimited old.dense (settled b r.now.log) key old.max_pages
       within x so none = (at (Seen x) so).limited (sym (ap (λ (m : IndexMap). get m key) walk_now) ∙ none)
 
       -- and where it is barred
@@ -158,7 +158,7 @@ module _ {D : Type 0} (d : Ghosts D) (t : ℕ) (key : Key) (rid : ℕ) (old new 
           exit_made d t a old new works fixed reply plain rest rows works_on one.ends.alive one.frames kept_as
           (insert_answered d old new.writer.log new.disk works t key rid checked reply not)
           (paced_by d t a old new checked beside told reply (λ clash. absurd (unblocked clash)) (λ b before s v r bars. absurd (off before s v r x so bars)) (λ b before s v r. inl stays_under))
-          (λ b before s v r. wants_here (settled b r.now.log) v.walk (Evicted d b r.base r.now old.disk new.writer new.disk) old.stepped (locks_of old.locks) old.max_pages t key rid reply not (λ other. within before s v r x so) (fits_in b before s v r) (λ is. absurd (no_more is)))
+          (λ b before s v r. wants_here (settled b r.now.log) v.walk (Evicted d b r.base r.now old.disk new.writer new.disk) old.stepped (locks_of old.locks) old.dense old.max_pages t key rid reply not (λ other. within before s v r x so) (fits_in b before s v r) (λ is. absurd (no_more is)))
 
       -- the key is there
       pub made_there : o ≡ Seen (Granted There) → new.txns ≡ old.txns → IsMade d (Do t a) replies.Duplicate old new
@@ -216,7 +216,7 @@ module _ {D : Type 0} (d : Ghosts D) (t : ℕ) (key : Key) (rid : ℕ) (old new 
           tree_made d t a old checked before s v r new same is.sound.2 (ended before s v r) works_on by.0 by.1 is.sound.1 table)
           (insert_answered d old new.writer.log new.disk works t key rid checked (replies.Blocked blockers.Tree) (λ y e. cc e))
           (paced_by d t a old new checked beside told (replies.Blocked blockers.Tree) (λ is b before s v r. (hides d t a old new checked beside told before s v r (cause before s v r so)).2) (λ b before s v r bars. inl refl) (λ b before s v r. inl stays_under))
-          (λ b before s v r. wants_here (settled b r.now.log) v.walk (Evicted d b r.base r.now old.disk new.writer new.disk) old.stepped (locks_of old.locks) old.max_pages t key rid (replies.Blocked blockers.Tree) (λ y e. cc e) (λ other. absurd (other refl)) (λ e. absurd (cc e)) (λ e. absurd (cc e)))
+          (λ b before s v r. wants_here (settled b r.now.log) v.walk (Evicted d b r.base r.now old.disk new.writer new.disk) old.stepped (locks_of old.locks) old.dense old.max_pages t key rid (replies.Blocked blockers.Tree) (λ y e. cc e) (λ other. absurd (other refl)) (λ e. absurd (cc e)) (λ e. absurd (cc e)))
         where
           cause : {b : Base} (before : List Effect) (s : Shown) (v : View) (r : IsRunning d b before s v old) → o ≡ Hidden → barred.TreeCause (settled b r.now.log) beside a v.walk
           cause {b} before s v r so = subst (λ (m : IndexMap). barred.TreeCause (settled b r.now.log) beside a m) (sym (walk_now before s v r)) (at before s v r Hidden so).sound.0
@@ -238,7 +238,7 @@ module _ {D : Type 0} (d : Ghosts D) (t : ℕ) (key : Key) (rid : ℕ) (old new 
         (λ b before s v r. inr (none_under old.under beside told (at before s v r (Seen (Granted (Split begun leaf))) so).sound.1.alone, stepped, refl, ap is_some under)))
         (λ b before s v r.
         let is = (at before s v r (Seen (Granted (Split begun leaf))) so).sound.1 in
-        wants_here (settled b r.now.log) v.walk (Evicted d b r.base r.now old.disk new.writer new.disk) old.stepped (locks_of old.locks) old.max_pages t key rid replies.More (λ y e. cc e) (λ other. within before s v r (Granted (Split begun leaf)) so) (λ e. absurd (cc e)) (λ _. (is.lacks, is.within)))
+        wants_here (settled b r.now.log) v.walk (Evicted d b r.base r.now old.disk new.writer new.disk) old.stepped (locks_of old.locks) old.dense old.max_pages t key rid replies.More (λ y e. cc e) (λ other. within before s v r (Granted (Split begun leaf)) so) (λ e. absurd (cc e)) (λ _. (is.lacks, is.within)))
 
   -- ---- a call below refused it
 
@@ -250,7 +250,7 @@ module _ {D : Type 0} (d : Ghosts D) (t : ℕ) (key : Key) (rid : ℕ) (old new 
       walk_then : v.walk ≡ contents b r.now.log
       walk_then = walk_of d t a old row found checked before s v r
 
-      refused_wants : (said : Fault) → said ≡ told_as f → InsertWants (settled b r.now.log) v.walk (Evicted d b r.base r.now old.disk new.writer new.disk) old.stepped (locks_of old.locks) old.max_pages t key rid (replies.Refused said)
+      refused_wants : (said : Fault) → said ≡ told_as f → InsertWants (settled b r.now.log) v.walk (Evicted d b r.base r.now old.disk new.writer new.disk) old.stepped (locks_of old.locks) old.dense old.max_pages t key rid (replies.Refused said)
       refused_wants said so = record {
         made = λ clash lacks. absurd (cc clash);
         at_once = λ clash lacks. absurd (cc clash);

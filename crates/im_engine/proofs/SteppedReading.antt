@@ -63,14 +63,14 @@ use Rattle.im_engine.proofs.SteppedTold.{tree_here, walk_here}
 use Rattle.im_engine.proofs.Looked.{not_true}
 
 -- it wants nothing
-reads_want : (pages : Pages) (m : IndexMap) (Idle : Type 0) (stepped : Bool) (was now : Option Changing) (Begun : ℕ → Type 0) (nets : ℕ → Effect) (locks : ℕ → List Lock) (max t : ℕ) (a : Access) → reads a ≡ true → (reply : Reply) → WantsOf pages m Idle stepped was now Begun nets locks max (Do t a) reply
-reads_want pages m Idle stepped was now Begun nets locks max t (Fetch k) is reply = tt
-reads_want pages m Idle stepped was now Begun nets locks max t (Seek k) is reply = tt
-reads_want pages m Idle stepped was now Begun nets locks max t (Next k) is reply = tt
-reads_want pages m Idle stepped was now Begun nets locks max t (Prev k) is reply = tt
-reads_want pages m Idle stepped was now Begun nets locks max t (Scan lo hi n) is reply = tt
-reads_want pages m Idle stepped was now Begun nets locks max t (Insert k r) is reply = absurd (cc is)
-reads_want pages m Idle stepped was now Begun nets locks max t (Delete k) is reply = absurd (cc is)
+reads_want : (pages : Pages) (m : IndexMap) (Idle : Type 0) (stepped : Bool) (was now : Option Changing) (Begun : ℕ → Type 0) (nets : ℕ → Effect) (locks : ℕ → List Lock) (dense : Bool) (max t : ℕ) (a : Access) → reads a ≡ true → (reply : Reply) → WantsOf pages m Idle stepped was now Begun nets locks dense max (Do t a) reply
+reads_want pages m Idle stepped was now Begun nets locks dense max t (Fetch k) is reply = tt
+reads_want pages m Idle stepped was now Begun nets locks dense max t (Seek k) is reply = tt
+reads_want pages m Idle stepped was now Begun nets locks dense max t (Next k) is reply = tt
+reads_want pages m Idle stepped was now Begun nets locks dense max t (Prev k) is reply = tt
+reads_want pages m Idle stepped was now Begun nets locks dense max t (Scan lo hi n) is reply = tt
+reads_want pages m Idle stepped was now Begun nets locks dense max t (Insert k r) is reply = absurd (cc is)
+reads_want pages m Idle stepped was now Begun nets locks dense max t (Delete k) is reply = absurd (cc is)
 
 -- and wants memory for the locks
 reads_want_memory : (t : ℕ) (a : Access) → reads a ≡ true → Wants (Do t a) memory
@@ -122,7 +122,7 @@ module _ {D : Type 0} (d : Ghosts D) (t : ℕ) (a : Access) (is : reads a ≡ tr
   Below r = ReadsBelow d t a old beside says r new.writer new.disk new.locks
 
   wants : (reply : Reply) (b : Base) (before : List Effect) (s : Shown) (v : View) (r : IsRunning d b before s v old) → WantsHere d b before s v r (Do t a) reply new
-  wants reply b before s v r = reads_want (settled b r.now.log) v.walk (Evicted d b r.base r.now old.disk new.writer new.disk) old.stepped (under_of old.under) (under_of new.under) (λ u. HasBegun d b r.base r.now u new.writer new.disk) (λ u. (v.txns u).net) (locks_of old.locks) old.max_pages t a is reply
+  wants reply b before s v r = reads_want (settled b r.now.log) v.walk (Evicted d b r.base r.now old.disk new.writer new.disk) old.stepped (under_of old.under) (under_of new.under) (λ u. HasBegun d b r.base r.now u new.writer new.disk) (λ u. (v.txns u).net) (locks_of old.locks) old.dense old.max_pages t a is reply
 
   plainly : (o : Sight (LockAnswer X)) → Below (Ok o) → new.failed ≡ false → (reply : Reply) → IsPlain d t a old new reply → besides_rows new.txns ≡ besides_rows old.txns → length new.txns.rows ≡ length old.txns.rows
       → ((before : List Effect) (s : Shown) (v : View) → IsLife d before s v old → StepKept d before s v (Do t a) (told_by reply) old new)

@@ -290,6 +290,7 @@ step_made_of d step reply old new none m = record {
   works = told_works d (asked_by step) reply old new m.told;
   never = never_found d (asked_by step) reply old new m.kept m.told;
   max_pages = ap (λ (f : Fixed). f.max_pages) (told_fixed d (asked_by step) reply old new m.told);
+  dense = ap (λ (f : Fixed). f.dense) (told_fixed d (asked_by step) reply old new m.told);
   stepped = ap (λ (f : Fixed). f.stepped) (told_fixed d (asked_by step) reply old new m.told);
   frames = m.frames;
   report = ap (λ (f : Fixed). f.redo) (told_fixed d (asked_by step) reply old new m.told);
@@ -330,9 +331,9 @@ module _ {D : Type 0} (d : Ghosts D) (step : Asked) (e : Engine D d) (only_now :
   memory_none : e.failed ≡ false → Refused fault ≡ Refused faults.Memory → ⊥
   memory_none works so = works_so (λ (n : ℕ). n ≡ 9 → ⊥) (λ e. cc e) (λ e. cc e) (λ e. cc e) (λ e. cc e) (λ e. cc e) (λ e. cc e) (λ e. cc e) works (ap number_of (refused_inj fault faults.Memory so))
 
-  wants_none : e.failed ≡ false → (pages : Pages) (map : IndexMap) (Still : Type 0) (stepped : Bool) (was now : Option views.Under) (Begun : ℕ → Type 0) (nets : ℕ → Effect) (locks : ℕ → List Lock) (max : ℕ) (s : Step)
-      → WantsOf pages map Still stepped was now Begun nets locks max s (Refused fault)
-  wants_none works pages map Still stepped was now Begun nets locks max (Do t (answers.Insert key rid)) = record {
+  wants_none : e.failed ≡ false → (pages : Pages) (map : IndexMap) (Still : Type 0) (stepped : Bool) (was now : Option views.Under) (Begun : ℕ → Type 0) (nets : ℕ → Effect) (locks : ℕ → List Lock) (dense : Bool) (max : ℕ) (s : Step)
+      → WantsOf pages map Still stepped was now Begun nets locks dense max s (Refused fault)
+  wants_none works pages map Still stepped was now Begun nets locks dense max (Do t (answers.Insert key rid)) = record {
     made = λ so. absurd (cc so);
     at_once = λ so. absurd (cc so);
     begun = λ so. absurd (cc so);
@@ -343,21 +344,21 @@ module _ {D : Type 0} (d : Ghosts D) (step : Asked) (e : Engine D d) (only_now :
     absent = λ asks. absurd (asks_none works asks);
     broken = λ so. absurd (asks_none works (wants_memory so));
   }
-  wants_none works pages map Still stepped was now Begun nets locks max (Do t (answers.Delete key)) = record { fails = λ so. absurd (asks_none works (wants_memory so)); at_once = λ so. absurd (cc so); begun = λ so. absurd (cc so) }
-  wants_none works pages map Still stepped was now Begun nets locks max (Do t (answers.Fetch k)) = tt
-  wants_none works pages map Still stepped was now Begun nets locks max (Do t (answers.Seek k)) = tt
-  wants_none works pages map Still stepped was now Begun nets locks max (Do t (answers.Next k)) = tt
-  wants_none works pages map Still stepped was now Begun nets locks max (Do t (answers.Prev k)) = tt
-  wants_none works pages map Still stepped was now Begun nets locks max (Do t (answers.Scan lo hi l)) = tt
-  wants_none works pages map Still stepped was now Begun nets locks max Begin = tt
-  wants_none works pages map Still stepped was now Begun nets locks max (Commit t) = tt
-  wants_none works pages map Still stepped was now Begun nets locks max (Rollback t) = tt
-  wants_none works pages map Still stepped was now Begun nets locks max (RollTo t left) = tt
-  wants_none works pages map Still stepped was now Begun nets locks max (Continue t) = record { short = λ so. absurd (memory_none works so); used_up = λ so. absurd (asks_none works (wants_numbers so)); broken = λ so. absurd (asks_none works (wants_memory so)); begun = λ _ _ _. inr (fault, refl) }
-  wants_none works pages map Still stepped was now Begun nets locks max (FlushPage p) = tt
-  wants_none works pages map Still stepped was now Begun nets locks max Force = tt
-  wants_none works pages map Still stepped was now Begun nets locks max Checkpoint = tt
-  wants_none works pages map Still stepped was now Begun nets locks max Switch = tt
+  wants_none works pages map Still stepped was now Begun nets locks dense max (Do t (answers.Delete key)) = record { fails = λ so. absurd (asks_none works (wants_memory so)); at_once = λ so. absurd (cc so); begun = λ so. absurd (cc so) }
+  wants_none works pages map Still stepped was now Begun nets locks dense max (Do t (answers.Fetch k)) = tt
+  wants_none works pages map Still stepped was now Begun nets locks dense max (Do t (answers.Seek k)) = tt
+  wants_none works pages map Still stepped was now Begun nets locks dense max (Do t (answers.Next k)) = tt
+  wants_none works pages map Still stepped was now Begun nets locks dense max (Do t (answers.Prev k)) = tt
+  wants_none works pages map Still stepped was now Begun nets locks dense max (Do t (answers.Scan lo hi l)) = tt
+  wants_none works pages map Still stepped was now Begun nets locks dense max Begin = tt
+  wants_none works pages map Still stepped was now Begun nets locks dense max (Commit t) = tt
+  wants_none works pages map Still stepped was now Begun nets locks dense max (Rollback t) = tt
+  wants_none works pages map Still stepped was now Begun nets locks dense max (RollTo t left) = tt
+  wants_none works pages map Still stepped was now Begun nets locks dense max (Continue t) = record { short = λ so. absurd (memory_none works so); used_up = λ so. absurd (asks_none works (wants_numbers so)); broken = λ so. absurd (asks_none works (wants_memory so)); begun = λ _ _ _. inr (fault, refl) }
+  wants_none works pages map Still stepped was now Begun nets locks dense max (FlushPage p) = tt
+  wants_none works pages map Still stepped was now Begun nets locks dense max Force = tt
+  wants_none works pages map Still stepped was now Begun nets locks dense max Checkpoint = tt
+  wants_none works pages map Still stepped was now Begun nets locks dense max Switch = tt
 
   -- a refusal by a check costs nothing
   costs_none : (step : Step) → StepCosts d step (Refused fault) e e
@@ -413,6 +414,7 @@ module _ {D : Type 0} (d : Ghosts D) (step : Asked) (e : Engine D d) (only_now :
     works = told_works d (asked_by step) (Refused fault) e e told_so;
     never = never_found d (asked_by step) (Refused fault) e e (λ before s v life. barred_kept d before s v (asked_by step) e life only_now (number_of fault) is) told_so;
     max_pages = refl;
+    dense = refl;
     stepped = refl;
     frames = refl;
     report = refl;

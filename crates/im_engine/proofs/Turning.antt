@@ -231,12 +231,12 @@ module _ {D : Type 0} (d : Ghosts D) {b : Base} (before : List Effect) (s : Show
       by Unreadable same wants = absurd wants
 
   -- and its split is not to be had
-  pub lacks_way : LacksWayBack d b r.base r.now t → (wants : LacksRoom (settled b r.now.log) v.walk ((v.txns t).net)) × IsUsedUp (settled b r.now.log) wants.key
+  pub lacks_way : LacksWayBack d b r.base r.now t → (wants : LacksRoom (settled b r.now.log) v.walk ((v.txns t).net)) × IsUsedUp false (settled b r.now.log) wants.key
   lacks_way is = by (what_of is.entry) refl is.used_up
     where
-      by : (w : What) → what_of is.entry ≡ w → UsesUp (bodies r.now) w → (wants : LacksRoom (settled b r.now.log) v.walk ((v.txns t).net)) × IsUsedUp (settled b r.now.log) wants.key
+      by : (w : What) → what_of is.entry ≡ w → UsesUp (bodies r.now) w → (wants : LacksRoom (settled b r.now.log) v.walk ((v.txns t).net)) × IsUsedUp false (settled b r.now.log) wants.key
       by (DeleteKey k i) same full =
-          let used_up : IsUsedUp (settled b r.now.log) k = subst (λ (pages : Pages). IsUsedUp pages k) (bodies_are d before s v old r plain) full.used_up in
+          let used_up : IsUsedUp false (settled b r.now.log) k = subst (λ (pages : Pages). IsUsedUp false pages k) (bodies_are d before s v old r plain) full.used_up in
           (comes_back is.entry is.next k i same full.lacks, used_up)
       by (InsertKey k i) same full = absurd full
       by (UndoInsert k i) same full = absurd full

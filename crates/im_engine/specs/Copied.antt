@@ -24,6 +24,7 @@ module _ {D : Type 0} (d : Ghosts D) where
     pub device : d.failed new.disk ≡ d.failed old.disk
     pub writer : new.writer ≡ old.writer
     pub max_pages : new.max_pages ≡ old.max_pages
+    pub dense : new.dense ≡ old.dense
     pub report : new.report ≡ old.report
     pub txns : new.txns ≡ old.txns
     pub locks : new.locks ≡ old.locks

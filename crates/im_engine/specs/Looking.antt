@@ -28,6 +28,7 @@ module _ {D : Type 0} (d : Ghosts D) where
     pub txns : new.txns ≡ old.txns
     pub locks : new.locks ≡ old.locks
     pub max_pages : new.max_pages ≡ old.max_pages
+    pub dense : new.dense ≡ old.dense
     pub report : new.report ≡ old.report
     pub stepped : new.stepped ≡ old.stepped
     pub under : new.under ≡ old.under

@@ -21,6 +21,7 @@ module _ {D : Type 0} (d : Ghosts D) where
     pub plain : IfOk result (λ e. (e.stepped ≡ config.stepped) × (e.under ≡ None))
     pub opened : IfOk result (λ e. (e.failed ≡ false) × (e.txns.rows ≡ []) × (e.locks ≡ []) × (d.failed e.disk ≡ false))
     pub limit : IfOk result (λ e. e.max_pages ≡ config.max_pages)
+    pub dense : IfOk result (λ e. e.dense ≡ config.dense)
     pub pool : IfOk result (λ e. e.writer.pool.frames ≡ config.frames + config.more.frames)
     pub group : IfOk result (λ e. e.txns.group ≡ config.group)
     pub spelled : IfOk result (λ _. d.tells → SpellsCurrent (d.seen old))

@@ -66,6 +66,8 @@ use Rattle.im_engine.specs.Kept.{StepKept}
 pub record Fixed : Type 0 where
   -- the most pages
   pub max_pages : ℕ
+  -- whether splits are dense
+  pub dense : Bool
   -- what redo did
   pub redo : RedoReport
   -- whether a structure change is made page by page
@@ -114,7 +116,7 @@ is_early _ = false
 
 module _ {D : Type 0} (d : Ghosts D) where
   abbrev pub fixed_of : Engine D d → Fixed
-  fixed_of e = record { max_pages = e.max_pages; redo = e.report; stepped = e.stepped }
+  fixed_of e = record { max_pages = e.max_pages; dense = e.dense; redo = e.report; stepped = e.stepped }
 
   abbrev pub known_of : Engine D d → Known
   known_of e = record { failed = e.failed; active = length e.txns.rows; waiting = e.txns.waiting; group = e.txns.group; next = e.txns.next; fixed = fixed_of e }
@@ -302,7 +304,7 @@ module _ (pages : Pages) (map : IndexMap) where
   -- transaction (`Begun`). By such a store, with none under way, one that needs a structure change begins it and is not made at once. `t` is its transaction.
   pub record TurnWants (stepped : Bool) (was now : Option views.Under) (t : ℕ) (net : Effect) (Begun : Type 0) (reply : Reply) : Type 0 where
     pub short : reply ≡ Refused Memory → owner_of was ≢ Some t → LacksRoom net ⊎ ((stepped ≡ true) × NeedsBack net)
-    pub used_up : reply ≡ Refused Capacity → (wants : LacksRoom net) × IsUsedUp pages wants.key
+    pub used_up : reply ≡ Refused Capacity → (wants : LacksRoom net) × IsUsedUp false pages wants.key
     pub broken : reply ≡ Refused Failed → Begun
     pub begun : stepped ≡ true → was ≡ None → NeedsBack net → ((reply ≡ More) × (is_some now ≡ true)) ⊎ IsRefusal reply
 
@@ -311,13 +313,13 @@ module _ (pages : Pages) (map : IndexMap) (Idle : Type 0) where
   -- An insert meets the limit of pages first, then its locks, then the end of page numbers and levels. Where the key is absent and its leaf lacks room it is made only within the limit, waits or dies only within it or where the end is reached, and is refused `PagesFull` only over it, and `Capacity` only
   -- at the end; its locks were granted where that is answered, or `Failed`, which comes only where the leaf lacks room or nothing but Images joined the log. A key that is there is a Duplicate, and none of these.
   -- By a store that makes its structure changes page by page it then begins, answered More, and is never made at once; and one that finds the tree blocked has met no limit.
-  pub record InsertWants (stepped : Bool) (locks : ℕ → List Lock) (max_pages t : ℕ) (key : Key) (rid : ℕ) (reply : Reply) : Type 0 where
-    pub made : reply ≡ Inserted → LacksRoomFor pages key → IsWithin pages key max_pages
+  pub record InsertWants (stepped : Bool) (locks : ℕ → List Lock) (dense : Bool) (max_pages t : ℕ) (key : Key) (rid : ℕ) (reply : Reply) : Type 0 where
+    pub made : reply ≡ Inserted → LacksRoomFor pages key → IsWithin dense pages key max_pages
     pub at_once : reply ≡ Inserted → LacksRoomFor pages key → stepped ≡ false
-    pub begun : reply ≡ More → LacksRoomFor pages key × IsWithin pages key max_pages
-    pub limited : ((fault : Fault) → reply ≢ Refused fault) → told_by reply ≢ answers.BlockedTree → get map key ≡ None → LacksRoomFor pages key → IsWithin pages key max_pages ⊎ IsUsedUp pages key
-    pub full : reply ≡ Refused PagesFull → LacksRoomFor pages key × IsOver pages key max_pages
-    pub used_up : reply ≡ Refused Capacity → LacksRoomFor pages key × IsUsedUp pages key
+    pub begun : reply ≡ More → LacksRoomFor pages key × IsWithin dense pages key max_pages
+    pub limited : ((fault : Fault) → reply ≢ Refused fault) → told_by reply ≢ answers.BlockedTree → get map key ≡ None → LacksRoomFor pages key → IsWithin dense pages key max_pages ⊎ IsUsedUp dense pages key
+    pub full : reply ≡ Refused PagesFull → LacksRoomFor pages key × IsOver dense pages key max_pages
+    pub used_up : reply ≡ Refused Capacity → LacksRoomFor pages key × IsUsedUp dense pages key
     pub granted : (reply ≡ Refused Capacity) ⊎ (reply ≡ Refused Failed) → IsFree locks t (asked (answers.Insert key rid) map)
     pub absent : AsksChange reply → get map key ≡ None
     pub broken : reply ≡ Refused Failed → LacksRoomFor pages key ⊎ Idle
@@ -335,11 +337,11 @@ module _ (pages : Pages) (map : IndexMap) (Idle : Type 0) where
     pub begun : reply ≡ More → HasOne pages key
 
   -- Of the steps that is asked of inserts and of deletes, where a key that is not there is Absent. Of a change that is taken back it is asked what it wants room for, by the net of its transaction.
-  abbrev pub WantsOf : (stepped : Bool) (was now : Option views.Under) → (ℕ → Type 0) → (ℕ → Effect) → (ℕ → List Lock) → ℕ → answers.Step → Reply → Type 0
-  WantsOf stepped was now Begun nets locks max_pages (answers.Do t (answers.Insert key rid)) reply = InsertWants stepped locks max_pages t key rid reply
-  WantsOf stepped was now Begun nets locks max_pages (answers.Do t (answers.Delete key)) reply = DeleteWants stepped locks t key reply
-  WantsOf stepped was now Begun nets locks max_pages (answers.Continue t) reply = TurnWants pages map stepped was now t (nets t) (Begun t) reply
-  WantsOf stepped was now Begun nets locks max_pages _ reply = Unit {0}
+  abbrev pub WantsOf : (stepped : Bool) (was now : Option views.Under) → (ℕ → Type 0) → (ℕ → Effect) → (ℕ → List Lock) → Bool → ℕ → answers.Step → Reply → Type 0
+  WantsOf stepped was now Begun nets locks dense max_pages (answers.Do t (answers.Insert key rid)) reply = InsertWants stepped locks dense max_pages t key rid reply
+  WantsOf stepped was now Begun nets locks dense max_pages (answers.Do t (answers.Delete key)) reply = DeleteWants stepped locks t key reply
+  WantsOf stepped was now Begun nets locks dense max_pages (answers.Continue t) reply = TurnWants pages map stepped was now t (nets t) (Begun t) reply
+  WantsOf stepped was now Begun nets locks dense max_pages _ reply = Unit {0}
 
 -- An access that is answered has the answer of one user alone on the map of all that was committed, with what its transaction did on top, also where a later step answers it.
 abbrev pub AnswersAlone : List Effect → Shown → answers.Step → answers.Reply → Type 0
@@ -354,7 +356,7 @@ module _ {D : Type 0} (d : Ghosts D) where
   -- what a step asks of the pages of an engine that works
   abbrev pub WantsHere : {old : Engine D d} (b : Base) (before : List Effect) (s : Shown) (v : View) → IsRunning d b before s v old → answers.Step → Reply → Engine D d → Type 0
   WantsHere {old} b before s v r step reply new =
-      WantsOf (settled b r.now.log) v.walk (Evicted d b r.base r.now old.disk new.writer new.disk) old.stepped (under_of old.under) (under_of new.under) (λ t. HasBegun d b r.base r.now t new.writer new.disk) (λ t. (v.txns t).net) (locks_of old.locks) old.max_pages step reply
+      WantsOf (settled b r.now.log) v.walk (Evicted d b r.base r.now old.disk new.writer new.disk) old.stepped (under_of old.under) (under_of new.under) (λ t. HasBegun d b r.base r.now t new.writer new.disk) (λ t. (v.txns t).net) (locks_of old.locks) old.dense old.max_pages step reply
 
   -- what was told of the structure change under way, which is another's than the step's
   pub record IsBlockedBy (b : Base) (before : List Effect) (s : Shown) (v : View) (step : answers.Step) (old : Engine D d) (r : IsRunning d b before s v old) : Type 0 where
@@ -412,6 +414,7 @@ module _ {D : Type 0} (d : Ghosts D) where
     -- the bytes of a sound store are never found to be none
     pub never : (before : List Effect) (s : Shown) (v : View) → IsLife d before s v old → reply ≢ Refused NotAStore
     pub max_pages : new.max_pages ≡ old.max_pages
+    pub dense : new.dense ≡ old.dense
     pub stepped : new.stepped ≡ old.stepped
     pub frames : new.writer.pool.frames ≡ old.writer.pool.frames
     pub report : new.report ≡ old.report

@@ -22,6 +22,8 @@ pub struct Config {
     /// Whether a structure change is made page by page, so that other transactions go on between two of its pages: an Insert or a Delete that needs one is
     /// then answered `More`, and each Continue of its transaction goes on with it.
     pub stepped: bool,
+    /// Whether the last leaf of the tree, where it is split, keeps nearly all of its room and not half: keys that rise then leave leaves that are full.
+    pub dense: bool,
     /// Whether a Commit waits for a force: it is answered `More`, and the next `Force` commits all that wait.
     pub group: bool,
     /// How many workers share the redo of an opening, 1 to 16.
@@ -35,6 +37,7 @@ impl Default for Config {
         ensures pages { result.max_pages ≡ 1000000 }
         ensures buffer { result.buffer.batches ≡ 1 }
         ensures stepped { result.stepped ≡ false }
+        ensures dense { result.dense ≡ false }
         ensures group { result.group ≡ false }
         ensures workers { result.workers ≡ 1 }
     {
@@ -44,6 +47,7 @@ impl Default for Config {
             max_pages: 1_000_000,
             buffer: BufferSize::ONE,
             stepped: false,
+            dense: false,
             group: false,
             workers: 1,
         }

@@ -26,6 +26,8 @@ pub struct Engine<D: Disk> {
     pub(crate) writer: PageWriter,
     pub(crate) disk: D,
     pub(crate) max_pages: PageNo,
+    // whether the last leaf keeps nearly all of its room where it is split
+    pub(crate) dense: bool,
     // what redo did in this opening
     pub(crate) report: RedoReport,
     pub(crate) txns: Transactions,

@@ -49,6 +49,7 @@ impl<D: Disk> Engine<D> {
             key,
             rid,
             self.max_pages,
+            self.dense,
         );
         match self.answered(t, as_seen(came)) {
             Ok(Some(noted)) => {

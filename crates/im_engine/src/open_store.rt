@@ -60,6 +60,7 @@ impl<D: TwoLogs> Engine<D> {
         ensures opened { IfOk result (λ e. (e.failed ≡ false) × (e.txns.rows ≡ []) × (e.locks ≡ []) × (D.failed e.disk ≡ false)) }
         ensures plain { IfOk result (λ e. (e.stepped ≡ config.stepped) × (e.under ≡ None)) }
         ensures limit { IfOk result (λ e. e.max_pages ≡ config.max_pages) }
+        ensures dense { IfOk result (λ e. e.dense ≡ config.dense) }
         ensures group { IfOk result (λ e. e.txns.group ≡ config.group) }
         ensures pool { IfOk result (λ e. e.writer.pool.frames ≡ config.frames + config.more.frames) }
         ensures spelled { IfOk result (λ _. D.tells → SpellsCurrent (D.seen disk)) }
@@ -98,6 +99,7 @@ impl<D: TwoLogs> Engine<D> {
         ensures opened { IfOk result (λ e. (e.failed ≡ false) × (e.txns.rows ≡ []) × (e.locks ≡ []) × (D.failed e.disk ≡ false)) }
         ensures plain { IfOk result (λ e. (e.stepped ≡ config.stepped) × (e.under ≡ None)) }
         ensures limit { IfOk result (λ e. e.max_pages ≡ config.max_pages) }
+        ensures dense { IfOk result (λ e. e.dense ≡ config.dense) }
         ensures group { IfOk result (λ e. e.txns.group ≡ config.group) }
         ensures pool { IfOk result (λ e. e.writer.pool.frames ≡ config.frames + config.more.frames) }
         ensures spelled { IfOk result (λ _. D.tells → SpellsCurrent (D.seen disk)) }
@@ -132,6 +134,7 @@ impl<D: TwoLogs> Engine<D> {
                 writer: restarted.writer,
                 disk,
                 max_pages: config.max_pages,
+                dense: config.dense,
                 report: restarted.report,
                 txns: Transactions::starting_at(restarted.next, config.group),
                 locks: LockTable::new(alloc),
@@ -185,6 +188,7 @@ impl<D: Disk> Engine<D> {
             writer: _writer,
             disk,
             max_pages: _max_pages,
+            dense: _dense,
             report: _report,
             txns: _txns,
             locks: _locks,

@@ -38,6 +38,7 @@ impl<D: Disk> Engine<D> {
             key,
             rid,
             self.max_pages,
+            self.dense,
             beside_of(&self.under),
         );
         match self.answered(t, came) {

@@ -21,6 +21,7 @@ returns-clause-still g c =
       device = c.begin.ensures.failed;
       writer = refl;
       max_pages = refl;
+      dense = refl;
       report = refl;
       txns = refl;
       locks = refl;

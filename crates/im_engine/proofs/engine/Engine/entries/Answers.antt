@@ -18,14 +18,14 @@ pub returns-then-is_some-clause-kept : goal.returns-then-is_some-clause-kept
 returns-then-is_some-clause-kept g c before s v life = look_still g.D.Disk before s v c.args.self.now life c.if-self.false (g.met.D.Disk.only_now c.args.self.now.disk)
 
 pub returns-in-Ok-clause-outcome : goal.returns-in-Ok-clause-outcome
-returns-in-Ok-clause-outcome g c = looks_of g.D.Disk c.args.self.now _ c.if-self.false _ (record { writer = c.in-Ok.ensures.outcome; failed = refl; txns = refl; locks = refl; max_pages = refl; report = refl; stepped = refl; under = refl })
+returns-in-Ok-clause-outcome g c = looks_of g.D.Disk c.args.self.now _ c.if-self.false _ (record { writer = c.in-Ok.ensures.outcome; failed = refl; txns = refl; locks = refl; max_pages = refl; dense = refl; report = refl; stepped = refl; under = refl })
 
 pub returns-in-Err-clause-outcome : goal.returns-in-Err-clause-outcome
-returns-in-Err-clause-outcome g c = looks_of g.D.Disk c.args.self.now _ c.if-self.false _ (record { writer = c.in-Err.ensures.outcome; failed = c.breaks-self.ensures; txns = refl; locks = refl; max_pages = refl; report = refl; stepped = refl; under = refl })
+returns-in-Err-clause-outcome g c = looks_of g.D.Disk c.args.self.now _ c.if-self.false _ (record { writer = c.in-Err.ensures.outcome; failed = c.breaks-self.ensures; txns = refl; locks = refl; max_pages = refl; dense = refl; report = refl; stepped = refl; under = refl })
 
 pub returns-in-Ok-clause-kept : goal.returns-in-Ok-clause-kept
 returns-in-Ok-clause-kept g c before s v life =
-    look_kept g.D.Disk before s v c.args.self.now _ life c.if-self.false (record { writer = c.in-Ok.ensures.outcome; failed = refl; txns = refl; locks = refl; max_pages = refl; report = refl; stepped = refl; under = refl })
+    look_kept g.D.Disk before s v c.args.self.now _ life c.if-self.false (record { writer = c.in-Ok.ensures.outcome; failed = refl; txns = refl; locks = refl; max_pages = refl; dense = refl; report = refl; stepped = refl; under = refl })
 
 pub returns-in-Ok-clause-entries : goal.returns-in-Ok-clause-entries
 returns-in-Ok-clause-entries g c before s v life =
@@ -43,7 +43,7 @@ returns-in-Ok-clause-shown g c config from opening told before stands =
 pub returns-in-Err-clause-kept : goal.returns-in-Err-clause-kept
 returns-in-Err-clause-kept g c before s v life =
     look_refused g.D.Disk before s v c.args.self.now _ life c.if-self.false (λ t f le left. g.met.D.Disk.counts_now c.entries.new.disk t f le left) c.in-Err.fault
-    (record { writer = c.in-Err.ensures.outcome; failed = c.breaks-self.ensures; txns = refl; locks = refl; max_pages = refl; report = refl; stepped = refl; under = refl })
+    (record { writer = c.in-Err.ensures.outcome; failed = c.breaks-self.ensures; txns = refl; locks = refl; max_pages = refl; dense = refl; report = refl; stepped = refl; under = refl })
 
 pub returns-in-Err-clause-never : goal.returns-in-Err-clause-never
 returns-in-Err-clause-never g c before s v life =

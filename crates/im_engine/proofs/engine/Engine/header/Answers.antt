@@ -12,11 +12,11 @@ pub returns-then-self-clause-kept : goal.returns-then-self-clause-kept
 returns-then-self-clause-kept g c before s v life = look_barred g.D.Disk before s v c.args.self.now life c.if-self.true (g.met.D.Disk.only_now c.args.self.now.disk)
 
 pub returns-in-Ok-clause-outcome : goal.returns-in-Ok-clause-outcome
-returns-in-Ok-clause-outcome g c = looks_of g.D.Disk c.args.self.now _ c.if-self.false _ (record { writer = read_more g.D.Disk mild refl (search_of g.D.Disk c.in-Ok.ensures.outcome); failed = refl; txns = refl; locks = refl; max_pages = refl; report = refl; stepped = refl; under = refl })
+returns-in-Ok-clause-outcome g c = looks_of g.D.Disk c.args.self.now _ c.if-self.false _ (record { writer = read_more g.D.Disk mild refl (search_of g.D.Disk c.in-Ok.ensures.outcome); failed = refl; txns = refl; locks = refl; max_pages = refl; dense = refl; report = refl; stepped = refl; under = refl })
 
 pub returns-in-Ok-clause-kept : goal.returns-in-Ok-clause-kept
 returns-in-Ok-clause-kept g c before s v life =
-    look_kept g.D.Disk before s v c.args.self.now _ life c.if-self.false (record { writer = read_more g.D.Disk mild refl (search_of g.D.Disk c.in-Ok.ensures.outcome); failed = refl; txns = refl; locks = refl; max_pages = refl; report = refl; stepped = refl; under = refl })
+    look_kept g.D.Disk before s v c.args.self.now _ life c.if-self.false (record { writer = read_more g.D.Disk mild refl (search_of g.D.Disk c.in-Ok.ensures.outcome); failed = refl; txns = refl; locks = refl; max_pages = refl; dense = refl; report = refl; stepped = refl; under = refl })
 
 pub returns-in-Ok-clause-logged : goal.returns-in-Ok-clause-logged
 returns-in-Ok-clause-logged g c b before s v r =
@@ -25,12 +25,12 @@ returns-in-Ok-clause-logged g c b before s v r =
     ∙ ap header_of (c.in-Ok.ensures.kept (pages_of r.now) (pages_to g.D.Disk c.args.page (has_pages g.D.Disk before s v old r)) ∙ page_is g.D.Disk before s v old r c.args.page)
 
 pub returns-in-Err-clause-outcome : goal.returns-in-Err-clause-outcome
-returns-in-Err-clause-outcome g c = looks_of g.D.Disk c.args.self.now _ c.if-self.false _ (record { writer = read_more g.D.Disk mild refl (search_of g.D.Disk c.in-Err.ensures.outcome); failed = c.breaks-self.ensures; txns = refl; locks = refl; max_pages = refl; report = refl; stepped = refl; under = refl })
+returns-in-Err-clause-outcome g c = looks_of g.D.Disk c.args.self.now _ c.if-self.false _ (record { writer = read_more g.D.Disk mild refl (search_of g.D.Disk c.in-Err.ensures.outcome); failed = c.breaks-self.ensures; txns = refl; locks = refl; max_pages = refl; dense = refl; report = refl; stepped = refl; under = refl })
 
 pub returns-in-Err-clause-kept : goal.returns-in-Err-clause-kept
 returns-in-Err-clause-kept g c before s v life =
     look_refused g.D.Disk before s v c.args.self.now _ life c.if-self.false (λ t f le left. g.met.D.Disk.counts_now c.get.new.disk t f le left) c.in-Err.fault
-    (record { writer = read_more g.D.Disk mild refl (search_of g.D.Disk c.in-Err.ensures.outcome); failed = c.breaks-self.ensures; txns = refl; locks = refl; max_pages = refl; report = refl; stepped = refl; under = refl })
+    (record { writer = read_more g.D.Disk mild refl (search_of g.D.Disk c.in-Err.ensures.outcome); failed = c.breaks-self.ensures; txns = refl; locks = refl; max_pages = refl; dense = refl; report = refl; stepped = refl; under = refl })
 
 pub returns-in-Err-clause-never : goal.returns-in-Err-clause-never
 returns-in-Err-clause-never g c before s v life =

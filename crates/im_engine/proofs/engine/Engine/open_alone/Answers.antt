@@ -8,6 +8,7 @@ returns-clause-opening g c =
       plain = is.plain;
       opened = is.opened;
       limit = is.limit;
+      dense = is.dense;
       pool = is.pool;
       group = is.group;
       spelled = is.spelled;
