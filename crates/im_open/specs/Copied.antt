@@ -15,6 +15,7 @@ pub record OnlyItsDisk {D : Type 0} (d : Ghosts D) (old new : OpenStore D d) : T
   pub unkept : new.unkept ≡ old.unkept
   pub writer : new.engine.writer ≡ old.engine.writer
   pub max_pages : new.engine.max_pages ≡ old.engine.max_pages
+  pub dense : new.engine.dense ≡ old.engine.dense
   pub report : new.engine.report ≡ old.engine.report
   pub txns : new.engine.txns ≡ old.engine.txns
   pub locks : new.engine.locks ≡ old.engine.locks

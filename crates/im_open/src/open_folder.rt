@@ -30,7 +30,7 @@ pub fn open_store<R: Threads + Sync>(
 ) -> Result<OpenStore<Files>, NotOpened>
     ensures opened { IfOk result (λ s. IsOpenedHere ⟦<Files as Disk>⟧ config bounds s) }
     ensures works { IfOk result (λ s. (s.engine.failed ≡ false) × (s.engine.txns.rows ≡ [])) }
-    ensures limits { IfOk result (λ s. (s.engine.max_pages ≡ config.max_pages) × (s.engine.writer.pool.frames ≡ config.frames + config.more.frames) × (s.engine.txns.group ≡ config.group)) }
+    ensures limits { IfOk result (λ s. (s.engine.max_pages ≡ config.max_pages) × (s.engine.writer.pool.frames ≡ config.frames + config.more.frames) × (s.engine.txns.group ≡ config.group) × (s.engine.dense ≡ config.dense)) }
     ensures bounds { IfOk result (λ s. s.upkeep.bounds ≡ bounds) }
     ensures causes { IfErr result (λ e. IsOpenRefusal config e) }
 {
@@ -61,6 +61,7 @@ pub fn open<R: Threads + Sync>(
     ensures group { IfOk result (λ e. e.txns.group ≡ config.group) }
     ensures frames { IfOk result (λ e. e.writer.pool.frames ≡ config.frames + config.more.frames) }
     ensures limit { IfOk result (λ e. e.max_pages ≡ config.max_pages) }
+    ensures dense { IfOk result (λ e. e.dense ≡ config.dense) }
     ensures works { IfOk result (λ e. (e.failed ≡ false) × (e.txns.rows ≡ [])) }
     ensures kept { IfOk result (λ e. IsKeptHere ⟦<Files as Disk>⟧ config e) }
     ensures causes { IfErr result (λ e. IsRefusalKept config e) }
@@ -82,6 +83,7 @@ fn opened<R: Threads + Sync>(
     ensures group { IfOk result (λ e. e.txns.group ≡ config.group) }
     ensures frames { IfOk result (λ e. e.writer.pool.frames ≡ config.frames + config.more.frames) }
     ensures limit { IfOk result (λ e. e.max_pages ≡ config.max_pages) }
+    ensures dense { IfOk result (λ e. e.dense ≡ config.dense) }
     ensures works { IfOk result (λ e. (e.failed ≡ false) × (e.txns.rows ≡ [])) }
     ensures kept { IfOk result (λ e. IsKeptHere ⟦<Files as Disk>⟧ config e) }
     ensures causes { IfErr result (λ e. IsRefusalKept config e) }

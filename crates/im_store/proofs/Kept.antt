@@ -142,6 +142,7 @@ module _ {D : Type 0} (d : Ghosts D) where
   pub step_limits : (step : Step) (reply : Reply) (old new : Engine D d) → IsStep d step reply old new → SameLimits d old new
   step_limits step reply old new made = record {
     max_pages = made.max_pages;
+    dense = made.dense;
     frames = made.frames;
     group = ap (λ (k : Known). k.group) made.told.known ∙ after_group (asked_by step) reply (known_of d old);
   }
@@ -149,12 +150,13 @@ module _ {D : Type 0} (d : Ghosts D) where
   pub limits_then : (old mid new : Engine D d) → SameLimits d old mid → SameLimits d mid new → SameLimits d old new
   limits_then old mid new one two = record {
     max_pages = two.max_pages ∙ one.max_pages;
+    dense = two.dense ∙ one.dense;
     frames = two.frames ∙ one.frames;
     group = two.group ∙ one.group;
   }
 
   pub kept_limits : (old new : Engine D d) → IsKeptUp d old new → SameLimits d old new
-  kept_limits old _ none = record { max_pages = refl; frames = refl; group = refl }
+  kept_limits old _ none = record { max_pages = refl; dense = refl; frames = refl; group = refl }
   kept_limits old _ (more mid new step reply before service made) = limits_then old mid new (kept_limits old mid before) (step_limits step reply mid new made)
 
   -- where nothing was active nothing is

@@ -81,6 +81,7 @@ module _ {D : Type 0} (d : Ghosts D) where
   -- The limits of an opening are as they were.
   pub record SameLimits (old new : Engine D d) : Type 0 where
     pub max_pages : new.max_pages ≡ old.max_pages
+    pub dense : new.dense ≡ old.dense
     pub frames : new.writer.pool.frames ≡ old.writer.pool.frames
     pub group : new.txns.group ≡ old.txns.group
 
