@@ -12,14 +12,15 @@ use Rattle.im_store.specs.declared.open_store.OpenStore.{OpenStore}
 
 -- a store that was opened with these limits is what its call asks
 pub opened_on : {D : Type 0} (d : Ghosts D) (asked : Call) (disk : D) (config : Config) (bounds : Bounds) (s : OpenStore D d) → config.frames ≡ asked.limit → config.more.frames ≡ asked.more
-    → config.max_pages ≡ asked.txn → (config.group ≡ true) ↔ (asked.word ≡ 1) → config.workers ≡ 1 → HasBounds asked bounds → IsOpenedStore d config bounds disk (Ok s) → IsOpenedOn d asked disk s
-opened_on d asked disk config bounds s frames more pages group workers bounded opened = record {
+    → config.max_pages ≡ asked.txn → (config.group ≡ true) ↔ (asked.word ≡ 1) → config.workers ≡ 1 → config.dense ≡ true → HasBounds asked bounds → IsOpenedStore d config bounds disk (Ok s) → IsOpenedOn d asked disk s
+opened_on d asked disk config bounds s frames more pages group workers dense bounded opened = record {
   config = config;
   frames = frames;
   more = more;
   max_pages = pages;
   group = group;
   workers = workers;
+  dense = dense;
   bounds = bounds;
   bounded = bounded;
   opened = opened;

@@ -42,7 +42,7 @@ TellsEnd told (Err fault) = Refuses told (number_of fault)
 abbrev pub standing : {D : Type 0} (d : Ghosts D) → Engine D d → List ℕ
 standing d e = active_of d e ∷ dirty_of d e ∷ durable_end_of d e ∷ e.report.point ∷ e.report.applied ∷ (if e.failed then 1 else 0) ∷ []
 
--- A store is what its opening leaves, with the limits and the bounds that are asked.
+-- A store is what its opening leaves, with the limits and the bounds that are asked, and dense splits.
 pub record IsOpenedOn {D : Type 0} (d : Ghosts D) (asked : Call) (disk : D) (s : OpenStore D d) : Type 0 where
   pub config : Config
   pub frames : config.frames ≡ asked.limit
@@ -50,6 +50,7 @@ pub record IsOpenedOn {D : Type 0} (d : Ghosts D) (asked : Call) (disk : D) (s :
   pub max_pages : config.max_pages ≡ asked.txn
   pub group : (config.group ≡ true) ↔ (asked.word ≡ 1)
   pub workers : config.workers ≡ 1
+  pub dense : config.dense ≡ true
   pub bounds : Bounds
   pub bounded : HasBounds asked bounds
   pub opened : IsOpenedStore d config bounds disk (Ok s)

@@ -116,6 +116,7 @@ fn store_of<D: TwoLogs + Drop>(alloc: Global, disk: D, call: &Call) -> Result<Op
         max_pages,
         buffer: BufferSize::OVER_FILES,
         stepped: false,
+        dense: true,
         group: waits(call),
         workers: 1,
     };
