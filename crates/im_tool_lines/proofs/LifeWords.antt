@@ -227,53 +227,62 @@ stepped_lacks = (λ x. omega arith, (λ x. omega arith, (λ x. omega arith, (λ 
 group_lacks : Lacks 32 (codes "group")
 group_lacks = (λ x. omega arith, (λ x. omega arith, (λ x. omega arith, (λ x. omega arith, (λ x. omega arith, tt)))))
 
+dense_lacks : Lacks 32 (codes "dense")
+dense_lacks = (λ x. omega arith, (λ x. omega arith, (λ x. omega arith, (λ x. omega arith, (λ x. omega arith, tt)))))
+
 workers_lacks : Lacks 32 (codes "workers")
 workers_lacks = (λ x. omega arith, (λ x. omega arith, (λ x. omega arith, (λ x. omega arith, (λ x. omega arith, (λ x. omega arith, (λ x. omega arith, tt)))))))
 
 module _ (o : LifeOptions) where
   -- the options after each but the last
   abbrev pub behind_frames : List (List ℕ × OptionSaid)
-  behind_frames = (codes "max", Number o.max_pages) ∷ (codes "fail", Number o.failing_call) ∷ (codes "failread", Number o.failing_read) ∷ (codes "stepped", Word o.stepped) ∷ (codes "group", Word o.group) ∷ (codes "workers", Number o.workers) ∷ []
+  behind_frames = (codes "max", Number o.max_pages) ∷ (codes "fail", Number o.failing_call) ∷ (codes "failread", Number o.failing_read) ∷ (codes "stepped", Word o.stepped) ∷ (codes "group", Word o.group) ∷ (codes "dense", Word o.dense) ∷ (codes "workers", Number o.workers) ∷ []
 
   abbrev pub behind_max : List (List ℕ × OptionSaid)
-  behind_max = (codes "fail", Number o.failing_call) ∷ (codes "failread", Number o.failing_read) ∷ (codes "stepped", Word o.stepped) ∷ (codes "group", Word o.group) ∷ (codes "workers", Number o.workers) ∷ []
+  behind_max = (codes "fail", Number o.failing_call) ∷ (codes "failread", Number o.failing_read) ∷ (codes "stepped", Word o.stepped) ∷ (codes "group", Word o.group) ∷ (codes "dense", Word o.dense) ∷ (codes "workers", Number o.workers) ∷ []
 
   abbrev pub behind_fail : List (List ℕ × OptionSaid)
-  behind_fail = (codes "failread", Number o.failing_read) ∷ (codes "stepped", Word o.stepped) ∷ (codes "group", Word o.group) ∷ (codes "workers", Number o.workers) ∷ []
+  behind_fail = (codes "failread", Number o.failing_read) ∷ (codes "stepped", Word o.stepped) ∷ (codes "group", Word o.group) ∷ (codes "dense", Word o.dense) ∷ (codes "workers", Number o.workers) ∷ []
 
   abbrev pub behind_failread : List (List ℕ × OptionSaid)
-  behind_failread = (codes "stepped", Word o.stepped) ∷ (codes "group", Word o.group) ∷ (codes "workers", Number o.workers) ∷ []
+  behind_failread = (codes "stepped", Word o.stepped) ∷ (codes "group", Word o.group) ∷ (codes "dense", Word o.dense) ∷ (codes "workers", Number o.workers) ∷ []
 
   abbrev pub behind_stepped : List (List ℕ × OptionSaid)
-  behind_stepped = (codes "group", Word o.group) ∷ (codes "workers", Number o.workers) ∷ []
+  behind_stepped = (codes "group", Word o.group) ∷ (codes "dense", Word o.dense) ∷ (codes "workers", Number o.workers) ∷ []
 
   abbrev pub behind_group : List (List ℕ × OptionSaid)
-  behind_group = (codes "workers", Number o.workers) ∷ []
+  behind_group = (codes "dense", Word o.dense) ∷ (codes "workers", Number o.workers) ∷ []
+
+  abbrev pub behind_dense : List (List ℕ × OptionSaid)
+  behind_dense = (codes "workers", Number o.workers) ∷ []
 
   pub not_frames : AreOthers (codes "frames") behind_frames
-  not_frames = (max_lacks, (λ e. absurd (cc)), (fail_lacks, (λ e. absurd (cc)), (failread_lacks, (λ e. absurd (cc)), (stepped_lacks, (λ e. absurd (cc)), (group_lacks, (λ e. absurd (cc)), (workers_lacks, (λ e. absurd (cc)), tt))))))
+  not_frames = (max_lacks, (λ e. absurd (cc)), (fail_lacks, (λ e. absurd (cc)), (failread_lacks, (λ e. absurd (cc)), (stepped_lacks, (λ e. absurd (cc)), (group_lacks, (λ e. absurd (cc)), (dense_lacks, (λ e. absurd (cc)), (workers_lacks, (λ e. absurd (cc)), tt)))))))
 
   pub not_max : AreOthers (codes "max") behind_max
-  not_max = (fail_lacks, (λ e. absurd (cc)), (failread_lacks, (λ e. absurd (cc)), (stepped_lacks, (λ e. absurd (cc)), (group_lacks, (λ e. absurd (cc)), (workers_lacks, (λ e. absurd (cc)), tt)))))
+  not_max = (fail_lacks, (λ e. absurd (cc)), (failread_lacks, (λ e. absurd (cc)), (stepped_lacks, (λ e. absurd (cc)), (group_lacks, (λ e. absurd (cc)), (dense_lacks, (λ e. absurd (cc)), (workers_lacks, (λ e. absurd (cc)), tt))))))
 
   pub not_fail : AreOthers (codes "fail") behind_fail
-  not_fail = (failread_lacks, (λ e. absurd (cc)), (stepped_lacks, (λ e. absurd (cc)), (group_lacks, (λ e. absurd (cc)), (workers_lacks, (λ e. absurd (cc)), tt))))
+  not_fail = (failread_lacks, (λ e. absurd (cc)), (stepped_lacks, (λ e. absurd (cc)), (group_lacks, (λ e. absurd (cc)), (dense_lacks, (λ e. absurd (cc)), (workers_lacks, (λ e. absurd (cc)), tt)))))
 
   pub not_failread : AreOthers (codes "failread") behind_failread
-  not_failread = (stepped_lacks, (λ e. absurd (cc)), (group_lacks, (λ e. absurd (cc)), (workers_lacks, (λ e. absurd (cc)), tt)))
+  not_failread = (stepped_lacks, (λ e. absurd (cc)), (group_lacks, (λ e. absurd (cc)), (dense_lacks, (λ e. absurd (cc)), (workers_lacks, (λ e. absurd (cc)), tt))))
 
   pub not_stepped : AreOthers (codes "stepped") behind_stepped
-  not_stepped = (group_lacks, (λ e. absurd (cc)), (workers_lacks, (λ e. let codes_are : 119 ≡ 115 = ap first_code e in omega (arith, codes_are)), tt))
+  not_stepped = (group_lacks, (λ e. absurd (cc)), (dense_lacks, (λ e. absurd (cc)), (workers_lacks, (λ e. let codes_are : 119 ≡ 115 = ap first_code e in omega (arith, codes_are)), tt)))
 
   pub not_group : AreOthers (codes "group") behind_group
-  not_group = (workers_lacks, (λ e. absurd (cc)), tt)
+  not_group = (dense_lacks, (λ e. absurd (cc)), (workers_lacks, (λ e. absurd (cc)), tt))
+
+  pub not_dense : AreOthers (codes "dense") behind_dense
+  not_dense = (workers_lacks, (λ e. absurd (cc)), tt)
 
 -- a life, option by option
-pub life_spelled : (text second third fourth fifth sixth seventh last : List ℕ) (options : LifeOptions) → IsOption (codes "frames") text (Number options.frames) second → IsOption (codes "max") second (Number options.max_pages) third
+pub life_spelled : (text second third fourth fifth sixth seventh eighth last : List ℕ) (options : LifeOptions) → IsOption (codes "frames") text (Number options.frames) second → IsOption (codes "max") second (Number options.max_pages) third
     → IsOption (codes "fail") third (Number options.failing_call) fourth → IsOption (codes "failread") fourth (Number options.failing_read) fifth → IsOption (codes "stepped") fifth (Word options.stepped) sixth
-    → IsOption (codes "group") sixth (Word options.group) seventh → IsOption (codes "workers") seventh (Number options.workers) last → last ≡ [] → SpellsLife (codes "life" ++ text) options
-life_spelled text second third fourth fifth sixth seventh last options frames most call read stepped group workers end =
-    (text, refl, (second, frames, (third, most, (fourth, call, (fifth, read, (sixth, stepped, (seventh, group, (last, workers, end))))))))
+    → IsOption (codes "group") sixth (Word options.group) seventh → IsOption (codes "dense") seventh (Word options.dense) eighth → IsOption (codes "workers") eighth (Number options.workers) last → last ≡ [] → SpellsLife (codes "life" ++ text) options
+life_spelled text second third fourth fifth sixth seventh eighth last options frames most call read stepped group dense workers end =
+    (text, refl, (second, frames, (third, most, (fourth, call, (fifth, read, (sixth, stepped, (seventh, group, (eighth, dense, (last, workers, end)))))))))
 
 pub none_left : (words : Option (Bor (List ℕ))) → is_some words ≡ true → [] ≡ behind_word words → ⊥
 none_left None some is = absurd (cc)

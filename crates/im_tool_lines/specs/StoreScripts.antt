@@ -47,10 +47,10 @@ abbrev pub SpellsOptions : List (List ℕ × OptionSaid) → List ℕ → Type 0
 SpellsOptions [] text = text ≡ []
 SpellsOptions (option ∷ more) text = (left : List ℕ) × IsOption option.0 text option.1 left × SpellsOptions more left
 
--- The options of a life in their order, each by its name: the number of frames, the most pages, the device call and the read that fail, whether structure changes are made page by page, whether Commits wait for a force, and the number of workers.
+-- The options of a life in their order, each by its name: the number of frames, the most pages, the device call and the read that fail, whether structure changes are made page by page, whether Commits wait for a force, whether splits are dense, and the number of workers.
 abbrev pub named_options : LifeOptions → List (List ℕ × OptionSaid)
 named_options o =
-    (codes "frames", Number o.frames) ∷ (codes "max", Number o.max_pages) ∷ (codes "fail", Number o.failing_call) ∷ (codes "failread", Number o.failing_read) ∷ (codes "stepped", Word o.stepped) ∷ (codes "group", Word o.group) ∷ (codes "workers", Number o.workers) ∷ []
+    (codes "frames", Number o.frames) ∷ (codes "max", Number o.max_pages) ∷ (codes "fail", Number o.failing_call) ∷ (codes "failread", Number o.failing_read) ∷ (codes "stepped", Word o.stepped) ∷ (codes "group", Word o.group) ∷ (codes "dense", Word o.dense) ∷ (codes "workers", Number o.workers) ∷ []
 
 -- `life`, and then its options.
 abbrev pub SpellsLife : List ℕ → LifeOptions → Type 0

@@ -46,7 +46,7 @@ fn usage_of(word: &[u8]) -> &'static str {
         b"raw" => "`raw` stands alone, and not in a script with `life`",
         b"put" => "`put HEX` stands in a life that `raw` begins",
         b"life" =>
-            "`life`, and after it `frames N`, `max N`, `fail N`, `failread N`, `stepped`, `group` and `workers N` in this order, not in a script with `raw`",
+            "`life`, and after it `frames N`, `max N`, `fail N`, `failread N`, `stepped`, `group`, `dense` and `workers N` in this order, not in a script with `raw`",
         b"stop" =>
             "`stop N long|short HEX|written`, where N is `end` or a number, stands last in a life",
         b"calls" => "`calls` stands alone, in a life",

@@ -65,6 +65,7 @@ fn life_line(words: Option<&[u8]>) -> Result<StoreScriptLine, Fault>
     let (failing_read, words) = option_of(b"failread".as_slice(), words)?;
     let (stepped, words) = word_of(b"stepped".as_slice(), words);
     let (group, words) = word_of(b"group".as_slice(), words);
+    let (dense, words) = word_of(b"dense".as_slice(), words);
     let (workers, words) = option_of(b"workers".as_slice(), words)?;
     if words.is_some() {
         return Err(Fault::BadScript);
@@ -76,6 +77,7 @@ fn life_line(words: Option<&[u8]>) -> Result<StoreScriptLine, Fault>
         failing_read,
         stepped,
         group,
+        dense,
         workers,
     }))
 }

@@ -34,6 +34,8 @@ pub struct LifeOptions {
     pub stepped: bool,
     /// Whether a Commit waits for a force.
     pub group: bool,
+    /// Whether the last leaf keeps nearly all of its room where it is split.
+    pub dense: bool,
     /// How many workers share redo; none for as many as the default has.
     pub workers: Option<u64>,
 }

@@ -7,7 +7,7 @@ use im_base_types::FileId;
 /// A line of a script of lives of a store.
 #[derive(Drop)]
 pub enum StoreScriptLine {
-    /// `life [frames N] [max N] [fail N] [failread N] [stepped] [group] [workers N]`: a life of a store.
+    /// `life [frames N] [max N] [fail N] [failread N] [stepped] [group] [dense] [workers N]`: a life of a store.
     Life(LifeOptions),
     /// `set log HEX` or `set pages HEX`: the bytes of that file before the first life.
     Set(FileId, Vec<u8>),
