@@ -38,11 +38,12 @@ number_or n (Some given) = given
 abbrev pub in_32_bits : ℕ → ℕ
 in_32_bits n = if nat_lt n (2 ^ 32) then n else 2 ^ 32 - 1
 
--- What options of a life give an engine: 64 frames, 1,000,000 pages and one worker where they are left out, no frames more, whether structure changes are made page by page, and whether Commits wait. Page numbers have 32 bits.
+-- What options of a life give an engine: 64 frames, 1,000,000 pages and one worker where they are left out, no frames more, whether structure changes are made page by page, whether Commits wait, and whether splits are dense. Page numbers have 32 bits.
 pub record IsConfigOf (options : LifeOptions) (config : Config) : Type 0 where
   pub frames : config.frames ≡ number_or 64 options.frames
   pub more : config.more.frames ≡ 0
   pub max_pages : config.max_pages ≡ in_32_bits (number_or 1000000 options.max_pages)
   pub stepped : config.stepped ≡ options.stepped
   pub group : config.group ≡ options.group
+  pub dense : config.dense ≡ options.dense
   pub workers : config.workers ≡ number_or 1 options.workers

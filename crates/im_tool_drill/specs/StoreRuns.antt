@@ -45,7 +45,7 @@ use Rattle.im_tool_drill.specs.StoreLives.{IsConfigOf, gate_of}
 
 -- a life whose options are left out
 abbrev pub no_options : LifeOptions
-no_options = record { frames = None; max_pages = None; failing_call = None; failing_read = None; stepped = false; group = false; workers = None }
+no_options = record { frames = None; max_pages = None; failing_call = None; failing_read = None; stepped = false; group = false; dense = false; workers = None }
 
 -- Each report among these replies is this one.
 abbrev pub AllReport : RedoReport → List StoreReply → Type 0

@@ -84,7 +84,7 @@ pub fn open_store<T: Threads + Sync>(
 }
 
 /// How an engine is opened by these options: 64 frames, 1,000,000 pages and one worker where they are left out. Structure changes
-/// are made page by page where `stepped` stands there, and Commits wait where `group` does.
+/// are made page by page where `stepped` stands there, Commits wait where `group` does, and splits are dense where `dense` does.
 /// The size of the log's buffer is no option of a life, and no life has more frames than it names.
 pub fn config_of(options: LifeOptions, buffer: BufferSize) -> Config
     ensures config { IsConfigOf options result }
@@ -110,6 +110,7 @@ pub fn config_of(options: LifeOptions, buffer: BufferSize) -> Config
         max_pages,
         buffer,
         stepped: options.stepped,
+        dense: options.dense,
         group: options.group,
         workers,
     }
@@ -226,6 +227,7 @@ pub(crate) fn last_entries<T: Threads + Sync>(
         failing_read: None,
         stepped: false,
         group: false,
+        dense: false,
         workers: None,
     };
     let (found, named) = look(

@@ -67,10 +67,11 @@ pub(crate) fn write_setting<W: Write>(writer: &mut W, setting: Setting) -> io::R
         ""
     };
     let group = if setting.options.group { "group " } else { "" };
+    let dense = if setting.options.dense { "dense " } else { "" };
     let workers = setting.options.workers.unwrap_or(0);
     let buffer = setting.buffer.batches();
     write!(
         writer,
-        "frames {frames} {stepped}{group}workers {workers} buffer {buffer} "
+        "frames {frames} {stepped}{group}{dense}workers {workers} buffer {buffer} "
     )
 }

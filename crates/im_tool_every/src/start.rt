@@ -24,6 +24,7 @@ const PLAIN: LifeOptions = LifeOptions {
     failing_read: None,
     stepped: false,
     group: false,
+    dense: false,
     workers: None,
 };
 
