@@ -8,7 +8,7 @@ use im_tool_user::{MOST_MIB, Options};
 const MIB: u64 = 1_048_576;
 
 /// The limits of the engine: 1,024 frames for a folder and 64 in memory, a million pages, and one worker of redo, where the words say nothing
-/// else. The log of a store in a folder has the buffer that suits files, and its pool the more frames the more pages its file has.
+/// else. The log of a store in a folder has the buffer that suits files, its pool the more frames the more pages its file has, and its splits are dense.
 pub(crate) fn config_of(options: &Options, pages: u64) -> Config {
     let mut config = Config::default();
     if let Some(workers) = options.workers {
@@ -17,6 +17,7 @@ pub(crate) fn config_of(options: &Options, pages: u64) -> Config {
     if options.dir.is_some() {
         config.frames = MOST_FRAMES;
         config.buffer = BufferSize::OVER_FILES;
+        config.dense = true;
     }
     if let Some(frames) = options.frames {
         config.frames = frames as usize;

@@ -17,6 +17,7 @@ const TO_LOOK: Config = Config {
     max_pages: u32::MAX,
     buffer: BufferSize::ONE,
     stepped: false,
+    dense: false,
     group: false,
     workers: 1,
 };
