@@ -125,6 +125,7 @@ fn config_of(mode: Mode) -> Config {
         max_pages: 1_000_000,
         buffer: BufferSize::OVER_FILES,
         stepped: false,
+        dense: false,
         group: mode.groups(),
         workers: 1,
     }

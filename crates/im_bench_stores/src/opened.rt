@@ -26,6 +26,7 @@ pub fn opened<D: Disk + Drop, R: Threads + Sync>(
         max_pages: 1_000_000,
         buffer: BufferSize::ONE,
         stepped: false,
+        dense: false,
         group: false,
         workers: 1,
     };

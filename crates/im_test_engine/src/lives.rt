@@ -161,6 +161,7 @@ fn a_thousand_keys_come_and_go(rt: HostRuntime) -> Result<(), Fail> {
         max_pages: 100,
         buffer: BufferSize::ONE,
         stepped: false,
+        dense: false,
         group: false,
         workers: 1,
     };

@@ -73,6 +73,7 @@ fn few_frames() -> Config {
         max_pages: 1_000,
         buffer: BufferSize::ONE,
         stepped: false,
+        dense: false,
         group: false,
         workers: 1,
     }

@@ -24,6 +24,7 @@ fn grouped<R: Threads + Sync>(rt: &R, alloc: Global) -> Result<Engine<Renamed<Mo
         max_pages: 1_000,
         buffer: BufferSize::ONE,
         stepped: false,
+        dense: false,
         group: true,
         workers: 1,
     };

@@ -45,6 +45,7 @@ fn config(seed: u64) -> Config {
         max_pages: 1_000_000,
         buffer: BufferSize::ONE,
         stepped: seed % 3 == 0,
+        dense: seed % 5 == 0,
         group: seed % 2 == 0,
         workers: 1,
     }

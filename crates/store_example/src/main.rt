@@ -66,6 +66,7 @@ fn config(group: bool) -> Config {
         max_pages: 1_000_000,
         buffer: BufferSize::OVER_FILES,
         stepped: false,
+        dense: true,
         group,
         workers: 1,
     }

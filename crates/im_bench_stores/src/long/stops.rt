@@ -51,6 +51,7 @@ const CONFIG: Config = Config {
     max_pages: 1_000_000,
     buffer: BufferSize::ONE,
     stepped: false,
+    dense: false,
     group: false,
     workers: 1,
 };
