@@ -1,0 +1,4 @@
+pub mod Edge
+pub mod Steps
+pub mod Loaded
+pub mod Laws
