@@ -5,3 +5,4 @@ pub mod Inners
 pub mod Roots
 pub mod Closings
 pub mod Ends
+pub mod Fills

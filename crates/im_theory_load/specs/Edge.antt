@@ -1,7 +1,9 @@
 -- The pages at the right edge of a tree, and what a load keeps from one entry to the next.
-use Rattle.std.specs.Prelude.{◌≡◌, ◌⊎◌, ◌≤◌, ◌<◌, ℕ, suc, List, [], ◌∷◌, length, ◌==◌, if◌then◌else◌}
+use Rattle.std.specs.Prelude.{true, ◌≡◌, ◌⊎◌, ◌≤◌, ◌<◌, ℕ, suc, List, [], ◌∷◌, length, ◌==◌, if◌then◌else◌}
 use Rattle.im_base_types.specs.Keys.{Key, IsBelow}
 use Rattle.im_base_types.specs.Pages.{Entry, Body}
+use Rattle.im_base_types.specs.declared.page_kind.PageKind.TheVariants.{Leaf}
+use Rattle.im_theory_page.specs.Split.{LacksRoom}
 use Rattle.im_theory_tree.specs.Levels.{Pages, height, walk}
 use Rattle.im_theory_tree.specs.Good.{AllOf, IsGoodTree}
 
@@ -37,3 +39,7 @@ pub record Stands (pages : Pages) (at : ℕ → ℕ) (spare : List ℕ) (es : Li
   pub walks : walk pages ≡ es
   pub none_free : (pages 0).prev ≡ 0
   pub some : (height pages ≡ 0) ⊎ (1 ≤ length (pages (at 0)).entries)
+
+-- Each leaf but the last lacks room for an entry with the longest key: of the 4,064 bytes that a page has for cells and slots its entries take more than 3,798.
+abbrev pub AreDense : Pages → Type 0
+AreDense pages = (x : ℕ) → (pages x).kind ≡ Leaf → 1 ≤ (pages x).next → LacksRoom true (pages x).entries

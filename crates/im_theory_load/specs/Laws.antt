@@ -1,15 +1,16 @@
 -- The laws of a load, step by step and at its end.
-use Rattle.std.specs.Prelude.{◌≡◌, ℕ, zero, suc, ◌+◌, List, [], ◌∷◌, ◌++◌, Option, Some}
+use Rattle.std.specs.Prelude.{◌≡◌, ℕ, zero, suc, ◌+◌, ◌≤◌, true, List, [], ◌∷◌, ◌++◌, Option, Some}
 use Rattle.std.specs.FinMap.{empty, entries}
 use Rattle.im_base_types.specs.Changes.{apply}
 use Rattle.im_base_types.specs.Keys.{IsBelow}
 use Rattle.im_base_types.specs.Pages.{Entry, Page}
 use Rattle.im_theory_log.specs.Stores.{StandsFor}
 use Rattle.im_theory_page.specs.Entry.{Rises}
+use Rattle.im_theory_page.specs.Split.{LacksRoom}
 use Rattle.im_theory_tree.specs.Allocations.{initial_bodies}
 use Rattle.im_theory_tree.specs.Levels.{Pages, height}
 use Rattle.im_theory_tree.specs.Theory.{page_tree}
-use Rattle.im_theory_load.specs.Edge.{moved, risen, IsTop, Stands}
+use Rattle.im_theory_load.specs.Edge.{moved, risen, IsTop, Stands, AreDense}
 use Rattle.im_theory_load.specs.Steps.{PutsLast, ClosesLeaf, ClosesInner, RaisesLeaf, RaisesInner}
 use Rattle.im_theory_load.specs.Loaded.{loaded, effects_of, loaded_base, unlogged}
 
@@ -31,6 +32,18 @@ pub record StepsKeep : Type 0 where
       → Becomes new (risen at zero r) (es ++ e ∷ []) 1
   pub raises_inner : (pages new : Pages) (at : ℕ → ℕ) (es : List Entry) (k : ℕ) (front : List Entry) (up : Entry) (l r : ℕ) → Stands pages at [] es → height pages ≡ suc k
       → RaisesInner pages new (suc k) front up l r → Becomes new (risen at (suc k) r) es (suc (suc k))
+
+-- Where a leaf is closed only when it lacks room for an entry with the longest key, each leaf but the last does.
+pub record StepsFill : Type 0 where
+  pub begins : AreDense initial_bodies
+  pub puts : (pages new : Pages) (at : ℕ → ℕ) (es : List Entry) (e : Entry) → Stands pages at [] es → PutsLast pages new at e → AreDense pages → AreDense new
+  pub closes_leaf : (pages new : Pages) (at : ℕ → ℕ) (es : List Entry) (e : Entry) (q : ℕ) → Stands pages at [] es → 1 ≤ height pages → ClosesLeaf pages new at e q
+      → LacksRoom true (pages (at zero)).entries → AreDense pages → AreDense new
+  pub closes_inner : (pages new : Pages) (at : ℕ → ℕ) (es : List Entry) (k : ℕ) (front : List Entry) (up : Entry) (q : ℕ) → Stands pages at [] es → suc (suc k) ≤ height pages
+      → ClosesInner pages new at (suc k) front up q → AreDense pages → AreDense new
+  pub raises_leaf : (pages new : Pages) (at : ℕ → ℕ) (es : List Entry) (e : Entry) (l r : ℕ) → Stands pages at [] es → RaisesLeaf pages new e l r → LacksRoom true (pages 1).entries → AreDense pages → AreDense new
+  pub raises_inner : (pages new : Pages) (at : ℕ → ℕ) (es : List Entry) (k : ℕ) (front : List Entry) (up : Entry) (l r : ℕ) → Stands pages at [] es → height pages ≡ suc k
+      → RaisesInner pages new (suc k) front up l r → AreDense pages → AreDense new
 
 -- Entries in rising order are the map that one effect makes, and where the file has each page with no LSN the empty log is lawful over them, covers the file, and the store stands for that effect.
 pub record EndsStand : Type 0 where
