@@ -65,14 +65,17 @@ loaded_stands pages at es start file s rises is =
       is = sym (append-nil (effects_of es));
     }
 
+-- rising entries, and one more above them
+pub rises_with : (es : List Entry) (e : Entry) → Rises es → IsTop e.0 es → Rises (es ++ e ∷ [])
+rises_with es e rises top =
+    rises_from_ascends (es ++ e ∷ []) (ascends-append es (e ∷ []) (ascends_from_rises es rises) (tt, tt)
+    (AllOf-from (λ (x : Entry). IsBelow x.0 e.0) (λ (x : Entry). AllOf (λ (y : Entry). IsBelow x.0 y.0) (e ∷ [])) (λ x b. (b, tt)) es top))
+
 pub last_enough : LastIsEnough
 last_enough front last e rises below =
     let all = ascends_from_rises (front ++ last ∷ []) rises in
     let top : IsTop e.0 (front ++ last ∷ []) =
     AllOf-append (λ (x : Entry). IsBelow x.0 e.0) front (last ∷ [])
     (AllOf-from (λ (x : Entry). IsBelow x.0 last.0) (λ (x : Entry). IsBelow x.0 e.0) (λ x b. below_trans x.0 last.0 e.0 b below) front (front_below front last [] all))
-    (below, tt) in (
-      top,
-      rises_from_ascends ((front ++ last ∷ []) ++ e ∷ []) (ascends-append (front ++ last ∷ []) (e ∷ []) all (tt, tt)
-          (AllOf-from (λ (x : Entry). IsBelow x.0 e.0) (λ (x : Entry). AllOf (λ (y : Entry). IsBelow x.0 y.0) (e ∷ [])) (λ x b. (b, tt)) (front ++ last ∷ []) top)),
-    )
+    (below, tt) in
+    (top, rises_with (front ++ last ∷ []) e rises top)
