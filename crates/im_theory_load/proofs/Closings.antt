@@ -30,7 +30,7 @@ count_some : (pages : Pages) (spare : List ℕ) → IsGoodTree pages spare → (
 count_some pages spare good none = let clash : Meta ≡ Free = sym good.meta ∙ good.past 0 (omega (arith, none)) in cc
 
 -- a key above all entries is above those of the last leaf
-top_at : (pages : Pages) (at : ℕ → ℕ) (spare : List ℕ) (es : List Entry) (key : Key) → Stands pages at spare es → IsTop key es → IsTop key (pages (at 0)).entries
+pub top_at : (pages : Pages) (at : ℕ → ℕ) (spare : List ℕ) (es : List Entry) (key : Key) → Stands pages at spare es → IsTop key es → IsTop key (pages (at 0)).entries
 top_at pages at spare es key s top =
     let d : ℕ = height pages in
     let w = edge_at pages at s.edge d 0 (omega arith) in

@@ -8,7 +8,7 @@ use Rattle.im_theory_tree.specs.Levels.{Pages, Node, leaves_under, entries_in, t
 use Rattle.im_theory_tree.specs.Changes.{ChangesLeaf}
 use Rattle.im_theory_tree.proofs.Cited.{AllOf-append, AllOf-right, ordered_right, leaves_descend, take_count, leaf_change, entries_around}
 use Rattle.im_theory_tree.proofs.Frame.{AllOf-left}
-use Rattle.im_theory_tree.proofs.Order.{after_reached}
+use Rattle.im_theory_tree.proofs.Order.{after_reached, before_below}
 use Rattle.im_theory_tree.proofs.HalvesLemmas.{after_from}
 use Rattle.im_theory_tree.proofs.LeafSplit.{only_one}
 use Rattle.im_theory_tree.proofs.LeafWalk.{leaf_walk}
@@ -145,3 +145,25 @@ put_step pages new at spare es e s top put =
       };
       tall = tall;
     }
+
+-- a key above those of the last leaf is above all
+pub top_by_leaf : (pages : Pages) (at : ℕ → ℕ) (spare : List ℕ) (es : List Entry) (key : Key) → Stands pages at spare es → IsTop key (pages (at 0)).entries → IsTop key es
+top_by_leaf pages at spare es key s top =
+    let P : Entry → Type 0 = λ e. IsBelow e.0 key in
+    let d : ℕ = height pages in
+    let w = edge_at pages at s.edge d 0 (omega arith) in
+    let left : List Node = w.left in
+    let n : Node = w.node in
+    let leaves = edge_leaves pages d (at 0) w refl in
+    let range = leaf_range pages spare left n s.good leaves in
+    let own : IsTop key (pages n.page).entries = subst (λ x. IsTop key (pages x).entries) (sym w.page) top in
+    let reaches : AtOrAbove n.bound key = ⊎_elim
+    (λ (z : height pages ≡ 0). subst (λ (b : Option Key). AtOrAbove b key) (sym (root_only pages d (at 0) w z)) tt)
+    (λ (l : 1 ≤ length (pages (at 0)).entries).
+    after_reached n.bound (Some key) key
+    (bound_after n.bound (pages n.page).entries key range own (subst (λ x. 1 ≤ length (pages x).entries) (sym w.page) l))
+    (inl refl))
+    s.some in
+    let low = before_below pages left [] n key (subst (AreOrdered pages) leaves s.good.ordered) reaches in
+    subst (IsTop key) (sym (walk_ends pages left n leaves) ∙ s.walks)
+    (AllOf-append P (entries_in pages left) ((pages n.page).entries ++ []) low (AllOf-append P (pages n.page).entries [] own tt))
