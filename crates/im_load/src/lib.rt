@@ -1,8 +1,31 @@
 //! How is a store made of entries that come in rising order, without a log?
 //!
-//! The parts of a load, up to what closes a leaf and a page above the leaves: a page that is held at the right edge (`held`), how a page comes to its
-//! place in the file (`writing`), and what a loader holds (`loader`). `specs/Loading.antt` says what holds from one entry to the next, and
-//! `specs/Files.antt` what a load leaves.
+//! A load: entries in rising key order become the pages of a store, each page written once, and then the log of no record.
+//!
+//! # The contract
+//!
+//! - `Loader::begin` takes files without bytes, and no others. `put` takes an entry whose key, of 1 to 255 bytes, is above all that were taken, and
+//!   answers `false`, with nothing changed, where it is not. `finish` ends the load.
+//! - What has been taken is a good tree at each moment: of its pages those at the right edge are held, one a level, and the file has each
+//!   other one (`HasTaken`). So where `finish` answers, the files are those of a load of just the entries that were taken (`AreLoaded`): pages that
+//!   are a good tree of them, all with LSN 0, and a log of the first generation that begins at LSN 48, with no record. To an engine these
+//!   files stand for one effect, which puts each entry (`im_engine_load`).
+//! - Nothing of this leaves room: a page that is left out, or torn, or written after the sync, or keys that fall, make other pages or none.
+//! - Each leaf but the last takes more than 3,798 of the 4,064 bytes that a page has (`AreDense`): it is closed only when it lacks room for an entry
+//!   with the longest key.
+//! - A stop within, at whatever moment, leaves files whose logs are not made, with whatever bytes of pages, or the loaded ones: only the file of pages
+//!   is written up to its sync (`WritesPages`), and the log is made after that, its byte 0 last. Files without a log that have bytes
+//!   of pages are no store, and an opening says so. The order in which pages are written before the sync is free: that page 0 comes last is a
+//!   custom, of which no fact speaks.
+//! - Refused: `KeyLength`; `Capacity`, where 2^32 - 1 pages or 255 levels are used up; `Memory`; `Device`. After one of the last three the load is of no
+//!   use, and its files are as after a stop.
+//!
+//! # How it goes
+//!
+//! Pages get their numbers as they are begun, so that a leaf names the one after it before it is written. An inner page is begun before the
+//! leaves after it and written when it is closed: its place has zeros until then, and the file never becomes shorter.
+//!
+//! It stands on `im_theory_load` for the steps, on `im_page` for pages, and on `im_log_header` for the log.
 #![tactic(auto)]
 
 mod held;

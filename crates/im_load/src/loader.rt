@@ -1,23 +1,27 @@
 //! A load that goes on, entry by entry.
 
-ghost use Rattle.std.specs.Prelude.{◌≡◌, ◌⊎◌, ◌+◌, ◌≤◌, ◌<◌, false, IfOk, IfErr, OnOk, List, [], ◌∷◌, ◌++◌, true, length, set};
+ghost use Rattle.std.specs.Prelude.{◌≡◌, ◌+◌, ◌≤◌, ◌<◌, false, true, Ok, IfOk, IfErr, OnOk, List, [], ◌∷◌, ◌++◌, length, set, IfSome};
+ghost use Rattle.im_base_types.specs.Keys.{Key};
 ghost use Rattle.im_base_types.specs.Pages.{Entry};
 ghost use Rattle.im_base_types.specs.declared.fault.Fault.TheVariants.{Capacity, Memory, NotAStore};
 ghost use Rattle.im_base_types.specs.declared.file_id.FileId.TheVariants.{Pages};
 ghost use Rattle.im_base_disk.specs.Disk.{Answers};
+ghost use Rattle.im_base_disk.specs.Runs.{Reads};
 ghost use Rattle.im_theory_page.specs.Header.{leaf_body};
 ghost use Rattle.im_theory_page.specs.Split.{LacksRoom};
 ghost use Rattle.im_theory_load.specs.Edge.{IsTop};
 ghost use Rattle.im_theory_load.specs.Steps.{inner_body};
-ghost use Rattle.im_load.specs.Files.{WritesPage};
+ghost use Rattle.im_load.specs.Files.{AreEmpty, AreLoaded, HaveNoLog, WritesPage};
 ghost use Rattle.im_load.specs.Goings.{WritesPages};
 ghost use Rattle.im_load.specs.Held.{says, with_last, held_at};
 ghost use Rattle.im_load.specs.HasTaken.{HasTaken, HasPending};
 
 use crate::held::Held;
 use crate::writing::write_page;
-use im_base_disk::Disk;
-use im_base_types::{Fault, PageNo, Rid};
+use im_base_disk::{Disk, sync};
+use im_base_types::{Fault, FileId, LONGEST_KEY, PageNo, Rid};
+use im_log_header::{Header, make_log};
+use im_page::Page;
 use std::alloc::Global;
 
 /// A load: the last leaf, the inner pages above it up to the root, and how many pages there are.
@@ -66,7 +70,13 @@ impl Loader {
     }
 
     // A root over all that was there and what comes.
-    fn put_root(&mut self, level: u8, left: PageNo, key: &[u8], right: PageNo) -> Result<(), Fault>
+    fn put_root(
+        &mut self,
+        level: u8,
+        left: PageNo,
+        key: &[u8],
+        right: PageNo,
+    ) -> Result<(), Fault>
         requires { 1 ≤ level }
         ensures root { OnOk result (self.new ≡ record self.old { above = self.new.above }) }
         ensures above { OnOk result (self.new.above.items ≡ self.old.above.items ++ (1, record { lsn = 0; body = inner_body level left ((key.now, right) ∷ []) }) ∷ []) }
@@ -106,4 +116,246 @@ impl Loader {
     {
         write_page(disk, number, self.above[i].page())
     }
+
+    // The number of the held page at a place.
+    fn number_above(&self, i: usize) -> PageNo
+        requires { i < length self.now.above.items }
+        ensures { result ≡ (held_at self.now.above.items i).0 }
+    {
+        self.above[i].number()
+    }
+
+    // Closes the last leaf, which is the root: page 1 stands over it and the next one.
+    fn raise_leaf<D: Disk>(&mut self, disk: &mut D, key: &[u8], rid: Rid) -> Result<(), Fault>
+        requires working { D.failed disk.old ≡ false }
+        ensures taken { (es : List Entry) → HasTaken D.Disk self.old disk.old es → self.old.above.items ≡ [] → IsTop key.now es → LacksRoom true self.old.leaf.1.body.entries
+            → OnOk result (HasTaken D.Disk self.new disk.new (es ++ (key.now, rid) ∷ [])) }
+        ensures run { WritesPages D.Disk disk.old disk.new }
+        ensures working { OnOk result (D.failed disk.new ≡ false) }
+    {
+        let left = self.new_page()?;
+        let right = self.new_page()?;
+        self.close_leaf(disk, left, right, key, rid)?;
+        self.put_root(1, left, key, right)?;
+        Ok(())
+    }
+
+    // Closes the root, an inner page: page 1 stands over it and the next one, which has this child.
+    fn raise_inner<D: Disk>(
+        &mut self,
+        disk: &mut D,
+        i: usize,
+        level: u8,
+        key: &[u8],
+        child: PageNo,
+    ) -> Result<(), Fault>
+        requires working { D.failed disk.old ≡ false }
+        requires place { i + 1 ≡ length self.old.above.items }
+        requires level { level ≡ i + 1 }
+        requires low { level < 255 }
+        ensures taken { (es : List Entry) → HasPending D.Disk self.old disk.old es i key.now child → OnOk result (HasTaken D.Disk self.new disk.new es) }
+        ensures run { WritesPages D.Disk disk.old disk.new }
+        ensures working { OnOk result (D.failed disk.new ≡ false) }
+    {
+        let left = self.new_page()?;
+        let right = self.new_page()?;
+        self.write_above(disk, i, left)?;
+        self.begin_inner(i, right, level, child);
+        self.put_root(level + 1, left, key, right)?;
+        Ok(())
+    }
+
+    // Closes an inner page under another: the next one there begins with this child. It answers the next one, which has to be put into the page above.
+    fn close_inner<D: Disk>(
+        &mut self,
+        disk: &mut D,
+        i: usize,
+        level: u8,
+        child: PageNo,
+    ) -> Result<PageNo, Fault>
+        requires working { D.failed disk.old ≡ false }
+        requires place { i + 1 < length self.old.above.items }
+        requires level { level ≡ i + 1 }
+        ensures pending { (es : List Entry) (key : Key) → HasPending D.Disk self.old disk.old es i key child → IfOk result (λ next. HasPending D.Disk self.new disk.new es (i + 1) key next) }
+        ensures same { OnOk result (length self.new.above.items ≡ length self.old.above.items) }
+        ensures run { WritesPages D.Disk disk.old disk.new }
+        ensures working { OnOk result (D.failed disk.new ≡ false) }
+    {
+        let next = self.new_page()?;
+        let number = self.number_above(i);
+        self.write_above(disk, i, number)?;
+        self.begin_inner(i, next, level, child);
+        Ok(next)
+    }
+
+    // Whether the held page at a place has room for a separator of any size.
+    fn is_open(&self, i: usize) -> bool
+        requires { i < length self.now.above.items }
+    {
+        self.above[i].is_open()
+    }
+
+    // Puts a separator, with its child, into the pages above the leaves, from the lowest on: one without room is closed, and it goes on up.
+    fn put_above<D: Disk>(&mut self, disk: &mut D, key: &[u8], child: PageNo) -> Result<(), Fault>
+        requires working { D.failed disk.old ≡ false }
+        ensures taken { (es : List Entry) → HasPending D.Disk self.old disk.old es 0 key.now child → OnOk result (HasTaken D.Disk self.new disk.new es) }
+        ensures run { WritesPages D.Disk disk.old disk.new }
+        ensures working { OnOk result (D.failed disk.new ≡ false) }
+    {
+        let mut child = child;
+        let len = self.above.len();
+        for i in 0..len {
+            if self.is_open(i) {
+                self.put_child(i, key, child)?;
+                return Ok(());
+            }
+            if i >= 254 {
+                return Err(Fault::Capacity);
+            }
+            let level = i as u8 + 1;
+            if i + 1 == len {
+                self.raise_inner(disk, i, level, key, child)?;
+                return Ok(());
+            }
+            child = self.close_inner(disk, i, level, child)?;
+        }
+        Ok(())
+    }
+
+    // Puts an entry into the last leaf, or begins a new one with it.
+    fn take<D: Disk>(&mut self, disk: &mut D, key: &[u8], rid: Rid) -> Result<(), Fault>
+        requires working { D.failed disk.old ≡ false }
+        ensures taken { (es : List Entry) → HasTaken D.Disk self.old disk.old es → IsTop key.now es → OnOk result (HasTaken D.Disk self.new disk.new (es ++ (key.now, rid) ∷ [])) }
+        ensures run { WritesPages D.Disk disk.old disk.new }
+        ensures working { OnOk result (D.failed disk.new ≡ false) }
+    {
+        let open = self.leaf.is_open();
+        if open {
+            self.leaf.put_entry(key, rid)?;
+            return Ok(());
+        }
+        if self.above.len() == 0 {
+            self.raise_leaf(disk, key, rid)?;
+            return Ok(());
+        }
+        let next = self.new_page()?;
+        let number = self.leaf.number();
+        self.close_leaf(disk, number, next, key, rid)?;
+        self.put_above(disk, key, next)?;
+        Ok(())
+    }
+
+    /// Takes an entry, and answers whether it did: it does not, with nothing changed, where the key is not above all that were taken.
+    ///
+    /// Refused `KeyLength`, with nothing changed; `Capacity`, `Memory`, `Device`, after which the load is of no use, and its files are no store.
+    pub fn put<D: Disk>(&mut self, disk: &mut D, key: &[u8], rid: Rid) -> Result<bool, Fault>
+        requires working { D.failed disk.old ≡ false }
+        ensures taken { (es : List Entry) → HasTaken D.Disk self.old disk.old es → result ≡ Ok true → IsTop key.now es × HasTaken D.Disk self.new disk.new (es ++ (key.now, rid) ∷ []) }
+        ensures falls { (es : List Entry) → HasTaken D.Disk self.old disk.old es → result ≡ Ok false → IsTop key.now es → ⊥ }
+        ensures same { result ≡ Ok false → (self.new ≡ self.old) × (disk.new ≡ disk.old) }
+        ensures keyed { IfOk result (λ _. (1 ≤ length key.now) × (length key.now ≤ 255)) }
+        ensures run { WritesPages D.Disk disk.old disk.new }
+        ensures working { OnOk result (D.failed disk.new ≡ false) }
+    {
+        if key.is_empty() || key.len() > LONGEST_KEY {
+            return Err(Fault::KeyLength);
+        }
+        let above = self.leaf.ends_below(key);
+        if !above {
+            return Ok(false);
+        }
+        self.take(disk, key, rid)?;
+        Ok(true)
+    }
+
+    /// Begins a load into files without bytes; none where a file has one. No device call.
+    ///
+    /// Refused `Memory`, `Device`.
+    pub fn begin<D: Disk>(alloc: Global, disk: &mut D) -> Result<Option<Loader>, Fault>
+        requires working { D.failed disk.old ≡ false }
+        ensures begun { IfOk result (λ found. IfSome found (λ l. (D.tells → AreEmpty (D.seen disk.new)) × HasTaken D.Disk l disk.new [])) }
+        ensures reads { Reads D.Disk disk.old disk.new }
+        ensures working { OnOk result (D.failed disk.new ≡ false) }
+    {
+        let empty = are_empty(disk)?;
+        if !empty {
+            return Ok(None);
+        }
+        let leaf = Held::leaf(alloc)?;
+        Ok(Some(Loader {
+            alloc,
+            leaf,
+            above: Vec::new(alloc),
+            count: 2,
+        }))
+    }
+
+    /// Ends the load: the pages that are held are written, page 0 last; the file is synced; and then a log is made, with no record.
+    ///
+    /// Refused `Device`: the files are no store then, or the one that was loaded.
+    pub fn finish<D: Disk>(self, disk: &mut D) -> Result<(), Fault>
+        requires working { D.failed disk.old ≡ false }
+        ensures loaded { (es : List Entry) → HasTaken D.Disk self disk.old es → (D.tells → HaveNoLog (D.seen disk.old)) → OnOk result (D.tells → AreLoaded es (D.seen disk.new)) }
+        ensures working { OnOk result (D.failed disk.new ≡ false) }
+    {
+        self.write_held(disk)?;
+        self.write_meta(disk)?;
+        sync(disk, FileId::Pages)?;
+        let header = Header {
+            generation: 1,
+            base: 48,
+            next: 1,
+        };
+        make_log(disk, FileId::Log, &header)?;
+        Ok(())
+    }
+
+    // Writes the pages that are held.
+    fn write_held<D: Disk>(&self, disk: &mut D) -> Result<(), Fault>
+        requires working { D.failed disk.old ≡ false }
+        ensures run { WritesPages D.Disk disk.old disk.new }
+        ensures working { OnOk result (D.failed disk.new ≡ false) }
+    {
+        write_page(disk, self.leaf.number(), self.leaf.page())?;
+        for i in 0..self.above.len() {
+            let number = self.number_above(i);
+            self.write_above(disk, i, number)?;
+        }
+        Ok(())
+    }
+
+    // Writes the meta page.
+    fn write_meta<D: Disk>(&self, disk: &mut D) -> Result<(), Fault>
+        requires working { D.failed disk.old ≡ false }
+        ensures run { WritesPages D.Disk disk.old disk.new }
+        ensures answers { Answers (D.failed disk.new) result }
+    {
+        let mut meta = Page::initial(0);
+        meta.set_leftmost(self.count);
+        write_page(disk, 0, &meta)
+    }
+}
+
+// A file has no byte.
+fn is_empty<D: Disk>(disk: &mut D, file: FileId) -> Result<bool, Fault>
+    requires { D.failed disk.old ≡ false }
+    ensures empty { result ≡ Ok true → D.tells → D.seen disk.new file ≡ [] }
+    ensures reads { Reads D.Disk disk.old disk.new }
+    ensures answers { Answers (D.failed disk.new) result }
+{
+    let len = disk.len(file)?;
+    Ok(len == 0)
+}
+
+// No file has a byte.
+fn are_empty<D: Disk>(disk: &mut D) -> Result<bool, Fault>
+    requires { D.failed disk.old ≡ false }
+    ensures empty { result ≡ Ok true → D.tells → AreEmpty (D.seen disk.new) }
+    ensures reads { Reads D.Disk disk.old disk.new }
+    ensures answers { Answers (D.failed disk.new) result }
+{
+    let log = is_empty(disk, FileId::Log)?;
+    let pages = is_empty(disk, FileId::Pages)?;
+    let other = is_empty(disk, FileId::Log2)?;
+    Ok(log && pages && other)
 }

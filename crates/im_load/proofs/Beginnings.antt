@@ -1,0 +1,30 @@
+-- Where a load begins: the pages of a new store, of which page 1 is held.
+use Rattle.std.proofs.Common.{◌≡◌, ℕ, ◌*◌, ◌<◌, ◌≤◌, List, [], length, refl, ap, arith}
+use Rattle.im_theory_page.specs.Header.{initial}
+use Rattle.im_theory_tree.specs.Allocations.{initial_bodies}
+use Rattle.im_theory_load.proofs.Closings.{steps_kept}
+use Rattle.im_theory_load.proofs.Fills.{steps_filled}
+use Rattle.im_load.specs.Loading.{Taken}
+
+pub begun_taken : (tells : Type 0) (file : List ℕ) → (tells → file ≡ []) → Taken (1, initial 1) [] 2 tells file []
+begun_taken tells file none = record {
+  pages = initial_bodies;
+  at = λ k. 1;
+  holds = record {
+    stands = steps_kept.begins;
+    rises = λ i j lt within. absurd (let never : j < 0 = within in omega (arith, never));
+    dense = steps_filled.begins;
+    tall = refl;
+    last = refl;
+    plain = λ k lt. absurd (let never : k < 0 = lt in omega (arith, never));
+    meta = refl;
+    past = λ x le. refl;
+    final = λ told. record {
+      many = 0;
+      whole = ap length (none told);
+      few = omega arith;
+      there = λ x some low away. absurd (away 0 (omega arith) (omega (arith, some, low)));
+    };
+  };
+  above_are = λ k lt. absurd (let never : k < 0 = lt in omega (arith, never));
+}
