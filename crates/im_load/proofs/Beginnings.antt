@@ -1,9 +1,10 @@
 -- Where a load begins: the pages of a new store, of which page 1 is held.
-use Rattle.std.proofs.Common.{◌≡◌, ℕ, ◌*◌, ◌<◌, ◌≤◌, List, [], length, refl, ap, arith}
+use Rattle.std.proofs.Common.{◌≡◌, ℕ, ◌*◌, ◌<◌, ◌≤◌, List, [], length, refl, sym, ap, subst, arith}
 use Rattle.im_theory_page.specs.Header.{initial}
 use Rattle.im_theory_tree.specs.Allocations.{initial_bodies}
 use Rattle.im_theory_load.proofs.Closings.{steps_kept}
 use Rattle.im_theory_load.proofs.Fills.{steps_filled}
+use Rattle.im_load.specs.Held.{Numbered}
 use Rattle.im_load.specs.Loading.{Taken}
 
 pub begun_taken : (tells : Type 0) (file : List ℕ) → (tells → file ≡ []) → Taken (1, initial 1) [] 2 tells file []
@@ -28,3 +29,8 @@ begun_taken tells file none = record {
   };
   above_are = λ k lt. absurd (let never : k < 0 = lt in omega (arith, never));
 }
+
+-- the same of a loader that was made so
+pub begun_by : (leaf : Numbered) (above : List Numbered) (tells : Type 0) (file : List ℕ) → leaf ≡ (1, initial 1) → above ≡ [] → (tells → file ≡ []) → Taken leaf above 2 tells file []
+begun_by leaf above tells file leaf_is above_is none =
+    subst (λ (x : Numbered). Taken x above 2 tells file []) (sym leaf_is) (subst (λ (ns : List Numbered). Taken (1, initial 1) ns 2 tells file []) (sym above_is) (begun_taken tells file none))

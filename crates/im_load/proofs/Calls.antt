@@ -3,15 +3,18 @@ use Rattle.std.proofs.Common.{◌≡◌, ℕ, suc, ◌+◌, ◌<◌, ◌≤◌, 
 use Rattle.std.specs.Prelude.{set}
 use Rattle.im_base_types.specs.Keys.{Key}
 use Rattle.im_base_types.specs.Pages.{Entry, Body}
+use Rattle.im_base_types.specs.declared.page_kind.PageKind.TheVariants.{Leaf}
 use Rattle.im_theory_page.specs.Header.{leaf_body}
 use Rattle.im_theory_page.specs.Split.{LacksRoom}
 use Rattle.im_theory_load.specs.Edge.{IsTop}
 use Rattle.im_theory_load.specs.Steps.{inner_body}
 use Rattle.im_load.specs.declared.loader.Loader.{Loader}
 use Rattle.im_load.specs.Files.{WritesPage}
-use Rattle.im_load.specs.Held.{Numbered, says, held_at}
+use Rattle.im_load.specs.Held.{Numbered, says, with_last, held_at}
 use Rattle.im_load.specs.Loading.{Taken, Pending}
+use Rattle.im_load.proofs.Holdings.{pending_put}
 use Rattle.im_load.proofs.Adapters.{leaf_raised_by, leaf_closed_by, inner_closed_by, inner_raised_by}
+use Rattle.im_load.proofs.Lasts.{leaf_kind}
 
 -- a leaf as it is begun
 abbrev new_leaf : ℕ → ℕ → ℕ → Entry → Numbered
@@ -32,6 +35,9 @@ module _ (s0 s1 : Loader) (left : ℕ) (first : left ≡ s0.count) (one : s1 ≡
 
   one_count : s1.count ≡ s0.count + 1
   one_count = ap (λ (l : Loader). l.count) one
+
+  pub one_kind : (tells : Type 0) (file : List ℕ) (es : List Entry) → Taken s0.leaf s0.above.items s0.count tells file es → s1.leaf.1.body.kind ≡ Leaf
+  one_kind tells file es t = ap (λ (l : Numbered). l.1.body.kind) one_leaf ∙ leaf_kind s0.leaf s0.above.items s0.count tells file es t
 
   -- the last leaf is closed under its parent
   pub close_leaf_made : (s2 : Loader) (number : ℕ) (tells : Type 0) (old file : List ℕ) (es : List Entry) (e : Entry) → number ≡ s1.leaf.0 → s2 ≡ record s1 { leaf = new_leaf left s1.leaf.1.lsn number e }
@@ -83,6 +89,9 @@ module _ (s0 s1 : Loader) (left : ℕ) (first : left ≡ s0.count) (one : s1 ≡
     both_count : s2.count ≡ right + 1
     both_count = ap (λ (l : Loader). l.count) next ∙ ap (λ n. n + 1) (sym second)
 
+    pub both_kind : (tells : Type 0) (file : List ℕ) (es : List Entry) → Taken s0.leaf s0.above.items s0.count tells file es → s2.leaf.1.body.kind ≡ Leaf
+    both_kind tells file es t = ap (λ (l : Numbered). l.1.body.kind) both_leaf ∙ leaf_kind s0.leaf s0.above.items s0.count tells file es t
+
     -- the last leaf, which is the root
     pub raise_leaf_made : (s3 s4 : Loader) (tells : Type 0) (old file : List ℕ) (es : List Entry) (e : Entry) → s3 ≡ record s2 { leaf = new_leaf right s2.leaf.1.lsn left e }
         → (tells → WritesPage old file left (says s2.leaf.1 (record s2.leaf.1.body { next = right }))) → s4 ≡ record s3 { above = s4.above } → s4.above.items ≡ s3.above.items ++ new_root 1 left e.0 right ∷ []
@@ -118,3 +127,14 @@ module _ (s0 s1 : Loader) (left : ℕ) (first : left ≡ s0.count) (one : s1 ≡
         let count_is : s4.count ≡ right + 1 = ap (λ (l : Loader). l.count) four ∙ ap (λ (l : Loader). l.count) three ∙ both_count in
         subst (λ (x : Numbered). Taken x s4.above.items s4.count tells file es) leaf_is
         (inner_raised_by s0.leaf s0.above.items s4.above.items s0.count right s4.count tells old file es i key child t highest right_is count_is list_is written0)
+
+-- the separator that waits comes into its page
+pub child_put_made : (s0 s1 : Loader) (tells : Type 0) (file : List ℕ) (es : List Entry) (i : ℕ) (key : Key) (child : ℕ) → s1 ≡ record s0 { above = s1.above }
+    → s1.above.items ≡ set s0.above.items i (with_last (held_at s0.above.items i) (key, child)) → Pending s0.leaf s0.above.items s0.count tells file es i key child
+    → Taken s1.leaf s1.above.items s1.count tells file es
+child_put_made s0 s1 tells file es i key child one are t =
+    let leaf_is : s0.leaf ≡ s1.leaf = sym (ap (λ (l : Loader). l.leaf) one) in
+    let count_is : s0.count ≡ s1.count = sym (ap (λ (l : Loader). l.count) one) in
+    subst (λ (x : Numbered). Taken x s1.above.items s1.count tells file es) leaf_is
+    (subst (λ (ns : List Numbered). Taken s0.leaf ns s1.count tells file es) (sym are)
+    (subst (λ n. Taken s0.leaf (set s0.above.items i (with_last (held_at s0.above.items i) (key, child))) n tells file es) count_is (pending_put s0.leaf s0.above.items s0.count tells file es i key child t)))

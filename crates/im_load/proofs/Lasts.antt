@@ -12,6 +12,7 @@ use Rattle.im_theory_load.specs.Edge.{IsTop}
 use Rattle.im_theory_load.proofs.Puts.{top_by_leaf, top_leaf}
 use Rattle.im_theory_load.proofs.Closings.{top_at}
 use Rattle.im_load.specs.Held.{Numbered}
+use Rattle.im_load.specs.Room.{FitsLongest}
 use Rattle.im_load.specs.Loading.{Taken}
 use Rattle.im_load.proofs.Holdings.{apart_of}
 
@@ -21,14 +22,14 @@ leaf_kind leaf above count tells file es t =
 
 -- a leaf without room for an entry with the longest key
 pub lacks_by : (leaf : Numbered) (open_is : Bool) → leaf.1.body.kind ≡ Leaf → open_is ≡ false
-    → (IsTrue open_is ↔ (taken (is_leaf_kind leaf.1.body.kind) leaf.1.body.entries + (1 + 255 + width (is_leaf_kind leaf.1.body.kind) + 2) ≤ 4064)) → LacksRoom true leaf.1.body.entries
-lacks_by leaf open_is kind no says =
+    → (IsTrue open_is ↔ FitsLongest leaf.1) → LacksRoom true leaf.1.body.entries
+lacks_by leaf open_is kind closed says =
     let es : List Entry = leaf.1.body.entries in
     let same : is_leaf_kind leaf.1.body.kind ≡ true = ap is_leaf_kind kind in
     let exact : IsTrue open_is ↔ (taken true es + (1 + 255 + width true + 2) ≤ 4064) = subst (λ (k : Bool). IsTrue open_is ↔ (taken k es + (1 + 255 + width k + 2) ≤ 4064)) same says in
     ⊎_elim
     (λ (less : 4064 < taken true es + (1 + 255 + width true + 2)). less)
-    (λ (fits : taken true es + (1 + 255 + width true + 2) ≤ 4064). absurd (let yes : open_is ≡ true = exact.1 fits in let clash : false ≡ true = sym no ∙ yes in cc clash))
+    (λ (fits : taken true es + (1 + 255 + width true + 2) ≤ 4064). absurd (let opened : open_is ≡ true = exact.1 fits in let clash : false ≡ true = sym closed ∙ opened in cc clash))
     (cases_lt 4064 (taken true es + (1 + 255 + width true + 2)))
 
 -- a key above those of the last leaf is above all

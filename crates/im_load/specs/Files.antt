@@ -22,16 +22,24 @@ AreEmpty files = HaveNoLog files × (files Pages ≡ [])
 abbrev pub AreHalf : Files → Type 0
 AreHalf files = IsUnmade (files Log) × (files Log2 ≡ [])
 
--- The files that a load of these entries makes: pages that are a good tree of them, with no LSN, each leaf but the last full to 93 percent; and a log of the first generation that begins at LSN 48, with no record.
-pub record AreLoaded (es : List Entry) (files : Files) : Type 0 where
+-- The file of pages that a load of these entries makes: a good tree of them, with no LSN, each leaf but the last full to 93 percent.
+pub record ArePages (es : List Entry) (file : List ℕ) : Type 0 where
   pub pages : levels.Pages
   pub at : ℕ → ℕ
   pub stands : Stands pages at [] es
   pub rises : Rises es
   pub dense : AreDense pages
-  pub file : (p : ℕ) → file_page (files Pages) p ≡ Some (unlogged pages p)
+  pub each : (p : ℕ) → file_page file p ≡ Some (unlogged pages p)
+
+-- The files that a load of these entries makes: its pages, and a log of the first generation that begins at LSN 48, with no record.
+pub record AreLoaded (es : List Entry) (files : Files) : Type 0 where
+  pub tree : ArePages es (files Pages)
   pub log : IsEmptyLog 1 48 1 (files Log)
   pub other : files Log2 ≡ []
+
+-- What a stop within the end of a load of these entries leaves: a half, or the whole.
+abbrev pub AreLeft : List Entry → Files → Type 0
+AreLeft es files = AreHalf files ⊎ AreLoaded es files
 
 -- The file has whole pages, so many.
 abbrev pub HasPages : List ℕ → ℕ → Type 0

@@ -1,10 +1,15 @@
--- What a loader has taken.
-use Rattle.std.specs.Prelude.{ℕ, List}
+-- What a loader has taken, and how its calls are refused.
+use Rattle.std.specs.Prelude.{◌≡◌, ◌⊎◌, ℕ, ◌≤◌, List, length}
 use Rattle.im_base_types.specs.Keys.{Key}
 use Rattle.im_base_types.specs.Pages.{Entry}
+use Rattle.im_base_types.specs.declared.fault.Fault.{Fault}
+use Rattle.im_base_types.specs.declared.fault.Fault.TheVariants.{Memory, Capacity, NotAStore}
 use Rattle.im_base_types.specs.declared.file_id.FileId.TheVariants.{Pages}
 use Rattle.im_base_disk.specs.declared.disk.Disk.{Ghosts}
+use Rattle.im_base_disk.specs.Runs.{IsSynced}
 use Rattle.im_load.specs.declared.loader.Loader.{Loader}
+use Rattle.im_load.specs.Files.{HaveNoLog}
+use Rattle.im_load.specs.Goings.{WritesPages}
 use Rattle.im_load.specs.Loading.{Taken, Pending}
 
 -- The load has taken these entries.
@@ -14,3 +19,18 @@ HasTaken d l disk es = Taken l.leaf l.above.items l.count d.tells (d.seen disk P
 -- It has, but that the held page at place i lacks its last separator.
 abbrev pub HasPending : {D : Type 0} → Ghosts D → Loader → D → List Entry → ℕ → Key → ℕ → Type 0
 HasPending d l disk es i key child = Pending l.leaf l.above.items l.count d.tells (d.seen disk Pages) es i key child
+
+-- A load that began on disk `from`, whose files had no log and were all on the disk, has taken these entries, and goes on.
+pub record IsLoading {D : Type 0} (d : Ghosts D) (from : D) (l : Loader) (disk : D) (es : List Entry) : Type 0 where
+  pub taken : HasTaken d l disk es
+  pub synced : IsSynced d from
+  pub bare : d.tells → HaveNoLog (d.seen from)
+  pub run : WritesPages d from disk
+
+-- No number is left for another page, or there are as many levels as pages may have.
+abbrev pub IsUsedUp : Loader → Type 0
+IsUsedUp l = (l.count ≡ 4294967295) ⊎ (255 ≤ length l.above.items)
+
+-- How a call of a loader may be refused, `Device` aside. `NotAStore` is of loads that have not taken what they say: `none` is what a caller knows who is answered it.
+abbrev pub Refuses : Loader → Type 0 → Fault → Type 0
+Refuses l none e = (e ≡ Memory) ⊎ ((e ≡ Capacity) × IsUsedUp l) ⊎ ((e ≡ NotAStore) × none)

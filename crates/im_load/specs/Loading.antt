@@ -21,6 +21,13 @@ pub record HasFinal (pages : Pages) (at : ℕ → ℕ) (levels count : ℕ) (fil
   pub few : many ≤ count
   pub there : (x : ℕ) → 1 ≤ x → x < count → ((k : ℕ) → k ≤ levels → x ≢ at k) → (x < many) × (file_page file x ≡ Some (unlogged pages x))
 
+-- The same of each page that none of the levels from `from` on holds: the lower ones were written.
+pub record HasWritten (pages : Pages) (at : ℕ → ℕ) (from levels count : ℕ) (file : List ℕ) : Type 0 where
+  pub many : ℕ
+  pub whole : HasPages file many
+  pub few : many ≤ count
+  pub there : (x : ℕ) → 1 ≤ x → x < count → ((k : ℕ) → from ≤ k → k ≤ levels → x ≢ at k) → (x < many) × (file_page file x ≡ Some (unlogged pages x))
+
 -- fields that an inner page of a load does not use
 pub record IsPlain (b : Body) : Type 0 where
   pub marked : b.marked ≡ false

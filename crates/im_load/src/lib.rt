@@ -4,21 +4,21 @@
 //!
 //! # The contract
 //!
-//! - `Loader::begin` takes files without bytes, and no others. `put` takes an entry whose key, of 1 to 255 bytes, is above all that were taken, and
-//!   answers `false`, with nothing changed, where it is not. `finish` ends the load.
+//! - `load` is a load of entries that are at hand. `Loader` is one entry by entry: `begin` takes files without bytes, and no others; `put` takes an entry whose
+//!   key, of 1 to 255 bytes, is above all that were taken, and answers `false`, with nothing changed, where it is not; `finish` ends the load.
 //! - What has been taken is a good tree at each moment: of its pages those at the right edge are held, one a level, and the file has each
-//!   other one (`HasTaken`). So where `finish` answers, the files are those of a load of just the entries that were taken (`AreLoaded`): pages that
-//!   are a good tree of them, all with LSN 0, and a log of the first generation that begins at LSN 48, with no record. To an engine these
-//!   files stand for one effect, which puts each entry (`im_engine_load`).
+//!   other one (`HasTaken`, and `IsLoading` since the disk that the load began on). So where `finish` answers, the files are those of a load of just the entries
+//!   that were taken (`AreLoaded`): pages that are a good tree of them, all with LSN 0, and a log of the first generation that begins at LSN 48, with no record, all
+//!   of it on the disk. To an engine these files stand for one effect, which puts each entry (`im_engine_load`).
 //! - Nothing of this leaves room: a page that is left out, or torn, or written after the sync, or keys that fall, make other pages or none.
 //! - Each leaf but the last takes more than 3,798 of the 4,064 bytes that a page has (`AreDense`): it is closed only when it lacks room for an entry
 //!   with the longest key.
-//! - A stop within, at whatever moment, leaves files whose logs are not made, with whatever bytes of pages, or the loaded ones: only the file of pages
+//! - A stop within, at whatever moment, leaves files whose logs are not made, with whatever bytes of pages (`AreHalf`), or the loaded ones: only the file of pages
 //!   is written up to its sync (`WritesPages`), and the log is made after that, its byte 0 last. Files without a log that have bytes
 //!   of pages are no store, and an opening says so. The order in which pages are written before the sync is free: that page 0 comes last is a
 //!   custom, of which no fact speaks.
-//! - Refused: `KeyLength`; `Capacity`, where 2^32 - 1 pages or 255 levels are used up; `Memory`; `Device`. After one of the last three the load is of no
-//!   use, and its files are as after a stop.
+//! - Refused: `KeyLength`, with nothing changed; `Capacity`, only where 2^32 - 1 pages or 255 levels are used up; `Memory`; `Device`, just where the disk failed. After one
+//!   of the last three the load is of no use, and its files are as after a stop. A loader that has taken what it says answers no other refusal (`Refuses`).
 //!
 //! # How it goes
 //!
@@ -30,6 +30,8 @@
 
 mod held;
 mod loader;
+mod whole;
 mod writing;
 
 pub use loader::Loader;
+pub use whole::{Ending, load};
