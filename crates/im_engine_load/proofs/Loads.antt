@@ -1,7 +1,10 @@
 -- Loaded files as an engine sees them.
-use Rattle.std.proofs.Common.{◌≡◌, ◌⊎◌, inl, inr, ⊎_elim, ℕ, ◌+◌, ◌^◌, ◌<◌, ◌≤◌, Bool, true, false, List, [], length, Some, refl, sym, ◌∙◌, ap, subst, arith}
-use Rattle.std.specs.FinMap.{empty}
-use Rattle.im_base_types.specs.Changes.{apply}
+use Rattle.std.proofs.Common.{◌≡◌, ◌⊎◌, inl, inr, ⊎_elim, ℕ, ◌+◌, ◌^◌, ◌<◌, ◌≤◌, Bool, true, false, List, [], ◌∷◌, length, Some, refl, sym, ◌∙◌, ap, subst, arith}
+use Rattle.std.proofs.lemmas.Bool.{cases_lt}
+use Rattle.std.specs.Prelude.{Result, Ok, Err, IfOk, IfErr}
+use Rattle.std.specs.FinMap.{empty, entries}
+use Rattle.im_base_types.specs.declared.fault.Fault.{Fault}
+use Rattle.im_base_types.specs.Changes.{Effect, apply, apply_all}
 use Rattle.im_base_types.specs.Pages.{Entry}
 use Rattle.im_base_types.specs.declared.file_id.FileId.TheVariants.{Log, Pages, Log2}
 use Rattle.im_base_disk.specs.Disk.{Files}
@@ -17,21 +20,18 @@ use Rattle.im_log.proofs.Creations.{blank_has, not_both}
 use Rattle.im_restart.specs.Restart.{HasStore, IsFresh, SpellsLog}
 use Rattle.im_theory_page.specs.PageFile.{file_page}
 use Rattle.im_theory_load.specs.Loaded.{loaded, effects_of, loaded_base}
-use Rattle.im_theory_load.proofs.Ends.{loaded_stands}
+use Rattle.im_theory_load.proofs.Ends.{entries_are, loaded_stands}
 use Rattle.im_engine.specs.Stands.{StandsFor, SpellsCurrent}
 use Rattle.im_engine.proofs.Fresh.{fresh_stands}
-use Rattle.im_load.specs.Files.{AreHalf, AreLoaded}
-use Rattle.im_engine_load.specs.Laws.{LoadsStand}
+use Rattle.im_load.specs.Files.{AreHalf, AreLoaded, AreLeft}
+use Rattle.im_load.proofs.Finishes.{none_made}
+use Rattle.im_engine_load.specs.Laws.{IsStoreOrNone, LoadsStand}
 
 abbrev header : Header
 header = record { generation = 1; base = 48; next = 1 }
 
 ranged : IsHeader header
 ranged = record { some = omega arith; last = omega arith; low = omega arith; numbered = omega arith }
-
--- a file without bytes is no log
-none_made : (file : List ℕ) → file ≡ [] → IsUnmade file
-none_made file is = inl (omega (arith, ap length is))
 
 module _ (file : List ℕ) (is : IsEmptyLog 1 48 1 file) where
   says : gate_header.Says 47 1 48 1 file
@@ -45,13 +45,14 @@ module _ (file : List ℕ) (is : IsEmptyLog 1 48 1 file) where
 
 loads_stand : (es : List Entry) (files : Files) → AreLoaded es files → StandsFor (effects_of es) files
 loads_stand es files l =
-    let sound = loaded_stands l.pages l.at es 0 (file_page (files Pages)) l.stands l.rises l.file in
+    let t = l.tree in
+    let sound = loaded_stands t.pages t.at es 0 (file_page (files Pages)) t.stands t.rises t.each in
     let other : IsUnmade (files Log2) = none_made (files Log2) l.other in
     let newer : generation_of (files Log2) < generation_of (files Log) = omega (arith, (says (files Log) l.log).generation, (unmade (files Log2) other).generation) in
     record {
       swapped = false;
       current = inl newer;
-      b = loaded_base l.pages (apply empty (loaded es)) 0;
+      b = loaded_base t.pages (apply empty (loaded es)) 0;
       base = 48;
       start = omega arith;
       counted = λ z. absurd (omega (arith, z));
@@ -68,6 +69,13 @@ loads_stand es files l =
       is = sound.is;
     }
 
+effects_make : (es : List Entry) → apply_all empty (effects_of es) ≡ apply empty (loaded es)
+effects_make [] = refl
+effects_make (e ∷ es) = refl
+
+are : (es : List Entry) (files : Files) → AreLoaded es files → entries (apply_all empty (effects_of es)) ≡ es
+are es files l = ap entries (effects_make es) ∙ entries_are es l.tree.rises
+
 -- a half of a load spells no log
 no_log : (swapped : Bool) (files : Files) → AreHalf files → IsUnmade (named swapped files Log)
 no_log true files h = none_made (files Log2) h.1
@@ -83,9 +91,33 @@ halves files h some s = ⊎_elim
     (λ spelled. not_both (named s.swapped files Log) spelled.1.made (no_log s.swapped files h))
     s.spells
 
+bare : (files : Files) → AreHalf files → length (files Pages) ≡ 0 → StandsFor [] files
+bare files h none = fresh_stands files (h.0, none) (none_made (files Log2) h.1)
+
+left : (es : List Entry) (files : Files) → AreLeft es files → IsStoreOrNone es files
+left es files (inl half) = ⊎_elim
+    (λ (none : length (files Pages) < 1). inr (inl (bare files half (omega (arith, none)))))
+    (λ (some : 1 ≤ length (files Pages)). inl (halves files half some))
+    (cases_lt (length (files Pages)) 1)
+left es files (inr whole) = inr (inr (loads_stand es files whole))
+
 pub loads_are_stores : LoadsStand
 loads_are_stores = record {
   stands = loads_stand;
+  are = are;
   halves = halves;
-  bare = λ files h none. fresh_stands files (h.0, none) (none_made (files Log2) h.1);
+  bare = bare;
+  left = left;
 }
+
+-- who shows what files stand for shows the entries of a load
+pub shows_loaded : (es list : List Entry) (files : Files) → AreLoaded es files → ((before : List Effect) → StandsFor before files → list ≡ entries (apply_all empty before)) → list ≡ es
+shows_loaded es list files l shows = shows (effects_of es) (loads_stand es files l) ∙ are es files l
+
+pub ok_on : {A : Type 0} (r : Result A Fault) (P Q : A → Type 0) → ((a : A) → P a → Q a) → IfOk r P → IfOk r Q
+ok_on {A} (Ok a) P Q so p = so a p
+ok_on {A} (Err e) P Q so p = tt
+
+pub err_on : {A : Type 0} (r : Result A Fault) (P Q : Fault → Type 0) → ((e : Fault) → P e → Q e) → IfErr r P → IfErr r Q
+err_on {A} (Ok a) P Q so p = tt
+err_on {A} (Err e) P Q so p = so e p
