@@ -5,7 +5,7 @@ use im_base_model_disk::ModelDisk;
 use im_base_two_logs::Renamed;
 use im_base_types::{Fault, FileId, Key, Rid};
 use im_engine::{Config, Engine};
-use im_load::Loader;
+use im_load::{Ending, Loader, load as load_all};
 use std::alloc::Global;
 use std::process::Abort;
 use std::test::Fail;
@@ -148,5 +148,33 @@ fn a_half(rt: HostRuntime) -> Result<(), Fail> {
     }
     assert!(&rt; disk.end(FileId::Log) == 0);
     assert!(&rt; opened(alloc, &disk).is_err());
+    Ok(())
+}
+
+// Entries of one letter each.
+fn letters(alloc: Global, keys: &[u8]) -> Result<Vec<(Key, Rid)>, Fail> {
+    let mut entries = Vec::new(alloc);
+    for key in keys {
+        entries.push((Key::new(&[*key])?, 7))?;
+    }
+    Ok(entries)
+}
+
+// Entries that are all at hand, in one call.
+#[test]
+fn at_once(rt: HostRuntime) -> Result<(), Fail> {
+    let alloc = rt.alloc();
+    let mut disk = empty_disk(alloc);
+    let ending = load_all(alloc, &mut disk, &letters(alloc, b"abc")?)?;
+    assert!(&rt; ending == Ending::Loaded);
+    let mut engine = opened(alloc, &disk)?;
+    assert!(&rt; engine.entries(alloc)?.len() == 3);
+    let again = load_all(alloc, &mut disk, &letters(alloc, b"d")?)?;
+    assert!(&rt; again == Ending::NotEmpty);
+    let mut other = empty_disk(alloc);
+    let falls = load_all(alloc, &mut other, &letters(alloc, b"acb")?)?;
+    assert!(&rt; falls == Ending::NotRising);
+    let mut new = opened(alloc, &other)?;
+    assert!(&rt; new.entries(alloc)?.len() == 0);
     Ok(())
 }
