@@ -51,6 +51,15 @@ fn opened(alloc: Global, disk: &ModelDisk) -> Result<Engine<Renamed<ModelDisk>>,
     }
 }
 
+// How an opening is refused, if it is.
+fn refusal(alloc: Global, disk: &ModelDisk) -> Result<Option<Fault>, Fail> {
+    let disk = Renamed::new(disk.after_stop(alloc)?, false);
+    match Engine::open_alone(alloc, disk, Config::default()) {
+        Ok(_engine) => Ok(None),
+        Err((fault, _disk)) => Ok(Some(fault)),
+    }
+}
+
 // The entries are those of a load.
 fn are_loaded(alloc: Global, entries: &[(Key, Rid)], len: usize) -> Result<bool, Fail> {
     let mut wanted = first_key(alloc, len)?;
@@ -147,7 +156,7 @@ fn a_half(rt: HostRuntime) -> Result<(), Fail> {
         loader.put(&mut disk, &key, 7)?;
     }
     assert!(&rt; disk.end(FileId::Log) == 0);
-    assert!(&rt; opened(alloc, &disk).is_err());
+    assert!(&rt; refusal(alloc, &disk)? == Some(Fault::NotAStore));
     Ok(())
 }
 
