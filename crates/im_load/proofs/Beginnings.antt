@@ -1,5 +1,5 @@
 -- Where a load begins: the pages of a new store, of which page 1 is held.
-use Rattle.std.proofs.Common.{◌≡◌, ℕ, ◌*◌, ◌<◌, ◌≤◌, List, [], length, refl, sym, ap, subst, arith}
+use Rattle.std.proofs.Common.{◌≡◌, ℕ, ◌<◌, List, [], length, refl, sym, ap, subst, arith}
 use Rattle.im_theory_page.specs.Header.{initial}
 use Rattle.im_theory_tree.specs.Allocations.{initial_bodies}
 use Rattle.im_theory_load.proofs.Closings.{steps_kept}

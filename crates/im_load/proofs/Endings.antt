@@ -1,12 +1,12 @@
 -- The end of a load: the pages that are held are written, and then page 0.
-use Rattle.std.proofs.Common.{◌≡◌, ◌≢◌, ◌⊎◌, ℕ, zero, suc, ◌+◌, ◌*◌, ◌<◌, ◌≤◌, max, List, [], length, Some, refl, sym, ◌∙◌, ap, subst, arith, ⊎_elim, inl, inr}
+use Rattle.std.proofs.Common.{◌≡◌, ℕ, zero, suc, ◌+◌, ◌<◌, ◌≤◌, max, List, length, Some, sym, ◌∙◌, ap, subst, arith, ⊎_elim}
 use Rattle.std.proofs.lemmas.Bool.{cases_eq, cases_lt}
 use Rattle.im_base_types.specs.Pages.{Entry, Body, Page}
 use Rattle.im_theory_page.specs.Header.{initial, empty_body}
 use Rattle.im_base_types.specs.declared.page_kind.PageKind.TheVariants.{Meta}
 use Rattle.im_theory_page.specs.PageFile.{file_page}
 use Rattle.im_theory_page.proofs.PageFileLemmas.{page_past}
-use Rattle.im_theory_tree.specs.Levels.{Pages, height}
+use Rattle.im_theory_tree.specs.Levels.{Pages}
 use Rattle.im_theory_load.specs.Loaded.{unlogged}
 use Rattle.im_load.specs.Files.{HasPages, WritesPage, ArePages}
 use Rattle.im_load.specs.Held.{Numbered, held_at}

@@ -1,12 +1,11 @@
 -- A file of pages that grows by pages of zeros, and by a page at its place.
-use Rattle.std.proofs.Common.{◌≡◌, ◌≢◌, ◌⊎◌, ℕ, ◌+◌, ◌-◌, ◌*◌, ◌/◌, ◌<◌, ◌≤◌, max, min, List, ◌++◌, length, take, drop, length-take, length-drop, length-append, refl, sym, ◌∙◌, ap, subst, arith, ⊎_elim, Some}
+use Rattle.std.proofs.Common.{◌≡◌, ℕ, ◌+◌, ◌*◌, ◌/◌, ◌<◌, ◌≤◌, max, List, ◌++◌, length, take, drop, length-take, length-drop, length-append, refl, sym, ◌∙◌, ap, arith, ⊎_elim, Some}
 use Rattle.std.proofs.lemmas.Bool.{cases_lt}
 use Rattle.im_base_types.specs.Pages.{Page}
 use Rattle.im_base_disk.specs.Disk.{Holds}
 use Rattle.im_theory_page.specs.Page.{page_of}
-use Rattle.im_theory_page.specs.PageFile.{file_page}
 use Rattle.im_theory_page.proofs.PageFileLemmas.{same_before, same_behind, written_here, written_before, written_behind}
-use Rattle.im_load.specs.Files.{HasPages, Fills, WritesPage}
+use Rattle.im_load.specs.Files.{Fills, WritesPage}
 
 -- how long a file is after a write at a place within it
 pub long_after : (old new bytes : List ℕ) (at : ℕ) → at ≤ length old → Holds at bytes old new → length new ≡ max (length old) (at + length bytes)

@@ -1,5 +1,5 @@
 -- Parts of a load, one after another.
-use Rattle.std.proofs.Common.{◌≡◌, ◌≢◌, ℕ, ◌+◌, ◌≤◌, List, refl, ap}
+use Rattle.std.proofs.Common.{ℕ, refl}
 use Rattle.im_base_types.specs.declared.file_id.FileId.TheVariants.{Pages}
 use Rattle.im_base_disk.specs.declared.disk.Disk.{Ghosts}
 use Rattle.im_base_disk.specs.Disk.{Files, InFile, Torn, Stepped}

@@ -1,27 +1,23 @@
 -- Pages with four of them changed; how what is held goes on, step by step.
-use Rattle.std.proofs.Common.{◌≡◌, ◌≢◌, ◌⊎◌, ℕ, zero, suc, ◌+◌, ◌-◌, ◌*◌, ◌<◌, ◌≤◌, max, true, false, List, [], ◌∷◌, ◌++◌, length, Some, refl, sym, ◌∙◌, ap, subst, arith, ⊎_elim, inl, inr, ◌==◌}
+use Rattle.std.proofs.Common.{◌≡◌, ◌≢◌, ◌⊎◌, ℕ, zero, suc, ◌+◌, ◌-◌, ◌<◌, ◌≤◌, max, true, List, [], ◌∷◌, ◌++◌, length, Some, refl, sym, ◌∙◌, ap, subst, arith, ⊎_elim, inl, inr, ◌==◌}
 use Rattle.std.proofs.lemmas.Bool.{cases_eq, cases_lt, cond-true, cond-false, eq-eqb, ne_eqb}
 use Rattle.std.proofs.lemmas.List.{get_or-set_same, get_or-set_other, length-set}
 use Rattle.std.specs.Prelude.{set}
 use Rattle.im_base_types.specs.Keys.{Key}
 use Rattle.im_base_types.specs.Pages.{Entry, Body, Page}
-use Rattle.im_base_types.specs.declared.page_kind.PageKind.TheVariants.{Meta}
 use Rattle.im_theory_log.specs.Tree.{with_body}
-use Rattle.im_theory_page.specs.Entry.{Rises}
-use Rattle.im_theory_page.specs.Header.{initial, empty_body, leaf_body}
+use Rattle.im_theory_page.specs.Header.{initial, leaf_body}
 use Rattle.im_theory_page.specs.PageFile.{file_page}
 use Rattle.im_theory_page.specs.Split.{LacksRoom}
-use Rattle.im_theory_tree.specs.Allocations.{initial_bodies}
 use Rattle.im_theory_tree.specs.Levels.{Pages, height}
-use Rattle.im_theory_load.specs.Edge.{moved, risen, IsTop, Stands, AreDense}
+use Rattle.im_theory_load.specs.Edge.{moved, IsTop, Stands}
 use Rattle.im_theory_load.specs.Loaded.{unlogged}
-use Rattle.im_theory_load.specs.Steps.{appended, counted, inner_body, raised, ClosesLeaf, ClosesInner}
+use Rattle.im_theory_load.specs.Steps.{appended, counted, inner_body, ClosesLeaf, ClosesInner}
 use Rattle.im_theory_load.proofs.Edges.{Apart, edge_apart, moved_here, moved_off}
-use Rattle.im_theory_load.proofs.Roots.{risen_top, risen_here, risen_low}
 use Rattle.im_theory_load.proofs.Closings.{steps_kept}
 use Rattle.im_theory_load.proofs.Fills.{steps_filled}
 use Rattle.im_theory_load.proofs.Ends.{rises_with}
-use Rattle.im_load.specs.Files.{HasPages, WritesPage}
+use Rattle.im_load.specs.Files.{WritesPage}
 use Rattle.im_load.specs.Held.{Numbered, says, with_last, held_at}
 use Rattle.im_load.specs.Loading.{HasFinal, IsPlain, Holds, IsHeldAt, Taken, Pending}
 

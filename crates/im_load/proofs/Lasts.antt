@@ -1,5 +1,5 @@
 -- What is known of the last leaf of a load.
-use Rattle.std.proofs.Common.{◌≡◌, ℕ, zero, ◌+◌, ◌<◌, ◌≤◌, Bool, true, false, List, [], length, ◌↔◌, sym, ◌∙◌, ap, subst, arith, ⊎_elim}
+use Rattle.std.proofs.Common.{◌≡◌, ℕ, ◌+◌, ◌<◌, ◌≤◌, Bool, true, false, List, [], ◌↔◌, sym, ◌∙◌, ap, subst, arith, ⊎_elim}
 use Rattle.std.specs.Prelude.{IsTrue}
 use Rattle.std.proofs.lemmas.Bool.{cases_lt}
 use Rattle.im_base_types.specs.Keys.{Key}
@@ -9,7 +9,7 @@ use Rattle.im_theory_page.specs.Entry.{taken, width}
 use Rattle.im_theory_page.specs.Page.{is_leaf_kind}
 use Rattle.im_theory_page.specs.Split.{LacksRoom}
 use Rattle.im_theory_load.specs.Edge.{IsTop}
-use Rattle.im_theory_load.proofs.Puts.{top_by_leaf, top_leaf}
+use Rattle.im_theory_load.proofs.Puts.{top_by_leaf}
 use Rattle.im_theory_load.proofs.Closings.{top_at}
 use Rattle.im_load.specs.Held.{Numbered}
 use Rattle.im_load.specs.Room.{FitsLongest}

@@ -1,9 +1,9 @@
 -- The separators of a page at the right edge rise; what a held page takes.
-use Rattle.std.proofs.Common.{◌≡◌, ℕ, suc, ◌+◌, ◌-◌, ◌<◌, ◌≤◌, Bool, true, false, List, [], ◌∷◌, ◌++◌, map, length, Some, refl, sym, ◌∙◌, ap, subst, append_assoc, arith, ◌↔◌}
+use Rattle.std.proofs.Common.{◌≡◌, ℕ, suc, ◌+◌, ◌-◌, ◌<◌, ◌≤◌, Bool, true, List, [], ◌∷◌, ◌++◌, map, length, sym, ◌∙◌, ap, subst, append_assoc, arith, ◌↔◌}
 use Rattle.std.specs.Prelude.{IsTrue}
 use Rattle.std.proofs.lemmas.List.{map-append}
 use Rattle.std.proofs.lemmas.List.Concat.{flat_map-append}
-use Rattle.im_base_types.specs.Keys.{Key, IsBelow}
+use Rattle.im_base_types.specs.Keys.{Key}
 use Rattle.im_base_types.specs.Pages.{Entry, Body}
 use Rattle.im_base_types.specs.declared.page_kind.PageKind.TheVariants.{Leaf, Inner}
 use Rattle.im_theory_page.specs.Entry.{taken, size, width}
@@ -12,7 +12,6 @@ use Rattle.im_theory_tree.specs.Levels.{Pages, Node, child_of, children, below, 
 use Rattle.im_theory_tree.proofs.Cited.{leaves_descend, ordered_bounds, bounds_of_level, first_child}
 use Rattle.im_theory_tree.proofs.Bounds.{BoundsAscend, bounds_right, bounds_over}
 use Rattle.im_theory_load.specs.Edge.{IsTop, Stands}
-use Rattle.im_theory_load.specs.Steps.{appended}
 use Rattle.im_theory_load.proofs.Edges.{lifted_sum, edge_at}
 use Rattle.im_load.specs.Held.{Numbered, TakesLast, held_at}
 use Rattle.im_load.specs.Room.{FitsLongest}

@@ -1,7 +1,6 @@
 -- A load of entries that are all at hand.
-use Rattle.std.proofs.Common.{◌≡◌, ◌⊎◌, inl, inr, ℕ, ◌+◌, ◌<◌, ◌≤◌, List, [], ◌∷◌, ◌++◌, length, take, get_or, refl, sym, ◌∙◌, ap, subst, arith, length-take, get_or-take, Option, Some, None}
-use Rattle.std.proofs.lemmas.List.{take_more, take_all}
-use Rattle.std.specs.Prelude.{Result, Err}
+use Rattle.std.proofs.Common.{◌≡◌, ◌⊎◌, inl, inr, ℕ, ◌+◌, ◌<◌, ◌≤◌, List, [], ◌∷◌, ◌++◌, length, take, refl, sym, ◌∙◌, ap, subst, arith, length-take, get_or-take, Option, Some, None}
+use Rattle.std.proofs.lemmas.List.{take_more}
 use Rattle.im_base_types.specs.Keys.{Key, IsBelow}
 use Rattle.im_base_types.specs.Pages.{Entry}
 use Rattle.im_base_types.specs.declared.fault.Fault.{Fault}

@@ -1,5 +1,4 @@
 -- A part of a load, as the disk sees it.
-use Rattle.std.specs.Prelude.{ℕ, List}
 use Rattle.im_base_types.specs.declared.file_id.FileId.TheVariants.{Pages}
 use Rattle.im_base_disk.specs.declared.disk.Disk.{Ghosts}
 use Rattle.im_base_disk.specs.Runs.{LeavesIn, ChangesOnly}

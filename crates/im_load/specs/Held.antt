@@ -1,6 +1,5 @@
 -- Pages that are held, and what each may become.
-use Rattle.std.specs.Prelude.{◌≡◌, ℕ, ◌+◌, ◌≤◌, Bool, List, length, slice_index_or}
-use Rattle.im_base_types.specs.Keys.{Key}
+use Rattle.std.specs.Prelude.{◌≡◌, ℕ, ◌+◌, ◌≤◌, List, length, slice_index_or}
 use Rattle.im_base_types.specs.Pages.{Entry, Body, Page}
 use Rattle.im_base_types.specs.declared.page_kind.PageKind.{PageKind}
 use Rattle.im_theory_page.specs.Entry.{taken, size}

@@ -1,4 +1,4 @@
-use Rattle.std.proofs.Common.{◌≡◌, [], length, ◌∙◌, ap, sym, arith}
+use Rattle.std.proofs.Common.{◌≡◌, length, ◌∙◌, ap, sym, arith}
 use Rattle.std.proofs.lemmas.List.{nil_from_length}
 use Rattle.im_base_disk.specs.Disk.{Files}
 use Rattle.im_load.proofs.loader.is_empty.Goals as goal

@@ -1,4 +1,4 @@
-use Rattle.std.proofs.Common.{◌≡◌, ◌∙◌, ◌<◌, ◌≤◌, ℕ, inl, Ok, Err, Some, List, [], length, take, sym, ap, subst, rules, arith, Option}
+use Rattle.std.proofs.Common.{◌≡◌, ◌∙◌, ◌<◌, ℕ, inl, Ok, Err, List, [], length, take, sym, ap, subst, rules, arith, Option}
 use Rattle.std.specs.Prelude.{IfSome}
 use Rattle.std.proofs.lemmas.List.{take_all, get_or_default}
 use Rattle.im_base_types.specs.Keys.{Key}

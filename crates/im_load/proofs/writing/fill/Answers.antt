@@ -1,4 +1,4 @@
-use Rattle.std.proofs.Common.{◌≡◌, ◌≤◌, ◌<◌, ◌/◌, ℕ, min, length, arith, subst, sym, ◌∙◌, ap, rules, List, ◌*◌}
+use Rattle.std.proofs.Common.{◌≡◌, ◌≤◌, ◌/◌, ℕ, min, arith, subst, sym, ◌∙◌, ap, rules, List}
 use Rattle.im_base_disk.specs.Disk.{Files}
 use Rattle.im_base_types.specs.declared.file_id.FileId.TheVariants.{Pages}
 use Rattle.im_load.specs.Files.{Fills}

@@ -1,4 +1,4 @@
-use Rattle.std.proofs.Common.{◌≡◌, ◌⊎◌, ℕ, inl, inr, ⊎_elim, refl, Err, rules, false, arith, length, ◌<◌, ◌≤◌, List}
+use Rattle.std.proofs.Common.{◌⊎◌, ℕ, inl, inr, ⊎_elim, refl, Err, rules, false, arith, length, ◌<◌, ◌≤◌, List}
 use Rattle.std.proofs.lemmas.Bool.{cases_lt}
 use Rattle.im_base_types.specs.Pages.{Entry}
 use Rattle.im_base_types.specs.declared.fault.Fault.TheVariants.{KeyLength}

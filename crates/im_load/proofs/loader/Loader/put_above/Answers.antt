@@ -1,12 +1,11 @@
-use Rattle.std.proofs.Common.{◌≡◌, ◌∙◌, inl, inr, refl, Err, ap, rules, false, arith, length, ◌≤◌, List}
+use Rattle.std.proofs.Common.{◌∙◌, inl, inr, Err, ap, rules, false, arith, length, ◌≤◌, List}
 use Rattle.im_base_types.specs.Pages.{Entry}
-use Rattle.im_base_types.specs.declared.fault.Fault.TheVariants.{Capacity}
 use Rattle.im_base_types.specs.declared.file_id.FileId.TheVariants.{Pages}
 use Rattle.im_base_disk.proofs.Ends.{own_answered}
 use Rattle.im_load.specs.HasTaken.{HasPending}
 use Rattle.im_load.proofs.Goings.{goes_none, goes_then}
 use Rattle.im_load.proofs.Calls.{child_put_made}
-use Rattle.im_load.proofs.Faults.{passed_on, eased, is_capacity, is_unsound}
+use Rattle.im_load.proofs.Faults.{passed_on, eased, is_unsound}
 use Rattle.im_load.proofs.Separators.{takes_separator}
 use Rattle.im_load.proofs.loader.Loader.put_above.Goals as goal
 

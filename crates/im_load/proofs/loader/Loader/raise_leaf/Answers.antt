@@ -1,5 +1,4 @@
-use Rattle.std.proofs.Common.{◌≡◌, inl, inr, ⊎_elim, Err, ap, rules, false, length, ◌≤◌, List}
-use Rattle.im_base_types.specs.Pages.{Entry}
+use Rattle.std.proofs.Common.{◌≡◌, inl, inr, ⊎_elim, Err, ap, rules, false}
 use Rattle.im_base_types.specs.declared.fault.Fault.TheVariants.{Memory, NotAStore}
 use Rattle.im_base_types.specs.declared.file_id.FileId.TheVariants.{Pages}
 use Rattle.im_base_disk.proofs.Ends.{own_answered}

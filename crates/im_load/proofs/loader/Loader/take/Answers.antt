@@ -1,4 +1,4 @@
-use Rattle.std.proofs.Common.{◌≡◌, ◌++◌, ◌∷◌, [], inl, inr, Err, ap, rules, false, arith, length, ◌≤◌, List}
+use Rattle.std.proofs.Common.{◌++◌, ◌∷◌, [], inl, inr, Err, ap, rules, false, arith, length, ◌≤◌, List}
 use Rattle.std.proofs.lemmas.List.{nil_from_length}
 use Rattle.im_base_types.specs.Pages.{Entry}
 use Rattle.im_base_types.specs.declared.file_id.FileId.TheVariants.{Pages}
