@@ -1,5 +1,5 @@
 -- Loaded files as an engine sees them.
-use Rattle.std.proofs.Common.{◌≡◌, ◌⊎◌, inl, inr, ⊎_elim, ℕ, ◌+◌, ◌^◌, ◌<◌, ◌≤◌, Bool, true, false, List, [], ◌∷◌, length, Some, refl, sym, ◌∙◌, ap, subst, arith}
+use Rattle.std.proofs.Common.{◌≡◌, inl, inr, ⊎_elim, ℕ, ◌<◌, ◌≤◌, Bool, true, false, List, [], ◌∷◌, length, refl, ◌∙◌, ap, arith}
 use Rattle.std.proofs.lemmas.Bool.{cases_lt}
 use Rattle.std.specs.Prelude.{Result, Ok, Err, IfOk, IfErr}
 use Rattle.std.specs.FinMap.{empty, entries}
@@ -17,7 +17,7 @@ use Rattle.im_log_gate.specs.Header as gate_header
 use Rattle.im_log_gate.proofs.Switching as made_logs
 use Rattle.im_log.specs.Kept.{HasLog}
 use Rattle.im_log.proofs.Creations.{blank_has, not_both}
-use Rattle.im_restart.specs.Restart.{HasStore, IsFresh, SpellsLog}
+use Rattle.im_restart.specs.Restart.{IsFresh}
 use Rattle.im_theory_page.specs.PageFile.{file_page}
 use Rattle.im_theory_load.specs.Loaded.{loaded, effects_of, loaded_base}
 use Rattle.im_theory_load.proofs.Ends.{entries_are, loaded_stands}

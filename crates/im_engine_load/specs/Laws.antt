@@ -1,5 +1,5 @@
 -- What loaded files stand for, and what an engine finds there.
-use Rattle.std.specs.Prelude.{◌≡◌, ◌⊎◌, ℕ, ◌≤◌, List, [], length}
+use Rattle.std.specs.Prelude.{◌≡◌, ◌⊎◌, ◌≤◌, List, [], length}
 use Rattle.std.specs.FinMap.{empty, entries}
 use Rattle.im_base_types.specs.Changes.{apply_all}
 use Rattle.im_base_types.specs.Pages.{Entry}
