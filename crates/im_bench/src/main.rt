@@ -11,9 +11,17 @@
 //! Threads that commit are a program of their own, `im_bench_commits`, with figures beside five other stores.
 #![tactic(auto)]
 
+mod damage;
+mod long;
+mod look_ups;
+mod opened;
+mod store;
+mod tree;
+mod tree_pages;
+mod tree_work;
+
 use anyhow::{Result, bail};
 use im_bench_layers::{flush, log, page, pool};
-use im_bench_stores::{damage, long, store, tree};
 use std::env;
 use std::thread::Threads;
 

@@ -5,8 +5,8 @@ use Rattle.im_base_types.specs.Keys.{Key}
 use Rattle.im_base_types.specs.Pages.{Entry, Body}
 use Rattle.im_theory_page.specs.Header.{leaf_body}
 use Rattle.im_theory_page.specs.Split.{LacksRoom}
-use Rattle.im_theory_load.specs.Edge.{IsTop}
-use Rattle.im_theory_load.specs.Steps.{inner_body}
+use Rattle.im_load.specs.Edge.{IsTop}
+use Rattle.im_load.specs.Steps.{inner_body}
 use Rattle.im_load.specs.Files.{WritesPage}
 use Rattle.im_load.specs.Held.{Numbered, says, held_at}
 use Rattle.im_load.specs.Loading.{Taken, Pending}

@@ -2,8 +2,8 @@
 use Rattle.std.proofs.Common.{◌≡◌, ℕ, ◌<◌, List, [], length, refl, sym, ap, subst, arith}
 use Rattle.im_theory_page.specs.Header.{initial}
 use Rattle.im_theory_tree.specs.Allocations.{initial_bodies}
-use Rattle.im_theory_load.proofs.Closings.{steps_kept}
-use Rattle.im_theory_load.proofs.Fills.{steps_filled}
+use Rattle.im_load.proofs.Closings.{steps_kept}
+use Rattle.im_load.proofs.Fills.{steps_filled}
 use Rattle.im_load.specs.Held.{Numbered}
 use Rattle.im_load.specs.Loading.{Taken}
 

@@ -6,8 +6,8 @@ use Rattle.im_base_types.specs.Pages.{Entry}
 use Rattle.im_base_types.specs.declared.page_kind.PageKind.TheVariants.{Leaf}
 use Rattle.im_theory_page.specs.Header.{leaf_body}
 use Rattle.im_theory_page.specs.Split.{LacksRoom}
-use Rattle.im_theory_load.specs.Edge.{IsTop}
-use Rattle.im_theory_load.specs.Steps.{inner_body}
+use Rattle.im_load.specs.Edge.{IsTop}
+use Rattle.im_load.specs.Steps.{inner_body}
 use Rattle.im_load.specs.declared.loader.Loader.{Loader}
 use Rattle.im_load.specs.Files.{WritesPage}
 use Rattle.im_load.specs.Held.{Numbered, says, with_last, held_at}

@@ -7,7 +7,7 @@ use Rattle.im_base_types.specs.declared.page_kind.PageKind.TheVariants.{Meta}
 use Rattle.im_theory_page.specs.PageFile.{file_page}
 use Rattle.im_theory_page.proofs.PageFileLemmas.{page_past}
 use Rattle.im_theory_tree.specs.Levels.{Pages}
-use Rattle.im_theory_load.specs.Loaded.{unlogged}
+use Rattle.im_load.specs.Loaded.{unlogged}
 use Rattle.im_load.specs.Files.{HasPages, WritesPage, ArePages}
 use Rattle.im_load.specs.Held.{Numbered, held_at}
 use Rattle.im_load.specs.Loading.{HasFinal, HasWritten, Taken}

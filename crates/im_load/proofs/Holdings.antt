@@ -10,13 +10,13 @@ use Rattle.im_theory_page.specs.Header.{initial, leaf_body}
 use Rattle.im_theory_page.specs.PageFile.{file_page}
 use Rattle.im_theory_page.specs.Split.{LacksRoom}
 use Rattle.im_theory_tree.specs.Levels.{Pages, height}
-use Rattle.im_theory_load.specs.Edge.{moved, IsTop, Stands}
-use Rattle.im_theory_load.specs.Loaded.{unlogged}
-use Rattle.im_theory_load.specs.Steps.{appended, counted, inner_body, ClosesLeaf, ClosesInner}
-use Rattle.im_theory_load.proofs.Edges.{Apart, edge_apart, moved_here, moved_off}
-use Rattle.im_theory_load.proofs.Closings.{steps_kept}
-use Rattle.im_theory_load.proofs.Fills.{steps_filled}
-use Rattle.im_theory_load.proofs.Ends.{rises_with}
+use Rattle.im_load.specs.Edge.{moved, IsTop, Stands}
+use Rattle.im_load.specs.Loaded.{unlogged}
+use Rattle.im_load.specs.Steps.{appended, counted, inner_body, ClosesLeaf, ClosesInner}
+use Rattle.im_load.proofs.Edges.{Apart, edge_apart, moved_here, moved_off}
+use Rattle.im_load.proofs.Closings.{steps_kept}
+use Rattle.im_load.proofs.Fills.{steps_filled}
+use Rattle.im_load.proofs.Ends.{rises_with}
 use Rattle.im_load.specs.Files.{WritesPage}
 use Rattle.im_load.specs.Held.{Numbered, says, with_last, held_at}
 use Rattle.im_load.specs.Loading.{HasFinal, IsPlain, Holds, IsHeldAt, Taken, Pending}

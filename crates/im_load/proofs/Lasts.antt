@@ -8,9 +8,9 @@ use Rattle.im_base_types.specs.declared.page_kind.PageKind.TheVariants.{Leaf}
 use Rattle.im_theory_page.specs.Entry.{taken, width}
 use Rattle.im_theory_page.specs.Page.{is_leaf_kind}
 use Rattle.im_theory_page.specs.Split.{LacksRoom}
-use Rattle.im_theory_load.specs.Edge.{IsTop}
-use Rattle.im_theory_load.proofs.Puts.{top_by_leaf}
-use Rattle.im_theory_load.proofs.Closings.{top_at}
+use Rattle.im_load.specs.Edge.{IsTop}
+use Rattle.im_load.proofs.Puts.{top_by_leaf}
+use Rattle.im_load.proofs.Closings.{top_at}
 use Rattle.im_load.specs.Held.{Numbered}
 use Rattle.im_load.specs.Room.{FitsLongest}
 use Rattle.im_load.specs.Loading.{Taken}

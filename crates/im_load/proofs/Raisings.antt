@@ -9,14 +9,14 @@ use Rattle.im_base_types.specs.declared.page_kind.PageKind.TheVariants.{Inner}
 use Rattle.im_theory_page.specs.Header.{initial, leaf_body}
 use Rattle.im_theory_page.specs.Split.{LacksRoom}
 use Rattle.im_theory_tree.specs.Levels.{Pages, height}
-use Rattle.im_theory_load.specs.Edge.{risen, IsTop}
-use Rattle.im_theory_load.specs.Loaded.{unlogged}
-use Rattle.im_theory_load.specs.Steps.{appended, counted, inner_body, raised, RaisesLeaf, RaisesInner}
-use Rattle.im_theory_load.proofs.Edges.{Apart}
-use Rattle.im_theory_load.proofs.Roots.{risen_top, risen_here, risen_low}
-use Rattle.im_theory_load.proofs.Closings.{steps_kept}
-use Rattle.im_theory_load.proofs.Fills.{steps_filled}
-use Rattle.im_theory_load.proofs.Ends.{rises_with}
+use Rattle.im_load.specs.Edge.{risen, IsTop}
+use Rattle.im_load.specs.Loaded.{unlogged}
+use Rattle.im_load.specs.Steps.{appended, counted, inner_body, raised, RaisesLeaf, RaisesInner}
+use Rattle.im_load.proofs.Edges.{Apart}
+use Rattle.im_load.proofs.Roots.{risen_top, risen_here, risen_low}
+use Rattle.im_load.proofs.Closings.{steps_kept}
+use Rattle.im_load.proofs.Fills.{steps_filled}
+use Rattle.im_load.proofs.Ends.{rises_with}
 use Rattle.im_load.specs.Files.{WritesPage}
 use Rattle.im_load.specs.Held.{Numbered, says, held_at}
 use Rattle.im_load.specs.Loading.{HasFinal, IsPlain, Holds, IsHeldAt, Taken, Pending}

@@ -5,7 +5,7 @@ use Rattle.im_base_types.specs.Pages.{Entry}
 use Rattle.im_base_types.specs.declared.fault.Fault.{Fault}
 use Rattle.im_base_types.specs.declared.file_id.FileId.TheVariants.{Pages}
 use Rattle.im_base_disk.specs.declared.disk.Disk.{Ghosts}
-use Rattle.im_theory_load.specs.Edge.{IsTop}
+use Rattle.im_load.specs.Edge.{IsTop}
 use Rattle.im_load.specs.declared.loader.Loader.{Loader}
 use Rattle.im_load.specs.HasTaken.{HasTaken, IsLoading, Refuses}
 use Rattle.im_load.proofs.Faults.{eased}

@@ -11,8 +11,8 @@ use Rattle.im_theory_page.specs.Page.{is_leaf_kind}
 use Rattle.im_theory_tree.specs.Levels.{Pages, Node, child_of, children, below, leaves_under, the_root, height, lifted}
 use Rattle.im_theory_tree.proofs.Cited.{leaves_descend, ordered_bounds, bounds_of_level, first_child}
 use Rattle.im_theory_tree.proofs.Bounds.{BoundsAscend, bounds_right, bounds_over}
-use Rattle.im_theory_load.specs.Edge.{IsTop, Stands}
-use Rattle.im_theory_load.proofs.Edges.{lifted_sum, edge_at}
+use Rattle.im_load.specs.Edge.{IsTop, Stands}
+use Rattle.im_load.proofs.Edges.{lifted_sum, edge_at}
 use Rattle.im_load.specs.Held.{Numbered, TakesLast, held_at}
 use Rattle.im_load.specs.Room.{FitsLongest}
 use Rattle.im_load.specs.Loading.{Taken, Pending}

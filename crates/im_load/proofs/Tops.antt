@@ -6,7 +6,7 @@ use Rattle.im_base_types.specs.Pages.{Entry}
 use Rattle.im_theory_page.specs.Entry.{entry_at, Rises}
 use Rattle.im_theory_page.proofs.Order.{below_trans}
 use Rattle.im_theory_tree.proofs.Ascent.{all_at}
-use Rattle.im_theory_load.specs.Edge.{IsTop}
+use Rattle.im_load.specs.Edge.{IsTop}
 
 pub top_by_last : (key : Key) (es : List Entry) (last : ℕ) → Rises es → last + 1 ≡ length es → IsBelow (entry_at es last).0 key → IsTop key es
 top_by_last key es last rises is below =

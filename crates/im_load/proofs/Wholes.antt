@@ -11,7 +11,7 @@ use Rattle.im_base_disk.specs.Runs.{IsSynced, LeavesOnly, Reads}
 use Rattle.im_base_disk.proofs.Runs.{weakened}
 use Rattle.im_theory_page.specs.Entry.{entry_at, no_entry, Rises}
 use Rattle.im_theory_tree.proofs.Ascent.{all_at}
-use Rattle.im_theory_load.specs.Edge.{IsTop}
+use Rattle.im_load.specs.Edge.{IsTop}
 use Rattle.im_load.specs.declared.loader.Loader.{Loader}
 use Rattle.im_load.specs.Files.{AreEmpty, AreHalf, AreLeft}
 use Rattle.im_load.specs.HasTaken.{IsLoading, Refuses}

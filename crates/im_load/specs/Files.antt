@@ -4,8 +4,8 @@ use Rattle.im_base_types.specs.Pages.{Entry, Page}
 use Rattle.im_base_types.specs.declared.file_id.FileId.TheVariants.{Log, Pages, Log2}
 use Rattle.im_base_disk.specs.Disk.{Files}
 use Rattle.im_log_header.specs.Header.{IsUnmade, IsEmptyLog}
-use Rattle.im_theory_load.specs.Edge.{Stands, AreDense}
-use Rattle.im_theory_load.specs.Loaded.{unlogged}
+use Rattle.im_load.specs.Edge.{Stands, AreDense}
+use Rattle.im_load.specs.Loaded.{unlogged}
 use Rattle.im_theory_page.specs.Entry.{Rises}
 use Rattle.im_theory_page.specs.PageFile.{file_page}
 use Rattle.im_theory_tree.specs.Levels as levels

@@ -5,8 +5,8 @@ use Rattle.im_base_types.specs.declared.page_kind.PageKind.{PageKind}
 use Rattle.im_theory_page.specs.Entry.{taken, size}
 use Rattle.im_theory_page.specs.Header.{initial}
 use Rattle.im_theory_page.specs.Page.{is_leaf_kind}
-use Rattle.im_theory_load.specs.Edge.{IsTop}
-use Rattle.im_theory_load.specs.Steps.{appended}
+use Rattle.im_load.specs.Edge.{IsTop}
+use Rattle.im_load.specs.Steps.{appended}
 
 -- a page, and its number
 abbrev pub Numbered : Type 0

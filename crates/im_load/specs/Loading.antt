@@ -3,9 +3,9 @@ use Rattle.std.specs.Prelude.{◌≡◌, ◌≢◌, ℕ, suc, ◌<◌, ◌≤◌
 use Rattle.im_base_types.specs.Keys.{Key}
 use Rattle.im_base_types.specs.Pages.{Entry, Body}
 use Rattle.im_base_types.specs.declared.page_kind.PageKind.TheVariants.{Meta}
-use Rattle.im_theory_load.specs.Edge.{Stands, AreDense}
-use Rattle.im_theory_load.specs.Loaded.{unlogged}
-use Rattle.im_theory_load.specs.Steps.{appended}
+use Rattle.im_load.specs.Edge.{Stands, AreDense}
+use Rattle.im_load.specs.Loaded.{unlogged}
+use Rattle.im_load.specs.Steps.{appended}
 use Rattle.im_theory_page.specs.Entry.{Rises}
 use Rattle.im_theory_page.specs.Header.{empty_body}
 use Rattle.im_theory_page.specs.PageFile.{file_page}

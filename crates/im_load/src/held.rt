@@ -6,8 +6,8 @@ ghost use Rattle.im_base_types.specs.declared.page_kind.PageKind.TheVariants.{Le
 ghost use Rattle.im_theory_page.specs.Entry.{taken, size, width};
 ghost use Rattle.im_theory_page.specs.Header.{initial, leaf_body};
 ghost use Rattle.im_theory_page.specs.Page.{is_leaf_kind};
-ghost use Rattle.im_theory_load.specs.Edge.{IsTop};
-ghost use Rattle.im_theory_load.specs.Steps.{appended, inner_body};
+ghost use Rattle.im_load.specs.Edge.{IsTop};
+ghost use Rattle.im_load.specs.Steps.{appended, inner_body};
 ghost use Rattle.im_load.specs.Held.{says, with_last, TakesLast};
 
 use im_base_types::{Fault, LONGEST_KEY, PageKind, PageNo, Rid, compare};

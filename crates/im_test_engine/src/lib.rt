@@ -1,5 +1,5 @@
 //! Tests of the engine of many transactions: lives on the model disk, in large pools too, a Checkpoint of many changed pages, logs that go on, many transactions at once, devices that fail in the middle of a rollback,
-//! and openings whose redo workers share. Threads that share one through a front are in im_test_front, which is proved beside this crate.
+//! openings whose redo workers share, and stores that a load has made. Threads that share one through a front are in im_test_front, which is proved beside this crate.
 #![tactic(auto)]
 
 #[cfg(test)]
@@ -10,6 +10,8 @@ mod generations;
 mod large_pools;
 #[cfg(test)]
 mod lives;
+#[cfg(test)]
+mod loads;
 #[cfg(test)]
 mod long_lists;
 #[cfg(test)]

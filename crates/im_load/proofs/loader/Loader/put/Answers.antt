@@ -4,7 +4,7 @@ use Rattle.im_base_types.specs.Pages.{Entry}
 use Rattle.im_base_types.specs.declared.fault.Fault.TheVariants.{KeyLength}
 use Rattle.im_base_types.specs.declared.file_id.FileId.TheVariants.{Pages}
 use Rattle.im_base_disk.proofs.Ends.{own_answered}
-use Rattle.im_theory_load.specs.Edge.{IsTop}
+use Rattle.im_load.specs.Edge.{IsTop}
 use Rattle.im_load.specs.HasTaken.{HasTaken}
 use Rattle.im_load.proofs.Faults.{passed_on, handed_on, is_key_length, keyed_refusal, not_so}
 use Rattle.im_load.proofs.Finishes.{halves}

@@ -3,7 +3,7 @@ use Rattle.std.proofs.lemmas.List.{nil_from_length}
 use Rattle.im_base_types.specs.Pages.{Entry}
 use Rattle.im_base_types.specs.declared.file_id.FileId.TheVariants.{Pages}
 use Rattle.im_base_disk.proofs.Ends.{own_answered}
-use Rattle.im_theory_load.specs.Edge.{IsTop}
+use Rattle.im_load.specs.Edge.{IsTop}
 use Rattle.im_load.specs.declared.loader.Loader.{Loader}
 use Rattle.im_load.specs.HasTaken.{HasTaken, HasPending}
 use Rattle.im_load.proofs.Calls.{close_leaf_made, one_kind}

@@ -1,5 +1,0 @@
-use Rattle.im_theory_load.proofs.Fills.{steps_filled}
-use Rattle.im_theory_load.proofs.laws.steps_fill.Goals as goal
-
-pub returns : goal.returns
-returns c = steps_filled

@@ -1,5 +1,0 @@
-use Rattle.im_theory_load.proofs.Closings.{steps_kept}
-use Rattle.im_theory_load.proofs.laws.steps_keep.Goals as goal
-
-pub returns : goal.returns
-returns c = steps_kept

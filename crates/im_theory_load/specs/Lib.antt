@@ -1,4 +1,0 @@
-pub mod Edge
-pub mod Steps
-pub mod Loaded
-pub mod Laws
