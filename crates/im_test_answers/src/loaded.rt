@@ -218,6 +218,68 @@ fn each_ends<R: Abort + Threads + Clock + Sync>(
     Ok(())
 }
 
+// Texts in the own form, and how their load ends: one that was cut within its last number is refused.
+static OWN: [(&str, Loaded); 9] = [
+    (
+        "imstore entries 1\na 12\nimstore end 1\n",
+        Loaded::All(LoadCount {
+            put: 1,
+            skipped: 0,
+            others: 0,
+            replaced: 0,
+        }),
+    ),
+    (
+        "imstore entries 1\na 12\nimstore end 1",
+        Loaded::All(LoadCount {
+            put: 1,
+            skipped: 0,
+            others: 0,
+            replaced: 0,
+        }),
+    ),
+    (
+        "imstore entries 1\na 12\n",
+        Loaded::All(LoadCount {
+            put: 1,
+            skipped: 0,
+            others: 0,
+            replaced: 0,
+        }),
+    ),
+    (
+        "imstore entries 0\nimstore end 0\n",
+        Loaded::All(LoadCount {
+            put: 0,
+            skipped: 0,
+            others: 0,
+            replaced: 0,
+        }),
+    ),
+    ("imstore entries 1\na 1", Loaded::BadLine(2, WhyBad::Ended)),
+    (
+        "imstore entries 1\na 12\nimstore en",
+        Loaded::BadLine(3, WhyBad::OtherEnd),
+    ),
+    (
+        "imstore entries 1\na 12\nimstore end ",
+        Loaded::BadLine(3, WhyBad::OtherEnd),
+    ),
+    (
+        "imstore entries 1\na 12\nimstore end 2\n",
+        Loaded::BadLine(3, WhyBad::OtherEnd),
+    ),
+    (
+        "imstore entries 1\na 12\nb 13\n",
+        Loaded::BadLine(3, WhyBad::OtherEnd),
+    ),
+];
+
+#[test]
+fn a_load_takes_the_own_form(rt: HostRuntime) -> Result<(), Fail> {
+    each_ends(&rt, rt.alloc(), &OWN)
+}
+
 #[test]
 fn a_load_takes_the_portable_form(rt: HostRuntime) -> Result<(), Fail> {
     each_ends(&rt, rt.alloc(), &PORTABLE)
@@ -266,7 +328,7 @@ fn dumped_entry(
 }
 
 static DUMPS: [(Form, &str); 2] = [
-    (Form::Own, "imstore entries 1\n\"a b\" 255\n"),
+    (Form::Own, "imstore entries 1\n\"a b\" 255\nimstore end 1\n"),
     (
         Form::Portable,
         "VERSION=3\nformat=bytevalue\ntype=btree\nHEADER=END\n 612062\n 00000000000000ff\nDATA=END\n",

@@ -34,7 +34,7 @@ pub fn dump_text<D: TwoLogs + Drop, W: Write, P: Progress>(
     let refused = write_entries(alloc, store, writer, form, walk, all, progress)?;
     progress.end();
     if refused.is_none() {
-        write_end(writer, form)?;
+        write_end(writer, form, all)?;
     }
     Ok(refused)
 }

@@ -1,6 +1,7 @@
 //! Entries as text, in two forms.
 //!
-//! The own form is the line `imstore entries N` and N lines `KEY ROWID`, with keys as users type them. The portable form is that which LMDB and
+//! The own form is the line `imstore entries N`, N lines `KEY ROWID`, with keys as users type them, and the line `imstore end N`, which a text may lack whose last
+//! entry ends in a newline: so no text is taken that was cut within a number. The portable form is that which LMDB and
 //! Berkeley DB dump and load: a head, from `VERSION=3` to `HEADER=END`; two lines an entry, its key and its row id in 8 bytes, the highest
 //! first, each a space and hexadecimal digits; and `DATA=END`.
 
@@ -15,6 +16,8 @@ use std::io::Write;
 use std::{fmt, io};
 
 const TITLE: &[u8] = b"imstore entries ";
+
+const END: &[u8] = b"imstore end ";
 
 const VERSION: &[u8] = b"VERSION=3";
 
@@ -67,10 +70,13 @@ fn write_pairs<W: Write>(alloc: Global, writer: &mut W, part: &[(Key, Rid)]) -> 
     Ok(())
 }
 
-/// Writes what stands after the last entry.
-pub fn write_end<W: Write>(writer: &mut W, form: Form) -> io::Result<()> {
+/// Writes what stands after so many entries.
+pub fn write_end<W: Write>(writer: &mut W, form: Form, all: u64) -> io::Result<()> {
     match form {
-        Form::Own => Ok(()),
+        Form::Own => {
+            writer.write_all(END)?;
+            writeln!(writer, "{all}")
+        }
         Form::Portable => {
             writer.write_all(DATA_END)?;
             writer.write_all(b"\n")
@@ -85,7 +91,7 @@ pub enum WhyBad {
     NoDump,
     /// The head of the portable form has another line, or is of another kind of index.
     Head,
-    /// The text ends before its last entry.
+    /// The text ends before its last entry, or within it.
     Ended,
     /// No key stands at the line's beginning.
     NoKey,
@@ -97,6 +103,8 @@ pub enum WhyBad {
     OtherRid,
     /// Something follows the end of the portable form.
     More,
+    /// What follows the last entry of the own form does not say that it ends there.
+    OtherEnd,
 }
 
 impl WhyBad {
@@ -105,7 +113,7 @@ impl WhyBad {
             WhyBad::NoDump =>
                 "no dump begins so; one begins with `imstore entries COUNT` or `VERSION=3`",
             WhyBad::Head => "the head of a dump has no such line, or is of another kind of index",
-            WhyBad::Ended => "the text ends before its last entry",
+            WhyBad::Ended => "the text ends before its last entry, or within it",
             WhyBad::NoKey =>
                 "no key stands there: text without spaces, \"a b\" or x'6100', and then a space",
             WhyBad::NoRid =>
@@ -113,6 +121,8 @@ impl WhyBad {
             WhyBad::NoDigits => "a space and pairs of hexadecimal digits are wanted",
             WhyBad::OtherRid => "a row id of 16 hexadecimal digits is wanted",
             WhyBad::More => "nothing may follow `DATA=END`",
+            WhyBad::OtherEnd =>
+                "after the last entry only `imstore end COUNT` may stand, with the count of the first line",
         }
     }
 }
@@ -233,7 +243,7 @@ impl EntryText {
 
     fn next_own<R: LineInput>(&mut self, alloc: Global, reader: &mut R) -> io::Result<Next> {
         if self.left == 0 {
-            return Ok(Next::End);
+            return self.end_own(reader);
         }
         self.left -= 1;
         if !self.read_line(reader)? {
@@ -266,6 +276,25 @@ impl EntryText {
             Ok(rid) => Next::Entry(key, rid, at),
             Err(unread) => refused_at(unread, self.number),
         })
+    }
+
+    // The end of a text says how many entries there were. One without it is taken where its last line was not cut.
+    fn end_own<R: LineInput>(&mut self, reader: &mut R) -> io::Result<Next> {
+        let is_whole = self.line.ends_with(b"\n");
+        let last = self.number;
+        if !self.read_line(reader)? {
+            if is_whole {
+                return Ok(Next::End);
+            }
+            return Ok(Next::Bad(last, WhyBad::Ended));
+        }
+        let counted = without_newline(&self.line)
+            .strip_prefix(END)
+            .and_then(number_of);
+        if counted == Some(self.all) {
+            return Ok(Next::End);
+        }
+        Ok(Next::Bad(self.number, WhyBad::OtherEnd))
     }
 
     // No second dump may follow: it would be another store's.
