@@ -29,7 +29,7 @@ import kit
 LIBRARY = "im_capi"
 # Where a program has what it says of itself, and the word of it that is no longer so.
 VERSION, PROVED = "im_tool_user/src/version.rt", ' proved\\n'
-SEEN = {"im_size", "im_belong", "im_left_log", "im_left_go_on", "im_left_take", "im_is_older", "im_log_cuts", "im_init", "im_step", "im_may_begin", "im_oldest", "im_earliest", "im_has_own", "im_is_left_alone", "im_name_key", "im_long_part", "im_long_read", "im_long_key"}
+SEEN = {"im_size", "im_belong", "im_left_log", "im_left_go_on", "im_left_take", "im_is_older", "im_log_cuts", "im_init", "im_open", "im_step", "im_may_begin", "im_oldest", "im_earliest", "im_has_own", "im_is_left_alone", "im_name_key", "im_long_part", "im_long_read", "im_long_key"}
 MAIN = """
 fn main(rt: HostRuntime) {
     let _size = im_size();
@@ -57,6 +57,7 @@ fn main(rt: HostRuntime) {
     let _key = im_long_key(&key, &mut to, &mut front);
     unsafe {
         im_init(rt.alloc(), std::ptr::null_mut());
+        im_open(std::ptr::null_mut(), std::ptr::null_mut());
         im_step(std::ptr::null_mut(), std::ptr::null_mut());
     }
 }

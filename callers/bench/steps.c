@@ -43,10 +43,9 @@ int main(int argc, char **argv)
 	if (!(handle = malloc(im_size()))) return 1;
 	im_init(handle);
 	vah_device_serve(&device);
-	call = (struct call){ .step = OPEN, .limit = config.frames, .txn = config.max_pages, .number = config.redo_bytes, .out_len = config.log_bytes,
-		.key_len = 0 };
-	im_step(handle, &call);
-	IS((int)call.word, DONE);
+	struct opening asked = { .frames = config.frames, .max_pages = config.max_pages, .redo_bytes = config.redo_bytes, .log_bytes = config.log_bytes };
+	im_open(handle, &asked);
+	IS((int)asked.fault, 0);
 
 	start();
 	for (uint64_t i = 0; i < KEYS; i += 64) {

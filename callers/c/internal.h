@@ -11,8 +11,10 @@
 
 struct call;
 struct handle;
+struct opening;
 size_t im_size(void);
 void im_init(struct handle *at);
+void im_open(struct handle *at, struct opening *asked);
 void im_step(struct handle *at, struct call *call);
 
 /* Who may begin now: crates/im_base_turns/src/going.rt and asker.rt, in the order of C, and what is asked of them, which crates/im_capi says. The
@@ -43,12 +45,21 @@ struct call {
 	uint32_t step, word, fault, limit;
 	uint64_t txn, number;
 	uint32_t key_len, hi_len;
-	uint64_t out_len, more;
+	uint64_t out_len;
 	uint8_t key[256], hi[256], out[67584];
 };
-_Static_assert(sizeof(struct call) == 68152 && offsetof(struct call, txn) == 16 && offsetof(struct call, key_len) == 32
-	&& offsetof(struct call, out_len) == 40 && offsetof(struct call, key) == 56 && offsetof(struct call, hi) == 312
-	&& offsetof(struct call, out) == 568, "the call is laid out as im_calls has it");
+_Static_assert(sizeof(struct call) == 68144 && offsetof(struct call, txn) == 16 && offsetof(struct call, key_len) == 32
+	&& offsetof(struct call, out_len) == 40 && offsetof(struct call, key) == 48 && offsetof(struct call, hi) == 304
+	&& offsetof(struct call, out) == 560, "the call is laid out as im_calls has it");
+
+/* What an opening asks of it, and the number of a refusal: crates/im_calls/src/opening.rt, in the order of C. */
+struct opening {
+	uint32_t ask, answer;   /* descriptors: any, since vah_device_write and _read stand for them */
+	uint32_t read_only, group, frames, fault;
+	uint64_t more, max_pages, redo_bytes, log_bytes;
+};
+_Static_assert(sizeof(struct opening) == 56 && offsetof(struct opening, frames) == 16 && offsetof(struct opening, more) == 24
+	&& offsetof(struct opening, log_bytes) == 48, "the opening is laid out as im_calls has it");
 _Static_assert(sizeof(vah_entry) == 264 && offsetof(vah_entry, key) == 9, "bindings know the entry by these");
 _Static_assert(sizeof(vah_ref) == 24 && offsetof(vah_ref, rid) == 16, "bindings know a place in an answer by these");
 _Static_assert(sizeof(vah_config) == 72 && offsetof(vah_config, redo_bytes) == 16 && offsetof(vah_config, log_bytes) == 24
@@ -57,7 +68,7 @@ _Static_assert(sizeof(vah_config) == 72 && offsetof(vah_config, redo_bytes) == 1
 _Static_assert(sizeof(vah_info) == 104 && offsetof(vah_info, restarts) == 48, "bindings know the info by these");
 
 /* What is asked, and what is answered, by number: crates/im_calls. */
-enum { BEGIN, FETCH, SEEK, NEXT, SCAN, INSERT, DELETE, COMMIT, ROLLBACK, CONTINUE, FLUSH_PAGE, FORCE, CHECKPOINT, STAT, OPEN, CLOSE, SWITCH, PREV,
+enum { BEGIN, FETCH, SEEK, NEXT, SCAN, INSERT, DELETE, COMMIT, ROLLBACK, CONTINUE, FLUSH_PAGE, FORCE, CHECKPOINT, STAT, CLOSE = 15, SWITCH, PREV,
 	COPY_BEGIN, COPY_PIECE, COPY_END };
 enum { STARTED, FOUND, ABSENT, ENTRY, END, ENTRIES, INSERTED, DUPLICATE, DELETED, COMMITTED, ROLLED_BACK, MORE, BLOCKED, DIE, DONE, REFUSED, BLOCKED_TREE };
 

@@ -83,24 +83,17 @@ static uint64_t more_frames(const struct store *s, const vah_config *config)
 /* Opens the store over the files that are open. */
 static int open_session(struct store *s, const vah_config *config)
 {
-	struct call *call = s->call;
+	struct opening asked = { .read_only = (uint32_t)config->read_only, .group = 1 /* commits wait for a force */, .frames = config->frames,
+		.more = more_frames(s, config), .max_pages = config->max_pages, .redo_bytes = config->redo_bytes, .log_bytes = config->log_bytes };
 	im_init(s->handle);
-	call->step = OPEN;
-	call->word = 1; /* commits wait for a force */
-	call->fault = (uint32_t)config->read_only;
-	call->limit = config->frames;
-	call->txn = config->max_pages;
-	call->number = config->redo_bytes;
-	call->out_len = config->log_bytes;
-	call->more = more_frames(s, config);
-	call->key_len = call->hi_len = 0; /* descriptors: any, since vah_device_write and _read stand for them */
-	step(s, call);
+	vah_device_serve(&s->device);
+	im_open(s->handle, &asked);
 	s->device.progress = NULL;
 	if (!s->device.is_stopped)
-		return call->word == REFUSED ? fail(s, (int)call->fault) : VAH_OK;
-	if (call->word != REFUSED) { /* by the last call, when the store is open: as each call of its device fails, it is left as a kill would leave it */
-		call->step = CLOSE;
-		step(s, call);
+		return fail(s, (int)asked.fault);
+	if (!asked.fault) { /* by the last call, when the store is open: as each call of its device fails, it is left as a kill would leave it */
+		s->call->step = CLOSE;
+		step(s, s->call);
 	}
 	return fail(s, VAH_STOPPED);
 }

@@ -3,16 +3,16 @@ use Rattle.std.proofs.Common.{inl, inr, arith}
 use Rattle.std.proofs.Math.Nat.{lt_of_not-le}
 use Rattle.std.specs.Prelude.{◌≡◌, ◌⊎◌, ◌↔◌, ◌<◌, ◌≤◌, ℕ, true, false, Ok}
 use Rattle.im_base_disk.specs.declared.disk.Disk.{Ghosts}
-use Rattle.im_calls.specs.declared.call.Call.{Call}
-use Rattle.im_calls.specs.Sessions.{HasBounds, IsOpenedOn}
+use Rattle.im_calls.specs.declared.opening.Opening.{Opening}
+use Rattle.im_calls.specs.Openings.{HasBounds, IsOpenedOn}
 use Rattle.im_engine.specs.declared.config.Config.{Config}
 use Rattle.im_store.specs.declared.bounds.Bounds.{Bounds}
 use Rattle.im_store.specs.Stores.{IsOpenedStore}
 use Rattle.im_store.specs.declared.open_store.OpenStore.{OpenStore}
 
--- a store that was opened with these limits is what its call asks
-pub opened_on : {D : Type 0} (d : Ghosts D) (asked : Call) (disk : D) (config : Config) (bounds : Bounds) (s : OpenStore D d) → config.frames ≡ asked.limit → config.more.frames ≡ asked.more
-    → config.max_pages ≡ asked.txn → (config.group ≡ true) ↔ (asked.word ≡ 1) → config.workers ≡ 1 → config.dense ≡ true → HasBounds asked bounds → IsOpenedStore d config bounds disk (Ok s) → IsOpenedOn d asked disk s
+-- a store that was opened with these limits is what is asked
+pub opened_on : {D : Type 0} (d : Ghosts D) (asked : Opening) (disk : D) (config : Config) (bounds : Bounds) (s : OpenStore D d) → config.frames ≡ asked.frames → config.more.frames ≡ asked.more
+    → config.max_pages ≡ asked.max_pages → (config.group ≡ true) ↔ (asked.group ≡ 1) → config.workers ≡ 1 → config.dense ≡ true → HasBounds asked bounds → IsOpenedStore d config bounds disk (Ok s) → IsOpenedOn d asked disk s
 opened_on d asked disk config bounds s frames more pages group workers dense bounded opened = record {
   config = config;
   frames = frames;

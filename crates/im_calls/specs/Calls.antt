@@ -94,7 +94,6 @@ Tells c (answers.Refused fault) = Refuses c fault
 pub record IsAnswered (old new : Call) : Type 0 where
   pub step : new.step ≡ old.step
   pub limit : new.limit ≡ old.limit
-  pub more : new.more ≡ old.more
   pub txn : new.txn ≡ old.txn
   pub key : (new.key_len ≡ old.key_len) × (new.key ≡ old.key)
   pub hi : (new.hi_len ≡ old.hi_len) × (new.hi ≡ old.hi)

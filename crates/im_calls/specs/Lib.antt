@@ -1,5 +1,6 @@
 pub mod Calls
 pub mod Entries
+pub mod Openings
 pub mod Sessions
 pub mod Made
 pub mod Copies

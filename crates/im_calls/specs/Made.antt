@@ -2,7 +2,7 @@
 use mir.Syntax.{Dict, impl, tcons, tnil, dnil}
 use denote.Struct.Struct.{layout}
 use denote.Struct.Declared.{shape}
-use Rattle.std.specs.Prelude.{◌≡◌, ◌≢◌, ◌∷◌, [], None, Some, IfSome}
+use Rattle.std.specs.Prelude.{◌≡◌, ◌∷◌, [], None, Some, IfSome}
 use Rattle.std.specs.Option.{IsSomeAnd}
 use Rattle.im_base_disk.specs.declared.disk.Disk.{Ghosts}
 use Rattle.im_files_caller_disk.specs.declared.caller_disk.CallerDisk.{CallerDisk}
@@ -20,7 +20,9 @@ use Rattle.im_calls.specs.declared.call.Call.{Call}
 use Rattle.im_calls.specs.Calls.{IsAnswered, Refuses, Says, Shows, numbers_bytes}
 use Rattle.im_calls.specs.declared.session.Session.{Session}
 use Rattle.im_calls.specs.Copies.{IsBegunOver, IsCopyEnded, IsPieceMade}
-use Rattle.im_calls.specs.Sessions.{IsClosing, IsOpeningOver, IsForStep, IsServed, standing}
+use Rattle.im_calls.specs.declared.opening.Opening.{Opening}
+use Rattle.im_calls.specs.Openings.{AsksTheSame, IsOpeningOver}
+use Rattle.im_calls.specs.Sessions.{IsClosing, IsForStep, IsServed, standing}
 
 -- the files of a store behind a pointer: its caller's, with its logs by name
 abbrev pub own_ghosts : Ghosts (Renamed CallerFiles)
@@ -38,12 +40,16 @@ drops = impl ("im_calls::Destruct++none::drop" ∷ []) (tcons (layout (shape (th
 abbrev pub file_ghosts : Ghosts (Mirrored (Renamed CallerFiles) (Renamed CallerDisk) own_ghosts copy_ghosts)
 file_ghosts = mirrored.ghosts (renamed_row files_row) (renamed_row disk_row) own_ghosts (renamed.dict files_row files.ghosts files.dict) copy_ghosts (renamed.dict disk_row caller.ghosts caller.dict) drops
 
+-- All that `open` promises: of the opening and what it is told, and of the store before and after.
+pub record Opens (asked told : Opening) (was now : Session) : Type 0 where
+  pub question : AsksTheSame asked told
+  pub opening : was.store ≡ None → IsOpeningOver file_ghosts asked told now.store
+  pub twice : IfSome was.store (λ opened. (told.fault ≡ 10) × (now.store ≡ Some opened))
+
 -- All that `made` promises: of the question and what it is told, and of the store before and after.
 pub record Makes (asked told : Call) (was now : Session) : Type 0 where
   pub question : IsAnswered asked told
-  pub closed : was.store ≡ None → asked.step ≢ 14 → Refuses told 10 × (now.store ≡ None)
-  pub opening : was.store ≡ None → asked.step ≡ 14 → IsOpeningOver file_ghosts asked told now.store
-  pub twice : IfSome was.store (λ opened. asked.step ≡ 14 → Refuses told 10 × (now.store ≡ Some opened))
+  pub closed : was.store ≡ None → Refuses told 10 × (now.store ≡ None)
   pub ended : asked.step ≡ 15 → now.store ≡ None
   pub stat : IfSome was.store (λ opened. asked.step ≡ 13 → Says told 14 6 × (now.store ≡ Some opened))
   pub shown : IfSome was.store (λ opened. asked.step ≡ 13 → Shows told (numbers_bytes (standing file_ghosts opened.store.engine)))

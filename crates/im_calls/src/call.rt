@@ -6,24 +6,22 @@
 pub struct Call {
     /// What is asked, by its number.
     pub step: u32,
-    /// What was answered, by its number; at an opening, when it is asked, 1 where a Commit is to wait for a Force.
+    /// What was answered, by its number.
     pub word: u32,
-    /// The number of a refusal; at an opening, when it is asked, 1 where the files are only read.
+    /// The number of a refusal.
     pub fault: u32,
-    /// How many entries at most, or a page, or at an opening how many frames.
+    /// How many entries at most, or a page.
     pub limit: u32,
-    /// A transaction, or at an opening how many pages at most.
+    /// A transaction.
     pub txn: u64,
-    /// A row id, or at an opening how much log the next one may have to redo; in an answer its number.
+    /// A row id; in an answer its number.
     pub number: u64,
-    /// How many bytes of `key` are asked for, or at an opening and where a copy begins the descriptor to ask.
+    /// How many bytes of `key` are asked for, or where a copy begins the descriptor to ask.
     pub key_len: u32,
-    /// How many bytes of `hi` are asked for, or at an opening and where a copy begins the descriptor to be answered.
+    /// How many bytes of `hi` are asked for, or where a copy begins the descriptor to be answered.
     pub hi_len: u32,
-    /// How many bytes of `out` were answered; at an opening, when it is asked, how much log the next one may have to read.
+    /// How many bytes of `out` were answered.
     pub out_len: u64,
-    /// At an opening, how many frames more.
-    pub more: u64,
     /// A key, or the lower bound of a scan. One byte more than a key may have, so that a longer one is refused.
     pub key: [u8; 256],
     /// The upper bound of a scan.

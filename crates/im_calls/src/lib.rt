@@ -3,7 +3,7 @@
 //! A store that a caller of another language has by a pointer, and what that caller asks and is answered, as numbers and bytes in one place in memory.
 //!
 //! A `Session` is a store over a disk whose files its caller holds (`im_files_caller_disk`), or none while it is not open: an engine with the upkeep that its
-//! next opening wants (`im_store`). `made` does what a `Call` asks, and puts the answer in its place: a step of the store, an opening, an
+//! next opening wants (`im_store`). `open` opens it as an `Opening` asks. `made` does what a `Call` asks, and puts the answer in its place: a step of the store, an
 //! end, how it stands, or a part of a copy. Its contract says which by that of the store: the step that is asked was made (`Serves`), its opening and its end are told
 //! as they were, and a copy is begun, goes on by a piece, and ends as that of the store (`IsPieceMade`, `IsCopyEnded`). It waits for nothing: a step that is blocked is answered so, and the caller makes it again.
 //!
@@ -13,7 +13,7 @@
 //! form has the entries that were told (`entries_are_read_again`).
 //!
 //! Steps by their numbers: 0 Begin, 1 Fetch, 2 Seek, 3 Next, 4 Scan, 5 Insert, 6 Delete, 7 Commit, 8 Rollback, 9 Continue, 10 FlushPage,
-//! 11 Force, 12 Checkpoint, 16 Switch, 17 Prev. What is no step has a number of its own: 13 how the store stands, 14 Open, 15 Close, and of a copy 18 Begin,
+//! 11 Force, 12 Checkpoint, 16 Switch, 17 Prev. What is no step has a number of its own: 13 how the store stands, 15 Close, and of a copy 18 Begin,
 //! 19 Piece, 20 End. Replies: 0 Started, 1 Found, 2 Absent, 3 Entry, 4 End, 5 Entries, 6 Inserted, 7 Duplicate, 8 Deleted,
 //! 9 Committed, 10 RolledBack, 11 More, 12 Blocked by a lock, 13 Die, 14 Done, 15 Refused, 16 Blocked by a structure change.
 #![tactic(auto)]
@@ -22,6 +22,7 @@ mod call;
 mod copies;
 mod entries_read_again;
 mod opened;
+mod opening;
 mod question;
 pub mod session;
 mod telling;
@@ -29,6 +30,7 @@ mod telling;
 pub use call::Call;
 pub use entries_read_again::entries_are_read_again;
 pub use opened::Opened;
+pub use opening::Opening;
 pub use question::step_of;
-pub use session::{Files, Session, blank, made};
+pub use session::{Files, Session, blank, made, open};
 pub use telling::{answer, refuse, tell, tell_numbers};

@@ -2,10 +2,11 @@
 
 ghost use Rattle.std.specs.Prelude.{◌≡◌, ◌↔◌, ◌<◌, ◌-◌, ◌^◌, false, true, IfOk, IfErr};
 ghost use Rattle.im_base_disk.specs.Runs.{IsSynced};
-ghost use Rattle.im_calls.specs.Sessions.{HasBounds, IsOpenedOn, RefusesOpening};
+ghost use Rattle.im_calls.specs.Openings.{HasBounds, IsOpenedOn, RefusesOpening};
 ghost use Rattle.im_store.specs.LogBound.{least_or_none};
 
 use crate::call::Call;
+use crate::opening::Opening;
 use crate::question::step_of;
 use crate::telling::{answer, refuse, tell, tell_numbers};
 use im_base_disk::Disk;
@@ -24,27 +25,27 @@ pub struct Opened<D: Disk> {
 impl<D: TwoLogs + Drop> Opened<D> {
     ghost use Rattle.im_base_disk.specs.Runs.{IsSynced};
     ghost use Rattle.im_calls.specs.Calls.{IsAnswered, Says, Shows, numbers_bytes};
-    ghost use Rattle.im_calls.specs.Sessions.{IsClosing, IsOpening, Serves, standing};
+    ghost use Rattle.im_calls.specs.Openings.{AsksTheSame, IsOpening};
+    ghost use Rattle.im_calls.specs.Sessions.{IsClosing, Serves, standing};
 
-    /// Opens the store of a disk as a call asks it: `limit` frames and `more` of them more, `txn` pages at most, `number` bytes of log that the opening after
-    /// this one may have to redo, and `out_len` bytes that it may have to read, or with the greatest number the usual bounds, which grow with the file of pages;
-    /// with 1 as `word` a Commit waits for a Force. The log's buffer is of the size that programs take.
+    /// Opens the store of a disk as it is asked: with these limits and bounds, of which the usual ones grow with the file of pages. The log's buffer is of the
+    /// size that programs take.
     ///
     /// Refused, with no device call, `Capacity` where more pages are asked for than have numbers, and after that `PoolSize` where the frames more are above
     /// 261,120; and else as `OpenStore::open_alone` is with one worker: a library that is called from C can start no threads.
-    pub fn open(alloc: Global, disk: D, call: &mut Call) -> Option<Opened<D>>
+    pub fn open(alloc: Global, disk: D, asked: &mut Opening) -> Option<Opened<D>>
         requires working { D.failed disk ≡ false }
         requires synced { IsSynced D.Disk disk }
-        ensures opening { IsOpening D.Disk call.old call.new disk result }
-        ensures question { IsAnswered call.old call.new }
+        ensures opening { IsOpening D.Disk asked.old asked.new disk result }
+        ensures question { AsksTheSame asked.old asked.new }
     {
-        match store_of(alloc, disk, call) {
+        match store_of(alloc, disk, asked) {
             Ok(store) => {
-                tell(call, 14, 0);
+                asked.fault = 0;
                 Some(Opened { store })
             }
             Err(fault) => {
-                refuse(call, fault);
+                asked.refuse(fault);
                 None
             }
         }
@@ -97,49 +98,53 @@ impl<D: TwoLogs + Drop> Opened<D> {
     }
 }
 
-// The store of a disk, opened with the limits and the bounds that a call asks.
-fn store_of<D: TwoLogs + Drop>(alloc: Global, disk: D, call: &Call) -> Result<OpenStore<D>, Fault>
+// The store of a disk, opened with the limits and the bounds that are asked.
+fn store_of<D: TwoLogs + Drop>(
+    alloc: Global,
+    disk: D,
+    asked: &Opening,
+) -> Result<OpenStore<D>, Fault>
     requires working { D.failed disk ≡ false }
     requires synced { IsSynced D.Disk disk }
-    ensures opened { IfOk result (IsOpenedOn D.Disk call.now disk) }
-    ensures causes { IfErr result (RefusesOpening call.now) }
+    ensures opened { IfOk result (IsOpenedOn D.Disk asked.now disk) }
+    ensures causes { IfErr result (RefusesOpening asked.now) }
 {
-    let Ok(max_pages) = u32::try_from(call.txn) else {
+    let Ok(max_pages) = u32::try_from(asked.max_pages) else {
         return Err(Fault::Capacity);
     };
-    let Some(more) = MoreFrames::new(call.more as usize) else {
+    let Some(more) = MoreFrames::new(asked.more as usize) else {
         return Err(Fault::PoolSize);
     };
     let config = Config {
-        frames: call.limit as usize,
+        frames: asked.frames as usize,
         more,
         max_pages,
         buffer: BufferSize::OVER_FILES,
         stepped: false,
         dense: true,
-        group: waits(call),
+        group: waits(asked),
         workers: 1,
     };
-    match OpenStore::open_alone(alloc, disk, config, bounds_of(call)) {
+    match OpenStore::open_alone(alloc, disk, config, bounds_of(asked)) {
         Ok(store) => Ok(store),
         Err((fault, _disk)) => Err(fault),
     }
 }
 
 // Whether a Commit of the store that is to be opened waits for a Force.
-fn waits(call: &Call) -> bool
-    ensures { (result ≡ true) ↔ (call.now.word ≡ 1) }
+fn waits(asked: &Opening) -> bool
+    ensures { (result ≡ true) ↔ (asked.now.group ≡ 1) }
 {
-    call.word == 1
+    asked.group == 1
 }
 
 // How much log an opening may have to redo, and to read: so many bytes, or the usual bound where they are the greatest number.
-fn bounds_of(call: &Call) -> Bounds
-    ensures { HasBounds call.now result }
+fn bounds_of(asked: &Opening) -> Bounds
+    ensures { HasBounds asked.now result }
 {
     Bounds {
-        redo: redo_bound_of(call.number),
-        log: log_bound_of(call.out_len),
+        redo: redo_bound_of(asked.redo_bytes),
+        log: log_bound_of(asked.log_bytes),
     }
 }
 

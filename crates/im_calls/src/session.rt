@@ -1,13 +1,15 @@
 //! A store that may be open.
 
-ghost use Rattle.std.specs.Prelude.{◌≡◌, ◌≢◌, ◌⊎◌, ◌<◌, ◌≤◌, ◌^◌, false, None, IfSome};
+ghost use Rattle.std.specs.Prelude.{◌≡◌, ◌⊎◌, ◌<◌, ◌≤◌, ◌^◌, false, None, IfSome};
 ghost use Rattle.std.specs.Option.{IsSomeAnd};
 ghost use Rattle.im_calls.specs.Copies.{IsBegunOver, IsCopyEnded, IsPieceMade};
 ghost use Rattle.im_calls.specs.Calls.{IsAnswered, Refuses, Says, Shows, numbers_bytes};
-ghost use Rattle.im_calls.specs.Sessions.{IsClosing, IsOpeningOver, IsServed, IsForStep, standing};
+ghost use Rattle.im_calls.specs.Openings.{AsksTheSame, IsOpeningOver};
+ghost use Rattle.im_calls.specs.Sessions.{IsClosing, IsServed, IsForStep, standing};
 
 use crate::call::Call;
 use crate::opened::Opened;
+use crate::opening::Opening;
 use crate::telling::refuse;
 use im_base_disk::Disk;
 use im_base_mirror_disk::Mirrored;
@@ -18,8 +20,6 @@ use std::alloc::Global;
 
 // The numbers of what is no step.
 const STAT: u32 = 13;
-
-const OPEN: u32 = 14;
 
 const CLOSE: u32 = 15;
 
@@ -46,13 +46,47 @@ pub fn blank(alloc: Global) -> Session
     Session { alloc, store: None }
 }
 
-/// Does what is asked, and puts the answer in its place. A store that is not open answers `Failed` to all but an opening, and one that is
-/// open answers that to a second one.
+/// Opens the store over the descriptors that are asked, of files that are only read where that is asked, and puts the answer in its place. One that is open answers
+/// `Failed`.
+pub fn open(session: &mut Session, asked: &mut Opening)
+    ensures question { AsksTheSame asked.old asked.new }
+    ensures opening { session.old.store ≡ None → IsOpeningOver ⟦<Files as Disk>⟧ asked.old asked.new session.new.store }
+    ensures twice { IfSome session.old.store (λ opened. (asked.new.fault ≡ 10) × (session.new.store ≡ Some opened)) }
+{
+    if session.store.is_some() {
+        asked.refuse(Fault::Failed);
+    } else {
+        session.store = opened(session.alloc, asked);
+    }
+}
+
+fn opened(alloc: Global, asked: &mut Opening) -> Option<Opened<Files>>
+    ensures question { AsksTheSame asked.old asked.new }
+    ensures opening { IsOpeningOver ⟦<Files as Disk>⟧ asked.old asked.new result }
+{
+    let Some(disk) = disk_of(asked.ask, asked.answer, false) else {
+        asked.refuse(Fault::Device);
+        return None;
+    };
+    let files = CallerFiles::new(alloc, disk, asked.read_only == 1);
+    Opened::open(alloc, Mirrored::new(Renamed::new(files, false)), asked)
+}
+
+// The disk over two descriptors, the one to ask and the one to be answered, for the files of the store or for those of a copy.
+fn disk_of(ask: u32, answer: u32, is_copy: bool) -> Option<CallerDisk>
+    ensures some { IfSome result (λ disk. (ask < 2 ^ 31) × (answer < 2 ^ 31) × (⟦<CallerDisk as Disk>⟧.failed disk ≡ false)) }
+    ensures none { result ≡ None → (2 ^ 31 ≤ ask) ⊎ (2 ^ 31 ≤ answer) }
+{
+    let (Ok(ask), Ok(answer)) = (i32::try_from(ask), i32::try_from(answer)) else {
+        return None;
+    };
+    Some(CallerDisk::new(ask, answer, is_copy))
+}
+
+/// Does what is asked, and puts the answer in its place. A store that is not open answers `Failed`.
 pub fn made(session: &mut Session, call: &mut Call)
     ensures question { IsAnswered call.old call.new }
-    ensures closed { session.old.store ≡ None → call.old.step ≢ 14 → Refuses call.new 10 × (session.new.store ≡ None) }
-    ensures opening { session.old.store ≡ None → call.old.step ≡ 14 → IsOpeningOver ⟦<Files as Disk>⟧ call.old call.new session.new.store }
-    ensures twice { IfSome session.old.store (λ opened. call.old.step ≡ 14 → Refuses call.new 10 × (session.new.store ≡ Some opened)) }
+    ensures closed { session.old.store ≡ None → Refuses call.new 10 × (session.new.store ≡ None) }
     ensures ended { call.old.step ≡ 15 → session.new.store ≡ None }
     ensures stat { IfSome session.old.store (λ opened. call.old.step ≡ 13 → Says call.new 14 6 × (session.new.store ≡ Some opened)) }
     ensures shown { IfSome session.old.store (λ opened. call.old.step ≡ 13 → Shows call.new (numbers_bytes (standing ⟦<Files as Disk>⟧ opened.store.engine))) }
@@ -63,7 +97,6 @@ pub fn made(session: &mut Session, call: &mut Call)
     ensures served { IfSome session.old.store (λ opened. IsForStep call.old.step → IsServed ⟦<Files as Disk>⟧ call.old call.new opened session.new.store) }
 {
     match call.step {
-        OPEN => open(session, call),
         CLOSE => close(session, call),
         STAT => stat(session, call),
         COPY_BEGIN => begin_copy(session, call),
@@ -71,42 +104,6 @@ pub fn made(session: &mut Session, call: &mut Call)
         COPY_END => end_copy(session, call),
         _ => step(session, call),
     }
-}
-
-fn open(session: &mut Session, call: &mut Call)
-    ensures question { IsAnswered call.old call.new }
-    ensures opening { session.old.store ≡ None → IsOpeningOver ⟦<Files as Disk>⟧ call.old call.new session.new.store }
-    ensures twice { IfSome session.old.store (λ opened. Refuses call.new 10 × (session.new.store ≡ Some opened)) }
-{
-    if session.store.is_some() {
-        refuse(call, Fault::Failed);
-    } else {
-        session.store = opened(session.alloc, call);
-    }
-}
-
-// Opens the store over the descriptors that are `key_len` and `hi_len`. With 1 as `fault` its files are only read.
-fn opened(alloc: Global, call: &mut Call) -> Option<Opened<Files>>
-    ensures question { IsAnswered call.old call.new }
-    ensures opening { IsOpeningOver ⟦<Files as Disk>⟧ call.old call.new result }
-{
-    let Some(disk) = disk_of(call, false) else {
-        refuse(call, Fault::Device);
-        return None;
-    };
-    let files = CallerFiles::new(alloc, disk, call.fault == 1);
-    Opened::open(alloc, Mirrored::new(Renamed::new(files, false)), call)
-}
-
-// The disk over the descriptors that are `key_len` and `hi_len`, for the files of the store or for those of a copy.
-fn disk_of(call: &Call, is_copy: bool) -> Option<CallerDisk>
-    ensures some { IfSome result (λ disk. (call.now.key_len < 2 ^ 31) × (call.now.hi_len < 2 ^ 31) × (⟦<CallerDisk as Disk>⟧.failed disk ≡ false)) }
-    ensures none { result ≡ None → (2 ^ 31 ≤ call.now.key_len) ⊎ (2 ^ 31 ≤ call.now.hi_len) }
-{
-    let (Ok(ask), Ok(answer)) = (i32::try_from(call.key_len), i32::try_from(call.hi_len)) else {
-        return None;
-    };
-    Some(CallerDisk::new(ask, answer, is_copy))
 }
 
 fn close(session: &mut Session, call: &mut Call)
@@ -154,7 +151,7 @@ fn begin_copy(session: &mut Session, call: &mut Call)
         refuse(call, Fault::Failed);
         return;
     };
-    match disk_of(call, true) {
+    match disk_of(call.key_len, call.hi_len, true) {
         Some(disk) => store.begin_copy(Renamed::new(disk, false), call),
         None => refuse(call, Fault::Device),
     }

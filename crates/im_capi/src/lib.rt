@@ -1,13 +1,13 @@
 //! Which functions does C see?
 //!
-//! The store for C. C hands in memory: as many bytes as `im_size` says for a store, and a `Call` for each question. Beside it decisions over what C
+//! The store for C. C hands in memory: as many bytes as `im_size` says for a store, an `Opening` of it, and a `Call` for each question. Beside it decisions over what C
 //! has read or keeps itself: whether the files of a folder belong together, and what may be cut of them after a close (`im_files_guard`), who may begin now (`im_base_turns`), and where names
 //! and long values lie among the keys of a store (`im_names`).
 #![tactic(auto)]
 
 ghost use Rattle.std.specs.Prelude.{◌≡◌, ◌≤◌, ◌+◌, ◌↔◌, true, not, length, take, drop, MatchOption};
 ghost use Rattle.std.specs.Borrow.{sem};
-ghost use Rattle.im_capi.specs.Pointers.{bytes_of_store, room_for_store, blank_at, store_at, call_at, made_at, Question};
+ghost use Rattle.im_capi.specs.Pointers.{bytes_of_store, room_for_store, blank_at, store_at, call_at, made_at, store_to_open_at, opening_at, opened_at, Question, ToOpen};
 ghost use Rattle.im_files_guard.specs.Belonging.{Decides};
 ghost use Rattle.im_files_guard.specs.LogCuts.{log_cuts_of};
 ghost use Rattle.im_files_guard.specs.LeftLog.{current_log_of, left_log_of, walk, IsOlder};
@@ -18,7 +18,7 @@ ghost use Rattle.im_names.specs.Readings.{read_on};
 ghost use Rattle.im_base_turns.specs.Turns.{IsAwaitedBy, IsLeastOf, IsPatient, MayBegin, Owns};
 
 use im_base_turns::{Asker, Going};
-use im_calls::{Call, Session, blank, made};
+use im_calls::{Call, Opening, Session, blank, made, open};
 use std::alloc::Global;
 
 /// What a handle points to.
@@ -91,6 +91,16 @@ pub unsafe extern "C" fn im_init(alloc: Global, at: *mut Handle)
     ensures* { sem 𝓛 (blank_at at) }
 {
     std::ptr::write(at as *mut Session, blank(alloc));
+}
+
+/// Opens the store as it is asked: what lies at both pointers then is what `open` of im_calls leaves of what lay there (`Opens`).
+#[unsafe(no_mangle)]
+pub unsafe extern "C" fn im_open(at: *mut Handle, asked: *mut Opening)
+    ghost was: { ToOpen }
+    requires* { sem 𝓛 (store_to_open_at at was) ∗ sem 𝓛 (opening_at asked was) }
+    ensures* { sem 𝓛 (opened_at at asked was) }
+{
+    open(&mut *(at as *mut Session), &mut *asked);
 }
 
 /// Does what is asked of the store: what lies at both pointers then is what `made` of im_calls leaves of what lay there (`Makes`).

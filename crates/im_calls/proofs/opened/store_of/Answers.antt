@@ -15,4 +15,4 @@ returns-in-Err-clause-causes g c =
 
 pub returns-in-Ok-open_alone-clause-opened : goal.returns-in-Ok-open_alone-clause-opened
 returns-in-Ok-open_alone-clause-opened g c =
-    opened_on g.D.Disk c.args.call.now c.args.disk _ _ c.in-Ok-open_alone.store refl c.in-Some.ensures.same (search rules) c.waits.ensures refl refl c.bounds_of.ensures c.in-Ok-open_alone.ensures
+    opened_on g.D.Disk c.args.asked.now c.args.disk _ _ c.in-Ok-open_alone.store refl c.in-Some.ensures.same (search rules) c.waits.ensures refl refl c.bounds_of.ensures c.in-Ok-open_alone.ensures
