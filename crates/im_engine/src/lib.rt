@@ -10,6 +10,21 @@
 //! the checks only for its cause (`answered`, `wants`, `never`). And it calls no device where it need not (`quiet`). Between two steps an
 //! engine that works stands as `IsRunning` says; of one that has failed nothing is said but what a stop leaves, and the machine that it
 //! came to (`IsLife`).
+//!
+//! # When it has failed
+//!
+//! A step sets `failed` before its call below, and takes it back by what that answers: so a step that is left in its midst has failed. Gate, log and
+//! writer of pages do so with their own (the states of the last stand in the head of im_page_writer).
+//!
+//! | State | By | Goes to |
+//! |---|---|---|
+//! | works (`IsRunning`) | a check refuses the step (`refusal`); or it makes no call below: a begin, a rollback of a transaction with changes, an end of one without a record | works |
+//! | works | a begin, where numbers are used up (`Capacity`) | failed |
+//! | works | any other step, or a look (`entries`, `header`), before its call below | within the call, `failed` set |
+//! | within the call | an answer, among them that a lock or a page is in the way | works |
+//! | within the call | an access, a Continue or a look is refused `PagesFull` or `Memory` (`breaks`), with all as it was | works |
+//! | within the call | any other refusal of these; any of a Commit, an End, a force, a flush, a Checkpoint or a Switch | failed |
+//! | failed (`IsLife`) | any step or look: `Failed`, and no device call | failed |
 #![tactic(auto)]
 
 mod accesses;
