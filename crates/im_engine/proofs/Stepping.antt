@@ -408,7 +408,7 @@ module _ {D : Type 0} (d : Ghosts D) (step : Asked) (e : Engine D d) (only_now :
     at_once = λ _. tt;
     paced = paced_barred d (asked_by step) (Refused fault) e e refl (λ so. cc so) (λ none. let never : Some (number_of fault) ≡ None = is ∙ none in cc never);
     grouped = waits_none (asked_by step);
-    wants = λ works b before s v r. wants_none works _ _ _ _ _ _ _ (λ t. (v.txns t).net) (locks_of e.locks) _ (asked_by step);
+    wants = λ works b before s v r. wants_none works _ _ _ _ _ _ _ (λ t. (v.txns t).net) (locks_of e.locks) _ _ (asked_by step);
     quiet = λ _. refl;
     costs = costs_none (asked_by step);
     works = told_works d (asked_by step) (Refused fault) e e told_so;

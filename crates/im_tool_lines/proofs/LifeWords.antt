@@ -272,7 +272,7 @@ module _ (o : LifeOptions) where
   not_stepped = (group_lacks, (λ e. absurd (cc)), (dense_lacks, (λ e. absurd (cc)), (workers_lacks, (λ e. let codes_are : 119 ≡ 115 = ap first_code e in omega (arith, codes_are)), tt)))
 
   pub not_group : AreOthers (codes "group") behind_group
-  not_group = (dense_lacks, (λ e. absurd (cc)), (workers_lacks, (λ e. absurd (cc)), tt))
+  not_group = (dense_lacks, (λ e. let codes_are : 100 ≡ 103 = ap first_code e in omega (arith, codes_are)), (workers_lacks, (λ e. absurd (cc)), tt))
 
   pub not_dense : AreOthers (codes "dense") behind_dense
   not_dense = (workers_lacks, (λ e. absurd (cc)), tt)
