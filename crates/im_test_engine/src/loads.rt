@@ -1,5 +1,8 @@
 //! Loads onto the model disk, and openings of what they leave.
 
+ghost use Rattle.std.specs.Prelude.{◌≡◌, false, OnOk};
+ghost use Rattle.im_base_disk.specs.Runs.{IsSynced};
+
 use im_base_disk::Disk;
 use im_base_model_disk::ModelDisk;
 use im_base_two_logs::Renamed;
@@ -11,76 +14,126 @@ use std::process::Abort;
 use std::test::Fail;
 
 // A disk without bytes.
-fn empty_disk(alloc: Global) -> ModelDisk {
+fn empty_disk(alloc: Global) -> ModelDisk
+    ensures working { ⟦<ModelDisk as Disk>⟧.failed result ≡ false }
+    ensures synced { IsSynced ⟦<ModelDisk as Disk>⟧ result }
+{
     ModelDisk::new(Vec::new(alloc), Vec::new(alloc))
 }
 
-// A key as long as it is told, which ends in letters.
-fn first_key(alloc: Global, len: usize) -> Result<Vec<u8>, Fail> {
-    let mut key = Vec::new(alloc);
-    while key.len() < len {
+// The key of a number: its four bytes, the highest first, and letters up to a length.
+fn key_of(alloc: Global, number: u32, len: usize) -> Result<Vec<u8>, Fail> {
+    let mut key = Vec::from_slice(alloc, &number.to_be_bytes())?;
+    for _ in 4..len {
         key.push(b'k')?;
     }
     Ok(key)
 }
 
-// Its first four bytes are those of a number.
-fn set_number(key: &mut [u8], i: u32) {
-    key[..4].copy_from_slice(&i.to_be_bytes());
+// Puts the keys of so many numbers, each with its number.
+fn put_all<D: Disk>(
+    alloc: Global,
+    loader: &mut Loader,
+    disk: &mut D,
+    entries: u32,
+    len: usize,
+) -> Result<(), Fail>
+    requires working { D.failed disk.old ≡ false }
+    ensures works { OnOk result (D.failed disk.new ≡ false) }
+{
+    for number in 0..entries {
+        let key = key_of(alloc, number, len)?;
+        loader.put(disk, &key, number as u64)?;
+    }
+    Ok(())
 }
 
 // Loads so many keys of a length.
-fn load<D: Disk>(alloc: Global, disk: &mut D, entries: u32, len: usize) -> Result<(), Fail> {
+fn load<D: Disk>(alloc: Global, disk: &mut D, entries: u32, len: usize) -> Result<(), Fail>
+    requires working { D.failed disk.old ≡ false }
+{
     let Some(mut loader) = Loader::begin(alloc, disk)? else {
         return Err(Fault::NotAStore)?;
     };
-    let mut key = first_key(alloc, len)?;
-    for i in 0..entries {
-        set_number(&mut key, i);
-        loader.put(disk, &key, 7 + i as u64)?;
-    }
+    put_all(alloc, &mut loader, disk, entries, len)?;
     loader.finish(disk)?;
     Ok(())
 }
 
-fn opened(alloc: Global, disk: &ModelDisk) -> Result<Engine<Renamed<ModelDisk>>, Fail> {
-    let disk = Renamed::new(disk.after_stop(alloc)?, false);
-    match Engine::open_alone(alloc, disk, Config::default()) {
+// Opens the store of a disk.
+fn open<D: Disk + Drop>(alloc: Global, disk: D) -> Result<Engine<Renamed<D>>, Fault>
+    requires working { D.failed disk ≡ false }
+    requires synced { IsSynced D.Disk disk }
+{
+    match Engine::open_alone(alloc, Renamed::new(disk, false), Config::default()) {
         Ok(engine) => Ok(engine),
-        Err((fault, _disk)) => Err(fault)?,
+        Err((fault, _disk)) => Err(fault),
     }
 }
 
+// Opens what a stop now leaves.
+fn opened(alloc: Global, disk: &ModelDisk) -> Result<Engine<Renamed<ModelDisk>>, Fault> {
+    let left = disk.after_stop(alloc)?;
+    open(alloc, left)
+}
+
+fn end(_engine: Engine<Renamed<ModelDisk>>) {}
+
 // How an opening is refused, if it is.
-fn refusal(alloc: Global, disk: &ModelDisk) -> Result<Option<Fault>, Fail> {
-    let disk = Renamed::new(disk.after_stop(alloc)?, false);
-    match Engine::open_alone(alloc, disk, Config::default()) {
-        Ok(_engine) => Ok(None),
-        Err((fault, _disk)) => Ok(Some(fault)),
+fn refusal(alloc: Global, disk: &ModelDisk) -> Option<Fault> {
+    match opened(alloc, disk) {
+        Ok(engine) => {
+            end(engine);
+            None
+        },
+        Err(fault) => Some(fault),
     }
 }
 
 // The entries are those of a load.
-fn are_loaded(alloc: Global, entries: &[(Key, Rid)], len: usize) -> Result<bool, Fail> {
-    let mut wanted = first_key(alloc, len)?;
-    let mut i = 0u32;
-    for (key, rid) in entries {
-        set_number(&mut wanted, i);
-        if key.bytes() != wanted.as_slice() || *rid != 7 + i as u64 {
-            return Ok(false);
+fn are_loaded(alloc: Global, found: &[(Key, Rid)], entries: u32, len: usize) -> Result<bool, Fail> {
+    for number in 0..entries {
+        let wanted = key_of(alloc, number, len)?;
+        match found.get(number as usize) {
+            Some(entry) => {
+                if entry.0.bytes() != wanted.as_slice() || entry.1 != number as u64 {
+                    return Ok(false);
+                }
+            },
+            None => return Ok(false),
         }
-        i += 1;
     }
-    Ok(true)
+    Ok(found.len() == entries as usize)
+}
+
+// How many entries there are, and whether they are those of a load.
+fn found<D: Disk>(
+    alloc: Global,
+    engine: &mut Engine<D>,
+    entries: u32,
+    len: usize,
+) -> Result<(usize, bool), Fail> {
+    let found = engine.entries(alloc)?;
+    Ok((found.len(), are_loaded(alloc, &found, entries, len)?))
+}
+
+// What an engine finds after a load.
+fn found_after(
+    alloc: Global,
+    disk: &ModelDisk,
+    entries: u32,
+    len: usize,
+) -> Result<(usize, bool), Fail> {
+    let mut engine = opened(alloc, disk)?;
+    let told = found(alloc, &mut engine, entries, len);
+    end(engine);
+    told
 }
 
 fn check(rt: &impl Abort, alloc: Global, entries: u32, len: usize) -> Result<(), Fail> {
     let mut disk = empty_disk(alloc);
     load(alloc, &mut disk, entries, len)?;
-    let mut engine = opened(alloc, &disk)?;
-    let found = engine.entries(alloc)?;
-    assert!(rt; found.len() == entries as usize);
-    assert!(rt; are_loaded(alloc, &found, len)?);
+    assert!(rt; found_after(alloc, &disk, entries, len)? == (entries as usize, true));
     Ok(())
 }
 
@@ -114,21 +167,28 @@ fn a_hundred_thousand(rt: HostRuntime) -> Result<(), Fail> {
     check(&rt, rt.alloc(), 100_000, 12)
 }
 
+// Puts two keys that rise, and between them two that do not.
+fn put_falling<D: Disk>(rt: &impl Abort, alloc: Global, disk: &mut D) -> Result<(), Fail>
+    requires working { D.failed disk.old ≡ false }
+{
+    let Some(mut loader) = Loader::begin(alloc, disk)? else {
+        return Err(Fault::NotAStore)?;
+    };
+    assert!(rt; loader.put(disk, b"b", 1)?);
+    assert!(rt; !loader.put(disk, b"b", 2)?);
+    assert!(rt; !loader.put(disk, b"a", 3)?);
+    assert!(rt; loader.put(disk, b"c", 4)?);
+    loader.finish(disk)?;
+    Ok(())
+}
+
 // A key that is not above the last is not taken, and changes nothing: the load goes on.
 #[test]
 fn keys_that_do_not_rise(rt: HostRuntime) -> Result<(), Fail> {
     let alloc = rt.alloc();
     let mut disk = empty_disk(alloc);
-    let Some(mut loader) = Loader::begin(alloc, &mut disk)? else {
-        return Err(Fault::NotAStore)?;
-    };
-    assert!(&rt; loader.put(&mut disk, b"b", 1)?);
-    assert!(&rt; !loader.put(&mut disk, b"b", 2)?);
-    assert!(&rt; !loader.put(&mut disk, b"a", 3)?);
-    assert!(&rt; loader.put(&mut disk, b"c", 4)?);
-    loader.finish(&mut disk)?;
-    let mut engine = opened(alloc, &disk)?;
-    assert!(&rt; engine.entries(alloc)?.len() == 2);
+    put_falling(&rt, alloc, &mut disk)?;
+    assert!(&rt; found_after(alloc, &disk, 0, 0)? == (2, false));
     Ok(())
 }
 
@@ -142,21 +202,24 @@ fn files_with_bytes(rt: HostRuntime) -> Result<(), Fail> {
     Ok(())
 }
 
+// Begins a load of a thousand keys.
+fn load_half<D: Disk>(alloc: Global, disk: &mut D) -> Result<(), Fail>
+    requires working { D.failed disk.old ≡ false }
+{
+    let Some(mut loader) = Loader::begin(alloc, disk)? else {
+        return Err(Fault::NotAStore)?;
+    };
+    put_all(alloc, &mut loader, disk, 1_000, 12)
+}
+
 // Before it is ended a load has made no log: an opening of its files is refused, once they have a page.
 #[test]
 fn a_half(rt: HostRuntime) -> Result<(), Fail> {
     let alloc = rt.alloc();
     let mut disk = empty_disk(alloc);
-    let Some(mut loader) = Loader::begin(alloc, &mut disk)? else {
-        return Err(Fault::NotAStore)?;
-    };
-    let mut key = first_key(alloc, 12)?;
-    for i in 0..1_000u32 {
-        set_number(&mut key, i);
-        loader.put(&mut disk, &key, 7)?;
-    }
+    load_half(alloc, &mut disk)?;
     assert!(&rt; disk.end(FileId::Log) == 0);
-    assert!(&rt; refusal(alloc, &disk)? == Some(Fault::NotAStore));
+    assert!(&rt; refusal(alloc, &disk) == Some(Fault::NotAStore));
     Ok(())
 }
 
@@ -169,21 +232,26 @@ fn letters(alloc: Global, keys: &[u8]) -> Result<Vec<(Key, Rid)>, Fail> {
     Ok(entries)
 }
 
+// How a load of such entries ends onto what a stop now leaves of a disk, and what it leaves.
+fn loaded(alloc: Global, disk: &ModelDisk, keys: &[u8]) -> Result<(Ending, ModelDisk), Fail> {
+    let entries = letters(alloc, keys)?;
+    let mut left = disk.after_stop(alloc)?;
+    let ending = load_all(alloc, &mut left, &entries)?;
+    Ok((ending, left))
+}
+
 // Entries that are all at hand, in one call.
 #[test]
 fn at_once(rt: HostRuntime) -> Result<(), Fail> {
     let alloc = rt.alloc();
-    let mut disk = empty_disk(alloc);
-    let ending = load_all(alloc, &mut disk, &letters(alloc, b"abc")?)?;
+    let empty = empty_disk(alloc);
+    let (ending, disk) = loaded(alloc, &empty, b"abc")?;
     assert!(&rt; ending == Ending::Loaded);
-    let mut engine = opened(alloc, &disk)?;
-    assert!(&rt; engine.entries(alloc)?.len() == 3);
-    let again = load_all(alloc, &mut disk, &letters(alloc, b"d")?)?;
+    assert!(&rt; found_after(alloc, &disk, 0, 0)?.0 == 3);
+    let (again, _same) = loaded(alloc, &disk, b"d")?;
     assert!(&rt; again == Ending::NotEmpty);
-    let mut other = empty_disk(alloc);
-    let falls = load_all(alloc, &mut other, &letters(alloc, b"acb")?)?;
+    let (falls, other) = loaded(alloc, &empty, b"acb")?;
     assert!(&rt; falls == Ending::NotRising);
-    let mut new = opened(alloc, &other)?;
-    assert!(&rt; new.entries(alloc)?.len() == 0);
+    assert!(&rt; found_after(alloc, &other, 0, 0)?.0 == 0);
     Ok(())
 }
