@@ -43,7 +43,7 @@ int main(int argc, char **argv)
 	if (!(handle = malloc(im_size()))) return 1;
 	im_init(handle);
 	vah_device_serve(&device);
-	struct opening asked = { .frames = config.frames, .max_pages = config.max_pages, .redo_bytes = config.redo_bytes, .log_bytes = config.log_bytes };
+	struct store_opening asked = { .frames = config.frames, .max_pages = config.max_pages, .redo_bytes = config.redo_bytes, .log_bytes = config.log_bytes };
 	im_open(handle, &asked);
 	IS((int)asked.fault, 0);
 

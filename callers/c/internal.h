@@ -11,10 +11,10 @@
 
 struct call;
 struct handle;
-struct opening;
+struct store_opening;
 size_t im_size(void);
 void im_init(struct handle *at);
-void im_open(struct handle *at, struct opening *asked);
+void im_open(struct handle *at, struct store_opening *asked);
 void im_step(struct handle *at, struct call *call);
 
 /* Who may begin now: crates/im_base_turns/src/going.rt and asker.rt, in the order of C, and what is asked of them, which crates/im_capi says. The
@@ -53,13 +53,13 @@ _Static_assert(sizeof(struct call) == 68144 && offsetof(struct call, txn) == 16 
 	&& offsetof(struct call, out) == 560, "the call is laid out as im_calls has it");
 
 /* What an opening asks of it, and the number of a refusal: crates/im_calls/src/opening.rt, in the order of C. */
-struct opening {
+struct store_opening {
 	uint32_t ask, answer;   /* descriptors: any, since vah_device_write and _read stand for them */
 	uint32_t read_only, group, frames, fault;
 	uint64_t more, max_pages, redo_bytes, log_bytes;
 };
-_Static_assert(sizeof(struct opening) == 56 && offsetof(struct opening, frames) == 16 && offsetof(struct opening, more) == 24
-	&& offsetof(struct opening, log_bytes) == 48, "the opening is laid out as im_calls has it");
+_Static_assert(sizeof(struct store_opening) == 56 && offsetof(struct store_opening, frames) == 16 && offsetof(struct store_opening, more) == 24
+	&& offsetof(struct store_opening, log_bytes) == 48, "the opening is laid out as im_calls has it");
 _Static_assert(sizeof(vah_entry) == 264 && offsetof(vah_entry, key) == 9, "bindings know the entry by these");
 _Static_assert(sizeof(vah_ref) == 24 && offsetof(vah_ref, rid) == 16, "bindings know a place in an answer by these");
 _Static_assert(sizeof(vah_config) == 72 && offsetof(vah_config, redo_bytes) == 16 && offsetof(vah_config, log_bytes) == 24

@@ -83,7 +83,7 @@ static uint64_t more_frames(const struct store *s, const vah_config *config)
 /* Opens the store over the files that are open. */
 static int open_session(struct store *s, const vah_config *config)
 {
-	struct opening asked = { .read_only = (uint32_t)config->read_only, .group = 1 /* commits wait for a force */, .frames = config->frames,
+	struct store_opening asked = { .read_only = (uint32_t)config->read_only, .group = 1 /* commits wait for a force */, .frames = config->frames,
 		.more = more_frames(s, config), .max_pages = config->max_pages, .redo_bytes = config->redo_bytes, .log_bytes = config->log_bytes };
 	im_init(s->handle);
 	vah_device_serve(&s->device);
