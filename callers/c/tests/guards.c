@@ -155,21 +155,21 @@ static void left_log(void)
 	vah_store *store;
 	reads.read_only = 1;
 	/* (of more keys a close would leave the current log, too) */
-	leave_store(20, 3);
+	leave_store(10, 3);
 	long long whole = length_of("log"), kept = first_batch_end("log");
 	HOLDS(kept + 1 < whole);
 	OK(vah_open(dir, &reads, &store));
 	OK(vah_close(store));
 	HOLDS(length_of("log") == whole);
-	has_keys(23);
+	has_keys(13);
 	HOLDS(length_of("log") == kept && length_of("log2") > first_batch_end("log2"));
-	has_keys(23);
+	has_keys(13);
 	HOLDS(length_of("log") == kept);
 	OK(vah_open(dir, NULL, &store));
 	OK(vah_switch(store));
 	OK(vah_close(store));
 	HOLDS(length_of("log2") == first_batch_end("log2") && length_of("log") == GATE_AT + 1);
-	has_keys(23);
+	has_keys(13);
 }
 
 /* A store without keys, whose other log was being made when it was stopped: where a record of a log before stood there are any bytes. */
