@@ -11,17 +11,21 @@ pub struct ShortKey {
 }
 
 impl ShortKey {
-    /// A copy of these bytes.
-    pub fn from_slice(bytes: &[u8]) -> ShortKey
-        requires { length bytes.now ≤ 31 }
-        ensures { take result.len result.bytes ≡ bytes.now }
-    {
-        let mut copy = [0; 31];
-        copy[..bytes.len()].copy_from_slice(bytes);
+    /// No bytes.
+    pub fn empty() -> ShortKey {
         ShortKey {
-            bytes: copy,
-            len: bytes.len() as u8,
+            bytes: [0; 31],
+            len: 0,
         }
+    }
+
+    /// Makes it a copy of these bytes, where it stands: to make it first and to move it then would wait for the bytes.
+    pub fn set(&mut self, bytes: &[u8])
+        requires { length bytes.now ≤ 31 }
+        ensures { take self.new.len self.new.bytes ≡ bytes.now }
+    {
+        self.bytes[..bytes.len()].copy_from_slice(bytes);
+        self.len = bytes.len() as u8;
     }
 
     /// The bytes.
