@@ -6,4 +6,5 @@ pub mod Held
 pub mod Locked
 pub mod Owners
 pub mod Conflicts
+pub mod FreeLocks
 pub mod ScanRows
