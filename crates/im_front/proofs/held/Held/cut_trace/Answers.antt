@@ -7,8 +7,12 @@ use Rattle.im_front.specs.declared.recorded.Recorded.{Recorded}
 use Rattle.im_front.specs.Traces.{trace_of}
 use Rattle.im_front.specs.Events.{shown_in}
 use Rattle.im_front.specs.Cuts.{ComesFirst}
-use Rattle.im_front.specs.Held.{State, IsTallied, Stands, IsCut, forces_in}
-use Rattle.im_front.proofs.Steps.{stands_cut, stands_look, tallied_as, tallied_cut, none_waiting, rest_walk, is_cut, length-trace_of}
+use Rattle.im_front.specs.Made.{EndsIn}
+use Rattle.im_front.specs.Made.AreMade.{looked}
+use Rattle.im_front.specs.Locked.{seen_of}
+use Rattle.im_front.specs.Held.{State, IsTallied, Stands, IsCut}
+use Rattle.im_front.proofs.Growing.{ends_cut}
+use Rattle.im_front.proofs.Steps.{stands_cut, stands_life, stands_look, tallied_as, tallied_cut, none_waiting, rest_walk, is_cut, length-trace_of}
 use Rattle.im_front.proofs.Cuts.{told_failed, told_busy, told_else}
 use Rattle.im_front.proofs.held.Held.cut_trace.Goals as goal
 
@@ -29,6 +33,13 @@ invariant_of-self g c =
       i.7 ∙ sym c.in_err-base.ensures.waiting,
       i.8,
       i.9,
+      (i.10.0, looked c.self.inside.history.steps c.self.inside.engine c.entries.new.self i.10.1 c.in_err-base.ensures.looked),
+      (λ tells.
+          let h = i.11 tells in
+          let look = c.in_err-base.ensures.kept h.1.before (shown_in nothing_shown h.1.events) h.1.view h.1.life_is in
+          (h.0, stands_look g.E.Store.life h.0 (seen_of c.self.inside.history.steps) c.self.inside.engine h.1 c.entries.new.self look)),
+      i.12,
+      i.13,
     )
 
 pub invariant_of-self-2 : goal.invariant_of-self-2
@@ -47,7 +58,7 @@ invariant_of-self-2 g c =
       (λ tells.
           let h = i.0 tells in
           let list = c.in_ok-base.ensures.list h.before (shown_in nothing_shown h.events) h.view h.life_is in
-          let running : h.view.failed ≡ false = sym (c.failed.ensures h.before (shown_in nothing_shown h.events) h.view h.life_is) ∙ c.if-failed.false in
+          let running : h.view.failed ≡ false = sym (c.failed.ensures.machine h.before (shown_in nothing_shown h.events) h.view h.life_is) ∙ c.if-failed.false in
           let active = c.active.ensures.machine h.before (shown_in nothing_shown h.events) h.view h.life_is in
           let none : h.view.active ≡ 0 = sym active ∙ c.is_busy.ensures.free c.if-is_busy.false in
           let walk = rest_walk g.E.Store.life c.self.inside.base.items trace c.self.inside.engine h (c.isolation.ensures (apply_all empty h.before) h.first) running none in
@@ -61,8 +72,16 @@ invariant_of-self-2 g c =
       i.5,
       i.6,
       i.7 ∙ sym c.in_ok-base.ensures.waiting,
-      subst (λ (l : List Recorded). c.self.inside.forces ≡ c.self.inside.forces + forces_in (trace_of l)) none_left (omega arith),
+      i.8,
       (let empty_now = ap length c.clear.ensures.items in omega (arith, i.9, empty_now)),
+      (i.10.0, looked c.self.inside.history.steps c.self.inside.engine c.entries.new.self i.10.1 c.in_ok-base.ensures.looked),
+      (λ tells.
+          let h = i.11 tells in
+          let list = c.in_ok-base.ensures.list h.1.before (shown_in nothing_shown h.1.events) h.1.view h.1.life_is in
+          (h.0, stands_life g.E.Store.life h.0 (seen_of c.self.inside.history.steps) c.self.inside.engine h.1 c.entries.new.self list.1)),
+      subst (λ (l : List Recorded). EndsIn (seen_of c.self.inside.history.steps) (c.self.inside.cut + c.len-2.result) (trace_of l)) none_left
+          (subst (λ (n : ℕ). EndsIn (seen_of c.self.inside.history.steps) n []) cut (ends_cut (seen_of c.self.inside.history.steps) trace c.self.inside.cut i.12)),
+      i.13,
     )
 
 pub returns-clause-base : goal.returns-clause-base
@@ -70,7 +89,7 @@ returns-clause-base g c tells =
     let h = c.self.invariant.0 tells in
     let trace = trace_of c.self.inside.trace.items in
     let list = c.in_ok-base.ensures.list h.before (shown_in nothing_shown h.events) h.view h.life_is in
-    let running : h.view.failed ≡ false = sym (c.failed.ensures h.before (shown_in nothing_shown h.events) h.view h.life_is) ∙ c.if-failed.false in
+    let running : h.view.failed ≡ false = sym (c.failed.ensures.machine h.before (shown_in nothing_shown h.events) h.view h.life_is) ∙ c.if-failed.false in
     let active = c.active.ensures.machine h.before (shown_in nothing_shown h.events) h.view h.life_is in
     let none : h.view.active ≡ 0 = sym active ∙ c.is_busy.ensures.free c.if-is_busy.false in
     let walk = rest_walk g.E.Store.life c.self.inside.base.items trace c.self.inside.engine h (c.isolation.ensures (apply_all empty h.before) h.first) running none in
@@ -80,15 +99,15 @@ returns-clause-base g c tells =
 
 pub returns-then-failed-clause-first : goal.returns-then-failed-clause-first
 returns-then-failed-clause-first g c =
-    subst (λ (s : State g.row.E.Denot). ComesFirst g.E.Store s.engine (Err Failed)) c.self.view_is (told_failed g.E.Store c.self.inside.engine c.failed.result c.failed.ensures c.if-failed.true)
+    subst (λ (s : State g.row.E.Denot). ComesFirst g.E.Store s.engine (Err Failed)) c.self.view_is (told_failed g.E.Store c.self.inside.engine c.failed.result c.failed.ensures.machine c.if-failed.true)
 
 pub returns-then-is_busy-clause-first : goal.returns-then-is_busy-clause-first
 returns-then-is_busy-clause-first g c =
-    subst (λ (s : State g.row.E.Denot). ComesFirst g.E.Store s.engine (Err Busy)) c.self.view_is (told_busy g.E.Store c.self.inside.engine c.failed.result c.failed.ensures c.if-failed.false)
+    subst (λ (s : State g.row.E.Denot). ComesFirst g.E.Store s.engine (Err Busy)) c.self.view_is (told_busy g.E.Store c.self.inside.engine c.failed.result c.failed.ensures.machine c.if-failed.false)
 
 pub returns-clause-first : goal.returns-clause-first
 returns-clause-first g c =
     subst (λ (s : State g.row.E.Denot). ComesFirst g.E.Store s.engine (Ok tt)) c.self.view_is (
-    told_else g.E.Store c.self.inside.engine c.failed.result c.failed.ensures c.if-failed.false c.active.result c.active.ensures.machine (c.is_busy.ensures.free c.if-is_busy.false) (Ok tt)
+    told_else g.E.Store c.self.inside.engine c.failed.result c.failed.ensures.machine c.if-failed.false c.active.result c.active.ensures.machine (c.is_busy.ensures.free c.if-is_busy.false) (Ok tt)
     (sym c.active.ensures.count ∙ c.is_busy.ensures.free c.if-is_busy.false)
     )
