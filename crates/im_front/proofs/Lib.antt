@@ -1,4 +1,5 @@
 pub mod Acknowledging
+pub mod Answering
 pub mod Balance
 pub mod Growing
 pub mod Replies

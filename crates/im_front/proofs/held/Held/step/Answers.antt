@@ -142,3 +142,14 @@ returns-clause-full g c =
       (λ f. absurd (true≢false (sym f ∙ room))),
       (λ q. absurd (true≢false (sym (search rules) ∙ c.if-is_refused.false))),
     )
+
+pub returns-then-is_blocked-clause-suits : goal.returns-then-is_blocked-clause-suits
+returns-then-is_blocked-clause-suits g c _ _ = (c.step-reply.ensures.reply (alive_of g.E.Store.life g.E.Store.tells c.self.inside.base.items (trace_of c.self.inside.trace.items) c.self.inside.engine c.self.invariant.0)).suits
+
+pub returns-clause-suits : goal.returns-clause-suits
+returns-clause-suits g c _ _ = (c.step-reply.ensures.reply (alive_of g.E.Store.life g.E.Store.tells c.self.inside.base.items (trace_of c.self.inside.trace.items) c.self.inside.engine c.self.invariant.0)).suits
+
+pub returns-clause-same : goal.returns-clause-same
+returns-clause-same g c f =
+    let alive = alive_of g.E.Store.life g.E.Store.tells c.self.inside.base.items (trace_of c.self.inside.trace.items) c.self.inside.engine c.self.invariant.0 in
+    absurd (true≢false (sym f ∙ (c.step-reply.ensures.reply alive).room))
