@@ -35,6 +35,7 @@ mod error;
 mod index;
 mod key_range;
 mod layout;
+mod load;
 mod options;
 mod range;
 mod store;
