@@ -33,15 +33,15 @@ SEEN = {"im_size", "im_belong", "im_left_log", "im_left_go_on", "im_left_take", 
 MAIN = """
 fn main(rt: HostRuntime) {
     let _size = im_size();
-    let none = im_files_guard::Front::NONE;
-    let folder = im_files_guard::Folder { log: none, log2: none, pages: im_files_guard::PagesFront::NONE, has_part: false };
+    let none = im_files_belonging::Front::NONE;
+    let folder = im_files_belonging::Folder { log: none, log2: none, pages: im_files_belonging::PagesFront::NONE, has_part: false };
     let _word = im_belong(&folder);
-    let mut left = im_files_guard::LeftLog::begin(&folder);
+    let mut left = im_files_belonging::LeftLog::begin(&folder);
     im_left_log(&folder, &mut left);
     im_left_take(&mut left, &[0]);
     im_left_go_on(&folder, &mut left);
     let _older = im_is_older(&left, 0, 0);
-    let mut cuts = im_files_guard::LogCuts::of(&folder);
+    let mut cuts = im_files_belonging::LogCuts::of(&folder);
     im_log_cuts(&folder, &mut cuts);
     let asker = Asker { ticket: 0, mine: 0, came: 0, thread: 0, tick: 0, patience: 0 };
     let going = [Going { number: 0, seen: 0, thread: 0, had: 0, agains: 0 }];

@@ -1,5 +1,5 @@
 /* The files of a store, and the calls of the system that it asks for. Whether the files of a folder belong together is decided by what FileDisk asks too
- * (crates/im_files_guard), which is proved: here they are opened, locked, read and synced. The two are tested on one list,
+ * (crates/im_files_belonging), which is proved: here they are opened, locked, read and synced. The two are tested on one list,
  * examples/programs/imstore_guards_files. */
 #define _GNU_SOURCE
 #include "files.h"
@@ -338,7 +338,7 @@ static int open_file(struct opening *o, const char *name)
 	return not_standard(o, fd);
 }
 
-/* What is read of the files of a folder, as crates/im_files_guard has it (src/folder.rt): how long each is, its first bytes, zeros where it has no more, and
+/* What is read of the files of a folder, as crates/im_files_belonging has it (src/folder.rt): how long each is, its first bytes, zeros where it has no more, and
  * whether it is there. Of `pages` no byte is read where it has no whole page. And whether there is a `log.part`. */
 struct log_front { uint64_t len; uint8_t bytes[65]; bool is_there; };
 struct pages_front { uint64_t len; uint8_t bytes[28]; bool is_there; };

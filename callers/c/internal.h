@@ -17,7 +17,7 @@ void im_init(struct handle *at);
 void im_open(struct handle *at, struct store_opening *asked);
 void im_step(struct handle *at, struct call *call);
 
-/* Who may begin now: crates/im_base_turns/src/going.rt and asker.rt, in the order of C, and what is asked of them, which crates/im_capi says. The
+/* Who may begin now: crates/im_base_admission/src/going.rt and asker.rt, in the order of C, and what is asked of them, which crates/im_capi says. The
  * numbers that are atomic here are changed under the store's lock alone, and read by the proved library under it. */
 struct going {
 	atomic_ullong number;   /* the engine's; 0 where it has not begun */
@@ -27,7 +27,7 @@ struct going {
 	uint64_t agains;        /* how often it gave way, since it was first */
 };
 struct asker { uint64_t ticket, mine, came, thread, tick, patience; };
-_Static_assert(sizeof(struct going) == 40 && sizeof(struct asker) == 48, "both are laid out as im_base_turns has them");
+_Static_assert(sizeof(struct going) == 40 && sizeof(struct asker) == 48, "both are laid out as im_base_admission has them");
 _Bool im_may_begin(const struct going *going, size_t len, uint64_t first, const struct asker *asker);
 uint64_t im_oldest(const struct going *going, size_t len, const struct asker *asker, uint64_t came);
 uint64_t im_earliest(const struct going *going, size_t len);

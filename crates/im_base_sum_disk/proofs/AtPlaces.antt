@@ -6,7 +6,7 @@ use Rattle.std.proofs.lemmas.Bool.Decides.{nat_tests}
 use Rattle.std.proofs.lemmas.List.{drop-drop, drop_more, drop_all}
 use Rattle.std.proofs.lemmas.Option.{none-some}
 use Rattle.im_base_disk.specs.Sums.{batch_length, base_in, counts, is_third, is_whole, pick, records, salt_in, shown, shows, shows_by_header, sum_fits, sum_of}
-use Rattle.im_base_sum_disk.specs.Digest.{digest}
+use Rattle.im_base_sum_disk.specs.Digest.{salted_digest}
 use Rattle.im_base_sum_disk.specs.Leaves.{ShowsNoMore}
 
 by_header : (file : List ℕ) (p : ℕ) → is_third file ≡ true → shows_by_header p file ≡ shows (sum_fits (salt_in file)) (base_in file) p file
@@ -56,7 +56,7 @@ whole_some behind whole = grind (arith, nat_tests)
 
 -- the test of a sum
 pub sum_test : (file behind : List ℕ) (place size base number digested : ℕ) → behind ≡ drop (place + 1) file → size ≡ batch_length behind → place < length file → is_whole (drop (place + 1) file) ≡ true
-    → number ≡ from_be_bytes w64 (take 8 (drop (size - 4) behind)) → base ≡ base_in file → digested ≡ digest (salt_in file) (base + place) (take (place + size - 3 - place) (drop place file))
+    → number ≡ from_be_bytes w64 (take 8 (drop (size - 4) behind)) → base ≡ base_in file → digested ≡ salted_digest (salt_in file) (base + place) (take (place + size - 3 - place) (drop place file))
     → nat_eq number digested ≡ sum_fits (salt_in file) (base_in file + place) (get_or file place 0) (drop (place + 1) file)
 unfolding sum_of
 sum_test file behind place size base number digested rest sized within whole number_is base_is digested_is =
@@ -67,5 +67,5 @@ sum_test file behind place size base number digested rest sized within whole num
     ∙ ap (λ (k : ℕ). take k (get_or file place 0 ∷ drop (place + 1) file)) (let same : place + size - 3 - place ≡ suc (batch_length (drop (place + 1) file) - 4) = omega (arith, size_is, some) in same) in
     let found : number ≡ from_be_bytes w64 (take 8 (drop (batch_length (drop (place + 1) file) - 4) (drop (place + 1) file))) =
     number_is ∙ (λ i. from_be_bytes w64 (take 8 (drop (size_is i - 4) (rest i)))) in
-    let made = digested_is ∙ (λ i. digest (salt_in file) (base_is i + place) (batch_is i)) in
+    let made = digested_is ∙ (λ i. salted_digest (salt_in file) (base_is i + place) (batch_is i)) in
     (λ i. nat_eq (found i) (made i))

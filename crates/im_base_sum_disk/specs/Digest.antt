@@ -3,5 +3,5 @@ use Rattle.std.specs.Prelude.{ℕ, List}
 use Rattle.std.specs.Int.{w64, to_be_bytes}
 use Rattle.std.specs.Hash.DefaultHasher as sip
 
-abbrev pub digest : (salt : List ℕ) (lsn : ℕ) → List ℕ → ℕ
-digest salt lsn batch = sip.finish (sip.write (sip.write (sip.write sip.initial salt) (to_be_bytes w64 lsn)) batch)
+abbrev pub salted_digest : (salt : List ℕ) (lsn : ℕ) → List ℕ → ℕ
+salted_digest salt lsn batch = sip.finish (sip.write (sip.write (sip.write sip.initial salt) (to_be_bytes w64 lsn)) batch)

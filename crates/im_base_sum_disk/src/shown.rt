@@ -3,7 +3,7 @@
 ghost use Rattle.std.specs.Prelude.{◌≡◌, ◌+◌, ◌-◌, ◌^◌, ◌<◌, ◌≤◌, ℕ, List, Some, None, true, length, take, drop, slice_index, IfSome, false};
 ghost use Rattle.std.specs.Int.{w64, from_be_bytes};
 ghost use Rattle.im_base_disk.specs.Sums.{batch_length, base_in, counts, is_open, is_third, is_whole, salt_in, shows_by_header, sum_fits};
-ghost use Rattle.im_base_sum_disk.specs.Digest.{digest};
+ghost use Rattle.im_base_sum_disk.specs.Digest.{salted_digest};
 ghost use Rattle.im_base_sum_disk.specs.Leaves.{ShowsNoMore, ShowsThere};
 
 use byteorder::{BigEndian, ByteOrder};
@@ -59,7 +59,7 @@ fn is_whole(behind: &[u8]) -> bool
 
 // The digest of salt, LSN, and a batch from its gate to its records.
 fn digest(salt: &[u8], lsn: u64, batch: &[u8]) -> u64
-    ensures { result ≡ digest salt.now lsn batch.now }
+    ensures { result ≡ salted_digest salt.now lsn batch.now }
 {
     let mut hasher = DefaultHasher::new();
     hasher.write(salt);

@@ -11,6 +11,6 @@ mod look_ups;
 mod table;
 mod transaction;
 
-pub use look_ups::{look_ups_follow, numbers_stay_below};
+pub use look_ups::{law_numbers_stay_below, look_ups_follow};
 pub use table::Table;
 pub use transaction::{Mark, Transaction};

@@ -9,6 +9,6 @@ pub fn look_ups_follow()
 {}
 
 /// Numbers stay below the next one to be given. It does nothing: its contract is the law.
-pub fn numbers_stay_below()
+pub fn law_numbers_stay_below()
     ensures { NumbersStayBelow }
 {}

@@ -8,7 +8,7 @@ use im_base_disk::{Disk, read_vec};
 use im_base_model_disk::ModelDisk;
 use im_base_types::{Fault, FileId, MOST_FRAMES};
 use im_bench_layers::keys::{key_of, scattered};
-use im_engine_index::{LockAnswer, fetch};
+use im_engine_access::{LockAnswer, fetch};
 use im_engine_locks::LockTable;
 use im_log::open_or_create;
 use im_page_writer::PageWriter;

@@ -53,7 +53,7 @@ use im_base_types::Fault;
 use im_engine::{BufferSize, Config, Engine, MoreFrames};
 use im_front::{Left, Open, Rested};
 use im_open::{Files, open};
-use im_theory_store::Store;
+use im_theory_store_trait::Store;
 use std::alloc::Global;
 use std::sync::Wait;
 use std::thread::Threads;

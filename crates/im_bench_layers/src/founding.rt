@@ -3,7 +3,7 @@
 use crate::making::make;
 use im_base_steps::Step;
 use im_base_types::{Fault, Key, LONGEST_KEY, Rid};
-use im_theory_store::Store;
+use im_theory_store_trait::Store;
 use std::alloc::Global;
 
 // How many keys a first transaction inserts, and commits.

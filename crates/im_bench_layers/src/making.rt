@@ -2,7 +2,7 @@
 
 use im_base_steps::{Reply, Step};
 use im_base_types::TxnId;
-use im_theory_store::Store;
+use im_theory_store_trait::Store;
 
 /// Makes a step, whatever it answers.
 pub fn make<E: Store>(store: &mut E, step: Step) {

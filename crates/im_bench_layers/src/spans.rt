@@ -5,7 +5,7 @@ use crate::making::{begun, make};
 use crate::tally::Tally;
 use im_base_steps::{Reply, Step};
 use im_base_types::{Fault, Key, LONGEST_KEY, Rid, TxnId};
-use im_theory_store::Store;
+use im_theory_store_trait::Store;
 use std::alloc::Global;
 
 /// How many keys a transaction takes.

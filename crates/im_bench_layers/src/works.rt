@@ -4,7 +4,7 @@ use crate::keys::{key_of, scattered};
 use crate::making::begun;
 use im_base_steps::{Reply, Step};
 use im_base_types::{Fault, TxnId};
-use im_theory_store::Store;
+use im_theory_store_trait::Store;
 use std::alloc::Global;
 
 /// What is done with each key.

@@ -55,7 +55,7 @@ pub record BeginsWith (buffer : List ℕ) (count : ℕ) (bytes : List ℕ) : Typ
   pub front : take count buffer ≡ take count bytes
 
 -- a call tells this word with this number, and is no refusal
-pub record Says (c : Call) (w n : ℕ) : Type 0 where
+pub record TellsWord (c : Call) (w n : ℕ) : Type 0 where
   pub word : c.word ≡ w
   pub number : c.number ≡ n
   pub fault : c.fault ≡ 0
@@ -72,22 +72,22 @@ Shows c bytes = BeginsWith c.out c.out_len bytes
 
 -- what a call tells for each reply
 abbrev pub Tells : Call → answers.Reply → Type 0
-Tells c (answers.Started t) = Says c 0 t
-Tells c (answers.Found rid) = Says c 1 rid
-Tells c answers.Absent = Says c 2 0
-Tells c (answers.Entry key rid) = Says c 3 1 × Shows c (entry_bytes (key, rid))
-Tells c answers.End = Says c 4 0
-Tells c (answers.Entries list) = Says c 5 (length list) × Shows c (entries_bytes list)
-Tells c answers.Inserted = Says c 6 0
-Tells c answers.Duplicate = Says c 7 0
-Tells c answers.Deleted = Says c 8 0
-Tells c answers.Committed = Says c 9 0
-Tells c answers.RolledBack = Says c 10 0
-Tells c answers.More = Says c 11 0
-Tells c (answers.Blocked holder) = Says c 12 holder
-Tells c answers.BlockedTree = Says c 16 0
-Tells c answers.Die = Says c 13 0
-Tells c answers.Done = Says c 14 0
+Tells c (answers.Started t) = TellsWord c 0 t
+Tells c (answers.Found rid) = TellsWord c 1 rid
+Tells c answers.Absent = TellsWord c 2 0
+Tells c (answers.Entry key rid) = TellsWord c 3 1 × Shows c (entry_bytes (key, rid))
+Tells c answers.End = TellsWord c 4 0
+Tells c (answers.Entries list) = TellsWord c 5 (length list) × Shows c (entries_bytes list)
+Tells c answers.Inserted = TellsWord c 6 0
+Tells c answers.Duplicate = TellsWord c 7 0
+Tells c answers.Deleted = TellsWord c 8 0
+Tells c answers.Committed = TellsWord c 9 0
+Tells c answers.RolledBack = TellsWord c 10 0
+Tells c answers.More = TellsWord c 11 0
+Tells c (answers.Blocked holder) = TellsWord c 12 holder
+Tells c answers.BlockedTree = TellsWord c 16 0
+Tells c answers.Die = TellsWord c 13 0
+Tells c answers.Done = TellsWord c 14 0
 Tells c (answers.Refused fault) = Refuses c fault
 
 -- the question of a call stays

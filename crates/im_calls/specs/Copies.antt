@@ -9,20 +9,20 @@ use Rattle.im_base_mirror_disk.specs.declared.piece.Piece.TheVariants as pieces
 use Rattle.im_store.specs.Copies.{IsCopied, IsCopyBegun, IsCopyEnd}
 use Rattle.im_store.specs.declared.open_store.OpenStore.{OpenStore}
 use Rattle.im_calls.specs.declared.call.Call.{Call}
-use Rattle.im_calls.specs.Calls.{Says, Refuses}
+use Rattle.im_calls.specs.Calls.{TellsWord, Refuses}
 use Rattle.im_calls.specs.declared.opened.Opened.{Opened}
 
 -- a piece is told as More, where some bytes were copied; End, where nothing is left; Absent, where there is no copy; or as the refusal
 abbrev pub TellsPiece : Call → Result Piece Fault → Type 0
-TellsPiece told (Ok pieces.More) = Says told 11 0
-TellsPiece told (Ok pieces.Last) = Says told 4 0
-TellsPiece told (Ok pieces.None) = Says told 2 0
+TellsPiece told (Ok pieces.More) = TellsWord told 11 0
+TellsPiece told (Ok pieces.Last) = TellsWord told 4 0
+TellsPiece told (Ok pieces.None) = TellsWord told 2 0
 TellsPiece told (Err fault) = Refuses told (number_of fault)
 
 -- a copy that has ended is told as Done, none as Absent
 abbrev pub TellsCopy : {T : Type 0} → Call → Result (Option T) Fault → Type 0
-TellsCopy told (Ok (Some _)) = Says told 14 0
-TellsCopy told (Ok None) = Says told 2 0
+TellsCopy told (Ok (Some _)) = TellsWord told 14 0
+TellsCopy told (Ok None) = TellsWord told 2 0
 TellsCopy told (Err fault) = Refuses told (number_of fault)
 
 module _ {D T : Type 0} (d : Ghosts D) (t : Ghosts T) (m : Ghosts (Mirrored D T d t)) where
@@ -34,7 +34,7 @@ module _ {D T : Type 0} (d : Ghosts D) (t : Ghosts T) (m : Ghosts (Mirrored D T 
   pub record IsBegun (to : T) (told : Call) (old new : OpenStore (Mirrored D T d t) m) : Type 0 where
     pub begun : IsCopyBegun d t m old.engine new.engine to
     pub upkeep : SameUpkeep old new
-    pub tells : Says told 14 0
+    pub tells : TellsWord told 14 0
 
   -- a piece of 65,536 bytes at most was made, and what it came to is told
   pub record IsPieceMade (told : Call) (old new : OpenStore (Mirrored D T d t) m) : Type 0 where

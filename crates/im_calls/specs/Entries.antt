@@ -10,7 +10,7 @@ read_entries (suc n) [] = []
 read_entries (suc n) (len ∷ rest) = (take len rest, from_le_bytes w64 (take 8 (drop len rest))) ∷ read_entries n (drop 8 (drop len rest))
 
 -- what a store has for an entry: a key of 1 to 255 bytes, and a row id of 64 bits
-pub record IsEntry (e : Entry) : Type 0 where
+pub record IsStoredEntry (e : Entry) : Type 0 where
   pub some : 1 ≤ length e.0
   pub short : length e.0 ≤ 255
   pub number : e.1 < 2 ^ 64
@@ -18,4 +18,4 @@ pub record IsEntry (e : Entry) : Type 0 where
 -- each of a list is one
 abbrev pub AreEntries : List Entry → Type 0
 AreEntries [] = ⊤
-AreEntries (e ∷ es) = IsEntry e × AreEntries es
+AreEntries (e ∷ es) = IsStoredEntry e × AreEntries es

@@ -17,7 +17,7 @@ use Rattle.im_base_two_logs.specs.contracts.renamed.RenamedDisk.TheImpl as renam
 use Rattle.im_base_mirror_disk.specs.declared.mirrored.Mirrored.{Mirrored}
 use Rattle.im_base_mirror_disk.specs.contracts.mirrored.MirroredDisk.TheImpl as mirrored
 use Rattle.im_calls.specs.declared.call.Call.{Call}
-use Rattle.im_calls.specs.Calls.{IsAnswered, Refuses, Says, Shows, numbers_bytes}
+use Rattle.im_calls.specs.Calls.{IsAnswered, Refuses, TellsWord, Shows, numbers_bytes}
 use Rattle.im_calls.specs.declared.session.Session.{Session}
 use Rattle.im_calls.specs.Copies.{IsBegunOver, IsCopyEnded, IsPieceMade}
 use Rattle.im_calls.specs.declared.opening.Opening.{Opening}
@@ -51,7 +51,7 @@ pub record Makes (asked told : Call) (was now : Session) : Type 0 where
   pub question : IsAnswered asked told
   pub closed : was.store ≡ None → Refuses told 10 × (now.store ≡ None)
   pub ended : asked.step ≡ 15 → now.store ≡ None
-  pub stat : IfSome was.store (λ opened. asked.step ≡ 13 → Says told 14 6 × (now.store ≡ Some opened))
+  pub stat : IfSome was.store (λ opened. asked.step ≡ 13 → TellsWord told 14 6 × (now.store ≡ Some opened))
   pub shown : IfSome was.store (λ opened. asked.step ≡ 13 → Shows told (numbers_bytes (standing file_ghosts opened.store.engine)))
   pub left : IfSome was.store (λ opened. asked.step ≡ 15 → IsClosing file_ghosts told opened.store)
   pub begun : IfSome was.store (λ opened. asked.step ≡ 18 → IsSomeAnd now.store (IsBegunOver own_ghosts copy_ghosts file_ghosts asked told opened))

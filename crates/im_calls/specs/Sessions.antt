@@ -11,7 +11,7 @@ use Rattle.im_store.specs.Numbers.{active_of, dirty_of, durable_end_of}
 use Rattle.im_store.specs.Stores.{IsEnd, IsStepKept}
 use Rattle.im_store.specs.declared.open_store.OpenStore.{OpenStore}
 use Rattle.im_calls.specs.declared.call.Call.{Call}
-use Rattle.im_calls.specs.Calls.{AsksStep, Tells, Says, Refuses}
+use Rattle.im_calls.specs.Calls.{AsksStep, Tells, TellsWord, Refuses}
 use Rattle.im_calls.specs.declared.opened.Opened.{Opened}
 
 -- a number that is for a step: it asks neither how the store stands, nor an end, nor for a copy
@@ -20,7 +20,7 @@ IsForStep step = (step ≢ 13) × (step ≢ 15) × (step ≢ 18) × (step ≢ 19
 
 -- a refusal is told just where something was refused, by its number, and else Done
 abbrev pub TellsEnd : Call → Result Unit Fault → Type 0
-TellsEnd told (Ok _) = Says told 14 0
+TellsEnd told (Ok _) = TellsWord told 14 0
 TellsEnd told (Err fault) = Refuses told (number_of fault)
 
 -- how an engine stands, in six numbers: active transactions, pages whose file lacks changes, where the durable log ends, where redo began, how many records it applied, and 1 where it has failed

@@ -24,7 +24,7 @@ pub struct Opened<D: Disk> {
 
 impl<D: TwoLogs + Drop> Opened<D> {
     ghost use Rattle.im_base_disk.specs.Runs.{IsSynced};
-    ghost use Rattle.im_calls.specs.Calls.{IsAnswered, Says, Shows, numbers_bytes};
+    ghost use Rattle.im_calls.specs.Calls.{IsAnswered, TellsWord, Shows, numbers_bytes};
     ghost use Rattle.im_calls.specs.Openings.{AsksTheSame, IsOpening};
     ghost use Rattle.im_calls.specs.Sessions.{IsClosing, Serves, standing};
 
@@ -68,7 +68,7 @@ impl<D: TwoLogs + Drop> Opened<D> {
     /// Answers how the store stands, in six numbers: active transactions, pages whose file lacks changes, where the durable log ends, where redo
     /// began, how many records it applied, and 1 where the engine has failed.
     pub fn stat(&self, call: &mut Call)
-        ensures told { Says call.new 14 6 }
+        ensures told { TellsWord call.new 14 6 }
         ensures question { IsAnswered call.old call.new }
         ensures shown { Shows call.new (numbers_bytes (standing D.Disk self.now.store.engine)) }
     {

@@ -3,7 +3,7 @@
 ghost use Rattle.std.specs.Prelude.{◌≡◌, ◌⊎◌, ◌<◌, ◌≤◌, ◌^◌, false, None, IfSome};
 ghost use Rattle.std.specs.Option.{IsSomeAnd};
 ghost use Rattle.im_calls.specs.Copies.{IsBegunOver, IsCopyEnded, IsPieceMade};
-ghost use Rattle.im_calls.specs.Calls.{IsAnswered, Refuses, Says, Shows, numbers_bytes};
+ghost use Rattle.im_calls.specs.Calls.{IsAnswered, Refuses, TellsWord, Shows, numbers_bytes};
 ghost use Rattle.im_calls.specs.Openings.{AsksTheSame, IsOpeningOver};
 ghost use Rattle.im_calls.specs.Sessions.{IsClosing, IsServed, IsForStep, standing};
 
@@ -88,7 +88,7 @@ pub fn made(session: &mut Session, call: &mut Call)
     ensures question { IsAnswered call.old call.new }
     ensures closed { session.old.store ≡ None → Refuses call.new 10 × (session.new.store ≡ None) }
     ensures ended { call.old.step ≡ 15 → session.new.store ≡ None }
-    ensures stat { IfSome session.old.store (λ opened. call.old.step ≡ 13 → Says call.new 14 6 × (session.new.store ≡ Some opened)) }
+    ensures stat { IfSome session.old.store (λ opened. call.old.step ≡ 13 → TellsWord call.new 14 6 × (session.new.store ≡ Some opened)) }
     ensures shown { IfSome session.old.store (λ opened. call.old.step ≡ 13 → Shows call.new (numbers_bytes (standing ⟦<Files as Disk>⟧ opened.store.engine))) }
     ensures left { IfSome session.old.store (λ opened. call.old.step ≡ 15 → IsClosing ⟦<Files as Disk>⟧ call.new opened.store) }
     ensures begun { IfSome session.old.store (λ opened. call.old.step ≡ 18 → IsSomeAnd session.new.store (IsBegunOver ⟦<Renamed<CallerFiles> as Disk>⟧ ⟦<Renamed<CallerDisk> as Disk>⟧ ⟦<Files as Disk>⟧ call.old call.new opened)) }
@@ -121,7 +121,7 @@ fn close(session: &mut Session, call: &mut Call)
 fn stat(session: &Session, call: &mut Call)
     ensures question { IsAnswered call.old call.new }
     ensures closed { session.now.store ≡ None → Refuses call.new 10 }
-    ensures told { IfSome session.now.store (λ _. Says call.new 14 6) }
+    ensures told { IfSome session.now.store (λ _. TellsWord call.new 14 6) }
     ensures shown { IfSome session.now.store (λ opened. Shows call.new (numbers_bytes (standing ⟦<Files as Disk>⟧ opened.store.engine))) }
 {
     match &session.store {

@@ -3,7 +3,7 @@
 ghost use Rattle.std.specs.Prelude.{◌≤◌, ◌++◌, List, ℕ, length};
 ghost use Rattle.im_base_types.specs.Faults.{number_of};
 ghost use Rattle.im_base_steps.specs.Calls.{told_by};
-ghost use Rattle.im_calls.specs.Calls.{Tells, Says, Refuses, Shows, BeginsWith, IsAnswered, entry_bytes, entries_bytes, numbers_bytes};
+ghost use Rattle.im_calls.specs.Calls.{Tells, TellsWord, Refuses, Shows, BeginsWith, IsAnswered, entry_bytes, entries_bytes, numbers_bytes};
 
 use crate::call::Call;
 use im_base_steps::{Blocker, Reply};
@@ -46,7 +46,7 @@ pub fn refuse(call: &mut Call, fault: Fault)
 
 /// Answers that it is done, with numbers.
 pub fn tell_numbers(call: &mut Call, numbers: &[u64])
-    ensures told { Says call.new 14 (length numbers.now) }
+    ensures told { TellsWord call.new 14 (length numbers.now) }
     ensures shown { Shows call.new (numbers_bytes numbers.now) }
     ensures question { IsAnswered call.old call.new }
 {
@@ -56,7 +56,7 @@ pub fn tell_numbers(call: &mut Call, numbers: &[u64])
 
 /// Answers a word with its number.
 pub fn tell(call: &mut Call, word: u32, number: u64)
-    ensures told { Says call.new word number }
+    ensures told { TellsWord call.new word number }
     ensures question { IsAnswered call.old call.new }
 {
     call.word = word;
@@ -66,7 +66,7 @@ pub fn tell(call: &mut Call, word: u32, number: u64)
 }
 
 fn tell_entry(call: &mut Call, key: &Key, rid: Rid)
-    ensures told { Says call.new 3 1 }
+    ensures told { TellsWord call.new 3 1 }
     ensures shown { Shows call.new (entry_bytes (key.now, rid)) }
     ensures question { IsAnswered call.old call.new }
 {
@@ -75,7 +75,7 @@ fn tell_entry(call: &mut Call, key: &Key, rid: Rid)
 }
 
 fn tell_entries(call: &mut Call, list: &[(Key, Rid)])
-    ensures told { Says call.new 5 (length list.now) }
+    ensures told { TellsWord call.new 5 (length list.now) }
     ensures shown { Shows call.new (entries_bytes list.now) }
     ensures question { IsAnswered call.old call.new }
 {

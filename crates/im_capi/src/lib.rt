@@ -1,23 +1,23 @@
 //! Which functions does C see?
 //!
 //! The store for C. C hands in memory: as many bytes as `im_size` says for a store, an `Opening` of it, and a `Call` for each question. Beside it decisions over what C
-//! has read or keeps itself: whether the files of a folder belong together, and what may be cut of them after a close (`im_files_guard`), who may begin now (`im_base_turns`), and where names
+//! has read or keeps itself: whether the files of a folder belong together, and what may be cut of them after a close (`im_files_belonging`), who may begin now (`im_base_admission`), and where names
 //! and long values lie among the keys of a store (`im_names`).
 #![tactic(auto)]
 
 ghost use Rattle.std.specs.Prelude.{◌≡◌, ◌≤◌, ◌+◌, ◌↔◌, true, not, length, take, drop, MatchOption};
 ghost use Rattle.std.specs.Borrow.{sem};
 ghost use Rattle.im_capi.specs.Pointers.{bytes_of_store, room_for_store, blank_at, store_at, call_at, made_at, store_to_open_at, opening_at, opened_at, Question, ToOpen};
-ghost use Rattle.im_files_guard.specs.Belonging.{Decides};
-ghost use Rattle.im_files_guard.specs.LogCuts.{log_cuts_of};
-ghost use Rattle.im_files_guard.specs.LeftLog.{current_log_of, left_log_of, walk, IsOlder};
+ghost use Rattle.im_files_belonging.specs.Belonging.{DecidesBelonging};
+ghost use Rattle.im_files_belonging.specs.LogCuts.{log_cuts_of};
+ghost use Rattle.im_files_belonging.specs.LeftLog.{current_log_of, left_log_of, walk_piece, PagesAreOlder};
 ghost use Rattle.im_names.specs.Asked.{key_by_number};
 ghost use Rattle.im_names.specs.Kinds.{key_of_part};
 ghost use Rattle.im_names.specs.Parts.{part_asked};
 ghost use Rattle.im_names.specs.Readings.{read_on};
-ghost use Rattle.im_base_turns.specs.Turns.{IsAwaitedBy, IsLeastOf, IsPatient, MayBegin, Owns};
+ghost use Rattle.im_base_admission.specs.Admission.{IsAwaitedBy, IsLeastOf, IsPatient, MayBegin, Owns};
 
-use im_base_turns::{Asker, Going};
+use im_base_admission::{Asker, Going};
 use im_calls::{Call, Opening, Session, blank, made, open};
 use std::alloc::Global;
 
@@ -36,25 +36,31 @@ pub extern "C" fn im_size() -> usize
     std::mem::size_of::<Session>()
 }
 
-/// Whether the files of a folder belong together, by their beginnings: the number of `im_files_guard`.
+/// Whether the files of a folder belong together, by their beginnings: the number of `im_files_belonging`.
 #[unsafe(no_mangle)]
-pub extern "C" fn im_belong(folder: &im_files_guard::Folder) -> u32
-    ensures { Decides folder.now result }
+pub extern "C" fn im_belong(folder: &im_files_belonging::Folder) -> u32
+    ensures { DecidesBelonging folder.now result }
 {
-    im_files_guard::decide(folder)
+    im_files_belonging::decide(folder)
 }
 
 /// The walk over the log that was left, at its first gate.
 #[unsafe(no_mangle)]
-pub extern "C" fn im_left_log(folder: &im_files_guard::Folder, left: &mut im_files_guard::LeftLog)
+pub extern "C" fn im_left_log(
+    folder: &im_files_belonging::Folder,
+    left: &mut im_files_belonging::LeftLog,
+)
     ensures { left.new ≡ left_log_of folder.now }
 {
-    *left = im_files_guard::LeftLog::begin(folder);
+    *left = im_files_belonging::LeftLog::begin(folder);
 }
 
 /// The walk over the current log, at its first gate, with what that over the log that was left has found.
 #[unsafe(no_mangle)]
-pub extern "C" fn im_left_go_on(folder: &im_files_guard::Folder, left: &mut im_files_guard::LeftLog)
+pub extern "C" fn im_left_go_on(
+    folder: &im_files_belonging::Folder,
+    left: &mut im_files_belonging::LeftLog,
+)
     ensures { left.new ≡ current_log_of folder.now left.old }
 {
     *left = left.go_on(folder);
@@ -62,26 +68,29 @@ pub extern "C" fn im_left_go_on(folder: &im_files_guard::Folder, left: &mut im_f
 
 /// Takes bytes of the log, those from the wanted place on, and walks on as far as they reach.
 #[unsafe(no_mangle)]
-pub extern "C" fn im_left_take(left: &mut im_files_guard::LeftLog, piece: &[u8])
-    ensures { left.new ≡ walk (length piece.now) left.old.place piece.now left.old }
+pub extern "C" fn im_left_take(left: &mut im_files_belonging::LeftLog, piece: &[u8])
+    ensures { left.new ≡ walk_piece (length piece.now) left.old.place piece.now left.old }
 {
     left.take(piece);
 }
 
 /// Whether the file of pages lacks the newest change of the log that was left.
 #[unsafe(no_mangle)]
-pub extern "C" fn im_is_older(left: &im_files_guard::LeftLog, pages: u64, lsn: u64) -> bool
-    ensures { (result ≡ true) ↔ IsOlder left.now pages lsn }
+pub extern "C" fn im_is_older(left: &im_files_belonging::LeftLog, pages: u64, lsn: u64) -> bool
+    ensures { (result ≡ true) ↔ PagesAreOlder left.now pages lsn }
 {
-    im_files_guard::is_older(left, pages, lsn)
+    im_files_belonging::is_older(left, pages, lsn)
 }
 
 /// What may be cut of the logs of a closed store.
 #[unsafe(no_mangle)]
-pub extern "C" fn im_log_cuts(folder: &im_files_guard::Folder, cuts: &mut im_files_guard::LogCuts)
+pub extern "C" fn im_log_cuts(
+    folder: &im_files_belonging::Folder,
+    cuts: &mut im_files_belonging::LogCuts,
+)
     ensures { cuts.new ≡ log_cuts_of folder.now }
 {
-    *cuts = im_files_guard::LogCuts::of(folder);
+    *cuts = im_files_belonging::LogCuts::of(folder);
 }
 
 /// Makes a store that is not open in the room at a pointer.
@@ -118,7 +127,7 @@ pub unsafe extern "C" fn im_step(at: *mut Handle, call: *mut Call)
 pub extern "C" fn im_may_begin(going: &[Going], first: u64, asker: &Asker) -> bool
     ensures { result ≡ true ↔ MayBegin going.now first asker.now }
 {
-    im_base_turns::may_begin(going, first, asker)
+    im_base_admission::may_begin(going, first, asker)
 }
 
 /// The least number of those that one waits for which asks, and came at this tick; 0 where there is none.
@@ -126,7 +135,7 @@ pub extern "C" fn im_may_begin(going: &[Going], first: u64, asker: &Asker) -> bo
 pub extern "C" fn im_oldest(going: &[Going], asker: &Asker, came: u64) -> u64
     ensures { IsLeastOf (IsAwaitedBy asker.now came) (λ g. g.number) going.now result }
 {
-    im_base_turns::oldest(going, asker, came)
+    im_base_admission::oldest(going, asker, came)
 }
 
 /// Who is to be first, where nobody is, by the number that it had; 0 where there is none.
@@ -134,7 +143,7 @@ pub extern "C" fn im_oldest(going: &[Going], asker: &Asker, came: u64) -> u64
 pub extern "C" fn im_earliest(going: &[Going]) -> u64
     ensures { IsLeastOf IsPatient (λ g. g.had) going.now result }
 {
-    im_base_turns::earliest(going)
+    im_base_admission::earliest(going)
 }
 
 /// Whether this thread has a transaction active.
@@ -142,7 +151,7 @@ pub extern "C" fn im_earliest(going: &[Going]) -> u64
 pub extern "C" fn im_has_own(going: &[Going], thread: u64) -> bool
     ensures { result ≡ true ↔ Owns thread going.now }
 {
-    im_base_turns::has_own(going, thread)
+    im_base_admission::has_own(going, thread)
 }
 
 /// Whether one that made its last step at a tick is left alone by now.
@@ -150,7 +159,7 @@ pub extern "C" fn im_has_own(going: &[Going], thread: u64) -> bool
 pub extern "C" fn im_is_left_alone(now: u64, patience: u64, since: u64) -> bool
     ensures { result ≡ true ↔ (since + patience ≤ now) }
 {
-    im_base_turns::is_left_alone(now, patience, since)
+    im_base_admission::is_left_alone(now, patience, since)
 }
 
 /// Writes a key of a name, by the number of `Which`, and answers how many bytes it has; 0 where it does not fit.

@@ -8,7 +8,7 @@ use Rattle.im_base_disk.specs.declared.disk.Disk.{Ghosts}
 use Rattle.im_base_types.specs.declared.fault.Fault.TheVariants.{Failed, Unfinished}
 use Rattle.im_theory_machine.specs.Locks.{Lock}
 use Rattle.im_theory_machine.specs.View.{View, broken}
-use Rattle.im_theory_store.specs.Store as front
+use Rattle.im_theory_store_trait.specs.Store as front
 use Rattle.im_theory_machine.specs.Machine.{barred, Answers, Goes, Moves, begins, does, waits, dies, commits, queues, drops, turns, undoes, ends, puts_later, puts, drops_first, drops_leaf, takes_later, takes_first, takes_leaf, takes_last, stays_back, turns_back, gives_back, is_back, leaf_is_back, logs_page, tree_blocks, tree_halts, flushes, forces, checkpoints, switches, lacks, breaks}
 use Rattle.im_base_steps.specs.declared.step.Step as steps
 use Rattle.im_base_types.specs.declared.fault.Fault.{Fault}

@@ -28,10 +28,10 @@ use Rattle.im_theory_steps.specs.Checks.{checked_by}
 use Rattle.im_tree_search.specs.declared.sight.Sight.{Sight}
 use Rattle.im_tree_search.specs.declared.sight.Sight.TheVariants.{Seen, Hidden}
 use Rattle.im_smo_split.specs.Kept.{mild_to_split}
-use Rattle.im_engine_index.specs.declared.lock_answer.LockAnswer.{LockAnswer}
-use Rattle.im_engine_index.specs.declared.lock_answer.LockAnswer.TheVariants.{Granted, Wait, Die}
-use Rattle.im_engine_index.specs.declared.noted.Noted.{Noted}
-use Rattle.im_engine_index.specs.declared.noted.Taken.{Taken}
+use Rattle.im_engine_access.specs.declared.lock_answer.LockAnswer.{LockAnswer}
+use Rattle.im_engine_access.specs.declared.lock_answer.LockAnswer.TheVariants.{Granted, Wait, Die}
+use Rattle.im_engine_access.specs.declared.noted.Noted.{Noted}
+use Rattle.im_engine_access.specs.declared.noted.Taken.{Taken}
 use Rattle.im_engine.specs.declared.engine.Engine.{Engine}
 use Rattle.im_engine.specs.Accesses.{answer_in, as_seen, failed_in, rest_of, rows_in}
 use Rattle.im_engine.specs.Aims.{under_of}

@@ -16,7 +16,7 @@ use Rattle.im_page_table.specs.DirtyTable.{TableView, synced_entries, FitsRecord
 use Rattle.im_page_writer.specs.declared.page_writer.PageWriter.{PageWriter}
 use Rattle.im_page_writer.specs.Outcome.{AreLoaded, AsksNothing, Ends, LogEnds, mild, none_mild}
 use Rattle.im_page_writer.specs.Switching.{MayNotSwitch, RefusesSwitch}
-use Rattle.im_engine_index.specs.LockAnswers.{seek_at}
+use Rattle.im_engine_access.specs.LockAnswers.{seek_at}
 use Rattle.im_base_txn.specs.declared.transaction.Transaction.{Transaction}
 use Rattle.im_base_txn.specs.Rows.{is_of}
 use Rattle.im_base_types.specs.Faults.{number_of}

@@ -32,10 +32,10 @@ use Rattle.im_base_types.specs.declared.fault.Fault.TheVariants as faults
 use Rattle.im_base_steps.specs.declared.reply.Reply.TheVariants as replies
 use Rattle.im_base_types.specs.Faults.{number_of}
 use Rattle.im_theory_steps.specs.Checks.{checked_by}
-use Rattle.im_engine_index.specs.declared.noted.Taken.{Taken}
-use Rattle.im_engine_index.specs.declared.lock_answer.LockAnswer.{LockAnswer}
-use Rattle.im_engine_index.specs.declared.lock_answer.LockAnswer.TheVariants.{Granted, Wait, Die}
-use Rattle.im_engine_index.specs.Edits.{MayEdit, DeleteKept, HasOne}
+use Rattle.im_engine_access.specs.declared.noted.Taken.{Taken}
+use Rattle.im_engine_access.specs.declared.lock_answer.LockAnswer.{LockAnswer}
+use Rattle.im_engine_access.specs.declared.lock_answer.LockAnswer.TheVariants.{Granted, Wait, Die}
+use Rattle.im_engine_access.specs.Edits.{MayEdit, DeleteKept, HasOne}
 use Rattle.im_engine.specs.declared.engine.Engine.{Engine}
 use Rattle.im_engine.specs.Faults.{told_as, ends_engine}
 use Rattle.im_engine.specs.Running.{IsRunning, IsLife}

@@ -53,11 +53,11 @@ use Rattle.im_theory_steps.specs.Serving.{IsRow, IsServing, IsServed, mark_of}
 use Rattle.im_theory_steps.specs.Steps.{IsOnTheWay, key_record, with_made}
 use Rattle.im_theory_steps.specs.Durable.{AreCommitted}
 use Rattle.im_theory_steps.proofs.Cited.{asks_nothing, dies_ask_nothing, waits_ask_nothing, commits_stand, copies_are_images, images_change_nothing, numbers_stay_new, within_leaves_others, deletes_served, granted_keys_free, at, dies_served, mark_free, reads_served, structure_keeps, waits_served, ways_lead_on}
-use Rattle.im_engine_index.specs.KeyLogs.{LeftByEdit, LeavesEdit}
-use Rattle.im_engine_index.specs.Edits.{MayEdit, Deleted}
-use Rattle.im_engine_index.specs.declared.noted.Taken.{Taken}
-use Rattle.im_engine_index.proofs.KeyLogs.{grows_within}
-use Rattle.im_engine_index.proofs.Deletes.{within_then}
+use Rattle.im_engine_access.specs.KeyLogs.{LeftByEdit, LeavesEdit}
+use Rattle.im_engine_access.specs.Edits.{MayEdit, Deleted}
+use Rattle.im_engine_access.specs.declared.noted.Taken.{Taken}
+use Rattle.im_engine_access.proofs.KeyLogs.{grows_within}
+use Rattle.im_engine_access.proofs.Deletes.{within_then}
 use Rattle.im_smo_actions.proofs.Growth.{images_as_change}
 use Rattle.im_engine.specs.declared.engine.Engine.{Engine}
 use Rattle.im_engine.specs.Numbered.{Numbered}

@@ -53,12 +53,12 @@ use Rattle.im_theory_steps.specs.Growth.{GrowsWithin}
 use Rattle.im_theory_steps.specs.Serving.{IsServed}
 use Rattle.im_theory_steps.specs.Steps.{IsOnTheWay, key_record, with_made}
 use Rattle.im_theory_steps.proofs.Cited.{inserts_served, lacks_served, ways_lead_on}
-use Rattle.im_engine_index.specs.declared.noted.Noted.{Noted}
-use Rattle.im_engine_index.specs.declared.lock_answer.LockAnswer.{LockAnswer}
-use Rattle.im_engine_index.specs.declared.lock_answer.LockAnswer.TheVariants.{Granted, Wait, Die}
-use Rattle.im_engine_index.specs.Edits.{MayEdit, Inserted, InsertKept, IsLimited}
-use Rattle.im_engine_index.specs.KeyLogs.{LeavesEdit}
-use Rattle.im_engine_index.proofs.KeyLogs.{grows_within}
+use Rattle.im_engine_access.specs.declared.noted.Noted.{Noted}
+use Rattle.im_engine_access.specs.declared.lock_answer.LockAnswer.{LockAnswer}
+use Rattle.im_engine_access.specs.declared.lock_answer.LockAnswer.TheVariants.{Granted, Wait, Die}
+use Rattle.im_engine_access.specs.Edits.{MayEdit, Inserted, InsertKept, IsLimited}
+use Rattle.im_engine_access.specs.KeyLogs.{LeavesEdit}
+use Rattle.im_engine_access.proofs.KeyLogs.{grows_within}
 use Rattle.im_engine.specs.declared.engine.Engine.{Engine}
 use Rattle.im_engine.specs.Faults.{told_as, ends_engine}
 use Rattle.im_engine.specs.Running.{IsRunning, IsLife}

@@ -12,11 +12,11 @@ use Rattle.im_base_types.specs.Lives.{Shown}
 use Rattle.im_base_disk.specs.declared.disk.Disk.{Ghosts}
 use Rattle.im_base_disk.specs.Disk.{Files}
 use Rattle.im_base_types.specs.Faults.{number_of}
-use Rattle.im_engine_index.specs.declared.lock_answer.LockAnswer.{LockAnswer}
-use Rattle.im_engine_index.specs.declared.lock_answer.LockAnswer.TheVariants.{Granted as AnswerGranted, Wait as AnswerWait, Die as AnswerDie}
-use Rattle.im_engine_index.specs.LockAnswers.{seek_at}
-use Rattle.im_engine_index.specs.LockCalls.{AsksLocks}
-use Rattle.im_engine_index.specs.Reads.{IsRead}
+use Rattle.im_engine_access.specs.declared.lock_answer.LockAnswer.{LockAnswer}
+use Rattle.im_engine_access.specs.declared.lock_answer.LockAnswer.TheVariants.{Granted as AnswerGranted, Wait as AnswerWait, Die as AnswerDie}
+use Rattle.im_engine_access.specs.LockAnswers.{seek_at}
+use Rattle.im_engine_access.specs.LockCalls.{AsksLocks}
+use Rattle.im_engine_access.specs.Reads.{IsRead}
 use Rattle.im_base_types.specs.Keys.{Key}
 use Rattle.im_base_types.specs.Maps.{IndexMap}
 use Rattle.im_base_txn.specs.Rows.{changed, with_mark}

@@ -11,7 +11,7 @@ use Rattle.im_base_disk.specs.declared.disk.Disk.{Ghosts}
 use Rattle.im_base_disk.specs.Disk.{Files}
 use Rattle.im_base_disk.specs.Runs.{LeavesOnly}
 use Rattle.im_log.proofs.Above.{left_now}
-use Rattle.im_engine_index.specs.LockCalls.{AsksLocks}
+use Rattle.im_engine_access.specs.LockCalls.{AsksLocks}
 use Rattle.im_page_writer.specs.PageWriter.{Evicted}
 use Rattle.im_page_writer.specs.Outcome.{AreLoaded, mild, Ends}
 use Rattle.im_base_types.specs.Faults.{number_of}

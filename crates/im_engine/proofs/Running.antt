@@ -8,7 +8,7 @@ use Rattle.im_base_types.specs.Maps.{IndexMap}
 use Rattle.im_base_types.specs.Pages.{Page}
 use Rattle.im_theory_log.specs.Structure.{open_smo, settled, taken_back}
 use Rattle.im_theory_log.proofs.Cited.{reached_end, has_tree}
-use Rattle.im_engine_index.specs.LockCalls.{AsksLocks}
+use Rattle.im_engine_access.specs.LockCalls.{AsksLocks}
 use Rattle.im_page_writer.specs.Outcome.{AreLoaded, HasPages, Stays, pages_of}
 use Rattle.im_page_writer.proofs.Outcomes.{leaves_of_end, pages_here}
 use Rattle.im_theory_tree.specs.Levels.{Pages, walk}

@@ -23,13 +23,13 @@ use Rattle.im_tree_search.specs.declared.sight.Sight.{Sight}
 use Rattle.im_tree_search.specs.declared.sight.Sight.TheVariants.{Seen, Hidden}
 use Rattle.im_smo_split.specs.Kept.{mild_to_split}
 use Rattle.im_smo_actions.specs.declared.begun_change.BegunChange.{BegunChange}
-use Rattle.im_engine_index.specs.declared.begun.Deleting.{Deleting}
-use Rattle.im_engine_index.specs.declared.begun.Deleting.TheVariants.{Gone, Taken, Dropping}
-use Rattle.im_engine_index.specs.declared.begun.Inserting.{Inserting}
-use Rattle.im_engine_index.specs.declared.begun.Inserting.TheVariants.{There, Put as PutIn, Split}
-use Rattle.im_engine_index.specs.declared.lock_answer.LockAnswer.{LockAnswer}
-use Rattle.im_engine_index.specs.declared.lock_answer.LockAnswer.TheVariants.{Granted, Wait, Die}
-use Rattle.im_engine_index.specs.EditsBeside.{DeleteBesideKept, InsertBesideKept, MayEditBeside}
+use Rattle.im_engine_access.specs.declared.begun.Deleting.{Deleting}
+use Rattle.im_engine_access.specs.declared.begun.Deleting.TheVariants.{Gone, Taken, Dropping}
+use Rattle.im_engine_access.specs.declared.begun.Inserting.{Inserting}
+use Rattle.im_engine_access.specs.declared.begun.Inserting.TheVariants.{There, Put as PutIn, Split}
+use Rattle.im_engine_access.specs.declared.lock_answer.LockAnswer.{LockAnswer}
+use Rattle.im_engine_access.specs.declared.lock_answer.LockAnswer.TheVariants.{Granted, Wait, Die}
+use Rattle.im_engine_access.specs.EditsBeside.{DeleteBesideKept, InsertBesideKept, MayEditBeside}
 use Rattle.im_theory_steps.specs.Steps.{with_made}
 use Rattle.im_engine.specs.declared.engine.Engine.{Engine}
 use Rattle.im_engine.specs.declared.stepped.Aim.TheVariants.{Puts, Drops}

@@ -38,13 +38,13 @@ use Rattle.im_tree_search.specs.declared.change_beside.Beside.{Beside}
 use Rattle.im_tree_search.specs.declared.sight.Sight.{Sight}
 use Rattle.im_tree_search.specs.declared.sight.Sight.TheVariants.{Seen, Hidden}
 use Rattle.im_smo_actions.specs.declared.begun_change.BegunChange.{BegunChange}
-use Rattle.im_engine_index.specs.declared.begun.Deleting.{Deleting}
-use Rattle.im_engine_index.specs.declared.begun.Deleting.TheVariants.{Gone, Taken, Dropping}
-use Rattle.im_engine_index.specs.declared.lock_answer.LockAnswer.{LockAnswer}
-use Rattle.im_engine_index.specs.declared.lock_answer.LockAnswer.TheVariants.{Granted, Wait, Die}
-use Rattle.im_engine_index.specs.Barred as barred
-use Rattle.im_engine_index.specs.Barred.{Bars}
-use Rattle.im_engine_index.specs.Edits.{HasOne}
+use Rattle.im_engine_access.specs.declared.begun.Deleting.{Deleting}
+use Rattle.im_engine_access.specs.declared.begun.Deleting.TheVariants.{Gone, Taken, Dropping}
+use Rattle.im_engine_access.specs.declared.lock_answer.LockAnswer.{LockAnswer}
+use Rattle.im_engine_access.specs.declared.lock_answer.LockAnswer.TheVariants.{Granted, Wait, Die}
+use Rattle.im_engine_access.specs.Barred as barred
+use Rattle.im_engine_access.specs.Barred.{Bars}
+use Rattle.im_engine_access.specs.Edits.{HasOne}
 use Rattle.im_theory_steps.specs.Steps.{with_made}
 use Rattle.im_engine.specs.declared.engine.Engine.{Engine}
 use Rattle.im_engine.specs.declared.stepped.Aim.TheVariants.{Drops}

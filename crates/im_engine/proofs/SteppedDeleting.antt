@@ -34,11 +34,11 @@ use Rattle.im_tree_search.specs.declared.change_beside.Beside.{Beside}
 use Rattle.im_tree_search.specs.declared.sight.Sight.{Sight}
 use Rattle.im_smo_split.proofs.OneLeaf.{one_leaf}
 use Rattle.im_smo_actions.specs.declared.begun_change.BegunChange.{BegunChange}
-use Rattle.im_engine_index.specs.declared.begun.Deleting.{Deleting}
-use Rattle.im_engine_index.specs.declared.lock_answer.LockAnswer.{LockAnswer}
-use Rattle.im_engine_index.specs.Edits.{HasMore, HasOne}
-use Rattle.im_engine_index.specs.EditsBeside.{DeleteBegun, DeleteBesideKept, MayEditBeside, TakenBeside}
-use Rattle.im_engine_index.specs.KeyLogs.{LeavesEdit}
+use Rattle.im_engine_access.specs.declared.begun.Deleting.{Deleting}
+use Rattle.im_engine_access.specs.declared.lock_answer.LockAnswer.{LockAnswer}
+use Rattle.im_engine_access.specs.Edits.{HasMore, HasOne}
+use Rattle.im_engine_access.specs.EditsBeside.{DeleteBegun, DeleteBesideKept, MayEditBeside, TakenBeside}
+use Rattle.im_engine_access.specs.KeyLogs.{LeavesEdit}
 use Rattle.im_engine.specs.declared.engine.Engine.{Engine}
 use Rattle.im_engine.specs.declared.stepped.Aim.TheVariants.{Drops}
 use Rattle.im_engine.specs.declared.stepped.Under.{Under}

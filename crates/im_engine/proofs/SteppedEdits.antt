@@ -34,9 +34,9 @@ use Rattle.im_tree_search.specs.declared.change_beside.Beside.{Beside}
 use Rattle.im_smo_log.specs.Under.{is_structural}
 use Rattle.im_smo_actions.specs.GoingBeside.{is_planned}
 use Rattle.im_smo_actions.proofs.Growth.{images_as_change}
-use Rattle.im_engine_index.specs.EditsBeside.{MayEditBeside}
-use Rattle.im_engine_index.specs.KeyLogs.{IsGoingOn, KeyLogged}
-use Rattle.im_engine_index.proofs.KeyLogs.{grows_within}
+use Rattle.im_engine_access.specs.EditsBeside.{MayEditBeside}
+use Rattle.im_engine_access.specs.KeyLogs.{IsGoingOn, KeyLogged}
+use Rattle.im_engine_access.proofs.KeyLogs.{grows_within}
 use Rattle.im_engine.specs.declared.engine.Engine.{Engine}
 use Rattle.im_engine.specs.declared.stepped.Under.{Under}
 use Rattle.im_engine.specs.Aims.{IsBesideOf, IsChanging, under_of}

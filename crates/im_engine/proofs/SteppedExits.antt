@@ -23,10 +23,10 @@ use Rattle.im_tree_search.specs.declared.sight.Sight.{Sight}
 use Rattle.im_tree_search.specs.declared.sight.Sight.TheVariants.{Seen}
 use Rattle.im_smo_split.specs.Tops.{LacksRoomFor}
 use Rattle.im_smo_actions.specs.GoingBeside.{is_planned}
-use Rattle.im_engine_index.specs.Barred as below
-use Rattle.im_engine_index.specs.Barred.{Bars, IsBarred, IsBarredOff}
-use Rattle.im_engine_index.specs.Edits.{HasOne}
-use Rattle.im_engine_index.proofs.NoneBeside.{cause_none}
+use Rattle.im_engine_access.specs.Barred as below
+use Rattle.im_engine_access.specs.Barred.{Bars, IsBarred, IsBarredOff}
+use Rattle.im_engine_access.specs.Edits.{HasOne}
+use Rattle.im_engine_access.proofs.NoneBeside.{cause_none}
 use Rattle.im_engine.specs.declared.engine.Engine.{Engine}
 use Rattle.im_engine.specs.declared.stepped.Under.{Under}
 use Rattle.im_engine.specs.Aims.{IsBesideOf, IsSameUnder, IsToldTo, under_of}

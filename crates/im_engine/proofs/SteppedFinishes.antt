@@ -37,9 +37,9 @@ use Rattle.im_smo_log.specs.GoingOn.{HasClosed}
 use Rattle.im_smo_log.specs.Logged.{dummy_at}
 use Rattle.im_smo_log.specs.Stepping.{Closed, CloseKept}
 use Rattle.im_smo_actions.proofs.Growth.{change_then, images_as_change}
-use Rattle.im_engine_index.specs.EditsBeside.{InsertEnded, InsertEndKept, MayEnd}
-use Rattle.im_engine_index.specs.KeyLogs.{LeavesEdit}
-use Rattle.im_engine_index.proofs.KeyLogs.{grows_within}
+use Rattle.im_engine_access.specs.EditsBeside.{InsertEnded, InsertEndKept, MayEnd}
+use Rattle.im_engine_access.specs.KeyLogs.{LeavesEdit}
+use Rattle.im_engine_access.proofs.KeyLogs.{grows_within}
 use Rattle.im_page_file.specs.Stands.{LeavesCovered}
 use Rattle.im_page_table.specs.DirtyTable.{FitsRecord}
 use Rattle.im_page_writer.specs.declared.page_writer.PageWriter.{PageWriter}

@@ -47,12 +47,12 @@ use Rattle.im_smo_split.specs.Tops.{HasRoomFor, LacksRoomFor}
 use Rattle.im_smo_split.proofs.OneLeaf.{one_leaf}
 use Rattle.im_smo_actions.specs.declared.begun_change.BegunChange.{BegunChange}
 use Rattle.im_smo_actions.proofs.Growth.{images_as_change, record_front}
-use Rattle.im_engine_index.specs.declared.begun.Inserting.{Inserting}
-use Rattle.im_engine_index.specs.declared.lock_answer.LockAnswer.{LockAnswer}
-use Rattle.im_engine_index.specs.EditsBeside.{InsertBegun, InsertBesideKept, MayEditBeside, PutBeside}
-use Rattle.im_engine_index.specs.KeyLogs.{LeavesEdit}
-use Rattle.im_engine_index.proofs.Inserts.{past_images}
-use Rattle.im_engine_index.proofs.KeyLogs.{grows_within}
+use Rattle.im_engine_access.specs.declared.begun.Inserting.{Inserting}
+use Rattle.im_engine_access.specs.declared.lock_answer.LockAnswer.{LockAnswer}
+use Rattle.im_engine_access.specs.EditsBeside.{InsertBegun, InsertBesideKept, MayEditBeside, PutBeside}
+use Rattle.im_engine_access.specs.KeyLogs.{LeavesEdit}
+use Rattle.im_engine_access.proofs.Inserts.{past_images}
+use Rattle.im_engine_access.proofs.KeyLogs.{grows_within}
 use Rattle.im_engine.specs.declared.engine.Engine.{Engine}
 use Rattle.im_engine.specs.declared.stepped.Aim.TheVariants.{Puts}
 use Rattle.im_engine.specs.declared.stepped.Under.{Under}

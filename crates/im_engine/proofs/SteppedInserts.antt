@@ -47,13 +47,13 @@ use Rattle.im_smo_split.specs.Kept.{mild_to_split}
 use Rattle.im_smo_split.specs.Plan.{IsWithin}
 use Rattle.im_smo_split.specs.Tops.{LacksRoomFor}
 use Rattle.im_smo_actions.specs.declared.begun_change.BegunChange.{BegunChange}
-use Rattle.im_engine_index.specs.declared.begun.Inserting.{Inserting}
-use Rattle.im_engine_index.specs.declared.begun.Inserting.TheVariants.{There, Put as PutIn, Split}
-use Rattle.im_engine_index.specs.declared.lock_answer.LockAnswer.{LockAnswer}
-use Rattle.im_engine_index.specs.declared.lock_answer.LockAnswer.TheVariants.{Granted, Wait, Die}
-use Rattle.im_engine_index.specs.Barred as barred
-use Rattle.im_engine_index.specs.Barred.{Bars}
-use Rattle.im_engine_index.specs.Edits.{IsLimited}
+use Rattle.im_engine_access.specs.declared.begun.Inserting.{Inserting}
+use Rattle.im_engine_access.specs.declared.begun.Inserting.TheVariants.{There, Put as PutIn, Split}
+use Rattle.im_engine_access.specs.declared.lock_answer.LockAnswer.{LockAnswer}
+use Rattle.im_engine_access.specs.declared.lock_answer.LockAnswer.TheVariants.{Granted, Wait, Die}
+use Rattle.im_engine_access.specs.Barred as barred
+use Rattle.im_engine_access.specs.Barred.{Bars}
+use Rattle.im_engine_access.specs.Edits.{IsLimited}
 use Rattle.im_theory_steps.specs.Steps.{with_made}
 use Rattle.im_engine.specs.declared.engine.Engine.{Engine}
 use Rattle.im_engine.specs.declared.stepped.Aim.TheVariants.{Puts}

@@ -35,7 +35,7 @@ use Rattle.im_engine.specs.declared.stepped.Aim.{Aim}
 use Rattle.im_engine.specs.declared.stepped.Aim.TheVariants.{Puts, Drops, TakesBack, TookBack}
 use Rattle.im_engine.specs.Aims.{Aims}
 use Rattle.im_engine.proofs.GoingOn.{images_beside}
-use Rattle.im_engine_index.proofs.OwnChanges.{goes_as}
+use Rattle.im_engine_access.proofs.OwnChanges.{goes_as}
 
 -- a page that is not told of has no image
 pub none_of : (images : List Numbered) (p : ℕ) → list_any (λ (q : ℕ). q == p) (numbers_of images) ≡ false → image_of images p ≡ None

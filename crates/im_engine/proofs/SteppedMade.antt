@@ -20,7 +20,7 @@ use Rattle.im_theory_steps.specs.Durable.{AreCommitted}
 use Rattle.im_theory_steps.specs.Growth.{AreBelow, GrowsWithin}
 use Rattle.im_theory_steps.specs.Serving.{IsServed, IsServing}
 use Rattle.im_theory_steps.proofs.Cited.{trees_ask_nothing, trees_block, commits_stand, numbers_stay_new, within_leaves_others}
-use Rattle.im_engine_index.specs.KeyLogs.{LeavesEdit, LeftByEdit}
+use Rattle.im_engine_access.specs.KeyLogs.{LeavesEdit, LeftByEdit}
 use Rattle.im_engine.specs.declared.engine.Engine.{Engine}
 use Rattle.im_engine.specs.declared.stepped.Under.{Under}
 use Rattle.im_engine.specs.Aims.{IsChanging, owned, under_of}

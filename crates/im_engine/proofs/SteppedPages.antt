@@ -36,7 +36,7 @@ use Rattle.im_smo_log.specs.Changes.{GrowsByChange}
 use Rattle.im_smo_log.specs.Logged.{smo_at}
 use Rattle.im_smo_log.specs.Stepping.{Goes, StepKept, Stepped}
 use Rattle.im_smo_actions.proofs.Growth.{images_as_change}
-use Rattle.im_engine_index.proofs.KeyLogs.{grows_within}
+use Rattle.im_engine_access.proofs.KeyLogs.{grows_within}
 use Rattle.im_engine.specs.declared.engine.Engine.{Engine}
 use Rattle.im_engine.specs.declared.stepped.Aim.{Aim}
 use Rattle.im_engine.specs.declared.stepped.Under.{Under}

@@ -38,11 +38,11 @@ use Rattle.im_tree_search.specs.declared.sight.Sight.{Sight}
 use Rattle.im_tree_search.specs.declared.sight.Sight.TheVariants.{Seen, Hidden}
 use Rattle.im_tree_search.specs.Levels.{bodies_of}
 use Rattle.im_tree_search.specs.Sights.{HasTreeBut, IfSeen}
-use Rattle.im_engine_index.specs.declared.lock_answer.LockAnswer.{LockAnswer}
-use Rattle.im_engine_index.specs.declared.lock_answer.LockAnswer.TheVariants.{Granted, Wait, Die}
-use Rattle.im_engine_index.specs.LockAnswers.{IfGranted, seek_at}
-use Rattle.im_engine_index.specs.LockCalls.{AsksLocks}
-use Rattle.im_engine_index.specs.Reads.{IsRead, IsReadBeside}
+use Rattle.im_engine_access.specs.declared.lock_answer.LockAnswer.{LockAnswer}
+use Rattle.im_engine_access.specs.declared.lock_answer.LockAnswer.TheVariants.{Granted, Wait, Die}
+use Rattle.im_engine_access.specs.LockAnswers.{IfGranted, seek_at}
+use Rattle.im_engine_access.specs.LockCalls.{AsksLocks}
+use Rattle.im_engine_access.specs.Reads.{IsRead, IsReadBeside}
 use Rattle.im_engine.specs.declared.engine.Engine.{Engine}
 use Rattle.im_engine.specs.Accesses.{answer_in, failed_in, rest_of, rows_in}
 use Rattle.im_engine.specs.Aims.{IsBesideOf, under_of}

@@ -17,10 +17,10 @@ use Rattle.im_tree_search.specs.declared.sight.Sight.TheVariants.{Seen, Hidden}
 use Rattle.im_tree_search.specs.Levels.{bodies_of}
 use Rattle.im_tree_search.specs.Sights.{HasTreeBut}
 use Rattle.im_smo_actions.specs.GoingBeside.{settled_pages}
-use Rattle.im_engine_index.specs.declared.lock_answer.LockAnswer.{LockAnswer}
-use Rattle.im_engine_index.specs.Hidden.{MeetsMade}
-use Rattle.im_engine_index.specs.Reads.{IsRead, IsReadBeside}
-use Rattle.im_engine_index.proofs.NoneBeside.{made_none}
+use Rattle.im_engine_access.specs.declared.lock_answer.LockAnswer.{LockAnswer}
+use Rattle.im_engine_access.specs.Hidden.{MeetsMade}
+use Rattle.im_engine_access.specs.Reads.{IsRead, IsReadBeside}
+use Rattle.im_engine_access.proofs.NoneBeside.{made_none}
 use Rattle.im_engine.specs.declared.engine.Engine.{Engine}
 use Rattle.im_engine.specs.declared.stepped.Under.{Under}
 use Rattle.im_engine.specs.Aims.{IsBesideOf, IsToldTo}

@@ -12,8 +12,8 @@ use Rattle.im_page_writer.specs.declared.page_writer.PageWriter.{PageWriter}
 use Rattle.im_theory_machine.specs.Table.{Table}
 use Rattle.im_tree_search.specs.declared.sight.Sight.{Sight}
 use Rattle.im_tree_search.specs.declared.sight.Sight.TheVariants.{Seen, Hidden}
-use Rattle.im_engine_index.specs.declared.lock_answer.LockAnswer.{LockAnswer}
-use Rattle.im_engine_index.specs.declared.lock_answer.LockAnswer.TheVariants.{Granted, Wait, Die}
+use Rattle.im_engine_access.specs.declared.lock_answer.LockAnswer.{LockAnswer}
+use Rattle.im_engine_access.specs.declared.lock_answer.LockAnswer.TheVariants.{Granted, Wait, Die}
 use Rattle.im_engine.specs.declared.engine.Engine.{Engine}
 use Rattle.im_engine.specs.Faults.{told_as, ends_engine}
 use Rattle.im_engine.specs.Told.{Fixed, fixed_of}

@@ -17,8 +17,8 @@ use Rattle.im_smo_split.specs.Tops.{LacksRoomFor}
 use Rattle.im_smo_actions.specs.GoingBeside.{is_planned}
 use Rattle.im_restart_analysis.specs.Undo.{IsNext}
 use Rattle.im_restart_undo.specs.Planning.{HiddenBack, IsLeafOf, NeedsChange}
-use Rattle.im_engine_index.specs.Edits.{HasOne}
-use Rattle.im_engine_index.specs.Hidden.{MeetsMade}
+use Rattle.im_engine_access.specs.Edits.{HasOne}
+use Rattle.im_engine_access.specs.Hidden.{MeetsMade}
 use Rattle.im_engine.specs.declared.stepped.Aim.{Aim}
 use Rattle.im_engine.specs.declared.stepped.Aim.TheVariants.{Puts, Drops, TakesBack, TookBack}
 use Rattle.im_engine.specs.declared.stepped.Under.{Under}

@@ -29,7 +29,7 @@ use Rattle.im_theory_tree.specs.Levels.{Pages}
 use Rattle.im_smo_split.specs.Plan.{IsWithin, IsOver}
 use Rattle.im_smo_split.specs.Tops.{LacksRoomFor}
 use Rattle.im_smo_actions.specs.Structure.{IsUsedUp}
-use Rattle.im_engine_index.specs.Edits.{HasOne}
+use Rattle.im_engine_access.specs.Edits.{HasOne}
 use Rattle.im_restart_undo.specs.Planning.{HoldsOneKey}
 use Rattle.im_restart_undo.specs.Undoing.{HasBegun}
 use Rattle.im_tree_search.specs.declared.change_beside.Beside.{Beside}

@@ -18,7 +18,7 @@ use Rattle.im_engine.specs.Stands.{Allowed}
 use Rattle.im_engine.specs.Running.{IsLife}
 use Rattle.im_engine.specs.Told.{IsStep}
 
--- Steps with these replies are a run of the machine from this map: what `isolation` speaks of.
+-- Steps with these replies are a run of the machine from this map: what `law_isolation` speaks of.
 pub record IsRunFrom (base : IndexMap) (trace : List (answers.Step × answers.Reply)) : Type 0 where
   pub first : ℕ
   pub last : View

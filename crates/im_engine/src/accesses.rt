@@ -11,7 +11,7 @@ use im_base_disk::Disk;
 use im_base_steps::{Blocker, Reply};
 use im_base_txn::Mark;
 use im_base_types::{Fault, TxnId};
-use im_engine_index::{LockAnswer, fetch, prev, scan, seek};
+use im_engine_access::{LockAnswer, fetch, prev, scan, seek};
 use im_tree_search::Sight;
 
 // A refusal of the calls below, as a store answers it.
@@ -58,7 +58,7 @@ pub(crate) fn as_seen<T: Drop>(came: Result<T, Fault>) -> Result<Sight<T>, Fault
 
 impl<D: Disk> Engine<D> {
     ghost use Rattle.im_base_types.specs.Answers as answers;
-    ghost use Rattle.im_engine_index.specs.LockAnswers.{seek_at};
+    ghost use Rattle.im_engine_access.specs.LockAnswers.{seek_at};
     ghost use Rattle.im_theory_machine.specs.View.{owns_in};
     ghost use Rattle.im_theory_steps.specs.Checks.{checked_by};
     ghost use Rattle.im_engine.specs.Aims.{under_of};

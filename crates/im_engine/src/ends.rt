@@ -70,7 +70,7 @@ impl<D: Disk> Engine<D> {
         if let Err(fault) = self.writer.force(&mut self.disk) {
             return Reply::Refused(told(fault));
         }
-        self.txns.are_counted();
+        self.txns.law_are_counted();
         self.locks.release_all(t);
         self.txns.end(t);
         self.failed = false;
@@ -165,7 +165,7 @@ impl<D: Disk> Engine<D> {
         match self.writer.force(&mut self.disk) {
             Ok(()) => {
                 self.failed = false;
-                self.txns.are_counted();
+                self.txns.law_are_counted();
                 release_waiting(&mut self.locks, self.txns.rows());
                 self.txns.end_waiting();
                 Reply::Done

@@ -40,7 +40,7 @@ impl<D: Disk> Engine<D> {
             return Reply::Refused(Fault::NoTransaction);
         };
         self.failed = true;
-        let came = im_engine_index::insert(
+        let came = im_engine_access::insert(
             self.alloc,
             &mut self.writer,
             &mut self.disk,

@@ -58,5 +58,5 @@ pub use im_page::Header;
 pub use lives::live;
 pub use looking::look;
 pub use more_frames::MoreFrames;
-pub use promise::{changes_are_taken_back_once, every_list_of_lives, the_promise};
+pub use promise::{changes_are_taken_back_once, law_every_list_of_lives, the_promise};
 pub use syncing::sync_files;

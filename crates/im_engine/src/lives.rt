@@ -54,7 +54,7 @@ impl<D: TwoLogs> Engine<D> {
 /// One life: opens the store of a disk, makes the steps in turn, and hands the disk on with their replies. A stop that falls when the first
 /// n replies have been handed out takes the files to what a life may make of them that was cut off there or later (`since`), for every n;
 /// and where it falls no later than the reply to the m-th step, nothing is there of what was asked only after that (`within`). The first is
-/// what a list of lives is made of (`every_list_of_lives`), the second what the promise asks of a life (`run`, `the_promise`). The steps with their
+/// what a list of lives is made of (`law_every_list_of_lives`), the second what the promise asks of a life (`run`, `the_promise`). The steps with their
 /// replies are a run of the machine of transactions from the map of the effects that the files stood for (`isolated`): each transaction has the
 /// replies that it would get alone (`alone`).
 ///

@@ -39,7 +39,7 @@ pub fn the_promise()
 /// Commit it had asked when it stopped, each whole, with every effect in it whose Commit had been acknowledged by then, and nothing else.
 /// The files between two lives stand for what was kept up to there. Files that are all empty stand for no effect,
 /// and those that lives of the first format left stand for what these kept. A law, and nothing that runs.
-pub fn every_list_of_lives()
+pub fn law_every_list_of_lives()
     ensures lives { (old new : Files) (lives : List (Life Files)) (before : List Effect) → StandsFor before old → AreLives old lives new → (after : List Effect) × AreKept before lives after × StandsFor after new }
     ensures first { StandsFor [] (both [] []) }
     ensures first_format { (before : List Effect) (log pages : List ℕ) → StandsForFirst before log pages → StandsFor before (both log pages) }

@@ -6,7 +6,7 @@ use crate::engine::Engine;
 use im_base_steps::{Reply, Step};
 use im_base_two_logs::TwoLogs;
 use im_base_types::{Fault, Key, Rid};
-use im_theory_store::Store;
+use im_theory_store_trait::Store;
 use std::alloc::Global;
 
 impl<D: TwoLogs + Drop> Store for Engine<D> {
@@ -31,9 +31,9 @@ impl<D: TwoLogs + Drop> Store for Engine<D> {
     ghost made = { λ old step reply new. IsStep D.Disk step reply old new };
 
     fn step(&mut self, step: &Step) -> Reply {
-        self.txns.are_counted();
+        self.txns.law_are_counted();
         let reply = Engine::step(self, step);
-        self.txns.are_counted();
+        self.txns.law_are_counted();
         reply
     }
 

@@ -7,7 +7,7 @@ ghost use Rattle.im_base_txn.specs.declared.transaction.Mark.TheVariants.{Commit
 ghost use Rattle.im_base_txn.specs.declared.transaction.Transaction.{Transaction as Row};
 ghost use Rattle.im_engine.specs.Numbered.{NoneReturns, is_returning};
 
-use im_base_txn::{Mark, Table, Transaction, numbers_stay_below};
+use im_base_txn::{Mark, Table, Transaction, law_numbers_stay_below};
 use im_base_types::{LAST_TRANSACTION, Lsn, TxnId};
 use std::marker::Model;
 
@@ -50,7 +50,7 @@ impl Transactions {
     }
 
     /// Numbers rise, and the count is of those that wait. It does nothing: its contract says so.
-    pub fn are_counted(&self)
+    pub fn law_are_counted(&self)
         ensures rising { AreRising self.now.rows }
         ensures waiting { self.now.waiting ≡ waiting_in self.now.rows }
         ensures alone { self.now.group ≡ false → self.now.waiting ≡ 0 }
@@ -115,7 +115,7 @@ impl Transactions {
         if number > LAST_TRANSACTION {
             return None;
         }
-        numbers_stay_below();
+        law_numbers_stay_below();
         table.begin(number);
         *next = number + 1;
         Some(number)
@@ -126,7 +126,7 @@ impl Transactions {
         ensures table { self.new ≡ record self.old { rows = map (changed number (with_record lsn undo_next)) self.old.rows } }
         ensures forward { NoneReturns self.new.rows }
     {
-        numbers_stay_below();
+        law_numbers_stay_below();
         self.table.note_record(number, lsn, undo_next);
     }
 
@@ -135,7 +135,7 @@ impl Transactions {
         ensures table { self.new ≡ record self.old { rows = counted number lsn self.old.rows } }
         ensures forward { NoneReturns self.new.rows }
     {
-        self.are_counted();
+        self.law_are_counted();
         let changes = count_made(self.table.find(number), lsn);
         self.note_change(number, lsn, lsn, changes);
     }
@@ -145,7 +145,7 @@ impl Transactions {
         ensures table { self.new ≡ record self.old { rows = map (changed number (with_undone last undo_next)) self.old.rows } }
         ensures forward { NoneReturns self.new.rows }
     {
-        self.are_counted();
+        self.law_are_counted();
         let changes = count_undone(self.table.find(number));
         self.note_change(number, last, undo_next, changes);
     }
@@ -154,7 +154,7 @@ impl Transactions {
         ensures table { self.new ≡ record self.old { rows = map (changed number (with_changes lsn undo_next changes)) self.old.rows } }
         ensures forward { NoneReturns self.new.rows }
     {
-        numbers_stay_below();
+        law_numbers_stay_below();
         self.table.note_change(number, lsn, undo_next, changes);
     }
 
@@ -166,8 +166,8 @@ impl Transactions {
         ensures table { self.new ≡ record self.old { rows = map (changed number (with_mark mark)) self.old.rows } }
         ensures forward { NoneReturns self.new.rows }
     {
-        self.are_counted();
-        numbers_stay_below();
+        self.law_are_counted();
+        law_numbers_stay_below();
         self.table.set_mark(number, mark);
     }
 
@@ -178,8 +178,8 @@ impl Transactions {
         ensures table { self.new ≡ record self.old { rows = map (changed number (with_mark Committing)) self.old.rows; waiting = self.old.waiting + 1 } }
         ensures forward { NoneReturns self.new.rows }
     {
-        self.are_counted();
-        numbers_stay_below();
+        self.law_are_counted();
+        law_numbers_stay_below();
         self.table.set_mark(number, Mark::Committing);
         self.waiting += 1;
     }
@@ -189,7 +189,7 @@ impl Transactions {
         ensures table { self.new ≡ record self.old { rows = without_waiting self.old.rows; waiting = 0 } }
         ensures forward { NoneReturns self.new.rows }
     {
-        numbers_stay_below();
+        law_numbers_stay_below();
         self.table.end_waiting();
         self.waiting = 0;
     }
@@ -201,8 +201,8 @@ impl Transactions {
         ensures one { (row : Row) → find (is_of number) self.old.rows ≡ Some row → length self.old.rows ≡ length self.new.rows + 1 }
         ensures forward { NoneReturns self.new.rows }
     {
-        self.are_counted();
-        numbers_stay_below();
+        self.law_are_counted();
+        law_numbers_stay_below();
         self.table.end(number);
     }
 }

@@ -5,26 +5,26 @@ use Rattle.std.specs.Fd.{file_raw_fd}
 use Rattle.im_base_types.specs.declared.fault.Fault.{Fault}
 use Rattle.im_base_types.specs.declared.fault.Fault.TheVariants.{Device, Memory, NotAStore, Locked as LockedFault}
 use Rattle.im_base_types.specs.declared.file_id.FileId.TheVariants.{Log, Log2, Pages}
-use Rattle.im_files_guard.specs.declared.belonging.Apart.{Apart}
-use Rattle.im_files_guard.specs.declared.belonging.Apart.TheVariants as apart
+use Rattle.im_files_belonging.specs.declared.belonging.Apart.{Apart}
+use Rattle.im_files_belonging.specs.declared.belonging.Apart.TheVariants as apart
 use Rattle.im_files_disk.specs.declared.file_disk.FileDisk.{FileDisk}
 use Rattle.im_files_disk.specs.declared.file_disk.Found.{Found}
 use Rattle.im_files_disk.specs.declared.open_error.OpenError.{OpenError}
 use Rattle.im_files_disk.specs.declared.open_error.OpenError.TheVariants.{NotAFile, NoFile, NoOtherLog, NoPages, ShortPages, OlderPages, NotALog, Unfinished, NotEmpty, Locked, NoFolder, NotAFolder, Denied, NoDescriptor, System, Memory as NoMemory}
 
 -- The file's descriptor is none of standard input, output and error.
-abbrev pub IsApart : File → Type 0
-IsApart file = pos 2 <ℤ file_raw_fd file
+abbrev pub IsNoStandardFile : File → Type 0
+IsNoStandardFile file = pos 2 <ℤ file_raw_fd file
 
 -- No file of the store has one of those three descriptors.
 pub record HasOwnDescriptors (disk : FileDisk) : Type 0 where
-  pub log : IsApart disk.log
-  pub pages : IsApart disk.pages
-  pub log2 : IfSome disk.log2 IsApart
+  pub log : IsNoStandardFile disk.log
+  pub pages : IsNoStandardFile disk.pages
+  pub log2 : IfSome disk.log2 IsNoStandardFile
 
 -- Nor has one of those that were found.
 abbrev pub FoundAreApart : Found → Type 0
-FoundAreApart found = IfSome found.log2 IsApart × IfSome found.pages IsApart
+FoundAreApart found = IfSome found.log2 IsNoStandardFile × IfSome found.pages IsNoStandardFile
 
 -- the refusal that stands for an error of an opening
 abbrev pub fault_of_opening : OpenError → Fault
@@ -46,11 +46,11 @@ fault_of_opening NoDescriptor = Device
 fault_of_opening (System error) = Device
 
 -- whether an error is one of files that do not belong together, for this reason
-abbrev pub Says : OpenError → Apart → Type 0
-Says error (apart.NoFile Log) = (name : _) × (error ≡ NoFile name)
-Says error (apart.NoFile Log2) = error ≡ NoOtherLog
-Says error (apart.NoFile Pages) = (name : _) × (error ≡ NoFile name)
-Says error apart.Unfinished = error ≡ Unfinished
-Says error apart.NoPages = error ≡ NoPages
-Says error apart.ShortPages = error ≡ ShortPages
-Says error (apart.NotALog file) = (name : _) × (error ≡ NotALog name)
+abbrev pub SaysApart : OpenError → Apart → Type 0
+SaysApart error (apart.NoFile Log) = (name : _) × (error ≡ NoFile name)
+SaysApart error (apart.NoFile Log2) = error ≡ NoOtherLog
+SaysApart error (apart.NoFile Pages) = (name : _) × (error ≡ NoFile name)
+SaysApart error apart.Unfinished = error ≡ Unfinished
+SaysApart error apart.NoPages = error ≡ NoPages
+SaysApart error apart.ShortPages = error ≡ ShortPages
+SaysApart error (apart.NotALog file) = (name : _) × (error ≡ NotALog name)

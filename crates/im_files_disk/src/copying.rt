@@ -3,7 +3,7 @@
 //! An opening of the folder is refused as long as there is a `log.part`, whatever else is there, so that half a copy never passes for a store. Therefore that
 //! one is made first, and gets its name last.
 ghost use Rattle.std.specs.Prelude.{◌≡◌, false, IfOk};
-ghost use Rattle.im_files_disk.specs.RealFiles.{IsApart, HasOwnDescriptors};
+ghost use Rattle.im_files_disk.specs.RealFiles.{IsNoStandardFile, HasOwnDescriptors};
 
 use crate::file_disk::{Sharing, lock, open_file, open_folder, path_of_file, sync_all};
 use crate::folders::{make_folders, sync_folders};
@@ -70,7 +70,7 @@ fn remove_parts(rt: &HostRuntime, dir: &str) -> Result<(), OpenError> {
 
 // The disk of a copy whose `log.part` was made.
 fn rest_of_copy(rt: &HostRuntime, dir: &str, log: File) -> Result<FileDisk, OpenError>
-    requires { IsApart log }
+    requires { IsNoStandardFile log }
     ensures working { IfOk result (λ disk. ⟦<FileDisk as Disk>⟧.failed disk ≡ false) }
     ensures descriptors { IfOk result HasOwnDescriptors }
 {
@@ -87,7 +87,7 @@ fn rest_of_copy(rt: &HostRuntime, dir: &str, log: File) -> Result<FileDisk, Open
 
 // A file of a copy, which must not have been there.
 fn made_part(rt: &HostRuntime, dir: &str, name: &'static str) -> Result<File, OpenError>
-    ensures { IfOk result IsApart }
+    ensures { IfOk result IsNoStandardFile }
 {
     let mut options = OpenOptions::new();
     options.read(true).write(true).create_new(true);

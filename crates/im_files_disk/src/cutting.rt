@@ -6,7 +6,7 @@ use crate::file_disk::{front_of, pages_front_of};
 use crate::{DiskCall, FileDisk};
 use im_base_disk::Disk;
 use im_base_types::{Fault, FileId};
-use im_files_guard::{Folder, LogCuts};
+use im_files_belonging::{Folder, LogCuts};
 use std::io;
 
 impl FileDisk {
@@ -22,7 +22,7 @@ impl FileDisk {
         self.keep(DiskCall::Cut(end), file, outcome)
     }
 
-    /// What may be cut of the logs of the store of these files, by their beginnings as they are now (`im_files_guard`).
+    /// What may be cut of the logs of the store of these files, by their beginnings as they are now (`im_files_belonging`).
     ///
     /// Refused `Device`.
     pub fn log_cuts(&mut self) -> Result<LogCuts, Fault>

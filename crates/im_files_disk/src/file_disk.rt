@@ -1,13 +1,15 @@
 //! Real files. Nothing is told of their bytes.
 ghost use Rattle.std.specs.Prelude.{◌≡◌, ◌<◌, ◌^◌, [], true, false, IfOk, IfErr, IfSome, OnOk, Ok, Err, Some, is_err, option_map};
 ghost use Rattle.im_base_types.specs.declared.fault.Fault.TheVariants.{Device};
-ghost use Rattle.im_files_disk.specs.RealFiles.{FoundAreApart, IsApart, HasOwnDescriptors};
+ghost use Rattle.im_files_disk.specs.RealFiles.{FoundAreApart, IsNoStandardFile, HasOwnDescriptors};
 
 use crate::folders::{make_folders, sync_folders};
 use crate::{DiskCall, DiskError, OpenError};
 use im_base_disk::{Count, Disk};
 use im_base_types::{Fault, FileId, PAGE_SIZE, PageNo};
-use im_files_guard::{FIRST_BYTES, FRONT, Folder, Front, LeftLog, PagesFront, belong, is_older};
+use im_files_belonging::{
+    FIRST_BYTES, FRONT, Folder, Front, LeftLog, PagesFront, belong, is_older,
+};
 use std::fs::{self, File, OpenOptions, TryLockError};
 use std::io;
 use std::io::ErrorKind;
@@ -46,9 +48,9 @@ pub(crate) enum Sharing {
 impl FileDisk {
     // These files, of which no call has failed.
     pub(crate) fn of(log: File, pages: File, log2: Option<File>) -> FileDisk
-        requires log { IsApart log }
-        requires pages { IsApart pages }
-        requires log2 { IfSome log2 IsApart }
+        requires log { IsNoStandardFile log }
+        requires pages { IsNoStandardFile pages }
+        requires log2 { IfSome log2 IsNoStandardFile }
         ensures working { ⟦<FileDisk as Disk>⟧.failed result ≡ false }
         ensures descriptors { HasOwnDescriptors result }
     {
@@ -69,7 +71,7 @@ impl FileDisk {
     /// program was started without one of them: what it prints there would be written over the store.
     ///
     /// Refused `NotAFile` where a name in the folder is taken by something else, `Locked` where another opening holds
-    /// the log, and for each reason for which files do not belong together (`im_files_guard`): `Unfinished`, `NoFile`, `NoOtherLog`, `NoPages`, `ShortPages`, `NotALog`, `OlderPages`. In these nine no byte of
+    /// the log, and for each reason for which files do not belong together (`im_files_belonging`): `Unfinished`, `NoFile`, `NoOtherLog`, `NoPages`, `ShortPages`, `NotALog`, `OlderPages`. In these nine no byte of
     /// a file was changed and none was made but an empty `log`. The other errors are the system's.
     pub fn open(rt: &HostRuntime, dir: &str) -> Result<FileDisk, OpenError>
         ensures working { IfOk result (λ disk. ⟦<FileDisk as Disk>⟧.failed disk ≡ false) }
@@ -292,7 +294,7 @@ pub(crate) fn open_file(
     path: &str,
     options: &OpenOptions,
 ) -> Result<File, OpenError>
-    ensures { IfOk result IsApart }
+    ensures { IfOk result IsNoStandardFile }
 {
     let file = options.open(rt, path)?;
     if file.as_raw_fd() > STANDARD_ERROR {
@@ -322,7 +324,7 @@ fn open_if_made(
     name: &'static str,
     options: &OpenOptions,
 ) -> Result<Option<File>, OpenError>
-    ensures { IfOk result (λ file. IfSome file IsApart) }
+    ensures { IfOk result (λ file. IfSome file IsNoStandardFile) }
 {
     let path = path_of_file(rt, dir, name)?;
     if fs::exists(rt, path.as_str())? {
@@ -340,8 +342,8 @@ fn made(
     options: &OpenOptions,
     found: Option<File>,
 ) -> Result<File, OpenError>
-    requires { IfSome found IsApart }
-    ensures { IfOk result IsApart }
+    requires { IfSome found IsNoStandardFile }
+    ensures { IfOk result IsNoStandardFile }
 {
     if let Some(file) = found {
         return Ok(file);

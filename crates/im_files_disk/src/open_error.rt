@@ -1,10 +1,10 @@
 //! Why a folder's files were not opened.
 ghost use Rattle.std.specs.Prelude.{◌≡◌};
-ghost use Rattle.im_files_disk.specs.RealFiles.{fault_of_opening, Says};
+ghost use Rattle.im_files_disk.specs.RealFiles.{fault_of_opening, SaysApart};
 
 use crate::disk_error::file_name;
 use im_base_types::{Fault, FileId};
-use im_files_guard::Apart;
+use im_files_belonging::Apart;
 use std::io;
 use std::io::ErrorKind;
 use thiserror::Error;
@@ -91,7 +91,7 @@ impl OpenError {
 }
 
 impl From<Apart> for OpenError {
-    ghost from_gives = { λ why error. Says error why };
+    ghost from_gives = { λ why error. SaysApart error why };
 
     fn from(why: Apart) -> OpenError {
         match why {

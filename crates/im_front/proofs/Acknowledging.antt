@@ -11,12 +11,12 @@ use Rattle.im_base_steps.specs.declared.step.Step.TheVariants as steps
 use Rattle.im_base_steps.specs.declared.reply.Reply.TheVariants as replies
 use Rattle.im_base_steps.specs.Calls.{told_by}
 use Rattle.im_base_steps.specs.Replies.{is_full, lacks_memory}
-use Rattle.im_theory_store.specs.declared.store.Store.{Ghosts}
+use Rattle.im_theory_store_trait.specs.declared.store.Store.{Ghosts}
 use Rattle.im_front.specs.Held.{State, IsRun, waits_in, forces_in}
 use Rattle.im_front.specs.Traces.{trace_of}
 use Rattle.im_front.specs.Locked.{LockedState, seen_of, IsKeptFrom}
 use Rattle.im_front.specs.Acknowledged.{point_of, point_in, IsHeld, IsLast, IsNotAcknowledged, IsNotForced, IsStepOf}
-use Rattle.im_front.specs.Writing.{IsUnmade}
+use Rattle.im_front.specs.Writing.{CameToNothing}
 use Rattle.im_front.proofs.Growing.{seen_of-push}
 
 module _ {E : Type 0} (d : Ghosts E) where
@@ -99,10 +99,10 @@ module _ {E : Type 0} (d : Ghosts E) where
   not_acknowledged_whole t fault (inr (inr lacks)) = inr lacks
 
   -- of a step of any kind
-  pub unmade : (step : Step) (reply : Reply) (fault : Fault) → reply ≡ replies.Refused fault → (is_full (told_by reply) ≡ false → IsStepOf d.made step reply) → IsUnmade d fault
+  pub unmade : (step : Step) (reply : Reply) (fault : Fault) → reply ≡ replies.Refused fault → (is_full (told_by reply) ≡ false → IsStepOf d.made step reply) → CameToNothing d fault
   unmade step reply fault is so = elim (refused_plain d.made step reply fault is so) [ inl one ↦ inl (step, one) | inr full ↦ inr (inr full) ]
 
-  pub unmade_commit : (t : ℕ) (fault : Fault) → IsNotAcknowledged d t fault → IsUnmade d fault
+  pub unmade_commit : (t : ℕ) (fault : Fault) → IsNotAcknowledged d t fault → CameToNothing d fault
   unmade_commit t fault (inl one) = inl (steps.Commit t, one)
   unmade_commit t fault (inr (inl force)) = inl (steps.Force, force)
   unmade_commit t fault (inr (inr other)) = inr other

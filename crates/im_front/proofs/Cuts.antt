@@ -6,7 +6,7 @@ use Rattle.im_base_types.specs.Lives.{Shown}
 use Rattle.im_base_types.specs.declared.fault.Fault.{Fault}
 use Rattle.im_base_types.specs.declared.fault.Fault.TheVariants.{Failed, Busy}
 use Rattle.im_theory_machine.specs.View.{View}
-use Rattle.im_theory_store.specs.declared.store.Store.{Ghosts}
+use Rattle.im_theory_store_trait.specs.declared.store.Store.{Ghosts}
 use Rattle.im_front.specs.Cuts.{ComesFirst}
 
 module _ {E : Type 0} (d : Ghosts E) (engine : E) (failed : Bool) (says : (before : List Effect) (s : Shown) (v : View) → d.life before s v engine → failed ≡ v.failed) where

@@ -8,7 +8,7 @@ use Rattle.im_base_steps.specs.declared.step.Step.{Step}
 use Rattle.im_base_steps.specs.declared.reply.Reply.{Reply}
 use Rattle.im_base_steps.specs.Calls.{asked_by, told_by}
 use Rattle.im_front.specs.Events.{shown_in}
-use Rattle.im_theory_store.specs.Store.{IsAlive}
+use Rattle.im_theory_store_trait.specs.Store.{IsAlive}
 use Rattle.im_front.specs.Held.{force_of, forces_in}
 use Rattle.im_front.specs.Locked.{seen_of, StandsFrom, IsKeptFrom}
 use Rattle.im_front.proofs.Steps.{run_of}

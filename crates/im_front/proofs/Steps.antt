@@ -17,7 +17,7 @@ use Rattle.im_base_steps.specs.Calls.{asked_by, is_blocked}
 use Rattle.im_front.specs.Traces.{reply_of_told, trace_of}
 use Rattle.im_front.specs.Events.{Event, Made, Broke, made_in, Runs, shown_in}
 use Rattle.im_base_steps.specs.Replies.{started_in, commits_in, rolled_back_in, waits_after, IsReply, IsCounted}
-use Rattle.im_theory_store.specs.Store.{IsAlive, StepKept, LookKept}
+use Rattle.im_theory_store_trait.specs.Store.{IsAlive, StepKept, LookKept}
 use Rattle.im_front.specs.Held.{after_reply, after_trace, waits_in, IsTallied, Stands, IsRun, IsCut}
 use Rattle.im_front.proofs.Balance.{runs_busy, start_busy, all_idle}
 use Rattle.im_front.proofs.Replies.{stays_failed, blocked_stays, blocked_shows}

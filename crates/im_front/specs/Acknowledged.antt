@@ -9,7 +9,7 @@ use Rattle.im_base_steps.specs.declared.reply.Reply.TheVariants as replies
 use Rattle.im_base_types.specs.declared.fault.Fault.{Fault}
 use Rattle.im_base_types.specs.declared.fault.Fault.TheVariants.{Failed, TraceFull}
 use Rattle.im_base_steps.specs.Calls.{told_by}
-use Rattle.im_theory_store.specs.declared.store.Store.{Ghosts}
+use Rattle.im_theory_store_trait.specs.declared.store.Store.{Ghosts}
 use Rattle.im_front.specs.Traces.{trace_of}
 use Rattle.im_front.specs.Held.{State, IsRun, waits_in, forces_in}
 use Rattle.im_front.specs.Locked.{LockedState, seen_of}

@@ -5,7 +5,7 @@ use Rattle.im_base_types.specs.Lives.{Shown}
 use Rattle.im_base_types.specs.declared.fault.Fault.{Fault}
 use Rattle.im_base_types.specs.declared.fault.Fault.TheVariants.{Failed, Busy}
 use Rattle.im_theory_machine.specs.View.{View}
-use Rattle.im_theory_store.specs.declared.store.Store.{Ghosts}
+use Rattle.im_theory_store_trait.specs.declared.store.Store.{Ghosts}
 use Rattle.im_front.specs.Traces.{trace_of}
 use Rattle.im_front.specs.Held.{State, IsCut}
 use Rattle.im_front.specs.Acknowledged.{point_in, IsHeld}

@@ -8,16 +8,16 @@ use Rattle.im_base_types.specs.Changes.{Effect, apply_all}
 use Rattle.im_base_types.specs.Lives.{Shown, Survives, effects, nothing_shown, shown_by}
 use Rattle.im_theory_machine.specs.View.{View}
 use Rattle.im_theory_machine.specs.Machine.{Run, start}
-use Rattle.im_front_stats.specs.Counts.{started, committed, rolled_back, IsSound}
+use Rattle.im_front_stats.specs.Counts.{started, committed_count, rolled_back, IsSound}
 use Rattle.im_base_types.specs.declared.fault.Fault.{Fault}
 use Rattle.im_base_types.specs.declared.fault.Fault.TheVariants.{Failed, Busy, TraceFull}
 use Rattle.im_front.specs.declared.recorded.Recorded.{Recorded}
 use Rattle.im_front.specs.Traces.{trace_of}
 use Rattle.im_base_steps.specs.Calls.{is_blocked, is_force}
-use Rattle.im_theory_store.specs.Store.{Rests}
+use Rattle.im_theory_store_trait.specs.Store.{Rests}
 use Rattle.im_front.specs.Events.{Event, made_in, Runs, shown_in}
 use Rattle.im_base_steps.specs.Replies.{is_full, lacks_memory, started_in, commits_in, rolled_back_in, waits_after, IsReply}
-use Rattle.im_theory_store.specs.declared.store.Store.{Ghosts}
+use Rattle.im_theory_store_trait.specs.declared.store.Store.{Ghosts}
 
 -- the value behind the lock, as contracts see it
 pub record State (E : Type 0) : Type 0 where
@@ -47,7 +47,7 @@ waits_in waiting (e ∷ es) = waits_in (waits_after waiting e.0 e.1) es
 
 -- the counts after a step with this reply, before which so many waited
 abbrev pub after_reply : ℕ → List ℕ → Step → Reply → List ℕ
-after_reply waiting counts step reply = (started counts + started_in reply) ∷ (committed counts + commits_in waiting step reply) ∷ (rolled_back counts + rolled_back_in reply) ∷ []
+after_reply waiting counts step reply = (started counts + started_in reply) ∷ (committed_count counts + commits_in waiting step reply) ∷ (rolled_back counts + rolled_back_in reply) ∷ []
 
 -- the counts after a trace, before which so many waited
 abbrev pub after_trace : ℕ → List ℕ → List (Step × Reply) → List ℕ
@@ -93,15 +93,15 @@ pub record IsTallied (trace : List (Step × Reply)) (active waiting cut : ℕ) (
   pub waits : waiting ≡ waits_in 0 trace
   pub long : length counts ≡ 3
   pub cut_small : cut ≤ 2 ^ 62
-  pub counts_small : (started counts ≤ cut + length trace) × (committed counts + waiting ≤ cut + length trace) × (rolled_back counts ≤ cut + length trace)
-  pub balanced : started counts ≡ committed counts + rolled_back counts + active
+  pub counts_small : (started counts ≤ cut + length trace) × (committed_count counts + waiting ≤ cut + length trace) × (rolled_back counts ≤ cut + length trace)
+  pub balanced : started counts ≡ committed_count counts + rolled_back counts + active
 
 -- What the trace tells: each reply suits its step; the counts that were written last are those of its steps, after those of the steps cut, and are sound; and what was started has ended or is active.
 pub record IsCounted (trace : List (Step × Reply)) (active : ℕ) (kept counts : List ℕ) : Type 0 where
   pub replies : All (λ e. IsReply e.0 e.1) trace
   pub counts_are : counts ≡ after_trace 0 kept trace
   pub sound : IsSound counts
-  pub balanced : started counts ≡ committed counts + rolled_back counts + active
+  pub balanced : started counts ≡ committed_count counts + rolled_back counts + active
 
 module _ {E : Type 0} (life : List Effect → Shown → View → E → Type 0) where
   -- The trace is what was done since the base entries, and leads to a view of the engine.

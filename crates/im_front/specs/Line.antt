@@ -1,8 +1,8 @@
 -- Who waits to begin, and for whom.
 use Rattle.std.specs.Prelude.{ℕ}
-use Rattle.im_base_turns.specs.declared.asker.Asker.{Asker}
-use Rattle.im_base_turns.specs.declared.going.Going.{Going}
-use Rattle.im_base_turns.specs.Turns.{IsAwaited}
+use Rattle.im_base_admission.specs.declared.asker.Asker.{Asker}
+use Rattle.im_base_admission.specs.declared.going.Going.{Going}
+use Rattle.im_base_admission.specs.Admission.{IsAwaited}
 use Rattle.im_front.specs.declared.line.Turn.{Turn}
 
 -- A transaction is left alone where it made no step that was answered for ten ticks.

@@ -10,7 +10,7 @@ ghost use Rattle.im_base_types.specs.declared.fault.Fault.TheVariants.{Busy, Fai
 ghost use Rattle.im_base_steps.specs.Calls.{told_by, is_blocked};
 ghost use Rattle.im_front.specs.Traces.{trace_of, counts_of};
 ghost use Rattle.im_base_steps.specs.Replies.{is_full, lacks_memory, IsReply};
-ghost use Rattle.im_theory_store.specs.Store.{LookKept};
+ghost use Rattle.im_theory_store_trait.specs.Store.{LookKept};
 ghost use Rattle.im_front.specs.Held.{IsResting, IsRun, StopKeeps};
 ghost use Rattle.im_front.specs.Cuts.{WasCut};
 ghost use Rattle.im_front.specs.Acknowledged.{IsAcknowledged, IsForced, IsNotAcknowledged, IsNotForced, IsSettled, IsStepOf};
@@ -21,7 +21,7 @@ use crate::share::Share;
 use crate::stats::Stats;
 use im_base_steps::{Reply, Step};
 use im_base_types::{Fault, TxnId};
-use im_theory_store::Store;
+use im_theory_store_trait::Store;
 use std::alloc::Global;
 use std::sync::ledger::{Blank, Ledger};
 use std::sync::{Mutex, MutexGuard, Wait};
@@ -101,7 +101,7 @@ impl<E: Store, L: Ledger> Front<E, L> {
         self.callers.tell(&step, &reply);
         let done = match reply {
             Reply::More => {
-                held.holds_always();
+                held.law_holds_always();
                 let forces = held.forces();
                 return self.settle_all(rt, mine, held, forces);
             }
@@ -122,7 +122,7 @@ impl<E: Store, L: Ledger> Front<E, L> {
     {
         self.callers.come();
         let held = self.held.lock(rt);
-        held.holds_always();
+        held.law_holds_always();
         let pace = held.pace();
         if pace.waiting > 0 && !pace.failed {
             let forces = held.forces();
@@ -150,7 +150,7 @@ impl<E: Store, L: Ledger> Front<E, L> {
     {
         let mut held = self.callers.sleep_until_due(rt, held, forces);
         let done = if held.is_settled(forces) {
-            held.holds_always();
+            held.law_holds_always();
             Ok(())
         } else if held.pace().failed {
             Err(Fault::Failed)
@@ -174,9 +174,9 @@ impl<E: Store, L: Ledger> Front<E, L> {
         ensures causes { IfErr result (λ fault. (fault ≡ Failed) ⊎ ((fault ≡ Busy) ⊎ ((fault ≡ TraceFull) ⊎ ((old new : E) × E.refuses old new fault)))) }
     {
         let mut held = self.held.lock(rt);
-        held.holds_always();
+        held.law_holds_always();
         let done = held.cut_trace();
-        held.holds_always();
+        held.law_holds_always();
         done
     }
 

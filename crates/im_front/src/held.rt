@@ -13,7 +13,7 @@ ghost use Rattle.im_base_types.specs.declared.fault.Fault.TheVariants.{Failed, B
 ghost use Rattle.im_base_steps.specs.Calls.{asked_by, told_by, may_end, most_entries, most_key};
 ghost use Rattle.im_front.specs.Traces.{trace_of};
 ghost use Rattle.im_base_steps.specs.Replies.{is_full, lacks_memory, IsReply};
-ghost use Rattle.im_theory_store.specs.Store.{LookKept};
+ghost use Rattle.im_theory_store_trait.specs.Store.{LookKept};
 ghost use Rattle.im_front.specs.Cuts.{ComesFirst};
 ghost use Rattle.im_front.specs.Held.{IsCounted, IsResting, Records, IsRun, StopKeeps, IsCut, WhyNotCut, after_reply, waits_in, force_of, forces_in};
 
@@ -24,8 +24,8 @@ use crate::told::{Room, Told};
 use im_base_steps::{Reply, Step};
 use im_base_types::{Fault, Key, Rid};
 use im_front_stats::{Pass, StatsCell};
-use im_theory_machine::isolation;
-use im_theory_store::Store;
+use im_theory_machine::law_isolation;
+use im_theory_store_trait::Store;
 use std::alloc::Global;
 use std::marker::Model;
 use std::sync::ledger::{Blank, Book, Ledger, Share as Part};
@@ -142,7 +142,7 @@ impl<E: Store, L: Ledger> Held<E, L> {
     /// written last to the cell are those of the trace, added to those of the steps cut, those wait for a force whose Commit was answered
     /// `More` since the last force, as many forces were made as those that it answered `Done`, and what was started has ended or is active. It
     /// does nothing: its contract says so.
-    pub fn holds_always(&self)
+    pub fn law_holds_always(&self)
         ensures run { E.tells → IsRun E.life self.now.base (trace_of self.now.trace) self.now.engine }
         ensures stops { E.tells → StopKeeps E.leaves self.now.base (trace_of self.now.trace) self.now.engine }
         ensures waiting { (self.now.waiting ≡ waits_in 0 (trace_of self.now.trace)) × (self.now.waiting ≡ E.waiting self.now.engine) }
@@ -206,7 +206,7 @@ impl<E: Store, L: Ledger> Held<E, L> {
         if self.trace.len() as u64 > MOST_CUT - self.cut {
             return Err(Fault::TraceFull);
         }
-        isolation();
+        law_isolation();
         let Held {
             alloc,
             engine,

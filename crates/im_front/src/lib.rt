@@ -3,7 +3,7 @@
 //! An engine that threads share: one lock, and beside the engine a trace of its steps that is a run.
 //!
 //! **What lies under the lock** (`Held`): an engine, the entries from which the trace begins, the steps with their replies, and
-//! three counts. What holds each time that the lock is free is the invariant of the type, and `holds_always` says what follows.
+//! three counts. What holds each time that the lock is free is the invariant of the type, and `law_holds_always` says what follows.
 //! Over any engine (`IsTallied`) each reply of the trace suits its step, the counts are those of the trace, and what was started
 //! has ended or is active. Over an engine that tells what it holds (`Stands`) the trace is a run of the machine of `im_theory_machine`, from
 //! the map of the base entries to a view of the engine: a stop then leaves the base entries with a front of what the trace asked,
@@ -18,9 +18,9 @@
 //!
 //! **What an answer says**: an Ok of `commit` that the Commit was made and acknowledged, at once or by a force that came after it (`IsAcknowledged`); an Ok of
 //! `Open::write` that its work was done last between a Begin and such a Commit of one transaction, and that each time before was rolled back (`IsWritten`). Who
-//! may begin again, and when, is a decision over plain numbers (`may_begin` of `im_base_turns`).
+//! may begin again, and when, is a decision over plain numbers (`may_begin` of `im_base_admission`).
 //!
-//! **The engine** is any `Store` of `im_theory_store`: its replies suit their steps, and it counts its transactions; where it tells
+//! **The engine** is any `Store` of `im_theory_store_trait`: its replies suit their steps, and it counts its transactions; where it tells
 //! what it holds its steps are the machine's, a stop keeps what it acknowledged, and where nothing is active a new life begins with
 //! what was committed. A store over real files tells nothing, and threads share it all the same.
 #![tactic(auto)]

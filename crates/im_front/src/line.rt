@@ -6,10 +6,10 @@
 ghost use Rattle.std.specs.Prelude.{◌≡◌, ◌<◌, ◌≤◌, ◌+◌, ◌⊎◌, ◌↔◌, true, false};
 ghost use Rattle.std.specs.List.{All};
 ghost use Rattle.im_front.specs.Line.{IsWaitedFor, asker_of};
-ghost use Rattle.im_base_turns.specs.Turns.{MayBegin};
+ghost use Rattle.im_base_admission.specs.Admission.{MayBegin};
 
+use im_base_admission::{Asker, FEW, Going, becomes_first, is_left_alone, may_begin, whose};
 use im_base_steps::{Reply, Step};
-use im_base_turns::{Asker, FEW, Going, becomes_first, is_left_alone, may_begin, whose};
 use im_base_types::TxnId;
 
 /// For how many ticks a transaction makes no step before it counts as left alone.

@@ -22,7 +22,7 @@ use crate::trace::Trace;
 use im_base_steps::{Reply, Step};
 use im_base_types::{Fault, TxnId};
 use im_front_stats::{Pass, StatsCell};
-use im_theory_store::Store;
+use im_theory_store_trait::Store;
 use std::alloc::Global;
 use std::marker::Model;
 use std::sync::{Arc, Mutex, MutexGuard, Wait};
@@ -103,7 +103,7 @@ impl<E: Store> Kept<E> {
     }
 
     /// What always holds of the value behind the lock. It does nothing: its contract says so.
-    pub fn holds_always(&self)
+    pub fn law_holds_always(&self)
         ensures kept { E.tells → IsKeptFrom E.life E.leaves self.now.trace self.now.engine }
         ensures waiting { (self.now.waiting ≡ waits_in 0 (seen_of self.now.trace)) × (self.now.waiting ≡ E.waiting self.now.engine) }
         ensures forces { self.now.forces ≡ forces_in (seen_of self.now.trace) }
@@ -344,7 +344,7 @@ impl<E: Store> Open<E> {
         self.callers.tell(&step, &reply);
         let done = match reply {
             Reply::More => {
-                held.holds_always();
+                held.law_holds_always();
                 let forces = held.forces();
                 return self.settle_all(rt, held, forces);
             }
@@ -364,7 +364,7 @@ impl<E: Store> Open<E> {
     {
         self.callers.come();
         let held = self.held.lock(rt);
-        held.holds_always();
+        held.law_holds_always();
         let pace = held.pace();
         if pace.waiting > 0 && !pace.failed {
             let forces = held.forces();
@@ -390,7 +390,7 @@ impl<E: Store> Open<E> {
     {
         let mut held = self.callers.sleep_until_due(rt, held, forces);
         let done = if held.is_settled(forces) {
-            held.holds_always();
+            held.law_holds_always();
             Ok(())
         } else if held.pace().failed {
             Err(Fault::Failed)

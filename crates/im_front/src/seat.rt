@@ -9,7 +9,7 @@ ghost use Rattle.im_front.specs.Held.{IsResting};
 
 use crate::stats::Stats;
 use im_front_stats::{Pass, StatsCell};
-use im_theory_store::Store;
+use im_theory_store_trait::Store;
 use std::alloc::Global;
 use std::marker::Model;
 use std::sync::Arc;

@@ -1,7 +1,7 @@
 //! Transactions that are made again where they have to give way.
 
 ghost use Rattle.std.specs.Prelude.{IfErr, IfOk};
-ghost use Rattle.im_front.specs.Writing.{IsBegun, IsTakenBack, IsUnmade, IsUnwritten, IsWritten};
+ghost use Rattle.im_front.specs.Writing.{IsBegun, IsTakenBack, CameToNothing, IsUnwritten, IsWritten};
 
 use crate::callers::Behind;
 use crate::line::Turn;
@@ -9,7 +9,7 @@ use crate::open::Open;
 use crate::stop::Stop;
 use im_base_steps::{Reply, Step};
 use im_base_types::{Fault, TxnId};
-use im_theory_store::Store;
+use im_theory_store_trait::Store;
 use std::sync::Wait;
 use std::time::Clock;
 
@@ -70,7 +70,7 @@ impl<E: Store> Open<E> {
     // Begins a transaction, once it may.
     fn begin<R: Wait + Clock>(&self, rt: &R, turn: &Turn) -> Result<TxnId, Fault>
         ensures begun { IfOk result (λ t. IsBegun E.made t) }
-        ensures causes { IfErr result (IsUnmade E.Store) }
+        ensures causes { IfErr result (CameToNothing E.Store) }
     {
         self.callers.come();
         let mut held = self.held.lock(rt);
@@ -110,7 +110,7 @@ impl<E: Store> Open<E> {
     // Rolls a transaction back whole.
     fn take_back<R: Wait>(&self, rt: &R, turn: &Turn, t: TxnId) -> Result<(), Fault>
         ensures taken { IfOk result (λ _. IsTakenBack E.made t) }
-        ensures causes { IfErr result (IsUnmade E.Store) }
+        ensures causes { IfErr result (CameToNothing E.Store) }
     {
         let mut reply = self.call(rt, Step::Rollback(t));
         for _ in rt.forever() {

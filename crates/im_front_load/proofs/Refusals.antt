@@ -7,7 +7,7 @@ use Rattle.im_base_steps.specs.declared.reply.Reply.{Reply}
 use Rattle.im_base_steps.specs.declared.reply.Reply.TheVariants as replies
 use Rattle.im_base_steps.specs.Calls.{told_by}
 use Rattle.im_base_steps.specs.Replies.{is_full, lacks_memory}
-use Rattle.im_theory_store.specs.declared.store.Store.{Ghosts}
+use Rattle.im_theory_store_trait.specs.declared.store.Store.{Ghosts}
 use Rattle.im_front.specs.Acknowledged.{IsStepOf}
 use Rattle.im_front.proofs.Acknowledging.{refused_whole}
 use Rattle.im_front_load.specs.Refusals.{IsStopped}

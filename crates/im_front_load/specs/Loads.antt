@@ -1,6 +1,6 @@
 -- That a load was made.
 use Rattle.std.specs.Prelude.{◌≤◌, ◌+◌, ◌*◌, IfSome}
-use Rattle.im_theory_store.specs.declared.store.Store.{Ghosts}
+use Rattle.im_theory_store_trait.specs.declared.store.Store.{Ghosts}
 use Rattle.im_front.specs.declared.held.Closed.{Closed}
 use Rattle.im_front.specs.declared.load_args.LoadArgs.{LoadArgs}
 use Rattle.im_front.specs.Traces.{trace_of}

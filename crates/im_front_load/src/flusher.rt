@@ -7,7 +7,7 @@ use crate::stepping::made;
 use im_base_steps::Step;
 use im_base_types::Fault;
 use im_front::{Front, Share};
-use im_theory_store::Store;
+use im_theory_store_trait::Store;
 use std::sync::Wait;
 use std::sync::ledger::Ledger;
 

@@ -13,7 +13,7 @@ use crate::job::{Ended, Job, Task};
 use crate::worker::work;
 use im_base_types::{Fault, WorkerStart};
 use im_front::{Closed, Front, LoadArgs, Share, Stats};
-use im_theory_store::Store;
+use im_theory_store_trait::Store;
 use std::alloc::Global;
 use std::sync::Wait;
 use std::sync::ledger::{Blank, Ledger};

@@ -7,7 +7,7 @@ ghost use Rattle.im_front_load.specs.Loads.{WasLoaded};
 use crate::loading::{Loaded, load};
 use im_base_types::{Fault, WorkerStart};
 use im_front::LoadArgs;
-use im_theory_store::Store;
+use im_theory_store_trait::Store;
 use std::alloc::Global;
 use std::io;
 use std::io::Write;

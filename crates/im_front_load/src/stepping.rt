@@ -9,7 +9,7 @@ ghost use Rattle.im_front_load.specs.Refusals.{IsStopped};
 use im_base_steps::{Reply, Step};
 use im_base_types::Fault;
 use im_front::{Front, Share};
-use im_theory_store::Store;
+use im_theory_store_trait::Store;
 use std::sync::Wait;
 use std::sync::ledger::Ledger;
 

@@ -8,7 +8,7 @@ use crate::stepping::made;
 use im_base_steps::{Reply, Step};
 use im_base_types::{Fault, Rid, TxnId};
 use im_front::{Front, Share};
-use im_theory_store::Store;
+use im_theory_store_trait::Store;
 use std::alloc::{AllocError, Global};
 use std::sync::Wait;
 use std::sync::ledger::Ledger;

@@ -7,7 +7,7 @@ use Rattle.crossbeam_utils.specs.Seq.{Versioned, Knows, idle}
 use Rattle.crossbeam_utils.specs.declared.atomic.seq_cell.Doing.{Doing}
 use Rattle.atomic_table.proofs.Lists.{at_set, at_snoc, set_again}
 use Rattle.im_front_stats.specs.declared.version_rule.Known.{Known}
-use Rattle.im_front_stats.specs.Counts.{nothing, writer, reader, IsSound, NoLess, FitsRule, Kept, Stored, Loaded}
+use Rattle.im_front_stats.specs.Counts.{nothing, writer, reader, IsSound, NoLess, FitsRule, Kept, StoresCounts, Loaded}
 
 off : false ≡ true → ⊥
 off e = true≢false (sym e)
@@ -33,7 +33,7 @@ begins = (le_refl 0, 0, one)
     one (suc by) v e = absurd (some-ne-none v (sym e))
 
 -- the writer stores counts that do not fall
-pub stores : (by : ℕ) (v : Known) (new : List ℕ) → v.writes ≡ true → IsSound new → NoLess v.seen new → Turns Kept by v (λ _. new) Stored
+pub stores : (by : ℕ) (v : Known) (new : List ℕ) → v.writes ≡ true → IsSound new → NoLess v.seen new → Turns Kept by v (λ _. new) StoresCounts
 stores by v new writes sound rises words views h at =
     let mine = (h.2 by v at).0 writes in
     let more : NoLess words new = subst (λ xs. NoLess xs new) mine.1 rises in (

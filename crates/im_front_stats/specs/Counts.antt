@@ -9,8 +9,8 @@ abbrev pub started : List ℕ → ℕ
 started counts = slice_index counts 0
 
 -- how many committed
-abbrev pub committed : List ℕ → ℕ
-committed counts = slice_index counts 1
+abbrev pub committed_count : List ℕ → ℕ
+committed_count counts = slice_index counts 1
 
 -- how many were rolled back
 abbrev pub rolled_back : List ℕ → ℕ
@@ -30,11 +30,11 @@ reader counts = record { writes = false; seen = counts }
 
 -- no more have ended than were started
 abbrev pub IsSound : List ℕ → Type 0
-IsSound counts = committed counts + rolled_back counts ≤ started counts
+IsSound counts = committed_count counts + rolled_back counts ≤ started counts
 
 -- no count fell
 abbrev pub NoLess : List ℕ → List ℕ → Type 0
-NoLess old new = (started old ≤ started new) × (committed old ≤ committed new) × (rolled_back old ≤ rolled_back new)
+NoLess old new = (started old ≤ started new) × (committed_count old ≤ committed_count new) × (rolled_back old ≤ rolled_back new)
 
 -- what the rule says of one pass: who writes is the one in this seat and knows the counts, and no one has seen more
 abbrev pub FitsRule : ℕ → List ℕ → ℕ → Known → Type 0
@@ -45,8 +45,8 @@ abbrev pub Kept : List ℕ → List Known → Type 0
 Kept counts views = IsSound counts × (seat : ℕ) × ((by : ℕ) (v : Known) → get_elem? views by ≡ some v → FitsRule seat counts by v)
 
 -- the first kind of step: the writer put other counts in the place of those that it wrote last
-abbrev pub Stored : Known → List ℕ → List ℕ → Known → Type 0
-Stored v before after w = (before ≡ v.seen) × (w ≡ writer after)
+abbrev pub StoresCounts : Known → List ℕ → List ℕ → Known → Type 0
+StoresCounts v before after w = (before ≡ v.seen) × (w ≡ writer after)
 
 -- the second kind: a reader read the counts, all of one moment
 abbrev pub Loaded : Known → List ℕ → List ℕ → Known → Type 0

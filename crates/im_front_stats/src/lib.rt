@@ -6,7 +6,7 @@
 //! where the writer stored meanwhile, and else all three counts of one moment. No count falls for a pass that reads.
 //!
 //! The cell is a version and three words. The version is odd while the writer stores, and a read looks at it before and
-//! after. Its rule (`Kept`) has two kinds of step: a store by the writer's pass (`Stored`) and a load by a reader's pass
+//! after. Its rule (`Kept`) has two kinds of step: a store by the writer's pass (`StoresCounts`) and a load by a reader's pass
 //! (`Loaded`); each changes what that pass knows alone. The crate stands on none of the store's.
 #![tactic(auto)]
 

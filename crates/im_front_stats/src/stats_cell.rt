@@ -3,7 +3,7 @@
 ghost use Rattle.std.specs.Prelude.{◌≡◌, true, false, ◌+◌, ◌%◌, ◌<◌, ◌^◌, [], length, IfOk, IfSome, IfNone};
 ghost use Rattle.crossbeam_utils.specs.declared.atomic.seq_cell.Stage.TheVariants.{Writing};
 ghost use Rattle.crossbeam_utils.specs.Seq.{Gathered, Stays, IsSamePass, cell_view};
-ghost use Rattle.im_front_stats.specs.Counts.{writer, reader, nothing, IsSound, NoLess, Loaded, Stored};
+ghost use Rattle.im_front_stats.specs.Counts.{writer, reader, nothing, IsSound, NoLess, Loaded, StoresCounts};
 
 use crate::version_rule::{Check, Cut, Known, Law, Lock, Look, Pass, Peek, Publish, Put};
 use atomic_table::Table;
@@ -117,7 +117,7 @@ impl StatsCell {
         requires locked { (pass.old.me.0.stage ≡ Writing version old new 0) × (version + 1 < 2 ^ 64) × (length new ≡ 3) }
         requires writes { ((cell_view pass.old).writes ≡ true) × IsSound new × NoLess (cell_view pass.old).seen new }
         ensures cell { IsSamePass pass.old pass.new }
-        ensures rule { Stored (cell_view pass.old) old new (cell_view pass.new) }
+        ensures rule { StoresCounts (cell_view pass.old) old new (cell_view pass.new) }
     {
         for i in 0..3 {
             self.table.shared.store::<Put>(pass, i + 1, new[i]);

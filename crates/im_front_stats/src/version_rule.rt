@@ -76,9 +76,9 @@ pub(crate) struct Publish;
 
 impl Play<[u64; 3], Doing<[u64; 3], Known>> for Publish {
     ghost use Rattle.crossbeam_utils.specs.Seq.{published};
-    ghost use Rattle.im_front_stats.specs.Counts.{Stored};
+    ghost use Rattle.im_front_stats.specs.Counts.{StoresCounts};
 
-    ghost then = { published Stored };
+    ghost then = { published StoresCounts };
 }
 
 // A reader's pass, cut off another: it has seen what that one has.

@@ -5,9 +5,9 @@ use Rattle.im_theory_tree.specs.Allocations.{initial_bodies}
 use Rattle.im_load.proofs.Closings.{steps_kept}
 use Rattle.im_load.proofs.Fills.{steps_filled}
 use Rattle.im_load.specs.Held.{Numbered}
-use Rattle.im_load.specs.Loading.{Taken}
+use Rattle.im_load.specs.Loading.{HasTakenAll}
 
-pub begun_taken : (tells : Type 0) (file : List ℕ) → (tells → file ≡ []) → Taken (1, initial 1) [] 2 tells file []
+pub begun_taken : (tells : Type 0) (file : List ℕ) → (tells → file ≡ []) → HasTakenAll (1, initial 1) [] 2 tells file []
 begun_taken tells file none = record {
   pages = initial_bodies;
   at = λ k. 1;
@@ -31,6 +31,6 @@ begun_taken tells file none = record {
 }
 
 -- the same of a loader that was made so
-pub begun_by : (leaf : Numbered) (above : List Numbered) (tells : Type 0) (file : List ℕ) → leaf ≡ (1, initial 1) → above ≡ [] → (tells → file ≡ []) → Taken leaf above 2 tells file []
+pub begun_by : (leaf : Numbered) (above : List Numbered) (tells : Type 0) (file : List ℕ) → leaf ≡ (1, initial 1) → above ≡ [] → (tells → file ≡ []) → HasTakenAll leaf above 2 tells file []
 begun_by leaf above tells file leaf_is above_is none =
-    subst (λ (x : Numbered). Taken x above 2 tells file []) (sym leaf_is) (subst (λ (ns : List Numbered). Taken (1, initial 1) ns 2 tells file []) (sym above_is) (begun_taken tells file none))
+    subst (λ (x : Numbered). HasTakenAll x above 2 tells file []) (sym leaf_is) (subst (λ (ns : List Numbered). HasTakenAll (1, initial 1) ns 2 tells file []) (sym above_is) (begun_taken tells file none))

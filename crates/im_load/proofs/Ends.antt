@@ -17,17 +17,17 @@ use Rattle.im_theory_tree.specs.Theory.{page_tree}
 use Rattle.im_theory_tree.proofs.Cited.{AllOf-append, AllOf-right, AllOf-from, Ascends, ascends_from_rises}
 use Rattle.im_theory_tree.proofs.Ascent.{ascends-append, rises_from_ascends}
 use Rattle.im_theory_tree.proofs.KeyLemmas.{put_behind}
-use Rattle.im_load.specs.Edge.{IsTop, Stands}
-use Rattle.im_load.specs.Loaded.{puts_onto, loaded, effects_of, loaded_base, unlogged}
+use Rattle.im_load.specs.Edge.{IsAboveAll, Stands}
+use Rattle.im_load.specs.Loaded.{puts_onto, load_effect, effects_of, loaded_base, unlogged}
 use Rattle.im_load.specs.Laws.{LastIsEnough}
 
 -- what stands before an entry of a rising list is below it
-pub front_below : (front : List Entry) (e : Entry) (es : List Entry) → Ascends (front ++ e ∷ es) → IsTop e.0 front
+pub front_below : (front : List Entry) (e : Entry) (es : List Entry) → Ascends (front ++ e ∷ es) → IsAboveAll e.0 front
 front_below [] e es up = tt
 front_below (x ∷ front) e es up = ((AllOf-right (λ (y : Entry). IsBelow x.0 y.0) front (e ∷ es) up.0).0, front_below front e es up.1)
 
 -- a key above all goes to the end
-put_at_end : (front : List Entry) (e : Entry) → IsTop e.0 front → with_key e.0 e.1 front ≡ front ++ e ∷ []
+put_at_end : (front : List Entry) (e : Entry) → IsAboveAll e.0 front → with_key e.0 e.1 front ≡ front ++ e ∷ []
 put_at_end front e top = ap (with_key e.0 e.1) (sym (append-nil front)) ∙ put_behind e.0 e.1 front [] top
 
 entries_onto : (cs : Effect) (front es : List Entry) → entries (apply empty cs) ≡ front → Ascends (front ++ es) → entries (apply empty (puts_onto cs es)) ≡ front ++ es
@@ -41,17 +41,17 @@ entries_onto cs front (e ∷ es) is up =
 empty_entries : entries {X = ℕ} {R = key_order} empty ≡ []
 empty_entries = nil_from_length (entries {X = ℕ} {R = key_order} empty) (sym (len-entries {X = ℕ} {R = key_order} empty) ∙ len-empty key_order ℕ)
 
-pub entries_are : (es : List Entry) → Rises es → entries (apply empty (loaded es)) ≡ es
+pub entries_are : (es : List Entry) → Rises es → entries (apply empty (load_effect es)) ≡ es
 entries_are es rises = entries_onto [] [] es empty_entries (ascends_from_rises es rises)
 
-effects_make : (es : List Entry) → apply_all empty (effects_of es) ≡ apply empty (loaded es)
+effects_make : (es : List Entry) → apply_all empty (effects_of es) ≡ apply empty (load_effect es)
 effects_make [] = refl
 effects_make (e ∷ es) = refl
 
 pub loaded_stands : (pages : Pages) (at : ℕ → ℕ) (es : List Entry) (start : ℕ) (file : ℕ → Option Page) → Stands pages at [] es → Rises es → ((p : ℕ) → file p ≡ Some (unlogged pages p))
-    → StandsFor (loaded_base pages (apply empty (loaded es)) start) page_tree [] file (effects_of es)
+    → StandsFor (loaded_base pages (apply empty (load_effect es)) start) page_tree [] file (effects_of es)
 loaded_stands pages at es start file s rises is =
-    let b = loaded_base pages (apply empty (loaded es)) start in
+    let b = loaded_base pages (apply empty (load_effect es)) start in
     record {
       sound = record {
         lawful = record {
@@ -66,7 +66,7 @@ loaded_stands pages at es start file s rises is =
     }
 
 -- rising entries, and one more above them
-pub rises_with : (es : List Entry) (e : Entry) → Rises es → IsTop e.0 es → Rises (es ++ e ∷ [])
+pub rises_with : (es : List Entry) (e : Entry) → Rises es → IsAboveAll e.0 es → Rises (es ++ e ∷ [])
 rises_with es e rises top =
     rises_from_ascends (es ++ e ∷ []) (ascends-append es (e ∷ []) (ascends_from_rises es rises) (tt, tt)
     (AllOf-from (λ (x : Entry). IsBelow x.0 e.0) (λ (x : Entry). AllOf (λ (y : Entry). IsBelow x.0 y.0) (e ∷ [])) (λ x b. (b, tt)) es top))
@@ -74,7 +74,7 @@ rises_with es e rises top =
 pub last_enough : LastIsEnough
 last_enough front last e rises below =
     let all = ascends_from_rises (front ++ last ∷ []) rises in
-    let top : IsTop e.0 (front ++ last ∷ []) =
+    let top : IsAboveAll e.0 (front ++ last ∷ []) =
     AllOf-append (λ (x : Entry). IsBelow x.0 e.0) front (last ∷ [])
     (AllOf-from (λ (x : Entry). IsBelow x.0 last.0) (λ (x : Entry). IsBelow x.0 e.0) (λ x b. below_trans x.0 last.0 e.0 b below) front (front_below front last [] all))
     (below, tt) in

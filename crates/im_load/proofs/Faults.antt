@@ -7,7 +7,7 @@ use Rattle.im_base_disk.specs.Disk.{Answers}
 use Rattle.im_base_disk.specs.Ends.{AnswersOr}
 use Rattle.im_base_disk.proofs.Ends.{device_answered}
 use Rattle.im_load.specs.declared.loader.Loader.{Loader}
-use Rattle.im_load.specs.HasTaken.{Refuses}
+use Rattle.im_load.specs.HasTaken.{LoaderRefuses}
 
 -- what was refused within, and is handed on
 pub handed_on : {A : Type 0} (r : Result A Fault) (f g : Fault) → IsErrAnd r (λ e. e ≡ f) → r ≡ Err g → f ≡ g
@@ -57,7 +57,7 @@ works_on {A} own false a inner = refl
 works_on {A} own true a inner = absurd (let never : ⊥ = cc (inner.device.1 refl) in never)
 
 -- less is known of why a caller is not answered `NotAStore`
-pub eased : (l : Loader) (none outer : Type 0) (f : Fault) → (none → outer) → Refuses l none f → Refuses l outer f
+pub eased : (l : Loader) (none outer : Type 0) (f : Fault) → (none → outer) → LoaderRefuses l none f → LoaderRefuses l outer f
 eased l none outer f so (inl memory) = inl memory
 eased l none outer f so (inr (inl full)) = inr (inl full)
 eased l none outer f so (inr (inr unsound)) = inr (inr (unsound.0, so unsound.1))
@@ -67,10 +67,10 @@ pub refused_there : {A B : Type 0} (own : Fault → Type 0) (lost : Bool) (f : F
 refused_there {A} {B} own lost f r is inner = device_answered own false lost f r is inner.device inner.noted
 
 -- none of a load's own is `KeyLength`
-pub keyed_refusal : {B : Type 0} (l : Loader) (none : Type 0) (lost : Bool) (f : Fault) → AnswersOr {A = B} (Refuses l none) lost (Err f) → f ≡ KeyLength → ⊥
+pub keyed_refusal : {B : Type 0} (l : Loader) (none : Type 0) (lost : Bool) (f : Fault) → AnswersOr {A = B} (LoaderRefuses l none) lost (Err f) → f ≡ KeyLength → ⊥
 keyed_refusal {B} l none lost f inner k = ⊎_elim (other k) (λ (d : f ≡ Device). is_key_length f k d) inner.causes
   where
-    other : f ≡ KeyLength → Refuses l none f → ⊥
+    other : f ≡ KeyLength → LoaderRefuses l none f → ⊥
     other k (inl memory) = let clash : KeyLength ≡ Memory = sym k ∙ memory in cc
     other k (inr (inl full)) = let clash : KeyLength ≡ Capacity = sym k ∙ full.0 in cc
     other k (inr (inr unsound)) = let clash : KeyLength ≡ NotAStore = sym k ∙ unsound.0 in cc

@@ -5,7 +5,7 @@ use Rattle.im_base_types.specs.Pages.{Page}
 use Rattle.im_base_disk.specs.Disk.{Holds}
 use Rattle.im_theory_page.specs.Page.{page_of}
 use Rattle.im_theory_page.proofs.PageFileLemmas.{same_before, same_behind, written_here, written_before, written_behind}
-use Rattle.im_load.specs.Files.{Fills, WritesPage}
+use Rattle.im_load.specs.Files.{Fills, WritesPageAt}
 
 -- how long a file is after a write at a place within it
 pub long_after : (old new bytes : List ℕ) (at : ℕ) → at ≤ length old → Holds at bytes old new → length new ≡ max (length old) (at + length bytes)
@@ -13,7 +13,7 @@ long_after old new bytes at place is =
     omega (arith, ap length is, length-append (take at old ++ bytes) (drop (at + length bytes) old), length-append (take at old) bytes, length-take at old, length-drop (at + length bytes) old, place)
 
 -- a page past the pages of a file
-pub page_put : (old new bytes : List ℕ) (p : ℕ) (page : Page) → p * 4096 ≤ length old → length bytes ≡ 4096 → page_of bytes ≡ Some page → Holds (p * 4096) bytes old new → WritesPage old new p page
+pub page_put : (old new bytes : List ℕ) (p : ℕ) (page : Page) → p * 4096 ≤ length old → length bytes ≡ 4096 → page_of bytes ≡ Some page → Holds (p * 4096) bytes old new → WritesPageAt old new p page
 page_put old new bytes p page place whole is_page is = record {
   here = written_here old bytes new p place whole is ∙ is_page;
   others = λ n q has less off. ⊎_elim
@@ -44,7 +44,7 @@ fills_more old mid new bytes p from so_far whole is =
     }
 
 -- the file that was filled, and then the page
-pub filled_put : (old mid new : List ℕ) (p : ℕ) (page : Page) → Fills old mid p → WritesPage mid new p page → WritesPage old new p page
+pub filled_put : (old mid new : List ℕ) (p : ℕ) (page : Page) → Fills old mid p → WritesPageAt mid new p page → WritesPageAt old new p page
 filled_put old mid new p page filled put = record {
   here = put.here;
   others = λ n q has less off. put.others (max n p) q (filled.size n has) (omega (arith, less)) off ∙ filled.others n q has less;

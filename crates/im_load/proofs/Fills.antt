@@ -10,7 +10,7 @@ use Rattle.im_theory_tree.specs.Good.{AreChained}
 use Rattle.im_theory_tree.specs.Levels.{Pages, height}
 use Rattle.im_theory_tree.proofs.Cited.{chained_right}
 use Rattle.im_load.specs.Edge.{Stands, AreDense}
-use Rattle.im_load.specs.Steps.{counted, PutsLast, ClosesLeaf, ClosesInner, RaisesLeaf, RaisesInner}
+use Rattle.im_load.specs.Steps.{one_page_more, PutsLast, ClosesLeaf, ClosesInner, RaisesLeaf, RaisesInner}
 use Rattle.im_load.specs.Laws.{StepsFill}
 use Rattle.im_load.proofs.Edges.{edge_at, edge_apart}
 use Rattle.im_load.proofs.Puts.{edge_leaves}
@@ -74,7 +74,7 @@ meta_kept pages new at spare es b s same is = meta_filled (new 0) (ap (λ (c : B
 closes_leaf : (pages new : Pages) (at : ℕ → ℕ) (es : List Entry) (e : Entry) (q : ℕ) → Stands pages at [] es → 1 ≤ height pages → ClosesLeaf pages new at e q
     → LacksRoom true (pages (at zero)).entries → AreDense pages → AreDense new
 closes_leaf pages new at es e q s high step full dense x = one_of pages new x 0 (at 0) q (at 1) dense
-    (meta_kept pages new at [] es (counted (pages 0)) s refl step.meta)
+    (meta_kept pages new at [] es (one_page_more (pages 0)) s refl step.meta)
     (subst IsFilled (sym step.closed) (λ leaf some. full))
     (last_filled (new q) (ap (λ (b : Body). b.next) step.opened))
     (inner_filled (new (at 1)) (ap (λ (b : Body). b.kind) step.above ∙ inner_at pages at [] es 0 s high))
@@ -83,7 +83,7 @@ closes_leaf pages new at es e q s high step full dense x = one_of pages new x 0 
 closes_inner : (pages new : Pages) (at : ℕ → ℕ) (es : List Entry) (k : ℕ) (front : List Entry) (up : Entry) (q : ℕ) → Stands pages at [] es → suc (suc k) ≤ height pages
     → ClosesInner pages new at (suc k) front up q → AreDense pages → AreDense new
 closes_inner pages new at es k front up q s high step dense x = one_of pages new x 0 (at (suc k)) q (at (suc (suc k))) dense
-    (meta_kept pages new at [] es (counted (pages 0)) s refl step.meta)
+    (meta_kept pages new at [] es (one_page_more (pages 0)) s refl step.meta)
     (inner_filled (new (at (suc k))) (ap (λ (b : Body). b.kind) step.closed ∙ inner_at pages at [] es k s (omega (arith, high))))
     (inner_filled (new q) (ap (λ (b : Body). b.kind) step.opened))
     (inner_filled (new (at (suc (suc k)))) (ap (λ (b : Body). b.kind) step.above ∙ inner_at pages at [] es (suc k) s high))
@@ -91,7 +91,7 @@ closes_inner pages new at es k front up q s high step dense x = one_of pages new
 
 raises_leaf : (pages new : Pages) (at : ℕ → ℕ) (es : List Entry) (e : Entry) (l r : ℕ) → Stands pages at [] es → RaisesLeaf pages new e l r → LacksRoom true (pages 1).entries → AreDense pages → AreDense new
 raises_leaf pages new at es e l r s step full dense x = one_of pages new x 0 1 l r dense
-    (meta_kept pages new at [] es (counted (counted (pages 0))) s refl step.meta)
+    (meta_kept pages new at [] es (one_page_more (one_page_more (pages 0))) s refl step.meta)
     (inner_filled (new 1) (ap (λ (b : Body). b.kind) step.root))
     (subst IsFilled (sym step.closed) (λ leaf some. full))
     (last_filled (new r) (ap (λ (b : Body). b.next) step.opened))
@@ -103,7 +103,7 @@ raises_inner pages new at es k front up l r s high step dense x =
     let root_is : at (suc k) ≡ 1 = ap at (sym high) ∙ s.edge.root in
     let inner : (pages 1).kind ≡ Inner = subst (λ y. (pages y).kind ≡ Inner) root_is (inner_at pages at [] es k s (omega (arith, high))) in
     one_of pages new x 0 1 l r dense
-    (meta_kept pages new at [] es (counted (counted (pages 0))) s refl step.meta)
+    (meta_kept pages new at [] es (one_page_more (one_page_more (pages 0))) s refl step.meta)
     (inner_filled (new 1) (ap (λ (b : Body). b.kind) step.root ∙ inner))
     (inner_filled (new l) (ap (λ (b : Body). b.kind) step.closed ∙ inner))
     (inner_filled (new r) (ap (λ (b : Body). b.kind) step.opened))

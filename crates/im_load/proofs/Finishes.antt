@@ -8,7 +8,7 @@ use Rattle.im_base_disk.specs.Disk.{Files, Only, Stepped, InFile}
 use Rattle.im_base_disk.specs.Runs.{IsSynced, LeavesOnly, LeavesIn, ChangesOnly}
 use Rattle.im_base_disk.proofs.Runs.{weakened, then_on}
 use Rattle.im_log_header.specs.Header.{IsUnmade, IsEmptyLog, IsBeingMade}
-use Rattle.im_load.specs.Files.{HaveNoLog, AreHalf, ArePages, AreLoaded, AreLeft}
+use Rattle.im_load.specs.Files.{HaveNoLog, AreHalf, ArePages, AreOfLoad, AreLeft}
 use Rattle.im_load.specs.Goings.{WritesPages}
 
 log_not_pages : Log ≢ Pages
@@ -37,7 +37,7 @@ module _ {D : Type 0} (d : Ghosts D) (from pages : D) (run : WritesPages d from 
 
   -- what is there at the end
   pub is_loaded : (synced new : D) (es : List Entry) → d.tells → d.seen synced ≡ d.seen pages → ChangesOnly d Log synced new → ArePages es (d.seen pages Pages) → IsEmptyLog 1 48 1 (d.seen new Log)
-      → AreLoaded es (d.seen new)
+      → AreOfLoad es (d.seen new)
   is_loaded synced new es told seen made tree log = record {
     tree = subst (ArePages es) (sym (made.seen Pages pages_not_log ∙ ap (λ (f : Files). f Pages) seen)) tree;
     log = log;

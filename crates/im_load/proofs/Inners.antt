@@ -8,7 +8,7 @@ use Rattle.im_theory_tree.specs.Splits.{SplitsInnerOf}
 use Rattle.im_theory_tree.proofs.Cited.{same_tree}
 use Rattle.im_theory_tree.proofs.InnerSplit.{inner_split}
 use Rattle.im_load.specs.Edge.{last_value, last_child, moved, Stands}
-use Rattle.im_load.specs.Steps.{appended, inner_body}
+use Rattle.im_load.specs.Steps.{with_entry_last, inner_page}
 use Rattle.im_load.proofs.Edges.{same_links, lifted_sum, moved_here, moved_off, is_not, not_in_rest, children_end, AtEdge, under_edge, edge_at, IsOfLevel, Apart, edge_apart}
 use Rattle.im_load.proofs.Puts.{Goes, tall_from}
 use Rattle.im_load.proofs.Leaves.{last_put, children_put, links_put}
@@ -18,8 +18,8 @@ pub record PartsInner (pages new : Pages) (at : ℕ → ℕ) (k : ℕ) (front : 
   pub fresh : (j : ℕ) → j ≤ height pages → at j ≢ q
   pub positive : q ≢ 0
   pub closed : new (at (suc k)) ≡ record (pages (at (suc k))) { entries = front }
-  pub opened : new q ≡ inner_body (suc k) up.1 []
-  pub above : new (at (suc (suc k))) ≡ appended (pages (at (suc (suc k)))) (up.0, q)
+  pub opened : new q ≡ inner_page (suc k) up.1 []
+  pub above : new (at (suc (suc k))) ≡ with_entry_last (pages (at (suc (suc k)))) (up.0, q)
   pub others : (x : ℕ) → x ≢ at (suc k) → x ≢ q → x ≢ at (suc (suc k)) → new x ≡ pages x
 
 module _ (pages new : Pages) (at : ℕ → ℕ) (spare : List ℕ) (es : List Entry) (k : ℕ) (front : List Entry) (up : Entry) (q d : ℕ)
@@ -48,8 +48,8 @@ module _ (pages new : Pages) (at : ℕ → ℕ) (spare : List ℕ) (es : List En
   closed_node : new n.page ≡ record (pages n.page) { entries = front }
   closed_node = subst (λ x. new x ≡ record (pages x) { entries = front }) (sym mine.page) p.closed
 
-  above_node : new parent.page ≡ appended (pages parent.page) (up.0, q)
-  above_node = subst (λ x. new x ≡ appended (pages x) (up.0, q)) (sym top.page) p.above
+  above_node : new parent.page ≡ with_entry_last (pages parent.page) (up.0, q)
+  above_node = subst (λ x. new x ≡ with_entry_last (pages x) (up.0, q)) (sym top.page) p.above
 
   is_inner : IsOfLevel pages (suc k) n.page
   is_inner = subst (IsOfLevel pages (suc k)) (sym mine.page) (apart.levels (suc k) (omega (arith, high)))

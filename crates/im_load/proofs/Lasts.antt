@@ -8,15 +8,15 @@ use Rattle.im_base_types.specs.declared.page_kind.PageKind.TheVariants.{Leaf}
 use Rattle.im_theory_page.specs.Entry.{taken, width}
 use Rattle.im_theory_page.specs.Page.{is_leaf_kind}
 use Rattle.im_theory_page.specs.Split.{LacksRoom}
-use Rattle.im_load.specs.Edge.{IsTop}
+use Rattle.im_load.specs.Edge.{IsAboveAll}
 use Rattle.im_load.proofs.Puts.{top_by_leaf}
 use Rattle.im_load.proofs.Closings.{top_at}
 use Rattle.im_load.specs.Held.{Numbered}
 use Rattle.im_load.specs.Room.{FitsLongest}
-use Rattle.im_load.specs.Loading.{Taken}
+use Rattle.im_load.specs.Loading.{HasTakenAll}
 use Rattle.im_load.proofs.Holdings.{apart_of}
 
-pub leaf_kind : (leaf : Numbered) (above : List Numbered) (count : ℕ) (tells : Type 0) (file : List ℕ) (es : List Entry) → Taken leaf above count tells file es → leaf.1.body.kind ≡ Leaf
+pub leaf_kind : (leaf : Numbered) (above : List Numbered) (count : ℕ) (tells : Type 0) (file : List ℕ) (es : List Entry) → HasTakenAll leaf above count tells file es → leaf.1.body.kind ≡ Leaf
 leaf_kind leaf above count tells file es t =
     ap (λ (l : Numbered). l.1.body.kind) t.holds.last ∙ ((apart_of t.pages t.at es t.holds.stands).levels 0 (omega arith)).0
 
@@ -33,11 +33,11 @@ lacks_by leaf open_is kind closed says =
     (cases_lt 4064 (taken true es + (1 + 255 + width true + 2)))
 
 -- a key above those of the last leaf is above all
-pub top_all : (leaf : Numbered) (above : List Numbered) (count : ℕ) (tells : Type 0) (file : List ℕ) (es : List Entry) (key : Key) → Taken leaf above count tells file es → IsTop key leaf.1.body.entries → IsTop key es
+pub top_all : (leaf : Numbered) (above : List Numbered) (count : ℕ) (tells : Type 0) (file : List ℕ) (es : List Entry) (key : Key) → HasTakenAll leaf above count tells file es → IsAboveAll key leaf.1.body.entries → IsAboveAll key es
 top_all leaf above count tells file es key t top =
-    top_by_leaf t.pages t.at [] es key t.holds.stands (subst (λ (l : Numbered). IsTop key l.1.body.entries) t.holds.last top)
+    top_by_leaf t.pages t.at [] es key t.holds.stands (subst (λ (l : Numbered). IsAboveAll key l.1.body.entries) t.holds.last top)
 
 -- and the other way
-pub top_of_leaf : (leaf : Numbered) (above : List Numbered) (count : ℕ) (tells : Type 0) (file : List ℕ) (es : List Entry) (key : Key) → Taken leaf above count tells file es → IsTop key es → IsTop key leaf.1.body.entries
+pub top_of_leaf : (leaf : Numbered) (above : List Numbered) (count : ℕ) (tells : Type 0) (file : List ℕ) (es : List Entry) (key : Key) → HasTakenAll leaf above count tells file es → IsAboveAll key es → IsAboveAll key leaf.1.body.entries
 top_of_leaf leaf above count tells file es key t top =
-    subst (λ (l : Numbered). IsTop key l.1.body.entries) (sym t.holds.last) (top_at t.pages t.at [] es key t.holds.stands top)
+    subst (λ (l : Numbered). IsAboveAll key l.1.body.entries) (sym t.holds.last) (top_at t.pages t.at [] es key t.holds.stands top)

@@ -12,8 +12,8 @@ use Rattle.im_theory_tree.proofs.Cited.{chained_right}
 use Rattle.im_theory_tree.proofs.Frame.{AllOf-left}
 use Rattle.im_theory_tree.proofs.LeafSplit.{leaf_split}
 use Rattle.im_theory_tree.proofs.Cited.{same_tree}
-use Rattle.im_load.specs.Edge.{last_value, last_child, moved, IsTop, Stands}
-use Rattle.im_load.specs.Steps.{appended}
+use Rattle.im_load.specs.Edge.{last_value, last_child, moved, IsAboveAll, Stands}
+use Rattle.im_load.specs.Steps.{with_entry_last}
 use Rattle.im_load.proofs.Edges.{same_links, lifted_sum, moved_here, moved_off, is_not, not_in_rest, children_end, AtEdge, under_edge, edge_at, IsOfLevel, Apart, edge_apart}
 use Rattle.im_load.proofs.Puts.{Goes, tall_from, edge_leaves, leaf_range, bound_after}
 
@@ -23,7 +23,7 @@ last_put p [] e = refl
 last_put p (x ∷ es) e = last_put x.1 es e
 
 -- one child more
-pub children_put : (pages new : Pages) (n : Node) (e : Entry) (before : List Node) (m : Node) → new n.page ≡ appended (pages n.page) e → children pages n ≡ before ++ m ∷ []
+pub children_put : (pages new : Pages) (n : Node) (e : Entry) (before : List Node) (m : Node) → new n.page ≡ with_entry_last (pages n.page) e → children pages n ≡ before ++ m ∷ []
     → children new n ≡ before ++ m ∷ child_of e ∷ []
 children_put pages new n e before m is are =
     let first : ℕ → Node = λ p. record { bound = n.bound; page = p } in
@@ -33,18 +33,18 @@ children_put pages new n e before m is are =
     ∙ append_assoc before (m ∷ []) (child_of e ∷ [])
 
 -- links stay where a page gets an entry more
-pub links_put : (pages new : Pages) (p : ℕ) (e : Entry) → new p ≡ appended (pages p) e → SameLinks (pages p) (new p)
+pub links_put : (pages new : Pages) (p : ℕ) (e : Entry) → new p ≡ with_entry_last (pages p) e → SameLinks (pages p) (new p)
 links_put pages new p e is = record { prev = ap (λ (b : Body). b.prev) is; next = ap (λ (b : Body). b.next) is }
 
 pub record PartsLeaf (pages new : Pages) (at : ℕ → ℕ) (front : List Entry) (e : Entry) (q : ℕ) : Type 0 where
   pub was : (pages (at 0)).entries ≡ front ++ e ∷ []
   pub some : 1 ≤ length front
-  pub low : IsTop e.0 front
+  pub low : IsAboveAll e.0 front
   pub fresh : (k : ℕ) → k ≤ height pages → at k ≢ q
   pub positive : q ≢ 0
   pub closed : new (at 0) ≡ record (pages (at 0)) { next = q; entries = front }
   pub opened : new q ≡ leaf_body (at 0) 0 (e ∷ [])
-  pub above : new (at 1) ≡ appended (pages (at 1)) (e.0, q)
+  pub above : new (at 1) ≡ with_entry_last (pages (at 1)) (e.0, q)
   pub others : (x : ℕ) → x ≢ at 0 → x ≢ q → x ≢ at 1 → new x ≡ pages x
 
 module _ (pages new : Pages) (at : ℕ → ℕ) (spare : List ℕ) (es : List Entry) (front : List Entry) (e : Entry) (q h : ℕ)
@@ -79,8 +79,8 @@ module _ (pages new : Pages) (at : ℕ → ℕ) (spare : List ℕ) (es : List En
   closed_node : new n.page ≡ record (pages n.page) { next = q; entries = front }
   closed_node = subst (λ x. new x ≡ record (pages x) { next = q; entries = front }) (sym leaf_edge.page) p.closed
 
-  above_node : new parent.page ≡ appended (pages parent.page) (e.0, q)
-  above_node = subst (λ x. new x ≡ appended (pages x) (e.0, q)) (sym top.page) p.above
+  above_node : new parent.page ≡ with_entry_last (pages parent.page) (e.0, q)
+  above_node = subst (λ x. new x ≡ with_entry_last (pages x) (e.0, q)) (sym top.page) p.above
 
   is_leaf : IsOfLevel pages 0 n.page
   is_leaf = subst (IsOfLevel pages 0) (sym leaf_edge.page) (apart.levels 0 (omega arith))
@@ -111,7 +111,7 @@ module _ (pages new : Pages) (at : ℕ → ℕ) (spare : List ℕ) (es : List En
     right = (ap (λ (b : Body). b.kind) p.opened, ap (λ (b : Body). b.level) p.opened);
     halves = record {
       joined = ap₂ (λ (a b : List Entry). a ++ b) (ap (λ (b : Body). b.entries) closed_node) (ap (λ (b : Body). b.entries) p.opened) ∙ sym was_node;
-      below = subst (IsTop e.0) (sym (ap (λ (b : Body). b.entries) closed_node)) p.low;
+      below = subst (IsAboveAll e.0) (sym (ap (λ (b : Body). b.entries) closed_node)) p.low;
       first = e;
       others = [];
       starts = ap (λ (b : Body). b.entries) p.opened;

@@ -19,11 +19,11 @@ use Rattle.im_log.specs.Kept.{HasLog}
 use Rattle.im_log.proofs.Creations.{blank_has, not_both}
 use Rattle.im_restart.specs.Restart.{IsFresh}
 use Rattle.im_theory_page.specs.PageFile.{file_page}
-use Rattle.im_load.specs.Loaded.{loaded, effects_of, loaded_base}
+use Rattle.im_load.specs.Loaded.{load_effect, effects_of, loaded_base}
 use Rattle.im_load.proofs.Ends.{entries_are, loaded_stands}
 use Rattle.im_engine.specs.Stands.{StandsFor, SpellsCurrent}
 use Rattle.im_engine.proofs.Fresh.{fresh_stands}
-use Rattle.im_load.specs.Files.{AreHalf, AreLoaded, AreLeft}
+use Rattle.im_load.specs.Files.{AreHalf, AreOfLoad, AreLeft}
 use Rattle.im_load.proofs.Finishes.{none_made}
 use Rattle.im_load.specs.Standing.{IsStoreOrNone, LoadsStand}
 
@@ -43,7 +43,7 @@ module _ (file : List ℕ) (is : IsEmptyLog 1 48 1 file) where
   has_log : HasLog 48 [] file
   has_log = blank_has 48 file made says.base (made_logs.empty header file ranged (omega arith) (omega arith) is)
 
-loads_stand : (es : List Entry) (files : Files) → AreLoaded es files → StandsFor (effects_of es) files
+loads_stand : (es : List Entry) (files : Files) → AreOfLoad es files → StandsFor (effects_of es) files
 loads_stand es files l =
     let t = l.tree in
     let sound = loaded_stands t.pages t.at es 0 (file_page (files Pages)) t.stands t.rises t.each in
@@ -52,7 +52,7 @@ loads_stand es files l =
     record {
       swapped = false;
       current = inl newer;
-      b = loaded_base t.pages (apply empty (loaded es)) 0;
+      b = loaded_base t.pages (apply empty (load_effect es)) 0;
       base = 48;
       start = omega arith;
       counted = λ z. absurd (omega (arith, z));
@@ -69,11 +69,11 @@ loads_stand es files l =
       is = sound.is;
     }
 
-effects_make : (es : List Entry) → apply_all empty (effects_of es) ≡ apply empty (loaded es)
+effects_make : (es : List Entry) → apply_all empty (effects_of es) ≡ apply empty (load_effect es)
 effects_make [] = refl
 effects_make (e ∷ es) = refl
 
-are : (es : List Entry) (files : Files) → AreLoaded es files → entries (apply_all empty (effects_of es)) ≡ es
+are : (es : List Entry) (files : Files) → AreOfLoad es files → entries (apply_all empty (effects_of es)) ≡ es
 are es files l = ap entries (effects_make es) ∙ entries_are es l.tree.rises
 
 -- a half of a load spells no log
@@ -111,7 +111,7 @@ loads_are_stores = record {
 }
 
 -- who shows what files stand for shows the entries of a load
-pub shows_loaded : (es list : List Entry) (files : Files) → AreLoaded es files → ((before : List Effect) → StandsFor before files → list ≡ entries (apply_all empty before)) → list ≡ es
+pub shows_loaded : (es list : List Entry) (files : Files) → AreOfLoad es files → ((before : List Effect) → StandsFor before files → list ≡ entries (apply_all empty before)) → list ≡ es
 shows_loaded es list files l shows = shows (effects_of es) (loads_stand es files l) ∙ are es files l
 
 pub ok_on : {A : Type 0} (r : Result A Fault) (P Q : A → Type 0) → ((a : A) → P a → Q a) → IfOk r P → IfOk r Q

@@ -13,8 +13,8 @@ use Rattle.im_theory_tree.proofs.HalvesLemmas.{after_from}
 use Rattle.im_theory_tree.proofs.LeafSplit.{only_one}
 use Rattle.im_theory_tree.proofs.LeafWalk.{leaf_walk}
 use Rattle.im_theory_tree.proofs.Cited.{same_tree}
-use Rattle.im_load.specs.Edge.{last_child, IsEdge, IsTop, Stands}
-use Rattle.im_load.specs.Steps.{appended, counted, PutsLast}
+use Rattle.im_load.specs.Edge.{last_child, IsEdge, IsAboveAll, Stands}
+use Rattle.im_load.specs.Steps.{with_entry_last, one_page_more, PutsLast}
 use Rattle.im_load.proofs.Edges.{same_links, lifted_sum, is_not, AtEdge, edge_at, edge_apart}
 
 -- what a step keeps, with the height of the tree
@@ -37,7 +37,7 @@ edge_kept pages new at edge tall same = record {
 
 -- ---- the count
 
-pub count_step : (pages new : Pages) (at : ℕ → ℕ) (spare : List ℕ) (es : List Entry) → Stands pages at spare es → new 0 ≡ counted (pages 0)
+pub count_step : (pages new : Pages) (at : ℕ → ℕ) (spare : List ℕ) (es : List Entry) → Stands pages at spare es → new 0 ≡ one_page_more (pages 0)
     → ((x : ℕ) → x ≢ 0 → new x ≡ pages x) → Goes pages new at ((pages 0).leftmost ∷ spare) es
 count_step pages new at spare es s meta others =
     let apart = edge_apart pages at spare s.good s.edge in
@@ -78,13 +78,13 @@ pub walk_ends : (pages : Pages) (left : List Node) (n : Node) → leaves_under p
 walk_ends pages left n leaves = ap (entries_in pages) leaves ∙ entries_around pages left n []
 
 -- a key above all entries is above those of the last leaf
-pub top_leaf : (pages : Pages) (left : List Node) (n : Node) (key : Key) → leaves_under pages (height pages) the_root ≡ left ++ n ∷ [] → IsTop key (walk pages) → IsTop key (pages n.page).entries
+pub top_leaf : (pages : Pages) (left : List Node) (n : Node) (key : Key) → leaves_under pages (height pages) the_root ≡ left ++ n ∷ [] → IsAboveAll key (walk pages) → IsAboveAll key (pages n.page).entries
 top_leaf pages left n key leaves top =
     let P : Entry → Type 0 = λ e. IsBelow e.0 key in
-    AllOf-left P (pages n.page).entries [] (AllOf-right P (entries_in pages left) ((pages n.page).entries ++ []) (subst (IsTop key) (walk_ends pages left n leaves) top))
+    AllOf-left P (pages n.page).entries [] (AllOf-right P (entries_in pages left) ((pages n.page).entries ++ []) (subst (IsAboveAll key) (walk_ends pages left n leaves) top))
 
 -- a key above some entries within a bound is above the bound
-pub bound_after : (low : Option Key) (es : List Entry) (key : Key) → InRange low None es → IsTop key es → 1 ≤ length es → IsAfter low (Some key)
+pub bound_after : (low : Option Key) (es : List Entry) (key : Key) → InRange low None es → IsAboveAll key es → 1 ≤ length es → IsAfter low (Some key)
 bound_after low [] key range top some = absurd (omega (arith, some))
 bound_after low (x ∷ es) key range top some = after_from low x.0 key range.0.0 top.0
 
@@ -96,7 +96,7 @@ put_end : (a b : List Entry) (e : Entry) → a ++ ((b ++ e ∷ []) ++ []) ≡ (a
 put_end a b e =
     ap (λ c. a ++ c) (append-nil (b ++ e ∷ []) ∙ ap (λ c. c ++ e ∷ []) (sym (append-nil b))) ∙ sym (append_assoc a (b ++ []) (e ∷ []))
 
-pub put_step : (pages new : Pages) (at : ℕ → ℕ) (spare : List ℕ) (es : List Entry) (e : Entry) → Stands pages at spare es → IsTop e.0 es → PutsLast pages new at e
+pub put_step : (pages new : Pages) (at : ℕ → ℕ) (spare : List ℕ) (es : List Entry) (e : Entry) → Stands pages at spare es → IsAboveAll e.0 es → PutsLast pages new at e
     → Goes pages new at spare (es ++ e ∷ [])
 put_step pages new at spare es e s top put =
     let apart = edge_apart pages at spare s.good s.edge in
@@ -106,7 +106,7 @@ put_step pages new at spare es e s top put =
     let n : Node = w.node in
     let leaves = edge_leaves pages d (at 0) w refl in
     let range = leaf_range pages spare left n s.good leaves in
-    let below : IsTop e.0 (pages n.page).entries = top_leaf pages left n e.0 leaves (subst (IsTop e.0) (sym s.walks) top) in
+    let below : IsAboveAll e.0 (pages n.page).entries = top_leaf pages left n e.0 leaves (subst (IsAboveAll e.0) (sym s.walks) top) in
     let reaches : AtOrAbove n.bound e.0 = ⊎_elim
     (λ (z : height pages ≡ 0). subst (λ (b : Option Key). AtOrAbove b e.0) (sym (root_only pages d (at 0) w z)) tt)
     (λ (l : 1 ≤ length (pages (at 0)).entries).
@@ -114,7 +114,7 @@ put_step pages new at spare es e s top put =
     (bound_after n.bound (pages n.page).entries e.0 range below (subst (λ x. 1 ≤ length (pages x).entries) (sym w.page) l))
     (inl refl))
     s.some in
-    let leaf : new n.page ≡ appended (pages n.page) e = subst (λ x. new x ≡ appended (pages x) e) (sym w.page) put.leaf in
+    let leaf : new n.page ≡ with_entry_last (pages n.page) e = subst (λ x. new x ≡ with_entry_last (pages x) e) (sym w.page) put.leaf in
     let elsewhere : (k : ℕ) → k ≤ height pages → k ≢ 0 → new (at k) ≡ pages (at k) = λ k le off. put.others (at k) (apart.from k 0 le (omega arith) off) in
     let tall : height new ≡ height pages = tall_from pages new at s.edge (⊎_elim
     (λ (z : height pages ≡ 0). subst (λ k. (new (at k)).level ≡ (pages (at k)).level) (sym z) (ap (λ (b : Body). b.level) put.leaf))
@@ -147,7 +147,7 @@ put_step pages new at spare es e s top put =
     }
 
 -- a key above those of the last leaf is above all
-pub top_by_leaf : (pages : Pages) (at : ℕ → ℕ) (spare : List ℕ) (es : List Entry) (key : Key) → Stands pages at spare es → IsTop key (pages (at 0)).entries → IsTop key es
+pub top_by_leaf : (pages : Pages) (at : ℕ → ℕ) (spare : List ℕ) (es : List Entry) (key : Key) → Stands pages at spare es → IsAboveAll key (pages (at 0)).entries → IsAboveAll key es
 top_by_leaf pages at spare es key s top =
     let P : Entry → Type 0 = λ e. IsBelow e.0 key in
     let d : ℕ = height pages in
@@ -156,7 +156,7 @@ top_by_leaf pages at spare es key s top =
     let n : Node = w.node in
     let leaves = edge_leaves pages d (at 0) w refl in
     let range = leaf_range pages spare left n s.good leaves in
-    let own : IsTop key (pages n.page).entries = subst (λ x. IsTop key (pages x).entries) (sym w.page) top in
+    let own : IsAboveAll key (pages n.page).entries = subst (λ x. IsAboveAll key (pages x).entries) (sym w.page) top in
     let reaches : AtOrAbove n.bound key = ⊎_elim
     (λ (z : height pages ≡ 0). subst (λ (b : Option Key). AtOrAbove b key) (sym (root_only pages d (at 0) w z)) tt)
     (λ (l : 1 ≤ length (pages (at 0)).entries).
@@ -165,5 +165,5 @@ top_by_leaf pages at spare es key s top =
     (inl refl))
     s.some in
     let low = before_below pages left [] n key (subst (AreOrdered pages) leaves s.good.ordered) reaches in
-    subst (IsTop key) (sym (walk_ends pages left n leaves) ∙ s.walks)
+    subst (IsAboveAll key) (sym (walk_ends pages left n leaves) ∙ s.walks)
     (AllOf-append P (entries_in pages left) ((pages n.page).entries ++ []) low (AllOf-append P (pages n.page).entries [] own tt))

@@ -10,8 +10,8 @@ use Rattle.im_theory_tree.specs.Splits.{SplitsRootOf, SplitsLeafRootOf}
 use Rattle.im_theory_tree.proofs.Cited.{same_tree}
 use Rattle.im_theory_tree.proofs.InnerSplit.{root_split}
 use Rattle.im_theory_tree.proofs.RootSplit.{leaf_root_split}
-use Rattle.im_load.specs.Edge.{last_value, last_child, moved, risen, IsTop, Stands}
-use Rattle.im_load.specs.Steps.{inner_body, raised}
+use Rattle.im_load.specs.Edge.{last_value, last_child, moved, risen, IsAboveAll, Stands}
+use Rattle.im_load.specs.Steps.{inner_page, root_over}
 use Rattle.im_load.proofs.Edges.{same_links, moved_here, moved_off, is_not, not_in_rest, IsOfLevel, Apart, edge_apart}
 use Rattle.im_load.proofs.Leaves.{last_put}
 
@@ -28,10 +28,10 @@ risen_low at h r k lt = moved_off (moved at h r) (suc h) 1 k (λ e. absurd (omeg
 
 pub record PartsRootLeaf (pages new : Pages) (front : List Entry) (e : Entry) (l r : ℕ) : Type 0 where
   pub was : (pages 1).entries ≡ front ++ e ∷ []
-  pub low : IsTop e.0 front
+  pub low : IsAboveAll e.0 front
   pub left_some : l ≢ 0
   pub right_some : r ≢ 0
-  pub root : new 1 ≡ inner_body 1 l ((e.0, r) ∷ [])
+  pub root : new 1 ≡ inner_page 1 l ((e.0, r) ∷ [])
   pub closed : new l ≡ record (pages 1) { next = r; entries = front }
   pub opened : new r ≡ leaf_body l 0 (e ∷ [])
   pub others : (x : ℕ) → x ≢ 1 → x ≢ l → x ≢ r → new x ≡ pages x
@@ -57,7 +57,7 @@ module _ (pages new : Pages) (at : ℕ → ℕ) (spare : List ℕ) (es : List En
     is_right = (ap (λ (b : Body). b.kind) p.opened, ap (λ (b : Body). b.level) p.opened);
     halves = record {
       joined = ap₂ (λ (a b : List Entry). a ++ b) (ap (λ (b : Body). b.entries) p.closed) (ap (λ (b : Body). b.entries) p.opened) ∙ sym p.was;
-      below = subst (IsTop e.0) (sym (ap (λ (b : Body). b.entries) p.closed)) p.low;
+      below = subst (IsAboveAll e.0) (sym (ap (λ (b : Body). b.entries) p.closed)) p.low;
       first = e;
       others = [];
       starts = ap (λ (b : Body). b.entries) p.opened;
@@ -100,9 +100,9 @@ pub record PartsRootInner (pages new : Pages) (at : ℕ → ℕ) (k : ℕ) (fron
   pub right_fresh : (j : ℕ) → j ≤ height pages → at j ≢ r
   pub left_some : l ≢ 0
   pub right_some : r ≢ 0
-  pub root : new 1 ≡ raised (pages 1) l up.0 r
+  pub root : new 1 ≡ root_over (pages 1) l up.0 r
   pub closed : new l ≡ record (pages 1) { entries = front }
-  pub opened : new r ≡ inner_body (suc k) up.1 []
+  pub opened : new r ≡ inner_page (suc k) up.1 []
   pub others : (x : ℕ) → x ≢ 1 → x ≢ l → x ≢ r → new x ≡ pages x
 
 module _ (pages new : Pages) (at : ℕ → ℕ) (spare : List ℕ) (es : List Entry) (k : ℕ) (front : List Entry) (up : Entry) (l r : ℕ)

@@ -11,21 +11,21 @@ use Rattle.im_theory_page.specs.Page.{is_leaf_kind}
 use Rattle.im_theory_tree.specs.Levels.{Pages, Node, child_of, children, below, leaves_under, the_root, height, lifted}
 use Rattle.im_theory_tree.proofs.Cited.{leaves_descend, ordered_bounds, bounds_of_level, first_child}
 use Rattle.im_theory_tree.proofs.Bounds.{BoundsAscend, bounds_right, bounds_over}
-use Rattle.im_load.specs.Edge.{IsTop, Stands}
+use Rattle.im_load.specs.Edge.{IsAboveAll, Stands}
 use Rattle.im_load.proofs.Edges.{lifted_sum, edge_at}
-use Rattle.im_load.specs.Held.{Numbered, TakesLast, held_at}
+use Rattle.im_load.specs.Held.{Numbered, TakesLast, held_page}
 use Rattle.im_load.specs.Room.{FitsLongest}
-use Rattle.im_load.specs.Loading.{Taken, Pending}
+use Rattle.im_load.specs.Loading.{HasTakenAll, Pending}
 use Rattle.im_load.proofs.Holdings.{apart_of}
 use Rattle.im_load.proofs.Lasts.{leaf_kind, top_of_leaf}
 
 -- what stands before a separator is below it
-front_low : (front : List Entry) (e : Entry) (rest : List Node) → BoundsAscend (map child_of front ++ child_of e ∷ rest) → IsTop e.0 front
+front_low : (front : List Entry) (e : Entry) (rest : List Node) → BoundsAscend (map child_of front ++ child_of e ∷ rest) → IsAboveAll e.0 front
 front_low [] e rest h = tt
 front_low (x ∷ front) e rest h = ((bounds_over (child_of x) (map child_of front) (child_of e ∷ rest) h).0, front_low front e rest h.1)
 
 pub separators_rise : (pages : Pages) (at : ℕ → ℕ) (es : List Entry) (k : ℕ) (front : List Entry) (e : Entry) → Stands pages at [] es → k < height pages → (pages (at (suc k))).entries ≡ front ++ e ∷ []
-    → IsTop e.0 front
+    → IsAboveAll e.0 front
 separators_rise pages at es k front e s lt are =
     let d : ℕ = height pages - suc k in
     let w = edge_at pages at s.edge d (suc k) (omega (arith, lt)) in
@@ -52,21 +52,21 @@ room_by open_is b es e opened short says = room_for b es e short (says.0 opened)
 -- the page above takes the separator that waits
 pub takes_separator : (leaf : Numbered) (above : List Numbered) (count : ℕ) (tells : Type 0) (file : List ℕ) (es : List Entry) (i : ℕ) (key : Key) (child : ℕ) (open_is : Bool)
     → Pending leaf above count tells file es i key child → open_is ≡ true
-    → (IsTrue open_is ↔ FitsLongest (held_at above i).1) → 1 ≤ length key → length key ≤ 255 → TakesLast Inner (held_at above i).1 (key, child)
+    → (IsTrue open_is ↔ FitsLongest (held_page above i).1) → 1 ≤ length key → length key ≤ 255 → TakesLast Inner (held_page above i).1 (key, child)
 takes_separator leaf above count tells file es i key child open_is t opened says some short =
     let tall : i < height t.pages = omega (arith, t.within, t.holds.tall) in
     let level = (apart_of t.pages t.at es t.holds.stands).levels (suc i) (omega (arith, tall)) in
     record {
       kind_is = sym (ap (λ (b : Body). b.kind) t.waits) ∙ level.0;
-      top = separators_rise t.pages t.at es i (held_at above i).1.body.entries (key, child) t.holds.stands tall (ap (λ (b : Body). b.entries) t.waits);
+      top = separators_rise t.pages t.at es i (held_page above i).1.body.entries (key, child) t.holds.stands tall (ap (λ (b : Body). b.entries) t.waits);
       keyed = some;
       short = short;
-      room = room_by open_is (is_leaf_kind (held_at above i).1.body.kind) (held_at above i).1.body.entries (key, child) opened short says;
+      room = room_by open_is (is_leaf_kind (held_page above i).1.body.kind) (held_page above i).1.body.entries (key, child) opened short says;
     }
 
 -- the last leaf takes an entry that is above all
-pub takes_entry : (leaf : Numbered) (above : List Numbered) (count : ℕ) (tells : Type 0) (file : List ℕ) (es : List Entry) (e : Entry) (open_is : Bool) → Taken leaf above count tells file es → open_is ≡ true
-    → (IsTrue open_is ↔ FitsLongest leaf.1) → IsTop e.0 es → 1 ≤ length e.0 → length e.0 ≤ 255
+pub takes_entry : (leaf : Numbered) (above : List Numbered) (count : ℕ) (tells : Type 0) (file : List ℕ) (es : List Entry) (e : Entry) (open_is : Bool) → HasTakenAll leaf above count tells file es → open_is ≡ true
+    → (IsTrue open_is ↔ FitsLongest leaf.1) → IsAboveAll e.0 es → 1 ≤ length e.0 → length e.0 ≤ 255
     → TakesLast Leaf leaf.1 e
 takes_entry leaf above count tells file es e open_is t opened says top some short = record {
   kind_is = leaf_kind leaf above count tells file es t;

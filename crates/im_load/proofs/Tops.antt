@@ -6,9 +6,9 @@ use Rattle.im_base_types.specs.Pages.{Entry}
 use Rattle.im_theory_page.specs.Entry.{entry_at, Rises}
 use Rattle.im_theory_page.proofs.Order.{below_trans}
 use Rattle.im_theory_tree.proofs.Ascent.{all_at}
-use Rattle.im_load.specs.Edge.{IsTop}
+use Rattle.im_load.specs.Edge.{IsAboveAll}
 
-pub top_by_last : (key : Key) (es : List Entry) (last : ℕ) → Rises es → last + 1 ≡ length es → IsBelow (entry_at es last).0 key → IsTop key es
+pub top_by_last : (key : Key) (es : List Entry) (last : ℕ) → Rises es → last + 1 ≡ length es → IsBelow (entry_at es last).0 key → IsAboveAll key es
 top_by_last key es last rises is below =
     all_at (λ (x : Entry). IsBelow x.0 key) es (λ i lt. ⊎_elim
     (λ (low : i < last). below_trans (entry_at es i).0 (entry_at es last).0 key (rises i last low (omega (arith, is))) below)

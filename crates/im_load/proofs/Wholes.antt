@@ -11,10 +11,10 @@ use Rattle.im_base_disk.specs.Runs.{IsSynced, LeavesOnly, Reads}
 use Rattle.im_base_disk.proofs.Runs.{weakened}
 use Rattle.im_theory_page.specs.Entry.{entry_at, no_entry, Rises}
 use Rattle.im_theory_tree.proofs.Ascent.{all_at}
-use Rattle.im_load.specs.Edge.{IsTop}
+use Rattle.im_load.specs.Edge.{IsAboveAll}
 use Rattle.im_load.specs.declared.loader.Loader.{Loader}
 use Rattle.im_load.specs.Files.{AreEmpty, AreHalf, AreLeft}
-use Rattle.im_load.specs.HasTaken.{IsLoading, Refuses}
+use Rattle.im_load.specs.HasTaken.{IsLoading, LoaderRefuses}
 use Rattle.im_load.proofs.Finishes.{pages_left}
 use Rattle.im_load.proofs.Goings.{goes_reads}
 
@@ -27,7 +27,7 @@ take_none [] = refl
 take_none (e ∷ es) = refl
 
 -- entry i of rising entries is above those before it
-pub top_in : (es : List Entry) (i : ℕ) (e : Entry) → Rises es → i < length es → e ≡ entry_at es i → IsTop e.0 (take i es)
+pub top_in : (es : List Entry) (i : ℕ) (e : Entry) → Rises es → i < length es → e ≡ entry_at es i → IsAboveAll e.0 (take i es)
 top_in es i e rises within is =
     all_at (λ (x : Entry). IsBelow x.0 e.0) (take i es)
     (λ j lt.
@@ -52,7 +52,7 @@ module _ {D : Type 0} (d : Ghosts D) (old new : D) (es : List Entry) where
 
 -- a key that is one is not refused as none, and a load that has taken what it says is not unsound
 pub whole_refused : {D : Type 0} (d : Ghosts D) (from : D) (s l : Loader) (disk : D) (es : List Entry) (key : Key) (f : Fault) → IsLoading d from s disk es → 1 ≤ length key → length key ≤ 255
-    → (f ≡ KeyLength → (length key < 1) ⊎ (255 < length key)) → (f ≡ KeyLength) ⊎ Refuses l ((from : D) (es : List Entry) → IsLoading d from s disk es → ⊥) f → (f ≡ Memory) ⊎ (f ≡ Capacity)
+    → (f ≡ KeyLength → (length key < 1) ⊎ (255 < length key)) → (f ≡ KeyLength) ⊎ LoaderRefuses l ((from : D) (es : List Entry) → IsLoading d from s disk es → ⊥) f → (f ≡ Memory) ⊎ (f ≡ Capacity)
 whole_refused {D} d from s l disk es key f goes some short so (inl none) = absurd (bad (so none))
   where
     bad : (length key < 1) ⊎ (255 < length key) → ⊥

@@ -29,8 +29,8 @@ abbrev pub risen : (ℕ → ℕ) → ℕ → ℕ → ℕ → ℕ
 risen at h r = moved (moved at h r) (suc h) 1
 
 -- the key is above all of these
-abbrev pub IsTop : Key → List Entry → Type 0
-IsTop key es = AllOf (λ e. IsBelow e.0 key) es
+abbrev pub IsAboveAll : Key → List Entry → Type 0
+IsAboveAll key es = AllOf (λ e. IsBelow e.0 key) es
 
 -- A good tree of these entries, beside spare pages, whose right edge is known: no page is free, and its last leaf has an entry, unless it is the root.
 pub record Stands (pages : Pages) (at : ℕ → ℕ) (spare : List ℕ) (es : List Entry) : Type 0 where

@@ -32,14 +32,14 @@ pub record ArePages (es : List Entry) (file : List ℕ) : Type 0 where
   pub each : (p : ℕ) → file_page file p ≡ Some (unlogged pages p)
 
 -- The files that a load of these entries makes: its pages, and a log of the first generation that begins at LSN 48, with no record.
-pub record AreLoaded (es : List Entry) (files : Files) : Type 0 where
+pub record AreOfLoad (es : List Entry) (files : Files) : Type 0 where
   pub tree : ArePages es (files Pages)
   pub log : IsEmptyLog 1 48 1 (files Log)
   pub other : files Log2 ≡ []
 
 -- What a stop within the end of a load of these entries leaves: a half, or the whole.
 abbrev pub AreLeft : List Entry → Files → Type 0
-AreLeft es files = AreHalf files ⊎ AreLoaded es files
+AreLeft es files = AreHalf files ⊎ AreOfLoad es files
 
 -- The file has whole pages, so many.
 abbrev pub HasPages : List ℕ → ℕ → Type 0
@@ -52,7 +52,7 @@ pub record Fills (old new : List ℕ) (p : ℕ) : Type 0 where
   pub size : (n : ℕ) → HasPages old n → HasPages new (max n p)
 
 -- A page is written at its place, and all others that the file had are as they were; before the page, where the file ended, pages of zeros may stand.
-pub record WritesPage (old new : List ℕ) (p : ℕ) (page : Page) : Type 0 where
+pub record WritesPageAt (old new : List ℕ) (p : ℕ) (page : Page) : Type 0 where
   pub here : file_page new p ≡ Some page
   pub others : (n q : ℕ) → HasPages old n → q < n → q ≢ p → file_page new q ≡ file_page old q
   pub size : (n : ℕ) → HasPages old n → HasPages new (max n (p + 1))

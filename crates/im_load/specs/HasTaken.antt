@@ -10,11 +10,11 @@ use Rattle.im_base_disk.specs.Runs.{IsSynced}
 use Rattle.im_load.specs.declared.loader.Loader.{Loader}
 use Rattle.im_load.specs.Files.{HaveNoLog}
 use Rattle.im_load.specs.Goings.{WritesPages}
-use Rattle.im_load.specs.Loading.{Taken, Pending}
+use Rattle.im_load.specs.Loading.{HasTakenAll, Pending}
 
 -- The load has taken these entries.
 abbrev pub HasTaken : {D : Type 0} → Ghosts D → Loader → D → List Entry → Type 0
-HasTaken d l disk es = Taken l.leaf l.above.items l.count d.tells (d.seen disk Pages) es
+HasTaken d l disk es = HasTakenAll l.leaf l.above.items l.count d.tells (d.seen disk Pages) es
 
 -- It has, but that the held page at place i lacks its last separator.
 abbrev pub HasPending : {D : Type 0} → Ghosts D → Loader → D → List Entry → ℕ → Key → ℕ → Type 0
@@ -28,9 +28,9 @@ pub record IsLoading {D : Type 0} (d : Ghosts D) (from : D) (l : Loader) (disk :
   pub run : WritesPages d from disk
 
 -- No number is left for another page, or there are as many levels as pages may have.
-abbrev pub IsUsedUp : Loader → Type 0
-IsUsedUp l = (l.count ≡ 4294967295) ⊎ (255 ≤ length l.above.items)
+abbrev pub IsOutOfPages : Loader → Type 0
+IsOutOfPages l = (l.count ≡ 4294967295) ⊎ (255 ≤ length l.above.items)
 
 -- How a call of a loader may be refused, `Device` aside. `NotAStore` is of loads that have not taken what they say: `none` is what a caller knows who is answered it.
-abbrev pub Refuses : Loader → Type 0 → Fault → Type 0
-Refuses l none e = (e ≡ Memory) ⊎ ((e ≡ Capacity) × IsUsedUp l) ⊎ ((e ≡ NotAStore) × none)
+abbrev pub LoaderRefuses : Loader → Type 0 → Fault → Type 0
+LoaderRefuses l none e = (e ≡ Memory) ⊎ ((e ≡ Capacity) × IsOutOfPages l) ⊎ ((e ≡ NotAStore) × none)

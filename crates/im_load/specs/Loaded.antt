@@ -12,13 +12,13 @@ puts_onto cs [] = cs
 puts_onto cs (e ∷ es) = puts_onto (Put e.0 e.1 ∷ cs) es
 
 -- the effect of a load
-abbrev pub loaded : List Entry → Effect
-loaded es = puts_onto [] es
+abbrev pub load_effect : List Entry → Effect
+load_effect es = puts_onto [] es
 
 -- the effects that a loaded store stands for: one, or none where nothing was loaded
 abbrev pub effects_of : List Entry → List Effect
 effects_of [] = []
-effects_of (e ∷ es) = loaded (e ∷ es) ∷ []
+effects_of (e ∷ es) = load_effect (e ∷ es) ∷ []
 
 -- a page that no record has changed
 abbrev pub unlogged : Pages → ℕ → Page

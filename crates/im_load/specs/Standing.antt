@@ -7,7 +7,7 @@ use Rattle.im_base_types.specs.declared.file_id.FileId.TheVariants.{Pages}
 use Rattle.im_base_disk.specs.Disk.{Files}
 use Rattle.im_load.specs.Loaded.{effects_of}
 use Rattle.im_engine.specs.Stands.{StandsFor, SpellsCurrent}
-use Rattle.im_load.specs.Files.{AreHalf, AreLoaded, AreLeft}
+use Rattle.im_load.specs.Files.{AreHalf, AreOfLoad, AreLeft}
 
 -- Files that are no store, or stand for nothing yet, or for these entries as one effect.
 abbrev pub IsStoreOrNone : List Entry → Files → Type 0
@@ -15,9 +15,9 @@ IsStoreOrNone es files = ¬ (SpellsCurrent files) ⊎ StandsFor [] files ⊎ Sta
 
 pub record LoadsStand : Type 0 where
   -- one effect, its entries; none where there are none
-  pub stands : (es : List Entry) (files : Files) → AreLoaded es files → StandsFor (effects_of es) files
+  pub stands : (es : List Entry) (files : Files) → AreOfLoad es files → StandsFor (effects_of es) files
   -- and these are the entries that it makes of an empty index
-  pub are : (es : List Entry) (files : Files) → AreLoaded es files → entries (apply_all empty (effects_of es)) ≡ es
+  pub are : (es : List Entry) (files : Files) → AreOfLoad es files → entries (apply_all empty (effects_of es)) ≡ es
   -- what a stop leaves once pages has a byte: an opening refuses it, and writes nothing
   pub halves : (files : Files) → AreHalf files → 1 ≤ length (files Pages) → ¬ (SpellsCurrent files)
   -- and before that: no store was made yet

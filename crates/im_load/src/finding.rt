@@ -4,7 +4,7 @@ ghost use Rattle.std.specs.Prelude.{◌≡◌, ◌≢◌, false, List, IfOk, IfE
 ghost use Rattle.im_base_types.specs.Pages.{Entry};
 ghost use Rattle.im_base_types.specs.declared.fault.Fault.TheVariants.{NotAStore};
 ghost use Rattle.im_base_disk.specs.Runs.{IsSynced};
-ghost use Rattle.im_load.specs.Files.{AreLoaded};
+ghost use Rattle.im_load.specs.Files.{AreOfLoad};
 
 use im_base_two_logs::TwoLogs;
 use im_base_types::{Fault, Key, Rid};
@@ -22,8 +22,8 @@ pub fn found<D: TwoLogs, R: Threads + Sync>(
 ) -> (Result<Vec<(Key, Rid)>, Fault>, D)
     requires working { D.failed disk ≡ false }
     requires synced { IsSynced D.Disk disk }
-    ensures found { IfOk result.0 (λ list. (es : List Entry) → D.tells → AreLoaded es (D.seen disk) → list.items ≡ es) }
-    ensures never { IfErr result.0 (λ e. (es : List Entry) → D.tells → AreLoaded es (D.seen disk) → e ≢ NotAStore) }
+    ensures found { IfOk result.0 (λ list. (es : List Entry) → D.tells → AreOfLoad es (D.seen disk) → list.items ≡ es) }
+    ensures never { IfErr result.0 (λ e. (es : List Entry) → D.tells → AreOfLoad es (D.seen disk) → e ≢ NotAStore) }
 {
     look(rt, alloc, disk, config)
 }

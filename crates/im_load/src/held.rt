@@ -6,9 +6,9 @@ ghost use Rattle.im_base_types.specs.declared.page_kind.PageKind.TheVariants.{Le
 ghost use Rattle.im_theory_page.specs.Entry.{taken, size, width};
 ghost use Rattle.im_theory_page.specs.Header.{initial, leaf_body};
 ghost use Rattle.im_theory_page.specs.Page.{is_leaf_kind};
-ghost use Rattle.im_load.specs.Edge.{IsTop};
-ghost use Rattle.im_load.specs.Steps.{appended, inner_body};
-ghost use Rattle.im_load.specs.Held.{says, with_last, TakesLast};
+ghost use Rattle.im_load.specs.Edge.{IsAboveAll};
+ghost use Rattle.im_load.specs.Steps.{with_entry_last, inner_page};
+ghost use Rattle.im_load.specs.Held.{with_new_body, with_last, TakesLast};
 
 use im_base_types::{Fault, LONGEST_KEY, PageKind, PageNo, Rid, compare};
 use im_page::Page;
@@ -51,7 +51,7 @@ impl Held {
         right: PageNo,
     ) -> Result<Held, Fault>
         requires { 1 ≤ level }
-        ensures root { IfOk result (λ h. h ≡ (1, record { lsn = 0; body = inner_body level left ((key.now, right) ∷ []) })) }
+        ensures root { IfOk result (λ h. h ≡ (1, record { lsn = 0; body = inner_page level left ((key.now, right) ∷ []) })) }
         ensures causes { IfErr result (λ e. (e ≡ Memory) ⊎ (e ≡ NotAStore)) }
         ensures sound { 1 ≤ length key.now → length key.now ≤ 255 → result ≡ Err NotAStore → ⊥ }
     {
@@ -76,10 +76,10 @@ impl Held {
 
     /// Whether all of its keys are below this one.
     pub(crate) fn ends_below(&self, key: &[u8]) -> bool
-        ensures { IsTrue result ↔ IsTop key.now self.now.1.body.entries }
+        ensures { IsTrue result ↔ IsAboveAll key.now self.now.1.body.entries }
     {
         let page = &self.page;
-        page.content();
+        page.law_content();
         let len = page.len();
         if len == 0 {
             return true;
@@ -124,7 +124,7 @@ impl Held {
 
     /// Says which leaf comes after it. Refused `NotAStore`, with nothing changed, where it is no leaf.
     pub(crate) fn link(&mut self, next: PageNo) -> Result<(), Fault>
-        ensures linked { OnOk result (self.new ≡ (self.old.0, says self.old.1 (record self.old.1.body { next = next }))) }
+        ensures linked { OnOk result (self.new ≡ (self.old.0, with_new_body self.old.1 (record self.old.1.body { next = next }))) }
         ensures refused { IfErr result (λ e. e ≡ NotAStore) }
         ensures sound { self.old.1.body.kind ≡ Leaf → result ≡ Err NotAStore → ⊥ }
     {
@@ -155,7 +155,7 @@ impl Held {
     /// Becomes the inner page of a number, with one child.
     pub(crate) fn begin_inner(&mut self, number: PageNo, level: u8, child: PageNo)
         requires { 1 ≤ level }
-        ensures { self.new ≡ (number, record { lsn = self.old.1.lsn; body = inner_body level child [] }) }
+        ensures { self.new ≡ (number, record { lsn = self.old.1.lsn; body = inner_page level child [] }) }
     {
         self.number = number;
         self.page.become_inner(level, child);
@@ -166,9 +166,9 @@ impl Held {
 // key, or has no room.
 fn put_last(page: &mut Page, key: &[u8], value: u64) -> Result<(), Fault>
     requires holds { (page.old.body.kind ≡ Leaf) ⊎ (page.old.body.kind ≡ Inner) }
-    requires top { IsTop key.now page.old.body.entries }
+    requires top { IsAboveAll key.now page.old.body.entries }
     requires fits { page.old.body.kind ≡ Inner → value < 2 ^ 32 }
-    ensures put { OnOk result (page.new ≡ says page.old (appended page.old.body (key.now, value))) }
+    ensures put { OnOk result (page.new ≡ with_new_body page.old (with_entry_last page.old.body (key.now, value))) }
     ensures refused { IfErr result (λ e. e ≡ NotAStore) }
     ensures sound { 1 ≤ length key.now → length key.now ≤ 255
         → taken (is_leaf_kind page.old.body.kind) page.old.body.entries + size (is_leaf_kind page.old.body.kind) (key.now, value) + 2 ≤ 4064 → result ≡ Err NotAStore → ⊥ }

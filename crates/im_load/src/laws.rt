@@ -1,10 +1,10 @@
 //! What each step of a load keeps, and what a load that is done stands for.
 
-ghost use Rattle.im_load.specs.Laws.{StepsKeep, StepsFill, EndsStand, LastIsEnough};
+ghost use Rattle.im_load.specs.Laws.{LoadStepsKeep, StepsFill, EndsStand, LastIsEnough};
 
 /// A load begins with a good tree of no entry, and each step keeps a good tree of the entries so far, with its right edge.
 pub fn steps_keep()
-    ensures { StepsKeep }
+    ensures { LoadStepsKeep }
 {}
 
 /// A load leaves each leaf but the last full to 93 percent and more.

@@ -8,7 +8,7 @@
 //!   key, of 1 to 255 bytes, is above all that were taken, and answers `false`, with nothing changed, where it is not; `finish` ends the load.
 //! - What has been taken is a good tree at each moment: of its pages those at the right edge are held, one a level, and the file has each
 //!   other one (`HasTaken`, and `IsLoading` since the disk that the load began on). So where `finish` answers, the files are those of a load of just the entries
-//!   that were taken (`AreLoaded`): pages that are a good tree of them, all with LSN 0, and a log of the first generation that begins at LSN 48, with no record, all
+//!   that were taken (`AreOfLoad`): pages that are a good tree of them, all with LSN 0, and a log of the first generation that begins at LSN 48, with no record, all
 //!   of it on the disk.
 //! - To an engine these files stand for one effect, which puts each entry (`loads_stand`); a look at them hands out exactly the entries (`found`).
 //! - Nothing of this leaves room: a page that is left out, or torn, or written after the sync, or keys that fall, make other pages or none.
@@ -19,7 +19,7 @@
 //!   of pages are no store, and an opening says so (`loads_stand`). The order in which pages are written before the sync is free: that page 0 comes last is a
 //!   custom, of which no fact speaks.
 //! - Refused: `KeyLength`, with nothing changed; `Capacity`, only where 2^32 - 1 pages or 255 levels are used up; `Memory`; `Device`, just where the disk failed. After one
-//!   of the last three the load is of no use, and its files are as after a stop. A loader that has taken what it says answers no other refusal (`Refuses`).
+//!   of the last three the load is of no use, and its files are as after a stop. A loader that has taken what it says answers no other refusal (`LoaderRefuses`).
 //!
 //! # How it goes
 //!

@@ -11,14 +11,14 @@ ghost use Rattle.im_base_disk.specs.Ends.{AnswersOr};
 ghost use Rattle.im_base_disk.specs.Runs.{IsSynced, LeavesOnly, Reads};
 ghost use Rattle.im_theory_page.specs.Header.{empty_body, leaf_body};
 ghost use Rattle.im_theory_page.specs.Split.{LacksRoom};
-ghost use Rattle.im_load.specs.Edge.{IsTop};
-ghost use Rattle.im_load.specs.Steps.{inner_body};
-ghost use Rattle.im_load.specs.Files.{AreEmpty, AreHalf, AreLeft, AreLoaded, ArePages, HaveNoLog, WritesPage};
+ghost use Rattle.im_load.specs.Edge.{IsAboveAll};
+ghost use Rattle.im_load.specs.Steps.{inner_page};
+ghost use Rattle.im_load.specs.Files.{AreEmpty, AreHalf, AreLeft, AreOfLoad, ArePages, HaveNoLog, WritesPageAt};
 ghost use Rattle.im_load.specs.Goings.{WritesPages};
-ghost use Rattle.im_load.specs.Held.{says, with_last, held_at, TakesLast};
+ghost use Rattle.im_load.specs.Held.{with_new_body, with_last, held_page, TakesLast};
 ghost use Rattle.im_load.specs.Room.{FitsLongest};
-ghost use Rattle.im_load.specs.HasTaken.{HasTaken, HasPending, IsLoading, IsUsedUp, Refuses};
-ghost use Rattle.im_load.specs.Loading.{HasWritten, Taken};
+ghost use Rattle.im_load.specs.HasTaken.{HasTaken, HasPending, IsLoading, IsOutOfPages, LoaderRefuses};
+ghost use Rattle.im_load.specs.Loading.{HasWritten, HasTakenAll};
 
 use crate::held::Held;
 use crate::writing::write_page;
@@ -42,7 +42,7 @@ impl Loader {
     fn new_page(&mut self) -> Result<PageNo, Fault>
         ensures page { IfOk result (λ n. n ≡ self.old.count) }
         ensures more { OnOk result (self.new ≡ record self.old { count = self.old.count + 1 }) }
-        ensures refused { IfErr result (λ e. (e ≡ Capacity) × IsUsedUp self.new) }
+        ensures refused { IfErr result (λ e. (e ≡ Capacity) × IsOutOfPages self.new) }
     {
         let number = self.count;
         if number == PageNo::MAX {
@@ -63,7 +63,7 @@ impl Loader {
     ) -> Result<(), Fault>
         requires working { D.failed disk.old ≡ false }
         ensures closed { OnOk result (self.new ≡ record self.old { leaf = (next, record { lsn = self.old.leaf.1.lsn; body = leaf_body number 0 ((key.now, rid) ∷ []) }) }) }
-        ensures written { OnOk result (D.tells → WritesPage (D.seen disk.old Pages) (D.seen disk.new Pages) number (says self.old.leaf.1 (record self.old.leaf.1.body { next = next }))) }
+        ensures written { OnOk result (D.tells → WritesPageAt (D.seen disk.old Pages) (D.seen disk.new Pages) number (with_new_body self.old.leaf.1 (record self.old.leaf.1.body { next = next }))) }
         ensures run { WritesPages D.Disk disk.old disk.new }
         ensures sound { self.old.leaf.1.body.kind ≡ Leaf → 1 ≤ length key.now → length key.now ≤ 255 → result ≡ Err NotAStore → ⊥ }
         ensures outcome { AnswersOr (λ e. e ≡ NotAStore) (D.failed disk.new) result }
@@ -78,7 +78,7 @@ impl Loader {
     fn put_root(&mut self, level: u8, left: PageNo, key: &[u8], right: PageNo) -> Result<(), Fault>
         requires { 1 ≤ level }
         ensures root { OnOk result (self.new ≡ record self.old { above = self.new.above }) }
-        ensures above { OnOk result (self.new.above.items ≡ self.old.above.items ++ (1, record { lsn = 0; body = inner_body level left ((key.now, right) ∷ []) }) ∷ []) }
+        ensures above { OnOk result (self.new.above.items ≡ self.old.above.items ++ (1, record { lsn = 0; body = inner_page level left ((key.now, right) ∷ []) }) ∷ []) }
         ensures refused { IfErr result (λ e. (e ≡ Memory) ⊎ (e ≡ NotAStore)) }
         ensures sound { 1 ≤ length key.now → length key.now ≤ 255 → result ≡ Err NotAStore → ⊥ }
     {
@@ -91,9 +91,9 @@ impl Loader {
     fn put_child(&mut self, i: usize, key: &[u8], child: PageNo) -> Result<(), Fault>
         requires { i < length self.old.above.items }
         ensures put { OnOk result (self.new ≡ record self.old { above = self.new.above }) }
-        ensures above { OnOk result (self.new.above.items ≡ set self.old.above.items i (with_last (held_at self.old.above.items i) (key.now, child))) }
+        ensures above { OnOk result (self.new.above.items ≡ set self.old.above.items i (with_last (held_page self.old.above.items i) (key.now, child))) }
         ensures refused { IfErr result (λ e. e ≡ NotAStore) }
-        ensures sound { TakesLast Inner (held_at self.old.above.items i).1 (key.now, child) → result ≡ Err NotAStore → ⊥ }
+        ensures sound { TakesLast Inner (held_page self.old.above.items i).1 (key.now, child) → result ≡ Err NotAStore → ⊥ }
     {
         self.above[i].put_child(key, child)?;
         Ok(())
@@ -104,7 +104,7 @@ impl Loader {
         requires place { i < length self.old.above.items }
         requires level { 1 ≤ level }
         ensures begun { self.new ≡ record self.old { above = self.new.above } }
-        ensures above { self.new.above.items ≡ set self.old.above.items i (number, record { lsn = (held_at self.old.above.items i).1.lsn; body = inner_body level child [] }) }
+        ensures above { self.new.above.items ≡ set self.old.above.items i (number, record { lsn = (held_page self.old.above.items i).1.lsn; body = inner_page level child [] }) }
     {
         self.above[i].begin_inner(number, level, child);
     }
@@ -112,7 +112,7 @@ impl Loader {
     // Writes the last leaf.
     fn write_leaf<D: Disk>(&self, disk: &mut D) -> Result<(), Fault>
         requires working { D.failed disk.old ≡ false }
-        ensures written { OnOk result (D.tells → WritesPage (D.seen disk.old Pages) (D.seen disk.new Pages) self.now.leaf.0 self.now.leaf.1) }
+        ensures written { OnOk result (D.tells → WritesPageAt (D.seen disk.old Pages) (D.seen disk.new Pages) self.now.leaf.0 self.now.leaf.1) }
         ensures run { WritesPages D.Disk disk.old disk.new }
         ensures answers { Answers (D.failed disk.new) result }
     {
@@ -123,7 +123,7 @@ impl Loader {
     fn write_above<D: Disk>(&self, disk: &mut D, i: usize, number: PageNo) -> Result<(), Fault>
         requires place { i < length self.now.above.items }
         requires working { D.failed disk.old ≡ false }
-        ensures written { OnOk result (D.tells → WritesPage (D.seen disk.old Pages) (D.seen disk.new Pages) number (held_at self.now.above.items i).1) }
+        ensures written { OnOk result (D.tells → WritesPageAt (D.seen disk.old Pages) (D.seen disk.new Pages) number (held_page self.now.above.items i).1) }
         ensures run { WritesPages D.Disk disk.old disk.new }
         ensures answers { Answers (D.failed disk.new) result }
     {
@@ -133,7 +133,7 @@ impl Loader {
     // The number of the held page at a place.
     fn number_above(&self, i: usize) -> PageNo
         requires { i < length self.now.above.items }
-        ensures { result ≡ (held_at self.now.above.items i).0 }
+        ensures { result ≡ (held_page self.now.above.items i).0 }
     {
         self.above[i].number()
     }
@@ -141,10 +141,10 @@ impl Loader {
     // Closes the last leaf, which is the root: page 1 stands over it and the next one.
     fn raise_leaf<D: Disk>(&mut self, disk: &mut D, key: &[u8], rid: Rid) -> Result<(), Fault>
         requires working { D.failed disk.old ≡ false }
-        ensures taken { (es : List Entry) → HasTaken D.Disk self.old disk.old es → self.old.above.items ≡ [] → IsTop key.now es → LacksRoom true self.old.leaf.1.body.entries
+        ensures taken { (es : List Entry) → HasTaken D.Disk self.old disk.old es → self.old.above.items ≡ [] → IsAboveAll key.now es → LacksRoom true self.old.leaf.1.body.entries
             → OnOk result (HasTaken D.Disk self.new disk.new (es ++ (key.now, rid) ∷ [])) }
         ensures run { WritesPages D.Disk disk.old disk.new }
-        ensures outcome { AnswersOr (Refuses self.new ((es : List Entry) → HasTaken D.Disk self.old disk.old es → 1 ≤ length key.now → length key.now ≤ 255 → ⊥)) (D.failed disk.new) result }
+        ensures outcome { AnswersOr (LoaderRefuses self.new ((es : List Entry) → HasTaken D.Disk self.old disk.old es → 1 ≤ length key.now → length key.now ≤ 255 → ⊥)) (D.failed disk.new) result }
     {
         let left = self.new_page()?;
         let right = self.new_page()?;
@@ -168,7 +168,7 @@ impl Loader {
         requires low { level < 255 }
         ensures taken { (es : List Entry) → HasPending D.Disk self.old disk.old es i key.now child → OnOk result (HasTaken D.Disk self.new disk.new es) }
         ensures run { WritesPages D.Disk disk.old disk.new }
-        ensures outcome { AnswersOr (Refuses self.new (1 ≤ length key.now → length key.now ≤ 255 → ⊥)) (D.failed disk.new) result }
+        ensures outcome { AnswersOr (LoaderRefuses self.new (1 ≤ length key.now → length key.now ≤ 255 → ⊥)) (D.failed disk.new) result }
     {
         let left = self.new_page()?;
         let right = self.new_page()?;
@@ -192,7 +192,7 @@ impl Loader {
         ensures pending { (es : List Entry) (key : Key) → HasPending D.Disk self.old disk.old es i key child → IfOk result (λ next. HasPending D.Disk self.new disk.new es (i + 1) key next) }
         ensures same { OnOk result (length self.new.above.items ≡ length self.old.above.items) }
         ensures run { WritesPages D.Disk disk.old disk.new }
-        ensures outcome { AnswersOr (λ e. (e ≡ Capacity) × IsUsedUp self.new) (D.failed disk.new) result }
+        ensures outcome { AnswersOr (λ e. (e ≡ Capacity) × IsOutOfPages self.new) (D.failed disk.new) result }
     {
         let next = self.new_page()?;
         let number = self.number_above(i);
@@ -204,7 +204,7 @@ impl Loader {
     // Whether the held page at a place has room for a separator of any size.
     fn is_open(&self, i: usize) -> bool
         requires { i < length self.now.above.items }
-        ensures { IsTrue result ↔ FitsLongest (held_at self.now.above.items i).1 }
+        ensures { IsTrue result ↔ FitsLongest (held_page self.now.above.items i).1 }
     {
         self.above[i].is_open()
     }
@@ -214,7 +214,7 @@ impl Loader {
         requires working { D.failed disk.old ≡ false }
         ensures taken { (es : List Entry) → HasPending D.Disk self.old disk.old es 0 key.now child → OnOk result (HasTaken D.Disk self.new disk.new es) }
         ensures run { WritesPages D.Disk disk.old disk.new }
-        ensures outcome { AnswersOr (Refuses self.new ((es : List Entry) → HasPending D.Disk self.old disk.old es 0 key.now child → 1 ≤ length key.now → length key.now ≤ 255 → ⊥)) (D.failed disk.new) result }
+        ensures outcome { AnswersOr (LoaderRefuses self.new ((es : List Entry) → HasPending D.Disk self.old disk.old es 0 key.now child → 1 ≤ length key.now → length key.now ≤ 255 → ⊥)) (D.failed disk.new) result }
     {
         let mut child = child;
         let len = self.above.len();
@@ -241,9 +241,9 @@ impl Loader {
     // Puts an entry into the last leaf, or begins a new one with it.
     fn take<D: Disk>(&mut self, disk: &mut D, key: &[u8], rid: Rid) -> Result<(), Fault>
         requires working { D.failed disk.old ≡ false }
-        ensures taken { (es : List Entry) → HasTaken D.Disk self.old disk.old es → IsTop key.now es → OnOk result (HasTaken D.Disk self.new disk.new (es ++ (key.now, rid) ∷ [])) }
+        ensures taken { (es : List Entry) → HasTaken D.Disk self.old disk.old es → IsAboveAll key.now es → OnOk result (HasTaken D.Disk self.new disk.new (es ++ (key.now, rid) ∷ [])) }
         ensures run { WritesPages D.Disk disk.old disk.new }
-        ensures outcome { AnswersOr (Refuses self.new ((es : List Entry) → HasTaken D.Disk self.old disk.old es → IsTop key.now es → 1 ≤ length key.now → length key.now ≤ 255 → ⊥)) (D.failed disk.new) result }
+        ensures outcome { AnswersOr (LoaderRefuses self.new ((es : List Entry) → HasTaken D.Disk self.old disk.old es → IsAboveAll key.now es → 1 ≤ length key.now → length key.now ≤ 255 → ⊥)) (D.failed disk.new) result }
     {
         let open = self.leaf.is_open();
         if open {
@@ -268,13 +268,13 @@ impl Loader {
     /// use, and its files are no store. A stop at any moment since the load began leaves no store (`stops`).
     pub fn put<D: Disk>(&mut self, disk: &mut D, key: &[u8], rid: Rid) -> Result<bool, Fault>
         requires working { D.failed disk.old ≡ false }
-        ensures taken { (from : D) (es : List Entry) → IsLoading D.Disk from self.old disk.old es → result ≡ Ok true → IsTop key.now es × IsLoading D.Disk from self.new disk.new (es ++ (key.now, rid) ∷ []) }
-        ensures falls { (from : D) (es : List Entry) → IsLoading D.Disk from self.old disk.old es → result ≡ Ok false → IsTop key.now es → ⊥ }
+        ensures taken { (from : D) (es : List Entry) → IsLoading D.Disk from self.old disk.old es → result ≡ Ok true → IsAboveAll key.now es × IsLoading D.Disk from self.new disk.new (es ++ (key.now, rid) ∷ []) }
+        ensures falls { (from : D) (es : List Entry) → IsLoading D.Disk from self.old disk.old es → result ≡ Ok false → IsAboveAll key.now es → ⊥ }
         ensures same { result ≡ Ok false → (self.new ≡ self.old) × (disk.new ≡ disk.old) }
         ensures untouched { result ≡ Err KeyLength → (self.new ≡ self.old) × (disk.new ≡ disk.old) }
         ensures key_length { result ≡ Err KeyLength ↔ ((length key.now < 1) ⊎ (255 < length key.now)) }
         ensures stops { (from : D) (es : List Entry) → IsLoading D.Disk from self.old disk.old es → LeavesOnly D.Disk from disk.new AreHalf }
-        ensures outcome { AnswersOr (λ e. (e ≡ KeyLength) ⊎ Refuses self.new ((from : D) (es : List Entry) → IsLoading D.Disk from self.old disk.old es → ⊥) e) (D.failed disk.new) result }
+        ensures outcome { AnswersOr (λ e. (e ≡ KeyLength) ⊎ LoaderRefuses self.new ((from : D) (es : List Entry) → IsLoading D.Disk from self.old disk.old es → ⊥) e) (D.failed disk.new) result }
     {
         let keyed = is_key(key);
         if !keyed {
@@ -317,7 +317,7 @@ impl Loader {
     /// Refused `Device`: the files are no store then, or the one that was loaded. So they are after a stop at any moment since the load began (`stops`).
     pub fn finish<D: Disk>(self, disk: &mut D) -> Result<(), Fault>
         requires working { D.failed disk.old ≡ false }
-        ensures loaded { (from : D) (es : List Entry) → IsLoading D.Disk from self disk.old es → OnOk result (D.tells → AreLoaded es (D.seen disk.new)) }
+        ensures loaded { (from : D) (es : List Entry) → IsLoading D.Disk from self disk.old es → OnOk result (D.tells → AreOfLoad es (D.seen disk.new)) }
         ensures synced { (from : D) (es : List Entry) → IsLoading D.Disk from self disk.old es → OnOk result (IsSynced D.Disk disk.new) }
         ensures stops { (from : D) (es : List Entry) → IsLoading D.Disk from self disk.old es → LeavesOnly D.Disk from disk.new (AreLeft es) }
         ensures answers { Answers (D.failed disk.new) result }
@@ -361,7 +361,7 @@ impl Loader {
     // Writes the inner pages that are held, once the last leaf was written.
     fn write_levels<D: Disk>(&self, disk: &mut D) -> Result<(), Fault>
         requires working { D.failed disk.old ≡ false }
-        ensures written { (file : List ℕ) (es : List Entry) (t : Taken self.now.leaf self.now.above.items self.now.count D.tells file es)
+        ensures written { (file : List ℕ) (es : List Entry) (t : HasTakenAll self.now.leaf self.now.above.items self.now.count D.tells file es)
             → (D.tells → HasWritten t.pages t.at 1 (length self.now.above.items) self.now.count (D.seen disk.old Pages))
             → OnOk result (D.tells → HasWritten t.pages t.at (suc (length self.now.above.items)) (length self.now.above.items) self.now.count (D.seen disk.new Pages)) }
         ensures run { WritesPages D.Disk disk.old disk.new }
@@ -378,7 +378,7 @@ impl Loader {
     // Writes the meta page.
     fn write_meta<D: Disk>(&self, disk: &mut D) -> Result<(), Fault>
         requires working { D.failed disk.old ≡ false }
-        ensures written { OnOk result (D.tells → WritesPage (D.seen disk.old Pages) (D.seen disk.new Pages) 0 (record { lsn = 0; body = empty_body Meta 0 0 0 self.now.count })) }
+        ensures written { OnOk result (D.tells → WritesPageAt (D.seen disk.old Pages) (D.seen disk.new Pages) 0 (record { lsn = 0; body = empty_body Meta 0 0 0 self.now.count })) }
         ensures run { WritesPages D.Disk disk.old disk.new }
         ensures answers { Answers (D.failed disk.new) result }
     {

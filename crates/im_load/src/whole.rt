@@ -5,7 +5,7 @@ ghost use Rattle.im_base_types.specs.declared.fault.Fault.TheVariants.{Capacity,
 ghost use Rattle.im_base_disk.specs.Ends.{AnswersOr};
 ghost use Rattle.im_base_disk.specs.Runs.{IsSynced, LeavesOnly, Reads};
 ghost use Rattle.im_theory_page.specs.Entry.{Rises};
-ghost use Rattle.im_load.specs.Files.{AreEmpty, AreLeft, AreLoaded};
+ghost use Rattle.im_load.specs.Files.{AreEmpty, AreLeft, AreOfLoad};
 
 use crate::loader::Loader;
 use im_base_disk::Disk;
@@ -29,7 +29,7 @@ pub enum Ending {
 pub fn load<D: Disk>(alloc: Global, disk: &mut D, entries: &[(Key, Rid)]) -> Result<Ending, Fault>
     requires working { D.failed disk.old ≡ false }
     requires synced { IsSynced D.Disk disk.old }
-    ensures loaded { result ≡ Ok Ending.Loaded → D.tells → AreLoaded entries.now (D.seen disk.new) }
+    ensures loaded { result ≡ Ok Ending.Loaded → D.tells → AreOfLoad entries.now (D.seen disk.new) }
     ensures synced { result ≡ Ok Ending.Loaded → IsSynced D.Disk disk.new }
     ensures not_empty { result ≡ Ok Ending.NotEmpty → D.tells → ¬ (AreEmpty (D.seen disk.new)) }
     ensures untouched { result ≡ Ok Ending.NotEmpty → Reads D.Disk disk.old disk.new }

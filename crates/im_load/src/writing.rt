@@ -3,7 +3,7 @@
 ghost use Rattle.std.specs.Prelude.{◌≡◌, false, OnOk, length};
 ghost use Rattle.im_base_types.specs.declared.file_id.FileId.TheVariants.{Pages};
 ghost use Rattle.im_base_disk.specs.Disk.{Answers};
-ghost use Rattle.im_load.specs.Files.{Fills, WritesPage};
+ghost use Rattle.im_load.specs.Files.{Fills, WritesPageAt};
 ghost use Rattle.im_load.specs.Goings.{WritesPages};
 
 use im_base_disk::{Disk, write};
@@ -22,7 +22,7 @@ fn blank() -> &'static [u8]
 /// Writes a page at its place. Where the file of whole pages ends before that, pages of zeros come first. Refused `Device`.
 pub(crate) fn write_page<D: Disk>(disk: &mut D, number: PageNo, page: &Page) -> Result<(), Fault>
     requires working { D.failed disk.old ≡ false }
-    ensures written { OnOk result (D.tells → WritesPage (D.seen disk.old Pages) (D.seen disk.new Pages) number page.now) }
+    ensures written { OnOk result (D.tells → WritesPageAt (D.seen disk.old Pages) (D.seen disk.new Pages) number page.now) }
     ensures run { WritesPages D.Disk disk.old disk.new }
     ensures answers { Answers (D.failed disk.new) result }
 {

@@ -8,7 +8,7 @@ use crate::read_front::{copy_front, read_front};
 use im_base_disk::Disk;
 use im_base_types::{BATCH_ROOM, Fault, LAST_LSN, LONGEST_BATCH, Lsn};
 use im_log_gate::{Gate, seal};
-use im_log_record::{Record, spellings};
+use im_log_record::{Record, law_spellings};
 
 mod span;
 mod switching;
@@ -218,7 +218,7 @@ impl LogFile {
         if self.failed {
             return Err(Fault::Failed);
         }
-        spellings();
+        law_spellings();
         let size = record.size();
         if self.is_full(size) {
             self.failed = true;

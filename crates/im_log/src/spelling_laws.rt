@@ -5,12 +5,12 @@
 
 ghost use Rattle.im_log.specs.SpelledFiles.{LogsAreRead, LogsAreSpelled};
 
-use im_log_record::spellings;
+use im_log_record::law_spellings;
 
 /// A file that has the spellings of a log is read as that log; and one whose bytes are read as a log, each below 256, has its spellings.
 pub fn logs_are_spelled()
     ensures read { LogsAreRead }
     ensures spelled { LogsAreSpelled }
 {
-    spellings();
+    law_spellings();
 }

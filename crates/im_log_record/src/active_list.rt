@@ -46,17 +46,17 @@ pub(crate) fn transactions_rise(list: &[[u8; 24]]) -> bool
     true
 }
 
-fn row_fits(_row: ActiveTransaction)
+fn law_row_fits(_row: ActiveTransaction)
     ensures { IsActive _row }
 {}
 
 // The numbers in the rows fit their bytes, as numbers of their types do.
 #[inline]
-pub(crate) fn actives_fit(rows: &[ActiveTransaction])
+pub(crate) fn law_actives_fit(rows: &[ActiveTransaction])
     ensures { AllByRecursion IsActive rows.now }
 {
     for row in rows {
-        row_fits(*row);
+        law_row_fits(*row);
     }
 }
 

@@ -44,17 +44,17 @@ pub(crate) fn pages_rise(list: &[[u8; 12]]) -> bool
     true
 }
 
-fn row_fits(_row: DirtyPage)
+fn law_row_fits(_row: DirtyPage)
     ensures { IsDirty _row }
 {}
 
 // The numbers in the rows fit their bytes, as numbers of their types do.
 #[inline]
-pub(crate) fn dirties_fit(rows: &[DirtyPage])
+pub(crate) fn law_dirties_fit(rows: &[DirtyPage])
     ensures { AllByRecursion IsDirty rows.now }
 {
     for row in rows {
-        row_fits(*row);
+        law_row_fits(*row);
     }
 }
 

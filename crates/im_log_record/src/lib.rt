@@ -10,7 +10,7 @@
 //!
 //! The grammar stands in `specs/Spelling`: `spelling` has the bytes of each kind, `IsEntry` says which records have
 //! a spelling. `decode` gives a record exactly where the bytes are its spelling. `entry_of` and `first_entry` of
-//! `specs/Reading` are the same as functions of bytes, for the layers that define a log by its bytes; `spellings`
+//! `specs/Reading` are the same as functions of bytes, for the layers that define a log by its bytes; `law_spellings`
 //! has the laws that tie the two, and that a record's length, at least 33, stands in its first four bytes. Who walks over records and reads no
 //! payload asks their first bytes alone (`size_of`, `kind_of`, `transaction_of`, `page_of`, of `specs/FirstBytes`).
 //!
@@ -37,4 +37,4 @@ pub use dirty_list::DirtyList;
 pub use first_bytes::{HEAD, kind_of, page_of, size_of, transaction_of};
 pub use kind::Kind;
 pub use record::Record;
-pub use spelling_laws::{read_back, spellings};
+pub use spelling_laws::{law_spellings, read_back};

@@ -4,8 +4,8 @@ ghost use Rattle.im_log_record.specs.Entry.{Checkpoint, view, transaction_of, pr
 ghost use Rattle.im_log_record.specs.Kind.{kind_of};
 ghost use Rattle.im_log_record.specs.Spelling.{IsEntry, Rise, size_of};
 
-use crate::active_list::{ActiveList, actives_fit};
-use crate::dirty_list::{DirtyList, dirties_fit};
+use crate::active_list::{ActiveList, law_actives_fit};
+use crate::dirty_list::{DirtyList, law_dirties_fit};
 use crate::kind::Kind;
 use im_base_types::{ActiveTransaction, DirtyPage};
 
@@ -113,8 +113,8 @@ impl Record<'_> {
         ensures view { view result ≡ Checkpoint next active.now dirty.now }
         ensures entry { IsEntry (view result) }
     {
-        actives_fit(active);
-        dirties_fit(dirty);
+        law_actives_fit(active);
+        law_dirties_fit(dirty);
         Record::Checkpoint {
             next,
             active: ActiveList::Rows(active),

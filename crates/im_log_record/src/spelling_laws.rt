@@ -11,7 +11,7 @@ use im_base_types::Fault;
 
 /// Laws of spellings. Each record has one, each is one record's, its length stands in its first four bytes, and
 /// `entry_of` and `first_entry` are the functions from bytes to records that the spellings give.
-pub fn spellings()
+pub fn law_spellings()
     ensures one_record { (said other : Entry) (bytes : List ℕ) → Spells said bytes → Spells other bytes → said ≡ other }
     ensures one_spelling { (said : Entry) (bytes more : List ℕ) → Spells said bytes → Spells said more → bytes ≡ more }
     ensures size { (said : Entry) → length (spelling said) ≡ size_of said }

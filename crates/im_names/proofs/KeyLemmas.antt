@@ -8,11 +8,11 @@ use Rattle.std.proofs.lemmas.List.{append-nil, drop_at, get_or_at, get_or-append
 use Rattle.im_base_types.specs.Keys.{key_order}
 use Rattle.im_names.specs.declared.key_kind.KeyKind.{KeyKind}
 use Rattle.im_names.specs.declared.key_kind.KeyKind.TheVariants.{Row, Guard, Named}
-use Rattle.im_names.specs.Kinds.{kind_by, kind_in, key_of_part}
-use Rattle.im_names.specs.Layout.{prefix_of, row_of, entry_of, guard_of, front_of, part_of, number_of, filled, escaped, IsName, IsEntryKey, IsLongKey}
+use Rattle.im_names.specs.Kinds.{kind_by, kind_by_bytes, key_of_part}
+use Rattle.im_names.specs.Layout.{prefix_of, catalogue_key, entry_of, guard_of, front_of, part_of, number_of, filled, escaped, IsName, IsEntryKey, IsLongKey}
 use Rattle.im_names.specs.Parts.{room_of}
-use Rattle.im_names.specs.Readings.{number_in, bytes_in}
-use Rattle.im_names.specs.Ranges.{LiesIn, Begins, IsBytes}
+use Rattle.im_names.specs.Readings.{part_number, bytes_in}
+use Rattle.im_names.specs.Ranges.{LiesIn, HasPrefix, AreBytes}
 use Rattle.im_names.proofs.Buffers.{length_filled}
 use Rattle.im_names.proofs.KindLemmas.{NoFF, front_again, kind_of_some}
 use Rattle.im_names.proofs.Orders.{by_numbers, same_first, same_front, escaped_rise, under_ff, not_below, between, less_first, greater_first}
@@ -28,17 +28,17 @@ by_guard first low = grind (arith, nat_tests)
 by_named : (first size : ℕ) → 1 ≤ first → first ≤ 31 → first + 1 < size → size < 255 → kind_by first size ≡ Named
 by_named first size some few more short = grind (arith, nat_tests)
 
-pub row_kind : (name : List ℕ) → IsName name → kind_in (row_of name) ≡ Row
+pub row_kind : (name : List ℕ) → IsName name → kind_by_bytes (catalogue_key name) ≡ Row
 row_kind name is = by_row (length name + 1) (let a = is.0 in omega arith) (let a = is.1 in omega arith)
 
-pub guard_kind : (name : List ℕ) → length name ≤ 31 → kind_in (guard_of name) ≡ Guard
+pub guard_kind : (name : List ℕ) → length name ≤ 31 → kind_by_bytes (guard_of name) ≡ Guard
 unfolding filled
 guard_kind name short =
     let l : suc (length (name ++ replicate (255 - suc (length name)) 255)) ≡ 255 = length_filled 255 (prefix_of name) (let s : suc (length name) ≤ 255 = omega arith in s) in
     let size : length (name ++ replicate (255 - suc (length name)) 255) + 1 ≡ 255 = omega arith in
     ap (kind_by (length name)) size ∙ by_guard (length name) short
 
-pub entry_kind : (name key : List ℕ) → IsName name → IsEntryKey name key → kind_in (entry_of name key) ≡ Named
+pub entry_kind : (name key : List ℕ) → IsName name → IsEntryKey name key → kind_by_bytes (entry_of name key) ≡ Named
 entry_kind name key is also =
     let l = length-append name key in let a = is.0 in let b = is.1 in let c = also.0 in let d = also.1 in
     by_named (length name) (length (name ++ key) + 1) (omega arith) (omega arith) (omega arith) (omega arith)
@@ -50,7 +50,7 @@ pub length_part : (front bytes : List ℕ) (number : ℕ) → length (part_of fr
 unfolding number_of
 length_part front bytes number = let l = length-append front (number_of number ++ bytes) in omega arith
 
-pub part_kind : (name key bytes : List ℕ) (number : ℕ) → IsName name → IsLongKey name key → length bytes ≤ room_of (length (front_of name key)) → kind_in (part_of (front_of name key) number bytes) ≡ Named
+pub part_kind : (name key bytes : List ℕ) (number : ℕ) → IsName name → IsLongKey name key → length bytes ≤ room_of (length (front_of name key)) → kind_by_bytes (part_of (front_of name key) number bytes) ≡ Named
 unfolding room_of
 part_kind name key bytes number is also room =
     let l = length_part (front_of name key) bytes number in let f = length_front name key in let a = is.0 in let b = is.1 in let d = also.1 in
@@ -73,8 +73,8 @@ names_again one other more rest e = by one other (let h : length one ≡ length 
 digits : (n : ℕ) → n / 65536 * 65536 + n / 256 % 256 * 256 + n % 256 ≡ n
 digits n = omega arith
 
-pub number_again : (front bytes : List ℕ) (number : ℕ) → number_in (length front) (part_of front number bytes) ≡ number
-unfolding number_of number_in
+pub number_again : (front bytes : List ℕ) (number : ℕ) → part_number (length front) (part_of front number bytes) ≡ number
+unfolding number_of part_number
 number_again front bytes number =
     let all = number_of number ++ bytes in
     let a : get_or (front ++ all) (length front) 0 ≡ number / 65536 = get_or_at front (number / 65536) (number / 256 % 256 ∷ (number % 256 ∷ bytes)) 0 (length front) refl in
@@ -92,22 +92,22 @@ bytes_again front bytes number =
 
 -- ---- ranges
 
-pub begins_in : (n : ℕ) (front key : List ℕ) → length front ≤ n → length key ≤ n → IsBytes key → Begins front key → LiesIn front (filled n front) key
+pub begins_in : (n : ℕ) (front key : List ℕ) → length front ≤ n → length key ≤ n → AreBytes key → HasPrefix front key → LiesIn front (filled n front) key
 unfolding filled
 begins_in n front key room short all is =
     let rest = is.0 in
     let low = λ (e : key_order key front ≡ Less). not_below front rest (ap (λ (k : List ℕ). key_order k front) (sym is.1) ∙ e) in
     let long : length rest ≤ n - length front = (let l = length-append front rest in let k = ap length is.1 in omega arith) in (
       low,
-      λ e. under_ff (n - length front) rest long (tail_bytes front rest (subst IsBytes is.1 all))
+      λ e. under_ff (n - length front) rest long (tail_bytes front rest (subst AreBytes is.1 all))
           (sym (ap (λ (k : List ℕ). key_order k (front ++ replicate (n - length front) 255)) is.1 ∙ same_front front rest (replicate (n - length front) 255)) ∙ e),
     )
   where
-    tail_bytes : (xs ys : List ℕ) → IsBytes (xs ++ ys) → IsBytes ys
+    tail_bytes : (xs ys : List ℕ) → AreBytes (xs ++ ys) → AreBytes ys
     tail_bytes [] ys h = h
     tail_bytes (x ∷ xs) ys h = tail_bytes xs ys h.1
 
-pub in_begins : (n : ℕ) (front key : List ℕ) → LiesIn front (filled n front) key → Begins front key
+pub in_begins : (n : ℕ) (front key : List ℕ) → LiesIn front (filled n front) key → HasPrefix front key
 unfolding filled
 in_begins n front key is = let b = between front (replicate (n - length front) 255) key is.0 is.1 in (b.0, b.1.0)
 
@@ -159,7 +159,7 @@ values_rise name one other m n xs ys few l =
 under_end : (b : ℕ) (xs tail : List ℕ) → b < 254 → key_order (b ∷ xs) (254 ∷ tail) ≢ Greater
 under_end b xs tail small e = absurd (cc (sym (less_first b 254 xs tail small) ∙ e))
 
-pub part_in : (front bytes : List ℕ) (number : ℕ) → number < 16711680 → length front + 3 + length bytes ≤ 255 → IsBytes bytes
+pub part_in : (front bytes : List ℕ) (number : ℕ) → number < 16711680 → length front + 3 + length bytes ≤ 255 → AreBytes bytes
     → LiesIn front (filled 255 (front ++ (254 ∷ []))) (part_of front number bytes)
 unfolding filled number_of
 part_in front bytes number few room all =
@@ -169,7 +169,7 @@ part_in front bytes number few room all =
     let same : key_order (part_of front number bytes) ((front ++ (254 ∷ [])) ++ tail) ≡ key_order (number / 65536 ∷ rest) (254 ∷ tail) =
     ap (key_order (part_of front number bytes)) (append_assoc front (254 ∷ []) tail) ∙ same_front front (number / 65536 ∷ rest) (254 ∷ tail) in
     let top = top_small number few in
-    let digits_small : IsBytes rest = ((let a : number / 256 % 256 < 256 = omega arith in a), ((let b : number % 256 < 256 = omega arith in b), all)) in (
+    let digits_small : AreBytes rest = ((let a : number / 256 % 256 < 256 = omega arith in a), ((let b : number % 256 < 256 = omega arith in b), all)) in (
       λ e. not_below front (number / 65536 ∷ rest) e,
       λ e. by_numbers (number / 65536) 254 (λ less. under_end (number / 65536) rest tail less (sym same ∙ e))
           (λ level. under_ff (255 - length (front ++ (254 ∷ []))) rest (omega arith) digits_small

@@ -6,14 +6,14 @@ use Rattle.std.proofs.lemmas.List.{append-nil, drop_at, drop_more, get_or-drop, 
 use Rattle.std.proofs.Math.ListN.{drop_of_length-le}
 use Rattle.im_names.specs.declared.key_kind.KeyKind.{KeyKind}
 use Rattle.im_names.specs.declared.key_kind.KeyKind.TheVariants.{Other}
-use Rattle.im_names.specs.Kinds.{kind_by, kind_in, with_byte, long_key, key_of_part}
+use Rattle.im_names.specs.Kinds.{kind_by, kind_by_bytes, with_byte, long_key, key_of_part}
 use Rattle.im_names.specs.Layout.{escape, escaped, front_of}
 
-pub kind_of_none : (key : List ℕ) → length key ≡ 0 → kind_in key ≡ Other
+pub kind_of_none : (key : List ℕ) → length key ≡ 0 → kind_by_bytes key ≡ Other
 kind_of_none [] e = refl
 kind_of_none (b ∷ key) e = absurd (omega arith)
 
-pub kind_of_some : (key : List ℕ) (d : ℕ) → 0 < length key → kind_in key ≡ kind_by (get_or key 0 d) (length key)
+pub kind_of_some : (key : List ℕ) (d : ℕ) → 0 < length key → kind_by_bytes key ≡ kind_by (get_or key 0 d) (length key)
 kind_of_some [] d l = absurd (omega arith)
 kind_of_some (b ∷ key) d l = ap (kind_by b) (let e : length key + 1 ≡ suc (length key) = omega arith in e)
 

@@ -13,9 +13,9 @@ use Rattle.im_names.specs.declared.reading.Found.{Found}
 use Rattle.im_names.specs.declared.reading.Found.TheVariants.{Nothing, Whole, Half}
 use Rattle.im_names.specs.declared.reading.Reading.{Reading}
 use Rattle.im_names.specs.Layout.{part_of, number_of}
-use Rattle.im_names.specs.Parts.{Entry, room_of, count_of, part_at, parts_from, parts_of}
-use Rattle.im_names.specs.Readings.{number_in, bytes_in, no_part, is_next, read_on, read_all, found_by, found_in, value_in}
-use Rattle.im_names.specs.LongValues.{IsSomeOf, IsRising, Write, after, Replaces, parts_or_none, FindsOneOf}
+use Rattle.im_names.specs.Parts.{Entry, room_of, count_of, long_part, parts_from, parts_of}
+use Rattle.im_names.specs.Readings.{part_number, bytes_in, no_part, is_next, read_on, read_all, found_by, found_among, value_in}
+use Rattle.im_names.specs.LongValues.{IsSomeOf, RisesByKey, Write, with_writes, Replaces, parts_or_none, FindsOneOf}
 use Rattle.im_names.proofs.KeyLemmas.{number_again, bytes_again, length_part}
 use Rattle.im_names.proofs.Orders.{parts_rise}
 use Rattle.im_names.proofs.PartLemmas.{begins_within}
@@ -59,8 +59,8 @@ pub record At (front value : List ℕ) (number : ℕ) (r : Reading) : Type 0 whe
 at_start : (front value : List ℕ) → At front value 0 no_part
 at_start front value = record { next = refl; good = refl; rest = inl refl }
 
-next_at : (front value : List ℕ) (number : ℕ) (r : Reading) → At front value number r → is_next (length front) r (part_at front value number) ≡ true
-unfolding part_at
+next_at : (front value : List ℕ) (number : ℕ) (r : Reading) → At front value number r → is_next (length front) r (long_part front value number) ≡ true
+unfolding long_part
 next_at front value number r at =
     let k = number * room_of (length front) in
     let key = part_of front number (carried front value number) in
@@ -69,14 +69,14 @@ next_at front value number r at =
     let left = length value - k in
     let a : not r.is_half ≡ true = not_from_false r.is_half at.good in
     let b : nat_le (length front + 3) (length key) ≡ true = le-leb (length front + 3) (length key) (omega arith) in
-    let d : (number_in (length front) key == r.number) ≡ true = eq-eqb (number_in (length front) key) r.number (number_again front (carried front value number) number ∙ sym at.next) in
+    let d : (part_number (length front) key == r.number) ≡ true = eq-eqb (part_number (length front) key) r.number (number_again front (carried front value number) number ∙ sym at.next) in
     let e : ((r.number == 0) || (left == r.left)) ≡ true =
     elim at.rest [ inl z ↦ or_left (r.number == 0) (left == r.left) (eq-eqb r.number 0 (at.next ∙ z)) | inr l ↦ or_right (r.number == 0) (left == r.left) (eq-eqb left r.left (sym l)) ] in
     let f : nat_le (length key - (length front + 3)) left ≡ true = le-leb (length key - (length front + 3)) left (omega arith) in
     let de = and_from ((r.number == 0) || (left == r.left)) (nat_le (length key - (length front + 3)) left) e f in
-    and_from (not r.is_half) (nat_le (length front + 3) (length key) && ((number_in (length front) key == r.number) && (((r.number == 0) || (left == r.left)) && nat_le (length key - (length front + 3)) left))) a
-    (and_from (nat_le (length front + 3) (length key)) ((number_in (length front) key == r.number) && (((r.number == 0) || (left == r.left)) && nat_le (length key - (length front + 3)) left)) b
-    (and_from (number_in (length front) key == r.number) (((r.number == 0) || (left == r.left)) && nat_le (length key - (length front + 3)) left) d de))
+    and_from (not r.is_half) (nat_le (length front + 3) (length key) && ((part_number (length front) key == r.number) && (((r.number == 0) || (left == r.left)) && nat_le (length key - (length front + 3)) left))) a
+    (and_from (nat_le (length front + 3) (length key)) ((part_number (length front) key == r.number) && (((r.number == 0) || (left == r.left)) && nat_le (length key - (length front + 3)) left)) b
+    (and_from (part_number (length front) key == r.number) (((r.number == 0) || (left == r.left)) && nat_le (length key - (length front + 3)) left) d de))
 
 abbrev gone_on : (front : ℕ) → Reading → Entry → Reading
 gone_on front r e = record { left = e.1 - (length e.0 - (front + 3)); number = r.number + 1; is_half = false }
@@ -84,10 +84,10 @@ gone_on front r e = record { left = e.1 - (length e.0 - (front + 3)); number = r
 abbrev refused : Reading → Reading
 refused r = record { left = r.left; number = r.number; is_half = true }
 
-step_at : (front value : List ℕ) (number : ℕ) (r : Reading) → At front value number r → At front value (number + 1) (read_on (length front) r (part_at front value number))
-unfolding part_at
+step_at : (front value : List ℕ) (number : ℕ) (r : Reading) → At front value number r → At front value (number + 1) (read_on (length front) r (long_part front value number))
+unfolding long_part
 step_at front value number r at =
-    let e = part_at front value number in
+    let e = long_part front value number in
     let key = part_of front number (carried front value number) in
     let long : length key ≡ length front + 3 + length (carried front value number) = length_part front (carried front value number) number in
     let c = length_carried front value number in
@@ -121,15 +121,15 @@ whole_from front value zero number r some at e =
     ] in
     found_later r at.good (subst (λ (m : ℕ). 0 < m) (sym at.next) begun) ∙ cond-true (r.left == 0) Whole Half (eq-eqb r.left 0 left)
 whole_from front value (suc count) number r some at e =
-    whole_from front value count (number + 1) (read_on (length front) r (part_at front value number)) some (step_at front value number r at) (omega arith)
+    whole_from front value count (number + 1) (read_on (length front) r (long_part front value number)) some (step_at front value number r at) (omega arith)
 
-pub whole : (front value : List ℕ) → 0 < room_of (length front) → found_in (length front) (parts_of front value) ≡ Whole
+pub whole : (front value : List ℕ) → 0 < room_of (length front) → found_among (length front) (parts_of front value) ≡ Whole
 unfolding parts_of
 whole front value some = whole_from front value (count_of (length front) (length value)) 0 no_part some (at_start front value) (omega arith)
 
 value_from : (front value : List ℕ) (count number : ℕ) → 0 < room_of (length front) → number + count ≡ count_of (length front) (length value)
     → value_in (length front) (parts_from front value count number) ≡ drop (number * room_of (length front)) value
-unfolding part_at
+unfolding long_part
 value_from front value zero number some e =
     let n : number ≡ count_of (length front) (length value) = omega arith in
     sym (drop_of_length-le value {i = number * room_of (length front)} (subst (λ (m : ℕ). length value ≤ m * room_of (length front)) (sym n) (all_covered (length front) (length value) some)))
@@ -155,23 +155,23 @@ half_read front r e h = ap (λ (x : Reading). x.is_half) (cond-false (is_next fr
 half_stays : (front : ℕ) (r : Reading) (es : List Entry) → r.is_half ≡ true → found_by (read_all front r es) ≡ Half
 half_stays front r [] h = cond-true r.is_half Half (cond (r.number == 0) Nothing (cond (r.left == 0) Whole Half)) h
 half_stays front r (e ∷ es) h =
-    half_stays front (read_on front r e) es (half_read front r e (and_left (not r.is_half) (nat_le (front + 3) (length e.0) && ((number_in front e.0 == r.number) && (((r.number == 0) || (e.1 == r.left)) && nat_le (length e.0 - (front + 3)) e.1))) (not_from_true r.is_half h)))
+    half_stays front (read_on front r e) es (half_read front r e (and_left (not r.is_half) (nat_le (front + 3) (length e.0) && ((part_number front e.0 == r.number) && (((r.number == 0) || (e.1 == r.left)) && nat_le (length e.0 - (front + 3)) e.1))) (not_from_true r.is_half h)))
 
 -- an entry of a later number is not the next part
-not_next : (front : ℕ) (r : Reading) (e : Entry) → number_in front e.0 ≢ r.number → is_next front r e ≡ false
+not_next : (front : ℕ) (r : Reading) (e : Entry) → part_number front e.0 ≢ r.number → is_next front r e ≡ false
 not_next front r e apart =
     let c = ((r.number == 0) || (e.1 == r.left)) && nat_le (length e.0 - (front + 3)) e.1 in
-    and_right (not r.is_half) (nat_le (front + 3) (length e.0) && ((number_in front e.0 == r.number) && c))
-    (and_right (nat_le (front + 3) (length e.0)) ((number_in front e.0 == r.number) && c) (and_left (number_in front e.0 == r.number) c (ne_eqb (number_in front e.0) r.number apart)))
+    and_right (not r.is_half) (nat_le (front + 3) (length e.0) && ((part_number front e.0 == r.number) && c))
+    (and_right (nat_le (front + 3) (length e.0)) ((part_number front e.0 == r.number) && c) (and_left (part_number front e.0 == r.number) c (ne_eqb (part_number front e.0) r.number apart)))
 
-later : (front value : List ℕ) (count number : ℕ) (e : Entry) (es : List Entry) → IsSomeOf (e ∷ es) (parts_from front value count number) → number ≤ number_in (length front) e.0
-unfolding part_at
+later : (front value : List ℕ) (count number : ℕ) (e : Entry) (es : List Entry) → IsSomeOf (e ∷ es) (parts_from front value count number) → number ≤ part_number (length front) e.0
+unfolding long_part
 later front value zero number e es is = absurd (cc is)
 later front value (suc count) number e es is =
     elim is [
       | inl s ↦ (let l = later front value count (number + 1) e es s in omega arith)
-      | inr r ↦ (let same : e ≡ part_at front value number = (let q : e ∷ es ≡ part_at front value number ∷ r.0 = r.1.0 in cc) in
-          let n : number_in (length front) e.0 ≡ number = ap (λ (x : Entry). number_in (length front) x.0) same ∙ number_again front (carried front value number) number in omega arith)
+      | inr r ↦ (let same : e ≡ long_part front value number = (let q : e ∷ es ≡ long_part front value number ∷ r.0 = r.1.0 in cc) in
+          let n : part_number (length front) e.0 ≡ number = ap (λ (x : Entry). part_number (length front) x.0) same ∙ number_again front (carried front value number) number in omega arith)
     ]
 
 -- before all parts are read, no whole value is found
@@ -191,19 +191,19 @@ only_all_from front value zero number es r some at e is found = is
 only_all_from front value (suc count) number es r some at e is found =
     elim is [
       | inl s ↦ absurd (by es s found)
-      | inr x ↦ (let rest = only_all_from front value count (number + 1) x.0 (read_on (length front) r (part_at front value number)) some (step_at front value number r at) (omega arith) x.1.1
+      | inr x ↦ (let rest = only_all_from front value count (number + 1) x.0 (read_on (length front) r (long_part front value number)) some (step_at front value number r at) (omega arith) x.1.1
           (subst (λ (l : List Entry). found_by (read_all (length front) r l) ≡ Whole) x.1.0 found) in
-          x.1.0 ∙ ap (λ (l : List Entry). part_at front value number ∷ l) rest)
+          x.1.0 ∙ ap (λ (l : List Entry). long_part front value number ∷ l) rest)
     ]
   where
     by : (l : List Entry) → IsSomeOf l (parts_from front value count (number + 1)) → found_by (read_all (length front) r l) ≡ Whole → ⊥
     by [] s f = not_yet front value number r some at (omega arith) f
     by (x ∷ l) s f =
         let n = later front value count (number + 1) x l s in
-        let bad = half_read (length front) r x (not_next (length front) r x (λ q. (let same : number_in (length front) x.0 ≡ r.number = q in let at_number = at.next in omega arith))) in
+        let bad = half_read (length front) r x (not_next (length front) r x (λ q. (let same : part_number (length front) x.0 ≡ r.number = q in let at_number = at.next in omega arith))) in
         absurd (cc (sym (half_stays (length front) (read_on (length front) r x) l bad) ∙ f))
 
-pub only_all : (front value : List ℕ) (es : List Entry) → 0 < room_of (length front) → IsSomeOf es (parts_of front value) → found_in (length front) es ≡ Whole → es ≡ parts_of front value
+pub only_all : (front value : List ℕ) (es : List Entry) → 0 < room_of (length front) → IsSomeOf es (parts_of front value) → found_among (length front) es ≡ Whole → es ≡ parts_of front value
 unfolding parts_of
 only_all front value es some is found =
     only_all_from front value (count_of (length front) (length value)) 0 es no_part some (at_start front value) (omega arith) is found
@@ -227,7 +227,7 @@ begun_stays front (x ∷ es) r begun e =
     by true = omega arith
     by false = begun
 
-pub only_none : (front : ℕ) (es : List Entry) → found_in front es ≡ Nothing → es ≡ []
+pub only_none : (front : ℕ) (es : List Entry) → found_among front es ≡ Nothing → es ≡ []
 only_none front [] found = refl
 only_none front (x ∷ es) found =
     elim (cases_Bool (is_next front no_part x)) [
@@ -236,44 +236,44 @@ only_none front (x ∷ es) found =
       | inr f ↦ absurd (cc (sym (half_stays front (read_on front no_part x) es (half_read front no_part x f)) ∙ found))
     ]
 
-pub nothing_of_none : (front : ℕ) → found_in front [] ≡ Nothing
+pub nothing_of_none : (front : ℕ) → found_among front [] ≡ Nothing
 nothing_of_none front = refl
 
 -- ---- parts rise, and a writer's changes
 
-above : (front value : List ℕ) (count number m : ℕ) → m < number → AllByRecursion (λ (x : Entry). key_order (part_at front value m).0 x.0 ≡ Less) (parts_from front value count number)
-unfolding part_at
+above : (front value : List ℕ) (count number m : ℕ) → m < number → AllByRecursion (λ (x : Entry). key_order (long_part front value m).0 x.0 ≡ Less) (parts_from front value count number)
+unfolding long_part
 above front value zero number m l = tt
 above front value (suc count) number m l = (parts_rise front m number (carried front value m) (carried front value number) l, above front value count (number + 1) m (omega arith))
 
-rising_from : (front value : List ℕ) (count number : ℕ) → IsRising (parts_from front value count number)
+rising_from : (front value : List ℕ) (count number : ℕ) → RisesByKey (parts_from front value count number)
 rising_from front value zero number = tt
 rising_from front value (suc count) number = (above front value count (number + 1) number (omega arith), rising_from front value count (number + 1))
 
-pub rising : (front value : List ℕ) → IsRising (parts_of front value)
+pub rising : (front value : List ℕ) → RisesByKey (parts_of front value)
 unfolding parts_of
 rising front value = rising_from front value (count_of (length front) (length value)) 0
 
-pub rising_or_none : (front : List ℕ) (value : Option (List ℕ)) → IsRising (parts_or_none front value)
+pub rising_or_none : (front : List ℕ) (value : Option (List ℕ)) → RisesByKey (parts_or_none front value)
 rising_or_none front None = tt
 rising_or_none front (Some value) = rising front value
 
 -- some parts of a value are it, none, or half
-some_found : (front : List ℕ) (value : Option (List ℕ)) (es : List Entry) → 0 < room_of (length front) → IsSomeOf es (parts_or_none front value) → found_in (length front) es ≡ Whole → value ≡ Some (value_in (length front) es)
-some_found front None es some is found = absurd (cc (sym (nothing_of_none (length front)) ∙ ap (found_in (length front)) (sym is) ∙ found))
+some_found : (front : List ℕ) (value : Option (List ℕ)) (es : List Entry) → 0 < room_of (length front) → IsSomeOf es (parts_or_none front value) → found_among (length front) es ≡ Whole → value ≡ Some (value_in (length front) es)
+some_found front None es some is found = absurd (cc (sym (nothing_of_none (length front)) ∙ ap (found_among (length front)) (sym is) ∙ found))
 some_found front (Some value) es some is found = ap Some (sym (ap (value_in (length front)) (only_all front value es some is found) ∙ value_again front value some))
 
-one_found : (front : List ℕ) (old new : Option (List ℕ)) (es : List Entry) → (found_in (length front) es ≡ Whole → (old ≡ Some (value_in (length front) es)) ⊎ (new ≡ Some (value_in (length front) es))) → FindsOneOf front old new es
-one_found front old new es whose = by (found_in (length front) es) refl
+one_found : (front : List ℕ) (old new : Option (List ℕ)) (es : List Entry) → (found_among (length front) es ≡ Whole → (old ≡ Some (value_in (length front) es)) ⊎ (new ≡ Some (value_in (length front) es))) → FindsOneOf front old new es
+one_found front old new es whose = by (found_among (length front) es) refl
   where
-    by : (f : Found) → found_in (length front) es ≡ f → FindsOneOf front old new es
+    by : (f : Found) → found_among (length front) es ≡ f → FindsOneOf front old new es
     by Half e = inl e
     by Nothing e = inr (inl e)
     by Whole e = inr (inr (e, whose e))
 
 pub one_of_both : (front : List ℕ) (old new : Option (List ℕ)) (outs ins : List Write) (n : ℕ) → 0 < room_of (length front) → Replaces (parts_or_none front old) (parts_or_none front new) outs ins
-    → FindsOneOf front old new (after (take n (outs ++ ins)) (parts_or_none front old))
+    → FindsOneOf front old new (with_writes (take n (outs ++ ins)) (parts_or_none front old))
 one_of_both front old new outs ins n some r =
-    let there = after (take n (outs ++ ins)) (parts_or_none front old) in
+    let there = with_writes (take n (outs ++ ins)) (parts_or_none front old) in
     let m = moment outs ins (parts_or_none front old) (parts_or_none front new) (rising_or_none front old) (rising_or_none front new) r n in
     one_found front old new there (λ f. elim m [ inl a ↦ inl (some_found front old there some a f) | inr b ↦ inr (some_found front new there some b f) ])

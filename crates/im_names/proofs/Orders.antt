@@ -8,7 +8,7 @@ use Rattle.std.specs.Cmp.{ranks}
 use Rattle.std.proofs.lemmas.Cmp.{tied_itself, nat_cmp_total}
 use Rattle.im_base_types.specs.Keys.{key_order}
 use Rattle.im_names.specs.Layout.{escape, escaped, number_of, part_of}
-use Rattle.im_names.specs.Ranges.{LiesIn, Begins, IsBytes}
+use Rattle.im_names.specs.Ranges.{LiesIn, HasPrefix, AreBytes}
 
 is_less : (x y : ℕ) (r : Ordering) → MatchOrdering r (x < y) (x ≡ y) (y < x) → x < y → r ≡ Less
 is_less x y Less h l = refl
@@ -102,7 +102,7 @@ escaped_rise (suc c ∷ one) (suc d ∷ other) b xs ys small h =
 -- ---- ranges
 
 -- bytes are at most as many of FF
-pub under_ff : (n : ℕ) (xs : List ℕ) → length xs ≤ n → IsBytes xs → key_order xs (replicate n 255) ≢ Greater
+pub under_ff : (n : ℕ) (xs : List ℕ) → length xs ≤ n → AreBytes xs → key_order xs (replicate n 255) ≢ Greater
 under_ff zero [] room all e = absurd cc
 under_ff (suc n) [] room all e = absurd cc
 under_ff zero (b ∷ xs) room all e = absurd (omega arith)

@@ -12,7 +12,7 @@ use Rattle.std.proofs.lemmas.Cmp.{nat_list_cmp_total, tied_itself}
 use Rattle.im_base_types.specs.Keys.{key_order}
 use Rattle.im_base_types.specs.Maps.{with_key, without_key}
 use Rattle.im_names.specs.Parts.{Entry}
-use Rattle.im_names.specs.LongValues.{IsSomeOf, IsOneOf, IsRising, Write, TakeOut, PutIn, written, after, IsOut, IsIn, Replaces, all_in, all_out}
+use Rattle.im_names.specs.LongValues.{IsSomeOf, IsOneOf, RisesByKey, Write, TakeOut, PutIn, with_write, with_writes, IsOut, IsPutIn, Replaces, all_put_in, all_taken_out}
 
 pub all_of : (all : List Entry) → IsSomeOf all all
 all_of [] = refl
@@ -66,7 +66,7 @@ put_before : (e : Entry) (some : List Entry) → AllByRecursion (λ x. key_order
 put_before e [] each = refl
 put_before e (x ∷ some) each = put_first e x some each.0
 
-pub some_with : (e : Entry) (all some : List Entry) → IsRising all → IsOneOf e all → IsSomeOf some all → IsSomeOf (with_key e.0 e.1 some) all
+pub some_with : (e : Entry) (all some : List Entry) → RisesByKey all → IsOneOf e all → IsSomeOf some all → IsSomeOf (with_key e.0 e.1 some) all
 some_with e [] some rising one is = absurd one
 some_with e (x ∷ all) some rising one is =
     elim one [
@@ -82,11 +82,11 @@ some_with e (x ∷ all) some rising one is =
 
 -- ---- several, in turn
 
-pub out_some : (w : Write) (all some : List Entry) → IsOut w → IsSomeOf some all → IsSomeOf (written some w) all
+pub out_some : (w : Write) (all some : List Entry) → IsOut w → IsSomeOf some all → IsSomeOf (with_write some w) all
 out_some (TakeOut key) all some out is = some_without (λ x. not (eq_by_cmp key_order key x)) all some is
 out_some (PutIn e) all some out is = absurd out
 
-pub ins_some : (ws : List Write) (all some : List Entry) → IsRising all → AllByRecursion (IsIn all) ws → IsSomeOf some all → IsSomeOf (after ws some) all
+pub ins_some : (ws : List Write) (all some : List Entry) → RisesByKey all → AllByRecursion (IsPutIn all) ws → IsSomeOf some all → IsSomeOf (with_writes ws some) all
 ins_some [] all some rising each is = is
 ins_some (TakeOut key ∷ ws) all some rising each is = absurd each.0
 ins_some (PutIn e ∷ ws) all some rising each is = ins_some ws all (with_key e.0 e.1 some) rising each.1 (some_with e all some rising each.0 is)
@@ -102,12 +102,12 @@ each_taken P (suc n) (w ∷ ws) each = (each.0, each_taken P n ws each.1)
 not_below_itself : (key : List ℕ) → key_order key key ≡ Less → ⊥
 not_below_itself key l = cc (sym (tied_itself nat_list_cmp_total key) ∙ l)
 
-pub some_rises : (all some : List Entry) → IsRising all → IsSomeOf some all → IsRising some
-some_rises [] some rising is = subst IsRising (sym is) tt
+pub some_rises : (all some : List Entry) → RisesByKey all → IsSomeOf some all → RisesByKey some
+some_rises [] some rising is = subst RisesByKey (sym is) tt
 some_rises (e ∷ all) some rising is =
     elim is [
       | inl s ↦ some_rises all some rising.1 s
-      | inr r ↦ subst IsRising (sym r.1.0) (each_of (λ x. key_order e.0 x.0 ≡ Less) all r.0 rising.0 r.1.1, some_rises all r.0 rising.1 r.1.1)
+      | inr r ↦ subst RisesByKey (sym r.1.0) (each_of (λ x. key_order e.0 x.0 ≡ Less) all r.0 rising.0 r.1.1, some_rises all r.0 rising.1 r.1.1)
     ]
 
 -- what is above the first is one of the others
@@ -122,7 +122,7 @@ above_both a b [] l high = tt
 above_both a b (x ∷ some) l high = (nat_list_cmp_total.trans a b x.0 l high.0, above_both a b some l high.1)
 
 -- rising entries, each of them one of these, are some of these in their order
-pub rising_some : (all some : List Entry) → IsRising all → IsRising some → AllByRecursion (λ x. IsOneOf x all) some → IsSomeOf some all
+pub rising_some : (all some : List Entry) → RisesByKey all → RisesByKey some → AllByRecursion (λ x. IsOneOf x all) some → IsSomeOf some all
 rising_some [] [] rising also each = refl
 rising_some [] (x ∷ some) rising also each = absurd each.0
 rising_some (e ∷ all) [] rising also each = inl (none_of all)
@@ -142,18 +142,18 @@ rising_some (e ∷ all) (x ∷ some) rising also each =
 
 -- ---- the plainest writer
 
-pub outs_only : (es : List Entry) → AllByRecursion IsOut (all_out es)
+pub outs_only : (es : List Entry) → AllByRecursion IsOut (all_taken_out es)
 outs_only [] = tt
 outs_only (e ∷ es) = (tt, outs_only es)
 
-weaker : (e : Entry) (all : List Entry) (ws : List Write) → AllByRecursion (IsIn all) ws → AllByRecursion (IsIn (e ∷ all)) ws
+weaker : (e : Entry) (all : List Entry) (ws : List Write) → AllByRecursion (IsPutIn all) ws → AllByRecursion (IsPutIn (e ∷ all)) ws
 weaker e all [] each = tt
 weaker e all (TakeOut key ∷ ws) each = absurd each.0
 weaker e all (PutIn x ∷ ws) each = (inr each.0, weaker e all ws each.1)
 
-pub ins_only : (es : List Entry) → AllByRecursion (IsIn es) (all_in es)
+pub ins_only : (es : List Entry) → AllByRecursion (IsPutIn es) (all_put_in es)
 ins_only [] = tt
-ins_only (e ∷ es) = (inl refl, weaker e es (all_in es) (ins_only es))
+ins_only (e ∷ es) = (inl refl, weaker e es (all_put_in es) (ins_only es))
 
 -- a key is taken out of those above it
 out_above : (key : List ℕ) (es : List Entry) → AllByRecursion (λ x. key_order key x.0 ≡ Less) es → without_key key es ≡ es
@@ -161,10 +161,10 @@ out_above key [] high = refl
 out_above key (x ∷ es) high =
     ap (λ (o : Ordering). cond (not (is_eq o)) (x ∷ without_key key es) (without_key key es)) high.0 ∙ ap (λ (l : List Entry). x ∷ l) (out_above key es high.1)
 
-pub none_left : (es : List Entry) → IsRising es → after (all_out es) es ≡ []
+pub none_left : (es : List Entry) → RisesByKey es → with_writes (all_taken_out es) es ≡ []
 none_left [] rising = refl
 none_left (e ∷ es) rising =
-    ap (after (all_out es)) (ap (λ (o : Ordering). cond (not (is_eq o)) (e ∷ without_key e.0 es) (without_key e.0 es)) (tied_itself nat_list_cmp_total e.0) ∙ out_above e.0 es rising.0)
+    ap (with_writes (all_taken_out es)) (ap (λ (o : Ordering). cond (not (is_eq o)) (e ∷ without_key e.0 es) (without_key e.0 es)) (tied_itself nat_list_cmp_total e.0) ∙ out_above e.0 es rising.0)
     ∙ none_left es rising.1
 
 -- one more is put after those below it
@@ -172,7 +172,7 @@ put_last : (e : Entry) (es : List Entry) → AllByRecursion (λ x. key_order x.0
 put_last e [] low = refl
 put_last e (x ∷ es) low = put_later e x es low.0 ∙ ap (λ (l : List Entry). x ∷ l) (put_last e es low.1)
 
-first_below : (es : List Entry) (e : Entry) (more : List Entry) → IsRising (es ++ (e ∷ more)) → AllByRecursion (λ x. key_order x.0 e.0 ≡ Less) es
+first_below : (es : List Entry) (e : Entry) (more : List Entry) → RisesByKey (es ++ (e ∷ more)) → AllByRecursion (λ x. key_order x.0 e.0 ≡ Less) es
 first_below [] e more rising = tt
 first_below (x ∷ es) e more rising = (one_of (λ y. key_order x.0 y.0 ≡ Less) (es ++ (e ∷ more)) e rising.0 (there es), first_below es e more rising.1)
   where
@@ -180,39 +180,39 @@ first_below (x ∷ es) e more rising = (one_of (λ y. key_order x.0 y.0 ≡ Less
     there [] = inl refl
     there (y ∷ l) = inr (there l)
 
-pub all_put : (more es : List Entry) → IsRising (es ++ more) → after (all_in more) es ≡ es ++ more
+pub all_put : (more es : List Entry) → RisesByKey (es ++ more) → with_writes (all_put_in more) es ≡ es ++ more
 all_put [] es rising = sym (append-nil es)
 all_put (e ∷ more) es rising =
-    ap (after (all_in more)) (put_last e es (first_below es e more rising))
-    ∙ all_put more (es ++ (e ∷ [])) (subst IsRising (sym (append_assoc es (e ∷ []) more)) rising) ∙ append_assoc es (e ∷ []) more
+    ap (with_writes (all_put_in more)) (put_last e es (first_below es e more rising))
+    ∙ all_put more (es ++ (e ∷ [])) (subst RisesByKey (sym (append_assoc es (e ∷ []) more)) rising) ∙ append_assoc es (e ∷ []) more
 
-pub after_both : (ws more : List Write) (es : List Entry) → after (ws ++ more) es ≡ after more (after ws es)
+pub after_both : (ws more : List Write) (es : List Entry) → with_writes (ws ++ more) es ≡ with_writes more (with_writes ws es)
 after_both [] more es = refl
-after_both (w ∷ ws) more es = after_both ws more (written es w)
+after_both (w ∷ ws) more es = after_both ws more (with_write es w)
 
 -- at each moment some of the one value are there, or some of the other
-moment_from : (outs ins : List Write) (old new some : List Entry) → IsRising new → AllByRecursion IsOut outs → AllByRecursion (IsIn new) ins → IsSomeOf some old → IsSomeOf (after outs some) new → (n : ℕ)
-    → IsSomeOf (after (take n (outs ++ ins)) some) old ⊎ IsSomeOf (after (take n (outs ++ ins)) some) new
-moment_from [] ins old new some rising out each is kept n = inr (ins_some (take n ins) new some rising (each_taken (IsIn new) n ins each) kept)
+moment_from : (outs ins : List Write) (old new some : List Entry) → RisesByKey new → AllByRecursion IsOut outs → AllByRecursion (IsPutIn new) ins → IsSomeOf some old → IsSomeOf (with_writes outs some) new → (n : ℕ)
+    → IsSomeOf (with_writes (take n (outs ++ ins)) some) old ⊎ IsSomeOf (with_writes (take n (outs ++ ins)) some) new
+moment_from [] ins old new some rising out each is kept n = inr (ins_some (take n ins) new some rising (each_taken (IsPutIn new) n ins each) kept)
 moment_from (w ∷ outs) ins old new some rising out each is kept zero = inl is
-moment_from (w ∷ outs) ins old new some rising out each is kept (suc n) = moment_from outs ins old new (written some w) rising out.1 each (out_some w old some out.0 is) kept n
+moment_from (w ∷ outs) ins old new some rising out each is kept (suc n) = moment_from outs ins old new (with_write some w) rising out.1 each (out_some w old some out.0 is) kept n
 
-outs_some : (ws : List Write) (all some : List Entry) → AllByRecursion IsOut ws → IsSomeOf some all → IsSomeOf (after ws some) all
+outs_some : (ws : List Write) (all some : List Entry) → AllByRecursion IsOut ws → IsSomeOf some all → IsSomeOf (with_writes ws some) all
 outs_some [] all some out is = is
-outs_some (w ∷ ws) all some out is = outs_some ws all (written some w) out.1 (out_some w all some out.0 is)
+outs_some (w ∷ ws) all some out is = outs_some ws all (with_write some w) out.1 (out_some w all some out.0 is)
 
-pub moment : (outs ins : List Write) (old new : List Entry) → IsRising old → IsRising new → Replaces old new outs ins → (n : ℕ)
-    → IsSomeOf (after (take n (outs ++ ins)) old) old ⊎ IsSomeOf (after (take n (outs ++ ins)) old) new
+pub moment : (outs ins : List Write) (old new : List Entry) → RisesByKey old → RisesByKey new → Replaces old new outs ins → (n : ℕ)
+    → IsSomeOf (with_writes (take n (outs ++ ins)) old) old ⊎ IsSomeOf (with_writes (take n (outs ++ ins)) old) new
 moment outs ins old new rising also r n =
-    let left = some_rises old (after outs old) rising (outs_some outs old old r.first_out (all_of old)) in
-    moment_from outs ins old new old also r.first_out r.then_in (all_of old) (rising_some new (after outs old) also left r.of_new) n
+    let left = some_rises old (with_writes outs old) rising (outs_some outs old old r.first_out (all_of old)) in
+    moment_from outs ins old new old also r.first_out r.then_in (all_of old) (rising_some new (with_writes outs old) also left r.of_new) n
 
-pub plain : (old new : List Entry) → IsRising old → Replaces old new (all_out old) (all_in new)
+pub plain : (old new : List Entry) → RisesByKey old → Replaces old new (all_taken_out old) (all_put_in new)
 plain old new rising = record {
   first_out = outs_only old;
   then_in = ins_only new;
   of_new = subst (AllByRecursion (λ e. IsOneOf e new)) (sym (none_left old rising)) tt;
 }
 
-pub plain_ends : (old new : List Entry) → IsRising old → IsRising new → after (all_out old ++ all_in new) old ≡ new
-plain_ends old new rising also = after_both (all_out old) (all_in new) old ∙ ap (after (all_in new)) (none_left old rising) ∙ all_put new [] also
+pub plain_ends : (old new : List Entry) → RisesByKey old → RisesByKey new → with_writes (all_taken_out old ++ all_put_in new) old ≡ new
+plain_ends old new rising also = after_both (all_taken_out old) (all_put_in new) old ∙ ap (with_writes (all_put_in new)) (none_left old rising) ∙ all_put new [] also

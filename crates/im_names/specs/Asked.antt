@@ -2,7 +2,7 @@
 use Rattle.std.specs.Prelude.{ℕ, suc, zero, ◌+◌, Bool, ◌&&◌, nat_le, cond, List, [], ◌∷◌, ◌++◌, length, Option, Some, None}
 use Rattle.im_names.specs.declared.which.Which.{Which}
 use Rattle.im_names.specs.declared.which.Which.TheVariants.{Row, Guard, Entry, First, Last, Front, End}
-use Rattle.im_names.specs.Layout.{prefix_of, row_of, entry_of, guard_of, front_of, filled, escaped}
+use Rattle.im_names.specs.Layout.{prefix_of, catalogue_key, entry_of, guard_of, front_of, filled, escaped}
 
 -- by its number, as C has it
 abbrev pub which_at : ℕ → Option Which
@@ -20,18 +20,18 @@ abbrev pub is_name : List ℕ → Bool
 is_name name = nat_le 1 (length name) && nat_le (length name) 31
 
 -- whether it fits, under a name and with a key
-abbrev pub fits : Which → (name key : List ℕ) → Bool
-fits Row name key = is_name name
-fits Guard name key = nat_le (length name) 31
-fits Entry name key = is_name name && nat_le 1 (length key) && (nat_le (length name) 31 && nat_le (length name + length key) 253)
-fits First name key = nat_le (length name) 31 && nat_le (length name + length key) 253
-fits Last name key = nat_le (length name) 31 && nat_le (length name + length key) 253
-fits Front name key = is_name name && nat_le 1 (length key) && nat_le (length name + length (escaped key)) 217
-fits End name key = is_name name && nat_le 1 (length key) && nat_le (length name + length (escaped key)) 217
+abbrev pub key_fits : Which → (name key : List ℕ) → Bool
+key_fits Row name key = is_name name
+key_fits Guard name key = nat_le (length name) 31
+key_fits Entry name key = is_name name && nat_le 1 (length key) && (nat_le (length name) 31 && nat_le (length name + length key) 253)
+key_fits First name key = nat_le (length name) 31 && nat_le (length name + length key) 253
+key_fits Last name key = nat_le (length name) 31 && nat_le (length name + length key) 253
+key_fits Front name key = is_name name && nat_le 1 (length key) && nat_le (length name + length (escaped key)) 217
+key_fits End name key = is_name name && nat_le 1 (length key) && nat_le (length name + length (escaped key)) 217
 
 -- its bytes
 abbrev pub spelled : Which → (name key : List ℕ) → List ℕ
-spelled Row name key = row_of name
+spelled Row name key = catalogue_key name
 spelled Guard name key = guard_of name
 spelled Entry name key = entry_of name key
 spelled First name key = prefix_of name ++ key
@@ -41,7 +41,7 @@ spelled End name key = filled 255 (front_of name key ++ (254 ∷ []))
 
 -- them where it fits, and else none: no key has no byte
 abbrev pub key_asked : Which → (name key : List ℕ) → List ℕ
-key_asked which name key = cond (fits which name key) (spelled which name key) []
+key_asked which name key = cond (key_fits which name key) (spelled which name key) []
 
 -- the same by its number, as C has it; none of a number that is none's
 abbrev pub key_by : Option Which → (name key : List ℕ) → List ℕ

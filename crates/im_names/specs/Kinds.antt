@@ -9,9 +9,9 @@ kind_by first size =
     cond (nat_lt 31 first) Own (cond (size == 255) Guard (cond (first == 0) (cond (nat_le 2 size && nat_le size 32) Row Other) (cond (nat_lt (first + 1) size && nat_lt size 255) Named Other)))
 
 -- no byte is no key
-abbrev pub kind_in : List ℕ → KeyKind
-kind_in [] = Other
-kind_in (first ∷ rest) = kind_by first (length rest + 1)
+abbrev pub kind_by_bytes : List ℕ → KeyKind
+kind_by_bytes [] = Other
+kind_by_bytes (first ∷ rest) = kind_by first (length rest + 1)
 
 -- a byte more in front of a key that was read
 abbrev pub with_byte : ℕ → Option (List ℕ × List ℕ) → Option (List ℕ × List ℕ)

@@ -7,8 +7,8 @@ abbrev pub prefix_of : (name : List ℕ) → List ℕ
 prefix_of name = length name ∷ name
 
 -- a name in the catalogue
-abbrev pub row_of : (name : List ℕ) → List ℕ
-row_of name = prefix_of [] ++ name
+abbrev pub catalogue_key : (name : List ℕ) → List ℕ
+catalogue_key name = prefix_of [] ++ name
 
 -- an entry of an index
 abbrev pub entry_of : (name key : List ℕ) → List ℕ

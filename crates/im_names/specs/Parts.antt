@@ -22,13 +22,13 @@ abbrev pub count_asked : (front size : ℕ) → Option ℕ
 count_asked front size = cond (can_be_parted front size) (Some (count_of front size)) None
 
 -- one of them
-unfoldable pub part_at : (front : List ℕ) (value : List ℕ) (number : ℕ) → Entry
-part_at front value number = (part_of front number (take (room_of (length front)) (drop (number * room_of (length front)) value)), length value - number * room_of (length front))
+unfoldable pub long_part : (front : List ℕ) (value : List ℕ) (number : ℕ) → Entry
+long_part front value number = (part_of front number (take (room_of (length front)) (drop (number * room_of (length front)) value)), length value - number * room_of (length front))
 
 -- so many, from a number on
 abbrev pub parts_from : (front value : List ℕ) (count number : ℕ) → List Entry
 parts_from front value zero number = []
-parts_from front value (suc count) number = part_at front value number ∷ parts_from front value count (number + 1)
+parts_from front value (suc count) number = long_part front value number ∷ parts_from front value count (number + 1)
 
 -- all of them
 unfoldable pub parts_of : (front value : List ℕ) → List Entry
@@ -40,4 +40,4 @@ has_part front size number = can_be_parted front size && nat_lt number (count_of
 
 -- it, where it is there
 abbrev pub part_asked : (front value : List ℕ) (number : ℕ) → Option Entry
-part_asked front value number = cond (has_part (length front) (length value) number) (Some (part_at front value number)) None
+part_asked front value number = cond (has_part (length front) (length value) number) (Some (long_part front value number)) None

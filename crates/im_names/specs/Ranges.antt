@@ -9,9 +9,9 @@ abbrev pub LiesIn : (lo hi key : List ℕ) → Type 0
 LiesIn lo hi key = (key_order key lo ≢ Less) × (key_order key hi ≢ Greater)
 
 -- a key begins with these bytes
-abbrev pub Begins : (bytes key : List ℕ) → Type 0
-Begins bytes key = (rest : List ℕ) × (key ≡ bytes ++ rest)
+abbrev pub HasPrefix : (bytes key : List ℕ) → Type 0
+HasPrefix bytes key = (rest : List ℕ) × (key ≡ bytes ++ rest)
 
 -- each is a byte
-abbrev pub IsBytes : List ℕ → Type 0
-IsBytes bytes = AllByRecursion (λ b. b < 256) bytes
+abbrev pub AreBytes : List ℕ → Type 0
+AreBytes bytes = AllByRecursion (λ b. b < 256) bytes

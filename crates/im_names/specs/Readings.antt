@@ -7,8 +7,8 @@ use Rattle.im_names.specs.declared.reading.Reading.{Reading}
 use Rattle.im_names.specs.Parts.{Entry}
 
 -- the number of a part, after a front of so many bytes
-unfoldable pub number_in : (front : ℕ) → List ℕ → ℕ
-number_in front key = slice_index key front * 65536 + slice_index key (front + 1) * 256 + slice_index key (front + 2)
+unfoldable pub part_number : (front : ℕ) → List ℕ → ℕ
+part_number front key = slice_index key front * 65536 + slice_index key (front + 1) * 256 + slice_index key (front + 2)
 
 -- what a part carries of its value
 abbrev pub bytes_in : (front : ℕ) → List ℕ → List ℕ
@@ -21,7 +21,7 @@ no_part = record { left = 0; number = 0; is_half = false }
 -- whether an entry is the next part: it has the next number, says as many bytes as are left, and carries no more
 abbrev pub is_next : (front : ℕ) → Reading → Entry → Bool
 is_next front r e =
-    not r.is_half && (nat_le (front + 3) (length e.0) && ((number_in front e.0 == r.number) && (((r.number == 0) || (e.1 == r.left)) && nat_le (length e.0 - (front + 3)) e.1)))
+    not r.is_half && (nat_le (front + 3) (length e.0) && ((part_number front e.0 == r.number) && (((r.number == 0) || (e.1 == r.left)) && nat_le (length e.0 - (front + 3)) e.1)))
 
 -- one more entry
 abbrev pub read_on : (front : ℕ) → Reading → Entry → Reading
@@ -37,8 +37,8 @@ abbrev pub found_by : Reading → Found
 found_by r = cond r.is_half Half (cond (r.number == 0) Nothing (cond (r.left == 0) Whole Half))
 
 -- what the parts of a range say
-abbrev pub found_in : (front : ℕ) → List Entry → Found
-found_in front es = found_by (read_all front no_part es)
+abbrev pub found_among : (front : ℕ) → List Entry → Found
+found_among front es = found_by (read_all front no_part es)
 
 -- the bytes that they carry, joined
 abbrev pub value_in : (front : ℕ) → List Entry → List ℕ

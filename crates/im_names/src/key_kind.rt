@@ -1,6 +1,6 @@
 //! Which kind is a key?
 ghost use Rattle.std.specs.Prelude.{◌≡◌, ◌≤◌, length};
-ghost use Rattle.im_names.specs.Kinds.{kind_by, kind_in};
+ghost use Rattle.im_names.specs.Kinds.{kind_by, kind_by_bytes};
 
 use crate::{LONGEST_KEY, LONGEST_NAME};
 
@@ -43,7 +43,7 @@ fn kind_by(first: u8, size: usize) -> KeyKind
 /// The kind of a key.
 #[tactic(auto, using(crate::proofs::KindLemmas::kind_of_none, crate::proofs::KindLemmas::kind_of_some))]
 pub fn kind_of(key: &[u8]) -> KeyKind
-    ensures { result ≡ kind_in key.now }
+    ensures { result ≡ kind_by_bytes key.now }
 {
     if key.is_empty() {
         return KeyKind::Other;

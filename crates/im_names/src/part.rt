@@ -1,6 +1,6 @@
 //! The parts of a long value.
 ghost use Rattle.std.specs.Prelude.{◌≡◌, ◌≤◌, ◌<◌, ◌+◌, length, take, true, MatchOption, Some, None, IfSome};
-ghost use Rattle.im_names.specs.Parts.{can_be_parted, count_asked, count_of, has_part, part_asked, part_at, room_of};
+ghost use Rattle.im_names.specs.Parts.{can_be_parted, count_asked, count_of, has_part, part_asked, long_part, room_of};
 
 use crate::buffer::{put, put_number};
 
@@ -53,13 +53,13 @@ fn has_part(front: usize, size: usize, number: u32) -> bool
 }
 
 // Writes one that is there.
-#[tactic(auto, unfolding(crate::specs::Parts::part_at), using(crate::proofs::PartLemmas::is_within, crate::proofs::PartLemmas::is_small, crate::proofs::PartLemmas::piece))]
+#[tactic(auto, unfolding(crate::specs::Parts::long_part), using(crate::proofs::PartLemmas::is_within, crate::proofs::PartLemmas::is_small, crate::proofs::PartLemmas::piece))]
 fn put_part(front: usize, value: &[u8], number: u32, to: &mut [u8]) -> Part
     requires front { front ≤ 219 }
     requires there { has_part front (length value.now) number ≡ true }
     requires room { 255 ≤ length to.old }
-    ensures key { take result.len to.new ≡ (part_at (take front to.old) value.now number).0 }
-    ensures rid { result.rid ≡ (part_at (take front to.old) value.now number).1 }
+    ensures key { take result.len to.new ≡ (long_part (take front to.old) value.now number).0 }
+    ensures rid { result.rid ≡ (long_part (take front to.old) value.now number).1 }
     ensures most { result.len ≤ 254 }
 {
     let room = part_room(front);

@@ -1,6 +1,6 @@
 //! What the parts of a range say, taken in their order.
 ghost use Rattle.std.specs.Prelude.{◌≡◌, ◌≤◌, ◌<◌, ◌+◌, ◌-◌, not, true, length};
-ghost use Rattle.im_names.specs.Readings.{found_by, is_next, no_part, number_in, read_on};
+ghost use Rattle.im_names.specs.Readings.{found_by, is_next, no_part, part_number, read_on};
 
 /// What a range has of a value.
 #[derive(Clone, Copy, Debug, PartialEq, Eq)]
@@ -26,10 +26,10 @@ pub struct Reading {
 }
 
 // A part's number, after a front of so many bytes.
-#[tactic(auto, unfolding(crate::specs::Readings::number_in))]
+#[tactic(auto, unfolding(crate::specs::Readings::part_number))]
 fn number_in(front: usize, key: &[u8]) -> u32
     requires { front + 3 ≤ length key.now }
-    ensures number { result ≡ number_in front key.now }
+    ensures number { result ≡ part_number front key.now }
     ensures small { result < 16777216 }
 {
     key[front] as u32 * 65536 + key[front + 1] as u32 * 256 + key[front + 2] as u32

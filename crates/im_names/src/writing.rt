@@ -1,6 +1,6 @@
 //! A key as bytes, in a buffer.
 ghost use Rattle.std.specs.Prelude.{◌≡◌, ◌+◌, ◌≤◌, ◌++◌, ◌&&◌, nat_le, length, take, true};
-ghost use Rattle.im_names.specs.Asked.{fits, is_name, key_asked, spelled};
+ghost use Rattle.im_names.specs.Asked.{key_fits, is_name, key_asked, spelled};
 ghost use Rattle.im_names.specs.Layout.{escaped, filled, front_of, prefix_of};
 
 use crate::buffer::{escaped_size, fill, put, put_byte, put_escaped};
@@ -78,7 +78,7 @@ fn has_room_escaped(name: &[u8], key: &[u8]) -> bool
 
 // Whether a key fits.
 fn fits(which: Which, name: &[u8], key: &[u8]) -> bool
-    ensures { result ≡ fits which name.now key.now }
+    ensures { result ≡ key_fits which name.now key.now }
 {
     match which {
         Which::Row => is_name(name),
@@ -94,7 +94,7 @@ fn fits(which: Which, name: &[u8], key: &[u8]) -> bool
 // Writes one that fits.
 #[tactic(auto, using(crate::proofs::Buffers::length_filled))]
 fn put_key(which: Which, name: &[u8], key: &[u8], to: &mut [u8]) -> usize
-    requires fits { fits which name.now key.now ≡ true }
+    requires fits { key_fits which name.now key.now ≡ true }
     requires room { 255 ≤ length to.old }
     ensures end { result ≡ length (spelled which name.now key.now) }
     ensures key { take result to.new ≡ spelled which name.now key.now }

@@ -13,7 +13,7 @@ use im_engine::{Config, Engine};
 use im_files_disk::FileDisk;
 use im_front::Rested;
 use im_store::{Bounds, LogBound, OpenStore, RedoBound};
-use im_theory_store::Store;
+use im_theory_store_trait::Store;
 use std::thread::Threads;
 
 /// The files of a store in a folder, and those of a copy of it, by their names.

@@ -111,7 +111,7 @@ pub fn room(leaf: bool, bytes: &[u8]) -> usize
 }
 
 /// A key has at most 255 bytes, as its length is one byte.
-pub fn keys_are_short(leaf: bool, bytes: &[u8])
+pub fn law_keys_are_short(leaf: bool, bytes: &[u8])
     requires { IsPacked leaf bytes.now }
     ensures { (i : ℕ) → i < length (entries_of leaf bytes.now) → length (entry_at (entries_of leaf bytes.now) i).0 ≤ 255 }
 {

@@ -19,7 +19,7 @@ fn place_for(page: &Page, key: &[u8]) -> Result<usize, Fault>
     ensures ok { IfOk result (λ i. HasPlaceFor page.now key.now i) }
     ensures refused { IfErr result (λ e. (e ≡ NotAStore) × ¬ (CanPutKey page.now key.now)) }
 {
-    page.content();
+    page.law_content();
     if page.kind() != PageKind::Leaf || key.is_empty() || key.len() > LONGEST_KEY {
         return Err(Fault::NotAStore);
     }
@@ -43,7 +43,7 @@ fn place_of(page: &Page, key: &[u8]) -> Result<usize, Fault>
     if page.kind() != PageKind::Leaf {
         return Err(Fault::NotAStore);
     }
-    page.content();
+    page.law_content();
     match page.find(key) {
         Ok(i) => Ok(i),
         Err(_) => Err(Fault::NotAStore),

@@ -39,7 +39,7 @@
 //!   key has no room, an entry or more stands left of the point and two or more right of it.
 //! - `copy_entries` leaves a range of another page's entries; the setters change one field and nothing else.
 //!
-//! The invariant of a `Page` is that its bytes have the form (`IsForm`); `content` tells it to callers as a fact about
+//! The invariant of a `Page` is that its bytes have the form (`IsForm`); `law_content` tells it to callers as a fact about
 //! the contents.
 //!
 //! # Keys of a leaf

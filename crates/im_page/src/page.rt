@@ -120,10 +120,10 @@ impl Page {
     }
 
     /// What every page's contents are: a law, and nothing that runs.
-    pub fn content(&self)
+    pub fn law_content(&self)
         ensures { IsContent self.now }
     {
-        cells::keys_are_short(self.bytes[8] == 2, &self.bytes);
+        cells::law_keys_are_short(self.bytes[8] == 2, &self.bytes);
     }
 
     /// The number of entries.
@@ -298,7 +298,7 @@ impl Page {
         ensures right { HasRoomForAny (is_leaf_kind self.now.body.kind) (drop result self.now.body.entries) }
         ensures parts { LacksRoom (is_leaf_kind self.now.body.kind) self.now.body.entries → (1 ≤ result) × (result + 2 ≤ length self.now.body.entries) }
     {
-        cells::keys_are_short(self.bytes[8] == 2, &self.bytes);
+        cells::law_keys_are_short(self.bytes[8] == 2, &self.bytes);
         split_point(self.bytes[8] == 2, &self.bytes, bound)
     }
 

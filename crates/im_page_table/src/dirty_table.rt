@@ -93,7 +93,7 @@ impl DirtyTable {
     }
 
     /// Each page comes once: a law, and nothing that runs.
-    pub fn pages_differ(&self)
+    pub fn law_pages_differ(&self)
         ensures { AreApart self.now.entries }
     {
         self.entries.len();

@@ -541,7 +541,7 @@ impl PageWriter {
             return Ok(());
         }
         self.flush_first(disk)?;
-        self.table.pages_differ();
+        self.table.law_pages_differ();
         let _held = self.pool.len();
         self.sync_pages(disk)
     }

@@ -48,7 +48,7 @@ fn with_numbers(alloc: Global, images: Images, count: PageNo) -> Result<PlannedC
     if !are_counted(&images) {
         return Err(Fault::Memory);
     }
-    images.rise();
+    images.law_rise();
     let numbers = page_numbers(alloc, &images)?;
     Ok(PlannedChange {
         images,

@@ -99,7 +99,7 @@ fn drop_child<D: Disk>(
         → (seen pages images.old parent).kind ≡ Inner → StandsAt (seen pages images.old parent) place c
         → IsSound result (λ _. SamePages (seen pages images.new) (with_body (seen pages images.old) parent (without_child (seen pages images.old parent) place))) }
 {
-    images.rise();
+    images.law_rise();
     let page = image(alloc, images, writer, disk, parent)?;
     put_parent(images, parent, page, place)
 }
@@ -124,7 +124,7 @@ fn set_link<D: Disk>(
     if number == 0 {
         return Ok(());
     }
-    images.rise();
+    images.law_rise();
     let page = image(alloc, images, writer, disk, number)?;
     put_linked(images, number, page, side, leaf)
 }

@@ -25,7 +25,7 @@ impl Images {
         ensures causes { IfErr result (λ e. (e ≡ Memory) ⊎ (e ≡ NotAStore)) }
         ensures sound { (pages : Pages) → Has self.old 0 → (held pages self.old 0).kind ≡ Meta → 1 ≤ (held pages self.old 0).prev → page.now.body.kind ≡ Free → result ≡ Err NotAStore → ⊥ }
     {
-        self.rise();
+        self.law_rise();
         let Some(mut meta) = self.take(0) else {
             return Err(Fault::NotAStore);
         };
@@ -44,7 +44,7 @@ impl Images {
         ensures full { result ≡ Err Capacity → (pages : Pages) → (held pages self.old 0).leftmost + 1 ≡ 2 ^ 32 }
         ensures sound { (pages : Pages) → Has self.old 0 → (held pages self.old 0).kind ≡ Meta → (held pages self.old 0).prev ≡ 0 → result ≡ Err NotAStore → ⊥ }
     {
-        self.rise();
+        self.law_rise();
         let Some(mut meta) = self.take(0) else {
             return Err(Fault::NotAStore);
         };
@@ -62,7 +62,7 @@ impl Images {
         ensures causes { IfErr result (λ e. (e ≡ Memory) ⊎ (e ≡ NotAStore)) }
         ensures sound { (pages : Pages) → Has self.old 0 → (held pages self.old 0).kind ≡ Meta → (held pages self.old 0).prev + 1 < 2 ^ 32 → result ≡ Err NotAStore → ⊥ }
     {
-        self.rise();
+        self.law_rise();
         let Some(mut meta) = self.take(0) else {
             return Err(Fault::NotAStore);
         };

@@ -27,7 +27,7 @@ impl Images {
         ensures causes { IfErr result (λ e. (e ≡ Memory) ⊎ (e ≡ NotAStore)) }
         ensures sound { (pages : Pages) → (1 ≤ number → Has self.old number) → (1 ≤ number → (held pages self.old number).kind ≡ Leaf) → result ≡ Err NotAStore → ⊥ }
     {
-        self.rise();
+        self.law_rise();
         if number == 0 {
             return Ok(());
         }
@@ -48,7 +48,7 @@ impl Images {
         ensures causes { IfErr result (λ e. (e ≡ Memory) ⊎ (e ≡ NotAStore)) }
         ensures sound { (pages : Pages) → (1 ≤ number → Has self.old number) → (1 ≤ number → (held pages self.old number).kind ≡ Leaf) → result ≡ Err NotAStore → ⊥ }
     {
-        self.rise();
+        self.law_rise();
         if number == 0 {
             return Ok(());
         }
@@ -82,7 +82,7 @@ impl Images {
         ensures causes { IfErr result (λ e. (e ≡ Memory) ⊎ (e ≡ NotAStore)) }
         ensures sound { (pages : Pages) → Has self.old parent → (held pages self.old parent).kind ≡ Inner → i < length (held pages self.old parent).entries → result ≡ Err NotAStore → ⊥ }
     {
-        self.rise();
+        self.law_rise();
         let Some(mut above) = self.take(parent) else {
             return Err(Fault::NotAStore);
         };
@@ -100,7 +100,7 @@ impl Images {
         ensures causes { IfErr result (λ e. (e ≡ Memory) ⊎ (e ≡ NotAStore)) }
         ensures sound { (pages : Pages) → Has self.old parent → (held pages self.old parent).kind ≡ Inner → 0 < length (held pages self.old parent).entries → result ≡ Err NotAStore → ⊥ }
     {
-        self.rise();
+        self.law_rise();
         let Some(mut above) = self.take(parent) else {
             return Err(Fault::NotAStore);
         };
@@ -114,7 +114,7 @@ impl Images {
         ensures new { OnOk result (Becomes self.old self.new root_emptied_pages) }
         ensures causes { IfErr result (λ e. e ≡ Memory) }
     {
-        self.rise();
+        self.law_rise();
         let mut root = blank(alloc)?;
         deletions::empty_root(&mut root);
         self.put(1, root)?;

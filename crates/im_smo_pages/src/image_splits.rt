@@ -34,11 +34,11 @@ impl Images {
         ensures causes { IfErr result (λ e. (e ≡ Memory) ⊎ (e ≡ NotAStore)) }
         ensures sound { (pages : Pages) → Has self.old parent → CanSplit dense Leaf page.now.body (held pages self.old parent) q → result ≡ Err NotAStore → ⊥ }
     {
-        self.rise();
+        self.law_rise();
         let Some(mut above) = self.take(parent) else {
             return Err(Fault::NotAStore);
         };
-        above.content();
+        above.law_content();
         let mut left = blank(alloc)?;
         let mut right = blank(alloc)?;
         let n = splits::split_leaf(page, &mut left, &mut right, &mut above, p, q, dense)?;
@@ -65,11 +65,11 @@ impl Images {
         ensures causes { IfErr result (λ e. (e ≡ Memory) ⊎ (e ≡ NotAStore)) }
         ensures sound { (pages : Pages) → Has self.old parent → CanSplit false Inner page.now.body (held pages self.old parent) q → result ≡ Err NotAStore → ⊥ }
     {
-        self.rise();
+        self.law_rise();
         let Some(mut above) = self.take(parent) else {
             return Err(Fault::NotAStore);
         };
-        above.content();
+        above.law_content();
         let mut left = blank(alloc)?;
         let mut right = blank(alloc)?;
         let n = splits::split_inner(page, &mut left, &mut right, &mut above, q)?;
@@ -94,7 +94,7 @@ impl Images {
         ensures causes { IfErr result (λ e. (e ≡ Memory) ⊎ (e ≡ NotAStore)) }
         ensures sound { CanHalve dense Leaf page.now.body → result ≡ Err NotAStore → ⊥ }
     {
-        self.rise();
+        self.law_rise();
         let mut root = blank(alloc)?;
         let mut left = blank(alloc)?;
         let mut right = blank(alloc)?;
@@ -119,7 +119,7 @@ impl Images {
         ensures causes { IfErr result (λ e. (e ≡ Memory) ⊎ ((e ≡ NotAStore) ⊎ ((e ≡ Capacity) × (page.now.body.level ≡ 255)))) }
         ensures sound { CanHalve false Inner page.now.body → page.now.body.level < 255 → result ≡ Err NotAStore → ⊥ }
     {
-        self.rise();
+        self.law_rise();
         let mut root = blank(alloc)?;
         let mut left = blank(alloc)?;
         let mut right = blank(alloc)?;

@@ -39,7 +39,7 @@ impl Images {
     }
 
     /// Their numbers rise: a law, and nothing that runs.
-    pub fn rise(&self)
+    pub fn law_rise(&self)
         ensures { IsRising self.now }
     {
         let _own = &self.images;

@@ -155,7 +155,7 @@ fn halve_inner(page: &Page, up: usize, left: &mut Page, right: &mut Page)
     ensures left { left.new ≡ says left.old (with_entries page.now.body (take up page.now.body.entries)) }
     ensures right { right.new ≡ says right.old (inner_body page.now.body.level (entry_at page.now.body.entries up).1 (drop (up + 1) page.now.body.entries)) }
 {
-    page.content();
+    page.law_content();
     let level = page.level();
     let len = page.len();
     left.become_inner(level, page.leftmost());
@@ -216,7 +216,7 @@ pub fn split_root_inner(
     if page.level() == 255 {
         return Err(Fault::Capacity);
     }
-    page.content();
+    page.law_content();
     halve_inner(page, up, left, right);
     put_over(root, page.level() + 1, l, page.key(up), r);
     Ok(up)

@@ -57,7 +57,7 @@ impl Images {
             → CanSplit dense Leaf page.now.body (held pages self.old parent) q → result ≡ Err NotAStore → ⊥ }
         ensures causes { IfErr result (λ e. (e ≡ Memory) ⊎ (e ≡ NotAStore)) }
     {
-        page.content();
+        page.law_content();
         let n = self.split_leaf(alloc, page, parent, p, q, dense)?;
         self.link_prev(page.next(), q)?;
         Ok(half(page, n, key, p, q))
@@ -85,7 +85,7 @@ impl Images {
         ensures sound { CanHalve dense Leaf page.now.body → result ≡ Err NotAStore → ⊥ }
         ensures causes { IfErr result (λ e. (e ≡ Memory) ⊎ (e ≡ NotAStore)) }
     {
-        page.content();
+        page.law_content();
         let n = self.split_root_leaf(alloc, page, l, r, dense)?;
         Ok(half(page, n, key, l, r))
     }

@@ -76,7 +76,7 @@ fn part_leaf(
         → (1 ≤ page.now.body.next → Has images.old page.now.body.next)
         → page.now.body.kind ≡ Leaf → (Rises page.now.body.entries → FitsPage true page.now.body.entries → CanSplit dense Leaf page.now.body (held pages images.old pending.parent) q) → result ≡ Err NotAStore → ⊥ }
 {
-    page.content();
+    page.law_content();
     let half = images.split_leaf_for(alloc, key, page, pending.parent, pending.page, q, dense)?;
     Ok(half)
 }
@@ -95,7 +95,7 @@ fn part_root_leaf(
     ensures causes { IfErr result (λ e. (e ≡ Memory) ⊎ (e ≡ NotAStore)) }
     ensures sound { page.now.body.kind ≡ Leaf → (FitsPage true page.now.body.entries → CanHalve dense Leaf page.now.body) → result ≡ Err NotAStore → ⊥ }
 {
-    page.content();
+    page.law_content();
     let half = images.split_root_leaf_for(alloc, key, page, left, right, dense)?;
     Ok(half)
 }
@@ -126,7 +126,7 @@ pub(crate) fn split_pending_leaf<D: Disk>(
 {
     let q = numbers.take_last();
     bring_both(alloc, images, writer, disk, pending.page)?;
-    images.rise();
+    images.law_rise();
     let page = image(alloc, images, writer, disk, pending.page)?;
     part_leaf(alloc, images, &page, pending, q, key, dense)
 }
@@ -151,7 +151,7 @@ pub(crate) fn split_root_leaf<D: Disk>(
 {
     let right = numbers.take_last();
     let left = numbers.take_last();
-    images.rise();
+    images.law_rise();
     let page = image(alloc, images, writer, disk, 1)?;
     part_root_leaf(alloc, images, &page, left, right, key, dense)
 }

@@ -52,7 +52,7 @@ pub(crate) fn bring<D: Disk>(
     ensures outcome { Plans D.Disk writer.old disk.old writer.new disk.new (fault_of result) }
     ensures kept { (store : AllPages) → HasPages D.Disk AreLoaded store writer.old disk.old → IsSound result (λ _. Brought store images.old number images.new) }
 {
-    images.rise();
+    images.law_rise();
     let page = image(alloc, images, writer, disk, number)?;
     images.put(number, page)
 }
@@ -85,7 +85,7 @@ fn part_inner(
     ensures sound { (pages : Pages) → Has images.old pending.parent → HasLevel pending.level page.now.body
         → ((c : ℕ) → FitsPage false page.now.body.entries → IsChild page.now.body key.now c → CanSplit false Inner page.now.body (held pages images.old pending.parent) q) → result ≡ Err NotAStore → ⊥ }
 {
-    page.content();
+    page.law_content();
     let child = child_in(page, pending.level, key)?;
     let n = images.split_inner(alloc, page, pending.parent, pending.page, q)?;
     Ok(PendingSplit {
@@ -112,7 +112,7 @@ fn part_root(
     ensures causes { IfErr result (λ e. (e ≡ Memory) ⊎ (e ≡ NotAStore)) }
     ensures sound { HasLevel level page.now.body → ((c : ℕ) → FitsPage false page.now.body.entries → IsChild page.now.body key.now c → CanHalve false Inner page.now.body) → result ≡ Err NotAStore → ⊥ }
 {
-    page.content();
+    page.law_content();
     let child = child_in(page, level, key)?;
     let n = images.split_root_inner(alloc, page, left, right)?;
     Ok(PendingSplit {
@@ -146,7 +146,7 @@ pub(crate) fn split_pending_inner<D: Disk>(
     ensures counted { IfOk result (λ next. length numbers.new.items ≡ next.level + 1) }
 {
     let q = numbers.take_last();
-    images.rise();
+    images.law_rise();
     let page = image(alloc, images, writer, disk, pending.page)?;
     part_inner(alloc, images, &page, pending, q, key)
 }
@@ -176,7 +176,7 @@ pub(crate) fn split_pending_root<D: Disk>(
 {
     let right = numbers.take_last();
     let left = numbers.take_last();
-    images.rise();
+    images.law_rise();
     let page = image(alloc, images, writer, disk, 1)?;
     part_root(alloc, images, &page, level, left, right, key)
 }

@@ -46,7 +46,7 @@ pub(crate) fn room_in(page: &Page, level: u8, key: usize) -> bool
     requires short { key ≤ 255 }
     ensures { IsRoom (is_leaf_kind (kind_at level)) page.now.body key result }
 {
-    page.content();
+    page.law_content();
     page.has_room(key)
 }
 
@@ -55,7 +55,7 @@ pub(crate) fn key_room(page: &Page, level: u8) -> usize
     requires { HasLevel level page.now.body }
     ensures { IsKeyRoom (is_leaf_kind (kind_at level)) page.now.body result }
 {
-    page.content();
+    page.law_content();
     let mut low = 0;
     let mut high = 256;
     while low < high {

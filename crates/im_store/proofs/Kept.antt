@@ -15,7 +15,7 @@ use Rattle.im_engine.specs.Told.{IsStep, Known, after, known_of}
 use Rattle.im_store.specs.declared.due.Due.{Due}
 use Rattle.im_store.specs.declared.due.Due.TheVariants as due
 use Rattle.im_store.specs.declared.upkeep.Upkeep.{Upkeep}
-use Rattle.im_store.specs.Noted.{ahead_of, is_bare_after, is_done, is_left, noted, redo_from}
+use Rattle.im_store.specs.Noted.{ahead_after, is_bare_after, is_done, is_left, noted, redo_from}
 use Rattle.im_store.specs.Rule.{IsByRule, IsDue, IsTaken, IsWritten, WasRefused}
 use Rattle.im_store.specs.Rule as rule
 use Rattle.im_store.specs.Upkeep.{IsKeptUp, none, more}
@@ -132,7 +132,7 @@ not_done (replies.Refused fault) not = refl
 module _ {D : Type 0} (d : Ghosts D) where
   -- and nothing is noted of it
   nothing_done : (done : Bool) (step : Step) (end length : ℕ) (new : Engine D d) (u : Upkeep) → done ≡ false
-      → record u { from = redo_from d done step end new u.from; ahead = ahead_of done step u.ahead; is_upgraded = is_left done step u.is_upgraded; is_bare = is_bare_after done step length u.is_bare } ≡ u
+      → record u { from = redo_from d done step end new u.from; ahead = ahead_after done step u.ahead; is_upgraded = is_left done step u.is_upgraded; is_bare = is_bare_after done step length u.is_bare } ≡ u
   nothing_done false step end length new u is = refl
   nothing_done true step end length new u is = cc is
 

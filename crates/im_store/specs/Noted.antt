@@ -17,9 +17,9 @@ use Rattle.im_store.specs.Numbers.{durable_end_of, log_length_of}
 use Rattle.im_store.specs.Upkeep.{IsKeptUp}
 
 -- from where an opening redoes over these dirty pages after a Checkpoint, before which the durable log ended there
-abbrev pub redo_point : Option DirtyPage → ℕ → ℕ
-redo_point (Some change) end = min change.rec_lsn end
-redo_point None end = end
+abbrev pub redo_point_over : Option DirtyPage → ℕ → ℕ
+redo_point_over (Some change) end = min change.rec_lsn end
+redo_point_over None end = end
 
 -- a step that was made, with no more to tell
 abbrev pub is_done : Reply → Bool
@@ -33,10 +33,10 @@ is_left true Switch is = false
 is_left true _ is = is
 
 -- what was written ahead of a Switch, and nothing once that is done
-abbrev pub ahead_of : (done : Bool) → Step → Ahead → Ahead
-ahead_of false step ahead = ahead
-ahead_of true Switch ahead = Unseen
-ahead_of true _ ahead = ahead
+abbrev pub ahead_after : (done : Bool) → Step → Ahead → Ahead
+ahead_after false step ahead = ahead
+ahead_after true Switch ahead = Unseen
+ahead_after true _ ahead = ahead
 
 -- whether the log that was left may begin with no batch: a Switch that is done left one that was so long before it
 abbrev pub is_bare_after : (done : Bool) → Step → (length : ℕ) → Bool → Bool
@@ -56,7 +56,7 @@ module _ {D : Type 0} (d : Ghosts D) where
   -- from where an opening would redo, were the store to stop after a step: from elsewhere than before only after a Checkpoint or a Switch that is done
   abbrev pub redo_from : (done : Bool) → Step → (end : ℕ) → Engine D d → ℕ → ℕ
   redo_from false step end new from = from
-  redo_from true Checkpoint end new from = redo_point (oldest new.writer.table) end
+  redo_from true Checkpoint end new from = redo_point_over (oldest new.writer.table) end
   redo_from true Switch end new from = durable_end_of d new
   redo_from true _ end new from = from
 
@@ -64,7 +64,7 @@ module _ {D : Type 0} (d : Ghosts D) where
   abbrev pub noted : Step → Reply → (end length : ℕ) → Engine D d → Upkeep → Upkeep
   noted step reply end length new u = record u {
     from = redo_from (is_done reply) step end new u.from;
-    ahead = ahead_of (is_done reply) step u.ahead;
+    ahead = ahead_after (is_done reply) step u.ahead;
     is_upgraded = is_left (is_done reply) step u.is_upgraded;
     is_bare = is_bare_after (is_done reply) step length u.is_bare;
   }

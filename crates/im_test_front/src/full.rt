@@ -7,7 +7,7 @@ use crate::stores::{NEVER, key_of, new_store, stop_at};
 use im_base_steps::{Reply, Step};
 use im_base_types::Fault;
 use im_front::{Front, Share};
-use im_theory_store::Store;
+use im_theory_store_trait::Store;
 use std::alloc::Global;
 use std::marker::Brand;
 use std::sync::Wait;

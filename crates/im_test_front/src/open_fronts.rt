@@ -6,7 +6,7 @@ use crate::traced_stores::fresh;
 use im_base_steps::{Reply, Step};
 use im_base_types::Fault;
 use im_front::{Open, Rested, Stats};
-use im_theory_store::Store;
+use im_theory_store_trait::Store;
 use std::alloc::Global;
 use std::sync::Wait;
 use std::test::Fail;

@@ -12,7 +12,7 @@ use im_base_two_logs::Renamed;
 use im_base_types::{Fault, Key, Rid};
 use im_engine::Engine;
 use im_front::{Closed, Front, Recorded, Share, Told};
-use im_theory_store::Store;
+use im_theory_store_trait::Store;
 use std::alloc::Global;
 use std::marker::Brand;
 use std::sync::Wait;

@@ -4,7 +4,7 @@ use crate::stores::{Found, begin, begin_with, grouped, key_of, look_behind, wait
 use im_base_steps::{Reply, Step};
 use im_base_types::{Fault, TxnId};
 use im_front::Open;
-use im_theory_store::Store;
+use im_theory_store_trait::Store;
 use std::alloc::Global;
 use std::sync::Wait;
 use std::sync::atomic::{AtomicU64, Ordering};

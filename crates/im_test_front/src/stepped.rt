@@ -4,7 +4,7 @@ use crate::stores::{begin, begin_with, fault_of, key_of, stepped};
 use im_base_steps::{Reply, Step};
 use im_base_types::{Fault, TxnId};
 use im_front::Open;
-use im_theory_store::Store;
+use im_theory_store_trait::Store;
 use std::alloc::Global;
 use std::sync::Wait;
 use std::test::Fail;

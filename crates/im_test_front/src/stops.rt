@@ -6,7 +6,7 @@ use im_base_model_disk::{Fill, Length, Stop};
 use im_base_steps::{Reply, Step};
 use im_base_types::{Fault, Key, Rid, TxnId};
 use im_front::Open;
-use im_theory_store::Store;
+use im_theory_store_trait::Store;
 use std::alloc::Global;
 use std::sync::Wait;
 use std::test::Fail;

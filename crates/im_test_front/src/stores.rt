@@ -7,9 +7,9 @@ use im_base_model_disk::{Fill, Length, ModelDisk, Stop};
 use im_base_steps::{Reply, Step};
 use im_base_two_logs::Renamed;
 use im_base_types::{Fault, Key, Rid, TxnId};
-use im_engine::{Config, Engine, every_list_of_lives};
+use im_engine::{Config, Engine, law_every_list_of_lives};
 use im_front::{Left, Open, Rested};
-use im_theory_store::Store;
+use im_theory_store_trait::Store;
 use std::alloc::Global;
 use std::sync::Wait;
 use std::thread::Threads;
@@ -82,7 +82,7 @@ pub fn made_store<R: Threads + Sync>(
 ) -> Result<Engine<Renamed<ModelDisk>>, Fault>
     ensures rests { IfOk result (λ e. IsResting ⟦<Engine<Renamed<ModelDisk>> as Store>⟧ e) }
 {
-    every_list_of_lives();
+    law_every_list_of_lives();
     let mut disk = ModelDisk::new(Vec::new(alloc), Vec::new(alloc));
     disk.arm(stop);
     disk.fail_call(failing);

@@ -8,7 +8,7 @@ use im_base_steps::{Reply, Step};
 use im_base_types::{Fault, WorkerStart};
 use im_front::{Closed, Front, LoadArgs, Share, Stats};
 use im_front_load::load_text;
-use im_theory_store::Store;
+use im_theory_store_trait::Store;
 use std::alloc::Global;
 use std::marker::Brand;
 use std::sync::Wait;

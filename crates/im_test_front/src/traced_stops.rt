@@ -14,7 +14,7 @@ use im_base_two_logs::Renamed;
 use im_base_types::{Fault, Key, Rid, TxnId};
 use im_engine::{Config, look};
 use im_front::{Closed, Front, Recorded, Share, Told};
-use im_theory_store::Store;
+use im_theory_store_trait::Store;
 use std::alloc::Global;
 use std::marker::Brand;
 use std::sync::Wait;

@@ -9,7 +9,7 @@ use im_base_two_logs::Renamed;
 use im_base_types::Fault;
 use im_engine::{Config, Engine};
 use im_front::Front;
-use im_theory_store::Store;
+use im_theory_store_trait::Store;
 use std::alloc::Global;
 use std::sync::ledger::{Blank, Ledger};
 use std::thread::Threads;

@@ -4,7 +4,7 @@ use crate::stores::{grouped, key_of, look_behind};
 use im_base_steps::{Reply, Step};
 use im_base_types::{Fault, TxnId};
 use im_front::{Open, Stop};
-use im_theory_store::Store;
+use im_theory_store_trait::Store;
 use std::alloc::Global;
 use std::sync::Wait;
 use std::sync::atomic::{AtomicU64, Ordering};

@@ -5,7 +5,7 @@ use crate::pages::add_three_leaves;
 use crate::shared::{end, opened};
 use im_base_disk::Disk;
 use im_base_types::{Fault, Key, PageNo, Rid, TxnId};
-use im_engine_index::{LockAnswer, Place, ask_delete, fetch, prev, scan, seek};
+use im_engine_access::{LockAnswer, Place, ask_delete, fetch, prev, scan, seek};
 use im_engine_locks::{LockTable, Name, Request};
 use im_page_writer::PageWriter;
 use im_theory_machine::{Duration, Mode, Verdict};

@@ -9,7 +9,7 @@ ghost use Rattle.im_theory_machine.specs.Changing.{ChangesServe};
 
 /// Whatever steps of however many transactions come in whatever order, each transaction is as good as alone. It
 /// does nothing: its contract is the law.
-pub fn isolation()
+pub fn law_isolation()
     ensures { (base : IndexMap) (next : ℕ) → Isolates base next }
 {}
 

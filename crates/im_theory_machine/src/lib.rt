@@ -9,7 +9,7 @@
 //! one, and must die if it is not.
 //!
 //! **The machine.** `Moves` is the relation of a step of many transactions over one map with locks, `Run` that of its
-//! runs. The contract of `isolation` says, of every run: each transaction's replies are those that it would
+//! runs. The contract of `law_isolation` says, of every run: each transaction's replies are those that it would
 //! get alone, on the map committed now while it is going, on the map before its place in commit order once it has
 //! committed, and on the map committed just before its rollback; and the committed map is the committed
 //! transactions applied one after another (`Isolates`). A transaction may take its newest changes back until so many
@@ -33,7 +33,9 @@ mod verdict;
 mod views;
 mod worked;
 
-pub use isolated::{free_reads_are_committed, granted_changes_are_free, isolation, table_serves};
+pub use isolated::{
+    free_reads_are_committed, granted_changes_are_free, law_isolation, table_serves,
+};
 pub use lock_kind::{Duration, Mode};
 pub use returned::returns_stand;
 pub use verdict::Verdict;

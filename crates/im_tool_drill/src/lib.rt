@@ -11,7 +11,7 @@
 //! into which the stop fell (`EachStoreAnswered`).
 //!
 //! This crate stands on the engine's contracts over any disk, and on the model disk. Within a life it keeps the engine's fact (`IsLife`), at
-//! what the lines and replies so far have shown (`shown_in`), with some view of the machine of transactions (`GoesOn`). It is kept small, since
+//! what the lines and replies so far have shown (`shown_by_lines`), with some view of the machine of transactions (`GoesOn`). It is kept small, since
 //! its proof cannot begin before the engine's has ended: what needs no engine stands in `im_tool_lines`.
 #![tactic(auto)]
 

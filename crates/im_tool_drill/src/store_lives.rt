@@ -10,7 +10,7 @@ ghost use Rattle.im_base_disk.specs.Runs.{IsSynced};
 ghost use Rattle.im_engine.specs.Stands.{StandsFor, Allowed};
 ghost use Rattle.im_tool_lines.specs.declared.store_answers.StoreReply.TheVariants.{Stopped};
 ghost use Rattle.im_tool_lines.specs.Answered.{AnsweredBy};
-ghost use Rattle.im_tool_lines.specs.StoreShown.{asked_by_life, shown_in, IsStoreReply, StoreAnswered};
+ghost use Rattle.im_tool_lines.specs.StoreShown.{asked_by_life, shown_by_lines, IsStoreReply, StoreAnswered};
 ghost use Rattle.im_tool_drill.specs.StoreLives.{in_32_bits, GoesOn, IsConfigOf, LineKept};
 ghost use Rattle.im_tool_drill.specs.StoreRuns.{IsOpening, IsLifeRun, AreLinesRun, IsLineRun, IsStepRun, IsLookRun, IsLastRun};
 
@@ -136,7 +136,7 @@ fn run_store_lines(
     ensures run { IfOk result (λ told. AreLinesRun ⟦<Renamed<ModelDisk> as Disk>⟧ stop.now lines.now told.items engine.old engine.new) }
     ensures answered { IfOk result (λ told. AnsweredBy IsStoreReply Stopped lines.now told.items) }
     ensures kept { IfOk result (λ told. (before : List Effect) → GoesOn ⟦<Renamed<ModelDisk> as Disk>⟧ before nothing_shown engine.old
-        → (c : Files) → ⟦<Renamed<ModelDisk> as Disk>⟧.may_leave engine.new.disk c → Allowed before (shown_in nothing_shown lines.now told.items) c) }
+        → (c : Files) → ⟦<Renamed<ModelDisk> as Disk>⟧.may_leave engine.new.disk c → Allowed before (shown_by_lines nothing_shown lines.now told.items) c) }
 {
     let mut replies = Vec::new(alloc);
     for line in lines {

@@ -1,8 +1,8 @@
 -- The verdict on a folder that was made of three files.
 use Rattle.std.proofs.Common.{◌≡◌, ◌↔◌, Bool, true, false, true≢false, not, ℕ, List, refl, sym, ◌∙◌, ap, subst}
-use Rattle.im_files_guard.specs.declared.folder.Folder.{Folder}
-use Rattle.im_files_guard.specs.declared.folder.Front.{Front}
-use Rattle.im_files_guard.specs.declared.folder.PagesFront.{PagesFront}
+use Rattle.im_files_belonging.specs.declared.folder.Folder.{Folder}
+use Rattle.im_files_belonging.specs.declared.folder.Front.{Front}
+use Rattle.im_files_belonging.specs.declared.folder.PagesFront.{PagesFront}
 use Rattle.im_tool_every.specs.Guarded.{folder_in, front_in, pages_front_in, FilesAreTaken, AreTogether, HasOlderPages}
 
 abbrev pub folder_of : Front → Front → PagesFront → Folder

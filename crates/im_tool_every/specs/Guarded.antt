@@ -4,13 +4,13 @@ use Rattle.std.specs.Int.{w64, from_be_bytes}
 use Rattle.im_base_types.specs.declared.file_id.FileId.{FileId}
 use Rattle.im_base_types.specs.declared.file_id.FileId.TheVariants.{Log, Pages, Log2}
 use Rattle.im_base_disk.specs.Disk.{Files}
-use Rattle.im_files_guard.specs.declared.belonging.Logs.{Logs}
-use Rattle.im_files_guard.specs.declared.folder.Folder.{Folder}
-use Rattle.im_files_guard.specs.declared.folder.Front.{Front}
-use Rattle.im_files_guard.specs.declared.folder.PagesFront.{PagesFront}
-use Rattle.im_files_guard.specs.declared.left_log.LeftLog.{LeftLog}
-use Rattle.im_files_guard.specs.Belonging.{BelongTogether}
-use Rattle.im_files_guard.specs.LeftLog.{current_log_of, left_log_of, walk, IsOlder}
+use Rattle.im_files_belonging.specs.declared.belonging.Logs.{Logs}
+use Rattle.im_files_belonging.specs.declared.folder.Folder.{Folder}
+use Rattle.im_files_belonging.specs.declared.folder.Front.{Front}
+use Rattle.im_files_belonging.specs.declared.folder.PagesFront.{PagesFront}
+use Rattle.im_files_belonging.specs.declared.left_log.LeftLog.{LeftLog}
+use Rattle.im_files_belonging.specs.Belonging.{BelongTogether}
+use Rattle.im_files_belonging.specs.LeftLog.{current_log_of, left_log_of, walk_piece, PagesAreOlder}
 use Rattle.im_base_model_disk.specs.declared.model_disk.ModelDisk.{ModelDisk}
 use Rattle.im_base_model_disk.specs.Left.{IsLeftBy}
 use Rattle.im_base_model_disk.specs.Model.{file_of, model_stop}
@@ -33,7 +33,7 @@ folder_in log log2 pages = record { log = front_in log; log2 = front_in log2; pa
 
 -- the walk over a log, from the place that is wanted to the log's end
 abbrev pub walked_in : List ℕ → LeftLog → LeftLog
-walked_in log l = walk (length log - l.place) l.place (drop l.place log) l
+walked_in log l = walk_piece (length log - l.place) l.place (drop l.place log) l
 
 -- over the one of two logs that it names
 abbrev pub walked_of : (log log2 : List ℕ) → LeftLog → LeftLog
@@ -51,7 +51,7 @@ lsn_of_page pages p = if nat_lt p (length pages / 4096) then from_be_bytes w64 (
 
 -- A page is older than its newest change in the log that was left, or is lacking.
 abbrev pub HasOlderPages : (log log2 pages : List ℕ) → Folder → Type 0
-HasOlderPages log log2 pages f = IsOlder (found_in log log2 f) (length pages / 4096) (lsn_of_page pages (found_in log log2 f).page)
+HasOlderPages log log2 pages f = PagesAreOlder (found_in log log2 f) (length pages / 4096) (lsn_of_page pages (found_in log log2 f).page)
 
 -- The files of a folder belong together, whatever the logs say.
 abbrev pub AreTogether : Folder → Type 0

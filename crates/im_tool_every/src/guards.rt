@@ -7,7 +7,9 @@ use crate::judged_opening::left_by;
 use crate::torn_disk::bytes_of;
 use im_base_model_disk::ModelDisk;
 use im_base_types::{FileId, PAGE_SIZE};
-use im_files_guard::{FIRST_BYTES, FRONT, Folder, Front, LeftLog, PagesFront, belong, is_older};
+use im_files_belonging::{
+    FIRST_BYTES, FRONT, Folder, Front, LeftLog, PagesFront, belong, is_older,
+};
 use std::alloc::{AllocError, Global};
 
 /// Whether a folder would be opened that has the three files which are left of this disk: they belong together, and the pages are no older than the logs

@@ -14,7 +14,7 @@
 //! fill at all places that are not as synced, `torn` makes of two disks that one stop left, with another fill each, a third that it may have left too: of
 //! each file, at each place stands the byte of one of the two (`torn_file`, `IsTornOf`).
 //!
-//! It stands on `im_tool_judge` for the verdicts, on `im_tool_drill` for lives, on `im_files_guard` for the guards, on the engine and the model disk. What it prints is tested, and
+//! It stands on `im_tool_judge` for the verdicts, on `im_tool_drill` for lives, on `im_files_belonging` for the guards, on the engine and the model disk. What it prints is tested, and
 //! stands in no clause; of an opening each verdict is the judge's (`IsJudged`), and a stopped one leaves what the stop does (`IsStopped`). What a stop left
 //! is bad too where the guards of a folder of these files would refuse it (`IsGuarded`); each verdict is counted (`IsJudgedIn`).
 #![tactic(auto)]

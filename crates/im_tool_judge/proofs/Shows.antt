@@ -14,7 +14,7 @@ use Rattle.im_base_types.specs.Lives.{Running, Shown, Asked, idle, oldest, with_
 use Rattle.im_base_types.specs.Refusals.{memory, unfinished}
 use Rattle.im_tool_lines.specs.declared.store_life.StoreLine.{StoreLine}
 use Rattle.im_tool_lines.specs.declared.store_answers.StoreReply.{StoreReply}
-use Rattle.im_tool_lines.specs.StoreShown.{shown_after, shown_in}
+use Rattle.im_tool_lines.specs.StoreShown.{shown_after, shown_by_lines}
 use Rattle.im_tool_lines.proofs.StoreShown.{shown_push}
 use Rattle.im_tool_judge.specs.declared.change.Change.{Change}
 use Rattle.im_tool_judge.specs.declared.change.AskedEffect.{AskedEffect}
@@ -23,8 +23,8 @@ use Rattle.im_tool_judge.specs.declared.happened.Found.{Found}
 use Rattle.im_tool_judge.specs.declared.happened.Happened.{Happened}
 use Rattle.im_tool_judge.specs.declared.happened.Happened.TheVariants.{Began, Changed, GoesOn, InsertEnded, DeleteEnded, Died, Turned, Returned, Resumed, Waited, Ended}
 use Rattle.im_tool_judge.specs.declared.showing.Showing.{Showing}
-use Rattle.im_tool_judge.specs.Judged.{asked_of, asked_in, change_of, newest_first}
-use Rattle.im_tool_judge.specs.Shows.{IsShown, IsFound, transaction_of_access, maker_of, pending_in, effect_in, behind, is_going, running_from}
+use Rattle.im_tool_judge.specs.Judged.{asked_effect, asked_in, change_of, newest_before}
+use Rattle.im_tool_judge.specs.Shows.{KeepsShown, IsFound, transaction_of_access, maker_of, pending_in, effect_in, behind, is_going, running_from}
 
 -- ---- transactions
 
@@ -53,8 +53,8 @@ other_run : (t u : ℕ) (x : Running) (s : Shown) → u ≢ t → (with_running 
 other_run t u x s differ = cond-false (u == t) x (s.running u) (ne_eqb u t differ)
 
 -- something happened to a transaction
-pub happened : (w new : Showing) (s : Shown) (e : Event) → IsShown w s → new.failed ≡ w.failed → new.asked.items ≡ w.asked.items → new.events.items ≡ w.events.items ++ e ∷ []
-    → IsShown new (with_running e.txn (behind e.what (s.running e.txn)) s)
+pub happened : (w new : Showing) (s : Shown) (e : Event) → KeepsShown w s → new.failed ≡ w.failed → new.asked.items ≡ w.asked.items → new.events.items ≡ w.events.items ++ e ∷ []
+    → KeepsShown new (with_running e.txn (behind e.what (s.running e.txn)) s)
 happened w new s e h failed asked events = record {
   failed = failed ∙ h.failed;
   running = λ u. running u (same_or_not u e.txn) ∙ ap (λ (l : List Event). running_from u idle l) (sym events);
@@ -85,7 +85,7 @@ found_other f t es i e within is differ found =
     (sym (ap (λ (l : List Event). running_from t idle l) (take_more es i e within ∙ ap (λ (x : Event). take i es ++ x ∷ []) (sym is)) ∙ other_push t (take i es) e differ)) found
 
 -- one change more, the newest
-pub newest_push : (cs : List Change) (c : Change) (e : Effect) → newest_first (cs ++ c ∷ []) e ≡ change_of c ∷ newest_first cs e
+pub newest_push : (cs : List Change) (c : Change) (e : Effect) → newest_before (cs ++ c ∷ []) e ≡ change_of c ∷ newest_before cs e
 newest_push [] c e = refl
 newest_push (x ∷ cs) c e = newest_push cs c (change_of x ∷ e)
 
@@ -95,9 +95,9 @@ found_push f new r c copy found going same_pending pushed is = record {
   mark = going ∙ found.mark;
   effect =
       ap (λ (e : Effect). change_of c ∷ e) found.effect
-      ∙ ap (λ (x : changes.Change). x ∷ newest_first f.changes.items []) (sym is)
+      ∙ ap (λ (x : changes.Change). x ∷ newest_before f.changes.items []) (sym is)
       ∙ sym (newest_push f.changes.items copy [])
-      ∙ ap (λ (l : List Change). newest_first l []) (sym pushed);
+      ∙ ap (λ (l : List Change). newest_before l []) (sym pushed);
   pending = found.pending ∙ ap pending_in (sym same_pending);
 }
 
@@ -108,12 +108,12 @@ found_change f new r what c copy happened_so found going same_pending pushed is 
 pub found_goes_on : (f new : Found) (r : Running) (what : Happened) (c copy : Change) → what ≡ GoesOn c → IsFound f r → new.going ≡ f.going → new.changes ≡ f.changes → new.pending ≡ Some copy → change_of copy ≡ change_of c → IsFound new (behind what r)
 found_goes_on f new r what c copy happened_so found going same now is = subst (λ (w : Happened). IsFound new (behind w r)) (sym happened_so) (record {
   mark = going ∙ found.mark;
-  effect = found.effect ∙ ap (λ (l : Vec Change Global). newest_first l.items []) (sym same);
+  effect = found.effect ∙ ap (λ (l : Vec Change Global). newest_before l.items []) (sym same);
   pending = ap (λ (x : changes.Change). Some (maker_of x)) (sym is) ∙ ap pending_in (sym now);
 })
 
 -- it is answered
-pub found_ended : (f new : Found) (r : Running) (reply : answers.Reply) (more : Option Change) → IsFound f r → new.going ≡ f.going → newest_first new.changes.items [] ≡ effect_in more ++ newest_first f.changes.items [] → new.pending ≡ None
+pub found_ended : (f new : Found) (r : Running) (reply : answers.Reply) (more : Option Change) → IsFound f r → new.going ≡ f.going → newest_before new.changes.items [] ≡ effect_in more ++ newest_before f.changes.items [] → new.pending ≡ None
     → effect_in more ≡ shown_change (pending_in f.pending) reply → IsFound new (record r { effect = shown_change r.pending reply ++ r.effect; pending = None })
 found_ended f new r reply more found going joins none shown = record {
   mark = going ∙ found.mark;
@@ -133,7 +133,7 @@ found_delete_ended new r what is found = subst (λ (w : Happened). IsFound new (
 
 -- a transaction that makes no more changes
 found_stopped : (f new : Found) (r : Running) (m : Mark) → is_going m ≡ false → IsFound f r → new.going ≡ false → new.changes ≡ f.changes → new.pending ≡ f.pending → IsFound new (record r { mark = m })
-found_stopped f new r m stops found going same kept = record { mark = going ∙ sym stops; effect = found.effect ∙ ap (λ (l : Vec Change Global). newest_first l.items []) (sym same); pending = found.pending ∙ ap pending_in (sym kept) }
+found_stopped f new r m stops found going same kept = record { mark = going ∙ sym stops; effect = found.effect ∙ ap (λ (l : Vec Change Global). newest_before l.items []) (sym same); pending = found.pending ∙ ap pending_in (sym kept) }
 
 pub found_died : (f new : Found) (r : Running) (what : Happened) → what ≡ Died → IsFound f r → new.going ≡ false → new.changes ≡ f.changes → new.pending ≡ f.pending → IsFound new (behind what r)
 found_died f new r what is found going same kept = subst (λ (w : Happened). IsFound new (behind w r)) (sym is) (found_stopped f new r MustRollBack refl found going same kept)
@@ -142,7 +142,7 @@ pub found_turned : (f new : Found) (r : Running) (what : Happened) → what ≡ 
 found_turned f new r what is found going same kept = subst (λ (w : Happened). IsFound new (behind w r)) (sym is) (found_stopped f new r RollingBack refl found going same kept)
 
 -- its newest changes are taken back
-pub found_returned : (f new : Found) (r : Running) (what : Happened) (n : ℕ) → what ≡ Returned n → IsFound f r → new.going ≡ false → newest_first new.changes.items [] ≡ oldest n (newest_first f.changes.items []) → new.pending ≡ f.pending → IsFound new (behind what r)
+pub found_returned : (f new : Found) (r : Running) (what : Happened) (n : ℕ) → what ≡ Returned n → IsFound f r → new.going ≡ false → newest_before new.changes.items [] ≡ oldest n (newest_before f.changes.items []) → new.pending ≡ f.pending → IsFound new (behind what r)
 found_returned f new r what n is found going left kept = subst (λ (w : Happened). IsFound new (behind w r)) (sym is) (record {
   mark = going;
   effect = ap (oldest n) found.effect ∙ sym left;
@@ -153,7 +153,7 @@ found_returned f new r what n is found going left kept = subst (λ (w : Happened
 pub found_resumed : (f new : Found) (r : Running) (what : Happened) → what ≡ Resumed → IsFound f r → new.going ≡ true → new.changes ≡ f.changes → new.pending ≡ f.pending → IsFound new (behind what r)
 found_resumed f new r what is found going same kept = subst (λ (w : Happened). IsFound new (behind w r)) (sym is) (record {
   mark = going;
-  effect = found.effect ∙ ap (λ (l : Vec Change Global). newest_first l.items []) (sym same);
+  effect = found.effect ∙ ap (λ (l : Vec Change Global). newest_before l.items []) (sym same);
   pending = found.pending ∙ ap pending_in (sym kept);
 })
 
@@ -163,18 +163,18 @@ found_waited f new r what is found going same kept = subst (λ (w : Happened). I
 -- ---- Commits
 
 -- a Commit of a transaction that is going and has changes is asked
-asked_one : (t : ℕ) (acked : Bool) (cs : List Change) (c : changes.Change) (e : Effect) → effect_asked t acked Going (newest_first cs (c ∷ e)) ≡ record { txn = t; effect = newest_first cs (c ∷ e); acked = acked } ∷ []
+asked_one : (t : ℕ) (acked : Bool) (cs : List Change) (c : changes.Change) (e : Effect) → effect_asked t acked Going (newest_before cs (c ∷ e)) ≡ record { txn = t; effect = newest_before cs (c ∷ e); acked = acked } ∷ []
 asked_one t acked [] c e = refl
 asked_one t acked (x ∷ cs) c e = asked_one t acked cs (change_of x) (c ∷ e)
 
-asked_some : (t : ℕ) (acked : Bool) (cs : List Change) → (cs ≡ [] → ⊥) → effect_asked t acked Going (newest_first cs []) ≡ record { txn = t; effect = newest_first cs []; acked = acked } ∷ []
+asked_some : (t : ℕ) (acked : Bool) (cs : List Change) → (cs ≡ [] → ⊥) → effect_asked t acked Going (newest_before cs []) ≡ record { txn = t; effect = newest_before cs []; acked = acked } ∷ []
 asked_some t acked [] some = absurd (some refl)
 asked_some t acked (c ∷ cs) some = asked_one t acked cs (change_of c) []
 
 -- one that is idle or has none is not
-asked_none : (t : ℕ) (acked : Bool) (m : Mark) (cs : List Change) → (is_going m ≡ false) ⊎ (cs ≡ []) → effect_asked t acked m (newest_first cs []) ≡ []
+asked_none : (t : ℕ) (acked : Bool) (m : Mark) (cs : List Change) → (is_going m ≡ false) ⊎ (cs ≡ []) → effect_asked t acked m (newest_before cs []) ≡ []
 asked_none t acked Going cs (inl not_going) = absurd (cc)
-asked_none t acked Going cs (inr none) = ap (λ (l : List Change). effect_asked t acked Going (newest_first l [])) none
+asked_none t acked Going cs (inr none) = ap (λ (l : List Change). effect_asked t acked Going (newest_before l [])) none
 asked_none t acked Idle cs either = refl
 asked_none t acked MustRollBack cs either = refl
 asked_none t acked RollingBack cs either = refl
@@ -193,10 +193,10 @@ none_going : (f : Found) (m : Mark) → f.going ≡ is_going m → (f.going ≡ 
 none_going f m is (inl stopped) = inl (sym is ∙ stopped)
 none_going f m is (inr none) = inr none
 
-found_asks : (t : ℕ) (acked : Bool) (s : Shown) (f : Found) → IsFound f (s.running t) → effect_asked t acked (s.running t).mark (s.running t).effect ≡ effect_asked t acked (s.running t).mark (newest_first f.changes.items [])
+found_asks : (t : ℕ) (acked : Bool) (s : Shown) (f : Found) → IsFound f (s.running t) → effect_asked t acked (s.running t).mark (s.running t).effect ≡ effect_asked t acked (s.running t).mark (newest_before f.changes.items [])
 found_asks t acked s f found = ap (λ (e : Effect). effect_asked t acked (s.running t).mark e) found.effect
 
-pub none_asked : (w : Showing) (s : Shown) (t : ℕ) (acked : Bool) (f : Found) → IsShown w s → IsFound f (running_from t idle w.events.items) → (f.going ≡ false) ⊎ (f.changes.items ≡ []) → IsShown w (asks t acked s)
+pub none_asked : (w : Showing) (s : Shown) (t : ℕ) (acked : Bool) (f : Found) → KeepsShown w s → IsFound f (running_from t idle w.events.items) → (f.going ≡ false) ⊎ (f.changes.items ≡ []) → KeepsShown w (asks t acked s)
 none_asked w s t acked f h found why = record {
   failed = h.failed;
   running = h.running;
@@ -206,106 +206,106 @@ none_asked w s t acked f h found why = record {
     own : IsFound f (s.running t)
     own = subst (λ (r : Running). IsFound f r) (sym (h.running t)) found
 
-pub one_asked : (w new : Showing) (s : Shown) (t : ℕ) (acked : Bool) (f : Found) (a : AskedEffect) → IsShown w s → IsFound f (running_from t idle w.events.items) → f.going ≡ true → (f.changes.items ≡ [] → ⊥)
-    → a.txn ≡ t → a.acked ≡ acked → a.changes.items ≡ f.changes.items → new.failed ≡ w.failed → new.events.items ≡ w.events.items → new.asked.items ≡ w.asked.items ++ a ∷ [] → IsShown new (asks t acked s)
+pub one_asked : (w new : Showing) (s : Shown) (t : ℕ) (acked : Bool) (f : Found) (a : AskedEffect) → KeepsShown w s → IsFound f (running_from t idle w.events.items) → f.going ≡ true → (f.changes.items ≡ [] → ⊥)
+    → a.txn ≡ t → a.acked ≡ acked → a.changes.items ≡ f.changes.items → new.failed ≡ w.failed → new.events.items ≡ w.events.items → new.asked.items ≡ w.asked.items ++ a ∷ [] → KeepsShown new (asks t acked s)
 one_asked w new s t acked f a h found going some txn ack same failed events asked = record {
   failed = failed ∙ h.failed;
   running = λ u. h.running u ∙ ap (λ (l : List Event). running_from u idle l) (sym events);
   asked =
       ap (λ (l : List AskedEffect). asked_in l) asked
-      ∙ map-append asked_of w.asked.items (a ∷ [])
-      ∙ ap (λ (l : List Asked). l ++ asked_of a ∷ []) h.asked
-      ∙ ap (λ (l : List Asked). s.asked ++ l) (is ∙ sym (found_asks t acked s f own ∙ ap (λ (m : Mark). effect_asked t acked m (newest_first f.changes.items [])) (going_is (s.running t).mark (sym own.mark ∙ going)) ∙ asked_some t acked f.changes.items some));
+      ∙ map-append asked_effect w.asked.items (a ∷ [])
+      ∙ ap (λ (l : List Asked). l ++ asked_effect a ∷ []) h.asked
+      ∙ ap (λ (l : List Asked). s.asked ++ l) (is ∙ sym (found_asks t acked s f own ∙ ap (λ (m : Mark). effect_asked t acked m (newest_before f.changes.items [])) (going_is (s.running t).mark (sym own.mark ∙ going)) ∙ asked_some t acked f.changes.items some));
 }
   where
     own : IsFound f (s.running t)
     own = subst (λ (r : Running). IsFound f r) (sym (h.running t)) found
 
-    is : asked_of a ∷ [] ≡ record { txn = t; effect = newest_first f.changes.items []; acked = acked } ∷ []
-    is = ap (λ (n : ℕ). record { txn = n; effect = newest_first a.changes.items []; acked = a.acked } ∷ []) txn
-        ∙ ap (λ (l : List Change). record { txn = t; effect = newest_first l []; acked = a.acked } ∷ []) same
-        ∙ ap (λ (b : Bool). record { txn = t; effect = newest_first f.changes.items []; acked = b } ∷ []) ack
+    is : asked_effect a ∷ [] ≡ record { txn = t; effect = newest_before f.changes.items []; acked = acked } ∷ []
+    is = ap (λ (n : ℕ). record { txn = n; effect = newest_before a.changes.items []; acked = a.acked } ∷ []) txn
+        ∙ ap (λ (l : List Change). record { txn = t; effect = newest_before l []; acked = a.acked } ∷ []) same
+        ∙ ap (λ (b : Bool). record { txn = t; effect = newest_before f.changes.items []; acked = b } ∷ []) ack
 
 -- a Commit that was refused, or cut off
-pub not_asked : (w : Showing) (s : Shown) (t n : ℕ) → IsShown w s → (w.failed || n == memory || n == unfinished) ≡ true → IsShown w (refused n (answers.Commit t) s)
+pub not_asked : (w : Showing) (s : Shown) (t n : ℕ) → KeepsShown w s → (w.failed || n == memory || n == unfinished) ≡ true → KeepsShown w (refused n (answers.Commit t) s)
 not_asked w s t n h why =
-    subst (λ (x : Shown). IsShown w x) (sym (cond-true (s.failed || n == memory || n == unfinished) s (record (asks t false s) { failed = breaks n }) (ap (λ (b : Bool). b || n == memory || n == unfinished) (sym h.failed) ∙ why))) h
+    subst (λ (x : Shown). KeepsShown w x) (sym (cond-true (s.failed || n == memory || n == unfinished) s (record (asks t false s) { failed = breaks n }) (ap (λ (b : Bool). b || n == memory || n == unfinished) (sym h.failed) ∙ why))) h
 
-pub refused_asked : (w mid new : Showing) (s : Shown) (t n : ℕ) → IsShown w s → (w.failed || n == memory || n == unfinished) ≡ false → IsShown mid (asks t false s) → new.failed ≡ breaks n → new.events.items ≡ mid.events.items → new.asked.items ≡ mid.asked.items
-    → IsShown new (refused n (answers.Commit t) s)
+pub refused_asked : (w mid new : Showing) (s : Shown) (t n : ℕ) → KeepsShown w s → (w.failed || n == memory || n == unfinished) ≡ false → KeepsShown mid (asks t false s) → new.failed ≡ breaks n → new.events.items ≡ mid.events.items → new.asked.items ≡ mid.asked.items
+    → KeepsShown new (refused n (answers.Commit t) s)
 refused_asked w mid new s t n h why asks_it failed events asked =
-    subst (λ (x : Shown). IsShown new x) (sym (cond-false (s.failed || n == memory || n == unfinished) s (record (asks t false s) { failed = breaks n }) (ap (λ (b : Bool). b || n == memory || n == unfinished) (sym h.failed) ∙ why))) (record {
+    subst (λ (x : Shown). KeepsShown new x) (sym (cond-false (s.failed || n == memory || n == unfinished) s (record (asks t false s) { failed = breaks n }) (ap (λ (b : Bool). b || n == memory || n == unfinished) (sym h.failed) ∙ why))) (record {
       failed = failed;
       running = λ u. asks_it.running u ∙ ap (λ (l : List Event). running_from u idle l) (sym events);
       asked = ap (λ (l : List AskedEffect). asked_in l) asked ∙ asks_it.asked;
     })
 
-pub cut_failed : (w : Showing) (s : Shown) (t : ℕ) → IsShown w s → w.failed ≡ true → IsShown w (cut_off (answers.Commit t) s)
-cut_failed w s t h failed = subst (λ (x : Shown). IsShown w x) (sym (cond-true s.failed s (asks t false s) (sym h.failed ∙ failed))) h
+pub cut_failed : (w : Showing) (s : Shown) (t : ℕ) → KeepsShown w s → w.failed ≡ true → KeepsShown w (cut_off (answers.Commit t) s)
+cut_failed w s t h failed = subst (λ (x : Shown). KeepsShown w x) (sym (cond-true s.failed s (asks t false s) (sym h.failed ∙ failed))) h
 
-pub cut_asked : (w new : Showing) (s : Shown) (t : ℕ) → IsShown w s → w.failed ≡ false → IsShown new (asks t false s) → IsShown new (cut_off (answers.Commit t) s)
-cut_asked w new s t h works asked = subst (λ (x : Shown). IsShown new x) (sym (cond-false s.failed s (asks t false s) (sym h.failed ∙ works))) asked
+pub cut_asked : (w new : Showing) (s : Shown) (t : ℕ) → KeepsShown w s → w.failed ≡ false → KeepsShown new (asks t false s) → KeepsShown new (cut_off (answers.Commit t) s)
+cut_asked w new s t h works asked = subst (λ (x : Shown). KeepsShown new x) (sym (cond-false s.failed s (asks t false s) (sym h.failed ∙ works))) asked
 
 -- ---- steps
 
-pub started : (step : Step) (t : ℕ) (new : Showing) (s : Shown) → step ≡ steps.Begin → IsShown new (with_running t (behind Began (s.running t)) s) → IsShown new (answered (asked_by step) (answers.Started t) s)
-started step t new s is shown = subst (λ (x : Step). IsShown new (answered (asked_by x) (answers.Started t) s)) (sym is) shown
+pub started : (step : Step) (t : ℕ) (new : Showing) (s : Shown) → step ≡ steps.Begin → KeepsShown new (with_running t (behind Began (s.running t)) s) → KeepsShown new (answered (asked_by step) (answers.Started t) s)
+started step t new s is shown = subst (λ (x : Step). KeepsShown new (answered (asked_by x) (answers.Started t) s)) (sym is) shown
 
-pub inserted : (step : Step) (t : ℕ) (key : Vec ℕ Global) (rid : ℕ) (bytes : List ℕ) (x : changes.Change) (new : Showing) (s : Shown) → step ≡ steps.Insert t key rid → bytes ≡ key.items → x ≡ changes.Put bytes rid → IsShown new (adds t x s)
-    → IsShown new (answered (asked_by step) answers.Inserted s)
+pub inserted : (step : Step) (t : ℕ) (key : Vec ℕ Global) (rid : ℕ) (bytes : List ℕ) (x : changes.Change) (new : Showing) (s : Shown) → step ≡ steps.Insert t key rid → bytes ≡ key.items → x ≡ changes.Put bytes rid → KeepsShown new (adds t x s)
+    → KeepsShown new (answered (asked_by step) answers.Inserted s)
 inserted step t key rid bytes x new s is same put shown =
-    subst (λ (y : Step). IsShown new (answered (asked_by y) answers.Inserted s)) (sym is)
-    (subst (λ (y : changes.Change). IsShown new (adds t y s)) (put ∙ ap (λ (k : List ℕ). changes.Put k rid) same) shown)
+    subst (λ (y : Step). KeepsShown new (answered (asked_by y) answers.Inserted s)) (sym is)
+    (subst (λ (y : changes.Change). KeepsShown new (adds t y s)) (put ∙ ap (λ (k : List ℕ). changes.Put k rid) same) shown)
 
-pub deleted : (step : Step) (t : ℕ) (key : Vec ℕ Global) (bytes : List ℕ) (x : changes.Change) (new : Showing) (s : Shown) → step ≡ steps.Delete t key → bytes ≡ key.items → x ≡ changes.Drop bytes 0 → IsShown new (adds t x s)
-    → IsShown new (answered (asked_by step) answers.Deleted s)
+pub deleted : (step : Step) (t : ℕ) (key : Vec ℕ Global) (bytes : List ℕ) (x : changes.Change) (new : Showing) (s : Shown) → step ≡ steps.Delete t key → bytes ≡ key.items → x ≡ changes.Drop bytes 0 → KeepsShown new (adds t x s)
+    → KeepsShown new (answered (asked_by step) answers.Deleted s)
 deleted step t key bytes x new s is same drop shown =
-    subst (λ (y : Step). IsShown new (answered (asked_by y) answers.Deleted s)) (sym is)
-    (subst (λ (y : changes.Change). IsShown new (adds t y s)) (drop ∙ ap (λ (k : List ℕ). changes.Drop k 0) same) shown)
+    subst (λ (y : Step). KeepsShown new (answered (asked_by y) answers.Deleted s)) (sym is)
+    (subst (λ (y : changes.Change). KeepsShown new (adds t y s)) (drop ∙ ap (λ (k : List ℕ). changes.Drop k 0) same) shown)
 
 pub insert_goes_on : (step : Step) (t : ℕ) (key : Vec ℕ Global) (rid : ℕ) (bytes : List ℕ) (c : Change) (new : Showing) (s : Shown) → step ≡ steps.Insert t key rid → bytes ≡ key.items → change_of c ≡ changes.Put bytes rid
-    → IsShown new (with_running t (behind (GoesOn c) (s.running t)) s) → IsShown new (answered (asked_by step) answers.More s)
+    → KeepsShown new (with_running t (behind (GoesOn c) (s.running t)) s) → KeepsShown new (answered (asked_by step) answers.More s)
 insert_goes_on step t key rid bytes c new s is same put shown =
-    subst (λ (y : Step). IsShown new (answered (asked_by y) answers.More s)) (sym is)
-    (subst (λ (y : changes.Change). IsShown new (pends t (maker_of y) s)) (put ∙ ap (λ (k : List ℕ). changes.Put k rid) same) shown)
+    subst (λ (y : Step). KeepsShown new (answered (asked_by y) answers.More s)) (sym is)
+    (subst (λ (y : changes.Change). KeepsShown new (pends t (maker_of y) s)) (put ∙ ap (λ (k : List ℕ). changes.Put k rid) same) shown)
 
 pub delete_goes_on : (step : Step) (t : ℕ) (key : Vec ℕ Global) (bytes : List ℕ) (c : Change) (new : Showing) (s : Shown) → step ≡ steps.Delete t key → bytes ≡ key.items → change_of c ≡ changes.Drop bytes 0
-    → IsShown new (with_running t (behind (GoesOn c) (s.running t)) s) → IsShown new (answered (asked_by step) answers.More s)
+    → KeepsShown new (with_running t (behind (GoesOn c) (s.running t)) s) → KeepsShown new (answered (asked_by step) answers.More s)
 delete_goes_on step t key bytes c new s is same drop shown =
-    subst (λ (y : Step). IsShown new (answered (asked_by y) answers.More s)) (sym is)
-    (subst (λ (y : changes.Change). IsShown new (pends t (maker_of y) s)) (drop ∙ ap (λ (k : List ℕ). changes.Drop k 0) same) shown)
+    subst (λ (y : Step). KeepsShown new (answered (asked_by y) answers.More s)) (sym is)
+    (subst (λ (y : changes.Change). KeepsShown new (pends t (maker_of y) s)) (drop ∙ ap (λ (k : List ℕ). changes.Drop k 0) same) shown)
 
-pub insert_ends : (step : Step) (t : ℕ) (new : Showing) (s : Shown) → step ≡ steps.Continue t → IsShown new (with_running t (behind InsertEnded (s.running t)) s) → IsShown new (answered (asked_by step) answers.Inserted s)
-insert_ends step t new s is shown = subst (λ (y : Step). IsShown new (answered (asked_by y) answers.Inserted s)) (sym is) shown
+pub insert_ends : (step : Step) (t : ℕ) (new : Showing) (s : Shown) → step ≡ steps.Continue t → KeepsShown new (with_running t (behind InsertEnded (s.running t)) s) → KeepsShown new (answered (asked_by step) answers.Inserted s)
+insert_ends step t new s is shown = subst (λ (y : Step). KeepsShown new (answered (asked_by y) answers.Inserted s)) (sym is) shown
 
-pub delete_ends : (step : Step) (t : ℕ) (new : Showing) (s : Shown) → step ≡ steps.Continue t → IsShown new (with_running t (behind DeleteEnded (s.running t)) s) → IsShown new (answered (asked_by step) answers.Deleted s)
-delete_ends step t new s is shown = subst (λ (y : Step). IsShown new (answered (asked_by y) answers.Deleted s)) (sym is) shown
+pub delete_ends : (step : Step) (t : ℕ) (new : Showing) (s : Shown) → step ≡ steps.Continue t → KeepsShown new (with_running t (behind DeleteEnded (s.running t)) s) → KeepsShown new (answered (asked_by step) answers.Deleted s)
+delete_ends step t new s is shown = subst (λ (y : Step). KeepsShown new (answered (asked_by y) answers.Deleted s)) (sym is) shown
 
-pub committed : (step : Step) (t : ℕ) (mid new : Showing) (s : Shown) → step ≡ steps.Commit t → ((u : Shown) → IsShown mid u → IsShown new (with_running t (behind Ended (u.running t)) u)) → IsShown mid (asks t true s)
-    → IsShown new (answered (asked_by step) answers.Committed s)
-committed step t mid new s is ends shown = subst (λ (y : Step). IsShown new (answered (asked_by y) answers.Committed s)) (sym is) (ends (asks t true s) shown)
+pub committed : (step : Step) (t : ℕ) (mid new : Showing) (s : Shown) → step ≡ steps.Commit t → ((u : Shown) → KeepsShown mid u → KeepsShown new (with_running t (behind Ended (u.running t)) u)) → KeepsShown mid (asks t true s)
+    → KeepsShown new (answered (asked_by step) answers.Committed s)
+committed step t mid new s is ends shown = subst (λ (y : Step). KeepsShown new (answered (asked_by y) answers.Committed s)) (sym is) (ends (asks t true s) shown)
 
-pub waits : (step : Step) (t : ℕ) (mid new : Showing) (s : Shown) → step ≡ steps.Commit t → ((u : Shown) → IsShown mid u → IsShown new (with_running t (behind Waited (u.running t)) u)) → IsShown mid (asks t false s)
-    → IsShown new (answered (asked_by step) answers.More s)
-waits step t mid new s is happens shown = subst (λ (y : Step). IsShown new (answered (asked_by y) answers.More s)) (sym is) (happens (asks t false s) shown)
+pub waits : (step : Step) (t : ℕ) (mid new : Showing) (s : Shown) → step ≡ steps.Commit t → ((u : Shown) → KeepsShown mid u → KeepsShown new (with_running t (behind Waited (u.running t)) u)) → KeepsShown mid (asks t false s)
+    → KeepsShown new (answered (asked_by step) answers.More s)
+waits step t mid new s is happens shown = subst (λ (y : Step). KeepsShown new (answered (asked_by y) answers.More s)) (sym is) (happens (asks t false s) shown)
 
-pub turned : (step : Step) (t : ℕ) (new : Showing) (s : Shown) → step ≡ steps.Rollback t → IsShown new (with_running t (behind Turned (s.running t)) s) → IsShown new (answered (asked_by step) answers.More s)
-turned step t new s is shown = subst (λ (y : Step). IsShown new (answered (asked_by y) answers.More s)) (sym is) shown
+pub turned : (step : Step) (t : ℕ) (new : Showing) (s : Shown) → step ≡ steps.Rollback t → KeepsShown new (with_running t (behind Turned (s.running t)) s) → KeepsShown new (answered (asked_by step) answers.More s)
+turned step t new s is shown = subst (λ (y : Step). KeepsShown new (answered (asked_by y) answers.More s)) (sym is) shown
 
-pub returns_to : (step : Step) (t n : ℕ) (new : Showing) (s : Shown) → step ≡ steps.RollTo t n → IsShown new (with_running t (behind (Returned n) (s.running t)) s) → IsShown new (answered (asked_by step) answers.More s)
-returns_to step t n new s is shown = subst (λ (y : Step). IsShown new (answered (asked_by y) answers.More s)) (sym is) shown
+pub returns_to : (step : Step) (t n : ℕ) (new : Showing) (s : Shown) → step ≡ steps.RollTo t n → KeepsShown new (with_running t (behind (Returned n) (s.running t)) s) → KeepsShown new (answered (asked_by step) answers.More s)
+returns_to step t n new s is shown = subst (λ (y : Step). KeepsShown new (answered (asked_by y) answers.More s)) (sym is) shown
 
-pub had_none : (step : Step) (t n : ℕ) (new : Showing) (s : Shown) → step ≡ steps.RollTo t n → IsShown new (with_running t (behind Resumed (s.running t)) s) → IsShown new (answered (asked_by step) answers.Done s)
-had_none step t n new s is shown = subst (λ (y : Step). IsShown new (answered (asked_by y) answers.Done s)) (sym is) shown
+pub had_none : (step : Step) (t n : ℕ) (new : Showing) (s : Shown) → step ≡ steps.RollTo t n → KeepsShown new (with_running t (behind Resumed (s.running t)) s) → KeepsShown new (answered (asked_by step) answers.Done s)
+had_none step t n new s is shown = subst (λ (y : Step). KeepsShown new (answered (asked_by y) answers.Done s)) (sym is) shown
 
-pub resumes : (step : Step) (t : ℕ) (new : Showing) (s : Shown) → step ≡ steps.Continue t → IsShown new (with_running t (behind Resumed (s.running t)) s) → IsShown new (answered (asked_by step) answers.Done s)
-resumes step t new s is shown = subst (λ (y : Step). IsShown new (answered (asked_by y) answers.Done s)) (sym is) shown
+pub resumes : (step : Step) (t : ℕ) (new : Showing) (s : Shown) → step ≡ steps.Continue t → KeepsShown new (with_running t (behind Resumed (s.running t)) s) → KeepsShown new (answered (asked_by step) answers.Done s)
+resumes step t new s is shown = subst (λ (y : Step). KeepsShown new (answered (asked_by y) answers.Done s)) (sym is) shown
 
-pub rolled_back : (step : Step) (t : ℕ) (new : Showing) (s : Shown) → (step ≡ steps.Rollback t) ⊎ (step ≡ steps.Continue t) → IsShown new (with_running t (behind Ended (s.running t)) s) → IsShown new (answered (asked_by step) answers.RolledBack s)
-rolled_back step t new s (inl is) shown = subst (λ (y : Step). IsShown new (answered (asked_by y) answers.RolledBack s)) (sym is) shown
-rolled_back step t new s (inr is) shown = subst (λ (y : Step). IsShown new (answered (asked_by y) answers.RolledBack s)) (sym is) shown
+pub rolled_back : (step : Step) (t : ℕ) (new : Showing) (s : Shown) → (step ≡ steps.Rollback t) ⊎ (step ≡ steps.Continue t) → KeepsShown new (with_running t (behind Ended (s.running t)) s) → KeepsShown new (answered (asked_by step) answers.RolledBack s)
+rolled_back step t new s (inl is) shown = subst (λ (y : Step). KeepsShown new (answered (asked_by y) answers.RolledBack s)) (sym is) shown
+rolled_back step t new s (inr is) shown = subst (λ (y : Step). KeepsShown new (answered (asked_by y) answers.RolledBack s)) (sym is) shown
 
-dies : (t : ℕ) (a : answers.Access) (new : Showing) (s : Shown) → IsShown new (with_running t (behind Died (s.running t)) s) → IsShown new (answered (answers.Do t a) answers.Die s)
+dies : (t : ℕ) (a : answers.Access) (new : Showing) (s : Shown) → KeepsShown new (with_running t (behind Died (s.running t)) s) → KeepsShown new (answered (answers.Do t a) answers.Die s)
 dies t (answers.Fetch k) new s shown = shown
 dies t (answers.Seek k) new s shown = shown
 dies t (answers.Next k) new s shown = shown
@@ -314,8 +314,8 @@ dies t (answers.Scan lo hi n) new s shown = shown
 dies t (answers.Insert k r) new s shown = shown
 dies t (answers.Delete k) new s shown = shown
 
-pub died : (step : answers.Step) (t : ℕ) (new : Showing) (s : Shown) → transaction_of_access step ≡ Some t → IsShown new (with_running t (behind Died (s.running t)) s) → IsShown new (answered step answers.Die s)
-died (answers.Do u a) t new s is shown = let same : t ≡ u = cc in dies u a new s (subst (λ (x : ℕ). IsShown new (with_running x (behind Died (s.running x)) s)) same shown)
+pub died : (step : answers.Step) (t : ℕ) (new : Showing) (s : Shown) → transaction_of_access step ≡ Some t → KeepsShown new (with_running t (behind Died (s.running t)) s) → KeepsShown new (answered step answers.Die s)
+died (answers.Do u a) t new s is shown = let same : t ≡ u = cc in dies u a new s (subst (λ (x : ℕ). KeepsShown new (with_running x (behind Died (s.running x)) s)) same shown)
 died answers.Begin t new s is shown = absurd (cc)
 died (answers.Commit u) t new s is shown = absurd (cc)
 died (answers.Rollback u) t new s is shown = absurd (cc)
@@ -326,7 +326,7 @@ died answers.Force t new s is shown = absurd (cc)
 died answers.Checkpoint t new s is shown = absurd (cc)
 died answers.Switch t new s is shown = absurd (cc)
 
-pub none_died : (step : answers.Step) (w : Showing) (s : Shown) → transaction_of_access step ≡ None → IsShown w s → IsShown w (answered step answers.Die s)
+pub none_died : (step : answers.Step) (w : Showing) (s : Shown) → transaction_of_access step ≡ None → KeepsShown w s → KeepsShown w (answered step answers.Die s)
 none_died (answers.Do u a) w s is shown = absurd (cc)
 none_died answers.Begin w s is shown = shown
 none_died (answers.Commit u) w s is shown = shown
@@ -341,7 +341,7 @@ none_died answers.Switch w s is shown = shown
 -- ---- what else changes
 
 -- the engine may have failed
-pub failed_now : (w new : Showing) (s : Shown) (b : Bool) → IsShown w s → new.failed ≡ b → new.events.items ≡ w.events.items → new.asked.items ≡ w.asked.items → IsShown new (record s { failed = b })
+pub failed_now : (w new : Showing) (s : Shown) (b : Bool) → KeepsShown w s → new.failed ≡ b → new.events.items ≡ w.events.items → new.asked.items ≡ w.asked.items → KeepsShown new (record s { failed = b })
 failed_now w new s b h failed events asked = record {
   failed = failed;
   running = λ u. h.running u ∙ ap (λ (l : List Event). running_from u idle l) (sym events);
@@ -349,7 +349,7 @@ failed_now w new s b h failed events asked = record {
 }
 
 -- all that was asked is acknowledged
-pub all_acked_now : (w new : Showing) (s : Shown) → IsShown w s → new.failed ≡ w.failed → new.events.items ≡ w.events.items → asked_in new.asked.items ≡ all_acked (asked_in w.asked.items) → IsShown new (record s { asked = all_acked s.asked })
+pub all_acked_now : (w new : Showing) (s : Shown) → KeepsShown w s → new.failed ≡ w.failed → new.events.items ≡ w.events.items → asked_in new.asked.items ≡ all_acked (asked_in w.asked.items) → KeepsShown new (record s { asked = all_acked s.asked })
 all_acked_now w new s h failed events asked = record {
   failed = failed ∙ h.failed;
   running = λ u. h.running u ∙ ap (λ (l : List Event). running_from u idle l) (sym events);
@@ -362,30 +362,30 @@ acked_append (x ∷ xs) ys = ap (λ (l : List Asked). record x { acked = true } 
 
 pub acked_push : (some all : List AskedEffect) (a b : AskedEffect) → asked_in all ≡ all_acked (asked_in some) → b.txn ≡ a.txn → b.changes.items ≡ a.changes.items → b.acked ≡ true → asked_in (all ++ b ∷ []) ≡ all_acked (asked_in (some ++ a ∷ []))
 acked_push some all a b is txn same acked =
-    map-append asked_of all (b ∷ [])
-    ∙ ap (λ (l : List Asked). l ++ asked_of b ∷ []) is
+    map-append asked_effect all (b ∷ [])
+    ∙ ap (λ (l : List Asked). l ++ asked_effect b ∷ []) is
     ∙ ap (λ (l : List Asked). all_acked (asked_in some) ++ l) one
-    ∙ sym (acked_append (asked_in some) (asked_of a ∷ []))
-    ∙ ap (λ (l : List Asked). all_acked l) (sym (map-append asked_of some (a ∷ [])))
+    ∙ sym (acked_append (asked_in some) (asked_effect a ∷ []))
+    ∙ ap (λ (l : List Asked). all_acked l) (sym (map-append asked_effect some (a ∷ [])))
   where
-    one : asked_of b ∷ [] ≡ all_acked (asked_of a ∷ [])
-    one = ap (λ (n : ℕ). record { txn = n; effect = newest_first b.changes.items []; acked = b.acked } ∷ []) txn
-        ∙ ap (λ (l : List Change). record { txn = a.txn; effect = newest_first l []; acked = b.acked } ∷ []) same
-        ∙ ap (λ (x : Bool). record { txn = a.txn; effect = newest_first a.changes.items []; acked = x } ∷ []) acked
+    one : asked_effect b ∷ [] ≡ all_acked (asked_effect a ∷ [])
+    one = ap (λ (n : ℕ). record { txn = n; effect = newest_before b.changes.items []; acked = b.acked } ∷ []) txn
+        ∙ ap (λ (l : List Change). record { txn = a.txn; effect = newest_before l []; acked = b.acked } ∷ []) same
+        ∙ ap (λ (x : Bool). record { txn = a.txn; effect = newest_before a.changes.items []; acked = x } ∷ []) acked
 
 -- ---- lines
 
 -- one line more
 pub shown_more : (s : Shown) (all : List StoreLine) (told : List StoreReply) (i : ℕ) (line : StoreLine) (reply : StoreReply) → i < length all → i < length told → line ≡ get_or all i line → reply ≡ get_or told i reply
-    → shown_in s (take (i + 1) all) (take (i + 1) told) ≡ shown_after (shown_in s (take i all) (take i told)) line reply
+    → shown_by_lines s (take (i + 1) all) (take (i + 1) told) ≡ shown_after (shown_by_lines s (take i all) (take i told)) line reply
 shown_more s all told i line reply within answered line_is reply_is =
     let lines : take (i + 1) all ≡ take i all ++ line ∷ [] = take_more all i line within ∙ ap (λ (x : StoreLine). take i all ++ x ∷ []) (sym line_is) in
     let replies : take (i + 1) told ≡ take i told ++ reply ∷ [] = take_more told i reply answered ∙ ap (λ (x : StoreReply). take i told ++ x ∷ []) (sym reply_is) in
     let long : length (take i told) ≡ length (take i all) = length-take-le i told (omega arith) ∙ sym (length-take-le i all (omega arith)) in
-    ap (λ (l : List StoreLine). shown_in s l (take (i + 1) told)) lines ∙ ap (λ (l : List StoreReply). shown_in s (take i all ++ line ∷ []) l) replies ∙ shown_push s (take i all) (take i told) line reply long
+    ap (λ (l : List StoreLine). shown_by_lines s l (take (i + 1) told)) lines ∙ ap (λ (l : List StoreReply). shown_by_lines s (take i all ++ line ∷ []) l) replies ∙ shown_push s (take i all) (take i told) line reply long
 
 -- after the last line, or the last reply, nothing is shown
-pub shown_end : (s : Shown) (all : List StoreLine) (told : List StoreReply) (i : ℕ) → (length all ≤ i) ⊎ (length told ≤ i) → shown_in s (take i all) (take i told) ≡ shown_in s all told
+pub shown_end : (s : Shown) (all : List StoreLine) (told : List StoreReply) (i : ℕ) → (length all ≤ i) ⊎ (length told ≤ i) → shown_by_lines s (take i all) (take i told) ≡ shown_by_lines s all told
 shown_end s [] told zero e = refl
 shown_end s [] told (suc i) e = refl
 shown_end s (line ∷ all) [] zero e = refl

@@ -21,15 +21,15 @@ change_of (Insertion key rid) = changes.Put key.items rid
 change_of (Deletion key) = changes.Drop key.items 0
 
 -- changes in the order in which they were made, in front of an effect, which has the newest first
-abbrev pub newest_first : List Change → Effect → Effect
-newest_first [] e = e
-newest_first (c ∷ cs) e = newest_first cs (change_of c ∷ e)
+abbrev pub newest_before : List Change → Effect → Effect
+newest_before [] e = e
+newest_before (c ∷ cs) e = newest_before cs (change_of c ∷ e)
 
-abbrev pub asked_of : AskedEffect → Asked
-asked_of a = record { txn = a.txn; effect = newest_first a.changes.items []; acked = a.acked }
+abbrev pub asked_effect : AskedEffect → Asked
+asked_effect a = record { txn = a.txn; effect = newest_before a.changes.items []; acked = a.acked }
 
 abbrev pub asked_in : List AskedEffect → List Asked
-asked_in asked = map asked_of asked
+asked_in asked = map asked_effect asked
 
 -- The entries are those of what a life that asked this may leave of an empty store: of a front of the effects that it asked, in which each
 -- that was acknowledged is.
@@ -48,8 +48,8 @@ IsGood asked (Ok found) = IsAllowed asked found.items
 IsGood asked (Err fault) = IsPassedOver fault
 
 -- entries with keys that lie elsewhere in memory
-abbrev pub held : List (Vec ℕ × ℕ) → List Entry
-held es = map (λ e. (e.0.items, e.1)) es
+abbrev pub held_entries : List (Vec ℕ × ℕ) → List Entry
+held_entries es = map (λ e. (e.0.items, e.1)) es
 
 -- entries with a row id put at a key, in its place among them
 abbrev pub with_entry : Key → ℕ → List Entry → List Entry

@@ -10,7 +10,7 @@ use Rattle.im_tool_judge.specs.declared.happened.Found.{Found}
 use Rattle.im_tool_judge.specs.declared.happened.Happened.{Happened}
 use Rattle.im_tool_judge.specs.declared.happened.Happened.TheVariants.{Began, Changed, GoesOn, InsertEnded, DeleteEnded, Died, Turned, Returned, Resumed, Waited, Ended}
 use Rattle.im_tool_judge.specs.declared.showing.Showing.{Showing}
-use Rattle.im_tool_judge.specs.Judged.{asked_in, change_of, newest_first}
+use Rattle.im_tool_judge.specs.Judged.{asked_in, change_of, newest_before}
 
 -- the access that makes a change
 abbrev pub maker_of : changes.Change → Access
@@ -46,7 +46,7 @@ running_from t r [] = r
 running_from t r (e ∷ more) = running_from t (if t == e.txn then behind e.what r else r) more
 
 -- What is kept is what is shown.
-pub record IsShown (w : Showing) (s : Shown) : Type 0 where
+pub record KeepsShown (w : Showing) (s : Shown) : Type 0 where
   pub failed : w.failed ≡ s.failed
   pub running : (t : ℕ) → s.running t ≡ running_from t idle w.events.items
   pub asked : asked_in w.asked.items ≡ s.asked
@@ -68,5 +68,5 @@ transaction_of_access _ = None
 -- A transaction is found as it is.
 pub record IsFound (f : Found) (r : Running) : Type 0 where
   pub mark : f.going ≡ is_going r.mark
-  pub effect : r.effect ≡ newest_first f.changes.items []
+  pub effect : r.effect ≡ newest_before f.changes.items []
   pub pending : r.pending ≡ pending_in f.pending

@@ -3,7 +3,7 @@
 ghost use Rattle.std.specs.Prelude.{◌≡◌, ◌++◌, true, false, [], None, Some, IfOk};
 ghost use Rattle.im_base_types.specs.Answers as answers;
 ghost use Rattle.im_base_types.specs.Lives.{Running, idle, oldest, shown_change};
-ghost use Rattle.im_tool_judge.specs.Judged.{change_of, newest_first};
+ghost use Rattle.im_tool_judge.specs.Judged.{change_of, newest_before};
 ghost use Rattle.im_tool_judge.specs.Shows.{IsFound, behind, effect_in, pending_in, running_from};
 
 use crate::change::Change;
@@ -181,7 +181,7 @@ fn only_deletion(change: Change) -> Option<Change>
 #[tactic(auto, using(crate::proofs::Shows::newest_push))]
 fn joined(going: bool, changes: Vec<Change>, more: Option<Change>) -> Result<Found, AllocError>
     ensures going { IfOk result (λ new. new.going ≡ going) }
-    ensures changes { IfOk result (λ new. newest_first new.changes.items [] ≡ effect_in more ++ newest_first changes.items []) }
+    ensures changes { IfOk result (λ new. newest_before new.changes.items [] ≡ effect_in more ++ newest_before changes.items []) }
     ensures pending { IfOk result (λ new. new.pending ≡ None) }
 {
     let mut changes = changes;
@@ -217,7 +217,7 @@ fn stopped(found: Found) -> Found
 #[tactic(auto, using(crate::proofs::Returned::oldest_kept, crate::proofs::Returned::oldest_few))]
 fn returned(found: Found, left: u64) -> Found
     ensures going { result.going ≡ false }
-    ensures changes { newest_first result.changes.items [] ≡ oldest left (newest_first found.changes.items []) }
+    ensures changes { newest_before result.changes.items [] ≡ oldest left (newest_before found.changes.items []) }
     ensures pending { result.pending ≡ found.pending }
 {
     let Found {

@@ -2,7 +2,7 @@
 
 ghost use Rattle.std.specs.Prelude.{◌≡◌, ◌↔◌, true, IfOk};
 ghost use Rattle.im_base_types.specs.Lives.{NoneAcked};
-ghost use Rattle.im_tool_judge.specs.Judged.{IsAllowed, IsGood, IsPassedOver, asked_in, held};
+ghost use Rattle.im_tool_judge.specs.Judged.{IsAllowed, IsGood, IsPassedOver, asked_in, held_entries};
 
 use crate::change::AskedEffect;
 use crate::sorted::Sorted;
@@ -53,7 +53,7 @@ pub fn is_passed_over(fault: Fault) -> bool
 
 // Whether none of the effects after a front was acknowledged, and what was found are the entries of the map after that front.
 fn is_front(rest: &[AskedEffect], map: &Sorted, found: &[(Key, Rid)]) -> bool
-    ensures { result ≡ true ↔ NoneAcked (asked_in rest.now) × (found.now ≡ held map.now.entries.items) }
+    ensures { result ≡ true ↔ NoneAcked (asked_in rest.now) × (found.now ≡ held_entries map.now.entries.items) }
 {
     none_acked(rest) && map.is(found)
 }

@@ -1,6 +1,6 @@
 //! Is what an opening found allowed? Are these the answers of a life in which a call failed?
 //!
-//! `effects_asked` reads off a life's lines and replies which effects it asked, as the definition of lives shows them (`shown_in`). `is_allowed` says
+//! `effects_asked` reads off a life's lines and replies which effects it asked, as the definition of lives shows them (`shown_by_lines`). `is_allowed` says
 //! whether the entries that an opening found are those of a front of these effects, with all that were acknowledged (`IsAllowed`): it keeps a plain
 //! ordered list of entries, and knows nothing of pages or logs. `is_good` judges also an opening that was refused (`IsGood`).
 //!

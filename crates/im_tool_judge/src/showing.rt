@@ -9,9 +9,9 @@ ghost use Rattle.im_base_types.specs.Refusals.{memory, unfinished};
 ghost use Rattle.im_base_steps.specs.Calls.{asked_by, told_by};
 ghost use Rattle.im_base_types.specs.Faults.{number_of};
 ghost use Rattle.im_tool_lines.specs.declared.store_life.StoreLine.TheVariants as lines;
-ghost use Rattle.im_tool_lines.specs.StoreShown.{shown_after, shown_in};
+ghost use Rattle.im_tool_lines.specs.StoreShown.{shown_after, shown_by_lines};
 ghost use Rattle.im_tool_judge.specs.Judged.{asked_in, change_of};
-ghost use Rattle.im_tool_judge.specs.Shows.{IsShown, IsFound, transaction_of_access, behind, running_from};
+ghost use Rattle.im_tool_judge.specs.Shows.{KeepsShown, IsFound, transaction_of_access, behind, running_from};
 
 use crate::change::{AskedEffect, Change};
 use crate::happened::{Event, Found, Happened, find};
@@ -28,7 +28,7 @@ pub fn effects_asked(
     lines: &[StoreLine],
     replies: &[StoreReply],
 ) -> Result<Vec<AskedEffect>, AllocError>
-    ensures { IfOk result (λ asked. asked_in asked.items ≡ (shown_in nothing_shown lines.now replies.now).asked) }
+    ensures { IfOk result (λ asked. asked_in asked.items ≡ (shown_by_lines nothing_shown lines.now replies.now).asked) }
 {
     let mut showing = Showing::new(alloc);
     let count = shorter(lines.len(), replies.len());
@@ -63,7 +63,7 @@ pub(crate) struct Showing {
 
 impl Showing {
     fn new(alloc: Global) -> Showing
-        ensures { IsShown result nothing_shown }
+        ensures { KeepsShown result nothing_shown }
     {
         Showing {
             alloc,
@@ -75,7 +75,7 @@ impl Showing {
 
     // What is shown once a line was answered.
     fn add(&mut self, line: &StoreLine, reply: &StoreReply) -> Result<(), AllocError>
-        ensures { OnOk result ((s : Shown) → IsShown self.old s → IsShown self.new (shown_after s line.now reply.now)) }
+        ensures { OnOk result ((s : Shown) → KeepsShown self.old s → KeepsShown self.new (shown_after s line.now reply.now)) }
     {
         match line {
             StoreLine::Step(step) => self.step(step, reply),
@@ -90,7 +90,7 @@ impl Showing {
     }
 
     fn look(&mut self, reply: &StoreReply)
-        ensures { (s : Shown) (page : ℕ) → IsShown self.old s → IsShown self.new (shown_after s (lines.Page page) reply.now) }
+        ensures { (s : Shown) (page : ℕ) → KeepsShown self.old s → KeepsShown self.new (shown_after s (lines.Page page) reply.now) }
     {
         if let StoreReply::Refused(fault) = reply {
             self.failed = breaks(*fault);
@@ -98,7 +98,7 @@ impl Showing {
     }
 
     fn step(&mut self, step: &Step, reply: &StoreReply) -> Result<(), AllocError>
-        ensures { OnOk result ((s : Shown) → IsShown self.old s → IsShown self.new (shown_after s (lines.Step step.now) reply.now)) }
+        ensures { OnOk result ((s : Shown) → KeepsShown self.old s → KeepsShown self.new (shown_after s (lines.Step step.now) reply.now)) }
     {
         match reply {
             StoreReply::Step(reply) => self.answer(step, reply),
@@ -113,7 +113,7 @@ impl Showing {
 
     // The stop fell within a step.
     fn cut_off(&mut self, step: &Step) -> Result<(), AllocError>
-        ensures { OnOk result ((s : Shown) → IsShown self.old s → IsShown self.new (cut_off (asked_by step.now) s)) }
+        ensures { OnOk result ((s : Shown) → KeepsShown self.old s → KeepsShown self.new (cut_off (asked_by step.now) s)) }
     {
         match step {
             Step::Commit(txn) => self.cut_commit(*txn),
@@ -122,7 +122,7 @@ impl Showing {
     }
 
     fn cut_commit(&mut self, txn: TxnId) -> Result<(), AllocError>
-        ensures { OnOk result ((s : Shown) → IsShown self.old s → IsShown self.new (cut_off (answers.Commit txn) s)) }
+        ensures { OnOk result ((s : Shown) → KeepsShown self.old s → KeepsShown self.new (cut_off (answers.Commit txn) s)) }
     {
         if self.failed {
             return Ok(());
@@ -131,7 +131,7 @@ impl Showing {
     }
 
     fn answer(&mut self, step: &Step, reply: &Reply) -> Result<(), AllocError>
-        ensures { OnOk result ((s : Shown) → IsShown self.old s → IsShown self.new (answered (asked_by step.now) (told_by reply.now) s)) }
+        ensures { OnOk result ((s : Shown) → KeepsShown self.old s → KeepsShown self.new (answered (asked_by step.now) (told_by reply.now) s)) }
     {
         match reply {
             Reply::Refused(fault) => self.refuse(step, *fault),
@@ -154,7 +154,7 @@ impl Showing {
     }
 
     fn refuse(&mut self, step: &Step, fault: Fault) -> Result<(), AllocError>
-        ensures { OnOk result ((s : Shown) → IsShown self.old s → IsShown self.new (refused (number_of fault) (asked_by step.now) s)) }
+        ensures { OnOk result ((s : Shown) → KeepsShown self.old s → KeepsShown self.new (refused (number_of fault) (asked_by step.now) s)) }
     {
         match step {
             Step::Commit(txn) => self.refuse_commit(*txn, fault),
@@ -167,7 +167,7 @@ impl Showing {
     }
 
     fn refuse_commit(&mut self, txn: TxnId, fault: Fault) -> Result<(), AllocError>
-        ensures { OnOk result ((s : Shown) → IsShown self.old s → IsShown self.new (refused (number_of fault) (answers.Commit txn) s)) }
+        ensures { OnOk result ((s : Shown) → KeepsShown self.old s → KeepsShown self.new (refused (number_of fault) (answers.Commit txn) s)) }
     {
         if is_unasked(self.failed, fault) {
             return Ok(());
@@ -178,7 +178,7 @@ impl Showing {
     }
 
     fn start(&mut self, step: &Step, txn: TxnId) -> Result<(), AllocError>
-        ensures { OnOk result ((s : Shown) → IsShown self.old s → IsShown self.new (answered (asked_by step.now) (answers.Started txn) s)) }
+        ensures { OnOk result ((s : Shown) → KeepsShown self.old s → KeepsShown self.new (answered (asked_by step.now) (answers.Started txn) s)) }
     {
         match step {
             Step::Begin => {
@@ -190,7 +190,7 @@ impl Showing {
     }
 
     fn insert(&mut self, step: &Step) -> Result<(), AllocError>
-        ensures { OnOk result ((s : Shown) → IsShown self.old s → IsShown self.new (answered (asked_by step.now) answers.Inserted s)) }
+        ensures { OnOk result ((s : Shown) → KeepsShown self.old s → KeepsShown self.new (answered (asked_by step.now) answers.Inserted s)) }
     {
         match step {
             Step::Insert(txn, key, rid) => {
@@ -207,7 +207,7 @@ impl Showing {
     }
 
     fn delete(&mut self, step: &Step) -> Result<(), AllocError>
-        ensures { OnOk result ((s : Shown) → IsShown self.old s → IsShown self.new (answered (asked_by step.now) answers.Deleted s)) }
+        ensures { OnOk result ((s : Shown) → KeepsShown self.old s → KeepsShown self.new (answered (asked_by step.now) answers.Deleted s)) }
     {
         match step {
             Step::Delete(txn, key) => {
@@ -224,7 +224,7 @@ impl Showing {
     }
 
     fn commit(&mut self, step: &Step) -> Result<(), AllocError>
-        ensures { OnOk result ((s : Shown) → IsShown self.old s → IsShown self.new (answered (asked_by step.now) answers.Committed s)) }
+        ensures { OnOk result ((s : Shown) → KeepsShown self.old s → KeepsShown self.new (answered (asked_by step.now) answers.Committed s)) }
     {
         match step {
             Step::Commit(txn) => {
@@ -237,7 +237,7 @@ impl Showing {
     }
 
     fn roll_back(&mut self, step: &Step) -> Result<(), AllocError>
-        ensures { OnOk result ((s : Shown) → IsShown self.old s → IsShown self.new (answered (asked_by step.now) answers.RolledBack s)) }
+        ensures { OnOk result ((s : Shown) → KeepsShown self.old s → KeepsShown self.new (answered (asked_by step.now) answers.RolledBack s)) }
     {
         match step {
             Step::Rollback(txn) => {
@@ -254,7 +254,7 @@ impl Showing {
 
     // Something is left to be done: a rollback or a return has begun, a Commit waits for a force, or an insert or a delete goes on.
     fn take_more(&mut self, step: &Step) -> Result<(), AllocError>
-        ensures { OnOk result ((s : Shown) → IsShown self.old s → IsShown self.new (answered (asked_by step.now) answers.More s)) }
+        ensures { OnOk result ((s : Shown) → KeepsShown self.old s → KeepsShown self.new (answered (asked_by step.now) answers.More s)) }
     {
         match step {
             Step::Commit(txn) => {
@@ -286,7 +286,7 @@ impl Showing {
 
     // Any access may be answered that its transaction has to roll back.
     fn die(&mut self, step: &Step) -> Result<(), AllocError>
-        ensures { OnOk result ((s : Shown) → IsShown self.old s → IsShown self.new (answered (asked_by step.now) answers.Die s)) }
+        ensures { OnOk result ((s : Shown) → KeepsShown self.old s → KeepsShown self.new (answered (asked_by step.now) answers.Die s)) }
     {
         match access_of(step) {
             Some(txn) => {
@@ -299,7 +299,7 @@ impl Showing {
 
     // What was asked is done: a force was made, or a transaction has no more changes than it returned to.
     fn finish(&mut self, step: &Step) -> Result<(), AllocError>
-        ensures { OnOk result ((s : Shown) → IsShown self.old s → IsShown self.new (answered (asked_by step.now) answers.Done s)) }
+        ensures { OnOk result ((s : Shown) → KeepsShown self.old s → KeepsShown self.new (answered (asked_by step.now) answers.Done s)) }
     {
         match step {
             Step::Force => self.acknowledge(),
@@ -317,7 +317,7 @@ impl Showing {
 
     // All that was asked is durable.
     fn acknowledge(&mut self) -> Result<(), AllocError>
-        ensures { OnOk result ((s : Shown) → IsShown self.old s → IsShown self.new (record s { asked = all_acked s.asked })) }
+        ensures { OnOk result ((s : Shown) → KeepsShown self.old s → KeepsShown self.new (record s { asked = all_acked s.asked })) }
     {
         let asked = mem::replace(&mut self.asked, Vec::new(self.alloc));
         self.asked = acknowledged(self.alloc, asked)?;
@@ -326,7 +326,7 @@ impl Showing {
 
     // A change joins the effect of its transaction.
     fn change(&mut self, txn: TxnId, change: Change) -> Result<(), AllocError>
-        ensures { OnOk result ((s : Shown) → IsShown self.old s → IsShown self.new (adds txn (change_of change) s)) }
+        ensures { OnOk result ((s : Shown) → KeepsShown self.old s → KeepsShown self.new (adds txn (change_of change) s)) }
     {
         self.happen(txn, Happened::Changed(change))?;
         Ok(())
@@ -334,7 +334,7 @@ impl Showing {
 
     // Something happens to a transaction.
     fn happen(&mut self, txn: TxnId, what: Happened) -> Result<(), AllocError>
-        ensures { OnOk result ((s : Shown) → IsShown self.old s → IsShown self.new (with_running txn (behind what (s.running txn)) s)) }
+        ensures { OnOk result ((s : Shown) → KeepsShown self.old s → KeepsShown self.new (with_running txn (behind what (s.running txn)) s)) }
     {
         self.events.push(Event { txn, what })?;
         Ok(())
@@ -342,7 +342,7 @@ impl Showing {
 
     // A Commit is asked.
     fn ask(&mut self, txn: TxnId, acked: bool) -> Result<(), AllocError>
-        ensures { OnOk result ((s : Shown) → IsShown self.old s → IsShown self.new (asks txn acked s)) }
+        ensures { OnOk result ((s : Shown) → KeepsShown self.old s → KeepsShown self.new (asks txn acked s)) }
     {
         let found = find(self.alloc, &self.events, txn)?;
         self.ask_found(txn, acked, found)
@@ -350,7 +350,7 @@ impl Showing {
 
     // It is asked of a transaction that is going and has changes.
     fn ask_found(&mut self, txn: TxnId, acked: bool, found: Found) -> Result<(), AllocError>
-        ensures { OnOk result ((s : Shown) → IsShown self.old s → IsFound found (running_from txn idle self.old.events.items) → IsShown self.new (asks txn acked s)) }
+        ensures { OnOk result ((s : Shown) → KeepsShown self.old s → IsFound found (running_from txn idle self.old.events.items) → KeepsShown self.new (asks txn acked s)) }
     {
         let Found {
             going,

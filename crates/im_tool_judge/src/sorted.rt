@@ -5,7 +5,7 @@ ghost use Rattle.std.specs.FinMap.{empty, entries};
 ghost use Rattle.im_base_types.specs.Changes.{applied};
 ghost use Rattle.im_base_types.specs.Keys.{key_order};
 ghost use Rattle.im_base_types.specs.Maps.{IndexMap, without_key};
-ghost use Rattle.im_tool_judge.specs.Judged.{held, change_of, made_in_turn, with_entry};
+ghost use Rattle.im_tool_judge.specs.Judged.{held_entries, change_of, made_in_turn, with_entry};
 
 use crate::change::Change;
 use im_base_types::{Key, Rid, compare};
@@ -23,7 +23,7 @@ impl Sorted {
     /// No entries.
     #[tactic(auto, using(crate::proofs::Entries::empty_entries))]
     pub fn new(alloc: Global) -> Sorted
-        ensures { held result.entries.items ≡ entries {R = key_order} empty }
+        ensures { held_entries result.entries.items ≡ entries {R = key_order} empty }
     {
         Sorted {
             entries: Vec::new(alloc),
@@ -32,7 +32,7 @@ impl Sorted {
 
     /// Makes changes in turn.
     pub fn make_all(&mut self, alloc: Global, changes: &[Change]) -> Result<(), AllocError>
-        ensures { OnOk result ((m : IndexMap) → held self.old.entries.items ≡ entries m → held self.new.entries.items ≡ entries (made_in_turn m changes.now)) }
+        ensures { OnOk result ((m : IndexMap) → held_entries self.old.entries.items ≡ entries m → held_entries self.new.entries.items ≡ entries (made_in_turn m changes.now)) }
     {
         for change in changes {
             self.make(alloc, change)?;
@@ -42,7 +42,7 @@ impl Sorted {
 
     #[tactic(auto, using(crate::proofs::Entries::made_put, crate::proofs::Entries::made_drop))]
     fn make(&mut self, alloc: Global, change: &Change) -> Result<(), AllocError>
-        ensures { OnOk result ((m : IndexMap) → held self.old.entries.items ≡ entries m → held self.new.entries.items ≡ entries (applied m (change_of change.now))) }
+        ensures { OnOk result ((m : IndexMap) → held_entries self.old.entries.items ≡ entries m → held_entries self.new.entries.items ≡ entries (applied m (change_of change.now))) }
     {
         match change {
             Change::Insertion(key, rid) => {
@@ -59,7 +59,7 @@ impl Sorted {
 
     /// Whether these are the entries.
     pub fn is(&self, found: &[(Key, Rid)]) -> bool
-        ensures { result ≡ true ↔ found.now ≡ held self.now.entries.items }
+        ensures { result ≡ true ↔ found.now ≡ held_entries self.now.entries.items }
     {
         if self.entries.len() != found.len() {
             return false;
@@ -83,7 +83,7 @@ fn is_entry(entry: &(Vec<u8>, Rid), found: &(Key, Rid)) -> bool
 // Puts a row id at a key, over what is there.
 #[tactic(auto, using(crate::proofs::Entries::passed_none, crate::proofs::Entries::put_here, crate::proofs::Entries::put_over, crate::proofs::Entries::passed_more, crate::proofs::Entries::put_last))]
 fn put(entries: &mut Vec<(Vec<u8>, Rid)>, key: Vec<u8>, rid: Rid) -> Result<(), AllocError>
-    ensures { OnOk result (held entries.new.items ≡ with_entry key.items rid (held entries.old.items)) }
+    ensures { OnOk result (held_entries entries.new.items ≡ with_entry key.items rid (held_entries entries.old.items)) }
 {
     for i in 0..entries.len() {
         match compare(&key, &entries[i].0) {
@@ -109,7 +109,7 @@ fn without(
     entries: Vec<(Vec<u8>, Rid)>,
     key: &[u8],
 ) -> Result<Vec<(Vec<u8>, Rid)>, AllocError>
-    ensures { IfOk result (λ kept. held kept.items ≡ without_key key.now (held entries.items)) }
+    ensures { IfOk result (λ kept. held_entries kept.items ≡ without_key key.now (held_entries entries.items)) }
 {
     let mut kept = Vec::new(alloc);
     for entry in entries {

@@ -7,7 +7,7 @@ use Rattle.im_tool_lines.specs.declared.life_answers.RawReply.{RawReply}
 use Rattle.im_tool_lines.specs.declared.life_answers.RawReply.TheVariants as replies
 use Rattle.im_tool_lines.specs.declared.raw_life.RawLife.{RawLife}
 use Rattle.im_tool_lines.specs.declared.life_answers.LifeAnswers.{LifeAnswers}
-use Rattle.im_tool_lines.specs.Lives.{asked_of, acked_of, Survives, RawLives}
+use Rattle.im_tool_lines.specs.Lives.{asked_of, acked_of, BatchesSurvive, RawLives}
 use Rattle.im_tool_lines.proofs.Stands.{survives_more}
 
 pub asked-append : (some more : List RawLine) → asked_of (some ++ more) ≡ asked_of some ++ asked_of more
@@ -43,7 +43,7 @@ one_more_line P all i told line reply is count within p =
 
 -- lines that were not reached ask for more, and are not acknowledged
 pub whole_life : (all : List RawLine) (told : List RawReply) (n : ℕ) → length told ≡ n → n ≤ length all → (before after : List (List ℕ))
-    → Survives before (asked_of (take n all)) (acked_of (take n all) told) after → Survives before (asked_of all) (acked_of all told) after
+    → BatchesSurvive before (asked_of (take n all)) (acked_of (take n all) told) after → BatchesSurvive before (asked_of all) (acked_of all told) after
 whole_life all told n count within before after s =
     let len : length (take n all) ≡ n = length-take-le n all within in
     let asked : asked_of all ≡ asked_of (take n all) ++ asked_of (drop n all) = ap asked_of (sym (take-append-drop n all)) ∙ asked-append (take n all) (drop n all) in
@@ -51,14 +51,14 @@ whole_life all told n count within before after s =
     ap (λ (l : List RawLine). acked_of l told) (sym (take-append-drop n all)) ∙ ap (λ (l : List RawReply). acked_of (take n all ++ drop n all) l) (sym (append-nil told))
     ∙ acked-append (take n all) (drop n all) told [] (count ∙ sym len)
     ∙ ap (λ (l : List (List ℕ)). acked_of (take n all) told ++ l) (acked-none (drop n all)) ∙ append-nil (acked_of (take n all) told) in
-    subst (λ (l : List (List ℕ)). Survives before l (acked_of all told) after) (sym asked)
-    (subst (λ (l : List (List ℕ)). Survives before (asked_of (take n all) ++ asked_of (drop n all)) l after) (sym acked)
+    subst (λ (l : List (List ℕ)). BatchesSurvive before l (acked_of all told) after) (sym asked)
+    (subst (λ (l : List (List ℕ)). BatchesSurvive before (asked_of (take n all) ++ asked_of (drop n all)) l after) (sym acked)
     (survives_more before (asked_of (take n all)) (acked_of (take n all) told) after (asked_of (drop n all)) s))
 
 -- one life more
 pub lives_push : (some : List RawLife) (told : List LifeAnswers) (life : RawLife) (answers : LifeAnswers) (before mid after : List (List ℕ)) → RawLives some told before mid
-    → Survives mid (asked_of life.lines.items) (acked_of life.lines.items answers.replies.items) after → RawLives (some ++ life ∷ []) (told ++ answers ∷ []) before after
-lives_push [] [] life answers before mid after is s = (after, subst (λ (l : List (List ℕ)). Survives l (asked_of life.lines.items) (acked_of life.lines.items answers.replies.items) after) is s, refl)
+    → BatchesSurvive mid (asked_of life.lines.items) (acked_of life.lines.items answers.replies.items) after → RawLives (some ++ life ∷ []) (told ++ answers ∷ []) before after
+lives_push [] [] life answers before mid after is s = (after, subst (λ (l : List (List ℕ)). BatchesSurvive l (asked_of life.lines.items) (acked_of life.lines.items answers.replies.items) after) is s, refl)
 lives_push [] (first ∷ told) life answers before mid after is s = absurd is
 lives_push (first ∷ some) [] life answers before mid after is s = absurd is
 lives_push (first ∷ some) (one ∷ told) life answers before mid after is s = (is.0, is.1, lives_push some told life answers is.0 mid after is.2 s)

@@ -1,23 +1,23 @@
 -- The options of a life, and what stands after each.
 use Rattle.std.proofs.Common.{◌≡◌, ◌≢◌, inl, inr, ℕ, List, [], ◌∷◌, ◌++◌, Bool, Option, None, Some, Bor, MatchOption, is_some, true, false, codes, refl, sym, ◌∙◌, ap, subst, append_assoc, arith, append-nil}
-use Rattle.im_tool_words.specs.Words.{Lacks, IsNumber}
+use Rattle.im_tool_words.specs.Words.{LacksByte, IsNumber}
 use Rattle.im_tool_lines.specs.Lines.{behind_word}
 use Rattle.im_tool_lines.specs.StoreScripts.{OptionSaid, Number, Word, SpellsOption, SpellsOptions, SpellsLife, IsTail, IsBehindOption, IsOption, named_options}
 use Rattle.im_tool_lines.specs.declared.store_life.LifeOptions.{LifeOptions}
 use Rattle.im_tool_words.proofs.Texts.{lacks_mid, cut_once, digits_lack}
 use Rattle.im_tool_words.proofs.KeyWords.{number_once}
 
-pub life_lacks : Lacks 32 (codes "life")
+pub life_lacks : LacksByte 32 (codes "life")
 life_lacks = (λ x. omega arith, (λ x. omega arith, (λ x. omega arith, (λ x. omega arith, tt))))
 
-pub frames_lacks : Lacks 32 (codes "frames")
+pub frames_lacks : LacksByte 32 (codes "frames")
 frames_lacks = (λ x. omega arith, (λ x. omega arith, (λ x. omega arith, (λ x. omega arith, (λ x. omega arith, (λ x. omega arith, tt))))))
 
-pub max_lacks : Lacks 32 (codes "max")
+pub max_lacks : LacksByte 32 (codes "max")
 max_lacks = (λ x. omega arith, (λ x. omega arith, (λ x. omega arith, tt)))
 
 -- a word and its tail are cut in one way
-pub cut_tail : (p q t u : List ℕ) → Lacks 32 p → Lacks 32 q → IsTail t → IsTail u → p ++ t ≡ q ++ u → (p ≡ q) × (t ≡ u)
+pub cut_tail : (p q t u : List ℕ) → LacksByte 32 p → LacksByte 32 q → IsTail t → IsTail u → p ++ t ≡ q ++ u → (p ≡ q) × (t ≡ u)
 cut_tail [] [] t u lp lq it iu e = (refl, e)
 cut_tail [] (c ∷ q) t u lp lq (inl none) iu e = let e' : [] ≡ c ∷ (q ++ u) = sym none ∙ e in absurd (cc)
 cut_tail [] (c ∷ q) t u lp lq (inr some) iu e = let e' : 32 ∷ some.0 ≡ c ∷ (q ++ u) = sym some.1 ∙ e in let same : c ≡ 32 = cc in absurd (lq.0 same)
@@ -63,20 +63,20 @@ options_tail [] text s = inl s
 options_tail (option ∷ more) text s = subst IsTail (sym s.1.is) (tails s.1.front s.0 (option_tail option.0 s.1.front option.1 s.1.spelled) (options_tail more s.0 s.2))
 
 -- a line of one word that begins a life is that word
-pub lone_life : (word : List ℕ) (options : LifeOptions) → Lacks 32 word → SpellsLife word options → word ≡ codes "life"
+pub lone_life : (word : List ℕ) (options : LifeOptions) → LacksByte 32 word → SpellsLife word options → word ≡ codes "life"
 lone_life word options l s = (cut_tail word (codes "life") [] s.0 l life_lacks (inl refl) (options_tail (named_options options) s.0 s.2) (append-nil word ∙ s.1)).0
 
 -- and so one of several begins with it
-pub spaced_life : (word rest : List ℕ) (options : LifeOptions) → Lacks 32 word → SpellsLife (word ++ 32 ∷ rest) options → word ≡ codes "life"
+pub spaced_life : (word rest : List ℕ) (options : LifeOptions) → LacksByte 32 word → SpellsLife (word ++ 32 ∷ rest) options → word ≡ codes "life"
 spaced_life word rest options l s = (cut_tail word (codes "life") (32 ∷ rest) s.0 l life_lacks (inr (rest, refl)) (options_tail (named_options options) s.0 s.2) s.1).0
 
 -- these options have other names, none with a space
 abbrev pub AreOthers : List ℕ → List (List ℕ × OptionSaid) → Type 0
 AreOthers name [] = Unit {0}
-AreOthers name (option ∷ more) = Lacks 32 option.0 × (option.0 ≢ name) × AreOthers name more
+AreOthers name (option ∷ more) = LacksByte 32 option.0 × (option.0 ≢ name) × AreOthers name more
 
 -- what an option of another name begins may stand after this name's
-behind_one : (name other : List ℕ) (option : OptionSaid) (text left : List ℕ) → IsOption other text option left → Lacks 32 other → other ≢ name → IsBehindOption name left → IsBehindOption name text
+behind_one : (name other : List ℕ) (option : OptionSaid) (text left : List ℕ) → IsOption other text option left → LacksByte 32 other → other ≢ name → IsBehindOption name left → IsBehindOption name text
 behind_one name other (Number None) text left o l differ behind = subst (λ (t : List ℕ). IsBehindOption name t) (sym (o.is ∙ ap (λ (x : List ℕ). x ++ left) o.spelled)) behind
 behind_one name other (Number (Some n)) text left o l differ behind =
     inr (other, 32 ∷ (o.spelled.0 ++ left), o.is ∙ ap (λ (x : List ℕ). x ++ left) o.spelled.1 ∙ ap (λ (x : List ℕ). 32 ∷ x) (append_assoc other (32 ∷ o.spelled.0) left), inr (o.spelled.0 ++ left, refl), l, differ)
@@ -102,38 +102,38 @@ none_is : (name text left : List ℕ) → IsOption name text (Number None) left 
 none_is name text left o = o.is ∙ ap (λ (x : List ℕ). x ++ left) o.spelled
 
 -- the first word is another name: no option
-pub other_once : (name text word : List ℕ) (rest : Option (Bor (List ℕ))) (option : Option ℕ) (left : List ℕ) → Lacks 32 name → text ≡ word ++ behind_word rest → Lacks 32 word → word ≢ name
+pub other_once : (name text word : List ℕ) (rest : Option (Bor (List ℕ))) (option : Option ℕ) (left : List ℕ) → LacksByte 32 name → text ≡ word ++ behind_word rest → LacksByte 32 word → word ≢ name
     → IsOption name (32 ∷ text) (Number option) left → (option ≡ None) × (left ≡ 32 ∷ text)
 other_once name text word rest None left ln cut l other o = (refl, sym (none_is name (32 ∷ text) left o))
 other_once name text word rest (Some n) left ln cut l other o =
     absurd (other (cut_tail word name (behind_word rest) (32 ∷ (o.spelled.0 ++ left)) l ln (behind_tail rest) (inr (o.spelled.0 ++ left, refl)) (sym cut ∙ some_is name text n left o)).0)
 
 -- no option begins with its name alone, nor does what may stand after it
-not_behind : (name text tail : List ℕ) → Lacks 32 name → IsTail tail → text ≡ name ++ tail → IsBehindOption name (32 ∷ text) → ⊥
+not_behind : (name text tail : List ℕ) → LacksByte 32 name → IsTail tail → text ≡ name ++ tail → IsBehindOption name (32 ∷ text) → ⊥
 not_behind name text tail ln it cut (inl none) = absurd (cc)
 not_behind name text tail ln it cut (inr some) =
     let e : 32 ∷ text ≡ 32 ∷ (some.0 ++ some.1) = some.2 in
     let same : text ≡ some.0 ++ some.1 = cc in some.5 (sym (cut_tail name some.0 tail some.1 ln some.4 it some.3 (sym cut ∙ same)).0)
 
-pub no_number : (name text : List ℕ) (option : Option ℕ) (left : List ℕ) → Lacks 32 name → text ≡ name → IsBehindOption name left → IsOption name (32 ∷ text) (Number option) left → ⊥
+pub no_number : (name text : List ℕ) (option : Option ℕ) (left : List ℕ) → LacksByte 32 name → text ≡ name → IsBehindOption name left → IsOption name (32 ∷ text) (Number option) left → ⊥
 no_number name text None left ln cut behind o = not_behind name text [] ln (inl refl) (cut ∙ sym (append-nil name)) (subst (λ (x : List ℕ). IsBehindOption name x) (sym (none_is name (32 ∷ text) left o)) behind)
-no_number name text (Some n) left ln cut behind o = lacks_mid 32 name (o.spelled.0 ++ left) (subst (λ (x : List ℕ). Lacks 32 x) (sym cut ∙ some_is name text n left o) ln)
+no_number name text (Some n) left ln cut behind o = lacks_mid 32 name (o.spelled.0 ++ left) (subst (λ (x : List ℕ). LacksByte 32 x) (sym cut ∙ some_is name text n left o) ln)
 
 -- the option's number and what is left are those of its text
-pub number_is : (name text rest digits : List ℕ) (more : Option (Bor (List ℕ))) (n : ℕ) (left : List ℕ) → Lacks 32 name → text ≡ name ++ 32 ∷ rest → rest ≡ digits ++ behind_word more → Lacks 32 digits
+pub number_is : (name text rest digits : List ℕ) (more : Option (Bor (List ℕ))) (n : ℕ) (left : List ℕ) → LacksByte 32 name → text ≡ name ++ 32 ∷ rest → rest ≡ digits ++ behind_word more → LacksByte 32 digits
     → IsBehindOption name left → IsOption name (32 ∷ text) (Number (Some n)) left → IsNumber digits n × (left ≡ behind_word more)
 number_is name text rest digits more n left ln cut next l behind o =
     let same = (cut_once 32 name name rest (o.spelled.0 ++ left) ln ln (sym cut ∙ some_is name text n left o)).1 in
     let both = cut_tail digits o.spelled.0 (behind_word more) left l (digits_lack o.spelled.0 o.spelled.2.0.1) (behind_tail more) (other_tail name left behind) (sym next ∙ same) in
     (subst (λ (x : List ℕ). IsNumber x n) (sym both.0) o.spelled.2, sym both.1)
 
-pub number_one : (name text rest digits : List ℕ) (more : Option (Bor (List ℕ))) (m : ℕ) (option : Option ℕ) (left : List ℕ) → Lacks 32 name → text ≡ name ++ 32 ∷ rest → rest ≡ digits ++ behind_word more → Lacks 32 digits → IsNumber digits m
+pub number_one : (name text rest digits : List ℕ) (more : Option (Bor (List ℕ))) (m : ℕ) (option : Option ℕ) (left : List ℕ) → LacksByte 32 name → text ≡ name ++ 32 ∷ rest → rest ≡ digits ++ behind_word more → LacksByte 32 digits → IsNumber digits m
     → IsBehindOption name left → IsOption name (32 ∷ text) (Number option) left → (option ≡ Some m) × (left ≡ behind_word more)
 number_one name text rest digits more m None left ln cut next l is behind o = absurd (not_behind name text (32 ∷ rest) ln (inr (rest, refl)) cut (subst (λ (x : List ℕ). IsBehindOption name x) (sym (none_is name (32 ∷ text) left o)) behind))
 number_one name text rest digits more m (Some n) left ln cut next l is behind o =
     let both = number_is name text rest digits more n left ln cut next l behind o in (ap Some (number_once digits n m both.0 is), both.1)
 
-pub number_bad : (name text rest digits : List ℕ) (more : Option (Bor (List ℕ))) (option : Option ℕ) (left : List ℕ) → Lacks 32 name → text ≡ name ++ 32 ∷ rest → rest ≡ digits ++ behind_word more → Lacks 32 digits → ((n : ℕ) → ¬ (IsNumber digits n))
+pub number_bad : (name text rest digits : List ℕ) (more : Option (Bor (List ℕ))) (option : Option ℕ) (left : List ℕ) → LacksByte 32 name → text ≡ name ++ 32 ∷ rest → rest ≡ digits ++ behind_word more → LacksByte 32 digits → ((n : ℕ) → ¬ (IsNumber digits n))
     → IsBehindOption name left → IsOption name (32 ∷ text) (Number option) left → ⊥
 number_bad name text rest digits more None left ln cut next l bad behind o = not_behind name text (32 ∷ rest) ln (inr (rest, refl)) cut (subst (λ (x : List ℕ). IsBehindOption name x) (sym (none_is name (32 ∷ text) left o)) behind)
 number_bad name text rest digits more (Some n) left ln cut next l bad behind o = bad n (number_is name text rest digits more n left ln cut next l behind o).0
@@ -162,14 +162,14 @@ no_word_is : (name text left : List ℕ) → IsOption name text (Word false) lef
 no_word_is name text left o = o.is ∙ ap (λ (x : List ℕ). x ++ left) o.spelled
 
 -- the first word is another name: it is left out
-pub other_word : (name text word : List ℕ) (rest : Option (Bor (List ℕ))) (option : Bool) (left : List ℕ) → Lacks 32 name → text ≡ word ++ behind_word rest → Lacks 32 word → word ≢ name
+pub other_word : (name text word : List ℕ) (rest : Option (Bor (List ℕ))) (option : Bool) (left : List ℕ) → LacksByte 32 name → text ≡ word ++ behind_word rest → LacksByte 32 word → word ≢ name
     → IsBehindOption name left → IsOption name (32 ∷ text) (Word option) left → (option ≡ false) × (left ≡ 32 ∷ text)
 other_word name text word rest false left ln cut l other behind o = (refl, sym (no_word_is name (32 ∷ text) left o))
 other_word name text word rest true left ln cut l other behind o =
     absurd (other (cut_tail word name (behind_word rest) left l ln (behind_tail rest) (other_tail name left behind) (sym cut ∙ word_is name text left o)).0)
 
 -- the first word is its name: it stands there
-pub this_word : (name text : List ℕ) (rest : Option (Bor (List ℕ))) (option : Bool) (left : List ℕ) → Lacks 32 name → text ≡ name ++ behind_word rest
+pub this_word : (name text : List ℕ) (rest : Option (Bor (List ℕ))) (option : Bool) (left : List ℕ) → LacksByte 32 name → text ≡ name ++ behind_word rest
     → IsBehindOption name left → IsOption name (32 ∷ text) (Word option) left → (option ≡ true) × (left ≡ behind_word rest)
 this_word name text rest false left ln cut behind o =
     absurd (not_behind name text (behind_word rest) ln (behind_tail rest) cut (subst (λ (x : List ℕ). IsBehindOption name x) (sym (no_word_is name (32 ∷ text) left o)) behind))
@@ -215,22 +215,22 @@ first_code [] = 0
 first_code (c ∷ cs) = c
 
 -- the names of a life's options
-fail_lacks : Lacks 32 (codes "fail")
+fail_lacks : LacksByte 32 (codes "fail")
 fail_lacks = (λ x. omega arith, (λ x. omega arith, (λ x. omega arith, (λ x. omega arith, tt))))
 
-failread_lacks : Lacks 32 (codes "failread")
+failread_lacks : LacksByte 32 (codes "failread")
 failread_lacks = (λ x. omega arith, (λ x. omega arith, (λ x. omega arith, (λ x. omega arith, (λ x. omega arith, (λ x. omega arith, (λ x. omega arith, (λ x. omega arith, tt))))))))
 
-stepped_lacks : Lacks 32 (codes "stepped")
+stepped_lacks : LacksByte 32 (codes "stepped")
 stepped_lacks = (λ x. omega arith, (λ x. omega arith, (λ x. omega arith, (λ x. omega arith, (λ x. omega arith, (λ x. omega arith, (λ x. omega arith, tt)))))))
 
-group_lacks : Lacks 32 (codes "group")
+group_lacks : LacksByte 32 (codes "group")
 group_lacks = (λ x. omega arith, (λ x. omega arith, (λ x. omega arith, (λ x. omega arith, (λ x. omega arith, tt)))))
 
-dense_lacks : Lacks 32 (codes "dense")
+dense_lacks : LacksByte 32 (codes "dense")
 dense_lacks = (λ x. omega arith, (λ x. omega arith, (λ x. omega arith, (λ x. omega arith, (λ x. omega arith, tt)))))
 
-workers_lacks : Lacks 32 (codes "workers")
+workers_lacks : LacksByte 32 (codes "workers")
 workers_lacks = (λ x. omega arith, (λ x. omega arith, (λ x. omega arith, (λ x. omega arith, (λ x. omega arith, (λ x. omega arith, (λ x. omega arith, tt)))))))
 
 module _ (o : LifeOptions) where

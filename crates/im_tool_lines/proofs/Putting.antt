@@ -10,7 +10,7 @@ use Rattle.im_log_gate.specs.Batches.{batches, with_batch, IsBeforeOrWith}
 use Rattle.im_log_gate.specs.Gate.{IsReady, InOneFile, logged, file_of, first_of, has_failed}
 use Rattle.im_log_gate.specs.Header.{first_gate, IsMade}
 use Rattle.im_log_gate.proofs.Starts.{front_made, front_starts}
-use Rattle.im_tool_lines.specs.Lives.{Survives}
+use Rattle.im_tool_lines.specs.Lives.{BatchesSurvive}
 use Rattle.im_tool_lines.specs.Living.{IsLiving}
 use Rattle.im_tool_lines.proofs.Stands.{long, survives_more, survives_all, stopped_put}
 
@@ -51,7 +51,7 @@ module _ {D : Type 0} (d : Ghosts D) (counts_now : (disk : D) (t : ℕ) (c : Fil
       starts = λ usable. absurd (cc);
       leaves = λ told c left.
           let s = stopped_put c (d.seen old Log) before asked records (living.made works told) (fronts told c left) (either told c left) in
-          (s.0, s.1, subst (λ (l : List (List ℕ)). Survives before (asked ++ records ∷ []) l s.0) (sym (living.all works)) s.2);
+          (s.0, s.1, subst (λ (l : List (List ℕ)). BatchesSurvive before (asked ++ records ∷ []) l s.0) (sym (living.all works)) s.2);
       made = λ usable. absurd (cc);
       holds = λ usable. absurd (cc);
       all = λ usable. absurd (cc);
@@ -87,7 +87,7 @@ module _ {D : Type 0} (d : Ghosts D) (counts_now : (disk : D) (t : ℕ) (c : Fil
         leaves = λ told c left. (
           before ++ (asked ++ records ∷ []),
           inl (subst (λ (l : List ℕ). IsMade l) (sym (only_log c left)) (made_now told), ap (λ (l : List ℕ). batches (first_gate l) l) (only_log c left) ∙ ap (λ (n : ℕ). batches n (d.seen new Log)) (gate_now told) ∙ log_now told),
-          subst (λ (l : List (List ℕ)). Survives before (asked ++ records ∷ []) (l ++ records ∷ []) (before ++ (asked ++ records ∷ []))) (sym (living.all works)) (survives_all before (asked ++ records ∷ [])),
+          subst (λ (l : List (List ℕ)). BatchesSurvive before (asked ++ records ∷ []) (l ++ records ∷ []) (before ++ (asked ++ records ∷ []))) (sym (living.all works)) (survives_all before (asked ++ records ∷ [])),
         );
         made = λ works_now told. made_now told;
         holds = λ works_now told. holds_now told;

@@ -1,7 +1,7 @@
 -- Which sort of lives a text has.
 use Rattle.std.proofs.Common.{◌≡◌, ◌≢◌, inl, inr, ⊎_elim, ℕ, List, [], ◌∷◌, ◌++◌, slice_index, codes, Option, None, Some, Bor, refl, sym, ◌∙◌, ap, subst, arith, append_assoc, append-nil}
 use Rattle.std.specs.Prelude.{MatchOption}
-use Rattle.im_tool_words.specs.Words.{Lacks}
+use Rattle.im_tool_words.specs.Words.{LacksByte}
 use Rattle.im_tool_lines.specs.StoreScripts.{BeginsLife, NoLife, IsRaw}
 use Rattle.im_tool_lines.proofs.LifeWords.{life_lacks}
 use Rattle.im_tool_words.proofs.Texts.{cut_once, lacks_mid}
@@ -62,20 +62,20 @@ found_life all line left s is raw = clash s.front left raw.front raw.rest line i
 pub found_none : (all : List (List ℕ)) → Sought all [] → IsRaw all → ⊥
 found_none all s raw = no_mid (codes "raw") raw.front raw.rest (subst (λ (l : List (List ℕ)). NoLine (codes "raw") l) (sym (append-nil s.front) ∙ sym s.is ∙ raw.is) s.no_raw)
 
-lone_life : (line : List ℕ) → Lacks 32 line → BeginsLife line → line ≡ codes "life"
+lone_life : (line : List ℕ) → LacksByte 32 line → BeginsLife line → line ≡ codes "life"
 lone_life line l is = ⊎_elim
     (λ (lone : line ≡ codes "life"). lone)
-    (λ (more : (m : List ℕ) × (line ≡ codes "life " ++ m)). absurd (lacks_mid 32 (codes "life") more.0 (subst (λ (t : List ℕ). Lacks 32 t) more.1 l)))
+    (λ (more : (m : List ℕ) × (line ≡ codes "life " ++ m)). absurd (lacks_mid 32 (codes "life") more.0 (subst (λ (t : List ℕ). LacksByte 32 t) more.1 l)))
     is
 
-word_life : (word rest : List ℕ) → Lacks 32 word → BeginsLife (word ++ 32 ∷ rest) → word ≡ codes "life"
+word_life : (word rest : List ℕ) → LacksByte 32 word → BeginsLife (word ++ 32 ∷ rest) → word ≡ codes "life"
 word_life word rest l is = ⊎_elim
-    (λ (lone : word ++ 32 ∷ rest ≡ codes "life"). absurd (lacks_mid 32 word rest (subst (λ (t : List ℕ). Lacks 32 t) (sym lone) life_lacks)))
+    (λ (lone : word ++ 32 ∷ rest ≡ codes "life"). absurd (lacks_mid 32 word rest (subst (λ (t : List ℕ). LacksByte 32 t) (sym lone) life_lacks)))
     (λ (more : (m : List ℕ) × (word ++ 32 ∷ rest ≡ codes "life " ++ m)). (cut_once 32 word (codes "life") rest more.0 l life_lacks more.1).0)
     is
 
 -- a line begins a life just where its first word says so
-pub life_or_not : (line word : List ℕ) (rest : Option (Bor (List ℕ))) → MatchOption rest (word ≡ line) (λ r. line ≡ word ++ 32 ∷ r.now) → Lacks 32 word → (BeginsLife line → word ≡ codes "life") × (word ≡ codes "life" → BeginsLife line)
+pub life_or_not : (line word : List ℕ) (rest : Option (Bor (List ℕ))) → MatchOption rest (word ≡ line) (λ r. line ≡ word ++ 32 ∷ r.now) → LacksByte 32 word → (BeginsLife line → word ≡ codes "life") × (word ≡ codes "life" → BeginsLife line)
 life_or_not line word None cut l = (
   λ is. lone_life word l (subst BeginsLife (sym cut) is),
   λ e. inl (sym cut ∙ e),

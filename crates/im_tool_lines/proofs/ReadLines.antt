@@ -12,7 +12,7 @@ use Rattle.im_tool_lines.specs.declared.raw_life.RawLife.{RawLife}
 use Rattle.im_tool_lines.specs.declared.script.Script.{Script}
 use Rattle.im_tool_lines.specs.Scripts.{Kind, Place, Before, Within, Behind, kind_of, MayFollow, MayStand, place_behind, place_after, line_of, stop_lines, lines_of_lives, set_line, with_file, files_set, IsScriptOf}
 use Rattle.im_tool_lines.proofs.Standing.{stand_push, place_push, sets_push}
-use Rattle.im_tool_lines.specs.Reading.{lines_of_open, place_of, IsRead}
+use Rattle.im_tool_lines.specs.Reading.{lines_of_open, next_place, IsRead}
 
 kinds_push : (said : List Line) (l : Line) → map kind_of (said ++ l ∷ []) ≡ map kind_of said ++ kind_of l ∷ []
 kinds_push said l = map-append kind_of said (l ∷ [])
@@ -20,7 +20,7 @@ kinds_push said l = map-append kind_of said (l ∷ [])
 module _ (files : Files) (lives : List RawLife) (life : Option (Vec RawLine Global)) (said : List Line) (r : IsRead files lives life said) where
   -- one line more, of which it is known what it makes
   push_read : (files' : Files) (lives' : List RawLife) (life' : Option (Vec RawLine Global)) (l : Line) (sets' : List (FileId × Vec ℕ Global)) → said ++ l ∷ [] ≡ map set_line sets' ++ (lines_of_lives lives' ++ lines_of_open life') → files' ≡ files_set (both [] []) sets'
-      → MayFollow (kind_of l) (place_of lives life) → place_behind (kind_of l) (place_of lives life) ≡ place_of lives' life' → IsRead files' lives' life' (said ++ l ∷ [])
+      → MayFollow (kind_of l) (next_place lives life) → place_behind (kind_of l) (next_place lives life) ≡ next_place lives' life' → IsRead files' lives' life' (said ++ l ∷ [])
   push_read files' lives' life' l sets' is last may next = record {
     sets = sets';
     is = is;
@@ -30,7 +30,7 @@ module _ (files : Files) (lives : List RawLife) (life : Option (Vec RawLine Glob
   }
 
   more_read : (lives' : List RawLife) (life' : Option (Vec RawLine Global)) (l : Line) → lines_of_lives lives' ++ lines_of_open life' ≡ (lines_of_lives lives ++ lines_of_open life) ++ l ∷ []
-      → MayFollow (kind_of l) (place_of lives life) → place_behind (kind_of l) (place_of lives life) ≡ place_of lives' life' → IsRead files lives' life' (said ++ l ∷ [])
+      → MayFollow (kind_of l) (next_place lives life) → place_behind (kind_of l) (next_place lives life) ≡ next_place lives' life' → IsRead files lives' life' (said ++ l ∷ [])
   more_read lives' life' l same may next =
       push_read files lives' life' l r.sets
       (ap (λ (x : List Line). x ++ l ∷ []) r.is ∙ append_assoc (map set_line r.sets) (lines_of_lives lives ++ lines_of_open life) (l ∷ []) ∙ ap (λ (x : List Line). map set_line r.sets ++ x) (sym same)) r.files_are may next
@@ -56,7 +56,7 @@ lives_more (one ∷ lives) life =
     ap (λ (x : List Line). (lines.Raw ∷ (map line_of one.lines.items ++ stop_lines one.stop)) ++ x) (lives_more lives life)
     ∙ sym (append_assoc (lines.Raw ∷ (map line_of one.lines.items ++ stop_lines one.stop)) (lines_of_lives lives) (lines.Raw ∷ (map line_of life.lines.items ++ stop_lines life.stop)))
 
-behind_life : (lives : List RawLife) (life : RawLife) → Behind ≡ place_of (lives ++ life ∷ []) None
+behind_life : (lives : List RawLife) (life : RawLife) → Behind ≡ next_place (lives ++ life ∷ []) None
 behind_life [] life = refl
 behind_life (one ∷ lives) life = refl
 
@@ -99,7 +99,7 @@ stop_read files lives old said stop lives' r is =
     let life : RawLife = record { lines = old; stop = Some stop } in
     more_read files lives (Some old) said r lives' None (lines.Stop stop)
     (append-nil (lines_of_lives lives') ∙ ap lines_of_lives is ∙ lives_more lives life ∙ sym (append_assoc (lines_of_lives lives) (lines.Raw ∷ map line_of old.items) (lines.Stop stop ∷ [])))
-    tt (behind_life lives life ∙ ap (λ (x : List RawLife). place_of x None) (sym is))
+    tt (behind_life lives life ∙ ap (λ (x : List RawLife). next_place x None) (sym is))
 
 -- what was read is a script
 pub end_read : (script : Script) (said : List Line) → IsRead (three script.log.items script.pages.items script.log2.items) script.lives.items None said → IsScriptOf script said × MayStand Before (map kind_of said)

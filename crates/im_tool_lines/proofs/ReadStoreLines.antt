@@ -15,7 +15,7 @@ use Rattle.im_tool_lines.specs.declared.store_script.StoreScript.{StoreScript}
 use Rattle.im_tool_lines.specs.Scripts.{Kind, Place, Before, Within, Behind, MayFollow, MayStand, place_behind, place_after, with_file, files_set}
 use Rattle.im_tool_lines.specs.StoreScripts.{store_kind_of, stop_lines, lines_of_lives, set_store_line, IsStoreScriptOf}
 use Rattle.im_tool_lines.proofs.Standing.{stand_push, place_push, sets_push}
-use Rattle.im_tool_lines.specs.StoreReading.{lines_of_open, place_of, IsStoreRead}
+use Rattle.im_tool_lines.specs.StoreReading.{lines_of_open, next_place, IsStoreRead}
 
 kinds_push : (said : List StoreScriptLine) (l : StoreScriptLine) → map store_kind_of (said ++ l ∷ []) ≡ map store_kind_of said ++ store_kind_of l ∷ []
 kinds_push said l = map-append store_kind_of said (l ∷ [])
@@ -23,7 +23,7 @@ kinds_push said l = map-append store_kind_of said (l ∷ [])
 module _ (files : Files) (lives : List StoreLife) (life : Option OpenLife) (said : List StoreScriptLine) (r : IsStoreRead files lives life said) where
   -- one line more, of which it is known what it makes
   push_read : (files' : Files) (lives' : List StoreLife) (life' : Option OpenLife) (l : StoreScriptLine) (sets' : List (FileId × Vec ℕ Global)) → said ++ l ∷ [] ≡ map set_store_line sets' ++ (lines_of_lives lives' ++ lines_of_open life') → files' ≡ files_set (both [] []) sets'
-      → MayFollow (store_kind_of l) (place_of lives life) → place_behind (store_kind_of l) (place_of lives life) ≡ place_of lives' life' → IsStoreRead files' lives' life' (said ++ l ∷ [])
+      → MayFollow (store_kind_of l) (next_place lives life) → place_behind (store_kind_of l) (next_place lives life) ≡ next_place lives' life' → IsStoreRead files' lives' life' (said ++ l ∷ [])
   push_read files' lives' life' l sets' is last may next = record {
     sets = sets';
     is = is;
@@ -33,7 +33,7 @@ module _ (files : Files) (lives : List StoreLife) (life : Option OpenLife) (said
   }
 
   more_read : (lives' : List StoreLife) (life' : Option OpenLife) (l : StoreScriptLine) → lines_of_lives lives' ++ lines_of_open life' ≡ (lines_of_lives lives ++ lines_of_open life) ++ l ∷ []
-      → MayFollow (store_kind_of l) (place_of lives life) → place_behind (store_kind_of l) (place_of lives life) ≡ place_of lives' life' → IsStoreRead files lives' life' (said ++ l ∷ [])
+      → MayFollow (store_kind_of l) (next_place lives life) → place_behind (store_kind_of l) (next_place lives life) ≡ next_place lives' life' → IsStoreRead files lives' life' (said ++ l ∷ [])
   more_read lives' life' l same may next =
       push_read files lives' life' l r.sets
       (ap (λ (x : List StoreScriptLine). x ++ l ∷ []) r.is ∙ append_assoc (map set_store_line r.sets) (lines_of_lives lives ++ lines_of_open life) (l ∷ []) ∙ ap (λ (x : List StoreScriptLine). map set_store_line r.sets ++ x) (sym same)) r.files_are may next
@@ -59,7 +59,7 @@ lives_more (one ∷ lives) life =
     ap (λ (x : List StoreScriptLine). (lines.Life one.options ∷ (map lines.Within one.lines.items ++ stop_lines one.stop)) ++ x) (lives_more lives life)
     ∙ sym (append_assoc (lines.Life one.options ∷ (map lines.Within one.lines.items ++ stop_lines one.stop)) (lines_of_lives lives) (lines.Life life.options ∷ (map lines.Within life.lines.items ++ stop_lines life.stop)))
 
-behind_life : (lives : List StoreLife) (life : StoreLife) → Behind ≡ place_of (lives ++ life ∷ []) None
+behind_life : (lives : List StoreLife) (life : StoreLife) → Behind ≡ next_place (lives ++ life ∷ []) None
 behind_life [] life = refl
 behind_life (one ∷ lives) life = refl
 
@@ -108,7 +108,7 @@ stop_read files lives old said stop lives' r is =
     let life : StoreLife = record { options = old.options; lines = old.lines; stop = Some stop } in
     more_read files lives (Some old) said r lives' None (lines.Stop stop)
     (append-nil (lines_of_lives lives') ∙ ap lines_of_lives is ∙ lives_more lives life ∙ sym (append_assoc (lines_of_lives lives) (lines.Life old.options ∷ map lines.Within old.lines.items) (lines.Stop stop ∷ [])))
-    tt (behind_life lives life ∙ ap (λ (x : List StoreLife). place_of x None) (sym is))
+    tt (behind_life lives life ∙ ap (λ (x : List StoreLife). next_place x None) (sym is))
 
 -- what was read is a script
 pub end_read : (script : StoreScript) (said : List StoreScriptLine) → IsStoreRead (three script.log.items script.pages.items script.log2.items) script.lives.items None said → IsStoreScriptOf script said × MayStand Before (map store_kind_of said)

@@ -5,7 +5,7 @@ use Rattle.im_base_disk.specs.Disk.{Files}
 use Rattle.im_log_gate.specs.Batches.{batches, batches_from, IsBeforeOrWith}
 use Rattle.im_log_gate.specs.Header.{first_gate, IsUnmade, IsMade, IsBlank}
 use Rattle.im_log_gate.proofs.Starts.{front_made, front_starts, gate_behind}
-use Rattle.im_tool_lines.specs.Lives.{StandsFor, IsFront, Survives}
+use Rattle.im_tool_lines.specs.Lives.{StandsFor, IsFront, BatchesSurvive}
 
 pub clash : (file : List ℕ) → IsMade file → IsUnmade file → ⊥
 clash file made (inl short) = let long = made.within in omega (arith, short, long, gate_behind file)
@@ -35,11 +35,11 @@ front_push : (xs : List (List ℕ)) (x : List ℕ) → IsFront xs (xs ++ x ∷ [
 front_push xs x = record { rest = x ∷ []; is = refl }
 
 -- nothing was asked yet
-pub survives_none : (before : List (List ℕ)) (asked : List (List ℕ)) → Survives before asked [] before
+pub survives_none : (before : List (List ℕ)) (asked : List (List ℕ)) → BatchesSurvive before asked [] before
 survives_none before asked = record { kept = []; is = sym (append-nil before); of_asked = record { rest = asked; is = refl }; with_acked = front_self []; one_more = omega arith }
 
 -- more is asked
-pub survives_more : (before asked acked after more : List (List ℕ)) → Survives before asked acked after → Survives before (asked ++ more) acked after
+pub survives_more : (before asked acked after more : List (List ℕ)) → BatchesSurvive before asked acked after → BatchesSurvive before (asked ++ more) acked after
 survives_more before asked acked after more s = record {
   kept = s.kept;
   is = s.is;
@@ -49,13 +49,13 @@ survives_more before asked acked after more s = record {
 }
 
 -- all that was asked is there and acknowledged
-pub survives_all : (before asked : List (List ℕ)) → Survives before asked asked (before ++ asked)
+pub survives_all : (before asked : List (List ℕ)) → BatchesSurvive before asked asked (before ++ asked)
 survives_all before asked = record { kept = asked; is = refl; of_asked = front_self asked; with_acked = front_self asked; one_more = omega arith }
 
-pub survives_without : (before asked : List (List ℕ)) (last : List ℕ) → Survives before (asked ++ last ∷ []) asked (before ++ asked)
+pub survives_without : (before asked : List (List ℕ)) (last : List ℕ) → BatchesSurvive before (asked ++ last ∷ []) asked (before ++ asked)
 survives_without before asked last = record { kept = asked; is = refl; of_asked = front_push asked last; with_acked = front_self asked; one_more = omega arith }
 
-pub survives_with : (before asked : List (List ℕ)) (last : List ℕ) → Survives before (asked ++ last ∷ []) asked (before ++ (asked ++ last ∷ []))
+pub survives_with : (before asked : List (List ℕ)) (last : List ℕ) → BatchesSurvive before (asked ++ last ∷ []) asked (before ++ (asked ++ last ∷ []))
 survives_with before asked last = record {
   kept = asked ++ last ∷ [];
   is = refl;
@@ -70,7 +70,7 @@ stands_front c file found made same e = inl (front_made file (c Log) same (long 
 
 -- a stop while a batch is put
 pub stopped_put : (c : Files) (file : List ℕ) (before asked : List (List ℕ)) (records : List ℕ) → IsMade file → take (first_gate file) (c Log) ≡ take (first_gate file) file → IsBeforeOrWith (first_gate file) records (Some (before ++ asked)) (c Log)
-    → (after : List (List ℕ)) × StandsFor c after × Survives before (asked ++ records ∷ []) asked after
+    → (after : List (List ℕ)) × StandsFor c after × BatchesSurvive before (asked ++ records ∷ []) asked after
 stopped_put c file before asked records made same (inl e) =
     (before ++ asked, stands_front c file (before ++ asked) made same e, survives_without before asked records)
 stopped_put c file before asked records made same (inr e) = (

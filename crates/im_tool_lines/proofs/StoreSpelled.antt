@@ -8,8 +8,8 @@ use Rattle.im_tool_lines.specs.declared.line.Line.TheVariants as raws
 use Rattle.im_tool_lines.specs.declared.store_script_line.StoreScriptLine.{StoreScriptLine}
 use Rattle.im_tool_lines.specs.declared.store_script_line.StoreScriptLine.TheVariants as lines
 use Rattle.im_tool_lines.specs.declared.store_life.StoreLine.TheVariants as within
-use Rattle.im_tool_words.specs.Words.{Lacks, IsPageNumber}
-use Rattle.im_tool_lines.specs.Lines.{Spells}
+use Rattle.im_tool_words.specs.Words.{LacksByte, IsPageNumber}
+use Rattle.im_tool_lines.specs.Lines.{SpellsLine}
 use Rattle.im_tool_words.specs.Steps.{SpellsStep}
 use Rattle.im_tool_lines.specs.Scripts.{Kind, Sets, Begins, Puts, Counts, Steps, Stops}
 use Rattle.im_tool_lines.specs.StoreScripts.{SpellsLife, SpellsOptions, SpellsStore, IsPlainLine, named_options, store_kind_of}
@@ -72,14 +72,14 @@ not_puts (lines.Within (within.Step step)) e = absurd (cc)
 not_puts (lines.Stop stop) e = absurd (cc)
 
 -- `raw` and `put` are no lines of lives of a store
-pub not_raw : (text : List ℕ) (said : StoreScriptLine) → Spells text raws.Raw → SpellsStore text said → ⊥
+pub not_raw : (text : List ℕ) (said : StoreScriptLine) → SpellsLine text raws.Raw → SpellsStore text said → ⊥
 not_raw text said r s = not_puts said (store_kind text said s ∙ ap store_text_kind r)
 
-pub not_put : (text : List ℕ) (said : StoreScriptLine) (batch : Batch) → Spells text (raws.Put batch) → SpellsStore text said → ⊥
+pub not_put : (text : List ℕ) (said : StoreScriptLine) (batch : Batch) → SpellsLine text (raws.Put batch) → SpellsStore text said → ⊥
 not_put text said batch p s = not_puts said (store_kind text said s ∙ ap store_text_kind p.1)
 
 -- what is neither another line nor a step, is no plain line
-pub no_store_line : (text : List ℕ) (said : StoreScriptLine) → SpellsStore text said → IsPlainLine said → ((line : Line) → ¬ (Spells text line)) → ((step : Step) → ¬ (SpellsStep text step)) → ⊥
+pub no_store_line : (text : List ℕ) (said : StoreScriptLine) → SpellsStore text said → IsPlainLine said → ((line : Line) → ¬ (SpellsLine text line)) → ((step : Step) → ¬ (SpellsStep text step)) → ⊥
 no_store_line text (lines.Life options) s plain o t = plain
 no_store_line text (lines.Set file bytes) s plain o t = o (raws.Set file bytes) s
 no_store_line text (lines.Within within.Calls) s plain o t = o raws.Calls s
@@ -89,34 +89,34 @@ no_store_line text (lines.Within within.Log) s plain o t = plain
 no_store_line text (lines.Within (within.Step step)) s plain o t = t step s
 no_store_line text (lines.Stop stop) s plain o t = o (raws.Stop stop) s
 
-page_lacks : Lacks 32 (codes "page")
+page_lacks : LacksByte 32 (codes "page")
 page_lacks = (λ x. omega arith, (λ x. omega arith, (λ x. omega arith, (λ x. omega arith, tt))))
 
-redo_lacks : Lacks 32 (codes "redo")
+redo_lacks : LacksByte 32 (codes "redo")
 redo_lacks = (λ x. omega arith, (λ x. omega arith, (λ x. omega arith, (λ x. omega arith, tt))))
 
-log_lacks : Lacks 32 (codes "log")
+log_lacks : LacksByte 32 (codes "log")
 log_lacks = (λ x. omega arith, (λ x. omega arith, (λ x. omega arith, tt)))
 
 -- a word alone is `life`, `redo` or `log`, or what a plain line is
-pub no_lone_line : (word : List ℕ) (said : StoreScriptLine) → SpellsStore word said → Lacks 32 word → word ≢ codes "life" → word ≢ codes "redo" → word ≢ codes "log" → ((other : StoreScriptLine) → IsPlainLine other → ¬ (SpellsStore word other)) → ⊥
+pub no_lone_line : (word : List ℕ) (said : StoreScriptLine) → SpellsStore word said → LacksByte 32 word → word ≢ codes "life" → word ≢ codes "redo" → word ≢ codes "log" → ((other : StoreScriptLine) → IsPlainLine other → ¬ (SpellsStore word other)) → ⊥
 no_lone_line word (lines.Life options) s l other redo log plain = other (lone_life word options l s)
 no_lone_line word (lines.Set file bytes) s l other redo log plain = plain (lines.Set file bytes) tt s
 no_lone_line word (lines.Within within.Calls) s l other redo log plain = plain (lines.Within within.Calls) tt s
-no_lone_line word (lines.Within (within.Page page)) s l other redo log plain = lacks_mid 32 (codes "page") s.0 (subst (λ (t : List ℕ). Lacks 32 t) s.1 l)
+no_lone_line word (lines.Within (within.Page page)) s l other redo log plain = lacks_mid 32 (codes "page") s.0 (subst (λ (t : List ℕ). LacksByte 32 t) s.1 l)
 no_lone_line word (lines.Within within.Redo) s l other redo log plain = redo s
 no_lone_line word (lines.Within within.Log) s l other redo log plain = log s
 no_lone_line word (lines.Within (within.Step step)) s l other redo log plain = plain (lines.Within (within.Step step)) tt s
 no_lone_line word (lines.Stop stop) s l other redo log plain = plain (lines.Stop stop) tt s
 
 -- a line of more words begins with `life` or `page`, or is what a plain line is
-pub no_spaced_line : (text word rest : List ℕ) (said : StoreScriptLine) → SpellsStore text said → text ≡ word ++ 32 ∷ rest → Lacks 32 word → word ≢ codes "life" → word ≢ codes "page" → ((other : StoreScriptLine) → IsPlainLine other → ¬ (SpellsStore text other)) → ⊥
+pub no_spaced_line : (text word rest : List ℕ) (said : StoreScriptLine) → SpellsStore text said → text ≡ word ++ 32 ∷ rest → LacksByte 32 word → word ≢ codes "life" → word ≢ codes "page" → ((other : StoreScriptLine) → IsPlainLine other → ¬ (SpellsStore text other)) → ⊥
 no_spaced_line text word rest (lines.Life options) s cut l life page plain = life (spaced_life word rest options l (subst (λ (t : List ℕ). SpellsLife t options) cut s))
 no_spaced_line text word rest (lines.Set file bytes) s cut l life page plain = plain (lines.Set file bytes) tt s
 no_spaced_line text word rest (lines.Within within.Calls) s cut l life page plain = plain (lines.Within within.Calls) tt s
 no_spaced_line text word rest (lines.Within (within.Page n)) s cut l life page plain = page (cut_once 32 word (codes "page") rest s.0 l page_lacks (sym cut ∙ s.1)).0
-no_spaced_line text word rest (lines.Within within.Redo) s cut l life page plain = lacks_mid 32 word rest (subst (λ (t : List ℕ). Lacks 32 t) (sym s ∙ cut) redo_lacks)
-no_spaced_line text word rest (lines.Within within.Log) s cut l life page plain = lacks_mid 32 word rest (subst (λ (t : List ℕ). Lacks 32 t) (sym s ∙ cut) log_lacks)
+no_spaced_line text word rest (lines.Within within.Redo) s cut l life page plain = lacks_mid 32 word rest (subst (λ (t : List ℕ). LacksByte 32 t) (sym s ∙ cut) redo_lacks)
+no_spaced_line text word rest (lines.Within within.Log) s cut l life page plain = lacks_mid 32 word rest (subst (λ (t : List ℕ). LacksByte 32 t) (sym s ∙ cut) log_lacks)
 no_spaced_line text word rest (lines.Within (within.Step step)) s cut l life page plain = plain (lines.Within (within.Step step)) tt s
 no_spaced_line text word rest (lines.Stop stop) s cut l life page plain = plain (lines.Stop stop) tt s
 

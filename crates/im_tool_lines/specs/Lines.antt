@@ -37,11 +37,11 @@ file_word files.Pages = codes "pages"
 file_word files.Log2 = codes "log2"
 
 -- The bytes of a line that says this. Its words stand apart by single spaces; a batch has 1 to 16,384 bytes.
-abbrev pub Spells : List ℕ → Line → Type 0
-Spells text lines.Raw = text ≡ codes "raw"
-Spells text lines.Calls = text ≡ codes "calls"
-Spells text (lines.Put batch) = (hex : List ℕ) × (text ≡ codes "put " ++ hex) × (decode_of hex ≡ Ok batch.records.items) × (1 ≤ length batch.records.items) × (length batch.records.items ≤ 16384)
-Spells text (lines.Set file bytes) = (hex : List ℕ) × (text ≡ codes "set " ++ (file_word file ++ 32 ∷ hex)) × (hex ≢ []) × (decode_of hex ≡ Ok bytes.items)
-Spells text (lines.Stop stop) =
+abbrev pub SpellsLine : List ℕ → Line → Type 0
+SpellsLine text lines.Raw = text ≡ codes "raw"
+SpellsLine text lines.Calls = text ≡ codes "calls"
+SpellsLine text (lines.Put batch) = (hex : List ℕ) × (text ≡ codes "put " ++ hex) × (decode_of hex ≡ Ok batch.records.items) × (1 ≤ length batch.records.items) × (length batch.records.items ≤ 16384)
+SpellsLine text (lines.Set file bytes) = (hex : List ℕ) × (text ≡ codes "set " ++ (file_word file ++ 32 ∷ hex)) × (hex ≢ []) × (decode_of hex ≡ Ok bytes.items)
+SpellsLine text (lines.Stop stop) =
     (call : List ℕ) × (size : List ℕ) × (fill : List ℕ) × (text ≡ codes "stop " ++ (call ++ 32 ∷ (size ++ 32 ∷ fill)))
     × IsCall call stop.call × IsLengthWord size stop.length × IsFillWord fill stop.fill

@@ -22,7 +22,7 @@ pub record IsFront (front whole : List (List ℕ)) : Type 0 where
 
 -- What is left of a life: the batches from before and after them a front of those that it asked to put, in order, with all that
 -- were acknowledged and at most one more.
-pub record Survives (before asked acked after : List (List ℕ)) : Type 0 where
+pub record BatchesSurvive (before asked acked after : List (List ℕ)) : Type 0 where
   pub kept : List (List ℕ)
   pub is : after ≡ before ++ kept
   pub of_asked : IsFront kept asked
@@ -46,6 +46,6 @@ acked_of (line ∷ rest) [] = []
 abbrev pub RawLives : List RawLife → List LifeAnswers → List (List ℕ) → List (List ℕ) → Type 0
 RawLives [] [] before after = after ≡ before
 RawLives (life ∷ rest) (told ∷ others) before after =
-    (mid : List (List ℕ)) × Survives before (asked_of life.lines.items) (acked_of life.lines.items told.replies.items) mid × RawLives rest others mid after
+    (mid : List (List ℕ)) × BatchesSurvive before (asked_of life.lines.items) (acked_of life.lines.items told.replies.items) mid × RawLives rest others mid after
 RawLives [] (told ∷ others) before after = ⊥
 RawLives (life ∷ rest) [] before after = ⊥

@@ -17,10 +17,10 @@ lines_of_open None = []
 lines_of_open (Some open_lines) = lines.Raw ∷ map line_of open_lines.items
 
 -- where the next line stands
-abbrev pub place_of : List RawLife → Option (Vec RawLine) → Place
-place_of lives (Some open_lines) = Within
-place_of [] None = Before
-place_of (life ∷ rest) None = Behind
+abbrev pub next_place : List RawLife → Option (Vec RawLine) → Place
+next_place lives (Some open_lines) = Within
+next_place [] None = Before
+next_place (life ∷ rest) None = Behind
 
 -- These lines were read: what they set, the lives that they ended and the one that they did not.
 pub record IsRead (files : Files) (lives : List RawLife) (life : Option (Vec RawLine)) (said : List Line) : Type 0 where
@@ -28,7 +28,7 @@ pub record IsRead (files : Files) (lives : List RawLife) (life : Option (Vec Raw
   pub is : said ≡ map set_line sets ++ (lines_of_lives lives ++ lines_of_open life)
   pub files_are : files ≡ files_set (both [] []) sets
   pub stand : MayStand Before (map kind_of said)
-  pub place : place_after Before (map kind_of said) ≡ place_of lives life
+  pub place : place_after Before (map kind_of said) ≡ next_place lives life
 
 abbrev pub IsReading : Reading → List Line → Type 0
 IsReading reading said = IsRead (files_of reading.files) reading.lives.items reading.life said

@@ -11,7 +11,7 @@ use Rattle.im_tool_lines.specs.declared.raw_line.RawLine.{RawLine}
 use Rattle.im_tool_lines.specs.declared.raw_line.RawLine.TheVariants as raws
 use Rattle.im_tool_lines.specs.declared.raw_life.RawLife.{RawLife}
 use Rattle.im_tool_lines.specs.declared.script.Script.{Script}
-use Rattle.im_tool_lines.specs.Lines.{Spells}
+use Rattle.im_tool_lines.specs.Lines.{SpellsLine}
 
 -- this byte in front of the first line
 abbrev pub before_first_line : ℕ → List (List ℕ) → List (List ℕ)
@@ -141,8 +141,8 @@ pub record IsFirstBadBy {L : Type 0} (spells : List ℕ → L → Type 0) (kind 
 
 -- The script that the lines of a text make.
 abbrev pub IsScript : List (List ℕ) → Script → Type 0
-IsScript texts script = (said : List Line) × SaysBy Spells texts said × MayStand Before (map kind_of said) × IsScriptOf script said
+IsScript texts script = (said : List Line) × SaysBy SpellsLine texts said × MayStand Before (map kind_of said) × IsScriptOf script said
 
 -- The line of this number is the first that is bad.
 abbrev pub IsFirstBad : List (List ℕ) → ℕ → Type 0
-IsFirstBad texts number = IsFirstBadBy Spells kind_of texts number
+IsFirstBad texts number = IsFirstBadBy SpellsLine kind_of texts number

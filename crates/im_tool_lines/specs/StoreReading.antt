@@ -18,10 +18,10 @@ lines_of_open None = []
 lines_of_open (Some life) = lines.Life life.options ∷ map lines.Within life.lines.items
 
 -- where the next line stands
-abbrev pub place_of : List StoreLife → Option OpenLife → Place
-place_of lives (Some life) = Within
-place_of [] None = Before
-place_of (life ∷ rest) None = Behind
+abbrev pub next_place : List StoreLife → Option OpenLife → Place
+next_place lives (Some life) = Within
+next_place [] None = Before
+next_place (life ∷ rest) None = Behind
 
 -- These lines were read: what they set, the lives that they ended and the one that they did not.
 pub record IsStoreRead (files : Files) (lives : List StoreLife) (life : Option OpenLife) (said : List StoreScriptLine) : Type 0 where
@@ -29,7 +29,7 @@ pub record IsStoreRead (files : Files) (lives : List StoreLife) (life : Option O
   pub is : said ≡ map set_store_line sets ++ (lines_of_lives lives ++ lines_of_open life)
   pub files_are : files ≡ files_set (both [] []) sets
   pub stand : MayStand Before (map store_kind_of said)
-  pub place : place_after Before (map store_kind_of said) ≡ place_of lives life
+  pub place : place_after Before (map store_kind_of said) ≡ next_place lives life
 
 abbrev pub IsStoreReading : StoreReading → List StoreScriptLine → Type 0
 IsStoreReading reading said = IsStoreRead (files_of reading.files) reading.lives.items reading.life said

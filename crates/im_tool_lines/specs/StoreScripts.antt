@@ -11,8 +11,8 @@ use Rattle.im_tool_lines.specs.declared.store_life.StoreLine.TheVariants as with
 use Rattle.im_tool_lines.specs.declared.store_life.StoreLife.{StoreLife}
 use Rattle.im_tool_lines.specs.declared.store_life.LifeOptions.{LifeOptions}
 use Rattle.im_tool_lines.specs.declared.store_script.StoreScript.{StoreScript}
-use Rattle.im_tool_words.specs.Words.{Lacks, IsNumber, IsPageNumber}
-use Rattle.im_tool_lines.specs.Lines.{Spells}
+use Rattle.im_tool_words.specs.Words.{LacksByte, IsNumber, IsPageNumber}
+use Rattle.im_tool_lines.specs.Lines.{SpellsLine}
 use Rattle.im_tool_words.specs.Steps.{SpellsStep}
 use Rattle.im_tool_lines.specs.Scripts.{Kind, Sets, Begins, Counts, Steps, Stops, Before, MayStand, SaysBy, IsFirstBadBy, files_set}
 
@@ -34,7 +34,7 @@ IsTail text = (text ≡ []) ⊎ ((rest : List ℕ) × (text ≡ 32 ∷ rest))
 
 -- What may stand after an option of this name: nothing, or what begins with another name.
 abbrev pub IsBehindOption : List ℕ → List ℕ → Type 0
-IsBehindOption name text = (text ≡ []) ⊎ ((other : List ℕ) × (rest : List ℕ) × (text ≡ 32 ∷ (other ++ rest)) × IsTail rest × Lacks 32 other × (other ≢ name))
+IsBehindOption name text = (text ≡ []) ⊎ ((other : List ℕ) × (rest : List ℕ) × (text ≡ 32 ∷ (other ++ rest)) × IsTail rest × LacksByte 32 other × (other ≢ name))
 
 -- The text begins with this option, and this is left after it.
 pub record IsOption (name text : List ℕ) (option : OptionSaid) (left : List ℕ) : Type 0 where
@@ -59,13 +59,13 @@ SpellsLife text options = (words : List ℕ) × (text ≡ codes "life" ++ words)
 -- The bytes of a line that says this.
 abbrev pub SpellsStore : List ℕ → StoreScriptLine → Type 0
 SpellsStore text (lines.Life options) = SpellsLife text options
-SpellsStore text (lines.Set file bytes) = Spells text (raws.Set file bytes)
-SpellsStore text (lines.Within within.Calls) = Spells text raws.Calls
+SpellsStore text (lines.Set file bytes) = SpellsLine text (raws.Set file bytes)
+SpellsStore text (lines.Within within.Calls) = SpellsLine text raws.Calls
 SpellsStore text (lines.Within (within.Page page)) = (rest : List ℕ) × (text ≡ codes "page " ++ rest) × IsPageNumber rest page
 SpellsStore text (lines.Within within.Redo) = text ≡ codes "redo"
 SpellsStore text (lines.Within within.Log) = text ≡ codes "log"
 SpellsStore text (lines.Within (within.Step step)) = SpellsStep text step
-SpellsStore text (lines.Stop stop) = Spells text (raws.Stop stop)
+SpellsStore text (lines.Stop stop) = SpellsLine text (raws.Stop stop)
 
 -- a line that is none of `life`, `page`, `redo` and `log`
 abbrev pub IsPlainLine : StoreScriptLine → Type 0

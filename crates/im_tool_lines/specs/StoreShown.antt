@@ -22,14 +22,14 @@ shown_after s (lines.Page page) (replies.Refused fault) = record s { failed = br
 shown_after s line reply = s
 
 -- what is shown after the lines that have their replies
-abbrev pub shown_in : Shown → List StoreLine → List StoreReply → Shown
-shown_in s (line ∷ rest) (reply ∷ others) = shown_in (shown_after s line reply) rest others
-shown_in s [] told = s
-shown_in s (line ∷ rest) [] = s
+abbrev pub shown_by_lines : Shown → List StoreLine → List StoreReply → Shown
+shown_by_lines s (line ∷ rest) (reply ∷ others) = shown_by_lines (shown_after s line reply) rest others
+shown_by_lines s [] told = s
+shown_by_lines s (line ∷ rest) [] = s
 
 -- the effects whose Commit a life asked, and which of them were acknowledged
 abbrev pub asked_by_life : StoreLife → StoreAnswers → List Asked
-asked_by_life life told = (shown_in nothing_shown life.lines.items told.replies.items).asked
+asked_by_life life told = (shown_by_lines nothing_shown life.lines.items told.replies.items).asked
 
 -- the same of each life
 abbrev pub asked_in_each : List StoreLife → List StoreAnswers → List (List Asked)

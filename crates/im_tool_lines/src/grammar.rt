@@ -3,8 +3,8 @@
 ghost use Rattle.std.specs.Prelude.{◌≡◌, ◌⊎◌, ◌++◌, codes, IfOk, IfErr};
 ghost use Rattle.im_base_types.specs.declared.fault.Fault.TheVariants.{BadScript, Memory};
 ghost use Rattle.im_tool_lines.specs.declared.line.Line.{Line};
-ghost use Rattle.im_tool_words.specs.Words.{Lacks};
-ghost use Rattle.im_tool_lines.specs.Lines.{Spells};
+ghost use Rattle.im_tool_words.specs.Words.{LacksByte};
+ghost use Rattle.im_tool_lines.specs.Lines.{SpellsLine};
 
 use crate::set_words::file_of;
 use crate::stop_words::{call_of, fill_of, length_of};
@@ -17,8 +17,8 @@ use std::alloc::Global;
 /// What the line says. It has no newline. Refused `BadScript` exactly where the grammar has no such line; `Memory`.
 #[tactic(auto, using(crate::proofs::Spelled::word_said))]
 pub fn parse_line(alloc: Global, line: &[u8]) -> Result<Line, Fault>
-    ensures says { IfOk result (λ said. Spells line.now said) }
-    ensures refused { result ≡ Err BadScript → (said : Line) → ¬ (Spells line.now said) }
+    ensures says { IfOk result (λ said. SpellsLine line.now said) }
+    ensures refused { result ≡ Err BadScript → (said : Line) → ¬ (SpellsLine line.now said) }
     ensures causes { IfErr result (λ e. (e ≡ Memory) ⊎ (e ≡ BadScript)) }
 {
     let (word, rest) = first_piece(line, b' ');
@@ -40,9 +40,9 @@ pub fn parse_line(alloc: Global, line: &[u8]) -> Result<Line, Fault>
 // The line of one word.
 #[tactic(auto, using(crate::proofs::Spelled::lone_bad))]
 fn lone_word(word: &[u8]) -> Result<Line, Fault>
-    requires { Lacks 32 word.now }
-    ensures says { IfOk result (λ said. Spells word.now said) }
-    ensures refused { result ≡ Err BadScript → (said : Line) → ¬ (Spells word.now said) }
+    requires { LacksByte 32 word.now }
+    ensures says { IfOk result (λ said. SpellsLine word.now said) }
+    ensures refused { result ≡ Err BadScript → (said : Line) → ¬ (SpellsLine word.now said) }
     ensures causes { IfErr result (λ e. (e ≡ Memory) ⊎ (e ≡ BadScript)) }
 {
     if word == b"raw".as_slice() {
@@ -56,8 +56,8 @@ fn lone_word(word: &[u8]) -> Result<Line, Fault>
 
 #[tactic(auto, using(crate::proofs::Spelled::put_said))]
 fn put_line(alloc: Global, rest: &[u8]) -> Result<Line, Fault>
-    ensures says { IfOk result (λ said. Spells (codes "put " ++ rest.now) said) }
-    ensures refused { result ≡ Err BadScript → (said : Line) → ¬ (Spells (codes "put " ++ rest.now) said) }
+    ensures says { IfOk result (λ said. SpellsLine (codes "put " ++ rest.now) said) }
+    ensures refused { result ≡ Err BadScript → (said : Line) → ¬ (SpellsLine (codes "put " ++ rest.now) said) }
     ensures causes { IfErr result (λ e. (e ≡ Memory) ⊎ (e ≡ BadScript)) }
 {
     let bytes = bytes_of(alloc, rest)?;
@@ -69,8 +69,8 @@ fn put_line(alloc: Global, rest: &[u8]) -> Result<Line, Fault>
 
 #[tactic(auto, using(crate::proofs::SetSpelled::set_two, crate::proofs::SetSpelled::set_file, crate::proofs::SetSpelled::set_hex, crate::proofs::SetSpelled::set_bytes))]
 fn set_line(alloc: Global, rest: &[u8]) -> Result<Line, Fault>
-    ensures says { IfOk result (λ said. Spells (codes "set " ++ rest.now) said) }
-    ensures refused { result ≡ Err BadScript → (said : Line) → ¬ (Spells (codes "set " ++ rest.now) said) }
+    ensures says { IfOk result (λ said. SpellsLine (codes "set " ++ rest.now) said) }
+    ensures refused { result ≡ Err BadScript → (said : Line) → ¬ (SpellsLine (codes "set " ++ rest.now) said) }
     ensures causes { IfErr result (λ e. (e ≡ Memory) ⊎ (e ≡ BadScript)) }
 {
     let (word, rest) = first_piece(rest, b' ');
@@ -89,8 +89,8 @@ fn set_line(alloc: Global, rest: &[u8]) -> Result<Line, Fault>
 
 #[tactic(auto, using(crate::proofs::Spelled::stop_one, crate::proofs::Spelled::stop_call, crate::proofs::Spelled::stop_two, crate::proofs::Spelled::stop_length, crate::proofs::Spelled::stop_fill))]
 fn stop_line(alloc: Global, rest: &[u8]) -> Result<Line, Fault>
-    ensures says { IfOk result (λ said. Spells (codes "stop " ++ rest.now) said) }
-    ensures refused { result ≡ Err BadScript → (said : Line) → ¬ (Spells (codes "stop " ++ rest.now) said) }
+    ensures says { IfOk result (λ said. SpellsLine (codes "stop " ++ rest.now) said) }
+    ensures refused { result ≡ Err BadScript → (said : Line) → ¬ (SpellsLine (codes "stop " ++ rest.now) said) }
     ensures causes { IfErr result (λ e. (e ≡ Memory) ⊎ (e ≡ BadScript)) }
 {
     let (call, rest) = first_piece(rest, b' ');

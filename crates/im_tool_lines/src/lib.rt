@@ -6,14 +6,14 @@
 //! line stands in it, and no `life` line before that (`is_raw`, by `IsRaw`).
 //!
 //! `parse_line` and `parse_store_line` decide the grammar, with the lines of steps as `im_tool_words` reads them: what they read is spelled as the
-//! grammar says (`Spells`, `SpellsStore`), and no line spells what they refuse as bad. `Script::parse` and `StoreScript::parse` read exactly
+//! grammar says (`SpellsLine`, `SpellsStore`), and no line spells what they refuse as bad. `Script::parse` and `StoreScript::parse` read exactly
 //! the scripts, both by `read_lines` over what takes a line of theirs (`LineReader`): a script is that of the text's lines (`IsScript`, `IsStoreScript`), each of which may stand where it stands (`MayStand`), and
 //! the number that is refused is that of the first line which is bad (`IsFirstBad`, `IsFirstBadOfStore`). `reason_of` says in words why a line
 //! is bad; its text is tested and stands in no clause.
 //!
 //! `drill` promises, of a script whose files stand for some batches at first (`StandsFor`): each life leaves the batches
 //! from before it and after them a front of those that it asked to put, in order, with every one that was answered `put ok`
-//! (`Survives`, `RawLives`), whatever the stop leaves of the places that were not synced; and the last opening finds what the
+//! (`BatchesSurvive`, `RawLives`), whatever the stop leaves of the places that were not synced; and the last opening finds what the
 //! last life left, or was refused for want of memory or by the disk. Each life has its answers and each line its reply, up to a
 //! line into which the stop fell (`EachAnswered`). Every answer comes from a call of a gate (`IsRawRun`). Within a life one fact is
 //! kept (`IsLiving`): what a stop may leave now survives the life so far, and as long as the gate works, all that was asked was acknowledged.
@@ -21,7 +21,7 @@
 //! Of a life of a store there is here what it has in common: its stop, and the device call and the read that fail in it, armed (`arm_life`,
 //! `has_come`), what an opening answers that did not succeed (`refused_opening`), which lines have replies (`AnsweredBy`), and on which disk the
 //! next life begins (`IsNextDisk`). `StoreAnswers` has its opening's answer and one reply a line (`StoreReply`): each line has its reply, up to one into
-//! which the stop fell (`StoreAnswered`), and what the life asked is what its own lines and replies show by the definition of lives (`shown_in`,
+//! which the stop fell (`StoreAnswered`), and what the life asked is what its own lines and replies show by the definition of lives (`shown_by_lines`,
 //! `asked_by_life`): a step with its reply, or cut off by the stop.
 //!
 //! This crate stands on the gate's contracts over any disk, on the model disk with its stops, and on the steps of a store of many transactions

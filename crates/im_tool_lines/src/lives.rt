@@ -8,7 +8,7 @@ ghost use Rattle.im_log_gate.specs.declared.gate.Gate.{Gate};
 ghost use Rattle.im_log_gate.specs.Batches.{with_batch};
 ghost use Rattle.im_log_gate.specs.Gate.{IsReady, logged};
 ghost use Rattle.im_log_gate.specs.Outcome.{MovesBy, PutOutcome};
-ghost use Rattle.im_tool_lines.specs.Lives.{StandsFor, Survives, asked_of, acked_of};
+ghost use Rattle.im_tool_lines.specs.Lives.{StandsFor, BatchesSurvive, asked_of, acked_of};
 ghost use Rattle.im_tool_lines.specs.Living.{IsLiving};
 ghost use Rattle.im_tool_lines.specs.RawRuns.{IsRawLineRun, AreRawLinesRun, IsRawLifeRun};
 ghost use Rattle.im_tool_lines.specs.Answered.{IsRawReply, Answered, AnsweredBehind};
@@ -42,7 +42,7 @@ pub(crate) fn run_life(
     ensures answered { IfOk result (λ told. AnsweredBehind told.opening life.now.lines.items told.replies.items) }
     ensures kept { IfOk result (λ told. (before : List (List ℕ)) → StandsFor (⟦<ModelDisk as Disk>⟧.seen disk.old) before
         → (c : Files) → ⟦<ModelDisk as Disk>⟧.may_leave disk.new c
-        → (after : List (List ℕ)) × StandsFor c after × Survives before (asked_of life.now.lines.items) (acked_of life.now.lines.items told.replies.items) after) }
+        → (after : List (List ℕ)) × StandsFor c after × BatchesSurvive before (asked_of life.now.lines.items) (acked_of life.now.lines.items told.replies.items) after) }
 {
     arm(alloc, disk, &life.stop)?;
     match open_batches(alloc, disk) {
@@ -70,7 +70,7 @@ fn run_lines(
     ensures answered { IfOk result (λ told. Answered lines.now told.items) }
     ensures kept { IfOk result (λ told. (before : List (List ℕ)) → IsLiving ⟦<ModelDisk as Disk>⟧ before [] [] gate.old disk.old
         → (c : Files) → ⟦<ModelDisk as Disk>⟧.may_leave disk.new c
-        → (after : List (List ℕ)) × StandsFor c after × Survives before (asked_of lines.now) (acked_of lines.now told.items) after) }
+        → (after : List (List ℕ)) × StandsFor c after × BatchesSurvive before (asked_of lines.now) (acked_of lines.now told.items) after) }
 {
     let mut replies = Vec::new(alloc);
     for line in lines {

@@ -3,7 +3,7 @@
 ghost use Rattle.std.specs.Prelude.{◌≡◌, ◌++◌, ◌∷◌, [], List, map, IfOk, OnOk, IfErr};
 ghost use Rattle.im_base_types.specs.declared.fault.Fault.TheVariants.{BadScript};
 ghost use Rattle.im_tool_lines.specs.declared.line.Line.{Line};
-ghost use Rattle.im_tool_lines.specs.Lines.{Spells};
+ghost use Rattle.im_tool_lines.specs.Lines.{SpellsLine};
 ghost use Rattle.im_tool_lines.specs.Scripts.{IsScriptOf, MayStand, MayFollow, Before, kind_of, line_of, place_after};
 ghost use Rattle.im_tool_lines.specs.Reading.{IsReading};
 
@@ -138,7 +138,7 @@ impl Reading {
 impl LineReader for Reading {
     type Line = Line;
 
-    ghost spells = { Spells };
+    ghost spells = { SpellsLine };
 
     ghost kind = { kind_of };
 

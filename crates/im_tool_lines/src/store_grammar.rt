@@ -4,7 +4,7 @@ ghost use Rattle.std.specs.Prelude.{◌≡◌, ◌≢◌, ◌⊎◌, ◌++◌, �
 ghost use Rattle.im_base_types.specs.declared.fault.Fault.TheVariants.{BadScript, Memory};
 ghost use Rattle.im_tool_lines.specs.declared.store_script_line.StoreScriptLine.{StoreScriptLine};
 ghost use Rattle.im_tool_lines.specs.StoreScripts.{SpellsStore, IsOption, IsBehindOption, IsPlainLine, Number, Word};
-ghost use Rattle.im_tool_words.specs.Words.{Lacks};
+ghost use Rattle.im_tool_words.specs.Words.{LacksByte};
 ghost use Rattle.im_tool_lines.specs.Lines.{behind_word};
 
 use crate::Line;
@@ -39,7 +39,7 @@ pub fn parse_store_line(alloc: Global, line: &[u8]) -> Result<StoreScriptLine, F
 // The line of one word other than `life`.
 #[tactic(auto, using(crate::proofs::StoreSpelled::no_lone_line))]
 fn lone_line(alloc: Global, word: &[u8]) -> Result<StoreScriptLine, Fault>
-    requires { Lacks 32 word.now }
+    requires { LacksByte 32 word.now }
     ensures says { IfOk result (λ said. SpellsStore word.now said) }
     ensures refused { result ≡ Err BadScript → word.now ≢ codes "life" → (said : StoreScriptLine) → ¬ (SpellsStore word.now said) }
     ensures causes { IfErr result (λ e. (e ≡ Memory) ⊎ (e ≡ BadScript)) }
@@ -88,7 +88,7 @@ fn option_of<'a>(
     name: &[u8],
     words: Option<&'a [u8]>,
 ) -> Result<(Option<u64>, Option<&'a [u8]>), Fault>
-    requires { Lacks 32 name.now }
+    requires { LacksByte 32 name.now }
     ensures says { IfOk result (λ said. IsOption name.now (behind_word words.entry) (Number said.0) (behind_word said.1)) }
     ensures once { IfOk result (λ said. (option : Option ℕ) (left : List ℕ) → IsOption name.now (behind_word words.entry) (Number option) left → IsBehindOption name.now left
         → (option ≡ said.0) × (left ≡ behind_word said.1)) }
@@ -112,7 +112,7 @@ fn option_of<'a>(
 
 // Whether the words begin with the option of this name that is a word alone, and the words after it.
 fn word_of<'a>(name: &[u8], words: Option<&'a [u8]>) -> (bool, Option<&'a [u8]>)
-    requires { Lacks 32 name.now }
+    requires { LacksByte 32 name.now }
     ensures says { IsOption name.now (behind_word words.entry) (Word result.0) (behind_word result.1) }
     ensures once { (option : Bool) (left : List ℕ) → IsOption name.now (behind_word words.entry) (Word option) left → IsBehindOption name.now left
         → (option ≡ result.0) × (left ≡ behind_word result.1) }

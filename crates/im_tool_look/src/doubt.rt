@@ -3,7 +3,7 @@
 use crate::current::CurrentLog;
 use crate::files::Files;
 use im_base_types::{Fault, FileId};
-use im_files_guard::{FRONT, Front, may_lack_first_byte};
+use im_files_belonging::{FRONT, Front, may_lack_first_byte};
 
 /// The file that is not the current log, where it may be the newer one, whose first byte is damaged: all else of a newer log stands there. No opening asks this, since
 /// a stop can leave such bytes.

@@ -3,9 +3,9 @@
 use crate::doubt::front;
 use crate::files::Files;
 use im_base_types::{Fault, FileId};
-use im_files_guard::{Folder, LogCuts, PagesFront};
+use im_files_belonging::{Folder, LogCuts, PagesFront};
 
-/// How much of the log that was left for the current one stays where it is cut, as `im_files_guard` decides it: up to the end of its first batch. 0 where it does not begin with
+/// How much of the log that was left for the current one stays where it is cut, as `im_files_belonging` decides it: up to the end of its first batch. 0 where it does not begin with
 /// a batch, or was not made: then no opening reads a record of it.
 ///
 /// Refused `Device`.

@@ -2,7 +2,7 @@
 use Rattle.std.proofs.Common.{◌≡◌, ◌≢◌, ℕ, List, [], ◌∷◌, ◌++◌, slice_index, codes, Result, Ok, Err, IfErr, sym, ◌∙◌, ap, subst, arith}
 use Rattle.im_base_steps.specs.declared.step.Step.{Step}
 use Rattle.im_base_steps.specs.declared.step.Step.TheVariants as steps
-use Rattle.im_tool_words.specs.Words.{Lacks, IsNumber, IsPageNumber}
+use Rattle.im_tool_words.specs.Words.{LacksByte, IsNumber, IsPageNumber}
 use Rattle.im_tool_words.specs.Steps.{IsKeyWord, IsNumbered, IsKeyed, IsKeyedWith, IsBehindKey, IsRanged, SpellsStep}
 use Rattle.im_tool_words.proofs.Texts.{lacks_mid, cut_once, digits_lack}
 use Rattle.im_tool_words.proofs.KeyWords.{key_lacks}
@@ -45,54 +45,54 @@ SpellsRest steps.Force rest = ⊥
 SpellsRest steps.Checkpoint rest = ⊥
 SpellsRest steps.Switch rest = ⊥
 
-begin_lacks : Lacks 32 (codes "begin")
+begin_lacks : LacksByte 32 (codes "begin")
 begin_lacks = (λ x. omega arith, (λ x. omega arith, (λ x. omega arith, (λ x. omega arith, (λ x. omega arith, tt)))))
 
-fetch_lacks : Lacks 32 (codes "fetch")
+fetch_lacks : LacksByte 32 (codes "fetch")
 fetch_lacks = (λ x. omega arith, (λ x. omega arith, (λ x. omega arith, (λ x. omega arith, (λ x. omega arith, tt)))))
 
-seek_lacks : Lacks 32 (codes "seek")
+seek_lacks : LacksByte 32 (codes "seek")
 seek_lacks = (λ x. omega arith, (λ x. omega arith, (λ x. omega arith, (λ x. omega arith, tt))))
 
-next_lacks : Lacks 32 (codes "next")
+next_lacks : LacksByte 32 (codes "next")
 next_lacks = (λ x. omega arith, (λ x. omega arith, (λ x. omega arith, (λ x. omega arith, tt))))
 
-prev_lacks : Lacks 32 (codes "prev")
+prev_lacks : LacksByte 32 (codes "prev")
 prev_lacks = (λ x. omega arith, (λ x. omega arith, (λ x. omega arith, (λ x. omega arith, tt))))
 
-scan_lacks : Lacks 32 (codes "scan")
+scan_lacks : LacksByte 32 (codes "scan")
 scan_lacks = (λ x. omega arith, (λ x. omega arith, (λ x. omega arith, (λ x. omega arith, tt))))
 
-insert_lacks : Lacks 32 (codes "insert")
+insert_lacks : LacksByte 32 (codes "insert")
 insert_lacks = (λ x. omega arith, (λ x. omega arith, (λ x. omega arith, (λ x. omega arith, (λ x. omega arith, (λ x. omega arith, tt))))))
 
-delete_lacks : Lacks 32 (codes "delete")
+delete_lacks : LacksByte 32 (codes "delete")
 delete_lacks = (λ x. omega arith, (λ x. omega arith, (λ x. omega arith, (λ x. omega arith, (λ x. omega arith, (λ x. omega arith, tt))))))
 
-commit_lacks : Lacks 32 (codes "commit")
+commit_lacks : LacksByte 32 (codes "commit")
 commit_lacks = (λ x. omega arith, (λ x. omega arith, (λ x. omega arith, (λ x. omega arith, (λ x. omega arith, (λ x. omega arith, tt))))))
 
-rollback_lacks : Lacks 32 (codes "rollback")
+rollback_lacks : LacksByte 32 (codes "rollback")
 rollback_lacks = (λ x. omega arith, (λ x. omega arith, (λ x. omega arith, (λ x. omega arith, (λ x. omega arith, (λ x. omega arith, (λ x. omega arith, (λ x. omega arith, tt))))))))
 
-continue_lacks : Lacks 32 (codes "continue")
+continue_lacks : LacksByte 32 (codes "continue")
 continue_lacks = (λ x. omega arith, (λ x. omega arith, (λ x. omega arith, (λ x. omega arith, (λ x. omega arith, (λ x. omega arith, (λ x. omega arith, (λ x. omega arith, tt))))))))
 
-flush_lacks : Lacks 32 (codes "flush")
+flush_lacks : LacksByte 32 (codes "flush")
 flush_lacks = (λ x. omega arith, (λ x. omega arith, (λ x. omega arith, (λ x. omega arith, (λ x. omega arith, tt)))))
 
-force_lacks : Lacks 32 (codes "force")
+force_lacks : LacksByte 32 (codes "force")
 force_lacks = (λ x. omega arith, (λ x. omega arith, (λ x. omega arith, (λ x. omega arith, (λ x. omega arith, tt)))))
 
-checkpoint_lacks : Lacks 32 (codes "checkpoint")
+checkpoint_lacks : LacksByte 32 (codes "checkpoint")
 checkpoint_lacks = (λ x. omega arith, (λ x. omega arith, (λ x. omega arith, (λ x. omega arith, (λ x. omega arith, (λ x. omega arith, (λ x. omega arith, (λ x. omega arith, (λ x. omega arith, (λ x. omega arith, tt))))))))))
 
-switch_lacks : Lacks 32 (codes "switch")
+switch_lacks : LacksByte 32 (codes "switch")
 switch_lacks = (λ x. omega arith, (λ x. omega arith, (λ x. omega arith, (λ x. omega arith, (λ x. omega arith, (λ x. omega arith, tt))))))
 
 -- a line is cut in one way at its first space
-pub words_said : (word rest : List ℕ) (step : Step) → SpellsStep (word ++ 32 ∷ rest) step → Lacks 32 word → (word ≡ word_of step) × SpellsRest step rest
-words_said word rest steps.Begin s l = absurd (lacks_mid 32 word rest (subst (λ (x : List ℕ). Lacks 32 x) (sym s) begin_lacks))
+pub words_said : (word rest : List ℕ) (step : Step) → SpellsStep (word ++ 32 ∷ rest) step → LacksByte 32 word → (word ≡ word_of step) × SpellsRest step rest
+words_said word rest steps.Begin s l = absurd (lacks_mid 32 word rest (subst (λ (x : List ℕ). LacksByte 32 x) (sym s) begin_lacks))
 words_said word rest (steps.Fetch t key) s l =
     let e = cut_once 32 word (codes "fetch") rest s.0 l fetch_lacks s.1 in
     (e.0, subst (λ (x : List ℕ). IsKeyed x t key.items) (sym e.1) s.2)
@@ -127,31 +127,31 @@ words_said word rest (steps.RollTo t left) s l = absurd s
 words_said word rest (steps.FlushPage page) s l =
     let e = cut_once 32 word (codes "flush") rest s.0 l flush_lacks s.1 in
     (e.0, subst (λ (x : List ℕ). IsPageNumber x page) (sym e.1) s.2)
-words_said word rest steps.Force s l = absurd (lacks_mid 32 word rest (subst (λ (x : List ℕ). Lacks 32 x) (sym s) force_lacks))
-words_said word rest steps.Checkpoint s l = absurd (lacks_mid 32 word rest (subst (λ (x : List ℕ). Lacks 32 x) (sym s) checkpoint_lacks))
-words_said word rest steps.Switch s l = absurd (lacks_mid 32 word rest (subst (λ (x : List ℕ). Lacks 32 x) (sym s) switch_lacks))
+words_said word rest steps.Force s l = absurd (lacks_mid 32 word rest (subst (λ (x : List ℕ). LacksByte 32 x) (sym s) force_lacks))
+words_said word rest steps.Checkpoint s l = absurd (lacks_mid 32 word rest (subst (λ (x : List ℕ). LacksByte 32 x) (sym s) checkpoint_lacks))
+words_said word rest steps.Switch s l = absurd (lacks_mid 32 word rest (subst (λ (x : List ℕ). LacksByte 32 x) (sym s) switch_lacks))
 
 -- a word alone is `begin`, `force`, `checkpoint` or `switch`, or asks for no step
-pub lone_step_bad : (word : List ℕ) (step : Step) → SpellsStep word step → Lacks 32 word → word ≢ codes "begin" → word ≢ codes "force" → word ≢ codes "checkpoint" → word ≢ codes "switch" → ⊥
+pub lone_step_bad : (word : List ℕ) (step : Step) → SpellsStep word step → LacksByte 32 word → word ≢ codes "begin" → word ≢ codes "force" → word ≢ codes "checkpoint" → word ≢ codes "switch" → ⊥
 lone_step_bad word steps.Begin s l b f c w = b s
-lone_step_bad word (steps.Fetch t key) s l b f c w = lacks_mid 32 (codes "fetch") s.0 (subst (λ (t : List ℕ). Lacks 32 t) s.1 l)
-lone_step_bad word (steps.Seek t key) s l b f c w = lacks_mid 32 (codes "seek") s.0 (subst (λ (t : List ℕ). Lacks 32 t) s.1 l)
-lone_step_bad word (steps.Next t key) s l b f c w = lacks_mid 32 (codes "next") s.0 (subst (λ (t : List ℕ). Lacks 32 t) s.1 l)
-lone_step_bad word (steps.Prev t key) s l b f c w = lacks_mid 32 (codes "prev") s.0 (subst (λ (t : List ℕ). Lacks 32 t) s.1 l)
-lone_step_bad word (steps.Scan t lo hi limit) s l b f c w = lacks_mid 32 (codes "scan") s.0 (subst (λ (t : List ℕ). Lacks 32 t) s.1 l)
-lone_step_bad word (steps.Insert t key rid) s l b f c w = lacks_mid 32 (codes "insert") s.0 (subst (λ (t : List ℕ). Lacks 32 t) s.1 l)
-lone_step_bad word (steps.Delete t key) s l b f c w = lacks_mid 32 (codes "delete") s.0 (subst (λ (t : List ℕ). Lacks 32 t) s.1 l)
-lone_step_bad word (steps.Commit t) s l b f c w = lacks_mid 32 (codes "commit") s.0 (subst (λ (t : List ℕ). Lacks 32 t) s.1 l)
-lone_step_bad word (steps.Rollback t) s l b f c w = lacks_mid 32 (codes "rollback") s.0 (subst (λ (t : List ℕ). Lacks 32 t) s.1 l)
-lone_step_bad word (steps.Continue t) s l b f c w = lacks_mid 32 (codes "continue") s.0 (subst (λ (t : List ℕ). Lacks 32 t) s.1 l)
+lone_step_bad word (steps.Fetch t key) s l b f c w = lacks_mid 32 (codes "fetch") s.0 (subst (λ (t : List ℕ). LacksByte 32 t) s.1 l)
+lone_step_bad word (steps.Seek t key) s l b f c w = lacks_mid 32 (codes "seek") s.0 (subst (λ (t : List ℕ). LacksByte 32 t) s.1 l)
+lone_step_bad word (steps.Next t key) s l b f c w = lacks_mid 32 (codes "next") s.0 (subst (λ (t : List ℕ). LacksByte 32 t) s.1 l)
+lone_step_bad word (steps.Prev t key) s l b f c w = lacks_mid 32 (codes "prev") s.0 (subst (λ (t : List ℕ). LacksByte 32 t) s.1 l)
+lone_step_bad word (steps.Scan t lo hi limit) s l b f c w = lacks_mid 32 (codes "scan") s.0 (subst (λ (t : List ℕ). LacksByte 32 t) s.1 l)
+lone_step_bad word (steps.Insert t key rid) s l b f c w = lacks_mid 32 (codes "insert") s.0 (subst (λ (t : List ℕ). LacksByte 32 t) s.1 l)
+lone_step_bad word (steps.Delete t key) s l b f c w = lacks_mid 32 (codes "delete") s.0 (subst (λ (t : List ℕ). LacksByte 32 t) s.1 l)
+lone_step_bad word (steps.Commit t) s l b f c w = lacks_mid 32 (codes "commit") s.0 (subst (λ (t : List ℕ). LacksByte 32 t) s.1 l)
+lone_step_bad word (steps.Rollback t) s l b f c w = lacks_mid 32 (codes "rollback") s.0 (subst (λ (t : List ℕ). LacksByte 32 t) s.1 l)
+lone_step_bad word (steps.Continue t) s l b f c w = lacks_mid 32 (codes "continue") s.0 (subst (λ (t : List ℕ). LacksByte 32 t) s.1 l)
 lone_step_bad word (steps.RollTo t left) s l b f c w = s
-lone_step_bad word (steps.FlushPage page) s l b f c w = lacks_mid 32 (codes "flush") s.0 (subst (λ (t : List ℕ). Lacks 32 t) s.1 l)
+lone_step_bad word (steps.FlushPage page) s l b f c w = lacks_mid 32 (codes "flush") s.0 (subst (λ (t : List ℕ). LacksByte 32 t) s.1 l)
 lone_step_bad word steps.Force s l b f c w = f s
 lone_step_bad word steps.Checkpoint s l b f c w = c s
 lone_step_bad word steps.Switch s l b f c w = w s
 
 -- a line of several words that asks for a step begins with one of eleven
-pub step_word_said : (word rest : List ℕ) (step : Step) → SpellsStep (word ++ 32 ∷ rest) step → Lacks 32 word → word ≢ codes "commit" → word ≢ codes "rollback" → word ≢ codes "continue" → word ≢ codes "flush" → word ≢ codes "fetch" → word ≢ codes "seek" → word ≢ codes "next" → word ≢ codes "prev" → word ≢ codes "scan" → word ≢ codes "insert" → word ≢ codes "delete" → ⊥
+pub step_word_said : (word rest : List ℕ) (step : Step) → SpellsStep (word ++ 32 ∷ rest) step → LacksByte 32 word → word ≢ codes "commit" → word ≢ codes "rollback" → word ≢ codes "continue" → word ≢ codes "flush" → word ≢ codes "fetch" → word ≢ codes "seek" → word ≢ codes "next" → word ≢ codes "prev" → word ≢ codes "scan" → word ≢ codes "insert" → word ≢ codes "delete" → ⊥
 step_word_said word rest steps.Begin q l c r o u f s n p a i d = (words_said word rest steps.Begin q l).1
 step_word_said word rest (steps.Fetch t key) q l c r o u f s n p a i d = f (words_said word rest (steps.Fetch t key) q l).0
 step_word_said word rest (steps.Seek t key) q l c r o u f s n p a i d = s (words_said word rest (steps.Seek t key) q l).0
@@ -402,11 +402,11 @@ pub delete_said : (rest : List ℕ) (step : Step) → SpellsStep (codes "delete 
 delete_said rest step s = let e = words_said (codes "delete") rest step s delete_lacks in delete_rest rest step e.0 e.1
 
 -- a text without a space is not numbered
-pub numbered_lacks : (text : List ℕ) (n : ℕ) (rest : List ℕ) → IsNumbered text n rest → Lacks 32 text → ⊥
-numbered_lacks text n rest w l = lacks_mid 32 w.word rest (subst (λ (x : List ℕ). Lacks 32 x) w.is l)
+pub numbered_lacks : (text : List ℕ) (n : ℕ) (rest : List ℕ) → IsNumbered text n rest → LacksByte 32 text → ⊥
+numbered_lacks text n rest w l = lacks_mid 32 w.word rest (subst (λ (x : List ℕ). LacksByte 32 x) w.is l)
 
 -- the first word of a numbered text is its number
-pub numbered_cut : (text word more : List ℕ) (n : ℕ) (rest : List ℕ) → IsNumbered text n rest → text ≡ word ++ 32 ∷ more → Lacks 32 word → IsNumber word n
+pub numbered_cut : (text word more : List ℕ) (n : ℕ) (rest : List ℕ) → IsNumbered text n rest → text ≡ word ++ 32 ∷ more → LacksByte 32 word → IsNumber word n
 numbered_cut text word more n rest w cut l =
     let e = cut_once 32 word w.word more rest l (digits_lack w.word w.number.0.1) (sym cut ∙ w.is) in
     subst (λ (x : List ℕ). IsNumber x n) (sym e.0) w.number
@@ -420,27 +420,27 @@ pub keyed_same : (text : List ℕ) (n t : ℕ) (word key : List ℕ) → IsNumbe
 keyed_same text n t word key a k = subst (λ (x : List ℕ). IsKeyWord x key) (sym (numbered_once text n t word k.word a k.numbered)) k.is_key
 
 -- what stands after the number of an insert: the word of the key, and the row id
-pub insert_cut : (text : List ℕ) (n : ℕ) (more word last : List ℕ) (t : ℕ) (key : List ℕ) (rid : ℕ) → IsNumbered text n more → more ≡ word ++ 32 ∷ last → Lacks 32 word → IsKeyedWith text t key rid → IsKeyWord word key × IsNumber last rid
+pub insert_cut : (text : List ℕ) (n : ℕ) (more word last : List ℕ) (t : ℕ) (key : List ℕ) (rid : ℕ) → IsNumbered text n more → more ≡ word ++ 32 ∷ last → LacksByte 32 word → IsKeyedWith text t key rid → IsKeyWord word key × IsNumber last rid
 insert_cut text n more word last t key rid a cut l k =
     let same = numbered_once text n t more (k.word ++ 32 ∷ k.last) a k.numbered in
     let e = cut_once 32 word k.word last k.last l (key_lacks k.word key k.is_key) (sym cut ∙ same) in
     (subst (λ (x : List ℕ). IsKeyWord x key) (sym e.0) k.is_key, subst (λ (x : List ℕ). IsNumber x rid) (sym e.1) k.is_rid)
 
-pub insert_one : (text : List ℕ) (n : ℕ) (more : List ℕ) (t : ℕ) (key : List ℕ) (rid : ℕ) → IsNumbered text n more → Lacks 32 more → IsKeyedWith text t key rid → ⊥
-insert_one text n more t key rid a l k = lacks_mid 32 k.word k.last (subst (λ (x : List ℕ). Lacks 32 x) (numbered_once text n t more (k.word ++ 32 ∷ k.last) a k.numbered) l)
+pub insert_one : (text : List ℕ) (n : ℕ) (more : List ℕ) (t : ℕ) (key : List ℕ) (rid : ℕ) → IsNumbered text n more → LacksByte 32 more → IsKeyedWith text t key rid → ⊥
+insert_one text n more t key rid a l k = lacks_mid 32 k.word k.last (subst (λ (x : List ℕ). LacksByte 32 x) (numbered_once text n t more (k.word ++ 32 ∷ k.last) a k.numbered) l)
 
 -- what stands after the word of a key
 pub behind_once : (text : List ℕ) (key other rest more : List ℕ) → IsBehindKey text key rest → IsBehindKey text other more → rest ≡ more
 behind_once text key other rest more a b = (cut_once 32 a.word b.word rest more (key_lacks a.word key a.is_key) (key_lacks b.word other b.is_key) (sym a.is ∙ b.is)).1
 
 -- the word of a key in front of a space
-pub behind_cut : (text word more : List ℕ) (key rest : List ℕ) → IsBehindKey text key rest → text ≡ word ++ 32 ∷ more → Lacks 32 word → IsKeyWord word key
+pub behind_cut : (text word more : List ℕ) (key rest : List ℕ) → IsBehindKey text key rest → text ≡ word ++ 32 ∷ more → LacksByte 32 word → IsKeyWord word key
 behind_cut text word more key rest b cut l =
     let e = cut_once 32 word b.word more rest l (key_lacks b.word key b.is_key) (sym cut ∙ b.is) in
     subst (λ (x : List ℕ). IsKeyWord x key) (sym e.0) b.is_key
 
-pub behind_one : (text key rest : List ℕ) → IsBehindKey text key rest → Lacks 32 text → ⊥
-behind_one text key rest b l = lacks_mid 32 b.word rest (subst (λ (x : List ℕ). Lacks 32 x) b.is l)
+pub behind_one : (text key rest : List ℕ) → IsBehindKey text key rest → LacksByte 32 text → ⊥
+behind_one text key rest b l = lacks_mid 32 b.word rest (subst (λ (x : List ℕ). LacksByte 32 x) b.is l)
 
 -- what stands after the number of a scan
 pub scan_low : (text more : List ℕ) (n : ℕ) (t : ℕ) (lo hi : List ℕ) (limit : ℕ) → IsNumbered text n more → (r : IsRanged text t lo hi limit) → IsBehindKey more lo r.rest

@@ -3,9 +3,9 @@ use Rattle.std.specs.Prelude.{◌≡◌, ◌≢◌, ℕ, ◌<◌, ◌^◌, List,
 use Rattle.std.specs.Str.Parse.{IsNumeral, digits_value}
 
 -- None of these bytes is that byte.
-abbrev pub Lacks : ℕ → List ℕ → Type 0
-Lacks b [] = Unit {0}
-Lacks b (c ∷ rest) = (c ≢ b) × Lacks b rest
+abbrev pub LacksByte : ℕ → List ℕ → Type 0
+LacksByte b [] = Unit {0}
+LacksByte b (c ∷ rest) = (c ≢ b) × LacksByte b rest
 
 -- decimal digits, without a zero in front of others, of a number of 64 bits
 abbrev pub IsNumber : List ℕ → ℕ → Type 0

@@ -2,7 +2,7 @@
 
 ghost use Rattle.std.specs.Prelude.{◌≡◌, ◌⊎◌, ◌≤◌, ◌++◌, ◌∷◌, ℕ, List, true, replicate, IfOk, IfErr};
 ghost use Rattle.im_base_types.specs.declared.fault.Fault.TheVariants.{BadScript, Memory};
-ghost use Rattle.im_tool_words.specs.Words.{Lacks};
+ghost use Rattle.im_tool_words.specs.Words.{LacksByte};
 ghost use Rattle.im_tool_words.specs.Steps.{IsKeyWord, IsRepeated, is_text};
 ghost use Rattle.im_tool_words.specs.Steps as steps;
 
@@ -39,7 +39,7 @@ pub(crate) fn key_of(alloc: Global, word: &[u8]) -> Result<Vec<u8>, Fault>
 #[tactic(auto, using(crate::proofs::KeyWords::plain_is, crate::proofs::KeyWords::empty_bad))]
 fn plain_key(alloc: Global, text: &[u8]) -> Result<Vec<u8>, Fault>
     requires plain { is_text text.now ≡ true }
-    requires lacks { Lacks 43 text.now }
+    requires lacks { LacksByte 43 text.now }
     ensures says { IfOk result (λ key. IsKeyWord text.now key.items) }
     ensures refused { result ≡ Err BadScript → (key : List ℕ) → ¬ (IsKeyWord text.now key) }
     ensures causes { IfErr result (λ e. (e ≡ Memory) ⊎ (e ≡ BadScript)) }
@@ -57,7 +57,7 @@ fn plain_key(alloc: Global, text: &[u8]) -> Result<Vec<u8>, Fault>
 #[tactic(auto, using(crate::proofs::KeyWords::repeating_is, crate::proofs::KeyWords::repeating_said))]
 fn repeating_key(alloc: Global, text: &[u8], repeated: &[u8]) -> Result<Vec<u8>, Fault>
     requires plain { is_text text.now ≡ true }
-    requires lacks { Lacks 43 text.now }
+    requires lacks { LacksByte 43 text.now }
     ensures says { IfOk result (λ key. IsKeyWord (text.now ++ 43 ∷ repeated.now) key.items) }
     ensures refused { result ≡ Err BadScript → (key : List ℕ) → ¬ (IsKeyWord (text.now ++ 43 ∷ repeated.now) key) }
     ensures causes { IfErr result (λ e. (e ≡ Memory) ⊎ (e ≡ BadScript)) }

@@ -3,7 +3,7 @@
 ghost use Rattle.std.specs.Prelude.{◌≡◌, ◌≢◌, ◌⊎◌, ◌++◌, ◌∷◌, ℕ, List, codes, IfOk, IfErr};
 ghost use Rattle.im_base_types.specs.declared.fault.Fault.TheVariants.{BadScript, Memory};
 ghost use Rattle.im_base_steps.specs.declared.step.Step.{Step};
-ghost use Rattle.im_tool_words.specs.Words.{Lacks, IsNumber, IsPageNumber};
+ghost use Rattle.im_tool_words.specs.Words.{LacksByte, IsNumber, IsPageNumber};
 ghost use Rattle.im_tool_words.specs.Steps.{SpellsStep, IsNumbered, IsKeyed, IsBehindKey};
 
 use crate::key_word::key_of;
@@ -42,7 +42,7 @@ pub fn step_line(alloc: Global, line: &[u8]) -> Result<Step, Fault>
 // The line of an access: its word, and what stands after that.
 #[tactic(auto, using(crate::proofs::StepSpelled::step_word_said))]
 fn access_line(alloc: Global, word: &[u8], rest: &[u8]) -> Result<Step, Fault>
-    requires { Lacks 32 word.now }
+    requires { LacksByte 32 word.now }
     ensures says { IfOk result (λ step. SpellsStep (word.now ++ 32 ∷ rest.now) step) }
     ensures refused { result ≡ Err BadScript → word.now ≢ codes "commit" → word.now ≢ codes "rollback" → word.now ≢ codes "continue" → word.now ≢ codes "flush"
         → (step : Step) → ¬ (SpellsStep (word.now ++ 32 ∷ rest.now) step) }
@@ -75,7 +75,7 @@ fn access_line(alloc: Global, word: &[u8], rest: &[u8]) -> Result<Step, Fault>
 // The line of one word.
 #[tactic(auto, using(crate::proofs::StepSpelled::lone_step_bad))]
 fn lone_step(word: &[u8]) -> Result<Step, Fault>
-    requires { Lacks 32 word.now }
+    requires { LacksByte 32 word.now }
     ensures says { IfOk result (λ step. SpellsStep word.now step) }
     ensures refused { result ≡ Err BadScript → (step : Step) → ¬ (SpellsStep word.now step) }
     ensures causes { IfErr result (λ e. (e ≡ Memory) ⊎ (e ≡ BadScript)) }

@@ -31,7 +31,7 @@ pub(crate) fn place_past(page: &Page, key: &[u8], inclusive: bool) -> usize
     ensures first { IsFirstAt (start_at inclusive key.now) page.now.body.entries result }
     ensures parted { IsParted (start_at inclusive key.now) page.now.body.entries result }
 {
-    page.content();
+    page.law_content();
     let _len = page.len();
     match page.find(key) {
         Ok(i) if inclusive => i,

@@ -22,7 +22,7 @@ fn child_entry(page: &Page, key: &[u8]) -> Option<usize>
     ensures entry { IfSome result (λ i. (i < length page.now.body.entries) × IsChild page.now.body key.now (entry_at page.now.body.entries i).1) }
     ensures leftmost { IsNone result → StartAbove key.now page.now.body.entries × IsChild page.now.body key.now page.now.body.leftmost }
 {
-    page.content();
+    page.law_content();
     match page.find(key) {
         Ok(i) => Some(i),
         Err(0) => None,

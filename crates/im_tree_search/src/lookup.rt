@@ -10,7 +10,7 @@ use im_page::Page;
 pub fn value_of(page: &Page, key: &[u8]) -> Option<u64>
     ensures { result ≡ find key_order key.now page.now.body.entries }
 {
-    page.content();
+    page.law_content();
     match page.find(key) {
         Ok(i) => Some(page.value(i)),
         Err(_) => None,

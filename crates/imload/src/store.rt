@@ -6,8 +6,8 @@ ghost use Rattle.im_front.specs.Held.{IsResting};
 use im_base_model_disk::ModelDisk;
 use im_base_two_logs::Renamed;
 use im_base_types::Fault;
-use im_engine::{Config, Engine, every_list_of_lives};
-use im_theory_store::Store;
+use im_engine::{Config, Engine, law_every_list_of_lives};
+use im_theory_store_trait::Store;
 use std::alloc::Global;
 use std::thread::Threads;
 
@@ -20,7 +20,7 @@ pub(crate) fn new_store<R: Threads + Sync>(
     ensures resting { IfOk result (λ e. IsResting ⟦<Engine<Renamed<ModelDisk>> as Store>⟧ e) }
     ensures group { IfOk result (λ e. e.txns.group ≡ group) }
 {
-    every_list_of_lives();
+    law_every_list_of_lives();
     let disk = ModelDisk::new(Vec::new(alloc), Vec::new(alloc));
     let mut config = Config::default();
     config.group = group;

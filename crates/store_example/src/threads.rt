@@ -10,7 +10,7 @@ use im_engine::{Config, Engine};
 use im_front::{Left, Open, Stats};
 use im_open::{Files, open};
 use im_store::{Bounds, OpenStore};
-use im_theory_store::Store;
+use im_theory_store_trait::Store;
 use std::alloc::Global;
 use std::sync::{RwLock, Wait};
 use std::thread::{Threads, map_vec};

@@ -8,7 +8,7 @@ use crate::stepped::Aim;
 use im_base_disk::Disk;
 use im_base_steps::Reply;
 use im_base_types::{Fault, TxnId};
-use im_engine_index::insert_end;
+use im_engine_access::insert_end;
 
 impl<D: Disk> Engine<D> {
     ghost use Rattle.im_base_types.specs.Answers as answers;

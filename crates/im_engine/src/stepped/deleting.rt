@@ -7,7 +7,7 @@ use crate::stepped::{Aim, Under, beside_of};
 use im_base_disk::Disk;
 use im_base_steps::Reply;
 use im_base_types::{Fault, Key, TxnId};
-use im_engine_index::{Deleting, delete_beside};
+use im_engine_access::{Deleting, delete_beside};
 
 impl<D: Disk> Engine<D> {
     ghost use Rattle.im_base_types.specs.Answers as answers;

@@ -7,7 +7,7 @@ use crate::stepped::{Aim, Under, beside_of};
 use im_base_disk::Disk;
 use im_base_steps::Reply;
 use im_base_types::{Fault, Key, Rid, TxnId};
-use im_engine_index::{Inserting, insert_beside};
+use im_engine_access::{Inserting, insert_beside};
 
 impl<D: Disk> Engine<D> {
     ghost use Rattle.im_base_types.specs.Answers as answers;

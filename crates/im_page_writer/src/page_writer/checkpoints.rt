@@ -98,7 +98,7 @@ impl PageWriter {
             return Ok(());
         }
         self.flush_every(disk)?;
-        self.table.pages_differ();
+        self.table.law_pages_differ();
         Ok(())
     }
 

@@ -6,7 +6,7 @@ use Rattle.im_base_types.specs.Pages.{Entry}
 use Rattle.im_base_disk.specs.Runs.{IsSynced, LeavesOnly}
 use Rattle.im_theory_page.specs.Entry.{entry_at, no_entry}
 use Rattle.im_load.specs.declared.loader.Loader.{Loader}
-use Rattle.im_load.specs.Files.{AreEmpty, AreLeft, AreLoaded}
+use Rattle.im_load.specs.Files.{AreEmpty, AreLeft, AreOfLoad}
 use Rattle.im_load.specs.HasTaken.{IsLoading}
 use Rattle.im_load.proofs.Faults.{passed_on, refused_there}
 use Rattle.im_load.proofs.Wholes.{none_of, take_none, top_in, taken_more, nothing_left, half_left, whole_refused}
@@ -88,7 +88,7 @@ returns-clause-stops g c empty =
 pub returns-clause-loaded : goal.returns-clause-loaded
 returns-clause-loaded g c same told =
     let es : List Entry = c.args.entries.now in
-    subst (λ (xs : List Entry). AreLoaded xs (g.D.Disk.seen c.finish.new.disk)) (take_all c.loop-key.key-index es (omega (arith, c.loop-key-test.false)))
+    subst (λ (xs : List Entry). AreOfLoad xs (g.D.Disk.seen c.finish.new.disk)) (take_all c.loop-key.key-index es (omega (arith, c.loop-key-test.false)))
     (c.in_ok-finish.ensures.loaded c.args.disk.now (take c.loop-key.key-index es) c.loop-key.invariant.loading told)
 
 pub returns-clause-synced : goal.returns-clause-synced

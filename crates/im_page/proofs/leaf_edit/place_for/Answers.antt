@@ -9,6 +9,6 @@ returns-in-Ok-clause-refused c = (
   λ can.
       let es = c.args.page.now.body.entries in
       let i = c.in-Ok.field-0 in
-      let clash : None ≡ Some (entry_at es i).1 = sym can.lacks ∙ found_at es c.args.key.now i c.content.ensures.rises c.in-Ok.ensures.0 c.in-Ok.ensures.1 in
+      let clash : None ≡ Some (entry_at es i).1 = sym can.lacks ∙ found_at es c.args.key.now i c.law_content.ensures.rises c.in-Ok.ensures.0 c.in-Ok.ensures.1 in
       cc clash,
 )

@@ -24,4 +24,4 @@ returns-clause-kept g c pages child has inner at =
     let says : page.body ≡ seen pages xs c.args.parent = says_seen pages xs c.args.parent page is in
     sound_done c.put_parent.result _ _ c.put_parent.ensures.new
     (c.put_parent.ensures.sound child (subst (λ (x : Body). x.kind ≡ Inner) (sym says) inner) (subst (λ (x : Body). StandsAt x c.args.place child) (sym says) at))
-    (λ new. edited pages xs c.image.new.images c.put_parent.new.images c.args.parent page (λ (x : Body). without_child x c.args.place) c.rise.ensures is c.in_ok-page.ensures.images new)
+    (λ new. edited pages xs c.image.new.images c.put_parent.new.images c.args.parent page (λ (x : Body). without_child x c.args.place) c.law_rise.ensures is c.in_ok-page.ensures.images new)

@@ -31,4 +31,4 @@ returns-clause-kept g c pages has is_leaf =
     let says : page.body ≡ seen pages xs n = says_seen pages xs n page is in
     sound_done c.put_linked.result _ _ c.put_linked.ensures.new (c.put_linked.ensures.sound (subst (λ (x : Body). x.kind ≡ Leaf) (sym says) (is_leaf some)))
     (λ new. linked_is (seen pages xs) (seen pages c.put_linked.new.images) c.args.side n c.args.leaf some
-    (edited pages xs c.image.new.images c.put_linked.new.images n page (λ (x : Body). with_link x c.args.side c.args.leaf) c.rise.ensures is c.in_ok-page.ensures.images new))
+    (edited pages xs c.image.new.images c.put_linked.new.images n page (λ (x : Body). with_link x c.args.side c.args.leaf) c.law_rise.ensures is c.in_ok-page.ensures.images new))

@@ -9,4 +9,4 @@ returns-clause-left c =
     let page : Body = c.args.page.now.body in
     let made : c.copy_entries.new.self ≡ says c.args.left.now (inner_body c.args.page.now.body.level c.args.page.now.body.leftmost (take c.args.up c.args.page.now.body.entries)) = search rules in
     made ∙ ap (λ (b : Body). says c.args.left.now b)
-    (inner_with page (length page.entries) page.level page.leftmost (take c.args.up page.entries) c.requires.kind c.content.ensures.header)
+    (inner_with page (length page.entries) page.level page.leftmost (take c.args.up page.entries) c.requires.kind c.law_content.ensures.header)

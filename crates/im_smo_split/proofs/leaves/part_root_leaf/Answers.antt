@@ -9,7 +9,7 @@ pub returns-in_err-half-clause-sound : goal.returns-in_err-half-clause-sound
 returns-in_err-half-clause-sound c leaf can e =
     let p = err_from_is_err_and c.from_residual.result c.from_residual.ensures.1 in
     let fault : c.in_err-half.field-0.0 ≡ NotAStore = cc (p.1, p.2, e) in
-    c.in_err-half.ensures.sound (can (fits_leaf c.args.page.now.body leaf c.content.ensures.short c.content.ensures.fits)) (ap (λ (f : Fault). Err f) fault)
+    c.in_err-half.ensures.sound (can (fits_leaf c.args.page.now.body leaf c.law_content.ensures.short c.law_content.ensures.fits)) (ap (λ (f : Fault). Err f) fault)
 
 pub returns-clause-halves : goal.returns-clause-halves
 returns-clause-halves c = record { there = c.in_ok-half.ensures.there; part = c.in_ok-half.ensures.half; goes = c.in_ok-half.ensures.goes }

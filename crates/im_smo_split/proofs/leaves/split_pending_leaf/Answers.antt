@@ -32,11 +32,11 @@ returns-clause-kept g c store has pending above =
     (last_one c.args.numbers.now.items c.take_last-q.new.self.items q c.take_last-q.ensures.items c.requires.counted) pending in
     let page = c.deref.result.now in
     let page_is = c.deref.ensures ∙ c.in_ok-page.ensures.kept store (pages_still g.D.Disk has.has c.in_ok-bring_both.ensures.outcome) in
-    let can = leaf_partable store c.args.key.now (seen store c.args.images.now) c.bring_both.new.images c.rise.ensures c.args.pending.page c.args.pending.parent q page both.one.same page_is one
+    let can = leaf_partable store c.args.key.now (seen store c.args.images.now) c.bring_both.new.images c.law_rise.ensures c.args.pending.page c.args.pending.parent q page both.one.same page_is one
     c.image.new.images c.image.ensures.images (both.one.kept c.args.pending.parent above) both.next in
     sound_own c.part_leaf.result _ _ c.part_leaf.ensures.halves
     (not_refused c.part_leaf.result
-    (c.part_leaf.ensures.sound (beneath store c.bring_both.new.images c.args.pending.page page c.rise.ensures page_is) [] can.good can.way can.child can.page can.above can.next can.leaf can.can))
+    (c.part_leaf.ensures.sound (beneath store c.bring_both.new.images c.args.pending.page page c.law_rise.ensures page_is) [] can.good can.way can.child can.page can.above can.next can.leaf can.can))
     (λ half halves. ended store c.args.key.now c.args.images.now c.part_leaf.new.images half c.args.pending.page
-    (leaf_ended store c.args.key.now (seen store c.args.images.now) c.bring_both.new.images c.rise.ensures c.args.pending.page c.args.pending.parent q page both.one.same page_is one
+    (leaf_ended store c.args.key.now (seen store c.args.images.now) c.bring_both.new.images c.law_rise.ensures c.args.pending.page c.args.pending.parent q page both.one.same page_is one
     c.image.new.images c.part_leaf.new.images half c.image.ensures.images halves))

@@ -25,7 +25,7 @@ returns-clause-kept g c store has pending =
     let page_is = c.deref.ensures ∙ c.in_ok-page.ensures.kept store has.has in
     sound_own c.part_root_leaf.result _ _ c.part_root_leaf.ensures.halves
     (not_refused c.part_root_leaf.result
-    (c.part_root_leaf.ensures.sound (root_leaf store c.args.key.now c.args.images.now c.rise.ensures l r page page_is one)
-    (can_part_root store c.args.key.now c.args.images.now c.rise.ensures l r page page_is one)))
+    (c.part_root_leaf.ensures.sound (root_leaf store c.args.key.now c.args.images.now c.law_rise.ensures l r page page_is one)
+    (can_part_root store c.args.key.now c.args.images.now c.law_rise.ensures l r page page_is one)))
     (λ half halves. ended store c.args.key.now c.args.images.now c.part_root_leaf.new.images half 1
-    (root_ended store c.args.key.now c.args.images.now c.rise.ensures l r page page_is one c.image.new.images c.part_root_leaf.new.images half c.image.ensures.images halves))
+    (root_ended store c.args.key.now c.args.images.now c.law_rise.ensures l r page page_is one c.image.new.images c.part_root_leaf.new.images half c.image.ensures.images halves))

@@ -13,5 +13,5 @@ returns-clause-outcome g c = ends_own g.D.Disk mild refl refl refl c.put.result 
 
 pub returns-clause-kept : goal.returns-clause-kept
 returns-clause-kept g c store has =
-    brought store c.args.images.now c.args.number c.put.new.self c.rise.ensures c.in_ok-page.page.value (c.in_ok-page.ensures.kept store has)
+    brought store c.args.images.now c.args.number c.put.new.self c.law_rise.ensures c.in_ok-page.page.value (c.in_ok-page.ensures.kept store has)
     c.image.new.images c.in_ok-page.ensures.images c.put.result c.put.ensures.new c.put.ensures.refused

@@ -9,5 +9,5 @@ pub returns-in_err-n-clause-sound : goal.returns-in_err-n-clause-sound
 returns-in_err-n-clause-sound c pages has level can e =
     let p = err_from_is_err_and c.from_residual-in_err-n.result c.from_residual-in_err-n.ensures.1 in
     let fault : c.in_err-n.field-0.0 ≡ NotAStore = cc (p.1, p.2, e) in
-    let fits = fits_inner c.args.pending.level c.args.page.now c.requires.inner level c.content.ensures in
+    let fits = fits_inner c.args.pending.level c.args.page.now c.requires.inner level c.law_content.ensures in
     c.in_err-n.ensures.sound pages has (can c.in_ok-child.child.number fits c.in_ok-child.ensures.child.way) (ap (λ (f : Fault). Err f) fault)

@@ -20,7 +20,7 @@ returns-clause-kept g c dense store has pending there =
     let q = c.take_last-q.result in
     let rest = c.take_last-q.new.self.items in
     let numbers : newest_first c.args.numbers.now.items ≡ q ∷ newest_first rest = ap newest_first c.take_last-q.ensures.items ∙ newest_is rest q in
-    inner_kept store c.args.key.now c.args.images.now c.part_inner.new.images rest c.rise.ensures
+    inner_kept store c.args.key.now c.args.images.now c.part_inner.new.images rest c.law_rise.ensures
     c.image.new.images c.deref.result.now c.part_inner.result c.args.pending.level c.args.pending.parent c.args.pending.page q c.requires.inner
     (subst (λ (ns : List ℕ). IsPending dense (seen store c.args.images.now) ns c.args.key.now c.args.pending.level c.args.pending.parent c.args.pending.page) numbers pending) there
     (c.deref.ensures ∙ c.in_ok-page.ensures.kept store has.has) c.in_ok-page.ensures.images c.part_inner.ensures.halves c.part_inner.ensures.level c.part_inner.ensures.sound

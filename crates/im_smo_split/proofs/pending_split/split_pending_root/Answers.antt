@@ -23,7 +23,7 @@ returns-clause-kept g c dense store has pending =
     let numbers : newest_first c.args.numbers.now.items ≡ right ∷ left ∷ newest_first rest =
     ap newest_first c.take_last-right.ensures.items ∙ newest_is c.take_last-right.new.self.items right
     ∙ ap (λ (ns : List ℕ). right ∷ ns) (ap newest_first c.take_last-left.ensures.items ∙ newest_is rest left) in
-    root_kept store c.args.key.now c.args.images.now c.part_root.new.images rest c.rise.ensures
+    root_kept store c.args.key.now c.args.images.now c.part_root.new.images rest c.law_rise.ensures
     c.image.new.images c.deref.result.now c.part_root.result c.args.level left right c.requires.inner
     (subst (λ (ns : List ℕ). IsRootPending dense (seen store c.args.images.now) ns c.args.key.now c.args.level) numbers pending)
     (c.deref.ensures ∙ c.in_ok-page.ensures.kept store has.has) c.in_ok-page.ensures.images c.part_root.ensures.halves c.part_root.ensures.level c.part_root.ensures.sound

@@ -13,7 +13,7 @@ use Rattle.im_tool_lines.specs.declared.store_answers.StoreReply.{StoreReply}
 use Rattle.im_tool_lines.specs.declared.store_answers.StoreReply.TheVariants.{Stopped}
 use Rattle.im_tool_lines.specs.Answered.{AnsweredBy}
 use Rattle.im_tool_lines.specs.Stops.{IsOpenedOr}
-use Rattle.im_tool_lines.specs.StoreShown.{shown_in, IsStoreReply}
+use Rattle.im_tool_lines.specs.StoreShown.{shown_by_lines, IsStoreReply}
 use Rattle.im_tool_drill.specs.StoreRuns.{AreLinesRun}
 use Rattle.im_tool_lines.proofs.RawRunning.{opened_still}
 use Rattle.im_tool_lines.proofs.StoreShown.{shown_none}
@@ -36,8 +36,8 @@ returns-in_ok-replies-in-Ok-clause-kept g c before stands files left =
     let k = c.in-Ok.ensures.opening.kept before (subst (λ (s : Files). StandsFor before s) (sym seen) stands) in
     let end = c.run_store_lines-replies.new.engine.disk in
     let now = subst (λ (disk : ModelDisk). ghosts.may_leave disk files) (c.into_disk-disk.ensures ∙ ap (λ (n : Renamed ModelDisk). n.disk) c.into_disk.ensures) left in
-    let asked = shown_in nothing_shown c.deref.result.now c.in_ok-replies-in-Ok.replies.items in
-    subst (λ (l : List StoreLine). Allowed before (shown_in nothing_shown l c.in_ok-replies-in-Ok.replies.items) files) c.deref.ensures.value
+    let asked = shown_by_lines nothing_shown c.deref.result.now c.in_ok-replies-in-Ok.replies.items in
+    subst (λ (l : List StoreLine). Allowed before (shown_by_lines nothing_shown l c.in_ok-replies-in-Ok.replies.items) files) c.deref.ensures.value
     (left_named end (Allowed before asked) (allowed_nameless before asked) (c.in_ok-replies-in-Ok.ensures.kept before (_, k.ok.0)) files now)
 
 pub returns-in-Err-clause-kept : goal.returns-in-Err-clause-kept
@@ -45,7 +45,7 @@ returns-in-Err-clause-kept g c before stands files left =
     let seen = own_seen c.arm_life.new.disk c.new.result (c.new.ensures.disk, c.new.ensures.swapped) ∙ c.in_ok-arm_life.ensures.reads.seen in
     let k = c.in-Err.ensures.opening.kept before (subst (λ (s : Files). StandsFor before s) (sym seen) stands) in
     let now = subst (λ (disk : ModelDisk). ghosts.may_leave disk files) c.into_disk-disk-in-Err.ensures left in
-    subst (λ (l : List StoreReply). Allowed before (shown_in nothing_shown c.args.life.now.lines.items l) files) (sym c.new-replies.ensures.items)
+    subst (λ (l : List StoreReply). Allowed before (shown_by_lines nothing_shown c.args.life.now.lines.items l) files) (sym c.new-replies.ensures.items)
     (subst (λ (s : Shown). Allowed before s files) (sym (shown_none nothing_shown c.args.life.now.lines.items))
     (left_named c.in-Err.named (Allowed before nothing_shown) (allowed_nameless before nothing_shown) (λ by_name may. k.stops.each tt by_name (inl may)) files now))
 

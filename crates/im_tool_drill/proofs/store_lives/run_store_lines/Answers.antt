@@ -6,7 +6,7 @@ use Rattle.im_tool_lines.specs.declared.store_answers.StoreReply.{StoreReply}
 use Rattle.im_tool_lines.specs.declared.store_life.StoreLine.{StoreLine}
 use Rattle.im_tool_lines.specs.declared.store_answers.StoreReply.TheVariants.{Stopped}
 use Rattle.im_tool_lines.specs.Answered.{RepliedBy}
-use Rattle.im_tool_lines.specs.StoreShown.{shown_in, IsStoreReply}
+use Rattle.im_tool_lines.specs.StoreShown.{shown_by_lines, IsStoreReply}
 use Rattle.im_tool_drill.specs.StoreLives.{GoesOn}
 use Rattle.im_tool_lines.proofs.Replied.{replied_push}
 use Rattle.im_tool_drill.specs.StoreRuns.{AreLinesRun}
@@ -20,7 +20,7 @@ loop-line-init c = record {
   replied = subst (λ (l : List StoreReply). RepliedBy IsStoreReply [] l) (sym c.new-replies.ensures.items) tt;
   count = ap length c.new-replies.ensures.items;
   run = subst (λ (l : List StoreReply). AreLinesRun named_ghosts c.args.stop.now c.args.lines.now l c.args.engine.now c.args.engine.now) (sym c.new-replies.ensures.items) (no_line_run named_ghosts c.args.stop.now c.args.lines.now c.args.engine.now);
-  life = λ before living. subst (λ (l : List StoreReply). GoesOn named_ghosts before (shown_in nothing_shown [] l) c.args.engine.now) (sym c.new-replies.ensures.items) living;
+  life = λ before living. subst (λ (l : List StoreReply). GoesOn named_ghosts before (shown_by_lines nothing_shown [] l) c.args.engine.now) (sym c.new-replies.ensures.items) living;
 }
 
 pub loop-line-preserved : goal.loop-line-preserved
@@ -43,9 +43,9 @@ loop-line-preserved c =
           (lines_run_push named_ghosts c.args.stop.now all told i c.line-item.result reply c.args.engine.now c.loop-line.engine c.run_store_line-reply.new.engine c.line-item.is c.loop-line.invariant.count c.loop-line-test.true
           c.loop-line.invariant.run c.run_store_line-reply.ensures.run);
       life = λ before living.
-          let k = c.run_store_line-reply.ensures.kept before (shown_in nothing_shown (take i all) told) (c.loop-line.invariant.life before living) in
+          let k = c.run_store_line-reply.ensures.kept before (shown_by_lines nothing_shown (take i all) told) (c.loop-line.invariant.life before living) in
           subst (λ (s : Shown). GoesOn named_ghosts before s c.run_store_line-reply.new.engine)
-          (sym (ap (λ (l : List StoreReply). shown_in nothing_shown (take (i + 1) all) l) c.in_ok-push.ensures.items ∙ shown_to nothing_shown all i told c.line-item.result reply c.line-item.is c.loop-line.invariant.count c.loop-line-test.true))
+          (sym (ap (λ (l : List StoreReply). shown_by_lines nothing_shown (take (i + 1) all) l) c.in_ok-push.ensures.items ∙ shown_to nothing_shown all i told c.line-item.result reply c.line-item.is c.loop-line.invariant.count c.loop-line-test.true))
           (k.after some);
     }
 
@@ -74,10 +74,10 @@ returns-then-stopped-clause-kept c before living files left =
     let all = c.args.lines.now in
     let told = c.loop-line.replies.items in
     let reply = c.run_store_line-reply.result in
-    let k = c.run_store_line-reply.ensures.kept before (shown_in nothing_shown (take i all) told) (c.loop-line.invariant.life before living) in
+    let k = c.run_store_line-reply.ensures.kept before (shown_by_lines nothing_shown (take i all) told) (c.loop-line.invariant.life before living) in
     let count : length c.push.new.self.items ≡ i + 1 = ap length c.in_ok-push.ensures.items ∙ length-append told (reply ∷ []) ∙ ap (λ (n : ℕ). n + 1) c.loop-line.invariant.count in
     subst (λ (s : Shown). Allowed before s files)
-    (sym (sym (shown_whole nothing_shown all c.push.new.self.items (i + 1) count) ∙ ap (λ (l : List StoreReply). shown_in nothing_shown (take (i + 1) all) l) c.in_ok-push.ensures.items ∙ shown_to nothing_shown all i told c.line-item.result reply c.line-item.is c.loop-line.invariant.count c.loop-line-test.true))
+    (sym (sym (shown_whole nothing_shown all c.push.new.self.items (i + 1) count) ∙ ap (λ (l : List StoreReply). shown_by_lines nothing_shown (take (i + 1) all) l) c.in_ok-push.ensures.items ∙ shown_to nothing_shown all i told c.line-item.result reply c.line-item.is c.loop-line.invariant.count c.loop-line-test.true))
     (k.stops files left)
 
 pub returns-clause-kept : goal.returns-clause-kept

@@ -2,7 +2,7 @@ use Rattle.std.proofs.Common.{◌≡◌, List, length, take}
 use Rattle.im_base_types.specs.Changes.{Effect}
 use Rattle.im_base_types.specs.Lives.{nothing_shown}
 use Rattle.im_tool_lines.specs.Answered.{RepliedBy}
-use Rattle.im_tool_lines.specs.StoreShown.{shown_in, IsStoreReply}
+use Rattle.im_tool_lines.specs.StoreShown.{shown_by_lines, IsStoreReply}
 use Rattle.im_tool_drill.specs.StoreLives.{GoesOn}
 use Rattle.im_tool_drill.specs.StoreRuns.{AreLinesRun}
 use Rattle.im_tool_drill.proofs.NamedDisk.{named_ghosts}
@@ -14,5 +14,5 @@ invariant-loop-line l = record {
   replied : RepliedBy IsStoreReply (take l.line-index l.lines) l.replies.items;
   count : length l.replies.items ≡ l.line-index;
   run : AreLinesRun named_ghosts l.stop l.lines l.replies.items l.fn.engine l.engine;
-  life : (before : List Effect) → GoesOn named_ghosts before nothing_shown l.fn.engine → GoesOn named_ghosts before (shown_in nothing_shown (take l.line-index l.lines) l.replies.items) l.engine;
+  life : (before : List Effect) → GoesOn named_ghosts before nothing_shown l.fn.engine → GoesOn named_ghosts before (shown_by_lines nothing_shown (take l.line-index l.lines) l.replies.items) l.engine;
 }

@@ -1,7 +1,7 @@
 use Rattle.std.proofs.Common.{◌<◌, ◌≤◌, ◌⊎◌, inl, inr, length, take, sym, ◌∙◌, ap, subst, arith}
 use Rattle.im_base_types.specs.Lives.{Shown, nothing_shown}
-use Rattle.im_tool_lines.specs.StoreShown.{shown_in}
-use Rattle.im_tool_judge.specs.Shows.{IsShown}
+use Rattle.im_tool_lines.specs.StoreShown.{shown_by_lines}
+use Rattle.im_tool_judge.specs.Shows.{KeepsShown}
 use Rattle.im_tool_judge.proofs.Shows.{shown_more, shown_end}
 use Rattle.im_tool_judge.proofs.showing.effects_asked.Goals as goal
 
@@ -12,8 +12,8 @@ loop-i-preserved c =
     let told = c.args.replies.now in
     let within : i < length all = omega (arith, c.loop-i-test.true, c.shorter-count.ensures.within_first) in
     let replied : i < length told = omega (arith, c.loop-i-test.true, c.shorter-count.ensures.within_second) in
-    subst (λ (s : Shown). IsShown c.add.new.self s) (sym (shown_more nothing_shown all told i c.index-lines-i.result c.index-replies-i.result within replied c.index-lines-i.is c.index-replies-i.is))
-    (c.in_ok-add.ensures (shown_in nothing_shown (take i all) (take i told)) c.loop-i.invariant)
+    subst (λ (s : Shown). KeepsShown c.add.new.self s) (sym (shown_more nothing_shown all told i c.index-lines-i.result c.index-replies-i.result within replied c.index-lines-i.is c.index-replies-i.is))
+    (c.in_ok-add.ensures (shown_by_lines nothing_shown (take i all) (take i told)) c.loop-i.invariant)
 
 pub returns : goal.returns
 returns c =

@@ -4,7 +4,7 @@ use Rattle.im_base_disk.specs.Disk.{Files}
 use Rattle.im_tool_lines.specs.declared.raw_line.RawLine.{RawLine}
 use Rattle.im_tool_lines.specs.declared.life_answers.RawReply.{RawReply}
 use Rattle.im_tool_lines.specs.declared.life_answers.Opening.TheVariants as openings
-use Rattle.im_tool_lines.specs.Lives.{StandsFor, Survives, asked_of, acked_of}
+use Rattle.im_tool_lines.specs.Lives.{StandsFor, BatchesSurvive, asked_of, acked_of}
 use Rattle.im_tool_lines.specs.Living.{IsLiving}
 use Rattle.im_tool_lines.specs.RawRuns.{AreRawLinesRun}
 use Rattle.im_tool_lines.proofs.RawRunning.{raw_opening, opened_still}
@@ -18,15 +18,15 @@ returns-in_ok-replies-in-Ok-clause-kept c before stands files left =
     let now : StandsFor (ghosts.seen c.arm.new.disk) before = subst (λ (s : Files). StandsFor s before) (sym c.in_ok-arm.ensures.reads.seen) stands in
     let same : found ≡ before = stands_once (ghosts.seen c.arm.new.disk) found before (c.in-Ok.ensures.found tt) now in
     let s = c.in_ok-replies-in-Ok.ensures.kept before (subst (λ (l : List (List ℕ)). IsLiving ghosts l [] [] c.in-Ok.gate c.open_batches.new.disk) same c.in-Ok.ensures.living) files left in
-    (s.0, s.1, subst (λ (l : List RawLine). Survives before (asked_of l) (acked_of l c.in_ok-replies-in-Ok.replies.items) s.0) c.deref.ensures.value s.2)
+    (s.0, s.1, subst (λ (l : List RawLine). BatchesSurvive before (asked_of l) (acked_of l c.in_ok-replies-in-Ok.replies.items) s.0) c.deref.ensures.value s.2)
 
 pub returns-in-Err-clause-kept : goal.returns-in-Err-clause-kept
 returns-in-Err-clause-kept c before stands files left =
     let now : StandsFor (ghosts.seen c.arm.new.disk) before = subst (λ (s : Files). StandsFor s before) (sym c.in_ok-arm.ensures.reads.seen) stands in (
       before,
       c.open_batches.ensures.leaves tt before now files left,
-      subst (λ (l : List RawReply). Survives before (asked_of c.args.life.now.lines.items) (acked_of c.args.life.now.lines.items l) before) (sym c.new.ensures.items)
-          (subst (λ (l : List (List ℕ)). Survives before (asked_of c.args.life.now.lines.items) l before) (sym (acked-none c.args.life.now.lines.items)) (survives_none before (asked_of c.args.life.now.lines.items))),
+      subst (λ (l : List RawReply). BatchesSurvive before (asked_of c.args.life.now.lines.items) (acked_of c.args.life.now.lines.items l) before) (sym c.new.ensures.items)
+          (subst (λ (l : List (List ℕ)). BatchesSurvive before (asked_of c.args.life.now.lines.items) l before) (sym (acked-none c.args.life.now.lines.items)) (survives_none before (asked_of c.args.life.now.lines.items))),
     )
 
 pub returns-in_ok-replies-in-Ok-clause-run : goal.returns-in_ok-replies-in-Ok-clause-run

@@ -10,12 +10,12 @@ use Rattle.im_tree_search.proofs.leaf_chain.place_past.Goals as goal
 pub returns-in-Ok-clause-first : goal.returns-in-Ok-clause-first
 returns-in-Ok-clause-first c =
     let es = c.args.page.now.body.entries in
-    subst (λ (b : Bool). IsFirstAt (start_at b c.args.key.now) es c.in-Ok.i) (sym c.if-inclusive.true) (first_from es c.args.key.now c.in-Ok.i c.content.ensures.rises c.in-Ok.ensures)
+    subst (λ (b : Bool). IsFirstAt (start_at b c.args.key.now) es c.in-Ok.i) (sym c.if-inclusive.true) (first_from es c.args.key.now c.in-Ok.i c.law_content.ensures.rises c.in-Ok.ensures)
 
 pub returns-in-Ok-2-clause-first : goal.returns-in-Ok-2-clause-first
 returns-in-Ok-2-clause-first c =
     let es = c.args.page.now.body.entries in
-    subst (λ (b : Bool). IsFirstAt (start_at b c.args.key.now) es (c.in-Ok.i + 1)) (sym c.if-inclusive.false) (first_above_key c.args.key.now es c.in-Ok.i c.content.ensures.rises c.in-Ok.ensures)
+    subst (λ (b : Bool). IsFirstAt (start_at b c.args.key.now) es (c.in-Ok.i + 1)) (sym c.if-inclusive.false) (first_above_key c.args.key.now es c.in-Ok.i c.law_content.ensures.rises c.in-Ok.ensures)
 
 pub returns-in-Err-clause-first : goal.returns-in-Err-clause-first
 returns-in-Err-clause-first c = first_gap c.args.inclusive c.args.page.now.body.entries c.args.key.now c.in-Err.i c.in-Err.ensures
@@ -23,12 +23,12 @@ returns-in-Err-clause-first c = first_gap c.args.inclusive c.args.page.now.body.
 pub returns-in-Ok-clause-parted : goal.returns-in-Ok-clause-parted
 returns-in-Ok-clause-parted c =
     let es = c.args.page.now.body.entries in
-    subst (λ (b : Bool). IsParted (start_at b c.args.key.now) es c.in-Ok.i) (sym c.if-inclusive.true) (parted_from es c.args.key.now c.in-Ok.i c.content.ensures.rises c.in-Ok.ensures)
+    subst (λ (b : Bool). IsParted (start_at b c.args.key.now) es c.in-Ok.i) (sym c.if-inclusive.true) (parted_from es c.args.key.now c.in-Ok.i c.law_content.ensures.rises c.in-Ok.ensures)
 
 pub returns-in-Ok-2-clause-parted : goal.returns-in-Ok-2-clause-parted
 returns-in-Ok-2-clause-parted c =
     let es = c.args.page.now.body.entries in
-    subst (λ (b : Bool). IsParted (start_at b c.args.key.now) es (c.in-Ok.i + 1)) (sym c.if-inclusive.false) (parted_above es c.args.key.now c.in-Ok.i c.content.ensures.rises c.in-Ok.ensures)
+    subst (λ (b : Bool). IsParted (start_at b c.args.key.now) es (c.in-Ok.i + 1)) (sym c.if-inclusive.false) (parted_above es c.args.key.now c.in-Ok.i c.law_content.ensures.rises c.in-Ok.ensures)
 
 pub returns-in-Err-clause-parted : goal.returns-in-Err-clause-parted
 returns-in-Err-clause-parted c = parted_gap c.args.inclusive c.args.page.now.body.entries c.args.key.now c.in-Err.i c.in-Err.ensures

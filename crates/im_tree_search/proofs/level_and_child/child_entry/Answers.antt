@@ -4,7 +4,7 @@ use Rattle.im_tree_search.proofs.level_and_child.child_entry.Goals as goal
 
 pub returns-in-Ok-clause-entry : goal.returns-in-Ok-clause-entry
 returns-in-Ok-clause-entry c =
-    (c.in-Ok.ensures.0, child_found c.args.page.now.body c.args.key.now c.in-Ok.i c.content.ensures.rises c.in-Ok.ensures)
+    (c.in-Ok.ensures.0, child_found c.args.page.now.body c.args.key.now c.in-Ok.i c.law_content.ensures.rises c.in-Ok.ensures)
 
 pub returns-in-Err-clause-entry : goal.returns-in-Err-clause-entry
 returns-in-Err-clause-entry c =

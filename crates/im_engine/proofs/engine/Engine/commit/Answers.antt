@@ -207,7 +207,7 @@ returns g c =
           let logged = c.in_default-log_only.ensures.kept b r.base r.now r.redo_end r.stands r.over (record { page = λ l p. refl; copy = λ l. refl; point = refl }) in
           let forced = c.in_default-force.ensures.kept b r.base (record (appended (logged_at lsn (Commit c.args.t row.last)) r.now) { durable = logged.ok.durable }) logged.ok.stands in
           committed_on g.D.Disk before s v old _ life c.requires.works c.args.t row found mark (omega (arith, c.if-row-eq0.false)) (omega (arith, c.if-row-eq0-2.false)) lsn c.log_only.new.self c.log_only.new.disk logged.ok (none_if (pending_of (under_of old.under) c.args.t) (commit_unowned old.txns.rows c.args.t c.requires.checked))
-          c.are_counted.ensures.rising (sym c.are_counted.ensures.waiting ∙ c.are_counted.ensures.alone (sym c.group.ensures ∙ c.if-group.false)) forced.ok (commit_stops g.D.Disk before s v old old life c.requires.works c.args.t row found mark (omega (arith, c.if-row-eq0.false)) (omega (arith, c.if-row-eq0-2.false)) lsn c.log_only.new.self c.log_only.new.disk logged.ok (none_if (pending_of (under_of old.under) c.args.t) (commit_unowned old.txns.rows c.args.t c.requires.checked)) c.force.new.disk logged.stops forced.stops)
+          c.law_are_counted.ensures.rising (sym c.law_are_counted.ensures.waiting ∙ c.law_are_counted.ensures.alone (sym c.group.ensures ∙ c.if-group.false)) forced.ok (commit_stops g.D.Disk before s v old old life c.requires.works c.args.t row found mark (omega (arith, c.if-row-eq0.false)) (omega (arith, c.if-row-eq0-2.false)) lsn c.log_only.new.self c.log_only.new.disk logged.ok (none_if (pending_of (under_of old.under) c.args.t) (commit_unowned old.txns.rows c.args.t c.requires.checked)) c.force.new.disk logged.stops forced.stops)
           c.release_all-2.ensures (c.end-2.ensures.one row found ∙ ap (λ (x : Numbered). length x.rows + 1) c.end-2.ensures.left) c.end-2.ensures.left refl refl;
       told =
           told_committed g.D.Disk old _ c.requires.works (ap besides_rows c.end-2.ensures.left) refl (c.end-2.ensures.one c.in-Some.row found) refl

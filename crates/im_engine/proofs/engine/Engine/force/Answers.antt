@@ -22,11 +22,11 @@ returns-in-Ok g c =
           let b = (life.running c.requires.works).0 in
           let r = (life.running c.requires.works).1 in
           let forced = c.in-Ok.ensures.kept b r.base r.now r.stands in
-          log_forced g.D.Disk before s v old _ life c.requires.works forced.ok forced.stops c.are_counted.ensures.rising
+          log_forced g.D.Disk before s v old _ life c.requires.works forced.ok forced.stops c.law_are_counted.ensures.rising
           (subst (λ (l : List Transaction). AreReleased old.locks (λ t. is_among t (waiting_numbers l)) c.release_waiting.new.locks) c.rows.ensures c.release_waiting.ensures) c.end_waiting.ensures.table refl refl;
       told =
           told_forced g.D.Disk old _ c.requires.works (ap besides_rows c.end_waiting.ensures.table)
-          (let all = waiting_counts old.txns.rows in let counted = c.are_counted.ensures.waiting in let left = ap (λ (x : Numbered). length x.rows) c.end_waiting.ensures.table in omega (arith, all, counted, left)) refl refl c.in-Ok.ensures.outcome.ends.alive;
+          (let all = waiting_counts old.txns.rows in let counted = c.law_are_counted.ensures.waiting in let left = ap (λ (x : Numbered). length x.rows) c.end_waiting.ensures.table in omega (arith, all, counted, left)) refl refl c.in-Ok.ensures.outcome.ends.alive;
       answered = behind g.D.Disk old c.force.new.self.log c.force.new.disk c.requires.works answers.Force replies.Done refl (λ fault. force_made g.D.Disk old c.force.new.self.log c.force.new.disk replies.Done (λ lost. not_true (g.D.Disk.failed c.force.new.disk) c.in-Ok.ensures.outcome.ends.alive lost) (λ x e. cc e) fault);
       suits = search rules;
       at_once = λ _. search rules;

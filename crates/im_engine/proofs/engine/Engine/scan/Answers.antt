@@ -1,7 +1,7 @@
 use Rattle.std.proofs.Common.{refl}
 use Rattle.im_base_types.specs.Answers as answers
 use Rattle.im_base_steps.specs.declared.reply.Reply.TheVariants as replies
-use Rattle.im_engine_index.specs.LockAnswers.{entries_found}
+use Rattle.im_engine_access.specs.LockAnswers.{entries_found}
 use Rattle.im_engine.proofs.Checked.{access_free}
 use Rattle.im_engine.proofs.SteppedReading.{made_answered, made_otherwise, scan_most}
 use Rattle.im_engine.proofs.engine.Engine.scan.Goals as goal

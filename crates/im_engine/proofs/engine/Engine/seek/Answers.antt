@@ -1,7 +1,7 @@
 use Rattle.std.proofs.Common.{refl, ap}
 use Rattle.im_base_types.specs.Answers as answers
 use Rattle.im_base_steps.specs.declared.reply.Reply.TheVariants as replies
-use Rattle.im_engine_index.specs.LockAnswers.{seek_at}
+use Rattle.im_engine_access.specs.LockAnswers.{seek_at}
 use Rattle.im_engine.proofs.Causes.{seeks_read}
 use Rattle.im_engine.proofs.Checked.{access_free}
 use Rattle.im_engine.proofs.SteppedReading.{made_answered, made_otherwise, seeks_search}

@@ -19,8 +19,8 @@ returns g c = record {
   counted = λ alive.
       let old = c.args.self.now in
       let new = c.step-reply.new.self in
-      let was = c.are_counted.ensures.waiting in
-      let is = c.are_counted-2.ensures.waiting in
+      let was = c.law_are_counted.ensures.waiting in
+      let is = c.law_are_counted-2.ensures.waiting in
       let few = subst (λ (n : ℕ). n ≤ length old.txns.rows) (sym was) (few_waiting old.txns.rows) in
       subst (λ (n : ℕ × ℕ). IsCounted (asked_by c.args.step.now) (told_by c.step-reply.result) n.0 (length old.txns.rows) n.1 (length new.txns.rows)) (λ i. (was i, is i)) (step_counts g.D.Disk c.args.step.now c.step-reply.result old new c.step-reply.ensures few);
   made = c.step-reply.ensures;

@@ -14,7 +14,7 @@ invariant_of-self-2 c =
     let few = c.requires in
     let seen = ap (λ (x : Numbered). length x.rows) c.self.view_is in
     let owned = c.self.invariant.3 in (
-      subst (λ (n : ℕ). AreBelow n c.begin.new.self) step (subst (AreBelow (suc next)) (sym is) (c.numbers_stay_below.ensures.begins next c.self.inside.table c.self.invariant.0)),
+      subst (λ (n : ℕ). AreBelow n c.begin.new.self) step (subst (AreBelow (suc next)) (sym is) (c.law_numbers_stay_below.ensures.begins next c.self.inside.table c.self.invariant.0)),
       omega (arith, long, few, seen),
       subst (AreAbove 0) (sym is) (above_begun 0 next c.self.inside.table owned c.self.invariant.2),
       omega (arith, owned),

@@ -13,8 +13,8 @@ invariant_of-self c =
     let both = length-filter_both (λ row. not (is_of c.args.number row)) (is_of c.args.number) (λ row. twice (is_of c.args.number row)) c.self.inside.table in
     let long = ap length left in
     let few = c.self.invariant.1 in
-    let rising = subst (λ (x : Numbered). AreRising x.rows) (sym c.self.view_is) c.are_counted.ensures.rising in (
-      subst (AreBelow c.self.inside.next) (sym left) (c.numbers_stay_below.ensures.ends c.self.inside.next c.args.number c.self.inside.table c.self.invariant.0),
+    let rising = subst (λ (x : Numbered). AreRising x.rows) (sym c.self.view_is) c.law_are_counted.ensures.rising in (
+      subst (AreBelow c.self.inside.next) (sym left) (c.law_numbers_stay_below.ensures.ends c.self.inside.next c.args.number c.self.inside.table c.self.invariant.0),
       omega (arith, both, long, few),
       subst (AreAbove 0) (sym left) (above_without 0 c.args.number c.self.inside.table c.self.invariant.2),
       c.self.invariant.3,

@@ -12,7 +12,7 @@ invariant_of-self c =
     let all = waiting_counts c.self.inside.table in
     let long = ap length left in
     let few = c.self.invariant.1 in (
-      subst (AreBelow c.self.inside.next) (sym left) (c.numbers_stay_below.ensures.forces c.self.inside.next c.self.inside.table c.self.invariant.0),
+      subst (AreBelow c.self.inside.next) (sym left) (c.law_numbers_stay_below.ensures.forces c.self.inside.next c.self.inside.table c.self.invariant.0),
       omega (arith, all, long, few),
       subst (AreAbove 0) (sym left) (above_part 0 (λ row. not (is_waiting row)) c.self.inside.table c.self.invariant.2),
       c.self.invariant.3,

@@ -12,7 +12,7 @@ invariant_of-self c =
     let is = c.note_change.ensures in
     let long = ap length is ∙ length_map (changed c.args.number f) c.self.inside.table in
     let few = c.self.invariant.1 in (
-      subst (AreBelow c.self.inside.next) (sym is) (c.numbers_stay_below.ensures.changes c.self.inside.next c.args.number f (λ row. refl) c.self.inside.table c.self.invariant.0),
+      subst (AreBelow c.self.inside.next) (sym is) (c.law_numbers_stay_below.ensures.changes c.self.inside.next c.args.number f (λ row. refl) c.self.inside.table c.self.invariant.0),
       omega (arith, long, few),
       subst (AreAbove 0) (sym is) (above_changed 0 c.args.number f (λ row. refl) c.self.inside.table c.self.invariant.2),
       c.self.invariant.3,

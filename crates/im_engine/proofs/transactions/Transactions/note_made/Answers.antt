@@ -12,5 +12,5 @@ returns-clause-table c =
     let old = c.args.self.now in
     let found = ap (λ (x : Numbered). find (is_of c.args.number) x.rows) c.self.view_is in
     let lsn = c.args.lsn in
-    let same = set_changes c.args.number lsn lsn c.count_made-changes.result (with_made lsn) (λ row. (with_made lsn row).changes) (λ row. refl) old.rows c.are_counted.ensures.rising c.find.result (c.find.ensures ∙ found) c.count_made-changes.ensures in
+    let same = set_changes c.args.number lsn lsn c.count_made-changes.result (with_made lsn) (λ row. (with_made lsn row).changes) (λ row. refl) old.rows c.law_are_counted.ensures.rising c.find.result (c.find.ensures ∙ found) c.count_made-changes.ensures in
     c.note_change.ensures.table ∙ ap (λ (rows : List Transaction). record old { rows = rows }) same

@@ -11,5 +11,5 @@ pub returns-clause-table : goal.returns-clause-table
 returns-clause-table c =
     let old = c.args.self.now in
     let found = ap (λ (x : Numbered). find (is_of c.args.number) x.rows) c.self.view_is in
-    let same = set_changes c.args.number c.args.last c.args.undo_next c.count_undone-changes.result (with_undone c.args.last c.args.undo_next) (λ row. row.changes - 1) (λ row. refl) old.rows c.are_counted.ensures.rising c.find.result (c.find.ensures ∙ found) c.count_undone-changes.ensures in
+    let same = set_changes c.args.number c.args.last c.args.undo_next c.count_undone-changes.result (with_undone c.args.last c.args.undo_next) (λ row. row.changes - 1) (λ row. refl) old.rows c.law_are_counted.ensures.rising c.find.result (c.find.ensures ∙ found) c.count_undone-changes.ensures in
     c.note_change.ensures.table ∙ ap (λ (rows : List Transaction). record old { rows = rows }) same

@@ -20,7 +20,7 @@ returns-in-More-clause-acknowledged g c =
     let memory : lacks_memory (told_by c.step-reply.result) ≡ false = ap (λ r. lacks_memory (told_by r)) more in
     let at = c.forces-forces.ensures ∙ ap (λ s. s.forces) (c.deref-in-More.ensures ∙ sym c.deref.ensures) in
     let grown = ap (λ s. trace_of s.trace) c.deref.ensures ∙ (c.step-reply.ensures.records.adds blocked full memory).0 in
-    let held = held_whole g.E.Store c.deref.result.now c.holds_always.ensures.run c.holds_always.ensures.forces c.holds_always.ensures.waiting in
+    let held = held_whole g.E.Store c.deref.result.now c.law_holds_always.ensures.run c.law_holds_always.ensures.forces c.law_holds_always.ensures.waiting in
     let last = last_whole g.E.Store c.args.t c.deref.result.now _ c.step-reply.result held grown (ap told_by more) in
     map_ok c.settle_all.result (IsForced g.E.Store c.forces-forces.result) (IsAcknowledged g.E.Store c.args.t)
     (λ forced. by_force c.step-reply.result (ap told_by more) (record { was = _; now = _; step_made = c.step-reply.ensures.made full memory }) _ last

@@ -8,7 +8,7 @@ use Rattle.im_front.proofs.front.Front.settle.Goals.{else-pace-gt0-via-then-pace
 
 pub returns-then-not-pace-clause-settled : goal.returns-then-not-pace-clause-settled
 returns-then-not-pace-clause-settled g c =
-    let held = held_whole g.E.Store c.deref.result.now c.holds_always.ensures.run c.holds_always.ensures.forces c.holds_always.ensures.waiting in
+    let held = held_whole g.E.Store c.deref.result.now c.law_holds_always.ensures.run c.law_holds_always.ensures.forces c.law_holds_always.ensures.waiting in
     let at = c.forces-forces.ensures ∙ ap (λ s. s.forces) (c.deref-then-not-pace.ensures ∙ sym c.deref.ensures) in
     map_ok c.settle_all.result (IsForced g.E.Store c.forces-forces.result) (IsSettled g.E.Store)
     (λ forced. by_force _ held (subst (λ (n : ℕ). IsForced g.E.Store n) at forced))
@@ -18,7 +18,7 @@ pub returns-clause-settled : goal.returns-clause-settled
 returns-clause-settled g c = elim c.else-pace-gt0.branch [
   | else-pace-gt0-via-then-pace-gt0+else-not-pace w ↦ absurd (true≢false (sym (ap not c.if-pace.false) ∙ w.if-not-pace.false))
   | else-pace-gt0-via-else-pace-gt0 w ↦
-      let held = held_whole g.E.Store c.deref.result.now c.holds_always.ensures.run c.holds_always.ensures.forces c.holds_always.ensures.waiting in
+      let held = held_whole g.E.Store c.deref.result.now c.law_holds_always.ensures.run c.law_holds_always.ensures.forces c.law_holds_always.ensures.waiting in
       let same = ap (λ s. s.waiting) (c.deref.ensures ∙ sym c.deref-2.ensures) in
       none_waits _ held (omega (arith, w.if-pace-gt0.false, c.pace-pace.ensures, same))
 ]

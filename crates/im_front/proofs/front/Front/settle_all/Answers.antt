@@ -18,7 +18,7 @@ returns-clause-forced g c =
       | then-is_settled w ↦
           let more = w.if-is_settled.ensures.0 refl in
           let same = w.deref-then-is_settled.ensures ∙ sym c.deref.ensures in
-          let held = held_whole g.E.Store w.deref-then-is_settled.result.now w.holds_always.ensures.run w.holds_always.ensures.forces w.holds_always.ensures.waiting in
+          let held = held_whole g.E.Store w.deref-then-is_settled.result.now w.law_holds_always.ensures.run w.law_holds_always.ensures.forces w.law_holds_always.ensures.waiting in
           subst Says (sym w.done-is) (by_another _ held (subst (λ s. c.args.forces < s.forces) (sym same) more))
       | else-is_settled+then-pace w ↦ subst Says (sym w.done-is) tt
       | else-is_settled+else-pace w ↦

@@ -50,7 +50,7 @@ invariant_of-self-2 g c =
           let running : h.view.failed ≡ false = sym (c.failed.ensures h.before (shown_in nothing_shown h.events) h.view h.life_is) ∙ c.if-failed.false in
           let active = c.active.ensures.machine h.before (shown_in nothing_shown h.events) h.view h.life_is in
           let none : h.view.active ≡ 0 = sym active ∙ c.is_busy.ensures.free c.if-is_busy.false in
-          let walk = rest_walk g.E.Store.life c.self.inside.base.items trace c.self.inside.engine h (c.isolation.ensures (apply_all empty h.before) h.first) running none in
+          let walk = rest_walk g.E.Store.life c.self.inside.base.items trace c.self.inside.engine h (c.law_isolation.ensures (apply_all empty h.before) h.first) running none in
           let settled = g.met.E.Store.settles h.before (shown_in nothing_shown h.events) h.view c.entries.new.self list.1 running none in
           let stands = stands_cut g.E.Store.life c.self.inside.base.items trace c.self.inside.engine h c.entries.new.self c.in_ok-base.field-0.items none settled (list.0 ∙ ap entries walk) in
           subst (λ (l : List Recorded). Stands g.E.Store.life c.in_ok-base.field-0.items (trace_of l) c.entries.new.self) none_left stands),
@@ -73,7 +73,7 @@ returns-clause-base g c tells =
     let running : h.view.failed ≡ false = sym (c.failed.ensures h.before (shown_in nothing_shown h.events) h.view h.life_is) ∙ c.if-failed.false in
     let active = c.active.ensures.machine h.before (shown_in nothing_shown h.events) h.view h.life_is in
     let none : h.view.active ≡ 0 = sym active ∙ c.is_busy.ensures.free c.if-is_busy.false in
-    let walk = rest_walk g.E.Store.life c.self.inside.base.items trace c.self.inside.engine h (c.isolation.ensures (apply_all empty h.before) h.first) running none in
+    let walk = rest_walk g.E.Store.life c.self.inside.base.items trace c.self.inside.engine h (c.law_isolation.ensures (apply_all empty h.before) h.first) running none in
     let settled = g.met.E.Store.settles h.before (shown_in nothing_shown h.events) h.view c.entries.new.self list.1 running none in
     let is = is_cut g.E.Store.life c.self.inside.base.items trace c.self.inside.engine h c.in_ok-base.field-0.items running settled.0 (list.0 ∙ ap entries walk) in
     subst (λ (s : State g.row.E.Denot). IsCut s.base c.in_ok-base.field-0.items (trace_of s.trace)) c.self.view_is is

@@ -9,7 +9,7 @@ use Rattle.im_load.proofs.held.Held.ends_below.Goals as goal
 pub returns-in-Less : goal.returns-in-Less
 returns-in-Less c =
     let page : Page = c.self.inside.page.value in
-    let rises : Rises page.body.entries = subst (λ (p : Page). Rises p.body.entries) c.deref.ensures c.content.ensures.rises in
+    let rises : Rises page.body.entries = subst (λ (p : Page). Rises p.body.entries) c.deref.ensures c.law_content.ensures.rises in
     let len : c.len-len.result ≡ length page.body.entries = c.len-len.ensures ∙ ap (λ (p : Page). length p.body.entries) c.deref-2.ensures in
     let some : c.len-len.result - 1 + 1 ≡ length page.body.entries = omega (arith, c.if-len-eq0.false, len) in
     let less : IsBelow c.key.result.now c.args.key.now = below_from_less c.key.result.now c.args.key.now (sym c.in-Less.is ∙ c.compare.ensures) in

@@ -4,7 +4,7 @@ use Rattle.im_base_types.specs.Pages.{Entry}
 use Rattle.im_base_types.specs.declared.fault.Fault.TheVariants.{KeyLength}
 use Rattle.im_base_types.specs.declared.file_id.FileId.TheVariants.{Pages}
 use Rattle.im_base_disk.proofs.Ends.{own_answered}
-use Rattle.im_load.specs.Edge.{IsTop}
+use Rattle.im_load.specs.Edge.{IsAboveAll}
 use Rattle.im_load.specs.HasTaken.{HasTaken}
 use Rattle.im_load.proofs.Faults.{passed_on, handed_on, is_key_length, keyed_refusal, not_so}
 use Rattle.im_load.proofs.Finishes.{halves}
@@ -38,7 +38,7 @@ returns-then-not-above-clause-stops g c from es l = halves g.D.Disk from c.args.
 pub returns-then-not-above-clause-falls : goal.returns-then-not-above-clause-falls
 returns-then-not-above-clause-falls g c from es l same top =
     let s = c.args.self.now in
-    not_so c.ends_below-above.result (IsTop c.args.key.now s.leaf.1.body.entries) c.if-not-above.true c.ends_below-above.ensures
+    not_so c.ends_below-above.result (IsAboveAll c.args.key.now s.leaf.1.body.entries) c.if-not-above.true c.ends_below-above.ensures
     (top_of_leaf s.leaf s.above.items s.count g.D.Disk.tells (g.D.Disk.seen c.args.disk.now Pages) es c.args.key.now l.taken top)
 
 pub returns-then-not-above-clause-key_length : goal.returns-then-not-above-clause-key_length
@@ -53,7 +53,7 @@ pub returns-in_err-take-clause-key_length : goal.returns-in_err-take-clause-key_
 returns-in_err-take-clause-key_length g c =
     let f = c.in_err-take.field-0.0 in
     let fits = c.is_key-keyed.ensures.0 c.if-not-keyed.false in (
-      (λ same. absurd (keyed_refusal c.take.new.self ((es : List Entry) → HasTaken g.D.Disk c.args.self.now c.args.disk.now es → IsTop c.args.key.now es → 1 ≤ length c.args.key.now → length c.args.key.now ≤ 255 → ⊥) _ f
+      (λ same. absurd (keyed_refusal c.take.new.self ((es : List Entry) → HasTaken g.D.Disk c.args.self.now c.args.disk.now es → IsAboveAll c.args.key.now es → 1 ≤ length c.args.key.now → length c.args.key.now ≤ 255 → ⊥) _ f
           c.in_err-take.ensures.outcome (handed_on c.from_residual.result f KeyLength c.from_residual.ensures.1 same))),
       (λ bad. absurd (not_both_lengths (length c.args.key.now) fits.0 fits.1 bad)),
     )
@@ -61,7 +61,7 @@ returns-in_err-take-clause-key_length g c =
 pub returns-in_err-take-clause-untouched : goal.returns-in_err-take-clause-untouched
 returns-in_err-take-clause-untouched g c same =
     let f = c.in_err-take.field-0.0 in
-    absurd (keyed_refusal c.take.new.self ((es : List Entry) → HasTaken g.D.Disk c.args.self.now c.args.disk.now es → IsTop c.args.key.now es → 1 ≤ length c.args.key.now → length c.args.key.now ≤ 255 → ⊥) _ f
+    absurd (keyed_refusal c.take.new.self ((es : List Entry) → HasTaken g.D.Disk c.args.self.now c.args.disk.now es → IsAboveAll c.args.key.now es → 1 ≤ length c.args.key.now → length c.args.key.now ≤ 255 → ⊥) _ f
     c.in_err-take.ensures.outcome (handed_on c.from_residual.result f KeyLength c.from_residual.ensures.1 same))
 
 pub returns-in_err-take-clause-outcome : goal.returns-in_err-take-clause-outcome

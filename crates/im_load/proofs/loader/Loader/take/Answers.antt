@@ -3,7 +3,7 @@ use Rattle.std.proofs.lemmas.List.{nil_from_length}
 use Rattle.im_base_types.specs.Pages.{Entry}
 use Rattle.im_base_types.specs.declared.file_id.FileId.TheVariants.{Pages}
 use Rattle.im_base_disk.proofs.Ends.{own_answered}
-use Rattle.im_load.specs.Edge.{IsTop}
+use Rattle.im_load.specs.Edge.{IsAboveAll}
 use Rattle.im_load.specs.declared.loader.Loader.{Loader}
 use Rattle.im_load.specs.HasTaken.{HasTaken, HasPending}
 use Rattle.im_load.proofs.Calls.{close_leaf_made, one_kind}
@@ -39,7 +39,7 @@ returns-in_err-raise_leaf-clause-outcome g c =
     let key = c.args.key.now in
     passed_on _ _ _ f c.from_residual-in_err-raise_leaf.result c.from_residual-in_err-raise_leaf.ensures.1 c.in_err-raise_leaf.ensures.outcome
     (eased c.raise_leaf.new.self ((es : List Entry) → HasTaken g.D.Disk c.args.self.now c.args.disk.now es → 1 ≤ length key → length key ≤ 255 → ⊥)
-    ((es : List Entry) → HasTaken g.D.Disk c.args.self.now c.args.disk.now es → IsTop key es → 1 ≤ length key → length key ≤ 255 → ⊥) f (λ never es t top some short. never es t some short))
+    ((es : List Entry) → HasTaken g.D.Disk c.args.self.now c.args.disk.now es → IsAboveAll key es → 1 ≤ length key → length key ≤ 255 → ⊥) f (λ never es t top some short. never es t some short))
 
 pub returns-then-levels-eq0-clause-taken : goal.returns-then-levels-eq0-clause-taken
 returns-then-levels-eq0-clause-taken g c es t top =
@@ -69,7 +69,7 @@ returns-in_err-put_above-clause-outcome g c =
     let key = c.args.key.now in
     passed_on _ _ _ f c.from_residual-in_err-put_above.result c.from_residual-in_err-put_above.ensures.1 c.in_err-put_above.ensures.outcome
     (eased c.put_above.new.self ((es : List Entry) → HasPending g.D.Disk c.close_leaf.new.self c.close_leaf.new.disk es 0 key c.in_ok-next.next → 1 ≤ length key → length key ≤ 255 → ⊥)
-    ((es : List Entry) → HasTaken g.D.Disk c.args.self.now c.args.disk.now es → IsTop key es → 1 ≤ length key → length key ≤ 255 → ⊥) f
+    ((es : List Entry) → HasTaken g.D.Disk c.args.self.now c.args.disk.now es → IsAboveAll key es → 1 ≤ length key → length key ≤ 255 → ⊥) f
     (λ never es t top some short. never (es ++ (key, c.args.rid) ∷ [])
     (close_leaf_made c.args.self.now c.new_page.new.self c.in_ok-next.next c.in_ok-next.ensures.page c.in_ok-next.ensures.more c.close_leaf.new.self c.number-number.result g.D.Disk.tells (g.D.Disk.seen c.args.disk.now Pages)
     (g.D.Disk.seen c.close_leaf.new.disk Pages) es (c.args.key.now, c.args.rid) c.number-number.ensures c.in_ok-close_leaf.ensures.closed c.in_ok-close_leaf.ensures.written t

@@ -1,7 +1,7 @@
 use Rattle.std.proofs.Common.{◌≡◌, ◌<◌, suc, ℕ, length, subst, rules, arith}
 use Rattle.im_base_types.specs.declared.file_id.FileId.TheVariants.{Pages}
-use Rattle.im_load.specs.Files.{WritesPage}
-use Rattle.im_load.specs.Held.{held_at}
+use Rattle.im_load.specs.Files.{WritesPageAt}
+use Rattle.im_load.specs.Held.{held_page}
 use Rattle.im_load.specs.Loading.{HasWritten}
 use Rattle.im_load.proofs.Endings.{above_written}
 use Rattle.im_load.proofs.Goings.{goes_none, goes_then}
@@ -22,7 +22,7 @@ loop-i-preserved g c = record {
       let place : c.loop-i.i < length s.above.items = omega (arith, c.loop-i-test.true, c.len-len.ensures) in
       above_written s.leaf s.above.items s.count g.D.Disk.tells file es t c.loop-i.i place (g.D.Disk.seen c.loop-i.disk Pages) (g.D.Disk.seen c.write_above.new.disk Pages)
       (c.loop-i.invariant.written file es t begun told)
-      (subst (λ (n : ℕ). WritesPage (g.D.Disk.seen c.loop-i.disk Pages) (g.D.Disk.seen c.write_above.new.disk Pages) n (held_at s.above.items c.loop-i.i).1) c.number_above-number.ensures (c.in_ok-write_above.ensures.written told));
+      (subst (λ (n : ℕ). WritesPageAt (g.D.Disk.seen c.loop-i.disk Pages) (g.D.Disk.seen c.write_above.new.disk Pages) n (held_page s.above.items c.loop-i.i).1) c.number_above-number.ensures (c.in_ok-write_above.ensures.written told));
   run = goes_then g.D.Disk c.args.disk.now c.loop-i.disk c.write_above.new.disk c.loop-i.invariant.run c.in_ok-write_above.ensures.run;
 }
 

@@ -27,7 +27,7 @@ returns-in_err-force-clause-kept g c base all durable h = record {
 pub returns-then-self-size-le-LONGEST_BATCH-clause-kept : goal.returns-then-self-size-le-LONGEST_BATCH-clause-kept
 returns-then-self-size-le-LONGEST_BATCH-clause-kept g c base all durable h =
     let put = c.put_in.ensures in
-    let laws = c.spellings.ensures in
+    let laws = c.law_spellings.ensures in
     let entry = view c.args.record.now in
     let size = laws.size entry in
     record {
@@ -42,7 +42,7 @@ pub returns-then-begins_next-clause-kept : goal.returns-then-begins_next-clause-
 returns-then-begins_next-clause-kept g c base all durable h =
     let put = c.put_in-then-begins_next.ensures in
     let new = c.begin_batch.ensures in
-    let laws = c.spellings.ensures in
+    let laws = c.law_spellings.ensures in
     let entry = view c.args.record.now in
     let size = laws.size entry in
     let begun = batch_begun g.D.Disk base all durable c.args.self.now c.begin_batch.new.self c.args.disk.now h (new.sealed h.sealed.batches h.sealed.filled) new.start new.used new.same.base new.same.gate new.same.failed in
@@ -57,7 +57,7 @@ returns-then-begins_next-clause-kept g c base all durable h =
 pub returns-clause-kept : goal.returns-clause-kept
 returns-clause-kept g c base all durable h =
     let put = c.put_in-2.ensures in
-    let laws = c.spellings.ensures in
+    let laws = c.law_spellings.ensures in
     let entry = view c.args.record.now in
     let size = laws.size entry in
     let forced = c.in_ok-force.ensures.kept base all durable h in

@@ -40,5 +40,5 @@ returns-clause-kept g c b base s is =
     record {
       now = two.now;
       on = goes_on_then d b base s old one.now w mid one.on two.now x new two.on;
-      fits = all_fit x.table two.now.pages c.pages_differ.ensures two.on.goes.writing.entries two.written;
+      fits = all_fit x.table two.now.pages c.law_pages_differ.ensures two.on.goes.writing.entries two.written;
     }

@@ -41,7 +41,7 @@ returns-clause-kept g c b base s is =
     let mid = c.flush_first.new.self in
     let writing = first.on.goes.writing in
     let sync = c.sync_pages.ensures.kept b base t (stands_on g.D.Disk b base s c.args.disk.now t mid c.flush_first.new.disk first.on) in
-    let left = room_left mid.table t.pages c.pages_differ.ensures writing.entries v mid.pool s.pages is.writing.entries (λ p. (first.on.goes.keeps.pages p).written) c.is_full.ensures.within (least v)
+    let left = room_left mid.table t.pages c.law_pages_differ.ensures writing.entries v mid.pool s.pages is.writing.entries (λ p. (first.on.goes.keeps.pages p).written) c.is_full.ensures.within (least v)
     writing.pooled c.in_ok-flush_first.ensures.held c.len-held.ensures.within first.next in
     let size = sized_as v mid c.in_ok-flush_first.ensures.held.frames in
     ok_with c.sync_pages.result _ _ _ sync.ok c.sync_pages.ensures.table (λ on table. record {

@@ -15,5 +15,5 @@ returns-in_err-drop_entry-clause-sound c pages has inner within e =
 
 pub returns-clause-new : goal.returns-clause-new
 returns-clause-new c =
-    becomes_one c.args.self.now c.put.new.self c.args.parent c.deref_mut.result.now c.drop_entry.new.parent (λ (b : Body). without_entry b c.args.i) c.rise.ensures (c.in-Some.ensures.page ∙ ap Some (sym c.deref_mut.ensures.value))
-    (one_put c.args.self.now c.take.new.self c.put.new.self c.args.parent _ c.rise.ensures c.take.ensures.new c.in_ok-put.ensures.new) (ap (λ (p : Page). p.body) c.in_ok-drop_entry.ensures.new)
+    becomes_one c.args.self.now c.put.new.self c.args.parent c.deref_mut.result.now c.drop_entry.new.parent (λ (b : Body). without_entry b c.args.i) c.law_rise.ensures (c.in-Some.ensures.page ∙ ap Some (sym c.deref_mut.ensures.value))
+    (one_put c.args.self.now c.take.new.self c.put.new.self c.args.parent _ c.law_rise.ensures c.take.ensures.new c.in_ok-put.ensures.new) (ap (λ (p : Page). p.body) c.in_ok-drop_entry.ensures.new)

@@ -14,7 +14,7 @@ returns-in_err-give_free-clause-sound c pages has meta few e =
 
 pub returns-clause-new : goal.returns-clause-new
 returns-clause-new c =
-    gives_free c.args.self.now c.put-2.new.self c.deref_mut.result.now c.give_free.new.meta c.give_free.new.page c.args.number c.rise.ensures
+    gives_free c.args.self.now c.put-2.new.self c.deref_mut.result.now c.give_free.new.meta c.give_free.new.page c.args.number c.law_rise.ensures
     (c.in-Some.ensures.page ∙ ap Some (sym c.deref_mut.ensures.value))
-    (two_puts c.args.self.now c.take.new.self c.put.new.self c.put-2.new.self 0 _ c.args.number _ c.rise.ensures c.take.ensures.new c.in_ok-put.ensures.new c.in_ok-put-2.ensures.new)
+    (two_puts c.args.self.now c.take.new.self c.put.new.self c.put-2.new.self 0 _ c.args.number _ c.law_rise.ensures c.take.ensures.new c.in_ok-put.ensures.new c.in_ok-put-2.ensures.new)
     (ap (λ (p : Page). p.body) c.in_ok-give_free.ensures.meta) (ap (λ (p : Page). p.body) c.in_ok-give_free.ensures.page)

@@ -14,5 +14,5 @@ returns-in_err-link_next-clause-sound c pages has leaf e =
 
 pub returns-clause-new : goal.returns-clause-new
 returns-clause-new c =
-    becomes_next c.args.self.now c.put.new.self c.args.number c.args.next c.deref_mut.result.now c.link_next.new.page (omega arith) c.rise.ensures (c.in-Some.ensures.page ∙ ap Some (sym c.deref_mut.ensures.value))
-    (one_put c.args.self.now c.take.new.self c.put.new.self c.args.number _ c.rise.ensures c.take.ensures.new c.in_ok-put.ensures.new) (ap (λ (p : Page). p.body) c.in_ok-link_next.ensures.new)
+    becomes_next c.args.self.now c.put.new.self c.args.number c.args.next c.deref_mut.result.now c.link_next.new.page (omega arith) c.law_rise.ensures (c.in-Some.ensures.page ∙ ap Some (sym c.deref_mut.ensures.value))
+    (one_put c.args.self.now c.take.new.self c.put.new.self c.args.number _ c.law_rise.ensures c.take.ensures.new c.in_ok-put.ensures.new) (ap (λ (p : Page). p.body) c.in_ok-link_next.ensures.new)

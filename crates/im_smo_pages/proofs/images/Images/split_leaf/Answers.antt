@@ -16,7 +16,7 @@ returns-in_err-n-clause-sound c pages has can e =
 
 pub returns-clause-parts : goal.returns-clause-parts
 returns-clause-parts c =
-    parts_leaf c.args.self.now c.put-3.new.self c.args.page.now _ _ _ _ _ _ c.args.parent c.args.p c.args.q c.in_ok-n.n c.rise.ensures
-    (c.in-Some.ensures.page ∙ ap Some (sym c.deref_mut-3.ensures.value)) (subst (λ (p : Page). Rises p.body.entries) (c.deref.ensures ∙ sym c.deref_mut-3.ensures.value) c.content.ensures.rises) c.in_ok-n.ensures.split
-    (three_puts c.args.self.now c.take.new.self c.put.new.self c.put-2.new.self c.put-3.new.self c.args.parent _ c.args.q _ c.args.p _ c.rise.ensures c.take.ensures.new
+    parts_leaf c.args.self.now c.put-3.new.self c.args.page.now _ _ _ _ _ _ c.args.parent c.args.p c.args.q c.in_ok-n.n c.law_rise.ensures
+    (c.in-Some.ensures.page ∙ ap Some (sym c.deref_mut-3.ensures.value)) (subst (λ (p : Page). Rises p.body.entries) (c.deref.ensures ∙ sym c.deref_mut-3.ensures.value) c.law_content.ensures.rises) c.in_ok-n.ensures.split
+    (three_puts c.args.self.now c.take.new.self c.put.new.self c.put-2.new.self c.put-3.new.self c.args.parent _ c.args.q _ c.args.p _ c.law_rise.ensures c.take.ensures.new
     c.in_ok-put.ensures.new c.in_ok-put-2.ensures.new c.in_ok-put-3.ensures.new)

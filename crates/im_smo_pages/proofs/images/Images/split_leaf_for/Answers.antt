@@ -14,7 +14,7 @@ returns-clause-goes c pages spare good way goes page_is =
     leaf_has_room c.args.self.now c.split_leaf.new.self c.link_prev.new.self c.args.page.now.body c.args.parent c.args.p c.args.q c.in_ok-n.n c.half.result c.args.key.now pages spare
     c.in_ok-n.ensures.parts
     (subst (λ (r : ℕ). Becomes c.split_leaf.new.self c.link_prev.new.self (λ h. linked_prev h r c.args.q)) c.next.ensures c.in_ok-link_prev.ensures.new)
-    c.content.ensures.rises c.half.ensures good way goes page_is
+    c.law_content.ensures.rises c.half.ensures good way goes page_is
 
 pub returns-in_err-n-clause-sound : goal.returns-in_err-n-clause-sound
 returns-in_err-n-clause-sound c pages spare good way goes page_is has next can e =

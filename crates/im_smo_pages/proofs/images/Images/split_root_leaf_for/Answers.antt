@@ -8,7 +8,7 @@ use Rattle.im_smo_pages.proofs.images.Images.split_root_leaf_for.Goals as goal
 pub returns-clause-goes : goal.returns-clause-goes
 returns-clause-goes c pages spare good tall page_is =
     root_has_room c.args.self.now c.split_root_leaf.new.self c.args.page.now.body c.args.l c.args.r c.in_ok-n.n c.half.result c.args.key.now pages spare
-    c.in_ok-n.ensures.parts c.content.ensures.rises c.half.ensures good tall page_is
+    c.in_ok-n.ensures.parts c.law_content.ensures.rises c.half.ensures good tall page_is
 
 pub returns-in_err-n-clause-sound : goal.returns-in_err-n-clause-sound
 returns-in_err-n-clause-sound c can e =

@@ -26,7 +26,7 @@ returns-in_err-number-clause-sound c pages has meta none e =
 
 pub returns-clause-taken : goal.returns-clause-taken
 returns-clause-taken c =
-    takes_next c.args.self.now c.put.new.self c.deref_mut.result.now c.take_count.new.meta c.in_ok-number.number c.rise.ensures
+    takes_next c.args.self.now c.put.new.self c.deref_mut.result.now c.take_count.new.meta c.in_ok-number.number c.law_rise.ensures
     (c.in-Some.ensures.page ∙ ap Some (sym c.deref_mut.ensures.value))
-    (one_put c.args.self.now c.take.new.self c.put.new.self 0 _ c.rise.ensures c.take.ensures.new c.in_ok-put.ensures.new)
+    (one_put c.args.self.now c.take.new.self c.put.new.self 0 _ c.law_rise.ensures c.take.ensures.new c.in_ok-put.ensures.new)
     c.in_ok-number.ensures.number (c.in_ok-number.ensures.ok.0 refl).1 (ap (λ (p : Page). p.body) c.in_ok-number.ensures.new)

@@ -1,6 +1,0 @@
-use Rattle.std.proofs.Common.{take}
-use Rattle.im_base_turns.specs.Turns.{IsAwaitedBy, IsLeastOf}
-use Rattle.im_base_turns.proofs.table.oldest.Given as goal
-
-abbrev pub invariant-loop-one : goal.invariant-loop-one
-invariant-loop-one l = IsLeastOf (IsAwaitedBy l.asker l.came) (λ g. g.number) (take l.one-index l.going) l.least

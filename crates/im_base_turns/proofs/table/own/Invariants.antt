@@ -1,6 +1,0 @@
-use Rattle.std.proofs.Common.{take}
-use Rattle.im_base_turns.specs.Turns.{IsOwn, IsLeastOf}
-use Rattle.im_base_turns.proofs.table.own.Given as goal
-
-abbrev pub invariant-loop-one : goal.invariant-loop-one
-invariant-loop-one l = IsLeastOf (IsOwn l.thread) (λ g. g.number) (take l.one-index l.going) l.least

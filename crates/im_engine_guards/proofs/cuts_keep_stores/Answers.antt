@@ -1,5 +1,0 @@
-use Rattle.im_engine_guards.proofs.Cuts.{keep}
-use Rattle.im_engine_guards.proofs.cuts_keep_stores.Goals as goal
-
-pub returns : goal.returns
-returns c = keep

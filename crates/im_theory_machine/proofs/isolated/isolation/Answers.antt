@@ -1,5 +1,0 @@
-use Rattle.im_theory_machine.proofs.Isolates.{isolates}
-use Rattle.im_theory_machine.proofs.isolated.isolation.Goals as goal
-
-pub returns : goal.returns
-returns c = isolates
