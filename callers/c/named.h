@@ -1,4 +1,4 @@
-/* Several indexes, each with a name, and values of any length in one store, as the packages for Rust and Python keep them (docs/CALLERS.md). Copy this
+/* Several indexes, each with a name, and values of any length in one store, as the packages for Rust and Python keep them (docs/GUIDE.md). Copy this
  * file into a program: it stands on vahondrisa.h alone. Each function works within the caller's transaction, and returns what the call of the store
  * did that was refused: after VAH_GIVE_WAY call vah_again and make all again; after any other code but VAH_NOT_FOUND roll back. A long value that is
  * refused half way ends its transaction, as by vah_rollback, so that no half is ever committed: its next call is refused VAH_NO_TRANSACTION.

@@ -425,7 +425,7 @@ int vah_copy_with(vah_store *store, const char *folder, int (*progress)(void *wi
 	void *with);
 
 /** Write a key of a name: of an index, or of a set of long values, each with keys
- *  of its own, as docs/CALLERS.md lays them out. It asks nothing of a store.
+ *  of its own, as docs/GUIDE.md lays them out. It asks nothing of a store.
  *  @param[in] which VAH_NAME_ROW and so on
  *  @param[in] name 1 to 31 bytes
  *  @param[in] key the key that the index has, or the long value

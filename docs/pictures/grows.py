@@ -1,12 +1,12 @@
 #!/usr/bin/env python3
-"""Draws grows.svg, what a key costs as a store grows, from the table of docs/CALLERS.md, "Speed": grows.py [TO]."""
+"""Draws grows.svg, what a key costs as a store grows, from the table of docs/GUIDE.md, "Speed": grows.py [TO]."""
 import math
 import os
 import re
 import sys
 
 HERE = os.path.dirname(os.path.abspath(__file__))
-PAGE = f"{HERE}/../CALLERS.md"
+PAGE = f"{HERE}/../GUIDE.md"
 HEAD = "| Keys | Insert, 64 a commit | by LMDB | by SQLite | Look-up | by LMDB | by SQLite |"
 # Name in the picture, and colour.
 LINES = [("this store", "#0550ae"), ("LMDB", "#57606a"), ("SQLite", "#cf222e")]

@@ -1,4 +1,4 @@
-/* The recipes of docs/CALLERS.md: prefixes, counts, several indexes in one store, keys that are not unique, indexes with names, and long values. */
+/* The recipes of docs/GUIDE.md: prefixes, counts, several indexes in one store, keys that are not unique, indexes with names, and long values. */
 #include "test.h"
 #include "named.h"
 #include "internal.h"

@@ -1,4 +1,4 @@
-"""Where named indexes and long values lie among the keys of a store: the library says it, and docs/CALLERS.md has it in words."""
+"""Where named indexes and long values lie among the keys of a store: the library says it, and docs/GUIDE.md has it in words."""
 import ctypes
 from ctypes import byref, c_size_t, c_uint64
 from typing import Iterable, List, Optional, Tuple

@@ -264,7 +264,7 @@ class Store(Alone):
     def index(self, name: str) -> Index:
         """The named index, which is made where it is not there yet, in a transaction of its own. Names have 1 to 31 bytes in UTF-8.
 
-        Its entries are keys of the store that begin with the name: docs/CALLERS.md, "Several indexes in one store". Keys of the program's own, beside
+        Its entries are keys of the store that begin with the name: docs/GUIDE.md, "Several indexes in one store". Keys of the program's own, beside
         all indexes, begin with a byte of 32 or more, as letters and digits do.
         """
         return Index(self, name, make(self, name, INDEX))

@@ -1,4 +1,4 @@
-//! Where named indexes and long values lie among the keys of a store: the library says it, and docs/CALLERS.md has it in words.
+//! Where named indexes and long values lie among the keys of a store: the library says it, and docs/GUIDE.md has it in words.
 use crate::index::Entry;
 use std::ffi::c_uint;
 use vahondrisa_sys as sys;

@@ -220,7 +220,7 @@ impl Store {
 
     /// The named index, which is made where it is not there yet, in a transaction of its own. Names have 1 to 31 bytes.
     ///
-    /// Its entries are keys of the store that begin with the name: docs/CALLERS.md, "Several indexes in one store". Keys of the program's own, beside all
+    /// Its entries are keys of the store that begin with the name: docs/GUIDE.md, "Several indexes in one store". Keys of the program's own, beside all
     /// indexes, begin with a byte of 32 or more, as letters and digits do.
     pub fn index(&self, name: &str) -> Result<Index> {
         catalogue::name(self, name, Kind::Index).map(|prefix| Index::new(self, name, prefix))

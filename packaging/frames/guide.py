@@ -1,4 +1,4 @@
-"""What the fragments in Python of docs/CALLERS.md stand in."""
+"""What the fragments in Python of docs/GUIDE.md stand in."""
 import tempfile
 
 import vahondrisa

@@ -1,4 +1,4 @@
-//! What the fragments in Rust of docs/CALLERS.md stand in.
+//! What the fragments in Rust of docs/GUIDE.md stand in.
 #![allow(unused)]
 
 fn block(store: &vahondrisa::Store, txn: &vahondrisa::Transaction, id: &[u8], city: &[u8], row: u64) -> Result<(), Box<dyn std::error::Error>> {

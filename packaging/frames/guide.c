@@ -1,4 +1,4 @@
-/* What the fragments in C of docs/CALLERS.md stand in: the functions and names that the page speaks of. */
+/* What the fragments in C of docs/GUIDE.md stand in: the functions and names that the page speaks of. */
 #define _GNU_SOURCE
 #include <stdio.h>
 #include <unistd.h>
