@@ -42,6 +42,11 @@ module _ {D : Type 0} (d : Ghosts D) where
     pub told : fault ≡ told_look why
     pub looks : Looks d (Some why) old new
 
+  -- its entries were looked at, and told or refused
+  pub record WasLookedAt (old new : Engine D d) : Type 0 where
+    pub why : Option below.Fault
+    pub looks : Looks d why old new
+
 no_rows : (rows : List Transaction) → length rows ≡ 0 → rows ≡ []
 no_rows [] none = refl
 no_rows (row ∷ rows) none = absurd (cc none)

@@ -10,11 +10,11 @@ use im_theory_store_trait::Store;
 use std::alloc::Global;
 
 impl<D: TwoLogs + Drop> Store for Engine<D> {
-    ghost use Rattle.std.specs.Prelude.{length};
+    ghost use Rattle.std.specs.Prelude.{◌≡◌, true, length};
     ghost use Rattle.im_base_txn.specs.Rows.{waiting_in};
     ghost use Rattle.im_base_txn.proofs.LookUps.{few_waiting};
     ghost use Rattle.im_engine.specs.Told.{IsStep};
-    ghost use Rattle.im_engine.specs.Serves.{IsStoreLife, Leaves, IsRefused, stops_keep, settled};
+    ghost use Rattle.im_engine.specs.Serves.{IsStoreLife, Leaves, IsRefused, WasLookedAt, stops_keep, settled};
 
     ghost tells = { D.tells };
 
@@ -27,6 +27,10 @@ impl<D: TwoLogs + Drop> Store for Engine<D> {
     ghost waiting = { λ e. waiting_in e.txns.rows };
 
     ghost refuses = { λ old new fault. IsRefused D.Disk old new fault };
+
+    ghost looked = { λ old new. WasLookedAt D.Disk old new };
+
+    ghost broken = { λ e. e.failed ≡ true };
 
     ghost made = { λ old step reply new. IsStep D.Disk step reply old new };
 

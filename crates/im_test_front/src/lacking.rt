@@ -50,6 +50,10 @@ impl Store for Lacking {
 
     ghost refuses = { λ _ _ _. Unit {0} };
 
+    ghost looked = { λ _ _. Unit {0} };
+
+    ghost broken = { λ _. ⊥ };
+
     ghost made = { λ _ _ _ _. Unit {0} };
 
     fn step(&mut self, step: &Step) -> Reply {

@@ -1,6 +1,6 @@
 //! The trait of a store.
 
-ghost use Rattle.std.specs.Prelude.{◌≡◌, ◌≤◌, ℕ, List, false, ◌++◌, IfOk, IfErr};
+ghost use Rattle.std.specs.Prelude.{◌≡◌, ◌≤◌, ◌↔◌, ℕ, List, true, false, ◌++◌, IfOk, IfErr};
 ghost use Rattle.std.specs.FinMap.{empty, entries as entries_of};
 ghost use Rattle.im_base_types.specs.Changes.{Effect, apply_all};
 ghost use Rattle.im_base_types.specs.Lives.{Shown, Survives, effects, nothing_shown};
@@ -39,6 +39,12 @@ pub trait Store: Drop {
     /// Why the entries are refused.
     ghost refuses: { Self → Self → faults.Fault → Type 0 };
 
+    /// What a look at its entries makes of it.
+    ghost looked: { Self → Self → Type 0 };
+
+    /// An earlier call broke it.
+    ghost broken: { Self → Type 0 };
+
     /// What a step with its reply makes of it.
     ghost made: { Self → steps.Step → replies.Reply → Self → Type 0 };
 
@@ -56,6 +62,7 @@ pub trait Store: Drop {
             → (list.items ≡ entries_of v.walk) × life before s v self.new) }
         ensures kept { IfErr result (λ fault. (before : List Effect) (s : Shown) (v : View) → life before s v self.old → LookKept life before s v self.new) }
         ensures cause { IfErr result (λ fault. refuses self.old self.new fault) }
+        ensures looked { looked self.old self.new }
         ensures active { actives self.new ≡ actives self.old }
         ensures waiting { waiting self.new ≡ waiting self.old };
 
@@ -66,7 +73,8 @@ pub trait Store: Drop {
 
     /// Whether an earlier call broke it.
     fn failed(&self) -> bool
-        ensures { (before : List Effect) (s : Shown) (v : View) → life before s v self.now → result ≡ v.failed };
+        ensures told { result ≡ true ↔ broken self.now }
+        ensures machine { (before : List Effect) (s : Shown) (v : View) → life before s v self.now → result ≡ v.failed };
 
     /// Who waits is active.
     ghost few: { (e : Self) → waiting e ≤ actives e };

@@ -22,3 +22,9 @@ returns-in-Ok-clause-waiting g c = ap waiting_in (looks_rows g.D.Disk None c.arg
 
 pub returns-in-Err-clause-waiting : goal.returns-in-Err-clause-waiting
 returns-in-Err-clause-waiting g c = ap waiting_in (looks_rows g.D.Disk (Some c.in-Err.fault) c.args.self.now c.entries.new.self c.in-Err.ensures.outcome)
+
+pub returns-in-Ok-clause-looked : goal.returns-in-Ok-clause-looked
+returns-in-Ok-clause-looked g c = record { why = None; looks = c.in-Ok.ensures.outcome }
+
+pub returns-in-Err-clause-looked : goal.returns-in-Err-clause-looked
+returns-in-Err-clause-looked g c = record { why = Some c.in-Err.fault; looks = c.in-Err.ensures.outcome }

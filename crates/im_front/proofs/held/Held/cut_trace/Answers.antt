@@ -47,7 +47,7 @@ invariant_of-self-2 g c =
       (λ tells.
           let h = i.0 tells in
           let list = c.in_ok-base.ensures.list h.before (shown_in nothing_shown h.events) h.view h.life_is in
-          let running : h.view.failed ≡ false = sym (c.failed.ensures h.before (shown_in nothing_shown h.events) h.view h.life_is) ∙ c.if-failed.false in
+          let running : h.view.failed ≡ false = sym (c.failed.ensures.machine h.before (shown_in nothing_shown h.events) h.view h.life_is) ∙ c.if-failed.false in
           let active = c.active.ensures.machine h.before (shown_in nothing_shown h.events) h.view h.life_is in
           let none : h.view.active ≡ 0 = sym active ∙ c.is_busy.ensures.free c.if-is_busy.false in
           let walk = rest_walk g.E.Store.life c.self.inside.base.items trace c.self.inside.engine h (c.law_isolation.ensures (apply_all empty h.before) h.first) running none in
@@ -70,7 +70,7 @@ returns-clause-base g c tells =
     let h = c.self.invariant.0 tells in
     let trace = trace_of c.self.inside.trace.items in
     let list = c.in_ok-base.ensures.list h.before (shown_in nothing_shown h.events) h.view h.life_is in
-    let running : h.view.failed ≡ false = sym (c.failed.ensures h.before (shown_in nothing_shown h.events) h.view h.life_is) ∙ c.if-failed.false in
+    let running : h.view.failed ≡ false = sym (c.failed.ensures.machine h.before (shown_in nothing_shown h.events) h.view h.life_is) ∙ c.if-failed.false in
     let active = c.active.ensures.machine h.before (shown_in nothing_shown h.events) h.view h.life_is in
     let none : h.view.active ≡ 0 = sym active ∙ c.is_busy.ensures.free c.if-is_busy.false in
     let walk = rest_walk g.E.Store.life c.self.inside.base.items trace c.self.inside.engine h (c.law_isolation.ensures (apply_all empty h.before) h.first) running none in
@@ -80,15 +80,15 @@ returns-clause-base g c tells =
 
 pub returns-then-failed-clause-first : goal.returns-then-failed-clause-first
 returns-then-failed-clause-first g c =
-    subst (λ (s : State g.row.E.Denot). ComesFirst g.E.Store s.engine (Err Failed)) c.self.view_is (told_failed g.E.Store c.self.inside.engine c.failed.result c.failed.ensures c.if-failed.true)
+    subst (λ (s : State g.row.E.Denot). ComesFirst g.E.Store s.engine (Err Failed)) c.self.view_is (told_failed g.E.Store c.self.inside.engine c.failed.result c.failed.ensures.machine c.if-failed.true)
 
 pub returns-then-is_busy-clause-first : goal.returns-then-is_busy-clause-first
 returns-then-is_busy-clause-first g c =
-    subst (λ (s : State g.row.E.Denot). ComesFirst g.E.Store s.engine (Err Busy)) c.self.view_is (told_busy g.E.Store c.self.inside.engine c.failed.result c.failed.ensures c.if-failed.false)
+    subst (λ (s : State g.row.E.Denot). ComesFirst g.E.Store s.engine (Err Busy)) c.self.view_is (told_busy g.E.Store c.self.inside.engine c.failed.result c.failed.ensures.machine c.if-failed.false)
 
 pub returns-clause-first : goal.returns-clause-first
 returns-clause-first g c =
     subst (λ (s : State g.row.E.Denot). ComesFirst g.E.Store s.engine (Ok tt)) c.self.view_is (
-    told_else g.E.Store c.self.inside.engine c.failed.result c.failed.ensures c.if-failed.false c.active.result c.active.ensures.machine (c.is_busy.ensures.free c.if-is_busy.false) (Ok tt)
+    told_else g.E.Store c.self.inside.engine c.failed.result c.failed.ensures.machine c.if-failed.false c.active.result c.active.ensures.machine (c.is_busy.ensures.free c.if-is_busy.false) (Ok tt)
     (sym c.active.ensures.count ∙ c.is_busy.ensures.free c.if-is_busy.false)
     )
