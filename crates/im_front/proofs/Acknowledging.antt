@@ -1,8 +1,7 @@
 -- What a caller of a front learns behind its lock.
-use Rattle.std.proofs.Common.{◌≡◌, ◌+◌, ◌⊎◌, inl, inr, ℕ, List, [], ◌∷◌, ◌++◌, true, false, Result, Ok, Err, IfOk, refl, subst, ap, ◌∙◌, arith}
+use Rattle.std.proofs.Common.{◌≡◌, ◌⊎◌, inl, inr, ℕ, List, true, false, Result, Ok, Err, IfOk, refl, subst}
 use Rattle.std.specs.Prelude.{IfErr}
 use Rattle.std.proofs.lemmas.Bool.{cases_Bool}
-use Rattle.im_base_types.specs.Answers as answers
 use Rattle.im_base_types.specs.declared.fault.Fault.{Fault}
 use Rattle.im_base_types.specs.declared.fault.Fault.TheVariants.{Memory, TraceFull}
 use Rattle.im_base_steps.specs.declared.step.Step.{Step}
@@ -12,38 +11,22 @@ use Rattle.im_base_steps.specs.declared.reply.Reply.TheVariants as replies
 use Rattle.im_base_steps.specs.Calls.{told_by}
 use Rattle.im_base_steps.specs.Replies.{is_full, lacks_memory}
 use Rattle.im_theory_store_trait.specs.declared.store.Store.{Ghosts}
-use Rattle.im_front.specs.Held.{State, IsRun, waits_in, forces_in}
-use Rattle.im_front.specs.Traces.{trace_of}
-use Rattle.im_front.specs.Locked.{LockedState, seen_of, IsKeptFrom}
-use Rattle.im_front.specs.Acknowledged.{point_of, point_in, IsHeld, IsLast, IsNotAcknowledged, IsNotForced, IsStepOf}
+use Rattle.im_front.specs.Made.{WereMade}
+use Rattle.im_front.specs.Held.{waits_in, forces_in}
+use Rattle.im_front.specs.Locked.{seen_of, StandsFrom}
+use Rattle.im_front.specs.Acknowledged.{IsHeld, IsNotAcknowledged, IsNotForced, IsStepOf}
 use Rattle.im_front.specs.Writing.{CameToNothing}
-use Rattle.im_front.proofs.Growing.{seen_of-push}
+use Rattle.im_front.proofs.Steps.{run_of}
 
-module _ {E : Type 0} (d : Ghosts E) where
-  pub held_plain : (s : LockedState E) → (d.tells → IsKeptFrom d.life d.leaves s.trace s.engine) → s.forces ≡ forces_in (seen_of s.trace)
-      → (s.waiting ≡ waits_in 0 (seen_of s.trace)) × (s.waiting ≡ d.waiting s.engine) → IsHeld d (point_of s)
-  held_plain s kept counted waits = record { run = λ tells. let k = kept tells in (k.base, k.run); counted = omega (arith, counted); waits = waits }
-
-  pub held_whole : (s : State E) → (d.tells → IsRun d.life s.base (trace_of s.trace) s.engine) → s.forces ≡ s.forced + forces_in (trace_of s.trace)
-      → (s.waiting ≡ waits_in 0 (trace_of s.trace)) × (s.waiting ≡ d.waiting s.engine) → IsHeld d (point_in s)
-  held_whole s run counted waits = record { run = λ tells. (s.base, run tells); counted = counted; waits = waits }
-
-  -- the Commit that was answered More is the last step
-  pub last_plain : (t : ℕ) (s : LockedState E) (older : List (Step × Reply)) (reply : Reply) → IsHeld d (point_of s) → s.trace ≡ older ++ (steps.Commit t, reply) ∷ []
-      → told_by reply ≡ answers.More → IsLast d t (point_of s)
-  last_plain t s older reply held trace more = record {
-    held = held;
-    older = seen_of older;
-    last = ap seen_of trace ∙ seen_of-push older (steps.Commit t) reply ∙ ap (λ (r : answers.Reply). seen_of older ++ (answers.Commit t, r) ∷ []) more;
-  }
-
-  pub last_whole : (t : ℕ) (s : State E) (older : List (answers.Step × answers.Reply)) (reply : Reply) → IsHeld d (point_in s)
-      → trace_of s.trace ≡ older ++ (answers.Commit t, told_by reply) ∷ [] → told_by reply ≡ answers.More → IsLast d t (point_in s)
-  last_whole t s older reply held trace more = record {
-    held = held;
-    older = older;
-    last = trace ∙ ap (λ (r : answers.Reply). older ++ (answers.Commit t, r) ∷ []) more;
-  }
+-- what always holds behind a lock, of what lies there
+pub held_of : {E : Type 0} (d : Ghosts E) (steps : List (Step × Reply)) (engine : E) (waiting forces : ℕ) → WereMade d steps engine → (d.tells → StandsFrom d.life steps engine) → forces ≡ forces_in (seen_of steps)
+    → waiting ≡ waits_in 0 (seen_of steps) → waiting ≡ d.waiting engine → IsHeld d (record { engine = engine; steps = steps; waiting = waiting; forces = forces })
+held_of d steps engine waiting forces made stands counted waits same = record {
+  made = made;
+  run = λ tells. let h = stands tells in (h.0, run_of d.life h.0 (seen_of steps) engine h.1);
+  counted = counted;
+  waits = (waits, same);
+}
 
 pub map_ok : (r : Result Unit Fault) (P Q : Type 0) → (P → Q) → IfOk r (λ x. P) → IfOk r (λ x. Q)
 map_ok (Ok x) P Q f h = f h

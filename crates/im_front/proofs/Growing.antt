@@ -1,5 +1,6 @@
 -- A trace that only proofs read.
-use Rattle.std.proofs.Common.{◌≡◌, ◌+◌, List, [], ◌∷◌, ◌++◌, length, refl, ap, arith}
+use Rattle.std.proofs.Common.{◌≡◌, ℕ, ◌+◌, List, [], ◌∷◌, ◌++◌, length, length-append, refl, ap, sym, ◌∙◌, arith}
+use Rattle.std.proofs.lemmas.List.{append_assoc, append-nil}
 use Rattle.im_base_types.specs.Answers as answers
 use Rattle.im_base_types.specs.Changes.{Effect}
 use Rattle.im_base_types.specs.Lives.{Shown, Survives, nothing_shown}
@@ -9,6 +10,7 @@ use Rattle.im_base_steps.specs.declared.reply.Reply.{Reply}
 use Rattle.im_base_steps.specs.Calls.{asked_by, told_by}
 use Rattle.im_front.specs.Events.{shown_in}
 use Rattle.im_theory_store_trait.specs.Store.{IsAlive}
+use Rattle.im_front.specs.Made.{EndsIn}
 use Rattle.im_front.specs.Held.{force_of, forces_in}
 use Rattle.im_front.specs.Locked.{seen_of, StandsFrom, IsKeptFrom}
 use Rattle.im_front.proofs.Steps.{run_of}
@@ -28,6 +30,14 @@ alive_from life tells trace engine stands t = let h = (stands t).1 in (h.before,
 pub forces_push : (l : List (answers.Step × answers.Reply)) (step : answers.Step) (reply : answers.Reply) → forces_in (l ++ (step, reply) ∷ []) ≡ forces_in l + force_of step reply
 forces_push [] step reply = omega arith
 forces_push (x ∷ xs) step reply = let e : forces_in (xs ++ (step, reply) ∷ []) ≡ forces_in xs + force_of step reply = forces_push xs step reply in omega arith
+
+-- one step more is at the end of both
+pub ends_push : {A : Type 0} (all trace : List A) (cut : ℕ) (a : A) → EndsIn all cut trace → EndsIn (all ++ a ∷ []) cut (trace ++ a ∷ [])
+ends_push {A} all trace cut a h = (h.0, ap (λ (l : List A). l ++ a ∷ []) h.1 ∙ append_assoc h.0 trace (a ∷ []), h.2)
+
+-- the trace is cut, as long as it was: nothing of it is left, and all of it is older
+pub ends_cut : {A : Type 0} (all trace : List A) (cut : ℕ) → EndsIn all cut trace → EndsIn all (cut + length trace) []
+ends_cut all trace cut h = let long = ap length h.1 ∙ length-append h.0 trace in (all, sym (append-nil all), omega (arith, long, h.2))
 
 -- from the base of the trace: the run, and what a stop keeps
 pub kept_of : {E : Type 0} (life : List Effect → Shown → View → E → Type 0) (leaves : E → (List Effect → Type 0) → Type 0)

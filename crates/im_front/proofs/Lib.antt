@@ -3,4 +3,5 @@ pub mod Balance
 pub mod Growing
 pub mod Replies
 pub mod Steps
+pub mod Unforced
 mod Cuts

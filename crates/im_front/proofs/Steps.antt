@@ -77,7 +77,7 @@ after_trace-push : (n : ℕ) (c : List ℕ) (trace : List (Step × Reply)) (e : 
 after_trace-push n c [] e = refl
 after_trace-push n c (x ∷ xs) e = after_trace-push (waits_after n x.0 x.1) (after_reply n c x.0 x.1) xs e
 
-waits_in-push : (n : ℕ) (trace : List (Step × Reply)) (e : Step × Reply) → waits_in n (trace ++ e ∷ []) ≡ waits_after (waits_in n trace) e.0 e.1
+pub waits_in-push : (n : ℕ) (trace : List (Step × Reply)) (e : Step × Reply) → waits_in n (trace ++ e ∷ []) ≡ waits_after (waits_in n trace) e.0 e.1
 waits_in-push n [] e = refl
 waits_in-push n (x ∷ xs) e = waits_in-push (waits_after n x.0 x.1) xs e
 

@@ -1,5 +1,5 @@
 -- What the answer of a front says: which step was made behind its lock, and that a force came after it.
-use Rattle.std.specs.Prelude.{◌≡◌, ◌⊎◌, ◌<◌, ℕ, ◌+◌, List, [], ◌∷◌, ◌++◌}
+use Rattle.std.specs.Prelude.{◌≡◌, ◌⊎◌, ◌<◌, ℕ, List, [], ◌∷◌, ◌++◌}
 use Rattle.im_base_types.specs.Pages.{Entry}
 use Rattle.im_base_types.specs.Answers as answers
 use Rattle.im_base_steps.specs.declared.step.Step.{Step}
@@ -10,24 +10,23 @@ use Rattle.im_base_types.specs.declared.fault.Fault.{Fault}
 use Rattle.im_base_types.specs.declared.fault.Fault.TheVariants.{Failed, TraceFull}
 use Rattle.im_base_steps.specs.Calls.{told_by}
 use Rattle.im_theory_store_trait.specs.declared.store.Store.{Ghosts}
-use Rattle.im_front.specs.Traces.{trace_of}
+use Rattle.im_front.specs.Made.{WereMade}
 use Rattle.im_front.specs.Held.{State, IsRun, waits_in, forces_in}
 use Rattle.im_front.specs.Locked.{LockedState, seen_of}
 
--- The value behind a lock, whichever front it is of: the engine, the trace as the definitions know it, and how many wait for a force.
+-- The value behind a lock, whichever front it is of: the engine, every step that was made of it with its reply, and how many wait for a force.
 pub record Point (E : Type 0) : Type 0 where
   pub engine : E
-  pub seen : List (answers.Step × answers.Reply)
+  pub steps : List (Step × Reply)
   pub waiting : ℕ
-  -- how many forces were made, and how many of them before the trace
+  -- how many forces were made
   pub forces : ℕ
-  pub forced : ℕ
 
 abbrev pub point_of : {E : Type 0} → LockedState E → Point E
-point_of s = record { engine = s.engine; seen = seen_of s.trace; waiting = s.waiting; forces = s.forces; forced = 0 }
+point_of s = record { engine = s.engine; steps = s.trace; waiting = s.waiting; forces = s.forces }
 
 abbrev pub point_in : {E : Type 0} → State E → Point E
-point_in s = record { engine = s.engine; seen = trace_of s.trace; waiting = s.waiting; forces = s.forces; forced = s.forced }
+point_in s = record { engine = s.engine; steps = s.history; waiting = s.waiting; forces = s.forces }
 
 -- This step was made, and answered so.
 pub record IsStepOf {E : Type 0} (made : E → Step → Reply → E → Type 0) (step : Step) (reply : Reply) : Type 0 where
@@ -36,28 +35,32 @@ pub record IsStepOf {E : Type 0} (made : E → Step → Reply → E → Type 0) 
   pub step_made : made was step reply now
 
 module _ {E : Type 0} (d : Ghosts E) where
-  -- What always holds behind the lock: where the engine tells what it holds the trace is a run that ends in it; as many forces were made as the trace
-  -- answered Done, and those wait whose Commit was answered More since.
+  -- What always holds behind the lock: the steps were made, one after the other, of the engine that lies there; where it tells what it holds they are a run that ends
+  -- in it; and as many forces were made as were answered Done, and those wait whose Commit was answered More since.
   pub record IsHeld (p : Point E) : Type 0 where
-    pub run : d.tells → (base : List Entry) × IsRun d.life base p.seen p.engine
-    pub counted : p.forces ≡ p.forced + forces_in p.seen
-    pub waits : (p.waiting ≡ waits_in 0 p.seen) × (p.waiting ≡ d.waiting p.engine)
+    pub made : WereMade d p.steps p.engine
+    pub run : d.tells → (base : List Entry) × IsRun d.life base (seen_of p.steps) p.engine
+    pub counted : p.forces ≡ forces_in (seen_of p.steps)
+    pub waits : (p.waiting ≡ waits_in 0 (seen_of p.steps)) × (p.waiting ≡ d.waiting p.engine)
 
-  -- Behind the lock more forces than so many had been made; or this caller made one.
-  pub data IsForced (n : ℕ) : Type 0 where
-    by_another : (p : Point E) → IsHeld p → n < p.forces → IsForced n
-    by_caller : (reply : Reply) → told_by reply ≡ answers.Done → IsStepOf d.made steps.Force reply → IsForced n
+  -- Behind the lock more forces than so many had been made.
+  pub record IsForced (n : ℕ) : Type 0 where
+    pub point : Point E
+    pub held : IsHeld point
+    pub more : n < point.forces
 
   -- Behind the lock the Commit was the last step, and waits for a force.
   pub record IsLast (t : ℕ) (p : Point E) : Type 0 where
     pub held : IsHeld p
-    pub older : List (answers.Step × answers.Reply)
-    pub last : p.seen ≡ older ++ (answers.Commit t, answers.More) ∷ []
+    pub older : List (Step × Reply)
+    pub reply : Reply
+    pub told : told_by reply ≡ answers.More
+    pub last : p.steps ≡ older ++ (steps.Commit t, reply) ∷ []
 
   -- The Commit was made, and answered Committed; or it was answered More, and a force came after it.
   pub data IsAcknowledged (t : ℕ) : Type 0 where
     at_once : (reply : Reply) → told_by reply ≡ answers.Committed → IsStepOf d.made (steps.Commit t) reply → IsAcknowledged t
-    by_force : (reply : Reply) → told_by reply ≡ answers.More → IsStepOf d.made (steps.Commit t) reply → (p : Point E) → IsLast t p → IsForced p.forces → IsAcknowledged t
+    by_force : (p : Point E) → IsLast t p → IsForced p.forces → IsAcknowledged t
 
   -- Why no force came: it was made, and refused so; the store has failed; or no more steps are made.
   abbrev pub IsNotForced : Fault → Type 0
@@ -67,7 +70,7 @@ module _ {E : Type 0} (d : Ghosts E) where
   abbrev pub IsNotAcknowledged : ℕ → Fault → Type 0
   IsNotAcknowledged t fault = IsStepOf d.made (steps.Commit t) (replies.Refused fault) ⊎ IsNotForced fault
 
-  -- Behind the lock nobody waited for a force; or one came after.
+  -- Behind the lock the store worked and nobody waited for a force; or one came after.
   pub data IsSettled : Type 0 where
-    none_waits : (p : Point E) → IsHeld p → p.waiting ≡ 0 → IsSettled
+    none_waits : (p : Point E) → IsHeld p → (d.broken p.engine → ⊥) → p.waiting ≡ 0 → IsSettled
     by_force : (p : Point E) → IsHeld p → IsForced p.forces → IsSettled

@@ -11,6 +11,8 @@ use Rattle.im_theory_machine.specs.Machine.{Run, start}
 use Rattle.im_front_stats.specs.Counts.{started, committed_count, rolled_back, IsSound}
 use Rattle.im_base_types.specs.declared.fault.Fault.{Fault}
 use Rattle.im_base_types.specs.declared.fault.Fault.TheVariants.{Failed, Busy, TraceFull}
+use Rattle.im_base_steps.specs.declared.step.Step.{Step as Steps}
+use Rattle.im_base_steps.specs.declared.reply.Reply.{Reply as Replies}
 use Rattle.im_front.specs.declared.recorded.Recorded.{Recorded}
 use Rattle.im_front.specs.Traces.{trace_of}
 use Rattle.im_base_steps.specs.Calls.{is_blocked, is_force}
@@ -32,9 +34,10 @@ pub record State (E : Type 0) : Type 0 where
   pub counts : List ℕ
   -- how many transactions wait for a force
   pub waiting : ℕ
-  -- how many forces were made, and how many of them before the trace
+  -- how many forces were made
   pub forces : ℕ
-  pub forced : ℕ
+  -- every step that was made, those that were cut among them
+  pub history : List (Steps × Replies)
   -- how many shares were handed out
   pub handed : ℕ
 
@@ -72,12 +75,12 @@ module _ {E : Type 0} (step : Step) (reply : Reply) (old new : State E) (before 
 
   -- neither recorded nor counted
   abbrev pub Stays : Type 0
-  Stays = (new.trace ≡ old.trace) × (after ≡ before)
+  Stays = (new.trace ≡ old.trace) × (after ≡ before) × (new.history ≡ old.history)
 
   -- A step under the lock: it is recorded with the reply that is answered, and counted in the share; not where it is Blocked or the trace is
   -- full, and perhaps not where memory is wanting. Where the trace is full, or has no memory for it, it is not made.
   pub record Records : Type 0 where
-    pub base : (new.base ≡ old.base) × (new.cut ≡ old.cut) × (new.kept ≡ old.kept) × (new.forced ≡ old.forced) × (new.handed ≡ old.handed)
+    pub base : (new.base ≡ old.base) × (new.cut ≡ old.cut) × (new.kept ≡ old.kept) × (new.handed ≡ old.handed)
     pub adds : is_blocked reply ≡ false → is_full reply ≡ false → lacks_memory reply ≡ false → Adds
     pub blocked : is_blocked reply ≡ true → Stays
     pub full : is_full reply ≡ true → Stays × (new.engine ≡ old.engine)

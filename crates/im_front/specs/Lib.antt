@@ -2,6 +2,7 @@ pub mod Acknowledged
 pub mod Events
 pub mod Held
 pub mod Line
+pub mod Made
 pub mod Locked
 pub mod Traces
 pub mod Writing

@@ -98,10 +98,10 @@ impl<E: Store, L: Ledger> Front<E, L> {
         self.callers.come();
         let mut held = self.held.lock(rt);
         let reply = held.step(rt, mine, &step);
+        held.law_holds_always();
         self.callers.tell(&step, &reply);
         let done = match reply {
             Reply::More => {
-                held.law_holds_always();
                 let forces = held.forces();
                 return self.settle_all(rt, mine, held, forces);
             }
@@ -136,7 +136,7 @@ impl<E: Store, L: Ledger> Front<E, L> {
         }
     }
 
-    // Waits for the next force, or makes it, and goes.
+    // Waits for the next force, or makes it and sees that it is made, and goes. It makes one at most.
     fn settle_all<R: Wait>(
         &self,
         rt: &R,
@@ -148,23 +148,31 @@ impl<E: Store, L: Ledger> Front<E, L> {
         ensures causes { IfErr result (λ fault. IsNotForced E.Store fault ⊎ (fault ≡ Memory)) }
         ensures few { (mine.old.made.amount ≤ mine.new.made.amount) × (mine.new.made.amount ≤ mine.old.made.amount + 1) }
     {
-        let mut held = self.callers.sleep_until_due(rt, held, forces);
-        let done = if held.is_settled(forces) {
+        let mut held = held;
+        let mut is_made = false;
+        for _ in rt.forever() {
+            held = self.callers.sleep_until_due(rt, held, forces);
             held.law_holds_always();
-            Ok(())
-        } else if held.pace().failed {
-            Err(Fault::Failed)
-        } else {
+            if held.is_settled(forces) {
+                self.callers.go(held.pace());
+                return Ok(());
+            }
+            if held.pace().failed {
+                self.callers.go(held.pace());
+                return Err(Fault::Failed);
+            }
+            if is_made {
+                continue;
+            }
             let reply = held.step(rt, mine, &Step::Force);
             self.callers.tell(&Step::Force, &reply);
-            match reply {
-                Reply::Done => Ok(()),
-                Reply::Refused(fault) => Err(fault),
-                _ => Err(Fault::Failed),
+            if let Reply::Refused(fault) = reply {
+                self.callers.go(held.pace());
+                return Err(fault);
             }
-        };
-        self.callers.go(held.pace());
-        done
+            is_made = true;
+        }
+        unreachable!()
     }
 
     /// Makes what is committed the base of the trace, and empties it. Refused `Failed`, then `Busy` while a transaction is active,

@@ -1,6 +1,6 @@
 //! What lies under the lock.
 
-ghost use Rattle.std.specs.Prelude.{◌≡◌, ◌<◌, ◌≤◌, ◌^◌, ◌+◌, ◌↔◌, ◌⊎◌, List, true, false, [], length, vec_len, vec_capacity, slice_index, Err, IfOk, IfErr, OnErr, IfSome, IsSome};
+ghost use Rattle.std.specs.Prelude.{◌≡◌, ◌<◌, ◌≤◌, ◌^◌, ◌+◌, ◌↔◌, ◌⊎◌, List, true, false, [], ◌∷◌, ◌++◌, length, vec_len, vec_capacity, slice_index, Err, IfOk, IfErr, OnErr, IfSome, IsSome};
 ghost use Rattle.std.specs.List.{sum_by, All};
 ghost use Rattle.std.specs.Arc.{arc_value};
 ghost use Rattle.std.specs.FinMap.{entries};
@@ -10,17 +10,21 @@ ghost use Rattle.im_base_types.specs.Lives.{Shown};
 ghost use Rattle.im_theory_machine.specs.View.{View};
 ghost use Rattle.im_front_stats.specs.Counts.{nothing, writer, IsSound, NoLess};
 ghost use Rattle.im_base_types.specs.declared.fault.Fault.TheVariants.{Failed, Busy, TooMany, TraceFull, Memory};
-ghost use Rattle.im_base_steps.specs.Calls.{asked_by, told_by, may_end, most_entries, most_key};
+ghost use Rattle.im_base_steps.specs.Calls.{asked_by, told_by, is_blocked, may_end, most_entries, most_key};
 ghost use Rattle.im_front.specs.Traces.{trace_of};
+ghost use Rattle.im_front.specs.Made.{EndsIn};
+ghost use Rattle.im_front.specs.Locked.{seen_of};
+ghost use Rattle.im_front.specs.Acknowledged.{point_in, IsHeld};
 ghost use Rattle.im_base_steps.specs.Replies.{is_full, lacks_memory, IsReply};
 ghost use Rattle.im_theory_store_trait.specs.Store.{LookKept};
 ghost use Rattle.im_front.specs.Cuts.{ComesFirst};
-ghost use Rattle.im_front.specs.Held.{IsCounted, IsResting, Records, IsRun, StopKeeps, IsCut, WhyNotCut, after_reply, waits_in, force_of, forces_in};
+ghost use Rattle.im_front.specs.Held.{IsCounted, IsResting, Records, IsRun, StopKeeps, IsCut, WhyNotCut, after_reply, waits_in, force_of};
 
 use crate::callers::{Behind, Pace};
 use crate::recorded::Recorded;
 use crate::share::Share;
 use crate::told::{Room, Told};
+use crate::trace::Trace;
 use im_base_steps::{Reply, Step};
 use im_base_types::{Fault, Key, Rid};
 use im_front_stats::{Pass, StatsCell};
@@ -52,9 +56,10 @@ pub struct Held<E: Store, L: Ledger> {
     counts: [u64; 3],
     // How many transactions wait for a force
     waiting: u64,
-    // How many forces were made, and how many of them before the trace
+    // How many forces were made
     forces: u64,
-    forced: u64,
+    // Every step that was made, for proofs alone
+    history: Trace,
     // How many steps were made since the first of those that wait came to
     passed: u64,
     book: Book<L>,
@@ -70,13 +75,15 @@ impl<E: Store, L: Ledger> Model for Held<E, L> {
     ghost use Rattle.crossbeam_utils.specs.Seq.{cell_view};
     ghost use Rattle.im_front_stats.specs.Counts.{writer};
     ghost use Rattle.im_front.specs.Traces.{trace_of};
-    ghost use Rattle.im_front.specs.Held.{State, IsTallied, Stands, forces_in};
+    ghost use Rattle.im_front.specs.Made.{EndsIn, WereMade};
+    ghost use Rattle.im_front.specs.Locked.{StandsFrom, seen_of};
+    ghost use Rattle.im_front.specs.Held.{State, IsTallied, Stands, forces_in, waits_in};
 
     ghost Value = { State E };
 
-    ghost view = { λ h. record { engine = h.engine; base = h.base.items; trace = h.trace.items; cut = h.cut; kept = h.kept; counts = (cell_view h.pass).seen; waiting = h.waiting; forces = h.forces; forced = h.forced; handed = h.handed } };
+    ghost view = { λ h. record { engine = h.engine; base = h.base.items; trace = h.trace.items; cut = h.cut; kept = h.kept; counts = (cell_view h.pass).seen; waiting = h.waiting; forces = h.forces; history = h.history.steps; handed = h.handed } };
 
-    ghost invariant = { λ h. (E.tells → Stands E.life h.base.items (trace_of h.trace.items) h.engine) × IsTallied (trace_of h.trace.items) (E.actives h.engine) (E.waiting h.engine) h.cut h.kept h.counts × (h.book.total ≡ h.cut + length h.trace.items) × (h.rest.parts + h.handed ≡ 1024) × (h.rest.amount ≡ 0) × (h.pass.table_id ≡ (arc_value h.cell).table.shared.table_id) × (cell_view h.pass ≡ writer h.counts) × (h.waiting ≡ E.waiting h.engine) × (h.forces ≡ h.forced + forces_in (trace_of h.trace.items)) × (h.forces ≤ h.cut + length h.trace.items) };
+    ghost invariant = { λ h. (E.tells → Stands E.life h.base.items (trace_of h.trace.items) h.engine) × IsTallied (trace_of h.trace.items) (E.actives h.engine) (E.waiting h.engine) h.cut h.kept h.counts × (h.book.total ≡ h.cut + length h.trace.items) × (h.rest.parts + h.handed ≡ 1024) × (h.rest.amount ≡ 0) × (h.pass.table_id ≡ (arc_value h.cell).table.shared.table_id) × (cell_view h.pass ≡ writer h.counts) × (h.waiting ≡ E.waiting h.engine) × (h.forces ≡ forces_in (seen_of h.history.steps)) × (h.forces ≤ h.cut + length h.trace.items) × WereMade E.Store h.history.steps h.engine × (E.tells → StandsFrom E.life h.history.steps h.engine) × EndsIn (seen_of h.history.steps) h.cut (trace_of h.trace.items) × (h.waiting ≡ waits_in 0 (seen_of h.history.steps)) };
 }
 
 /// What is left of a front.
@@ -127,7 +134,7 @@ impl<E: Store, L: Ledger> Held<E, L> {
             counts: [0; 3],
             waiting: 0,
             forces: 0,
-            forced: 0,
+            history: Trace::new(),
             passed: 0,
             book,
             rest,
@@ -138,15 +145,16 @@ impl<E: Store, L: Ledger> Held<E, L> {
     }
 
     /// What always holds of the value behind the lock. Over an engine that tells what it holds the trace is a run that ends in it,
-    /// and a stop keeps what the trace acknowledged. Over any engine each reply of the trace suits its step, the counts that were
-    /// written last to the cell are those of the trace, added to those of the steps cut, those wait for a force whose Commit was answered
-    /// `More` since the last force, as many forces were made as those that it answered `Done`, and what was started has ended or is active. It
-    /// does nothing: its contract says so.
+    /// and a stop keeps what the trace acknowledged. Over any engine every step was made, one after the other, and the trace has the last of them;
+    /// each reply of the trace suits its step, the counts that were written last to the cell are those of the trace, added to those of the steps
+    /// cut, those wait for a force whose Commit was answered `More` since the last force, as many forces were made as were answered `Done`, and
+    /// what was started has ended or is active. It does nothing: its contract says so.
     pub fn law_holds_always(&self)
         ensures run { E.tells → IsRun E.life self.now.base (trace_of self.now.trace) self.now.engine }
         ensures stops { E.tells → StopKeeps E.leaves self.now.base (trace_of self.now.trace) self.now.engine }
-        ensures waiting { (self.now.waiting ≡ waits_in 0 (trace_of self.now.trace)) × (self.now.waiting ≡ E.waiting self.now.engine) }
-        ensures forces { self.now.forces ≡ self.now.forced + forces_in (trace_of self.now.trace) }
+        ensures held { IsHeld E.Store (point_in self.now) }
+        ensures ends { EndsIn (seen_of self.now.history) self.now.cut (trace_of self.now.trace) }
+        ensures waiting { self.now.waiting ≡ waits_in 0 (trace_of self.now.trace) }
         ensures counted { IsCounted (trace_of self.now.trace) (E.actives self.now.engine) self.now.kept self.now.counts }
         ensures handed { self.now.handed ≤ 1024 }
     {
@@ -190,10 +198,10 @@ impl<E: Store, L: Ledger> Held<E, L> {
     /// while a transaction is active, then `TraceFull` where the steps cut would pass 2^62, then as `entries` is; the trace and
     /// its base stay then.
     pub fn cut_trace(&mut self) -> Result<(), Fault>
-        ensures ok { IfOk result (λ _. (self.new.trace ≡ []) × (self.new.cut ≡ self.old.cut + length self.old.trace) × (self.new.kept ≡ self.old.counts) × (self.new.forced ≡ self.old.forces)) }
+        ensures ok { IfOk result (λ _. (self.new.trace ≡ []) × (self.new.cut ≡ self.old.cut + length self.old.trace) × (self.new.kept ≡ self.old.counts)) }
         ensures base { IfOk result (λ _. E.tells → IsCut self.old.base self.new.base (trace_of self.old.trace)) }
-        ensures same { (self.new.counts ≡ self.old.counts) × (self.new.waiting ≡ self.old.waiting) × (self.new.forces ≡ self.old.forces) × (self.new.handed ≡ self.old.handed) }
-        ensures err { OnErr result ((self.new.trace ≡ self.old.trace) × (self.new.base ≡ self.old.base) × (self.new.cut ≡ self.old.cut) × (self.new.kept ≡ self.old.kept) × (self.new.forced ≡ self.old.forced)) }
+        ensures same { (self.new.counts ≡ self.old.counts) × (self.new.waiting ≡ self.old.waiting) × (self.new.forces ≡ self.old.forces) × (self.new.history ≡ self.old.history) × (self.new.handed ≡ self.old.handed) }
+        ensures err { OnErr result ((self.new.trace ≡ self.old.trace) × (self.new.base ≡ self.old.base) × (self.new.cut ≡ self.old.cut) × (self.new.kept ≡ self.old.kept)) }
         ensures cause { IfErr result (λ fault. WhyNotCut E.Store self.old self.new fault) }
         ensures first { ComesFirst E.Store self.old.engine result }
     {
@@ -215,14 +223,11 @@ impl<E: Store, L: Ledger> Held<E, L> {
             cut,
             kept,
             counts,
-            forces,
-            forced,
             ..
         } = self;
         *base = engine.entries(*alloc)?;
         *cut += trace.len() as u64;
         *kept = *counts;
-        *forced = *forces;
         trace.clear();
         Ok(())
     }
@@ -283,6 +288,7 @@ impl<E: Store, L: Ledger> Held<E, L> {
     /// there is no room; the step is not made then. Every other reply is the engine's.
     pub fn step<R: Wait>(&mut self, rt: &R, mine: &mut Share<L>, step: &Step) -> Reply
         ensures records { Records (asked_by step.now) (told_by result) self.old self.new mine.old.made.amount mine.new.made.amount }
+        ensures adds { is_blocked (told_by result) ≡ false → is_full (told_by result) ≡ false → lacks_memory (told_by result) ≡ false → self.new.history ≡ self.old.history ++ (step.now, result) ∷ [] }
         ensures full { is_full (told_by result) ≡ true ↔ ((65536 ≤ length self.old.trace) × (may_end self.old.waiting (asked_by step.now) ≡ false)) }
         ensures made { is_full (told_by result) ≡ false → lacks_memory (told_by result) ≡ false → E.made self.old.engine step.now result self.new.engine }
     {
@@ -296,6 +302,7 @@ impl<E: Store, L: Ledger> Held<E, L> {
             counts,
             waiting,
             forces,
+            history,
             passed,
             book,
             cell,
@@ -314,6 +321,7 @@ impl<E: Store, L: Ledger> Held<E, L> {
         *waiting = step.waits_after(*waiting, &reply);
         *forces = forces_after(*forces, step, &reply);
         *passed = passed_after(*passed, *waiting);
+        *history = history.with(step, &reply);
         trace.push_reserved(Recorded {
             step: asked,
             reply: told,
@@ -327,7 +335,8 @@ impl<E: Store, L: Ledger> Held<E, L> {
 
 impl<E: Store, L: Ledger> Behind for Held<E, L> {
     fn pace(&self) -> Pace
-        ensures { result.waiting ≡ self.now.waiting }
+        ensures waiting { result.waiting ≡ self.now.waiting }
+        ensures failed { result.failed ≡ true ↔ E.broken self.now.engine }
     {
         Pace {
             waiting: self.waiting,

@@ -9,9 +9,9 @@ ghost use Rattle.im_base_types.specs.declared.fault.Fault.TheVariants.{TooMany, 
 ghost use Rattle.im_base_steps.specs.Calls.{told_by, is_blocked};
 ghost use Rattle.im_front.specs.Traces.{counts_of};
 ghost use Rattle.im_base_steps.specs.Replies.{is_full, IsReply};
-ghost use Rattle.im_front.specs.Held.{IsCounted, waits_in, forces_in};
+ghost use Rattle.im_front.specs.Held.{IsCounted};
 ghost use Rattle.im_front.specs.Locked.{none, seen_of, GoesOn, IsKeptFrom};
-ghost use Rattle.im_front.specs.Acknowledged.{IsAcknowledged, IsForced, IsNotAcknowledged, IsNotForced, IsSettled, IsStepOf};
+ghost use Rattle.im_front.specs.Acknowledged.{point_of, IsAcknowledged, IsForced, IsHeld, IsNotAcknowledged, IsNotForced, IsSettled, IsStepOf};
 
 use crate::callers::{Behind, Callers, Pace};
 use crate::held::{counted, forces_after, passed_after, publish};
@@ -54,6 +54,7 @@ impl<E: Store> Model for Kept<E> {
     ghost use Rattle.std.specs.Arc.{arc_value};
     ghost use Rattle.crossbeam_utils.specs.Seq.{cell_view};
     ghost use Rattle.im_front_stats.specs.Counts.{writer};
+    ghost use Rattle.im_front.specs.Made.{WereMade};
     ghost use Rattle.im_front.specs.Held.{IsTallied, forces_in};
     ghost use Rattle.im_front.specs.Locked.{LockedState, StandsFrom, none, seen_of};
 
@@ -61,7 +62,7 @@ impl<E: Store> Model for Kept<E> {
 
     ghost view = { λ h. record { engine = h.engine; trace = h.trace.steps; counts = (cell_view h.pass).seen; waiting = h.waiting; forces = h.forces } };
 
-    ghost invariant = { λ h. (E.tells → StandsFrom E.life h.trace.steps h.engine) × IsTallied (seen_of h.trace.steps) (E.actives h.engine) (E.waiting h.engine) 0 none h.counts × (h.made ≡ length h.trace.steps) × (h.pass.table_id ≡ (arc_value h.cell).table.shared.table_id) × (cell_view h.pass ≡ writer h.counts) × (h.waiting ≡ E.waiting h.engine) × (h.forces ≡ forces_in (seen_of h.trace.steps)) × (h.forces ≤ length h.trace.steps) };
+    ghost invariant = { λ h. (E.tells → StandsFrom E.life h.trace.steps h.engine) × IsTallied (seen_of h.trace.steps) (E.actives h.engine) (E.waiting h.engine) 0 none h.counts × (h.made ≡ length h.trace.steps) × (h.pass.table_id ≡ (arc_value h.cell).table.shared.table_id) × (cell_view h.pass ≡ writer h.counts) × (h.waiting ≡ E.waiting h.engine) × (h.forces ≡ forces_in (seen_of h.trace.steps)) × (h.forces ≤ length h.trace.steps) × WereMade E.Store h.trace.steps h.engine };
 }
 
 /// What is left of a front.
@@ -104,9 +105,8 @@ impl<E: Store> Kept<E> {
 
     /// What always holds of the value behind the lock. It does nothing: its contract says so.
     pub fn law_holds_always(&self)
+        ensures held { IsHeld E.Store (point_of self.now) }
         ensures kept { E.tells → IsKeptFrom E.life E.leaves self.now.trace self.now.engine }
-        ensures waiting { (self.now.waiting ≡ waits_in 0 (seen_of self.now.trace)) × (self.now.waiting ≡ E.waiting self.now.engine) }
-        ensures forces { self.now.forces ≡ forces_in (seen_of self.now.trace) }
         ensures counted { IsCounted (seen_of self.now.trace) (E.actives self.now.engine) none self.now.counts }
     {
         let _made = self.made;
@@ -265,7 +265,8 @@ impl<E: Store> Kept<E> {
 
 impl<E: Store> Behind for Kept<E> {
     fn pace(&self) -> Pace
-        ensures { result.waiting ≡ self.now.waiting }
+        ensures waiting { result.waiting ≡ self.now.waiting }
+        ensures failed { result.failed ≡ true ↔ E.broken self.now.engine }
     {
         Pace {
             waiting: self.waiting,
@@ -341,10 +342,10 @@ impl<E: Store> Open<E> {
         self.callers.come();
         let mut held = self.held.lock(rt);
         let reply = held.step(rt, &step);
+        held.law_holds_always();
         self.callers.tell(&step, &reply);
         let done = match reply {
             Reply::More => {
-                held.law_holds_always();
                 let forces = held.forces();
                 return self.settle_all(rt, held, forces);
             }
@@ -378,7 +379,7 @@ impl<E: Store> Open<E> {
         }
     }
 
-    // Waits for the next force, or makes it, and goes.
+    // Waits for the next force, or makes it and sees that it is made, and goes.
     fn settle_all<R: Wait>(
         &self,
         rt: &R,
@@ -388,23 +389,26 @@ impl<E: Store> Open<E> {
         ensures forced { IfOk result (λ _. IsForced E.Store forces) }
         ensures causes { IfErr result (λ fault. IsNotForced E.Store fault) }
     {
-        let mut held = self.callers.sleep_until_due(rt, held, forces);
-        let done = if held.is_settled(forces) {
+        let mut held = held;
+        for _ in rt.forever() {
+            held = self.callers.sleep_until_due(rt, held, forces);
             held.law_holds_always();
-            Ok(())
-        } else if held.pace().failed {
-            Err(Fault::Failed)
-        } else {
+            if held.is_settled(forces) {
+                self.callers.go(held.pace());
+                return Ok(());
+            }
+            if held.pace().failed {
+                self.callers.go(held.pace());
+                return Err(Fault::Failed);
+            }
             let reply = held.step(rt, &Step::Force);
             self.callers.tell(&Step::Force, &reply);
-            match reply {
-                Reply::Done => Ok(()),
-                Reply::Refused(fault) => Err(fault),
-                _ => Err(Fault::Failed),
+            if let Reply::Refused(fault) = reply {
+                self.callers.go(held.pace());
+                return Err(fault);
             }
-        };
-        self.callers.go(held.pace());
-        done
+        }
+        unreachable!()
     }
 
     /// Started, committed and rolled back, as they were at one moment.

@@ -5,10 +5,9 @@ use Rattle.std.specs.Prelude.{IfErr}
 use Rattle.im_base_steps.specs.declared.step.Step.TheVariants as steps
 use Rattle.im_base_steps.specs.Calls.{told_by, is_blocked}
 use Rattle.im_base_steps.specs.Replies.{is_full, lacks_memory}
-use Rattle.im_front.specs.Traces.{trace_of}
-use Rattle.im_front.specs.Acknowledged.{IsForced, IsNotAcknowledged, IsAcknowledged}
+use Rattle.im_front.specs.Acknowledged.{point_in, IsForced, IsLast, IsNotAcknowledged, IsAcknowledged}
 use Rattle.im_front.specs.Acknowledged.IsAcknowledged.{at_once, by_force}
-use Rattle.im_front.proofs.Acknowledging.{not_acknowledged_whole, refused_whole, map_err, held_whole, last_whole, map_ok}
+use Rattle.im_front.proofs.Acknowledging.{not_acknowledged_whole, refused_whole, map_err, map_ok}
 use Rattle.im_front.proofs.front.Front.commit.Goals as goal
 use Rattle.im_front.proofs.front.Front.commit.Goals.{in-Committed, in-Refused, in_default}
 
@@ -19,12 +18,11 @@ returns-in-More-clause-acknowledged g c =
     let blocked : is_blocked (told_by c.step-reply.result) ≡ false = ap (λ r. is_blocked (told_by r)) more in
     let memory : lacks_memory (told_by c.step-reply.result) ≡ false = ap (λ r. lacks_memory (told_by r)) more in
     let at = c.forces-forces.ensures ∙ ap (λ s. s.forces) (c.deref-in-More.ensures ∙ sym c.deref.ensures) in
-    let grown = ap (λ s. trace_of s.trace) c.deref.ensures ∙ (c.step-reply.ensures.records.adds blocked full memory).0 in
-    let held = held_whole g.E.Store c.deref.result.now c.law_holds_always.ensures.run c.law_holds_always.ensures.forces c.law_holds_always.ensures.waiting in
-    let last = last_whole g.E.Store c.args.t c.deref.result.now _ c.step-reply.result held grown (ap told_by more) in
+    let grown = ap (λ s. s.history) c.deref.ensures ∙ c.step-reply.ensures.adds blocked full memory in
+    let held = c.law_holds_always.ensures.held in
+    let last : IsLast g.E.Store c.args.t (point_in c.deref.result.now) = record { held = held; older = _; reply = c.step-reply.result; told = ap told_by more; last = grown } in
     map_ok c.settle_all.result (IsForced g.E.Store c.forces-forces.result) (IsAcknowledged g.E.Store c.args.t)
-    (λ forced. by_force c.step-reply.result (ap told_by more) (record { was = _; now = _; step_made = c.step-reply.ensures.made full memory }) _ last
-    (subst (λ (n : ℕ). IsForced g.E.Store n) at forced))
+    (λ forced. by_force _ last (subst (λ (n : ℕ). IsForced g.E.Store n) at forced))
     c.settle_all.ensures.forced
 
 pub returns-clause-acknowledged : goal.returns-clause-acknowledged

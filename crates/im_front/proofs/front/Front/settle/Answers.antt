@@ -2,13 +2,13 @@ use Rattle.std.proofs.Common.{true≢false, ℕ, sym, ap, subst, ◌∙◌, arit
 use mathlib.Core.Bool.{not}
 use Rattle.im_front.specs.Acknowledged.{IsForced, IsSettled}
 use Rattle.im_front.specs.Acknowledged.IsSettled.{none_waits, by_force}
-use Rattle.im_front.proofs.Acknowledging.{held_whole, map_ok}
+use Rattle.im_front.proofs.Acknowledging.{map_ok}
 use Rattle.im_front.proofs.front.Front.settle.Goals as goal
 use Rattle.im_front.proofs.front.Front.settle.Goals.{else-pace-gt0-via-then-pace-gt0+else-not-pace, else-pace-gt0-via-else-pace-gt0}
 
 pub returns-then-not-pace-clause-settled : goal.returns-then-not-pace-clause-settled
 returns-then-not-pace-clause-settled g c =
-    let held = held_whole g.E.Store c.deref.result.now c.law_holds_always.ensures.run c.law_holds_always.ensures.forces c.law_holds_always.ensures.waiting in
+    let held = c.law_holds_always.ensures.held in
     let at = c.forces-forces.ensures ∙ ap (λ s. s.forces) (c.deref-then-not-pace.ensures ∙ sym c.deref.ensures) in
     map_ok c.settle_all.result (IsForced g.E.Store c.forces-forces.result) (IsSettled g.E.Store)
     (λ forced. by_force _ held (subst (λ (n : ℕ). IsForced g.E.Store n) at forced))
@@ -18,9 +18,10 @@ pub returns-clause-settled : goal.returns-clause-settled
 returns-clause-settled g c = elim c.else-pace-gt0.branch [
   | else-pace-gt0-via-then-pace-gt0+else-not-pace w ↦ absurd (true≢false (sym (ap not c.if-pace.false) ∙ w.if-not-pace.false))
   | else-pace-gt0-via-else-pace-gt0 w ↦
-      let held = held_whole g.E.Store c.deref.result.now c.law_holds_always.ensures.run c.law_holds_always.ensures.forces c.law_holds_always.ensures.waiting in
-      let same = ap (λ s. s.waiting) (c.deref.ensures ∙ sym c.deref-2.ensures) in
-      none_waits _ held (omega (arith, w.if-pace-gt0.false, c.pace-pace.ensures, same))
+      let held = c.law_holds_always.ensures.held in
+      let same = c.deref.ensures ∙ sym c.deref-2.ensures in
+      let waits = ap (λ s. s.waiting) same in
+      none_waits _ held (λ broken. true≢false (sym (c.pace-pace.ensures.failed.1 (subst (λ s. g.E.Store.broken s.engine) same broken)) ∙ c.if-pace.false)) (omega (arith, w.if-pace-gt0.false, c.pace-pace.ensures.waiting, waits))
 ]
 
 pub returns-then-not-pace-clause-causes : goal.returns-then-not-pace-clause-causes

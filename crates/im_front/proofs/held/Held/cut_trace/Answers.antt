@@ -7,8 +7,12 @@ use Rattle.im_front.specs.declared.recorded.Recorded.{Recorded}
 use Rattle.im_front.specs.Traces.{trace_of}
 use Rattle.im_front.specs.Events.{shown_in}
 use Rattle.im_front.specs.Cuts.{ComesFirst}
-use Rattle.im_front.specs.Held.{State, IsTallied, Stands, IsCut, forces_in}
-use Rattle.im_front.proofs.Steps.{stands_cut, stands_look, tallied_as, tallied_cut, none_waiting, rest_walk, is_cut, length-trace_of}
+use Rattle.im_front.specs.Made.{EndsIn}
+use Rattle.im_front.specs.Made.AreMade.{looked}
+use Rattle.im_front.specs.Locked.{seen_of}
+use Rattle.im_front.specs.Held.{State, IsTallied, Stands, IsCut}
+use Rattle.im_front.proofs.Growing.{ends_cut}
+use Rattle.im_front.proofs.Steps.{stands_cut, stands_life, stands_look, tallied_as, tallied_cut, none_waiting, rest_walk, is_cut, length-trace_of}
 use Rattle.im_front.proofs.Cuts.{told_failed, told_busy, told_else}
 use Rattle.im_front.proofs.held.Held.cut_trace.Goals as goal
 
@@ -29,6 +33,13 @@ invariant_of-self g c =
       i.7 ∙ sym c.in_err-base.ensures.waiting,
       i.8,
       i.9,
+      (i.10.0, looked c.self.inside.history.steps c.self.inside.engine c.entries.new.self i.10.1 c.in_err-base.ensures.looked),
+      (λ tells.
+          let h = i.11 tells in
+          let look = c.in_err-base.ensures.kept h.1.before (shown_in nothing_shown h.1.events) h.1.view h.1.life_is in
+          (h.0, stands_look g.E.Store.life h.0 (seen_of c.self.inside.history.steps) c.self.inside.engine h.1 c.entries.new.self look)),
+      i.12,
+      i.13,
     )
 
 pub invariant_of-self-2 : goal.invariant_of-self-2
@@ -61,8 +72,16 @@ invariant_of-self-2 g c =
       i.5,
       i.6,
       i.7 ∙ sym c.in_ok-base.ensures.waiting,
-      subst (λ (l : List Recorded). c.self.inside.forces ≡ c.self.inside.forces + forces_in (trace_of l)) none_left (omega arith),
+      i.8,
       (let empty_now = ap length c.clear.ensures.items in omega (arith, i.9, empty_now)),
+      (i.10.0, looked c.self.inside.history.steps c.self.inside.engine c.entries.new.self i.10.1 c.in_ok-base.ensures.looked),
+      (λ tells.
+          let h = i.11 tells in
+          let list = c.in_ok-base.ensures.list h.1.before (shown_in nothing_shown h.1.events) h.1.view h.1.life_is in
+          (h.0, stands_life g.E.Store.life h.0 (seen_of c.self.inside.history.steps) c.self.inside.engine h.1 c.entries.new.self list.1)),
+      subst (λ (l : List Recorded). EndsIn (seen_of c.self.inside.history.steps) (c.self.inside.cut + c.len-2.result) (trace_of l)) none_left
+          (subst (λ (n : ℕ). EndsIn (seen_of c.self.inside.history.steps) n []) cut (ends_cut (seen_of c.self.inside.history.steps) trace c.self.inside.cut i.12)),
+      i.13,
     )
 
 pub returns-clause-base : goal.returns-clause-base

@@ -4,6 +4,8 @@ use Rattle.std.specs.FinMap.{empty, entries}
 use Rattle.im_base_steps.specs.declared.step.Step.{Step}
 use Rattle.im_base_steps.specs.declared.reply.Reply.{Reply}
 use Rattle.im_front.specs.Held.{IsTallied, Stands}
+use Rattle.im_front.specs.Made.{WereMade}
+use Rattle.im_front.specs.Made.AreMade.{none as none_made}
 use Rattle.im_front.specs.Locked.{seen_of}
 use Rattle.im_front.proofs.Steps.{stands_new, tallied_new, none_waiting}
 use Rattle.im_front.proofs.open.Kept.new.Goals as goal
@@ -26,4 +28,5 @@ invariant_of-result g c =
       sym nobody,
       search rules,
       search rules,
+      subst (λ (l : List (Step × Reply)). WereMade g.E.Store l c.into_engine-engine.result) none (c.into_engine-engine.result, none_made),
     )

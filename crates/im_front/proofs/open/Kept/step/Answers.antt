@@ -7,6 +7,8 @@ use Rattle.im_base_steps.specs.Calls.{asked_by, told_by, is_blocked}
 use Rattle.im_front.specs.Events.{shown_in}
 use Rattle.im_base_steps.specs.Replies.{is_full, waits_after}
 use Rattle.im_front.specs.Held.{IsTallied, Stands, after_reply, forces_in}
+use Rattle.im_front.specs.Made.{WereMade}
+use Rattle.im_front.specs.Made.AreMade.{one_more, blocked}
 use Rattle.im_front.specs.Locked.{LockedState, none, seen_of}
 use Rattle.im_front.proofs.Replies.{blocked_counts}
 use Rattle.im_front.proofs.Steps.{stands_push, stands_blocked, tallied_as, tallied_push}
@@ -31,6 +33,7 @@ invariant_of-self g c =
       i.5 ∙ sym same.1,
       i.6,
       i.7,
+      (i.8.0, blocked c.self.inside.trace.steps c.self.inside.engine c.step-reply.new.self c.args.step.now c.step-reply.result i.8.1 c.step-reply.ensures.made b),
     )
 
 pub returns-then-is_blocked-clause-run : goal.returns-then-is_blocked-clause-run
@@ -74,6 +77,8 @@ invariant_of-self-2 g c =
       subst (λ (l : List (answers.Step × answers.Reply)). c.forces_after.result ≡ forces_in l) (sym seen)
           (omega (arith, c.forces_after.ensures.count, i.6, forces_push trace (asked_by c.args.step.now) (told_by c.step-reply.result))),
       omega (arith, c.forces_after.ensures.few, i.7, longer),
+      subst (λ (l : List (Step × Reply)). WereMade g.E.Store l c.step-reply.new.self) (sym grown)
+          (i.8.0, one_more steps c.self.inside.engine c.step-reply.new.self c.args.step.now c.step-reply.result i.8.1 c.step-reply.ensures.made),
     )
 
 pub returns-clause-adds : goal.returns-clause-adds

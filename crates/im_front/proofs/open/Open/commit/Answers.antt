@@ -4,9 +4,9 @@ use Rattle.std.specs.Prelude.{IfErr}
 use Rattle.im_base_steps.specs.declared.step.Step.TheVariants as steps
 use Rattle.im_base_steps.specs.Calls.{told_by, is_blocked}
 use Rattle.im_base_steps.specs.Replies.{is_full}
-use Rattle.im_front.specs.Acknowledged.{IsForced, IsNotAcknowledged, IsAcknowledged}
+use Rattle.im_front.specs.Acknowledged.{point_of, IsForced, IsLast, IsNotAcknowledged, IsAcknowledged}
 use Rattle.im_front.specs.Acknowledged.IsAcknowledged.{at_once, by_force}
-use Rattle.im_front.proofs.Acknowledging.{not_acknowledged, refused_plain, map_err, held_plain, last_plain, map_ok}
+use Rattle.im_front.proofs.Acknowledging.{not_acknowledged, refused_plain, map_err, map_ok}
 use Rattle.im_front.proofs.open.Open.commit.Goals as goal
 use Rattle.im_front.proofs.open.Open.commit.Goals.{in-Committed, in-Refused, in_default}
 
@@ -17,11 +17,10 @@ returns-in-More-clause-acknowledged g c =
     let blocked : is_blocked (told_by c.step-reply.result) ≡ false = ap (λ r. is_blocked (told_by r)) more in
     let at = c.forces-forces.ensures ∙ ap (λ s. s.forces) (c.deref-in-More.ensures ∙ sym c.deref.ensures) in
     let grown = ap (λ s. s.trace) c.deref.ensures ∙ c.step-reply.ensures.adds blocked full in
-    let held = held_plain g.E.Store c.deref.result.now c.law_holds_always.ensures.kept c.law_holds_always.ensures.forces c.law_holds_always.ensures.waiting in
-    let last = last_plain g.E.Store c.args.t c.deref.result.now _ c.step-reply.result held grown (ap told_by more) in
+    let held = c.law_holds_always.ensures.held in
+    let last : IsLast g.E.Store c.args.t (point_of c.deref.result.now) = record { held = held; older = _; reply = c.step-reply.result; told = ap told_by more; last = grown } in
     map_ok c.settle_all.result (IsForced g.E.Store c.forces-forces.result) (IsAcknowledged g.E.Store c.args.t)
-    (λ forced. by_force c.step-reply.result (ap told_by more) (record { was = _; now = _; step_made = c.step-reply.ensures.made full }) _ last
-    (subst (λ (n : ℕ). IsForced g.E.Store n) at forced))
+    (λ forced. by_force _ last (subst (λ (n : ℕ). IsForced g.E.Store n) at forced))
     c.settle_all.ensures.forced
 
 pub returns-clause-acknowledged : goal.returns-clause-acknowledged
