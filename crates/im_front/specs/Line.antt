@@ -1,8 +1,9 @@
 -- Who waits to begin, and for whom.
-use Rattle.std.specs.Prelude.{ℕ}
+use Rattle.std.specs.Prelude.{ℕ, ◌+◌, ◌-◌, ◌^◌, Bool, min, if◌then◌else◌}
 use Rattle.im_base_admission.specs.declared.asker.Asker.{Asker}
 use Rattle.im_base_admission.specs.declared.going.Going.{Going}
 use Rattle.im_base_admission.specs.Admission.{IsAwaited}
+use Rattle.im_front.specs.declared.line.Line.{Line}
 use Rattle.im_front.specs.declared.line.Turn.{Turn}
 
 -- A transaction is left alone where it made no step that was answered for ten ticks.
@@ -13,3 +14,32 @@ IsWaitedFor tick came = IsAwaited tick 10 0 came
 -- what a turn asks at a tick
 abbrev pub asker_of : Turn → (tick : ℕ) → Asker
 asker_of turn tick = record { ticket = turn.ticket; mine = turn.mine; came = turn.came; thread = 0; tick = tick; patience = 10 }
+
+-- ---- what a call makes of the line
+
+-- one more, as far as 64 bits go
+abbrev pub one_more : ℕ → ℕ
+one_more n = min (n + 1) (2 ^ 64 - 1)
+
+-- one comes, and has this turn
+abbrev pub with_one : Line → Line
+with_one l = record l { tickets = one_more l.tickets }
+
+abbrev pub next_turn : Line → Turn
+next_turn l = record { ticket = one_more l.tickets; mine = 0; agains = 0; came = l.tick }
+
+-- the turn of one that gave way, whose transaction had this number
+abbrev pub turn_again : Line → Turn → ℕ → Bool → Turn
+turn_again l turn number was_first = record { ticket = turn.ticket; mine = number; agains = if was_first then 0 else one_more turn.agains; came = l.tick }
+
+-- a tick passes
+abbrev pub ticked : Line → Line
+ticked l = record l { tick = one_more l.tick }
+
+-- the first one begins a transaction of this number
+abbrev pub first_begun : ℕ → Line → Line
+first_begun number l = record l { first_number = number; first_seen = l.tick }
+
+-- nobody is first any more
+abbrev pub none_first : Line → Line
+none_first l = record l { first = 0 }

@@ -3,9 +3,9 @@
 //! A transaction that is told to give way rolls back and begins again, as the youngest of all. If it began at once it would meet the same older ones, and be told
 //! so again, without end. So it waits until each older one has ended; and who has given way a few times is first: nobody begins before it.
 
-ghost use Rattle.std.specs.Prelude.{◌≡◌, ◌<◌, ◌≤◌, ◌+◌, ◌⊎◌, ◌↔◌, true, false};
+ghost use Rattle.std.specs.Prelude.{◌≡◌, ◌≢◌, ◌<◌, ◌≤◌, ◌+◌, ◌⊎◌, ◌↔◌, true, false};
 ghost use Rattle.std.specs.List.{All};
-ghost use Rattle.im_front.specs.Line.{IsWaitedFor, asker_of};
+ghost use Rattle.im_front.specs.Line.{IsWaitedFor, asker_of, first_begun, next_turn, none_first, ticked, turn_again, with_one};
 ghost use Rattle.im_base_admission.specs.Admission.{MayBegin};
 
 use im_base_admission::{Asker, FEW, Going, becomes_first, is_left_alone, may_begin, whose};
@@ -42,7 +42,9 @@ pub(crate) struct Turn {
 
 impl Turn {
     /// Whether it gave way so often that it may be first.
-    pub(crate) fn is_patient(&self) -> bool {
+    pub(crate) fn is_patient(&self) -> bool
+        ensures { result ≡ true ↔ (4 ≤ self.now.agains) }
+    {
         self.agains >= FEW
     }
 
@@ -91,7 +93,10 @@ impl Line {
     }
 
     /// A turn for one that begins for the first time.
-    pub(crate) fn come(&mut self) -> Turn {
+    pub(crate) fn come(&mut self) -> Turn
+        ensures turn { result ≡ next_turn self.old }
+        ensures line { self.new ≡ with_one self.old }
+    {
         self.tickets = self.tickets.saturating_add(1);
         Turn {
             ticket: self.tickets,
@@ -102,12 +107,17 @@ impl Line {
     }
 
     /// The tick that it is now.
-    pub(crate) fn now(&self) -> u64 {
+    pub(crate) fn now(&self) -> u64
+        ensures { result ≡ self.now.tick }
+    {
         self.tick
     }
 
     /// A hundredth of a second has passed since this tick, in which no other one that waits told so.
-    pub(crate) fn pass(&mut self, since: u64) {
+    pub(crate) fn pass(&mut self, since: u64)
+        ensures passed { self.old.tick ≡ since → self.new ≡ ticked self.old }
+        ensures other { self.old.tick ≢ since → self.new ≡ self.old }
+    {
         if self.tick == since {
             self.tick = self.tick.saturating_add(1);
         }
@@ -137,7 +147,10 @@ impl Line {
     }
 
     /// One begins with this turn: its transaction has this number.
-    pub(crate) fn begin(&mut self, turn: &Turn, number: TxnId) {
+    pub(crate) fn begin(&mut self, turn: &Turn, number: TxnId)
+        ensures first { self.old.first ≡ turn.now.ticket → self.new ≡ first_begun number self.old }
+        ensures other { self.old.first ≢ turn.now.ticket → self.new ≡ self.old }
+    {
         if self.first == turn.ticket {
             self.first_number = number;
             self.first_seen = self.tick;
@@ -146,7 +159,9 @@ impl Line {
 
     /// The turn of one that gave way, and has rolled back: it begins again. Where it was first it was told so beside one that was left alone, and waits
     /// as the others do.
-    pub(crate) fn come_again(&self, turn: &Turn, number: TxnId, was_first: bool) -> Turn {
+    pub(crate) fn come_again(&self, turn: &Turn, number: TxnId, was_first: bool) -> Turn
+        ensures { result ≡ turn_again self.now turn.now number was_first }
+    {
         Turn {
             ticket: turn.ticket,
             mine: number,
@@ -160,12 +175,17 @@ impl Line {
     }
 
     /// Whether this turn is first.
-    pub(crate) fn is_first(&self, turn: &Turn) -> bool {
+    pub(crate) fn is_first(&self, turn: &Turn) -> bool
+        ensures { result ≡ true ↔ (self.now.first ≡ turn.now.ticket) }
+    {
         self.first == turn.ticket
     }
 
     /// One with this turn goes away, or its transaction has ended: it is first no longer.
-    pub(crate) fn leave(&mut self, turn: &Turn) {
+    pub(crate) fn leave(&mut self, turn: &Turn)
+        ensures first { self.old.first ≡ turn.now.ticket → self.new ≡ none_first self.old }
+        ensures other { self.old.first ≢ turn.now.ticket → self.new ≡ self.old }
+    {
         if self.first == turn.ticket {
             self.first = 0;
         }
