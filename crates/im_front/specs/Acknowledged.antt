@@ -1,5 +1,5 @@
 -- What the answer of a front says: which step was made behind its lock, and that a force came after it.
-use Rattle.std.specs.Prelude.{◌≡◌, ◌⊎◌, ◌<◌, ℕ, List, [], ◌∷◌, ◌++◌}
+use Rattle.std.specs.Prelude.{◌≡◌, ◌⊎◌, ◌<◌, ◌≤◌, ◌^◌, ℕ, false, List, [], ◌∷◌, ◌++◌, length}
 use Rattle.im_base_types.specs.Pages.{Entry}
 use Rattle.im_base_types.specs.Answers as answers
 use Rattle.im_base_steps.specs.declared.step.Step.{Step}
@@ -8,7 +8,7 @@ use Rattle.im_base_steps.specs.declared.step.Step.TheVariants as steps
 use Rattle.im_base_steps.specs.declared.reply.Reply.TheVariants as replies
 use Rattle.im_base_types.specs.declared.fault.Fault.{Fault}
 use Rattle.im_base_types.specs.declared.fault.Fault.TheVariants.{Failed, TraceFull}
-use Rattle.im_base_steps.specs.Calls.{told_by}
+use Rattle.im_base_steps.specs.Calls.{told_by, may_end}
 use Rattle.im_theory_store_trait.specs.declared.store.Store.{Ghosts}
 use Rattle.im_front.specs.Made.{WereMade}
 use Rattle.im_front.specs.Held.{State, IsRun, waits_in, forces_in}
@@ -62,13 +62,36 @@ module _ {E : Type 0} (d : Ghosts E) where
     at_once : (reply : Reply) → told_by reply ≡ answers.Committed → IsStepOf d.made (steps.Commit t) reply → IsAcknowledged t
     by_force : (p : Point E) → IsLast t p → IsForced p.forces → IsAcknowledged t
 
-  -- Why no force came: it was made, and refused so; the store has failed; or no more steps are made.
-  abbrev pub IsNotForced : Fault → Type 0
-  IsNotForced fault = IsStepOf d.made steps.Force (replies.Refused fault) ⊎ (fault ≡ Failed) ⊎ (fault ≡ TraceFull)
+  -- Behind the lock the store was broken.
+  pub record IsBroken : Type 0 where
+    pub point : Point E
+    pub held : IsHeld point
+    pub broken : d.broken point.engine
+
+  -- Behind the lock as many steps had been made as are ever made.
+  pub record IsSpent : Type 0 where
+    pub point : Point E
+    pub held : IsHeld point
+    pub all : 2 ^ 62 ≤ length point.steps
+
+  -- Behind the lock the trace that is kept was full for this step: it has its most steps, and the step ends no transaction.
+  pub record IsFullFor (step : answers.Step) : Type 0 where
+    pub state : State E
+    pub held : IsHeld (point_in state)
+    pub most : 65536 ≤ length state.trace
+    pub ends_none : may_end state.waiting step ≡ false
+
+  -- Why a step was not made, by what was behind the lock: the store was broken; or the trace was full, which `Full` says.
+  abbrev pub IsGivenUp : Type 0 → Fault → Type 0
+  IsGivenUp Full fault = ((fault ≡ Failed) × IsBroken) ⊎ ((fault ≡ TraceFull) × Full)
+
+  -- Why no force came: it was made, and refused so; or it was not made.
+  abbrev pub IsNotForced : Type 0 → Fault → Type 0
+  IsNotForced Full fault = IsStepOf d.made steps.Force (replies.Refused fault) ⊎ IsGivenUp Full fault
 
   -- Why nothing was acknowledged: the Commit was made, and refused so; or no force came.
-  abbrev pub IsNotAcknowledged : ℕ → Fault → Type 0
-  IsNotAcknowledged t fault = IsStepOf d.made (steps.Commit t) (replies.Refused fault) ⊎ IsNotForced fault
+  abbrev pub IsNotAcknowledged : Type 0 → ℕ → Fault → Type 0
+  IsNotAcknowledged Full t fault = IsStepOf d.made (steps.Commit t) (replies.Refused fault) ⊎ IsNotForced Full fault
 
   -- Behind the lock the store worked and nobody waited for a force; or one came after.
   pub data IsSettled : Type 0 where

@@ -153,7 +153,7 @@ pub record IsCut (old new : List Entry) (trace : List (Step × Reply)) : Type 0 
 -- Why a cut is refused: the engine has failed; a transaction is active; too many steps were cut; as the entries are.
 module _ {E : Type 0} (d : Ghosts E) (old new : State E) where
   abbrev pub WhyFailed : Fault → Type 0
-  WhyFailed fault = (new ≡ old) × (fault ≡ Failed) × ((before : List Effect) (s : Shown) (v : View) → d.life before s v old.engine → v.failed ≡ true)
+  WhyFailed fault = (new ≡ old) × (fault ≡ Failed) × d.broken old.engine × ((before : List Effect) (s : Shown) (v : View) → d.life before s v old.engine → v.failed ≡ true)
 
   abbrev pub WhyBusy : Fault → Type 0
   WhyBusy fault = (new ≡ old) × (fault ≡ Busy) × (0 < d.actives old.engine) × ((before : List Effect) (s : Shown) (v : View) → d.life before s v old.engine → (v.failed ≡ false) × (0 < v.active))

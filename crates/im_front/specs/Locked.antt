@@ -8,6 +8,7 @@ use Rattle.im_theory_machine.specs.View.{View}
 use Rattle.im_base_steps.specs.declared.step.Step.{Step}
 use Rattle.im_base_steps.specs.declared.reply.Reply.{Reply}
 use Rattle.im_base_steps.specs.Calls.{asked_by, told_by}
+use Rattle.im_front.specs.declared.line.Line.{Line}
 use Rattle.im_front.specs.Held.{Stands, IsRun, StopKeeps}
 
 -- the value behind the lock, as contracts see it
@@ -20,6 +21,8 @@ pub record LockedState (E : Type 0) : Type 0 where
   pub waiting : ℕ
   -- how many forces were made
   pub forces : ℕ
+  -- who waits to begin, and for whom
+  pub line : Line
 
 -- the counts of an empty trace
 abbrev pub none : List ℕ

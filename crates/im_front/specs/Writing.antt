@@ -8,18 +8,17 @@ use Rattle.im_base_steps.specs.declared.reply.Reply.TheVariants as replies
 use Rattle.im_base_steps.specs.Calls.{told_by}
 use Rattle.im_theory_store_trait.specs.declared.store.Store.{Ghosts}
 use Rattle.im_base_types.specs.declared.fault.Fault.{Fault}
-use Rattle.im_base_types.specs.declared.fault.Fault.TheVariants.{Failed, TraceFull}
 use Rattle.im_front.specs.declared.stop.Stop.{Stop}
 use Rattle.im_front.specs.declared.stop.Stop.TheVariants as stops
-use Rattle.im_front.specs.Acknowledged.{IsStepOf, IsAcknowledged}
+use Rattle.im_front.specs.Acknowledged.{IsStepOf, IsAcknowledged, IsGivenUp, IsSpent}
 
--- Why a step came to nothing: it was made, and refused so; the store has failed; or no more steps are made.
-abbrev pub CameToNothing : {E : Type 0} → Ghosts E → Fault → Type 0
-CameToNothing d fault = ((step : Step) × IsStepOf d.made step (replies.Refused fault)) ⊎ (fault ≡ Failed) ⊎ (fault ≡ TraceFull)
+-- Why a step came to nothing: it was made, and refused so; or it was not made, since the store was broken or the trace full.
+abbrev pub CameToNothing : {E : Type 0} → Ghosts E → Type 0 → Fault → Type 0
+CameToNothing d Full fault = ((step : Step) × IsStepOf d.made step (replies.Refused fault)) ⊎ IsGivenUp d Full fault
 
 -- Why work was not done: it was run, and stopped for this fault; or a step came to nothing.
 abbrev pub IsUnwritten : {E F T : Type 0} → Ghosts E → (F → ℕ → Result T Stop → F → Type 0) → Fault → Type 0
-IsUnwritten {E} {F} {T} d runs fault = ((f : F) × (t : ℕ) × (after : F) × runs f t (Err (stops.Refused fault)) after) ⊎ CameToNothing d fault
+IsUnwritten {E} {F} {T} d runs fault = ((f : F) × (t : ℕ) × (after : F) × runs f t (Err (stops.Refused fault)) after) ⊎ CameToNothing d (IsSpent d) fault
 
 -- A Begin was made, and answered this number.
 abbrev pub IsBegun : {E : Type 0} → (E → Step → Reply → E → Type 0) → ℕ → Type 0

@@ -5,15 +5,16 @@ ghost use Rattle.std.specs.List.{sum_by, All};
 ghost use Rattle.im_base_types.specs.Changes.{Effect};
 ghost use Rattle.im_base_types.specs.Lives.{Shown};
 ghost use Rattle.im_theory_machine.specs.View.{View};
+ghost use Rattle.im_base_types.specs.Answers.{Force};
 ghost use Rattle.im_front_stats.specs.Counts.{NoLess};
-ghost use Rattle.im_base_types.specs.declared.fault.Fault.TheVariants.{Busy, Failed, Memory, TooMany, TraceFull};
-ghost use Rattle.im_base_steps.specs.Calls.{told_by, is_blocked};
+ghost use Rattle.im_base_types.specs.declared.fault.Fault.TheVariants.{Memory, TooMany};
+ghost use Rattle.im_base_steps.specs.Calls.{asked_by, told_by, is_blocked};
 ghost use Rattle.im_front.specs.Traces.{trace_of, counts_of};
-ghost use Rattle.im_base_steps.specs.Replies.{is_full, lacks_memory, IsReply};
+ghost use Rattle.im_base_steps.specs.Replies.{is_full, lacks_memory, IsReply, Suits};
 ghost use Rattle.im_theory_store_trait.specs.Store.{LookKept};
 ghost use Rattle.im_front.specs.Held.{IsResting, IsRun, StopKeeps};
-ghost use Rattle.im_front.specs.Cuts.{WasCut};
-ghost use Rattle.im_front.specs.Acknowledged.{IsAcknowledged, IsForced, IsNotAcknowledged, IsNotForced, IsSettled, IsStepOf};
+ghost use Rattle.im_front.specs.Cuts.{WasCut, WasNotCut};
+ghost use Rattle.im_front.specs.Acknowledged.{IsAcknowledged, IsForced, IsFullFor, IsNotAcknowledged, IsNotForced, IsSettled, IsStepOf};
 
 use crate::callers::{Behind, Callers};
 use crate::held::{Closed, Held};
@@ -63,6 +64,8 @@ impl<E: Store, L: Ledger> Front<E, L> {
     pub fn call<R: Wait>(&self, rt: &R, mine: &mut Share<L>, step: Step) -> Reply
         ensures unblocked { is_blocked (told_by result) ≡ false }
         ensures made { is_full (told_by result) ≡ false → lacks_memory (told_by result) ≡ false → IsStepOf E.made step result }
+        ensures suits { is_full (told_by result) ≡ false → lacks_memory (told_by result) ≡ false → Suits (asked_by step) (told_by result) }
+        ensures spent { is_full (told_by result) ≡ true → IsFullFor E.Store (asked_by step) }
         ensures counted { is_full (told_by result) ≡ false → lacks_memory (told_by result) ≡ false → mine.new.made.amount ≡ mine.old.made.amount + 1 }
         ensures full { is_full (told_by result) ≡ true → mine.new.made.amount ≡ mine.old.made.amount }
         ensures once { (mine.new.made.amount ≡ mine.old.made.amount + 1) ⊎ (mine.new.made.amount ≡ mine.old.made.amount) }
@@ -72,6 +75,7 @@ impl<E: Store, L: Ledger> Front<E, L> {
         for _ in rt.forever() {
             let reply = held.step(rt, mine, &step);
             if !reply.is_blocked() {
+                held.law_holds_always();
                 self.callers.tell(&step, &reply);
                 self.callers.go(held.pace());
                 return reply;
@@ -91,7 +95,7 @@ impl<E: Store, L: Ledger> Front<E, L> {
     pub fn commit<R: Wait>(&self, rt: &R, mine: &mut Share<L>, t: TxnId) -> Result<(), Fault>
         ensures made { IfOk result (λ _. mine.old.made.amount + 1 ≤ mine.new.made.amount) }
         ensures acknowledged { IfOk result (λ _. IsAcknowledged E.Store t) }
-        ensures causes { IfErr result (λ fault. IsNotAcknowledged E.Store t fault ⊎ (fault ≡ Memory)) }
+        ensures causes { IfErr result (λ fault. IsNotAcknowledged E.Store (IsFullFor E.Store Force) t fault ⊎ (fault ≡ Memory)) }
         ensures few { (mine.old.made.amount ≤ mine.new.made.amount) × (mine.new.made.amount ≤ mine.old.made.amount + 2) }
     {
         let step = Step::Commit(t);
@@ -107,7 +111,7 @@ impl<E: Store, L: Ledger> Front<E, L> {
             }
             Reply::Committed => Ok(()),
             Reply::Refused(fault) => Err(fault),
-            _ => Err(Fault::Failed),
+            _ => unreachable!(),
         };
         self.callers.go(held.pace());
         done
@@ -117,7 +121,7 @@ impl<E: Store, L: Ledger> Front<E, L> {
     /// waits. `Failed` where the store has failed, else refused as the force is.
     pub fn settle<R: Wait>(&self, rt: &R, mine: &mut Share<L>) -> Result<(), Fault>
         ensures settled { IfOk result (λ _. IsSettled E.Store) }
-        ensures causes { IfErr result (λ fault. IsNotForced E.Store fault ⊎ (fault ≡ Memory)) }
+        ensures causes { IfErr result (λ fault. IsNotForced E.Store (IsFullFor E.Store Force) fault ⊎ (fault ≡ Memory)) }
         ensures few { (mine.old.made.amount ≤ mine.new.made.amount) × (mine.new.made.amount ≤ mine.old.made.amount + 1) }
     {
         self.callers.come();
@@ -145,7 +149,7 @@ impl<E: Store, L: Ledger> Front<E, L> {
         forces: u64,
     ) -> Result<(), Fault>
         ensures forced { IfOk result (λ _. IsForced E.Store forces) }
-        ensures causes { IfErr result (λ fault. IsNotForced E.Store fault ⊎ (fault ≡ Memory)) }
+        ensures causes { IfErr result (λ fault. IsNotForced E.Store (IsFullFor E.Store Force) fault ⊎ (fault ≡ Memory)) }
         ensures few { (mine.old.made.amount ≤ mine.new.made.amount) × (mine.new.made.amount ≤ mine.old.made.amount + 1) }
     {
         let mut held = held;
@@ -165,6 +169,7 @@ impl<E: Store, L: Ledger> Front<E, L> {
                 continue;
             }
             let reply = held.step(rt, mine, &Step::Force);
+            held.law_holds_always();
             self.callers.tell(&Step::Force, &reply);
             if let Reply::Refused(fault) = reply {
                 self.callers.go(held.pace());
@@ -179,7 +184,7 @@ impl<E: Store, L: Ledger> Front<E, L> {
     /// then `TraceFull` where the steps cut would pass 2^62, then as `entries` is.
     pub fn cut_trace<R: Wait>(&self, rt: &R) -> Result<(), Fault>
         ensures cut { IfOk result (λ _. WasCut E.Store) }
-        ensures causes { IfErr result (λ fault. (fault ≡ Failed) ⊎ ((fault ≡ Busy) ⊎ ((fault ≡ TraceFull) ⊎ ((old new : E) × E.refuses old new fault)))) }
+        ensures causes { IfErr result (WasNotCut E.Store) }
     {
         let mut held = self.held.lock(rt);
         held.law_holds_always();

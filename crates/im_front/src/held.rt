@@ -15,7 +15,7 @@ ghost use Rattle.im_front.specs.Traces.{trace_of};
 ghost use Rattle.im_front.specs.Made.{EndsIn};
 ghost use Rattle.im_front.specs.Locked.{seen_of};
 ghost use Rattle.im_front.specs.Acknowledged.{point_in, IsHeld};
-ghost use Rattle.im_base_steps.specs.Replies.{is_full, lacks_memory, IsReply};
+ghost use Rattle.im_base_steps.specs.Replies.{is_full, lacks_memory, IsReply, Suits};
 ghost use Rattle.im_theory_store_trait.specs.Store.{LookKept};
 ghost use Rattle.im_front.specs.Cuts.{ComesFirst};
 ghost use Rattle.im_front.specs.Held.{IsCounted, IsResting, Records, IsRun, StopKeeps, IsCut, WhyNotCut, after_reply, waits_in, force_of};
@@ -291,6 +291,8 @@ impl<E: Store, L: Ledger> Held<E, L> {
         ensures adds { is_blocked (told_by result) ≡ false → is_full (told_by result) ≡ false → lacks_memory (told_by result) ≡ false → self.new.history ≡ self.old.history ++ (step.now, result) ∷ [] }
         ensures full { is_full (told_by result) ≡ true ↔ ((65536 ≤ length self.old.trace) × (may_end self.old.waiting (asked_by step.now) ≡ false)) }
         ensures made { is_full (told_by result) ≡ false → lacks_memory (told_by result) ≡ false → E.made self.old.engine step.now result self.new.engine }
+        ensures same { is_full (told_by result) ≡ true → self.new ≡ self.old }
+        ensures suits { is_full (told_by result) ≡ false → lacks_memory (told_by result) ≡ false → Suits (asked_by step.now) (told_by result) }
     {
         if is_refused(self.trace.len(), self.waiting, step) {
             return Reply::Refused(Fault::TraceFull);

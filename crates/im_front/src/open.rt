@@ -1,17 +1,19 @@
 //! The front of programs. It keeps its trace for proofs alone, and its callers need no parts of a ledger.
 
-ghost use Rattle.std.specs.Prelude.{◌≡◌, ◌<◌, ◌≤◌, ◌^◌, ◌+◌, ◌↔◌, true, false, [], ◌∷◌, ◌++◌, length, Err, IfOk, IfErr, OnErr};
+ghost use Rattle.std.specs.Prelude.{◌≡◌, ◌<◌, ◌≤◌, ◌^◌, ◌+◌, ◌↔◌, ◌⊎◌, true, false, [], ◌∷◌, ◌++◌, length, Err, IfOk, IfErr, OnErr};
 ghost use Rattle.std.specs.List.{All};
 ghost use Rattle.std.specs.Arc.{arc_value};
 ghost use Rattle.crossbeam_utils.specs.Seq.{cell_view};
 ghost use Rattle.im_front_stats.specs.Counts.{writer, NoLess};
 ghost use Rattle.im_base_types.specs.declared.fault.Fault.TheVariants.{TooMany, Memory};
-ghost use Rattle.im_base_steps.specs.Calls.{told_by, is_blocked};
+ghost use Rattle.im_base_steps.specs.Calls.{asked_by, told_by, is_blocked};
 ghost use Rattle.im_front.specs.Traces.{counts_of};
-ghost use Rattle.im_base_steps.specs.Replies.{is_full, IsReply};
+ghost use Rattle.im_base_steps.specs.Replies.{is_full, IsReply, Suits};
 ghost use Rattle.im_front.specs.Held.{IsCounted};
+ghost use Rattle.im_front.specs.Line.{asker_of};
+ghost use Rattle.im_base_admission.specs.Admission.{MayBegin};
 ghost use Rattle.im_front.specs.Locked.{none, seen_of, GoesOn, IsKeptFrom};
-ghost use Rattle.im_front.specs.Acknowledged.{point_of, IsAcknowledged, IsForced, IsHeld, IsNotAcknowledged, IsNotForced, IsSettled, IsStepOf};
+ghost use Rattle.im_front.specs.Acknowledged.{point_of, IsAcknowledged, IsForced, IsHeld, IsNotAcknowledged, IsNotForced, IsSettled, IsSpent, IsStepOf};
 
 use crate::callers::{Behind, Callers, Pace};
 use crate::held::{counted, forces_after, passed_after, publish};
@@ -60,7 +62,7 @@ impl<E: Store> Model for Kept<E> {
 
     ghost Value = { LockedState E };
 
-    ghost view = { λ h. record { engine = h.engine; trace = h.trace.steps; counts = (cell_view h.pass).seen; waiting = h.waiting; forces = h.forces } };
+    ghost view = { λ h. record { engine = h.engine; trace = h.trace.steps; counts = (cell_view h.pass).seen; waiting = h.waiting; forces = h.forces; line = h.line } };
 
     ghost invariant = { λ h. (E.tells → StandsFrom E.life h.trace.steps h.engine) × IsTallied (seen_of h.trace.steps) (E.actives h.engine) (E.waiting h.engine) 0 none h.counts × (h.made ≡ length h.trace.steps) × (h.pass.table_id ≡ (arc_value h.cell).table.shared.table_id) × (cell_view h.pass ≡ writer h.counts) × (h.waiting ≡ E.waiting h.engine) × (h.forces ≡ forces_in (seen_of h.trace.steps)) × (h.forces ≤ length h.trace.steps) × WereMade E.Store h.trace.steps h.engine };
 }
@@ -176,6 +178,7 @@ impl<E: Store> Kept<E> {
         ensures blocked { is_blocked (told_by result) ≡ true → self.new.trace ≡ self.old.trace }
         ensures same { is_full (told_by result) ≡ true → self.new ≡ self.old }
         ensures run { GoesOn E.life self.old self.new }
+        ensures suits { is_full (told_by result) ≡ false → Suits (asked_by step.now) (told_by result) }
         ensures full { is_full (told_by result) ≡ true ↔ (2 ^ 62 ≤ length self.old.trace) }
         ensures made { is_full (told_by result) ≡ false → E.made self.old.engine step.now result self.new.engine }
     {
@@ -215,28 +218,32 @@ impl<E: Store> Kept<E> {
 impl<E: Store> Kept<E> {
     /// A turn for one that begins a transaction for the first time.
     pub(crate) fn come(&mut self) -> Turn
-        ensures same { self.new ≡ self.old }
+        ensures same { self.new ≡ record self.old { line = self.new.line } }
     {
         self.line.come()
     }
 
     /// Whether the one with this turn may begin now: who waits no longer where the store has failed.
     pub(crate) fn may_begin(&mut self, turn: &Turn) -> bool
-        ensures same { self.new ≡ self.old }
+        ensures same { self.new ≡ record self.old { line = self.new.line } }
+        ensures goes { result ≡ true ↔ (MayBegin self.old.line.going self.new.line.first (asker_of turn.now self.old.line.tick) ⊎ E.broken self.old.engine) }
+        ensures stays { 0 < self.old.line.first → (self.new.line.first ≡ self.old.line.first) ⊎ ((0 < self.old.line.first_number) × (self.old.line.first_seen + 10 ≤ self.old.line.tick)) }
+        ensures few { 4 ≤ turn.now.agains → 0 < turn.now.ticket → 0 < self.new.line.first }
+        ensures known { (self.new.line.going ≡ self.old.line.going) × (self.new.line.tick ≡ self.old.line.tick) }
     {
         self.line.ask(turn) || self.engine.failed()
     }
 
     /// One begins with this turn: its transaction has this number.
     pub(crate) fn begin(&mut self, turn: &Turn, number: TxnId)
-        ensures same { self.new ≡ self.old }
+        ensures same { self.new ≡ record self.old { line = self.new.line } }
     {
         self.line.begin(turn, number);
     }
 
     /// The turn of one that gave way and has rolled back the transaction of this number.
     pub(crate) fn come_again(&mut self, turn: &Turn, number: TxnId) -> Turn
-        ensures same { self.new ≡ self.old }
+        ensures same { self.new ≡ record self.old { line = self.new.line } }
     {
         let was_first = self.line.is_first(turn);
         self.line.leave(turn);
@@ -245,7 +252,7 @@ impl<E: Store> Kept<E> {
 
     /// One with this turn is first no longer.
     pub(crate) fn leave(&mut self, turn: &Turn)
-        ensures same { self.new ≡ self.old }
+        ensures same { self.new ≡ record self.old { line = self.new.line } }
     {
         self.line.leave(turn);
     }
@@ -257,7 +264,7 @@ impl<E: Store> Kept<E> {
 
     /// A hundredth of a second has passed since this tick.
     pub(crate) fn pass(&mut self, since: u64)
-        ensures same { self.new ≡ self.old }
+        ensures same { self.new ≡ record self.old { line = self.new.line } }
     {
         self.line.pass(since);
     }
@@ -314,12 +321,15 @@ impl<E: Store> Open<E> {
     pub fn call<R: Wait>(&self, rt: &R, step: Step) -> Reply
         ensures unblocked { is_blocked (told_by result) ≡ false }
         ensures made { is_full (told_by result) ≡ false → IsStepOf E.made step result }
+        ensures suits { is_full (told_by result) ≡ false → Suits (asked_by step) (told_by result) }
+        ensures full { is_full (told_by result) ≡ true → IsSpent E.Store }
     {
         self.callers.come();
         let mut held = self.held.lock(rt);
         for _ in rt.forever() {
             let reply = held.step(rt, &step);
             if !reply.is_blocked() {
+                held.law_holds_always();
                 self.callers.tell(&step, &reply);
                 self.callers.go(held.pace());
                 return reply;
@@ -336,7 +346,7 @@ impl<E: Store> Open<E> {
     /// Refused as the Commit is. `Device` or `Failed` where the force failed: whether it is committed shows when the store is opened again.
     pub fn commit<R: Wait>(&self, rt: &R, t: TxnId) -> Result<(), Fault>
         ensures acknowledged { IfOk result (λ _. IsAcknowledged E.Store t) }
-        ensures causes { IfErr result (λ fault. IsNotAcknowledged E.Store t fault) }
+        ensures causes { IfErr result (IsNotAcknowledged E.Store (IsSpent E.Store) t) }
     {
         let step = Step::Commit(t);
         self.callers.come();
@@ -351,7 +361,7 @@ impl<E: Store> Open<E> {
             }
             Reply::Committed => Ok(()),
             Reply::Refused(fault) => Err(fault),
-            _ => Err(Fault::Failed),
+            _ => unreachable!(),
         };
         self.callers.go(held.pace());
         done
@@ -361,7 +371,7 @@ impl<E: Store> Open<E> {
     /// waits. `Failed` where the store has failed, else refused as the force is.
     pub fn settle<R: Wait>(&self, rt: &R) -> Result<(), Fault>
         ensures settled { IfOk result (λ _. IsSettled E.Store) }
-        ensures causes { IfErr result (λ fault. IsNotForced E.Store fault) }
+        ensures causes { IfErr result (IsNotForced E.Store (IsSpent E.Store)) }
     {
         self.callers.come();
         let held = self.held.lock(rt);
@@ -387,7 +397,7 @@ impl<E: Store> Open<E> {
         forces: u64,
     ) -> Result<(), Fault>
         ensures forced { IfOk result (λ _. IsForced E.Store forces) }
-        ensures causes { IfErr result (λ fault. IsNotForced E.Store fault) }
+        ensures causes { IfErr result (IsNotForced E.Store (IsSpent E.Store)) }
     {
         let mut held = held;
         for _ in rt.forever() {
@@ -402,6 +412,7 @@ impl<E: Store> Open<E> {
                 return Err(Fault::Failed);
             }
             let reply = held.step(rt, &Step::Force);
+            held.law_holds_always();
             self.callers.tell(&Step::Force, &reply);
             if let Reply::Refused(fault) = reply {
                 self.callers.go(held.pace());

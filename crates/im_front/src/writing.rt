@@ -1,6 +1,7 @@
 //! Transactions that are made again where they have to give way.
 
 ghost use Rattle.std.specs.Prelude.{IfErr, IfOk};
+ghost use Rattle.im_front.specs.Acknowledged.{IsSpent};
 ghost use Rattle.im_front.specs.Writing.{IsBegun, IsTakenBack, CameToNothing, IsUnwritten, IsWritten};
 
 use crate::callers::Behind;
@@ -70,13 +71,14 @@ impl<E: Store> Open<E> {
     // Begins a transaction, once it may.
     fn begin<R: Wait + Clock>(&self, rt: &R, turn: &Turn) -> Result<TxnId, Fault>
         ensures begun { IfOk result (λ t. IsBegun E.made t) }
-        ensures causes { IfErr result (CameToNothing E.Store) }
+        ensures causes { IfErr result (CameToNothing E.Store (IsSpent E.Store)) }
     {
         self.callers.come();
         let mut held = self.held.lock(rt);
         for _ in rt.forever() {
             if held.may_begin(turn) {
                 let reply = held.step(rt, &Step::Begin);
+                held.law_holds_always();
                 self.callers.tell(&Step::Begin, &reply);
                 match reply {
                     Reply::Started(t) => {
@@ -90,11 +92,7 @@ impl<E: Store> Open<E> {
                         self.callers.go(held.pace());
                         return Err(fault);
                     }
-                    _ => {
-                        held.leave(turn);
-                        self.callers.go(held.pace());
-                        return Err(Fault::Failed);
-                    }
+                    _ => unreachable!(),
                 }
             }
             let since = held.tick();
@@ -110,21 +108,17 @@ impl<E: Store> Open<E> {
     // Rolls a transaction back whole.
     fn take_back<R: Wait>(&self, rt: &R, turn: &Turn, t: TxnId) -> Result<(), Fault>
         ensures taken { IfOk result (λ _. IsTakenBack E.made t) }
-        ensures causes { IfErr result (CameToNothing E.Store) }
+        ensures causes { IfErr result (CameToNothing E.Store (IsSpent E.Store)) }
     {
         let mut reply = self.call(rt, Step::Rollback(t));
         for _ in rt.forever() {
             match reply {
-                Reply::More => reply = self.call(rt, Step::Continue(t)),
                 Reply::RolledBack => return Ok(()),
                 Reply::Refused(fault) => {
                     self.leave(rt, turn);
                     return Err(fault);
                 }
-                _ => {
-                    self.leave(rt, turn);
-                    return Err(Fault::Failed);
-                }
+                _ => reply = self.call(rt, Step::Continue(t)),
             }
         }
         unreachable!()

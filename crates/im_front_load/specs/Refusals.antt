@@ -3,12 +3,14 @@ use Rattle.std.specs.Prelude.{◌≡◌, ◌⊎◌, IfSome}
 use Rattle.im_base_types.specs.declared.fault.Fault.{Fault}
 use Rattle.im_base_types.specs.declared.fault.Fault.TheVariants.{Memory, TooMany}
 use Rattle.im_theory_store_trait.specs.declared.store.Store.{Ghosts}
+use Rattle.im_base_types.specs.Answers.{Step}
+use Rattle.im_front.specs.Acknowledged.{IsFullFor}
 use Rattle.im_front.specs.Writing.{CameToNothing}
 use Rattle.im_front_load.specs.declared.job.Ended.{Ended}
 
--- A step of it came to nothing: it was made, and refused so; the store has failed; no more steps are made; or there was no memory.
+-- A step of it came to nothing: it was made, and refused so; it was not made, since the store was broken or the trace full for it; or there was no memory.
 abbrev pub IsStopped : {E : Type 0} → Ghosts E → Fault → Type 0
-IsStopped d fault = CameToNothing d fault ⊎ (fault ≡ Memory)
+IsStopped d fault = CameToNothing d ((step : Step) × IsFullFor d step) fault ⊎ (fault ≡ Memory)
 
 -- why a task stopped, if it did not come to its end
 abbrev pub StopsFor : {E L : Type 0} → Ghosts E → Ended L → Type 0

@@ -46,15 +46,28 @@ fn one_insert<E: Store, L: Ledger, R: Wait>(
     ensures steps { OnOk result (mine.old.made.amount + 3 ≤ mine.new.made.amount) }
     ensures causes { IfErr result (IsStopped E.Store) }
 {
-    let Reply::Started(t) = made(rt, front, mine, Step::Begin)? else {
-        return Err(Fault::Failed);
-    };
+    let t = begun(rt, front, mine)?;
     let reply = made(rt, front, mine, Step::Insert(t, key, rid))?;
     if matches!(reply, Reply::Die) {
         return roll_back(rt, front, mine, t);
     }
     go_on(rt, front, mine, t, reply)?;
     commit(rt, front, mine, t)
+}
+
+// Begins a transaction.
+fn begun<E: Store, L: Ledger, R: Wait>(
+    rt: &R,
+    front: &Front<E, L>,
+    mine: &mut Share<L>,
+) -> Result<TxnId, Fault>
+    ensures steps { OnOk result (mine.new.made.amount ≡ mine.old.made.amount + 1) }
+    ensures causes { IfErr result (IsStopped E.Store) }
+{
+    match made(rt, front, mine, Step::Begin)? {
+        Reply::Started(t) => Ok(t),
+        _ => unreachable!(),
+    }
 }
 
 // Commits a transaction, with a force of its own where its Commit is to wait for one.

@@ -1,15 +1,16 @@
-use Rattle.std.proofs.Common.{◌≡◌, ◌⊎◌, inl, inr, false, Result, IfOk, ℕ, refl, sym, ap, subst, ◌∙◌}
+use Rattle.std.proofs.Common.{◌≡◌, ◌⊎◌, true≢false, inl, inr, false, Result, IfOk, ℕ, sym, ap, subst, ◌∙◌}
+use Rattle.im_base_types.specs.Answers as answers
 use Rattle.im_base_types.specs.declared.fault.Fault.{Fault}
 use Rattle.im_base_types.specs.declared.fault.Fault.TheVariants.{Memory}
 use Rattle.std.specs.Prelude.{IfErr}
 use Rattle.im_base_steps.specs.declared.step.Step.TheVariants as steps
 use Rattle.im_base_steps.specs.Calls.{told_by, is_blocked}
 use Rattle.im_base_steps.specs.Replies.{is_full, lacks_memory}
-use Rattle.im_front.specs.Acknowledged.{point_in, IsForced, IsLast, IsNotAcknowledged, IsAcknowledged}
+use Rattle.im_front.specs.Acknowledged.{point_in, IsForced, IsFullFor, IsLast, IsNotAcknowledged, IsAcknowledged}
 use Rattle.im_front.specs.Acknowledged.IsAcknowledged.{at_once, by_force}
 use Rattle.im_front.proofs.Acknowledging.{not_acknowledged_whole, refused_whole, map_err, map_ok}
 use Rattle.im_front.proofs.front.Front.commit.Goals as goal
-use Rattle.im_front.proofs.front.Front.commit.Goals.{in-Committed, in-Refused, in_default}
+use Rattle.im_front.proofs.front.Front.commit.Goals.{in-Committed, in-Refused}
 
 pub returns-in-More-clause-acknowledged : goal.returns-in-More-clause-acknowledged
 returns-in-More-clause-acknowledged g c =
@@ -31,7 +32,6 @@ returns-clause-acknowledged g c =
     elim c.match-reply.branch [
       | in-Committed w ↦ subst Says (sym w.done-is) (at_once c.step-reply.result (ap told_by w.in-Committed.is) (record { was = _; now = _; step_made = c.step-reply.ensures.made (ap (λ r. is_full (told_by r)) w.in-Committed.is) (ap (λ r. lacks_memory (told_by r)) w.in-Committed.is) }))
       | in-Refused w ↦ subst Says (sym w.done-is) tt
-      | in_default w ↦ subst Says (sym w.done-is) tt
     ]
 
 pub returns-in-More-clause-causes : goal.returns-in-More-clause-causes
@@ -39,9 +39,10 @@ returns-in-More-clause-causes g c = map_err c.settle_all.result _ _ (λ e why. e
 
 pub returns-clause-causes : goal.returns-clause-causes
 returns-clause-causes g c =
-    let Says : Result Unit Fault → Type 0 = λ r. IfErr r (λ e. IsNotAcknowledged g.E.Store c.args.t e ⊎ (e ≡ Memory)) in
+    let Says : Result Unit Fault → Type 0 = λ r. IfErr r (λ e. IsNotAcknowledged g.E.Store (IsFullFor g.E.Store answers.Force) c.args.t e ⊎ (e ≡ Memory)) in
     elim c.match-reply.branch [
       | in-Committed w ↦ subst Says (sym w.done-is) tt
-      | in-Refused w ↦ subst Says (sym w.done-is) (not_acknowledged_whole g.E.Store c.args.t w.in-Refused.fault (refused_whole g.E.Store.made (steps.Commit c.args.t) c.step-reply.result w.in-Refused.fault w.in-Refused.is (λ room has. record { was = _; now = _; step_made = c.step-reply.ensures.made room has })))
-      | in_default w ↦ subst Says (sym w.done-is) (inl (inr (inr (inl refl))))
+      | in-Refused w ↦ subst Says (sym w.done-is) (not_acknowledged_whole g.E.Store (IsFullFor g.E.Store answers.Force) c.args.t w.in-Refused.fault (refused_whole g.E.Store.made ⊥ (steps.Commit c.args.t) c.step-reply.result w.in-Refused.fault w.in-Refused.is
+          (λ room has. record { was = _; now = _; step_made = c.step-reply.ensures.made room has })
+          (λ full. true≢false (c.step-reply.ensures.full.0 full).1)))
     ]

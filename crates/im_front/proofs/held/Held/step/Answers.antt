@@ -1,4 +1,4 @@
-use Rattle.std.proofs.Common.{rules, ◌≡◌, ◌+◌, length, true, false, true≢false, List, [], ◌∷◌, ◌++◌, sym, ap, ◌∙◌, subst, arith, inl, length-append}
+use Rattle.std.proofs.Common.{rules, ◌≡◌, length, true, false, true≢false, List, [], ◌∷◌, ◌++◌, sym, ap, ◌∙◌, subst, arith, inl, length-append}
 use Rattle.im_base_types.specs.Lives.{nothing_shown}
 use Rattle.im_base_types.specs.Answers.{Step, Reply}
 use Rattle.im_base_steps.specs.declared.step.Step.{Step as Steps}
@@ -10,7 +10,7 @@ use Rattle.im_front.specs.Events.{shown_in}
 use Rattle.im_base_steps.specs.Replies.{is_full, waits_after}
 use Rattle.im_front.specs.Made.{EndsIn, WereMade}
 use Rattle.im_front.specs.Made.AreMade.{one_more, blocked}
-use Rattle.im_front.specs.Locked.{StandsFrom, seen_of}
+use Rattle.im_front.specs.Locked.{seen_of}
 use Rattle.im_front.specs.Held.{State, IsTallied, Stands, after_reply, forces_in, waits_in}
 use Rattle.im_front.proofs.Replies.{few_entries, entry_asked, blocked_counts}
 use Rattle.im_front.proofs.Growing.{forces_push, seen_of-push, ends_push}
@@ -142,3 +142,14 @@ returns-clause-full g c =
       (λ f. absurd (true≢false (sym f ∙ room))),
       (λ q. absurd (true≢false (sym (search rules) ∙ c.if-is_refused.false))),
     )
+
+pub returns-then-is_blocked-clause-suits : goal.returns-then-is_blocked-clause-suits
+returns-then-is_blocked-clause-suits g c _ _ = (c.step-reply.ensures.reply (alive_of g.E.Store.life g.E.Store.tells c.self.inside.base.items (trace_of c.self.inside.trace.items) c.self.inside.engine c.self.invariant.0)).suits
+
+pub returns-clause-suits : goal.returns-clause-suits
+returns-clause-suits g c _ _ = (c.step-reply.ensures.reply (alive_of g.E.Store.life g.E.Store.tells c.self.inside.base.items (trace_of c.self.inside.trace.items) c.self.inside.engine c.self.invariant.0)).suits
+
+pub returns-clause-same : goal.returns-clause-same
+returns-clause-same g c f =
+    let alive = alive_of g.E.Store.life g.E.Store.tells c.self.inside.base.items (trace_of c.self.inside.trace.items) c.self.inside.engine c.self.invariant.0 in
+    absurd (true≢false (sym f ∙ (c.step-reply.ensures.reply alive).room))

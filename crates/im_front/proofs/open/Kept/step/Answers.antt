@@ -113,3 +113,9 @@ returns-clause-full g c =
       (λ f. absurd (true≢false (sym f ∙ room))),
       (λ q. absurd (true≢false (sym (search rules) ∙ c.if-is_spent.false))),
     )
+
+pub returns-then-is_blocked-clause-suits : goal.returns-then-is_blocked-clause-suits
+returns-then-is_blocked-clause-suits g c _ = (c.step-reply.ensures.reply (alive_from g.E.Store.life g.E.Store.tells c.self.inside.trace.steps c.self.inside.engine c.self.invariant.0)).suits
+
+pub returns-clause-suits : goal.returns-clause-suits
+returns-clause-suits g c _ = (c.step-reply.ensures.reply (alive_from g.E.Store.life g.E.Store.tells c.self.inside.trace.steps c.self.inside.engine c.self.invariant.0)).suits

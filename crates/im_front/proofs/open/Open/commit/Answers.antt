@@ -1,14 +1,14 @@
-use Rattle.std.proofs.Common.{◌≡◌, inl, inr, false, Result, IfOk, ℕ, refl, sym, ap, subst, ◌∙◌}
+use Rattle.std.proofs.Common.{◌≡◌, inr, false, Result, IfOk, ℕ, sym, ap, subst, ◌∙◌}
 use Rattle.im_base_types.specs.declared.fault.Fault.{Fault}
 use Rattle.std.specs.Prelude.{IfErr}
 use Rattle.im_base_steps.specs.declared.step.Step.TheVariants as steps
 use Rattle.im_base_steps.specs.Calls.{told_by, is_blocked}
 use Rattle.im_base_steps.specs.Replies.{is_full}
-use Rattle.im_front.specs.Acknowledged.{point_of, IsForced, IsLast, IsNotAcknowledged, IsAcknowledged}
+use Rattle.im_front.specs.Acknowledged.{point_of, IsForced, IsLast, IsNotAcknowledged, IsAcknowledged, IsSpent}
 use Rattle.im_front.specs.Acknowledged.IsAcknowledged.{at_once, by_force}
-use Rattle.im_front.proofs.Acknowledging.{not_acknowledged, refused_plain, map_err, map_ok}
+use Rattle.im_front.proofs.Acknowledging.{not_acknowledged, refused_plain, spent, map_err, map_ok}
 use Rattle.im_front.proofs.open.Open.commit.Goals as goal
-use Rattle.im_front.proofs.open.Open.commit.Goals.{in-Committed, in-Refused, in_default}
+use Rattle.im_front.proofs.open.Open.commit.Goals.{in-Committed, in-Refused}
 
 pub returns-in-More-clause-acknowledged : goal.returns-in-More-clause-acknowledged
 returns-in-More-clause-acknowledged g c =
@@ -29,7 +29,6 @@ returns-clause-acknowledged g c =
     elim c.match-reply.branch [
       | in-Committed w ↦ subst Says (sym w.done-is) (at_once c.step-reply.result (ap told_by w.in-Committed.is) (record { was = _; now = _; step_made = c.step-reply.ensures.made (ap (λ r. is_full (told_by r)) w.in-Committed.is) }))
       | in-Refused w ↦ subst Says (sym w.done-is) tt
-      | in_default w ↦ subst Says (sym w.done-is) tt
     ]
 
 pub returns-in-More-clause-causes : goal.returns-in-More-clause-causes
@@ -37,9 +36,10 @@ returns-in-More-clause-causes g c = map_err c.settle_all.result _ _ (λ e why. i
 
 pub returns-clause-causes : goal.returns-clause-causes
 returns-clause-causes g c =
-    let Says : Result Unit Fault → Type 0 = λ r. IfErr r (λ e. IsNotAcknowledged g.E.Store c.args.t e) in
+    let Says : Result Unit Fault → Type 0 = λ r. IfErr r (IsNotAcknowledged g.E.Store (IsSpent g.E.Store) c.args.t) in
     elim c.match-reply.branch [
       | in-Committed w ↦ subst Says (sym w.done-is) tt
-      | in-Refused w ↦ subst Says (sym w.done-is) (not_acknowledged g.E.Store c.args.t w.in-Refused.fault (refused_plain g.E.Store.made (steps.Commit c.args.t) c.step-reply.result w.in-Refused.fault w.in-Refused.is (λ room. record { was = _; now = _; step_made = c.step-reply.ensures.made room })))
-      | in_default w ↦ subst Says (sym w.done-is) (inr (inr (inl refl)))
+      | in-Refused w ↦ subst Says (sym w.done-is) (not_acknowledged g.E.Store (IsSpent g.E.Store) c.args.t w.in-Refused.fault (refused_plain g.E.Store.made (IsSpent g.E.Store) (steps.Commit c.args.t) c.step-reply.result w.in-Refused.fault w.in-Refused.is
+          (λ room. record { was = _; now = _; step_made = c.step-reply.ensures.made room })
+          (λ full. spent g.E.Store c.deref_mut.result.now c.deref.result.now (c.deref.ensures ∙ c.step-reply.ensures.same full) c.law_holds_always.ensures.held (c.step-reply.ensures.full.0 full))))
     ]

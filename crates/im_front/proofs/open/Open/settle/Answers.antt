@@ -1,6 +1,6 @@
-use Rattle.std.proofs.Common.{true≢false, ℕ, sym, ap, subst, ◌∙◌, arith}
+use Rattle.std.proofs.Common.{true≢false, inl, inr, refl, ℕ, sym, ap, subst, ◌∙◌, arith}
 use mathlib.Core.Bool.{not}
-use Rattle.im_front.specs.Acknowledged.{IsForced, IsSettled}
+use Rattle.im_front.specs.Acknowledged.{point_of, IsForced, IsSettled}
 use Rattle.im_front.specs.Acknowledged.IsSettled.{none_waits, by_force}
 use Rattle.im_front.proofs.Acknowledging.{map_ok}
 use Rattle.im_front.proofs.open.Open.settle.Goals as goal
@@ -26,3 +26,15 @@ returns-clause-settled g c = elim c.else-pace-gt0.branch [
 
 pub returns-then-not-pace-clause-causes : goal.returns-then-not-pace-clause-causes
 returns-then-not-pace-clause-causes g c = c.settle_all.ensures.causes
+
+pub returns-then-pace-clause-causes : goal.returns-then-pace-clause-causes
+returns-then-pace-clause-causes g c =
+    let same = c.deref-2.ensures ∙ sym c.deref.ensures in
+    inr (inl (
+      refl,
+      record {
+        point = point_of c.deref.result.now;
+        held = c.law_holds_always.ensures.held;
+        broken = subst (λ s. g.E.Store.broken s.engine) same (c.pace-pace.ensures.failed.0 c.if-pace.true);
+      },
+    ))

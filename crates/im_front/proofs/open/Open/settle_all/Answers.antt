@@ -1,7 +1,7 @@
-use Rattle.std.proofs.Common.{◌<◌, sym, subst, ◌∙◌}
+use Rattle.std.proofs.Common.{◌<◌, inl, inr, refl, sym, subst, ◌∙◌}
 use Rattle.im_base_steps.specs.declared.step.Step.TheVariants as steps
-use Rattle.im_front.specs.Acknowledged.{point_of}
-use Rattle.im_front.proofs.Acknowledging.{not_forced, refused_plain}
+use Rattle.im_front.specs.Acknowledged.{point_of, IsSpent}
+use Rattle.im_front.proofs.Acknowledging.{not_forced, refused_plain, spent}
 use Rattle.im_front.proofs.open.Open.settle_all.Goals as goal
 
 pub returns-then-is_settled-clause-forced : goal.returns-then-is_settled-clause-forced
@@ -14,4 +14,18 @@ returns-then-is_settled-clause-forced g c =
 
 pub returns-in-Refused-clause-causes : goal.returns-in-Refused-clause-causes
 returns-in-Refused-clause-causes g c =
-    not_forced g.E.Store c.in-Refused.fault (refused_plain g.E.Store.made steps.Force c.step-reply.result c.in-Refused.fault c.in-Refused.is (λ room. record { was = _; now = _; step_made = c.step-reply.ensures.made room }))
+    not_forced g.E.Store (IsSpent g.E.Store) c.in-Refused.fault (refused_plain g.E.Store.made (IsSpent g.E.Store) steps.Force c.step-reply.result c.in-Refused.fault c.in-Refused.is
+    (λ room. record { was = _; now = _; step_made = c.step-reply.ensures.made room })
+    (λ full. spent g.E.Store c.deref_mut.result.now c.deref-in-loop-3.result.now (c.deref-in-loop-3.ensures ∙ c.step-reply.ensures.same full) c.law_holds_always-in-loop.ensures.held (c.step-reply.ensures.full.0 full)))
+
+pub returns-then-pace-clause-causes : goal.returns-then-pace-clause-causes
+returns-then-pace-clause-causes g c =
+    let same = c.deref-in-loop-2.ensures ∙ sym c.deref.ensures in
+    inr (inl (
+      refl,
+      record {
+        point = point_of c.deref.result.now;
+        held = c.law_holds_always.ensures.held;
+        broken = subst (λ s. g.E.Store.broken s.engine) same (c.pace-in-loop.ensures.failed.0 c.if-pace.true);
+      },
+    ))

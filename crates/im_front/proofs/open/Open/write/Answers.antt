@@ -1,6 +1,8 @@
-use Rattle.std.proofs.Common.{of_calls, Result, subst}
+use Rattle.std.proofs.Common.{of_calls, inr, Result, subst}
 use Rattle.im_front.specs.declared.stop.Stop.{Stop}
+use Rattle.im_front.specs.Acknowledged.{IsSpent}
 use Rattle.im_front.specs.Writing.IsWritten.{committed, made_again}
+use Rattle.im_front.proofs.Acknowledging.{unmade_commit}
 use Rattle.im_front.proofs.open.Open.write.Goals as goal
 use Rattle.im_front.proofs.open.Open.write.Goals.{in-Ok+in-Err-MustRollBack+in_ok-take_back-in-Err-MustRollBack, in-Err-GiveWay+in_ok-take_back-in-Err-GiveWay}
 
@@ -10,6 +12,9 @@ returns-in-Ok-commit g c =
       written = c.loop.invariant.2 c.in-Ok.done (committed c.loop.work c.in_ok-t.t c.work.new.self c.in_ok-t.ensures.begun ran c.in-Ok-commit.ensures.acknowledged);
       causes = tt;
     }
+
+pub returns-in-Err : goal.returns-in-Err
+returns-in-Err g c = record { written = tt; causes = inr (unmade_commit g.E.Store (IsSpent g.E.Store) c.in_ok-t.t c.in-Err.fault c.in-Err.ensures.causes) }
 
 pub loop-preserved : goal.loop-preserved
 loop-preserved g c = (
