@@ -1,8 +1,9 @@
 pub mod Names
-pub mod Keys
 pub mod Least
-pub mod Holders
 pub mod Held
+pub mod Places
+pub mod Digests
+pub mod Added
 pub mod Locked
 pub mod Owners
 pub mod Conflicts

@@ -1,16 +1,16 @@
 -- What a change at one owner leaves of the table.
 use Rattle.std.proofs.Common.{◌≡◌, ◌≢◌, ◌≤◌, ℕ, Bool, true, false, nat_eq, cond, map, length, List, [], ◌∷◌, Option, None, Some, is_some, Result, Ok, Err, OnOk, OnErr, refl, ap, sym, subst, ◌∙◌, inl, inr, arith, ne_eqb}
-use Rattle.std.proofs.lemmas.Bool.Decides.{nat_tests}
 use Rattle.std.specs.HashMap.{HashMap, UpdatesBy, get}
 use Rattle.std.specs.Map.{lookup}
 use Rattle.im_theory_machine.proofs.Bools.{cases_number}
-use Rattle.im_theory_machine.specs.Table.{Table, Held, all_of, nothing_held, held_of, locks_of, lasting_of, OthersKeep, SameHeld, HasFallen}
-use Rattle.im_theory_machine.specs.Locks.{Name}
-use Rattle.im_engine_locks.specs.Index.{seen, Agrees, IsOnce, OthersHold, is_among, holders_at}
+use Rattle.im_engine_locks.proofs.Places.{number_is}
+use Rattle.im_theory_machine.specs.Table.{Table, Held, all_of, nothing_held, held_of, locks_of, OthersKeep, SameHeld, HasFallen}
+use Rattle.im_engine_locks.specs.Index.{seen}
+use Rattle.im_engine_locks.specs.Places.{KeepsOthers}
 use Rattle.im_engine_locks.specs.Owned.{held_in, IsKnown, SameOwn}
 use Rattle.im_engine_locks.specs.InStep.{owned, IsInStep}
-use Rattle.im_engine_locks.specs.declared.holder.Holder.{Holder}
 use Rattle.im_engine_locks.specs.declared.name_index.NameIndex.{NameIndex}
+use Rattle.im_engine_locks.specs.declared.place.Span.TheVariants.{Lasting, Falling}
 use Rattle.im_engine_locks.specs.declared.own_locks.OwnLocks.{OwnLocks}
 use Rattle.im_engine_locks.specs.declared.stored_lock.StoredLock.{StoredLock}
 
@@ -45,26 +45,23 @@ owned-same m n t w h e s =
       | inr ne ↦ owned-others m n t w h s ne
     ]
 
--- names and lists stay in step, where t's new lists agree
-pub in_step-after : (names after : NameIndex) (t : ℕ) (old new : Table) → IsInStep names old → OthersHold names t after → OthersKeep old t new → (h : Held) → held_of new t ≡ h → IsKnown after t h → IsInStep after new
-in_step-after names after t old new step hold keep h e known = record {
-  agrees = λ s. elim (cases_number s t) [
-    | inl q ↦ subst (λ u. Agrees after u (locks_of new u)) (sym q) (subst (λ (k : Held). Agrees after t (all_of k)) (sym e) known.agrees)
-    | inr ne ↦ subst (λ (k : Held). Agrees after s (all_of k)) (sym (keep s ne)) (λ n m. hold s ne n m ∙ step.agrees s n m)
-  ];
-  once = λ s. elim (cases_number s t) [
-    | inl q ↦ subst (λ u. IsOnce (lasting_of new u)) (sym q) (subst (λ (k : Held). IsOnce k.lasting) (sym e) known.once)
-    | inr ne ↦ subst (λ (k : Held). IsOnce k.lasting) (sym (keep s ne)) (step.once s)
-  ];
-  once_falling = λ s. elim (cases_number s t) [
-    | inl q ↦ subst (λ u. IsOnce ((held_of new u).falling)) (sym q) (subst (λ (k : Held). IsOnce k.falling) (sym e) known.once_falling)
-    | inr ne ↦ subst (λ (k : Held). IsOnce k.falling) (sym (keep s ne)) (step.once_falling s)
+-- names and lists stay in step, where t's new lists are known
+pub in_step-after : (names after : NameIndex) (t : ℕ) (old new : Table) → IsInStep names old → KeepsOthers names t after → OthersKeep old t new → (h : Held) → held_of new t ≡ h → IsKnown after t h → IsInStep after new
+in_step-after names after t old new step kept keep h e known = record {
+  known = λ s. elim (cases_number s t) [
+    | inl q ↦ subst (λ u. IsKnown after u (held_of new u)) (sym q) (subst (λ (k : Held). IsKnown after t k) (sym e) known)
+    | inr ne ↦ subst (λ (k : Held). IsKnown after s k) (sym (keep s ne)) (let was : IsKnown names s (held_of old s) = step.known s in record {
+      lasting = λ i n m h. kept n s Lasting i (ne_eqb t s (λ q. ne (sym q))) (was.lasting i n m h);
+      falling = λ i n m h. kept n s Falling i (ne_eqb t s (λ q. ne (sym q))) (was.falling i n m h);
+      once = was.once;
+      once_falling = was.once_falling;
+    })
   ];
 }
 
 -- what t holds is known, where names and lists are in step
 pub known-in : (names : NameIndex) (table : Table) (t : ℕ) → IsInStep names table → IsKnown names t (held_of table t)
-known-in names table t step = record { agrees = step.agrees t; once = step.once t; once_falling = step.once_falling t }
+known-in names table t step = step.known t
 
 -- t's lists, where the map has them
 pub held_of-there : {S : Type 0} (m : HashMap ℕ OwnLocks S) (t : ℕ) (v : OwnLocks) → Some v ≡ get nat_eq m t → held_of (owned m) t ≡ held_in v
@@ -82,10 +79,14 @@ no_value (Some a) h = cc
 pub held_of-none : {S : Type 0} (m : HashMap ℕ OwnLocks S) (t : ℕ) → is_some (get nat_eq m t) ≡ false → held_of (owned m) t ≡ nothing_held
 held_of-none m t h = held_of-owned m t ∙ ap held_there (no_value (get nat_eq m t) h)
 
+-- the same, where a look-up says so
+pub held_of-absent : {S : Type 0} (m : HashMap ℕ OwnLocks S) (t : ℕ) → get nat_eq m t ≡ None → held_of (owned m) t ≡ nothing_held
+held_of-absent m t h = held_of-owned m t ∙ ap held_there h
+
 -- and nothing falls back then
 pub none-fallen : {S : Type 0} (m : HashMap ℕ OwnLocks S) (t : ℕ) → get nat_eq m t ≡ None → HasFallen (owned m) t (owned m)
 none-fallen m t h =
-    let e : held_of (owned m) t ≡ nothing_held = held_of-owned m t ∙ ap held_there h in
+    let e : held_of (owned m) t ≡ nothing_held = held_of-absent m t h in
     record { own = ap all_of e ∙ sym (ap (λ (k : Held). k.lasting) e); lasting = refl; others = λ s ne. refl }
 
 -- lists that are empty
@@ -99,9 +100,6 @@ pub held_same : (old new : OwnLocks) → SameOwn old new → held_in new ≡ hel
 held_same old new same =
     ap (λ (items : List StoredLock). record { lasting = map seen items; falling = map seen new.falling.items }) same.lasting
     ∙ ap (λ (items : List StoredLock). record { lasting = map seen old.lasting.items; falling = map seen items }) same.falling
-
-number_is : (a b : ℕ) → nat_eq a b ≡ true → a ≡ b
-number_is a b h = grind (arith, nat_tests)
 
 -- nobody but t holds a lock, where there is one owner, which is t
 pub own_list : {S : Type 0} (m : HashMap ℕ OwnLocks S) (t : ℕ) → length m.entries ≤ 1 → is_some (get nat_eq m t) ≡ true → (s : ℕ) → s ≢ t → locks_of (owned m) s ≡ []
@@ -133,14 +131,10 @@ on_err (Err e) f h = f h
 -- ---- nobody is left
 
 -- names of nobody and lists of nobody are in step
-pub none_left : {S : Type 0} (names : NameIndex) (m : HashMap ℕ OwnLocks S) → length m.entries ≡ 0 → ((n : Name) → holders_at names n ≡ []) → IsInStep names (owned m)
-none_left names m nobody none =
+pub none_left : {S : Type 0} (names : NameIndex) (m : HashMap ℕ OwnLocks S) → length m.entries ≡ 0 → IsInStep names (owned m)
+none_left names m nobody =
     subst (λ (table : Table). IsInStep names table) (sym (ap (λ (es : List (ℕ × OwnLocks)). map (λ e. (e.0, held_in e.1)) es) (no_entries m.entries nobody)))
-    (record {
-      agrees = λ s n k. ap (λ (hs : List Holder). is_among hs s k) (none n);
-      once = λ s. tt;
-      once_falling = λ s. tt;
-    })
+    (record { known = λ s. record { lasting = λ i n k h. cc; falling = λ i n k h. cc; once = tt; once_falling = tt } })
   where
     no_entries : (es : List (ℕ × OwnLocks)) → length es ≡ 0 → es ≡ []
     no_entries [] e = refl

@@ -1,6 +1,7 @@
 pub mod Requests
-pub mod HeldKeys
+pub mod Keys
 pub mod Index
+pub mod Places
 pub mod Owned
 pub mod InStep
 pub mod Found

@@ -1,75 +1,86 @@
-//! Who holds the keys of one digest.
+//! Where the locks on the keys of one digest stand.
 
-ghost use Rattle.std.specs.Prelude.{◌≡◌, [], IfOk, OnOk, OnErr, true, false};
-ghost use Rattle.im_engine_locks.specs.HeldKeys.{among, listed, IsOneMore};
-ghost use Rattle.im_engine_locks.specs.Index.{is_among, is_rival, without, IsLeast};
+ghost use Rattle.std.specs.Prelude.{◌≡◌, ◌++◌, ◌∷◌, [], OnOk, OnErr, map, true, false};
+ghost use Rattle.im_engine_locks.specs.Requests.{named};
+ghost use Rattle.im_engine_locks.specs.Index.{IsLeast, seen};
+ghost use Rattle.im_engine_locks.specs.InStep.{owned};
+ghost use Rattle.im_engine_locks.specs.Places.{finds as finds_in, is_there, is_rival, listed, without};
 
-use crate::held_key::HeldKey;
-use crate::holder::Holder;
-use crate::rivals::smaller;
+use crate::name::Name;
+use crate::own_locks::OwnLocks;
+use crate::place::{Place, Span};
+use crate::rivals::{rival, smaller, smallest_among};
+use crate::stored_lock::{StoredLock, is_at};
 use im_base_types::TxnId;
 use im_theory_machine::Mode;
 use std::alloc::{AllocError, Global};
+use std::collections::HashMap;
 
-/// The keys of one digest that are held, each with one who holds it. There is one at least, and mostly no more, so that it
-/// wants no memory.
+/// The places of the locks on the keys of one digest. There is one at least, and mostly no more, so that it wants no memory.
 #[derive(Drop)]
 pub struct Bucket {
-    pub first: HeldKey,
-    pub more: Vec<HeldKey>,
+    pub first: Place,
+    pub more: Vec<Place>,
 }
 
 impl Bucket {
-    /// One who holds a key.
-    pub fn one(alloc: Global, key: &[u8], holder: Holder) -> Result<Bucket, AllocError>
-        ensures { IfOk result (λ bucket. IsOneMore key.now holder [] (listed bucket)) }
+    /// One place.
+    pub fn one(alloc: Global, place: Place) -> Bucket
+        ensures { listed result ≡ place ∷ [] }
     {
-        let first = HeldKey::new(alloc, key, holder)?;
-        Ok(Bucket {
-            first,
+        Bucket {
+            first: place,
             more: Vec::new(alloc),
-        })
+        }
     }
 
-    /// Whether the owner holds the key in this mode.
-    pub fn is_held(&self, key: &[u8], owner: TxnId, mode: Mode) -> bool
-        ensures { result ≡ is_among (among key.now (listed self.now)) owner mode }
+    /// Whether one of the locks is in this list of the owner, on the name in this mode.
+    pub fn finds(
+        &self,
+        owner: TxnId,
+        span: Span,
+        locks: &[StoredLock],
+        name: Name<'_>,
+        mode: Mode,
+    ) -> bool
+        ensures { result ≡ finds_in (listed self.now) owner span (map seen locks.now) (named name.entry) mode }
     {
-        self.first.is_held_by(key, owner, mode)
-            || is_held_in(self.more.as_slice(), key, owner, mode)
+        is_found(&self.first, owner, span, locks, name, mode)
+            || finds(self.more.as_slice(), owner, span, locks, name, mode)
     }
 
-    /// The smallest number of a holder of the key that is against `t`, who asks in this mode.
-    pub fn smallest_rival(&self, key: &[u8], t: TxnId, mode: Mode) -> Option<TxnId>
-        ensures { IsLeast (is_rival (among key.now (listed self.now)) t mode) result }
+    /// The smallest number of an owner of one of the locks that is against `t`, who asks for the name in this mode.
+    pub fn smallest_rival(
+        &self,
+        owners: &HashMap<TxnId, OwnLocks>,
+        t: TxnId,
+        name: Name<'_>,
+        mode: Mode,
+    ) -> Option<TxnId>
+        ensures { IsLeast (is_rival (listed self.now) (owned owners.now) t (named name.entry) mode) result }
     {
         smaller(
-            self.first.rival(key, t, mode),
-            smallest_rival_in(self.more.as_slice(), key, t, mode),
+            rival(&self.first, owners, t, name, mode),
+            smallest_among(self.more.as_slice(), owners, t, name, mode),
         )
     }
 
-    /// One more who holds a key.
-    pub fn push(&mut self, key: &[u8], holder: Holder) -> Result<(), AllocError>
-        ensures ok { OnOk result (IsOneMore key.now holder (listed self.old) (listed self.new)) }
+    /// One place more.
+    pub fn push(&mut self, place: Place) -> Result<(), AllocError>
+        ensures ok { OnOk result (listed self.new ≡ listed self.old ++ place ∷ []) }
         ensures err { OnErr result (listed self.new ≡ listed self.old) }
     {
-        let held = HeldKey::new(*self.more.allocator(), key, holder)?;
-        self.more.push(held)?;
+        self.more.push(place)?;
         Ok(())
     }
 
-    /// Takes an owner of a key in a mode out, who is there. Answers whether nobody is left; who was the last one is still there then.
-    pub fn take_out(&mut self, key: &[u8], owner: TxnId, mode: Mode) -> bool
-        requires { is_among (among key.now (listed self.old)) owner mode ≡ true }
-        ensures left { result ≡ false → listed self.new ≡ without key.now owner mode (listed self.old) }
-        ensures none { result ≡ true → without key.now owner mode (listed self.old) ≡ [] }
+    /// Takes a place out, if it is there. Answers whether none is left; it is still as it was in part then.
+    pub fn take_out(&mut self, place: Place) -> bool
+        ensures left { result ≡ false → listed self.new ≡ without place (listed self.old) }
+        ensures none { result ≡ true → without place (listed self.old) ≡ [] }
     {
-        if self.more.is_empty() {
-            return true;
-        }
-        self.more.retain(|held| !held.is_held_by(key, owner, mode));
-        if !self.first.is_held_by(key, owner, mode) {
+        self.more.retain(|p| !p.is(place));
+        if !self.first.is(place) {
             return false;
         }
         if self.more.is_empty() {
@@ -80,25 +91,35 @@ impl Bucket {
     }
 }
 
-// Whether the owner holds the key in this mode, by one of these.
-fn is_held_in(list: &[HeldKey], key: &[u8], owner: TxnId, mode: Mode) -> bool
-    ensures { result ≡ is_among (among key.now list.now) owner mode }
+/// Whether one of the places is in this list of the owner, and the lock there on the name in this mode.
+pub fn finds(
+    places: &[Place],
+    owner: TxnId,
+    span: Span,
+    locks: &[StoredLock],
+    name: Name<'_>,
+    mode: Mode,
+) -> bool
+    ensures { result ≡ finds_in places.now owner span (map seen locks.now) (named name.entry) mode }
 {
-    for held in list {
-        if held.is_held_by(key, owner, mode) {
+    for place in places {
+        if is_found(place, owner, span, locks, name, mode) {
             return true;
         }
     }
     false
 }
 
-// The smallest number of a holder of the key among these that is against `t`, who asks in this mode.
-fn smallest_rival_in(list: &[HeldKey], key: &[u8], t: TxnId, mode: Mode) -> Option<TxnId>
-    ensures { IsLeast (is_rival (among key.now list.now) t mode) result }
+// The same of one place.
+fn is_found(
+    place: &Place,
+    owner: TxnId,
+    span: Span,
+    locks: &[StoredLock],
+    name: Name<'_>,
+    mode: Mode,
+) -> bool
+    ensures { result ≡ is_there place.now owner span (map seen locks.now) (named name.entry) mode }
 {
-    let mut least: Option<TxnId> = None;
-    for held in list {
-        least = smaller(least, held.rival(key, t, mode));
-    }
-    least
+    place.owner == owner && place.span == span && is_at(locks, place.at, name, mode)
 }

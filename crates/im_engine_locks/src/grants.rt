@@ -1,18 +1,19 @@
 //! Locks taken and given back, by name and by owner at once.
 
-ghost use Rattle.std.specs.Prelude.{◌≡◌, ◌<◌, ◌-◌, ◌||◌, OnOk, OnErr, IfOk, take, length, map, ◌∷◌, [], true, false, not};
+ghost use Rattle.std.specs.Prelude.{◌≡◌, ◌<◌, ◌-◌, ◌||◌, OnOk, OnErr, take, length, ◌∷◌, []};
 ghost use Rattle.im_theory_machine.specs.Locks.{Name as LockName};
 ghost use Rattle.im_engine_locks.specs.Requests.{row, requested, named};
-ghost use Rattle.im_engine_locks.specs.Index.{OthersHold, is_held, keeps, lasts, seen, seen_all, same_lock, holds_by_name};
-ghost use Rattle.im_engine_locks.specs.Owned.{held_in, all_in, GrowsLasting, IsKnown, IsKnownBeside, IsAdded, IsPushed, KeepsFront, SameHolders, SameOwn};
+ghost use Rattle.im_engine_locks.specs.Index.{IsOnce, is_held, keeps, lasts, seen_all, same_lock};
+ghost use Rattle.im_engine_locks.specs.Places.{Covers, KeepsApart, KeepsOthers};
+ghost use Rattle.im_engine_locks.specs.Owned.{held_in, all_in, IsKnown, KeepsFront, SameOwn};
 ghost use Rattle.im_theory_machine.specs.declared.lock_kind.Mode.{Mode as LockMode};
 
-use crate::holder::Holder;
 use crate::name::Name;
 use crate::name_index::NameIndex;
 use crate::own_locks::OwnLocks;
+use crate::place::{Place, Span};
 use crate::request::Request;
-use crate::stored_lock::{StoredLock, is_locked, lend, store};
+use crate::stored_lock::{StoredLock, lend, push_lock};
 use im_base_types::TxnId;
 use im_theory_machine::{Duration, Mode};
 use std::alloc::AllocError;
@@ -26,7 +27,7 @@ pub fn grant(
 ) -> Result<(), AllocError>
     requires known { IsKnown names.old t (held_in locks.old) }
     ensures known { IsKnown names.new t (held_in locks.new) }
-    ensures others { OthersHold names.old t names.new }
+    ensures others { KeepsOthers names.old t names.new }
     ensures held { OnOk result ((n : LockName) (m : LockMode) → is_held (all_in locks.new) n m ≡ (is_held (all_in locks.old) n m || keeps (row requests.now) n m)) }
     ensures lasting { OnOk result ((n : LockName) (m : LockMode) → is_held (seen_all locks.new.lasting) n m ≡ (is_held (seen_all locks.old.lasting) n m || lasts (row requests.now) n m)) }
     ensures err { OnErr result (SameOwn locks.old locks.new) }
@@ -47,58 +48,57 @@ pub fn grant(
 pub fn forget_lasting(names: &mut NameIndex, t: TxnId, locks: &mut OwnLocks, left: usize)
     requires known { IsKnown names.old t (held_in locks.old) }
     ensures known { IsKnown names.new t (held_in locks.new) }
-    ensures others { OthersHold names.old t names.new }
+    ensures others { KeepsOthers names.old t names.new }
     ensures lasting { locks.new.lasting.items ≡ take left locks.old.lasting.items }
     ensures falling { locks.new.falling.items ≡ locks.old.falling.items }
 {
-    forget(names, t, &mut locks.lasting, locks.falling.as_slice(), left);
+    forget(names, t, Span::Lasting, &mut locks.lasting, left);
 }
 
 /// Takes the locks of `t` that fall back from the last one on, until so many are left.
 pub fn forget_falling(names: &mut NameIndex, t: TxnId, locks: &mut OwnLocks, left: usize)
     requires known { IsKnown names.old t (held_in locks.old) }
     ensures known { IsKnown names.new t (held_in locks.new) }
-    ensures others { OthersHold names.old t names.new }
+    ensures others { KeepsOthers names.old t names.new }
     ensures lasting { locks.new.lasting.items ≡ locks.old.lasting.items }
     ensures falling { locks.new.falling.items ≡ take left locks.old.falling.items }
 {
-    forget(names, t, &mut locks.falling, locks.lasting.as_slice(), left);
+    forget(names, t, Span::Falling, &mut locks.falling, left);
 }
 
-// Takes locks of a list of `t` back from the last one on, until so many are left: those that another list of `t` has stay in the
-// index of names.
-fn forget(
-    names: &mut NameIndex,
-    t: TxnId,
-    locks: &mut Vec<StoredLock>,
-    beside: &[StoredLock],
-    left: usize,
-)
-    requires known { IsKnownBeside names.old t (seen_all locks.old) (map seen beside.now) }
-    ensures known { IsKnownBeside names.new t (seen_all locks.new) (map seen beside.now) }
-    ensures others { OthersHold names.old t names.new }
+// Takes locks of a list of `t` back from the last one on, until so many are left.
+fn forget(names: &mut NameIndex, t: TxnId, span: Span, locks: &mut Vec<StoredLock>, left: usize)
+    requires known { Covers names.old t span (seen_all locks.old) }
+    requires once { IsOnce (seen_all locks.old) }
+    ensures known { Covers names.new t span (seen_all locks.new) }
+    ensures once { IsOnce (seen_all locks.new) }
+    ensures apart { KeepsApart names.old t span names.new }
     ensures items { locks.new.items ≡ take left locks.old.items }
 {
     while locks.len() > left {
-        forget_last(names, t, locks, beside);
+        forget_last(names, t, span, locks);
     }
 }
 
 // Takes the last lock of a list of `t` back.
-fn forget_last(names: &mut NameIndex, t: TxnId, locks: &mut Vec<StoredLock>, beside: &[StoredLock])
+fn forget_last(names: &mut NameIndex, t: TxnId, span: Span, locks: &mut Vec<StoredLock>)
     requires some { 0 < length locks.old.items }
-    requires known { IsKnownBeside names.old t (seen_all locks.old) (map seen beside.now) }
-    ensures known { IsKnownBeside names.new t (seen_all locks.new) (map seen beside.now) }
-    ensures others { OthersHold names.old t names.new }
+    requires known { Covers names.old t span (seen_all locks.old) }
+    requires once { IsOnce (seen_all locks.old) }
+    ensures known { Covers names.new t span (seen_all locks.new) }
+    ensures once { IsOnce (seen_all locks.new) }
+    ensures apart { KeepsApart names.old t span names.new }
     ensures items { locks.new.items ≡ take (length locks.old.items - 1) locks.old.items }
 {
     let Some(lock) = locks.pop() else {
         return;
     };
-    if is_locked(beside, lend(&lock.name), lock.mode) {
-        return;
-    }
-    names.remove(lend(&lock.name), t, lock.mode);
+    let place = Place {
+        owner: t,
+        span,
+        at: locks.len(),
+    };
+    names.remove(lend(&lock.name), place);
 }
 
 // Adds one request to the locks of `t`, where it is kept and not held.
@@ -110,7 +110,7 @@ fn keep(
 ) -> Result<(), AllocError>
     requires known { IsKnown names.old t (held_in locks.old) }
     ensures known { IsKnown names.new t (held_in locks.new) }
-    ensures others { OthersHold names.old t names.new }
+    ensures others { KeepsOthers names.old t names.new }
     ensures held { OnOk result ((n : LockName) (m : LockMode) → is_held (all_in locks.new) n m ≡ (is_held (all_in locks.old) n m || keeps (requested request.now ∷ []) n m)) }
     ensures lasting { OnOk result ((n : LockName) (m : LockMode) → is_held (seen_all locks.new.lasting) n m ≡ (is_held (seen_all locks.old.lasting) n m || lasts (requested request.now ∷ []) n m)) }
     ensures front { KeepsFront locks.old locks.new }
@@ -123,7 +123,7 @@ fn keep(
     }
 }
 
-// Adds a lock to those of `t` that fall back, where it is not held.
+// Adds a lock to those of `t` that fall back, where it is not among them.
 fn keep_falling(
     names: &mut NameIndex,
     t: TxnId,
@@ -133,14 +133,13 @@ fn keep_falling(
 ) -> Result<(), AllocError>
     requires known { IsKnown names.old t (held_in locks.old) }
     ensures known { IsKnown names.new t (held_in locks.new) }
-    ensures others { OthersHold names.old t names.new }
+    ensures others { KeepsOthers names.old t names.new }
     ensures held { OnOk result ((n : LockName) (m : LockMode) → is_held (all_in locks.new) n m ≡ (is_held (all_in locks.old) n m || same_lock (record { name = named name.entry; mode = mode }) n m)) }
     ensures lasting { locks.new.lasting.items ≡ locks.old.lasting.items }
-    ensures front_falling { take (length locks.old.falling.items) locks.new.falling.items ≡ locks.old.falling.items }
-    ensures err { OnErr result (SameOwn locks.old locks.new) }
+    ensures front { take (length locks.old.falling.items) locks.new.falling.items ≡ locks.old.falling.items }
+    ensures err { OnErr result (locks.new.falling.items ≡ locks.old.falling.items) }
 {
-    add(names, t, &mut locks.falling, name, mode)?;
-    Ok(())
+    add(names, t, Span::Falling, &mut locks.falling, name, mode)
 }
 
 // Adds a lock to those of `t` that last, where it is not among them.
@@ -153,62 +152,45 @@ fn keep_lasting(
 ) -> Result<(), AllocError>
     requires known { IsKnown names.old t (held_in locks.old) }
     ensures known { IsKnown names.new t (held_in locks.new) }
-    ensures others { OthersHold names.old t names.new }
+    ensures others { KeepsOthers names.old t names.new }
     ensures held { OnOk result ((n : LockName) (m : LockMode) → is_held (all_in locks.new) n m ≡ (is_held (all_in locks.old) n m || same_lock (record { name = named name.entry; mode = mode }) n m)) }
     ensures lasting { OnOk result ((n : LockName) (m : LockMode) → is_held (seen_all locks.new.lasting) n m ≡ (is_held (seen_all locks.old.lasting) n m || same_lock (record { name = named name.entry; mode = mode }) n m)) }
-    ensures beside { GrowsLasting locks.old locks.new }
-    ensures err { OnErr result (SameOwn locks.old locks.new) }
+    ensures front { take (length locks.old.lasting.items) locks.new.lasting.items ≡ locks.old.lasting.items }
+    ensures falling { locks.new.falling.items ≡ locks.old.falling.items }
+    ensures err { OnErr result (locks.new.lasting.items ≡ locks.old.lasting.items) }
 {
-    if add(names, t, &mut locks.lasting, name, mode)? {
-        return Ok(());
-    }
-    if locks.falling.is_empty() {
-        return Ok(());
-    }
-    push_beside(&mut locks.lasting, name, mode)
+    add(names, t, Span::Lasting, &mut locks.lasting, name, mode)
 }
 
-// Adds a lock to a list of locks, where it is not among them.
-fn push_beside(locks: &mut Vec<StoredLock>, name: Name<'_>, mode: Mode) -> Result<(), AllocError>
-    ensures ok { OnOk result (IsPushed (named name.entry) mode (seen_all locks.old) (seen_all locks.new)) }
-    ensures front { take (length locks.old.items) locks.new.items ≡ locks.old.items }
-    ensures err { OnErr result (locks.new.items ≡ locks.old.items) }
-{
-    if is_locked(locks.as_slice(), name, mode) {
-        return Ok(());
-    }
-    let name = store(*locks.allocator(), name)?;
-    locks.push(StoredLock { name, mode })?;
-    Ok(())
-}
-
-// Adds a lock to a list of locks of `t`, where nothing of `t` is it. Answers whether it was added.
+// Adds a lock to a list of `t`, where it is not there: first its place, and then the lock, with the bytes of its name.
 fn add(
     names: &mut NameIndex,
     t: TxnId,
+    span: Span,
     locks: &mut Vec<StoredLock>,
     name: Name<'_>,
     mode: Mode,
-) -> Result<bool, AllocError>
-    ensures new { IfOk result (λ new. new ≡ not (holds_by_name names.old t (named name.entry) mode)) }
-    ensures here { IfOk result (λ new. new ≡ true → IsAdded names.old t (named name.entry) mode (seen_all locks.old) names.new (seen_all locks.new)) }
-    ensures there { IfOk result (λ new. new ≡ false → (locks.new.items ≡ locks.old.items) × SameHolders names.old names.new) }
+) -> Result<(), AllocError>
+    requires known { Covers names.old t span (seen_all locks.old) }
+    requires once { IsOnce (seen_all locks.old) }
+    ensures known { Covers names.new t span (seen_all locks.new) }
+    ensures once { IsOnce (seen_all locks.new) }
+    ensures apart { KeepsApart names.old t span names.new }
+    ensures held { OnOk result ((n : LockName) (m : LockMode) → is_held (seen_all locks.new) n m ≡ (is_held (seen_all locks.old) n m || same_lock (record { name = named name.entry; mode = mode }) n m)) }
     ensures front { take (length locks.old.items) locks.new.items ≡ locks.old.items }
-    ensures err { OnErr result ((locks.new.items ≡ locks.old.items) × SameHolders names.old names.new) }
+    ensures err { OnErr result (locks.new.items ≡ locks.old.items) }
 {
-    locks.reserve(1)?;
-    let holder = Holder { owner: t, mode };
-    if !names.add(name, holder)? {
-        return Ok(false);
+    let place = Place {
+        owner: t,
+        span,
+        at: locks.len(),
+    };
+    if !names.add(name, mode, place, locks.as_slice())? {
+        return Ok(());
     }
-    match store(*locks.allocator(), name) {
-        Ok(stored) => {
-            locks.push_reserved(StoredLock { name: stored, mode });
-            Ok(true)
-        }
-        Err(error) => {
-            names.remove(name, t, mode);
-            Err(error)
-        }
+    if let Err(error) = push_lock(locks, name, mode) {
+        names.remove(name, place);
+        return Err(error);
     }
+    Ok(())
 }

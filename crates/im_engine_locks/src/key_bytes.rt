@@ -1,7 +1,7 @@
 //! Keys as the table keeps them.
 
 ghost use Rattle.std.specs.Prelude.{◌≡◌, IfOk};
-ghost use Rattle.im_engine_locks.specs.HeldKeys.{spelled};
+ghost use Rattle.im_engine_locks.specs.Keys.{spelled, IsSettable};
 
 use crate::short_key::ShortKey;
 use std::alloc::{AllocError, Global};
@@ -14,14 +14,24 @@ pub enum KeyBytes {
 }
 
 impl KeyBytes {
-    /// A copy of these bytes. Memory is wanted where they are more than 31.
-    pub fn from_slice(alloc: Global, bytes: &[u8]) -> Result<KeyBytes, AllocError>
-        ensures { IfOk result (λ key. spelled key ≡ bytes.now) }
+    /// Room for a copy of these bytes, which `set` makes. Memory is wanted where they are more than 31: then they are copied here.
+    pub fn room_for(alloc: Global, bytes: &[u8]) -> Result<KeyBytes, AllocError>
+        ensures { IfOk result (λ key. IsSettable key bytes.now) }
     {
         if bytes.len() <= 31 {
-            return Ok(KeyBytes::Short(ShortKey::from_slice(bytes)));
+            return Ok(KeyBytes::Short(ShortKey::empty()));
         }
         Ok(KeyBytes::Long(Vec::from_slice(alloc, bytes)?))
+    }
+
+    /// Makes it a copy of the bytes for which it has room.
+    pub fn set(&mut self, bytes: &[u8])
+        requires { IsSettable self.old bytes.now }
+        ensures { spelled self.new ≡ bytes.now }
+    {
+        if let KeyBytes::Short(key) = self {
+            key.set(bytes);
+        }
     }
 
     /// The bytes.

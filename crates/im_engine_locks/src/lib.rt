@@ -12,17 +12,15 @@
 //! where it was asked to commit too.
 //!
 //! Contracts see the table as a list of owners, each with its locks (`Table`, `locks_of`), of which some last
-//! (`lasting_of`). Within, each lock stands twice: in a list of its owner, who has one of those that last and one of
-//! those that fall back, and in an index from names to holders. That both say the same, and each list has each lock
-//! once, is the table's invariant (`IsInStep`). The index finds a key by a digest of its bytes, whose bucket lists the
-//! keys of that digest that are held: mostly one, in place, as are keys of up to 31 bytes, so that a lock on such a key that
-//! nobody else holds wants no memory but room in the two. So a request costs two look-ups of its name, however many
+//! (`lasting_of`). Within, each lock stands once, with the bytes of its name, in a list of its owner, who has one of those that last and
+//! one of those that fall back. An index has the places of the locks on each name: whose they are, in which of the two lists, and at
+//! which number. That it has the place of each lock under its name, and each list has each lock once, is the table's invariant
+//! (`IsInStep`); that a place is of a lock on this very name is read there. The index finds a key by a digest of its bytes, whose bucket
+//! lists the places of that digest: mostly one, in it, as are the bytes of keys of up to 31 in their lock, so that a lock on such a key
+//! that nobody else holds wants no memory but room in the two. So a request costs two look-ups of its name, however many
 //! locks are held: one for those who are against it, which is left out where nobody else has a lock, and one to keep it;
 //! and a release costs one for each lock of its owner, or, where nobody else has a lock and the index has at most eight times the room for
-//! them, one pass over that room. Before it had that pass, on a machine of four cores, at a load of 7 to 8, the best of some runs: the 101 locks
-//! of a scan of 100 entries are granted by one call in 9.0 us and released in 5.7, and in the mean of 16 calls for the same in 6.9 and 0.3. Of
-//! 10, 1,000 and 30,000 locks, on keys of eight bytes, 7, 10 and 7 million are granted a second, and 15, 20 and 16 million released; one more is
-//! taken and released by another 4 million times a second.
+//! them, one pass over that room.
 //!
 //! **The rows.** `fetch_row`, `seek_row`, `prev_row`, `scan_row`, `insert_row`, `insert_row_to_finish`, `delete_row` and
 //! `shared` give what each access asks, from what its search found; by their contracts these are the rows of the machine
@@ -33,14 +31,13 @@
 
 mod bucket;
 mod grants;
-mod held_key;
-mod holder;
 mod key_bytes;
 mod lock_table;
 mod name;
-mod name_holders;
 mod name_index;
+mod name_places;
 mod own_locks;
+mod place;
 mod request;
 mod rivals;
 mod row;

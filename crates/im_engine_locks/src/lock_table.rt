@@ -7,7 +7,8 @@ ghost use Rattle.im_theory_machine.specs.Locks.{IsFree};
 ghost use Rattle.im_engine_locks.specs.Requests.{row};
 ghost use Rattle.im_theory_machine.specs.Table.{locks_of, Decides, IsGrown, SameTable, SameLasting, SameHeld, IsReleased, HasFallen};
 ghost use Rattle.im_engine_locks.specs.InStep.{owned, IsInStep};
-ghost use Rattle.im_engine_locks.specs.Index.{is_rival_of, IsLeast};
+ghost use Rattle.im_engine_locks.specs.Index.{IsLeast};
+ghost use Rattle.im_engine_locks.specs.Places.{is_rival_of};
 
 use crate::grants::{forget_falling, forget_lasting, grant};
 use crate::name_index::NameIndex;
@@ -95,13 +96,12 @@ fn rival_of(
     t: TxnId,
     requests: &[Request<'_>],
 ) -> Option<TxnId>
-    requires { IsInStep names.now (owned owners.now) }
-    ensures { IsLeast (is_rival_of names.now t (row requests.now)) result }
+    ensures { IsLeast (is_rival_of names.now (owned owners.now) t (row requests.now)) result }
 {
     if is_alone(owners, t) {
         return None;
     }
-    smallest_rival(names, t, requests)
+    smallest_rival(names, owners, t, requests)
 }
 
 // Whether nobody but `t` has a list of locks.

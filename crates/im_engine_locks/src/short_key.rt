@@ -7,27 +7,35 @@ ghost use Rattle.std.specs.Prelude.{◌≡◌, ◌≤◌, length, take};
 pub struct ShortKey {
     bytes: [u8; 31],
     len: u8,
-    ghost within: { len ≤ 31 },
 }
 
 impl ShortKey {
-    /// A copy of these bytes.
-    pub fn from_slice(bytes: &[u8]) -> ShortKey
-        requires { length bytes.now ≤ 31 }
-        ensures { take result.len result.bytes ≡ bytes.now }
-    {
-        let mut copy = [0; 31];
-        copy[..bytes.len()].copy_from_slice(bytes);
+    /// No bytes.
+    pub fn empty() -> ShortKey {
         ShortKey {
-            bytes: copy,
-            len: bytes.len() as u8,
+            bytes: [0; 31],
+            len: 0,
         }
     }
 
-    /// The bytes.
+    /// Makes it a copy of these bytes, where it stands: to make it first and to move it then would wait for the bytes.
+    pub fn set(&mut self, bytes: &[u8])
+        requires { length bytes.now ≤ 31 }
+        ensures { take self.new.len self.new.bytes ≡ bytes.now }
+    {
+        self.bytes[..bytes.len()].copy_from_slice(bytes);
+        self.len = bytes.len() as u8;
+    }
+
+    /// The bytes: there are no more than have room.
     pub fn as_slice(&self) -> &[u8]
         ensures { result.now ≡ take self.now.len self.now.bytes }
     {
-        &self.bytes[..usize::from(self.len)]
+        let len = usize::from(self.len);
+        if len <= 31 {
+            &self.bytes[..len]
+        } else {
+            &self.bytes
+        }
     }
 }

@@ -1,17 +1,16 @@
-use Rattle.std.proofs.Common.{List, map, sym, subst}
-use Rattle.im_engine_locks.specs.Index.{seen, seen_all}
-use Rattle.im_engine_locks.specs.Owned.{IsKnownBeside}
-use Rattle.im_engine_locks.specs.declared.stored_lock.StoredLock.{StoredLock}
-use Rattle.im_engine_locks.proofs.Held.{second-beside, second-known}
+use Rattle.std.proofs.Common.{refl}
+use Rattle.im_engine_locks.specs.Index.{seen_all}
+use Rattle.im_engine_locks.specs.declared.place.Span.TheVariants.{Lasting, Falling}
+use Rattle.im_engine_locks.proofs.Places.{covers-other, others-apart}
 use Rattle.im_engine_locks.proofs.grants.forget_falling.Goals as goal
 
-pub forget-requires : goal.forget-requires
-forget-requires c = record {
-  known = subst (λ (items : List StoredLock). IsKnownBeside c.args.names.now c.args.t (seen_all c.args.locks.now.falling) (map seen items)) (sym c.as_slice.ensures.value)
-      (second-beside c.args.names.now c.args.t (seen_all c.args.locks.now.lasting) (seen_all c.args.locks.now.falling) c.requires.known);
+pub returns-clause-known : goal.returns-clause-known
+returns-clause-known c = record {
+  lasting = covers-other c.args.names.now c.forget.new.names c.args.t Falling Lasting (seen_all c.args.locks.now.lasting) refl c.forget.ensures.apart c.requires.known.lasting;
+  falling = c.forget.ensures.known;
+  once = c.requires.known.once;
+  once_falling = c.forget.ensures.once;
 }
 
-pub returns-clause-known : goal.returns-clause-known
-returns-clause-known c = second-known c.forget.new.names c.args.t (seen_all c.args.locks.now.lasting) (seen_all c.forget.new.locks)
-    (subst (λ (items : List StoredLock). IsKnownBeside c.forget.new.names c.args.t (seen_all c.forget.new.locks) (map seen items)) c.as_slice.ensures.value c.forget.ensures.known)
-    c.requires.known.once
+pub returns-clause-others : goal.returns-clause-others
+returns-clause-others c = others-apart c.args.names.now c.forget.new.names c.args.t Falling c.forget.ensures.apart

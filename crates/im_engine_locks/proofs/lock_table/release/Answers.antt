@@ -2,7 +2,7 @@ use Rattle.std.proofs.Common.{rules, ◌∙◌, ap, subst, None}
 use Rattle.im_theory_machine.specs.Table.{Held, all_of, nothing_held}
 use Rattle.im_engine_locks.specs.Owned.{IsKnown}
 use Rattle.im_engine_locks.specs.InStep.{owned}
-use Rattle.im_engine_locks.proofs.Held.{OthersHold-on}
+use Rattle.im_engine_locks.proofs.Places.{others-on}
 use Rattle.im_engine_locks.proofs.Owners.{owned-others, owned-own, held_of-there, known-in, emptied, in_step-after, none_left}
 use Rattle.im_engine_locks.proofs.lock_table.release.Goals as goal
 
@@ -14,7 +14,7 @@ forget_lasting-requires c = record {
 pub returns-else-is_empty-clause-in_step : goal.returns-else-is_empty-clause-in_step
 returns-else-is_empty-clause-in_step c =
     in_step-after c.args.names.now c.forget_falling.new.names c.args.t (owned c.args.owners.now) (owned c.remove.new.self) c.requires.in_step
-    (OthersHold-on c.args.names.now c.forget_lasting.new.names c.forget_falling.new.names c.args.t c.forget_lasting.ensures.others c.forget_falling.ensures.others)
+    (others-on c.args.names.now c.forget_lasting.new.names c.forget_falling.new.names c.args.t c.forget_lasting.ensures.others c.forget_falling.ensures.others)
     (owned-others c.args.owners.now c.remove.new.self c.args.t None c.remove.ensures.updates)
     nothing_held
     (owned-own c.args.owners.now c.remove.new.self c.args.t None c.remove.ensures.updates)
@@ -39,4 +39,4 @@ returns-then-is_filled-clause-released c = record {
 }
 
 pub returns-then-is_filled-clause-in_step : goal.returns-then-is_filled-clause-in_step
-returns-then-is_filled-clause-in_step c = none_left c.clear.new.self c.remove.new.self (search rules) c.clear.ensures
+returns-then-is_filled-clause-in_step c = none_left c.clear.new.self c.remove.new.self (search rules)
