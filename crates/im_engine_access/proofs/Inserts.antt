@@ -27,8 +27,10 @@ use Rattle.im_theory_page.specs.Split.{HasRoom}
 use Rattle.im_theory_tree.specs.Good.{AllOf, IsGoodTree}
 use Rattle.im_theory_tree.specs.Levels.{Pages, walk}
 use Rattle.im_theory_tree.specs.Search.{IsOnWay}
+use Rattle.im_theory_tree.specs.Ways.{KeepsWays}
 use Rattle.im_tree_search.specs.Levels.{bodies, bodies_of}
 use Rattle.im_smo_pages.specs.Images.{Numbered}
+use Rattle.im_smo_pages.specs.OnWay.{IsApart}
 use Rattle.im_smo_pages.specs.Seen.{seen}
 use Rattle.im_smo_log.specs.Changes.{IsOfChange, GrowsByChange, HasRecordOf, MayChange, ChangeKept, LeavesChange, image_marks}
 use Rattle.im_smo_log.proofs.Runs.{marked_is}
@@ -274,6 +276,7 @@ module _ {D : Type 0} (d : Ghosts D) (b : Base) (base : ℕ) where
           some = may.planned.0;
           good = subst (λ (store : AllPages). IsGoodTree (seen store plan.images) []) (sym stay) may.planned.1.good;
           same = subst (λ (store : AllPages). walk (seen store plan.images) ≡ walk (bodies_of store)) (sym stay) may.planned.1.same;
+          ways = subst (λ (store : AllPages). KeepsWays (bodies_of store) (seen store plan.images) (IsApart plan.images)) (sym stay) may.planned.1.ways;
         }
 
     pub run_left : (new : D) → LeavesChange d b base from.now t disk new → LeavesEdit d b base s t may.since new

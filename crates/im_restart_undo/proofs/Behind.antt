@@ -104,7 +104,7 @@ module _ {D : Type 0} (d : Ghosts D) (b : Base) (base : ℕ) where
       split_so r run =
           split_kept d b base s e t last undo_next start old g parts.key plan.images plan.leaf parts.planned parts.some v mid r
           (subst (λ (n : ℕ). MayChange d b base s e plan.images n last undo_next start old → ChangeKept d b base s e plan.images n undo_next old v mid r) owner run
-          (may_change d b base s e t last undo_next start old g (settled_pages b s) plan.images (settled_here d b base s e t last undo_next start old g) parts.some parts.planned.good parts.planned.same))
+          (may_change d b base s e t last undo_next start old g (settled_pages b s) plan.images (settled_here d b base s e t last undo_next start old g) parts.some parts.planned.good parts.planned.same parts.planned.ways))
 
       lacks : WantsRoom (bodies s) (what_of entry)
       lacks = subst (λ (pages : Pages). WantsRoom pages (what_of entry)) (sym (settled_here d b base s e t last undo_next start old g)) (split_lacks (settled_pages b s) (what_of entry) plan splits)

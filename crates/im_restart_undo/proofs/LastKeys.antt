@@ -14,18 +14,22 @@ use Rattle.im_theory_log.specs.Histories.{Base}
 use Rattle.im_theory_log.specs.Lawful.{IsLawful}
 use Rattle.im_theory_log.specs.Structure.{settled}
 use Rattle.im_theory_log.specs.Writer.{Writer}
+use Rattle.im_theory_log.proofs.Cited.{has_tree}
 use Rattle.im_base_disk.specs.declared.disk.Disk.{Ghosts}
 use Rattle.im_log_record.specs.Entry.{Entry as Said, prev_of}
 use Rattle.im_log.specs.Spelled.{logged_at}
 use Rattle.im_log.specs.Whats.{what_of}
 use Rattle.im_page_writer.specs.declared.page_writer.PageWriter.{PageWriter}
 use Rattle.im_page_writer.specs.Outcome.{AllPages}
+use Rattle.im_theory_tree.specs.Good.{IsGoodTree}
+use Rattle.im_theory_tree.specs.Levels.{Pages}
 use Rattle.im_theory_tree.specs.Theory.{page_tree}
 use Rattle.im_theory_tree.specs.Ways.{with_leaf}
 use Rattle.im_tree_search.specs.Levels.{bodies, bodies_of}
 use Rattle.im_smo_pages.specs.Bodies.{says}
 use Rattle.im_smo_pages.specs.Images.{Numbered}
 use Rattle.im_smo_drop_leaf.specs.Emptied.{emptied}
+use Rattle.im_smo_drop_leaf.proofs.PlanWays.{deletion_plans_keep_ways}
 use Rattle.im_smo_log.specs.Changes.{MayChange}
 use Rattle.im_smo_actions.specs.GoingBeside.{settled_pages}
 use Rattle.im_restart_undo.specs.declared.back.Back.TheVariants.{Plain}
@@ -83,3 +87,5 @@ module _ {D : Type 0} (d : Ghosts D) (b : Base) (base : ℕ) where
 
     pub may_empty : MayChange d b base taken.now e images t l (prev_of said) v mid
     may_empty = may_change d b base taken.now e t l (prev_of said) v mid going_behind (emptied (settled_pages b s) p) images empty_here leaf.plan.some leaf.plan.good leaf.plan.same
+        (deletion_plans_keep_ways (emptied (settled_pages b s) p) p images
+        (subst (λ (f : Pages). IsGoodTree f []) (emptied_behind s e t old g.can.lawful said to key rid same p images leaf l v mid taken) (has_tree b page_tree taken.now.log taken.going.lawful).good) leaf.plan)

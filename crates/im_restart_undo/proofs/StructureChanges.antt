@@ -14,9 +14,11 @@ use Rattle.im_theory_tree.specs.Good.{IsGoodTree}
 use Rattle.im_theory_tree.specs.Levels.{Pages, walk}
 use Rattle.im_theory_tree.specs.Plans.{applied}
 use Rattle.im_theory_tree.specs.Search.{IsOnWay}
+use Rattle.im_theory_tree.specs.Ways.{KeepsWays}
 use Rattle.im_theory_page.specs.Split.{HasRoom}
 use Rattle.im_tree_search.specs.Levels.{bodies, bodies_of}
-use Rattle.im_smo_pages.specs.Images.{Numbered, plan_of}
+use Rattle.im_smo_pages.specs.Images.{Numbered, held, plan_of}
+use Rattle.im_smo_pages.specs.OnWay.{IsApart}
 use Rattle.im_smo_pages.specs.Seen.{seen}
 use Rattle.im_smo_split.specs.Plan.{Planned}
 use Rattle.im_restart_analysis.specs.declared.rows.Loser.{Loser}
@@ -48,8 +50,8 @@ module _ {D : Type 0} (d : Ghosts D) (b : Base) (base : ℕ) where
 
     -- a plan over them may be made
     pub may_change : (pages : AllPages) (images : List Numbered) → bodies s ≡ bodies_of pages → 1 ≤ length images → IsGoodTree (seen pages images) [] → walk (seen pages images) ≡ walk (bodies_of pages)
-        → MayChange d b base s e images t last undo_next v old
-    may_change pages images same some good walks = record {
+        → KeepsWays (bodies_of pages) (seen pages images) (IsApart images) → MayChange d b base s e images t last undo_next v old
+    may_change pages images same some good walks ways = record {
       stands = g.stands;
       over = g.over;
       lawful = g.can.lawful;
@@ -60,6 +62,7 @@ module _ {D : Type 0} (d : Ghosts D) (b : Base) (base : ℕ) where
       some = some;
       good = subst (λ (x : Pages). IsGoodTree x []) (sym (seen_same pages images same)) good;
       same = ap walk (seen_same pages images same) ∙ walks ∙ ap walk (sym same);
+      ways = subst (λ (x : Pages). KeepsWays x (held x images) (IsApart images)) (sym same) ways;
     }
 
     -- ---- the change

@@ -15,8 +15,11 @@ use Rattle.im_page_writer.specs.PageWriter.{GoesOn, Evicted}
 use Rattle.im_page_writer.proofs.Outcomes.{leaves_of_end}
 use Rattle.im_theory_tree.specs.Levels.{Pages, walk}
 use Rattle.im_theory_tree.specs.Good.{IsGoodTree}
+use Rattle.im_theory_tree.specs.Ways.{KeepsWays}
 use Rattle.im_smo_pages.specs.Images.{Numbered}
+use Rattle.im_smo_pages.specs.OnWay.{IsApart}
 use Rattle.im_smo_pages.specs.Seen.{seen}
+use Rattle.im_smo_drop_leaf.proofs.PlanWays.{deletion_plans_keep_ways}
 use Rattle.im_smo_pages.specs.Kept.{Plans}
 use Rattle.im_tree_search.specs.Levels.{bodies, bodies_of}
 use Rattle.im_smo_log.specs.Changes.{HasRecordOf, LeavesChange, Begun, MayChange, Changed, ChangeKept, image_marks}
@@ -75,8 +78,8 @@ module _ {D : Type 0} (d : Ghosts D) (b : Base) (base : ℕ) (s : Writer) (e t l
 
   module _ (now : Writer) (w : PageWriter) (mid : D) (on : GoesOn d b base s old now w mid) where
     module _ (images : List Numbered) where
-      may_change : 1 ≤ length images → IsGoodTree (seen (pages_of s) images) [] → walk (seen (pages_of s) images) ≡ walk (bodies s) → MayChange d b base now e images t last undo_next w mid
-      may_change any good same =
+      may_change : 1 ≤ length images → IsGoodTree (seen (pages_of s) images) [] → walk (seen (pages_of s) images) ≡ walk (bodies s) → KeepsWays (bodies s) (seen (pages_of s) images) (IsApart images) → MayChange d b base now e images t last undo_next w mid
+      may_change any good same ways =
           let still = unfinished_images d b base s e t last undo_next v old u some now w mid on in
           let stays = pages_stay b s now on.goes.keeps in
           record {
@@ -90,6 +93,7 @@ module _ {D : Type 0} (d : Ghosts D) (b : Base) (base : ℕ) (s : Writer) (e t l
             some = any;
             good = subst (λ (store : AllPages). IsGoodTree (seen store images) []) (sym stays) good;
             same = subst (λ (store : AllPages). walk (seen store images) ≡ walk (bodies_of store)) (sym stays) same;
+            ways = subst (λ (store : AllPages). KeepsWays (bodies_of store) (seen store images) (IsApart images)) (sym stays) ways;
           }
 
       planned_stops : (new : D) → LeavesChange d b base now t mid new → LeavesChange d b base s t old new
@@ -172,6 +176,7 @@ module _ {D : Type 0} (d : Ghosts D) (b : Base) (base : ℕ) (s : Writer) (e t l
     module _ (images : List Numbered) (w : PageWriter) (mid : D) (at : Plans d v old w mid None) (plan : IsDropPlan (pages_of s) key (Some images)) where
       pub may_drop : MayChange d b base (planned_at at).now e images t last undo_next w mid
       may_drop = may_change (planned_at at).now w mid (planned_at at).on images plan.1.some plan.1.good plan.1.same
+          (deletion_plans_keep_ways (pages_of s) plan.0.page images (unfinished_good d b base s e t last undo_next v old u) plan.1)
 
       same_leaf : (spare : IsSpare (bodies s) key) → plan.0.page ≡ spare.page
       same_leaf spare = one_leaf (bodies s) [] key plan.0.page spare.page (unfinished_good d b base s e t last undo_next v old u) plan.0.way spare.way

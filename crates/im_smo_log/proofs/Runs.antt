@@ -5,13 +5,15 @@ use Rattle.std.proofs.lemmas.Bool.{cases_eq, cond-true, cond-false, eq-eqb, ne_e
 use Rattle.std.proofs.lemmas.List.{drop_more, drop_all}
 use Rattle.im_base_types.specs.Pages.{Body, Page}
 use Rattle.im_base_types.specs.Records.{What, InsertKey, DeleteKey, UndoInsert, UndoDelete, Smo, UndoSmo, DummyClr, Commit, End, Image, Checkpoint, Unreadable, Logged}
-use Rattle.im_theory_log.specs.Histories.{Base, History, IsFront, end_of, page_at}
-use Rattle.im_theory_log.specs.Lawful.{IsLawful, resumes}
+use Rattle.im_theory_log.specs.Histories.{Base, History, IsFront}
+use Rattle.im_theory_log.specs.Lawful.{IsLawful}
+use Rattle.im_theory_log.specs.Structure.{settled}
+use Rattle.im_theory_log.specs.Transactions.{is_finished}
 use Rattle.im_theory_log.specs.Tree.{with_body}
 use Rattle.im_theory_log.specs.Writer.{PageState, Writer}
 use Rattle.im_theory_log.specs.WriterSteps.{appended}
 use Rattle.im_page_table.specs.KnownCopies.{changed_as, changed_page_as}
-use Rattle.im_theory_log.proofs.Cited.{front_self, images_pages, reached_end}
+use Rattle.im_theory_log.proofs.Cited.{front_self}
 use Rattle.im_base_disk.specs.declared.disk.Disk.{Ghosts}
 use Rattle.im_base_disk.specs.Disk.{Files}
 use Rattle.im_base_disk.proofs.Runs.{then_on, weakened}
@@ -22,23 +24,27 @@ use Rattle.im_page_writer.specs.declared.page_writer.PageWriter.{PageWriter}
 use Rattle.im_page_file.specs.Stands.{IsCovered}
 use Rattle.im_page_flush.specs.Writing.{LeavesGrown}
 use Rattle.im_page_writer.specs.Outcome.{pages_of}
-use Rattle.im_page_writer.specs.PageWriter.{StandsAs, LoggedOnly, Evicted}
+use Rattle.im_page_writer.specs.PageWriter.{LoggedOnly, Evicted}
 use Rattle.im_page_flush.proofs.Goings.{leaves_so_far}
 use Rattle.im_page_file.proofs.Standing.{wider_covered}
 use Rattle.im_page_writer.proofs.Writers.{goes_on_start}
-use Rattle.im_theory_tree.specs.Levels.{Pages, walk}
-use Rattle.im_theory_tree.specs.Good.{AllOf, IsGoodTree}
+use Rattle.im_theory_tree.specs.Levels.{Pages}
+use Rattle.im_theory_tree.specs.Good.{AllOf}
 use Rattle.im_theory_tree.specs.Theory.{page_tree}
-use Rattle.im_theory_tree.specs.Plans.{applied}
-use Rattle.im_smo_pages.specs.Images.{Numbered, IsAbove, IsRising, image_of, image_at, plan_of}
+use Rattle.im_theory_tree.specs.Ways.{StandsFor}
+use Rattle.im_smo_pages.specs.Images.{Numbered, IsAbove, IsRising, image_of, image_at, held}
 use Rattle.im_smo_pages.specs.Changed.{SamePages}
+use Rattle.im_smo_pages.specs.OnWay.{IsApart}
 use Rattle.im_smo_pages.specs.Seen.{bodies, seen}
 use Rattle.im_smo_pages.proofs.ImageLemmas.{body_or, applied_image, rising_tail}
 use Rattle.im_smo_pages.proofs.Updates.{at_other}
 use Rattle.im_smo_log.specs.Logged.{smo_at, dummy_at, PageLogged}
-use Rattle.im_smo_log.specs.Changes.{IsOfChange, GrowsByChange, HasRecordOf, with_mark, marks, image_marks, AreCounted, IsOpenBelow, LeftByChange, LeavesChange, MayChange, PagesLogged, Begun, Changed}
-use Rattle.im_smo_log.proofs.ChangeLogs.{grows_images, images_lawful, images_under_way, smo_under_way}
-use Rattle.im_smo_log.proofs.Closing.{logged_bodies, closes}
+use Rattle.im_smo_log.specs.Under.{IsUnderWay}
+use Rattle.im_smo_log.specs.Changes.{IsOfChange, GrowsByChange, HasRecordOf, with_mark, marks, image_marks, AreCounted, LeftByChange, LeavesChange, MayChange, PagesLogged, Begun, Changed}
+use Rattle.im_smo_log.proofs.ChangeLogs.{grows_images, grows_page, images_lawful, marks_images, marks_page}
+use Rattle.im_smo_log.proofs.Closing.{closed_pages}
+use Rattle.im_smo_log.proofs.Coming.{changes_begin, closes_may_come}
+use Rattle.im_smo_log.proofs.Stepping.{page_is, step_goes}
 
 -- ---- records of the change
 
@@ -104,21 +110,7 @@ changed_bodies known lsn t prev p was now s q = by (p == q) refl
         ap (λ (x : PageState). x.page.body) (cond-false (p == q) (changed_page_as known (smo_at lsn t prev p was now) (s.pages q)) (s.pages q) is)
         ∙ sym (cond-false (p == q) now (bodies (pages_of s) q) is)
 
--- the first of them, page 0, is what is seen of it
-first_leftmost : (xs : List Numbered) (pages : Pages) → 1 ≤ length xs → (image_at xs 0).0 ≡ 0 → (applied pages (plan_of pages xs) 0).leftmost ≡ (image_at xs 0).1.body.leftmost
-first_leftmost [] pages some zeroth = absurd (omega (arith, some))
-first_leftmost (x ∷ rest) pages some zeroth =
-    ap (λ (c : Body). c.leftmost) (applied_image pages (x ∷ rest) 0)
-    ∙ ap (λ (o : Option Page). (body_or o (pages 0)).leftmost) (cond-true (x.0 == 0) (Some x.1) (image_of rest 0) (eq-eqb x.0 0 zeroth))
-
 module _ {D : Type 0} (d : Ghosts D) (b : Base) (base : ℕ) where
-  -- the writer's pages are those of its log
-  pub page_is : (s : Writer) (e : ℕ) (w : PageWriter) (disk : D) → StandsAs d b base s w disk → s.redo_end ≡ Some e → (p : ℕ) → (s.pages p).page ≡ page_at b s.log p
-  page_is s e w disk is over p =
-      let k = is.writing.stands.kept.pages p in
-      let run = k.run e over in
-      reached_end b s.log (s.pages p).upto p (s.pages p).page run.1 (k.now run.0)
-
   -- ---- what a stop leaves
 
   pub left_grown : (s : Writer) (t : ℕ) (now : Writer) (mid new : D) → IsFront s.durable now.durable → IsLawful b page_tree now.log → GrowsByChange t s.log now.log → LeavesGrown d b base now mid new → LeavesChange d b base s t mid new
@@ -135,53 +127,52 @@ module _ {D : Type 0} (d : Ghosts D) (b : Base) (base : ℕ) where
   stops_then s t old mid new first second = then_on d old mid new (LeftByChange d b base s t) (LeftByChange d b base s t) first second (λ told c left. left)
 
   module _ (s : Writer) (e : ℕ) (xs : List Numbered) (t undo_next : ℕ) where
+    -- ---- in front of the first page
+
+    abbrev none_more : GrowsByChange t s.log s.log
+    none_more = record { more = []; is = refl; all = tt }
+
+    pub stops_begin : (last : ℕ) (w : PageWriter) (disk : D) → ((c : Files) → d.left_since disk (d.moment disk) c → d.may_leave disk c) → MayChange d b base s e xs t last undo_next w disk → LeavesChange d b base s t disk disk
+    stops_begin last w disk only_now may = left_grown s t s disk disk (front_self s.durable) may.lawful none_more (leaves_so_far d b base s disk s w.log w.table w.pool disk (goes_on_start d b base s w disk only_now may.stands).goes)
+
+    -- with none open, the writer's pages are the settled ones
+    settled_first : (last : ℕ) (w : PageWriter) (disk : D) → MayChange d b base s e xs t last undo_next w disk → bodies (pages_of s) ≡ settled b s.log
+    settled_first last w disk may = fun_ext (λ (q : ℕ). ap (λ (g : Page). g.body) (page_is d b base s e w disk may.stands may.over q)) ∙ sym (closed_pages b s.log may.closed)
+
+    pub pages_begin : (last : ℕ) (w : PageWriter) (disk : D) → ((c : Files) → d.left_since disk (d.moment disk) c → d.may_leave disk c) → t ≢ 0 → IsRising xs → MayChange d b base s e xs t last undo_next w disk
+        → PagesLogged d b base s e xs t undo_next 0 last disk w disk
+    pages_begin last w disk only_now some up may = record {
+      now = s;
+      stands = may.stands;
+      over = may.over;
+      point = refl;
+      durable = front_self s.durable;
+      under = changes_begin b t undo_next xs last s.log may.lawful some may.newest may.unfinished up may.closed may.undo
+          (subst (λ (f : Pages). StandsFor f (held f xs) (IsApart xs)) (settled_first last w disk may) (record { good = may.good; same = may.same; ways = may.ways }));
+      grows = none_more;
+      order = refl;
+      pages = λ p. refl;
+      stops = stops_begin last w disk only_now may;
+    }
+
     -- ---- the way through the pages
 
-    pub pages_begin : (last : ℕ) (w : PageWriter) (disk : D) → ((c : Files) → d.left_since disk (d.moment disk) c → d.may_leave disk c) → MayChange d b base s e xs t last undo_next w disk
-        → PagesLogged d b base s e xs t undo_next 0 last disk w disk
-    pages_begin last w disk only_now may =
-        let grows : GrowsByChange t s.log s.log = record { more = []; is = refl; all = tt } in
-        record {
-          now = s;
-          stands = may.stands;
-          over = may.over;
-          point = refl;
-          durable = front_self s.durable;
-          log = record {
-            lawful = may.lawful;
-            grows = grows;
-            order = refl;
-            last = may.newest;
-            unfinished = may.unfinished;
-            count = ap (λ (l : History). length l) may.closed;
-            bound = 0;
-            opened = subst (λ (l : History). IsOpenBelow t 0 (end_of b s.log) l) (sym may.closed) tt;
-            above = λ k le lt. omega arith;
-            resume = ap (λ (l : History). resumes s.log t l) may.closed ∙ may.undo;
-            counted = λ any. absurd (omega (arith, any));
-            zeroth = λ any. absurd (omega (arith, any));
-            named = λ k lt. absurd (omega (arith, lt));
-            bounded = λ any. absurd (omega (arith, any));
-          };
-          pages = λ p. refl;
-          stops = left_grown s t s disk disk (front_self s.durable) may.lawful grows
-              (leaves_so_far d b base s disk s w.log w.table w.pool disk (goes_on_start d b base s w disk only_now may.stands).goes);
-        }
-
     pub pages_stops : (i prev : ℕ) (old : D) (w : PageWriter) (mid new : D) (so : PagesLogged d b base s e xs t undo_next i prev old w mid) → LeavesGrown d b base so.now mid new → LeavesChange d b base s t old new
-    pages_stops i prev old w mid new so stops = stops_then s t old mid new so.stops (left_grown s t so.now mid new so.durable so.log.lawful so.log.grows stops)
+    pages_stops i prev old w mid new so stops = stops_then s t old mid new so.stops (left_grown s t so.now mid new so.durable so.under.lawful so.grows stops)
 
-    pub pages_next : (i prev lsn : ℕ) (old : D) (w : PageWriter) (mid : D) (v : PageWriter) (new : D) → t ≢ 0 → IsRising xs → AreCounted xs → i < length xs → (so : PagesLogged d b base s e xs t undo_next i prev old w mid)
+    pub pages_next : (i prev lsn : ℕ) (old : D) (w : PageWriter) (mid : D) (v : PageWriter) (new : D) → IsRising xs → AreCounted xs → i < length xs → (so : PagesLogged d b base s e xs t undo_next i prev old w mid)
         → PageLogged d b base so.now t prev (image_at xs i).0 (image_at xs (length xs - 1)).0 (image_at xs i).1.body lsn v new → LeavesGrown d b base so.now mid new → PagesLogged d b base s e xs t undo_next (i + 1) lsn old v new
-    pages_next i prev lsn old w mid v new some up all within so done stops = record {
+    pages_next i prev lsn old w mid v new up all within so done stops = record {
       now = after;
       stands = done.stands;
       over = done.keeps.redo_end ∙ so.over;
       point = done.keeps.point ∙ so.point;
       durable = front_then s.durable now.durable done.durable so.durable (front_then now.durable done.before.durable done.durable done.keeps.durable done.grows);
-      log = smo_under_way b t undo_next xs s.log some i prev lsn (now.pages p).page.body x.1.body done.before.log up all within refl done.high
-          (ap (λ (g : Page). g.body) (page_is now e w mid so.stands so.over p ∙ same_page)) done.counted
-          (images_under_way b t undo_next xs s.log some i prev now.log done.before.log done.keeps.log so.log);
+      under = subst (λ (n : ℕ). IsUnderWay b t undo_next xs n lsn after.log) one_more (step_goes d b base now e w mid so.stands so.over t undo_next xs i prev false lsn v new all within done so.under);
+      grows = grows_page t s.log done.before.log lsn prev p was x.1.body among;
+      order = marks_page t s.log done.before.log lsn prev p was x.1.body among
+          ∙ ap (λ (ms : List (Option ℕ)). Some p ∷ ms) (marks_images b t s.log now.log done.before.log so.grows done.keeps.log ∙ so.order)
+          ∙ ap (λ (n : ℕ). image_marks n xs) one_more;
       pages = λ q. seen_step now after x (drop (i + 1) xs) above step q ∙ ap (λ (l : List Numbered). seen (pages_of now) l q) (sym front) ∙ so.pages q;
       stops = pages_stops i prev old w mid new so stops;
     }
@@ -195,8 +186,17 @@ module _ {D : Type 0} (d : Ghosts D) (b : Base) (base : ℕ) where
         p : ℕ
         p = (image_at xs i).0
 
+        was : Body
+        was = (now.pages p).page.body
+
         after : Writer
-        after = record (changed_as done.known (smo_at lsn t prev p (now.pages p).page.body x.1.body) done.before) { durable = done.durable }
+        after = record (changed_as done.known (smo_at lsn t prev p was x.1.body) done.before) { durable = done.durable }
+
+        one_more : suc i ≡ i + 1
+        one_more = omega arith
+
+        among : GrowsByChange t s.log done.before.log
+        among = grows_images b t s.log now.log done.before.log so.grows done.keeps.log
 
         front : drop i xs ≡ x ∷ drop (i + 1) xs
         front = drop_more xs i (0, initial 0) within
@@ -204,59 +204,42 @@ module _ {D : Type 0} (d : Ghosts D) (b : Base) (base : ℕ) where
         above : IsAbove p (drop (i + 1) xs)
         above = subst IsRising front (drop_rises i xs up)
 
-        same_page : page_at b now.log p ≡ page_at b done.before.log p
-        same_page = sym (ap (λ (l : History). page_at b l p) done.keeps.log.is ∙ images_pages b done.keeps.log.images now.log p done.keeps.log.all)
-
         step : (q : ℕ) → bodies (pages_of after) q ≡ with_body (bodies (pages_of now)) p x.1.body q
         step q =
-            changed_bodies done.known lsn t prev p (now.pages p).page.body x.1.body done.before q
+            changed_bodies done.known lsn t prev p was x.1.body done.before q
             ∙ ap (λ (c : Body). if p == q then x.1.body else c) (ap (λ (g : Page). g.body) (done.keeps.pages q).page)
 
     -- a page was not logged, after the first one
-    pub pages_begun : (i prev : ℕ) (old : D) (w : PageWriter) (mid : D) (v : PageWriter) (new : D) → t ≢ 0 → 1 ≤ i → (so : PagesLogged d b base s e xs t undo_next i prev old w mid)
+    pub pages_begun : (i prev : ℕ) (old : D) (w : PageWriter) (mid : D) (v : PageWriter) (new : D) → 1 ≤ i → (so : PagesLogged d b base s e xs t undo_next i prev old w mid)
         → Evicted d b base so.now mid v new → Begun d b base s t v new
-    pages_begun i prev old w mid v new some first so ev =
-        let way = images_under_way b t undo_next xs s.log some i prev so.now.log ev.now.log ev.on.goes.keeps.log so.log in
+    pages_begun i prev old w mid v new first so ev =
+        let among = grows_images b t s.log so.now.log ev.now.log so.grows ev.on.goes.keeps.log in
         record {
           now = ev.now;
           stands = record { working = ev.on.working; writing = ev.on.goes.writing; known = ev.on.known };
-          grows = way.grows;
-          some = images_begun t i xs way.grows.more first way.grows.all way.order;
+          grows = among;
+          some = images_begun t i xs among.more first among.all (marks_images b t s.log so.now.log ev.now.log so.grows ev.on.goes.keeps.log ∙ so.order);
         }
 
-    -- ---- the end
+    -- ---- the end: pages in a row, and the record that closes them, are a run
 
-    pub change_done : (last prev lsn : ℕ) (start : PageWriter) (old : D) (w : PageWriter) (mid : D) (v : PageWriter) (new : D) → t ≢ 0 → MayChange d b base s e xs t last undo_next start old
+    pub change_done : (last prev lsn : ℕ) (start : PageWriter) (old : D) (w : PageWriter) (mid : D) (v : PageWriter) (new : D) → MayChange d b base s e xs t last undo_next start old
         → (so : PagesLogged d b base s e xs t undo_next (length xs) prev old w mid) → LoggedOnly d b base so.now (entries.DummyClr t prev undo_next) lsn v new → Changed d b base s e xs t undo_next lsn old v new
-    change_done last prev lsn start old w mid v new some may so done =
-        let log = closes b t undo_next xs s.log (length xs) prev lsn now.log some may.some so.log done.high may.lawful may.closed
-        (subst (λ (pages : Pages). IsGoodTree pages []) (sym logged) may.good)
-        (ap walk logged ∙ may.same ∙ sym (ap walk was)) refl
-        (ap (λ (f : Pages). (f 0).leftmost) logged ∙ first_leftmost xs (bodies (pages_of s)) may.some (so.log.zeroth may.some)) in
+    change_done last prev lsn start old w mid v new may so done =
+        let now = so.now in
+        let end = closes_may_come b t undo_next xs prev lsn now.log so.under may.some done.high in
         record {
           now = record (appended (dummy_at lsn t prev undo_next) now) { durable = done.durable };
           stands = done.stands;
           over = so.over;
           point = so.point;
           durable = front_then s.durable now.durable done.durable so.durable done.grows;
-          pages = pages;
-          lawful = log.lawful;
-          grows = log.grows;
-          order = log.order;
-          last = log.last;
-          undo = log.undo;
-          unfinished = log.unfinished;
-          closed = log.closed;
+          pages = λ q. ap (λ (l : List Numbered). seen (pages_of now) l q) (sym (drop_all (length xs) xs (omega arith))) ∙ so.pages q;
+          lawful = end.lawful;
+          grows = record { more = dummy_at lsn t prev undo_next ∷ so.grows.more; is = ap (λ (l : History). dummy_at lsn t prev undo_next ∷ l) so.grows.is; all = (refl, so.grows.all) };
+          order = ap (λ (ms : List (Option ℕ)). None ∷ ms) so.order;
+          last = end.last;
+          undo = end.undo;
+          unfinished = cond-true (t == t) (is_finished t now.log) (is_finished t now.log) (eq-eqb t t refl) ∙ so.under.unfinished;
+          closed = end.closed;
         }
-      where
-        now : Writer
-        now = so.now
-
-        pages : SamePages (bodies (pages_of now)) (seen (pages_of s) xs)
-        pages q = ap (λ (l : List Numbered). seen (pages_of now) l q) (sym (drop_all (length xs) xs (omega arith))) ∙ so.pages q
-
-        logged : logged_bodies b now.log ≡ seen (pages_of s) xs
-        logged = fun_ext (λ (q : ℕ). sym (ap (λ (g : Page). g.body) (page_is now e w mid so.stands so.over q)) ∙ pages q)
-
-        was : logged_bodies b s.log ≡ bodies (pages_of s)
-        was = fun_ext (λ (q : ℕ). sym (ap (λ (g : Page). g.body) (page_is s e start old may.stands may.over q)))

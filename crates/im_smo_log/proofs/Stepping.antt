@@ -6,6 +6,7 @@ use Rattle.im_theory_log.specs.Histories.{Base, History, changes_page, end_of, p
 use Rattle.im_theory_log.specs.Copies.{AreImages}
 use Rattle.im_theory_log.specs.Lawful.{IsLawful}
 use Rattle.im_theory_log.specs.Writer.{Writer}
+use Rattle.im_theory_log.proofs.Cited.{reached_end}
 use Rattle.im_theory_log.proofs.Images.{images_pages, lawful_images}
 use Rattle.im_base_disk.specs.declared.disk.Disk.{Ghosts}
 use Rattle.im_page_writer.specs.declared.page_writer.PageWriter.{PageWriter}
@@ -19,7 +20,6 @@ use Rattle.im_smo_log.specs.Changes.{AreCounted}
 use Rattle.im_smo_log.specs.Marks.{marked_if}
 use Rattle.im_smo_log.specs.Under.{IsUnderWay, is_structural}
 use Rattle.im_smo_log.specs.GoingOn.{HasClosed}
-use Rattle.im_smo_log.proofs.Runs.{page_is}
 use Rattle.im_smo_log.proofs.Others.{others_keep}
 use Rattle.im_smo_log.proofs.Going.{page_goes_on}
 use Rattle.im_smo_log.proofs.Coming.{pages_may_come, closes_may_come}
@@ -48,6 +48,13 @@ page_logged_on b t undo_next xs i prev lsn log was new all within high before sa
     let law : IsLawful b page_tree (smo_at lsn t prev p was new ∷ log) =
     subst (λ (x : Body). IsLawful b page_tree (smo_at lsn t prev p x new ∷ log)) (sym before) (pages_may_come b t undo_next xs i prev lsn log new way within all.1 all.2 high same) in
     page_goes_on b t undo_next xs i prev (smo_at lsn t prev p was new) log was new way law within refl refl refl same all.1 said
+
+-- the writer's pages are those of its log
+pub page_is : {D : Type 0} (d : Ghosts D) (b : Base) (base : ℕ) (s : Writer) (e : ℕ) (w : PageWriter) (disk : D) → StandsAs d b base s w disk → s.redo_end ≡ Some e → (p : ℕ) → (s.pages p).page ≡ page_at b s.log p
+page_is d b base s e w disk is over p =
+    let k = is.writing.stands.kept.pages p in
+    let run = k.run e over in
+    reached_end b s.log (s.pages p).upto p (s.pages p).page run.1 (k.now run.0)
 
 module _ {D : Type 0} (d : Ghosts D) (b : Base) (base : ℕ) (s : Writer) (e : ℕ) (v : PageWriter) (old : D) (is : StandsAs d b base s v old) (over : s.redo_end ≡ Some e) (t undo_next : ℕ) (xs : List Numbered) (i prev : ℕ) where
   -- a page that was logged

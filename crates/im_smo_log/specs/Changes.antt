@@ -1,11 +1,10 @@
 -- What a structure change asks, how it stands on its way, and what it keeps.
-use Rattle.std.specs.Prelude.{◌≡◌, ◌≤◌, ◌<◌, ◌⊎◌, ◌+◌, ◌-◌, max, ℕ, zero, suc, false, List, [], ◌∷◌, ◌++◌, length, drop, Option, Some, None, Result, IfErr}
+use Rattle.std.specs.Prelude.{◌≡◌, ◌≤◌, ◌<◌, ◌⊎◌, ◌-◌, ℕ, zero, suc, false, List, [], ◌∷◌, ◌++◌, length, drop, Option, Some, None, Result, IfErr}
 use Rattle.im_base_types.specs.declared.fault.Fault.{Fault}
 use Rattle.im_base_types.specs.declared.fault.Fault.TheVariants.{Failed}
 use Rattle.im_base_types.specs.Records.{What, InsertKey, DeleteKey, UndoInsert, UndoDelete, Smo, UndoSmo, DummyClr, Commit, End, Image, Checkpoint, Unreadable, Logged}
-use Rattle.im_theory_log.specs.Histories.{Base, History, IsFront, end_of}
-use Rattle.im_theory_log.specs.Lawful.{IsLawful, resumes}
-use Rattle.im_theory_log.specs.PageCounts.{count_of, greatest_count, named_to}
+use Rattle.im_theory_log.specs.Histories.{Base, History, IsFront}
+use Rattle.im_theory_log.specs.Lawful.{IsLawful}
 use Rattle.im_theory_log.specs.Structure.{open_smo}
 use Rattle.im_theory_log.specs.Transactions.{last_of, undo_next_of, to_undo, is_finished}
 use Rattle.im_theory_log.specs.Writer.{Writer}
@@ -19,9 +18,12 @@ use Rattle.im_page_writer.specs.PageWriter.{StandsAs}
 use Rattle.im_theory_tree.specs.Levels.{walk}
 use Rattle.im_theory_tree.specs.Good.{AllOf, IsGoodTree}
 use Rattle.im_theory_tree.specs.Theory.{page_tree}
+use Rattle.im_theory_tree.specs.Ways.{KeepsWays}
 use Rattle.im_smo_pages.specs.Images.{Numbered, image_at}
 use Rattle.im_smo_pages.specs.Changed.{SamePages}
+use Rattle.im_smo_pages.specs.OnWay.{IsApart}
 use Rattle.im_smo_pages.specs.Seen.{bodies, seen}
+use Rattle.im_smo_log.specs.Under.{IsUnderWay}
 
 -- ---- logs
 
@@ -77,29 +79,6 @@ image_marks (suc i) images = Some (image_at images i).0 ∷ image_marks i images
 abbrev pub AreCounted : List Numbered → Type 0
 AreCounted images = (1 ≤ length images) × ((image_at images 0).0 ≡ 0) × ((image_at images (length images - 1)).0 < (image_at images 0).1.body.leftmost)
 
--- the open structure change is transaction t's, its pages are below m, and its LSNs at most l
-abbrev pub IsOpenBelow : (t m l : ℕ) → History → Type 0
-IsOpenBelow t m l going = AllOf (λ (u : Logged). (u.txn ≡ t) × (u.page < m) × (u.lsn ≤ l)) going
-
--- The first i images of a structure change are logged: the log is lawful, the change is open, and undo would go on where it stood.
-pub record IsLoggedTo (b : Base) (t undo_next : ℕ) (images : List Numbered) (older : History) (i prev : ℕ) (log : History) : Type 0 where
-  pub lawful : IsLawful b page_tree log
-  pub grows : GrowsByChange t older log
-  pub order : marks grows.more ≡ image_marks i images
-  pub last : last_of t log ≡ prev
-  pub unfinished : is_finished t log ≡ false
-  pub count : length (open_smo log) ≡ i
-  pub bound : ℕ
-  pub opened : IsOpenBelow t bound (end_of b log) (open_smo log)
-  pub above : (k : ℕ) → i ≤ k → k < length images → bound ≤ (image_at images k).0
-  pub resume : resumes log t (open_smo log) ≡ undo_next
-  -- the first of them is logged, and the log has said its page count
-  pub counted : 1 ≤ i → (image_at images 0).1.body.leftmost ≤ greatest_count (count_of b) log
-  -- it is page 0, with a page count that the base said, or that is no more than after all that the log has named, or will
-  pub zeroth : 1 ≤ i → (image_at images 0).0 ≡ 0
-  pub named : (k : ℕ) → k < i → (image_at images k).0 < named_to log
-  pub bounded : 1 ≤ i → (image_at images 0).1.body.leftmost ≤ max (count_of b) (max (named_to log) ((image_at images (length images - 1)).0 + 1))
-
 -- ---- a writer
 
 module _ {D : Type 0} (d : Ghosts D) (b : Base) (base : ℕ) where
@@ -114,7 +93,7 @@ module _ {D : Type 0} (d : Ghosts D) (b : Base) (base : ℕ) where
   abbrev pub LeavesChange : Writer → ℕ → D → D → Type 0
   LeavesChange s t old new = LeavesOnly d old new (LeftByChange s t)
 
-  -- Redo is over and the log lawful, no structure change is open, the transaction is going on, with this last record and this next one to undo; the images are some pages in rising number, and leave a good tree with the same walk.
+  -- Redo is over and the log lawful, no structure change is open, the transaction is going on, with this last record and this next one to undo; the images are some pages in rising number, and leave a good tree with the same walk, in which each leaf that is none of them keeps its keys.
   pub record MayChange (s : Writer) (e : ℕ) (images : List Numbered) (t last undo_next : ℕ) (w : PageWriter) (disk : D) : Type 0 where
     pub stands : StandsAs d b base s w disk
     pub over : s.redo_end ≡ Some e
@@ -126,15 +105,18 @@ module _ {D : Type 0} (d : Ghosts D) (b : Base) (base : ℕ) where
     pub some : 1 ≤ length images
     pub good : IsGoodTree (seen (pages_of s) images) []
     pub same : walk (seen (pages_of s) images) ≡ walk (bodies (pages_of s))
+    pub ways : KeepsWays (bodies (pages_of s)) (seen (pages_of s) images) (IsApart images)
 
-  -- The first i images are logged, and are the writer's pages.
+  -- The first i images are logged, with Images alone between them, and are the writer's pages.
   pub record PagesLogged (s : Writer) (e : ℕ) (images : List Numbered) (t undo_next i prev : ℕ) (old : D) (w : PageWriter) (disk : D) : Type 0 where
     pub now : Writer
     pub stands : StandsAs d b base now w disk
     pub over : now.redo_end ≡ Some e
     pub point : now.point ≡ s.point
     pub durable : IsFront s.durable now.durable
-    pub log : IsLoggedTo b t undo_next images s.log i prev now.log
+    pub under : IsUnderWay b t undo_next images i prev now.log
+    pub grows : GrowsByChange t s.log now.log
+    pub order : marks grows.more ≡ image_marks i images
     pub pages : SamePages (seen (pages_of now) (drop i images)) (seen (pages_of s) images)
     pub stops : LeavesChange s t old disk
 

@@ -4,45 +4,21 @@ ghost use Rattle.std.specs.Prelude.{◌≡◌, ◌<◌, ◌≤◌, ◌↔◌, �
 ghost use Rattle.im_base_types.specs.declared.fault.Fault.TheVariants.{Memory};
 ghost use Rattle.im_theory_log.specs.Histories.{Base};
 ghost use Rattle.im_theory_log.specs.Writer.{Writer};
-ghost use Rattle.im_log_record.specs.Entry.{DummyClr};
-ghost use Rattle.im_page_writer.specs.PageWriter.{IsReadyWriter, StandsAs, LogKept};
+ghost use Rattle.im_page_writer.specs.PageWriter.{IsReadyWriter, StandsAs};
 ghost use Rattle.im_page_writer.specs.Outcome.{fault_of, mild, none_mild, Logs};
 ghost use Rattle.im_smo_log.specs.Changes.{AreCounted};
 ghost use Rattle.im_smo_log.specs.ChangePages.{numbers_of};
 ghost use Rattle.im_smo_log.specs.Stepping.{StepKept, CloseKept};
 
 use crate::change::Change;
-use crate::page_record::log_marked;
+use crate::page_record::{log_closing, log_image};
 use crate::plan_numbers::page_numbers;
 use crate::structure_change::are_counted;
 use im_base_disk::Disk;
 use im_base_types::{Fault, Lsn, PageNo, TxnId};
-use im_log_record::Record;
 use im_page_writer::PageWriter;
 use im_smo_pages::Images;
 use std::alloc::Global;
-
-// Logs the record that closes a structure change.
-fn log_closing<D: Disk>(
-    writer: &mut PageWriter,
-    disk: &mut D,
-    transaction: TxnId,
-    prev: Lsn,
-    undo_next: Lsn,
-) -> Result<Lsn, Fault>
-    requires ready { IsReadyWriter D.Disk writer.old disk.old }
-    requires owner { 1 ≤ transaction }
-    ensures outcome { Logs D.Disk false none_mild writer.old disk.old writer.new disk.new (fault_of result) }
-    ensures kept { (b : Base) (base : ℕ) (s : Writer) (e : ℕ) → StandsAs D.Disk b base s writer.old disk.old → s.redo_end ≡ Some e
-        → LogKept D.Disk b base s (DummyClr transaction prev undo_next) disk.old writer.new disk.new result }
-{
-    let closing = Record::DummyClr {
-        transaction,
-        prev,
-        undo_next,
-    };
-    writer.log_only(disk, &closing)
-}
 
 impl Change {
     /// A structure change of which no page is logged. It takes no memory; images that are none of a plan are refused `Memory`, as
@@ -96,16 +72,14 @@ impl Change {
         ensures same { OnErr result (self.new ≡ self.old) }
         ensures plan { (self.new.images ≡ self.old.images) × (self.new.transaction ≡ self.old.transaction) × (self.new.undo_next ≡ self.old.undo_next) }
     {
-        let len = self.images.len();
-        let highest = self.images.number(len - 1);
-        let lsn = log_marked(
+        let _fits = self.images.len();
+        let lsn = log_image(
             writer,
             disk,
+            &self.images,
+            self.done,
             self.transaction,
             self.last,
-            self.images.number(self.done),
-            self.images.page(self.done),
-            highest,
             marked,
         )?;
         self.done += 1;

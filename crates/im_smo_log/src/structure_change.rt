@@ -11,10 +11,9 @@ ghost use Rattle.im_smo_log.specs.Logged.{ImageLogKept};
 ghost use Rattle.im_smo_log.specs.Changes.{AreCounted, MayChange, PagesKept, ChangeKept};
 
 use crate::late_fault::late;
-use crate::page_record::log_page;
+use crate::page_record::{log_closing, log_image};
 use im_base_disk::Disk;
 use im_base_types::{Fault, Lsn};
-use im_log_record::Record;
 use im_page_writer::PageWriter;
 use im_smo_pages::Images;
 
@@ -60,16 +59,7 @@ fn log_at<D: Disk>(
     ensures first { IfErr result (λ e. e ≡ Memory → i ≡ 0) }
     ensures later { IfErr result (λ e. e ≡ Failed → 1 ≤ i) }
 {
-    let highest = images.number(images.len() - 1);
-    match log_page(
-        writer,
-        disk,
-        transaction,
-        prev,
-        images.number(i),
-        images.page(i),
-        highest,
-    ) {
+    match log_image(writer, disk, images, i, transaction, prev, false) {
         Ok(lsn) => Ok(lsn),
         Err(fault) => Err(refused_at(i, fault)),
     }
@@ -128,10 +118,5 @@ pub fn run<D: Disk>(
         return Err(Fault::Memory);
     }
     let prev = log_pages(writer, disk, images, transaction, last)?;
-    let closing = Record::DummyClr {
-        transaction,
-        prev,
-        undo_next,
-    };
-    writer.log_only(disk, &closing)
+    log_closing(writer, disk, transaction, prev, undo_next)
 }

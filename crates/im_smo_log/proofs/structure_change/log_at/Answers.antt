@@ -1,8 +1,4 @@
-use Rattle.std.proofs.Common.{◌≡◌, ◌-◌, ◌∙◌, ℕ, length, ap, subst}
-use Rattle.im_base_types.specs.Pages.{Page}
 use Rattle.im_page_writer.proofs.Outcomes.{logs_late}
-use Rattle.im_smo_pages.specs.Images.{image_at}
-use Rattle.im_smo_log.specs.Logged.{PageLogged}
 use Rattle.im_smo_log.proofs.Refusals.{answered, failed_later, failed_memory, memory_first, memory_stays, never_failed, still_store}
 use Rattle.im_page_writer.specs.Outcome.{mild}
 use Rattle.im_smo_log.proofs.structure_change.log_at.Goals as goal
@@ -11,20 +7,7 @@ pub returns-in-Ok-clause-outcome : goal.returns-in-Ok-clause-outcome
 returns-in-Ok-clause-outcome g c = logs_late g.D.Disk {m = mild} (λ e is. is) c.requires.working c.in-Ok.ensures.outcome
 
 pub returns-in-Ok-clause-kept : goal.returns-in-Ok-clause-kept
-returns-in-Ok-clause-kept g c b base s e is over =
-    let k = c.in-Ok.ensures.kept b base s e is over in
-    let t = c.args.transaction in
-    let prev = c.args.prev in
-    let w = c.log_page.new.writer in
-    let disk = c.log_page.new.disk in
-    let highest : c.number-highest.result ≡ (image_at c.args.images.now (length c.args.images.now - 1)).0 = c.number-highest.ensures ∙ ap (λ (n : ℕ). (image_at c.args.images.now (n - 1)).0) c.len.ensures.len in
-    record {
-      sound = subst (λ (h : ℕ). PageLogged g.D.Disk b base s t prev (image_at c.args.images.now c.args.i).0 h (image_at c.args.images.now c.args.i).1.body c.in-Ok.lsn w disk) highest
-          (subst (λ (n : ℕ). PageLogged g.D.Disk b base s t prev n c.number-highest.result (image_at c.args.images.now c.args.i).1.body c.in-Ok.lsn w disk) c.number.ensures
-          (subst (λ (x : Page). PageLogged g.D.Disk b base s t prev c.number.result c.number-highest.result x.body c.in-Ok.lsn w disk) c.page.ensures k.sound));
-      stops = k.stops;
-      late = tt;
-    }
+returns-in-Ok-clause-kept g c b base s e is over = let k = c.in-Ok.ensures.kept b base s e is over in record { sound = k.sound; stops = k.stops; late = tt }
 
 pub returns-in-Err-clause-outcome : goal.returns-in-Err-clause-outcome
 returns-in-Err-clause-outcome g c =

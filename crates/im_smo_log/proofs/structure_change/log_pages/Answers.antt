@@ -1,4 +1,4 @@
-use Rattle.std.proofs.Common.{◌≡◌, ◌≢◌, ◌<◌, ℕ, length, refl, subst, arith}
+use Rattle.std.proofs.Common.{◌≡◌, ◌<◌, ℕ, length, refl, subst, arith}
 use Rattle.im_base_types.specs.declared.fault.Fault.TheVariants.{Failed}
 use Rattle.im_page_writer.proofs.Cited.{err_on, idle, log_refused, logs_both, logs_late, read_logs, sound_on}
 use Rattle.im_smo_log.specs.Changes.{PagesLogged, Begun}
@@ -15,7 +15,7 @@ loop-i-init g c =
       outcome = logs_late g.D.Disk {m = mild} (λ e is. is) c.requires.working (read_logs g.D.Disk refl (idle g.D.Disk g.met.D.Disk.only_now w disk c.requires.working c.requires.ready));
       count = c.len-len.ensures.len;
       first = λ zero. (refl, refl);
-      kept = λ b base s e undo_next may. pages_begin g.D.Disk b base s e c.args.images.now c.args.transaction undo_next c.args.last w disk (g.met.D.Disk.only_now disk) may;
+      kept = λ b base s e undo_next may. pages_begin g.D.Disk b base s e c.args.images.now c.args.transaction undo_next c.args.last w disk (g.met.D.Disk.only_now disk) (λ none. omega (arith, none, c.requires.owner)) c.len-len.ensures.rises may;
     }
 
 pub returns-in_err-prev-clause-outcome : goal.returns-in_err-prev-clause-outcome
@@ -33,12 +33,11 @@ returns-in_err-prev-clause-kept g c b base s e undo_next may =
     let t = c.args.transaction in
     let so = l.invariant.kept b base s e undo_next may in
     let k = c.in_err-prev.ensures.kept b base so.now e so.stands so.over in
-    let some : t ≢ 0 = λ none. omega (arith, none, c.requires.owner) in
     record {
       sound = sound_on c.from_residual.result _ _ c.from_residual.ensures.1 k.sound;
       stops = pages_stops g.D.Disk b base s e c.args.images.now t undo_next l.i l.prev old l.writer l.disk new so k.stops;
       begun = err_on c.from_residual.result c.in_err-prev.field-0.0 (λ x. x ≡ Failed → Begun g.D.Disk b base s t w new) c.from_residual.ensures.1
-          (λ same. pages_begun g.D.Disk b base s e c.args.images.now t undo_next l.i l.prev old l.writer l.disk w new some (c.in_err-prev.ensures.later same) so (k.late same));
+          (λ same. pages_begun g.D.Disk b base s e c.args.images.now t undo_next l.i l.prev old l.writer l.disk w new (c.in_err-prev.ensures.later same) so (k.late same));
     }
 
 pub loop-i-preserved : goal.loop-i-preserved
@@ -52,9 +51,8 @@ loop-i-preserved g c = record {
       let t = c.args.transaction in
       let so = l.invariant.kept b base s e undo_next may in
       let k = c.in_ok-prev.ensures.kept b base so.now e so.stands so.over in
-      let some : t ≢ 0 = λ none. omega (arith, none, c.requires.owner) in
       let within : l.i < length images = omega (arith, c.loop-i-test.true, l.invariant.count) in
-      pages_next g.D.Disk b base s e images t undo_next l.i l.prev c.in_ok-prev.prev c.args.disk.now l.writer l.disk c.log_at.new.writer c.log_at.new.disk some c.len-len.ensures.rises c.requires.counted within so k.sound k.stops;
+      pages_next g.D.Disk b base s e images t undo_next l.i l.prev c.in_ok-prev.prev c.args.disk.now l.writer l.disk c.log_at.new.writer c.log_at.new.disk c.len-len.ensures.rises c.requires.counted within so k.sound k.stops;
 }
 
 pub returns-clause-outcome : goal.returns-clause-outcome

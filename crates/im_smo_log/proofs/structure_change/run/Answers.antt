@@ -1,11 +1,11 @@
-use Rattle.std.proofs.Common.{◌≡◌, ◌≢◌, length, refl, arith}
+use Rattle.std.proofs.Common.{◌≡◌, length, refl}
 use Rattle.im_base_types.specs.declared.fault.Fault.TheVariants.{Failed}
 use Rattle.im_page_writer.specs.Outcome.{mild}
 use Rattle.im_page_flush.proofs.Goings.{leaves_of}
 use Rattle.im_page_writer.proofs.Cited.{err_on, idle, sound_on}
 use Rattle.im_smo_pages.proofs.Results.{if_ok}
 use Rattle.im_smo_log.specs.Changes.{Begun}
-use Rattle.im_smo_log.proofs.Runs.{change_done, pages_begin, pages_stops}
+use Rattle.im_smo_log.proofs.Runs.{change_done, pages_stops, stops_begin}
 use Rattle.im_smo_log.proofs.Refusals.{closing, closing_failed, closing_sound}
 use Rattle.im_smo_log.proofs.structure_change.run.Goals as goal
 
@@ -16,10 +16,9 @@ returns-then-not-are_counted-clause-outcome g c =
 
 pub returns-then-not-are_counted-clause-kept : goal.returns-then-not-are_counted-clause-kept
 returns-then-not-are_counted-clause-kept g c b base s e may =
-    let so = pages_begin g.D.Disk b base s e c.args.images.now c.args.transaction c.args.undo_next c.args.last c.args.writer.now c.args.disk.now (g.met.D.Disk.only_now c.args.disk.now) may in
     record {
       sound = λ is. (let never : ⊥ = cc is in never);
-      stops = so.stops;
+      stops = stops_begin g.D.Disk b base s e c.args.images.now c.args.transaction c.args.undo_next c.args.last c.args.writer.now c.args.disk.now (g.met.D.Disk.only_now c.args.disk.now) may;
       begun = λ is. absurd (let never : ⊥ = cc is in never);
     }
 
@@ -33,7 +32,7 @@ returns-in_err-prev-clause-kept g c b base s e may =
     }
 
 pub returns-clause-outcome : goal.returns-clause-outcome
-returns-clause-outcome g c = closing g.D.Disk c.log_only.result c.in_ok-prev.ensures.outcome c.log_only.ensures.outcome
+returns-clause-outcome g c = closing g.D.Disk c.log_closing.result c.in_ok-prev.ensures.outcome c.log_closing.ensures.outcome
 
 pub returns-clause-kept : goal.returns-clause-kept
 returns-clause-kept g c b base s e may =
@@ -42,14 +41,13 @@ returns-clause-kept g c b base s e may =
     let u = c.args.undo_next in
     let w = c.log_pages.new.writer in
     let mid = c.log_pages.new.disk in
-    let new = c.log_only.new.disk in
+    let new = c.log_closing.new.disk in
     let so = (c.in_ok-prev.ensures.kept b base s e u may).sound in
-    let some : t ≢ 0 = λ none. omega (arith, none, c.requires.owner) in
-    let kept = c.log_only.ensures.kept b base so.now e so.stands so.over (record { page = λ l p. refl; copy = λ l. refl; point = refl }) in
+    let kept = c.log_closing.ensures.kept b base so.now e so.stands so.over in
     record {
-      sound = closing_sound g.D.Disk c.log_only.result _
-          (if_ok c.log_only.result _ _ kept.ok (λ lsn done. change_done g.D.Disk b base s e images t u c.args.last c.in_ok-prev.prev lsn c.args.writer.now c.args.disk.now w mid c.log_only.new.self new some may so done))
-          c.log_only.ensures.outcome;
+      sound = closing_sound g.D.Disk c.log_closing.result _
+          (if_ok c.log_closing.result _ _ kept.ok (λ lsn done. change_done g.D.Disk b base s e images t u c.args.last c.in_ok-prev.prev lsn c.args.writer.now c.args.disk.now w mid c.log_closing.new.writer new may so done))
+          c.log_closing.ensures.outcome;
       stops = pages_stops g.D.Disk b base s e images t u (length images) c.in_ok-prev.prev c.args.disk.now w mid new so (leaves_of g.D.Disk b base so.now mid new kept.stops);
-      begun = closing_failed g.D.Disk c.log_only.result _ c.in_ok-prev.ensures.outcome.ends.works c.log_only.ensures.outcome;
+      begun = closing_failed g.D.Disk c.log_closing.result _ c.in_ok-prev.ensures.outcome.ends.works c.log_closing.ensures.outcome;
     }
