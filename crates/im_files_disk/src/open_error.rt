@@ -45,7 +45,7 @@ pub enum OpenError {
     #[error("`{0}` in it does not begin as the log of a store")]
     NotALog(&'static str),
     /// The folder has a `log.part`: a copy into it goes on, or was not finished. It is left as it is.
-    #[error("a copy into it was not finished")]
+    #[error("a copy or a load into it was not finished")]
     Unfinished,
     /// The folder of a copy that is to be made has something in it.
     #[error("it is not empty")]

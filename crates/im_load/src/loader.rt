@@ -288,6 +288,13 @@ impl Loader {
         Ok(true)
     }
 
+    /// How many pages the load has made so far, page 0 among them.
+    pub fn pages(&self) -> PageNo
+        ensures { result ≡ self.now.count }
+    {
+        self.count
+    }
+
     /// Begins a load into files without bytes; none where a file has one. No device call.
     ///
     /// Refused `Memory`, `Device`.

@@ -3,11 +3,12 @@
 use im_base_model_disk::ModelDisk;
 use im_base_steps::Step;
 use im_base_two_logs::Renamed;
+use im_base_types::Fault;
 use im_engine::Config;
 use im_store::{Bounds, OpenStore};
-use im_tool::{LoadCount, Loaded, dump_text, load_text};
+use im_tool::{Entry, LoadCount, Loaded, NotLoaded, dump_text, load_rising, load_text};
 use im_tool_files::{Causes, ProgressLine, Untold};
-use im_tool_user::{Form, Present, WhyBad};
+use im_tool_user::{EntryText, Form, Present, WhyBad};
 use std::alloc::Global;
 use std::io;
 use std::io::{BufReader, Write};
@@ -283,6 +284,87 @@ fn a_load_takes_the_own_form(rt: HostRuntime) -> Result<(), Fail> {
 #[test]
 fn a_load_takes_the_portable_form(rt: HostRuntime) -> Result<(), Fail> {
     each_ends(&rt, rt.alloc(), &PORTABLE)
+}
+
+// Texts, and what a load of rising keys makes of them: how many entries it takes, and the line of the first that it does not; or how it ends.
+static RISING: [(&str, Present, Result<(u64, Option<u64>), Loaded>); 8] = [
+    (
+        "imstore entries 3\na 7\nb 8\nba 9\nimstore end 3\n",
+        Present::Refused,
+        Ok((3, None)),
+    ),
+    (
+        "VERSION=3\nHEADER=END\n 61\n 0000000000000007\n 62\n 0000000000000008\nDATA=END\n",
+        Present::Skipped,
+        Ok((2, None)),
+    ),
+    ("imstore entries 0\n", Present::Refused, Ok((0, None))),
+    (
+        "imstore entries 3\na 7\nc 8\nb 9\n",
+        Present::Refused,
+        Ok((2, Some(4))),
+    ),
+    (
+        "imstore entries 2\na 7\na 8\n",
+        Present::Replaced,
+        Ok((1, Some(3))),
+    ),
+    (
+        "imstore entries 2\na 7\na 8\n",
+        Present::Refused,
+        Err(Loaded::Duplicate(3)),
+    ),
+    (
+        "imstore entries 2\na 7\n",
+        Present::Refused,
+        Err(Loaded::BadLine(3, WhyBad::Ended)),
+    ),
+    (
+        "imstore entries 1\n\"\" 7\n",
+        Present::Refused,
+        Err(Loaded::Refused(2, Fault::KeyLength)),
+    ),
+];
+
+// The line of an entry.
+fn line_of(entry: Option<Entry>) -> Option<u64> {
+    match entry {
+        Some((_key, _rid, line)) => Some(line),
+        None => None,
+    }
+}
+
+// What a load of rising keys makes of a text, over a disk without bytes.
+fn risen(
+    alloc: Global,
+    present: Present,
+    text: &str,
+) -> io::Result<Result<(u64, Option<u64>), Loaded>> {
+    let mut reader = BufReader::new(alloc, text.as_bytes())?;
+    let mut disk = ModelDisk::new(Vec::new(alloc), Vec::new(alloc));
+    let mut text = EntryText::new(alloc);
+    let made = load_rising(
+        alloc,
+        &mut disk,
+        100,
+        present,
+        &mut text,
+        &mut reader,
+        &mut Untold,
+    );
+    match made {
+        Ok(risen) => Ok(Ok((risen.count, line_of(risen.next)))),
+        Err(NotLoaded::Ended(loaded)) => Ok(Err(loaded)),
+        Err(NotLoaded::Input(error)) => Err(error),
+    }
+}
+
+#[test]
+fn rising_keys_are_loaded(rt: HostRuntime) -> Result<(), Fail> {
+    for (text, present, want) in &RISING {
+        assert!(rt; risen(rt.alloc(), *present, text)? == *want, "{text}");
+    }
+    Ok(())
 }
 
 // What a dump of a store of one entry prints, in a form.

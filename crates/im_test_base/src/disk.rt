@@ -15,7 +15,7 @@ fn refused(rt: &HostRuntime, dir: &str) -> Option<Fault> {
     }
 }
 
-// Whether each opening of a folder says that a copy into it was not finished.
+// Whether each opening of a folder says that a copy or a load into it was not finished.
 fn is_half_a_copy(rt: &HostRuntime, dir: &str) -> bool {
     matches!(FileDisk::open(rt, dir), Err(OpenError::Unfinished))
         && matches!(FileDisk::open_to_read(rt, dir), Err(OpenError::Unfinished))
@@ -128,7 +128,7 @@ fn errors_of_an_opening_have_words(rt: HostRuntime) -> Result<(), Fail> {
     let text = format!(in alloc; "{}", OpenError::NotAFile("pages"))?;
     assert!(rt; text.as_str() == "`pages` in it is no plain file");
     let half = format!(in alloc; "{}", OpenError::Unfinished)?;
-    assert!(rt; half.as_str() == "a copy into it was not finished");
+    assert!(rt; half.as_str() == "a copy or a load into it was not finished");
     let missing = OpenError::from(std::io::Error::from_raw_os_error(2));
     let text = format!(in alloc; "{missing}")?;
     assert!(rt;

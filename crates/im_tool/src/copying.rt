@@ -1,6 +1,7 @@
 //! A copy of a store that is open, and of one that is not.
 ghost use Rattle.std.specs.Prelude.{◌≡◌, ◌≤◌, false, IfOk};
 
+use crate::compacting::compact;
 use crate::look::check_text;
 use im_base_disk::Disk;
 use im_base_mirror_disk::{Mirrored, Piece};
@@ -145,17 +146,18 @@ fn all_pieces<D: TwoLogs + Drop, T: TwoLogs + Drop, P: Progress>(
 }
 
 /// Copies the store in a folder, which no program writes meanwhile, into another folder, byte for byte, and says what a check of the copy finds. It answers the exit
-/// status: 0, or 1 where nothing was copied, or the check finds something.
+/// status: 0, or 1 where nothing was copied, or the check finds something. With `is_compact` its entries are loaded there, in place of the copy.
 pub(crate) fn copy_program<T: Threads + Sync>(
     rt: &HostRuntime,
     threads: &T,
     dir: &str,
     folder: &str,
+    is_compact: bool,
 ) -> io::Result<u8>
     ensures { IfOk result (λ status. status ≤ 1) }
 {
     let mut writer = BufWriter::new(rt.alloc(), io::writer(rt))?;
-    let status = copy_in(rt, threads, dir, folder, &mut writer)?;
+    let status = copy_in(rt, threads, dir, folder, is_compact, &mut writer)?;
     writer.flush()?;
     Ok(status)
 }
@@ -166,6 +168,7 @@ fn copy_in<W: Write, T: Threads + Sync>(
     threads: &T,
     dir: &str,
     folder: &str,
+    is_compact: bool,
     writer: &mut W,
 ) -> io::Result<u8>
     ensures { IfOk result (λ status. status ≤ 1) }
@@ -178,7 +181,12 @@ fn copy_in<W: Write, T: Threads + Sync>(
             return Ok(1);
         }
     };
-    match copy_closed(rt, dir, files, folder) {
+    let made = if is_compact {
+        compact(rt, threads, dir, files, folder)
+    } else {
+        copy_closed(rt, dir, files, folder)
+    };
+    match made {
         Ok((bytes, copy)) => {
             writeln!(writer, "copied {bytes}")?;
             check_copy(rt, threads, folder, writer, copy)

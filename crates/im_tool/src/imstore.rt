@@ -69,7 +69,8 @@ fn run_task<T: Threads + Sync>(rt: &HostRuntime, threads: &T, options: &Options)
     match options.task {
         Task::Steps => run_in_folder(rt, threads, dir, options),
         Task::Read => read_in_folder(rt, threads, dir, options),
-        Task::Copy(folder) => copy_program(rt, threads, dir, folder),
+        Task::Copy(folder) => copy_program(rt, threads, dir, folder, false),
+        Task::Compact(folder) => copy_program(rt, threads, dir, folder, true),
         Task::Load(present) => load_program(rt, threads, dir, options, present),
         Task::Trim => trim_in_folder(rt, threads, dir, options),
         task => look_program(rt, threads, dir, task),

@@ -1,22 +1,24 @@
 //! The tasks over a store in a folder that take no steps.
 
-ghost use Rattle.std.specs.Prelude.{◌≤◌, IfOk};
+ghost use Rattle.std.specs.Prelude.{◌≡◌, ◌≤◌, false, IfOk, OnOk};
 
 use crate::dump::dump_text;
 use crate::limits::{bounds_of, config_of};
 use crate::look::{check_text, stat_text};
 use crate::recovered::opened;
-use crate::transfer::{LoadCount, Loaded, load_text};
+use crate::rising::{NotLoaded, Risen, load_rising};
+use crate::transfer::{LoadCount, Loaded, load_more};
+use im_base_disk::Disk;
 use im_base_two_logs::Renamed;
-use im_base_types::Fault;
+use im_base_types::{Fault, PageNo};
 use im_files_disk::FileDisk;
 use im_files_scratch_disk::ScratchDisk;
 use im_tool_files::{
-    Cause, Causes, Progress, ProgressLine, ScratchFiles, Untold, WatchedDisk,
-    print_refused_opening, tell, tell_unopened, tell_unread,
+    Cause, Causes, CopyDisk, Progress, ProgressLine, ScratchFiles, Untold, WatchedDisk, begun_load,
+    clear_copy, named_load, print_refused_opening, tell, tell_unopened, tell_unread,
 };
 use im_tool_look::{LogDamage, log_text, read_log};
-use im_tool_user::{Form, LineInput, Numbers, Options, Present, Task, WhyBad};
+use im_tool_user::{EntryText, Form, LineInput, Numbers, Options, Present, Task, WhyBad};
 use std::fmt::{Display, Formatter};
 use std::io::{BufReader, BufWriter, IsTerminal, Write};
 use std::thread::Threads;
@@ -85,7 +87,8 @@ fn look_at<W: Write, T: Threads + Sync>(
         }
         Task::Log => print_log(rt, dir, writer, disk),
         Task::Dump(form) => dump(rt, threads, dir, writer, form, disk),
-        Task::Steps | Task::Read | Task::Load(_) | Task::Trim | Task::Copy(_) => (Ok(0), disk),
+        Task::Steps | Task::Read | Task::Load(_) | Task::Trim | Task::Copy(_) | Task::Compact(_) =>
+            (Ok(0), disk),
     }
 }
 
@@ -106,8 +109,8 @@ pub(crate) fn tell_damage<T: Threads + Sync>(rt: &HostRuntime, threads: &T, dir:
     let _ = check_text(threads, rt.alloc(), &mut rt.stderr(), disk, &mut Untold);
 }
 
-// Says on standard error how many transactions a dump leaves out.
-fn tell_left_out(rt: &HostRuntime, dir: &str, files: &mut ScratchFiles<FileDisk>) {
+/// Says on standard error how many transactions a dump leaves out.
+pub(crate) fn tell_left_out(rt: &HostRuntime, dir: &str, files: &mut ScratchFiles<FileDisk>) {
     if let Ok(said) = read_log(rt.alloc(), files) {
         let losers = said.analysed.losers.len();
         if losers > 0 {
@@ -253,7 +256,7 @@ pub(crate) fn load_program<T: Threads + Sync>(
     Ok(status)
 }
 
-// The same of the lines of a reader, written without a flush.
+// The same of the lines of a reader, written without a flush. A folder without files gets those of a load, as long as the keys rise.
 fn load_from<R: LineInput, W: Write, T: Threads + Sync>(
     rt: &HostRuntime,
     threads: &T,
@@ -265,36 +268,206 @@ fn load_from<R: LineInput, W: Write, T: Threads + Sync>(
 ) -> io::Result<u8>
     ensures { IfOk result (λ status. status ≤ 3) }
 {
+    let mut text = EntryText::new(rt.alloc());
+    if let Some(disk) = begun_load(rt, dir) {
+        return load_new(
+            rt, threads, dir, options, present, disk, &mut text, reader, writer,
+        );
+    }
     match FileDisk::open(rt, dir) {
-        Ok(files) => {
-            let config = config_of(options, files.page_count());
-            let disk = WatchedDisk::new(files, rt.stderr(), rt);
-            let is_shown = rt.stderr().is_terminal();
-            let mut progress = ProgressLine::new(rt.stderr(), is_shown, "entries", rt);
-            let mut causes = Causes {
-                writer: rt.stderr(),
-                dir,
-                is_told: false,
-            };
-            let loaded = load_text(
-                threads,
-                rt.alloc(),
-                Renamed::new(disk, false),
-                config,
-                bounds_of(options),
-                present,
-                reader,
-                &mut progress,
-                &mut causes,
-            )?;
-            let has_words = options.has_words || rt.stdout().is_terminal();
-            print_loaded(rt, dir, writer, has_words, present, loaded)
-        }
+        Ok(files) => load_into(
+            rt, threads, dir, options, present, files, None, &mut text, reader, writer,
+        ),
         Err(error) => {
             print_refused_opening(writer, error.fault())?;
             tell_unopened(rt, dir, &error);
             Ok(1)
         }
+    }
+}
+
+// Loads the entries of a text into files that were made for it, in a folder. From the first on whose key does not rise they are put into the store that these are then.
+fn load_new<'a, R: LineInput, W: Write, T: Threads + Sync>(
+    rt: &'a HostRuntime,
+    threads: &T,
+    dir: &str,
+    options: &Options,
+    present: Present,
+    disk: CopyDisk<'a>,
+    text: &mut EntryText,
+    reader: &mut R,
+    writer: &mut W,
+) -> io::Result<u8>
+    requires { ⟦<CopyDisk<'a> as Disk>⟧.failed disk ≡ false }
+    ensures { IfOk result (λ status. status ≤ 3) }
+{
+    let mut disk = disk;
+    let most = config_of(options, 0).max_pages;
+    match risen_in(rt, &mut disk, most, present, text, reader) {
+        Ok(risen) => {
+            named(
+                rt, threads, dir, options, present, disk, risen, text, reader, writer,
+            )
+        }
+        Err(why) => {
+            clear_copy(rt, dir);
+            match why {
+                NotLoaded::Ended(loaded) => {
+                    print_loaded(rt, dir, writer, has_words(rt, options), present, loaded)
+                }
+                NotLoaded::Input(error) => Err(error),
+            }
+        }
+    }
+}
+
+// The same, up to there.
+fn risen_in<'a, R: LineInput>(
+    rt: &HostRuntime,
+    disk: &mut CopyDisk<'a>,
+    most: PageNo,
+    present: Present,
+    text: &mut EntryText,
+    reader: &mut R,
+) -> Result<Risen, NotLoaded>
+    requires { ⟦<CopyDisk<'a> as Disk>⟧.failed disk.old ≡ false }
+    ensures { OnOk result (⟦<CopyDisk<'a> as Disk>⟧.failed disk.new ≡ false) }
+{
+    let is_shown = rt.stderr().is_terminal();
+    let mut progress = ProgressLine::new(rt.stderr(), is_shown, "entries", rt);
+    let made = load_rising(rt.alloc(), disk, most, present, text, reader, &mut progress);
+    progress.end();
+    made
+}
+
+// Gives the files of a load that was ended their names, and goes on.
+fn named<'a, R: LineInput, W: Write, T: Threads + Sync>(
+    rt: &'a HostRuntime,
+    threads: &T,
+    dir: &str,
+    options: &Options,
+    present: Present,
+    disk: CopyDisk<'a>,
+    risen: Risen,
+    text: &mut EntryText,
+    reader: &mut R,
+    writer: &mut W,
+) -> io::Result<u8>
+    requires { ⟦<CopyDisk<'a> as Disk>⟧.failed disk ≡ false }
+    ensures { IfOk result (λ status. status ≤ 3) }
+{
+    match named_load(rt, disk, dir) {
+        Ok(files) => go_on(
+            rt, threads, dir, options, present, files, risen, text, reader, writer,
+        ),
+        Err(error) => {
+            let loaded = Loaded::Refused(text.number(), error.fault());
+            tell_unopened(rt, dir, &error);
+            print_loaded(rt, dir, writer, has_words(rt, options), present, loaded)
+        }
+    }
+}
+
+// Puts what is left of a text into the store that a load has made, where any of it is left.
+fn go_on<R: LineInput, W: Write, T: Threads + Sync>(
+    rt: &HostRuntime,
+    threads: &T,
+    dir: &str,
+    options: &Options,
+    present: Present,
+    files: FileDisk,
+    risen: Risen,
+    text: &mut EntryText,
+    reader: &mut R,
+    writer: &mut W,
+) -> io::Result<u8>
+    requires { ⟦<FileDisk as Disk>⟧.failed files ≡ false }
+    ensures { IfOk result (λ status. status ≤ 3) }
+{
+    match &risen.next {
+        Some((_, _, line)) => tell(rt, dir, &Falls { line: *line }),
+        None => {
+            let count = LoadCount {
+                put: risen.count,
+                ..LoadCount::default()
+            };
+            let loaded = Loaded::All(count);
+            return print_loaded(rt, dir, writer, has_words(rt, options), present, loaded);
+        }
+    }
+    load_into(
+        rt,
+        threads,
+        dir,
+        options,
+        present,
+        files,
+        Some(risen),
+        text,
+        reader,
+        writer,
+    )
+}
+
+// Puts what is left of a text into the store of these files.
+fn load_into<R: LineInput, W: Write, T: Threads + Sync>(
+    rt: &HostRuntime,
+    threads: &T,
+    dir: &str,
+    options: &Options,
+    present: Present,
+    files: FileDisk,
+    risen: Option<Risen>,
+    text: &mut EntryText,
+    reader: &mut R,
+    writer: &mut W,
+) -> io::Result<u8>
+    requires { ⟦<FileDisk as Disk>⟧.failed files ≡ false }
+    ensures { IfOk result (λ status. status ≤ 3) }
+{
+    let config = config_of(options, files.page_count());
+    let disk = WatchedDisk::new(files, rt.stderr(), rt);
+    let is_shown = rt.stderr().is_terminal();
+    let mut progress = ProgressLine::new(rt.stderr(), is_shown, "entries", rt);
+    let mut causes = Causes {
+        writer: rt.stderr(),
+        dir,
+        is_told: false,
+    };
+    let loaded = load_more(
+        threads,
+        rt.alloc(),
+        Renamed::new(disk, false),
+        config,
+        bounds_of(options),
+        present,
+        risen,
+        text,
+        reader,
+        &mut progress,
+        &mut causes,
+    )?;
+    print_loaded(rt, dir, writer, has_words(rt, options), present, loaded)
+}
+
+// Whether refusals are told in words.
+fn has_words(rt: &HostRuntime, options: &Options) -> bool {
+    options.has_words || rt.stdout().is_terminal()
+}
+
+// At which line the keys of a text do not rise any more.
+#[derive(Drop)]
+struct Falls {
+    line: u64,
+}
+
+impl Display for Falls {
+    fn fmt<W: fmt::Write>(&self, f: &mut Formatter<W>) -> fmt::Result {
+        write!(
+            f,
+            "line {}: the key is not above the one before it: from there on entries are inserted, which takes longer than a load of keys that rise",
+            self.line
+        )
     }
 }
 

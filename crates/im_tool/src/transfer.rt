@@ -3,6 +3,7 @@
 ghost use Rattle.std.specs.Prelude.{◌≡◌, false};
 ghost use Rattle.im_base_disk.specs.Runs.{IsSynced};
 
+use crate::rising::{Entry, Risen};
 use crate::store::ended;
 use im_base_steps::{Reply, Step};
 use im_base_two_logs::TwoLogs;
@@ -17,7 +18,7 @@ use std::io::Write;
 use std::thread::Threads;
 
 /// How many entries are put in between one commit and the next.
-const A_COMMIT: u64 = 1_000;
+pub(crate) const A_COMMIT: u64 = 1_000;
 
 /// How many entries of a text were put in, and how many keys were there already.
 #[derive(Clone, Copy, Debug, Default, PartialEq, Eq)]
@@ -81,10 +82,39 @@ pub fn load_text<
     requires working { D.failed disk ≡ false }
     requires synced { IsSynced D.Disk disk }
 {
+    let mut text = EntryText::new(alloc);
+    load_more(
+        rt, alloc, disk, config, bounds, present, None, &mut text, reader, progress, causes,
+    )
+}
+
+/// The same of what is left of a text, where some of it was loaded, or of a text of which no line was read.
+pub(crate) fn load_more<
+    D: TwoLogs + Cause + Opening + Ending + Drop,
+    R: LineInput,
+    P: Progress,
+    E: Write,
+    T: Threads + Sync,
+>(
+    rt: &T,
+    alloc: Global,
+    disk: D,
+    config: Config,
+    bounds: Bounds,
+    present: Present,
+    risen: Option<Risen>,
+    text: &mut EntryText,
+    reader: &mut R,
+    progress: &mut P,
+    causes: &mut Causes<E>,
+) -> io::Result<Loaded>
+    requires working { D.failed disk ≡ false }
+    requires synced { IsSynced D.Disk disk }
+{
     match OpenStore::open(rt, alloc, disk, config, bounds) {
         Ok(mut store) => {
             store.engine().disk().is_done();
-            let run = load_to_end(alloc, &mut store, present, reader, progress);
+            let run = load_to_end(alloc, &mut store, present, risen, text, reader, progress);
             progress.end();
             closed(store, run, causes)
         }
@@ -100,6 +130,8 @@ fn load_to_end<D: TwoLogs + Drop, R: LineInput, P: Progress>(
     alloc: Global,
     store: &mut OpenStore<D>,
     present: Present,
+    risen: Option<Risen>,
+    text: &mut EntryText,
     reader: &mut R,
     progress: &mut P,
 ) -> io::Result<Loaded> {
@@ -107,7 +139,19 @@ fn load_to_end<D: TwoLogs + Drop, R: LineInput, P: Progress>(
     if let Some(unkept) = store.unkept() {
         return Ok(Loaded::Refused(1, unkept.fault));
     }
-    load_all_lines(alloc, store, present, reader, progress)
+    let risen = match risen {
+        Some(risen) => risen,
+        None => {
+            if let Some(why) = text.read_head(reader)? {
+                return Ok(Loaded::BadLine(text.number(), why));
+            }
+            Risen {
+                count: 0,
+                next: None,
+            }
+        }
+    };
+    load_entries(alloc, store, present, risen, text, reader, progress)
 }
 
 // Ends the store, which is closed where all was loaded. A call of its disk that failed is told.
@@ -127,18 +171,17 @@ fn closed<D: TwoLogs + Cause + Ending + Drop, E: Write>(
     }
 }
 
-fn load_all_lines<D: TwoLogs + Drop, R: LineInput, P: Progress>(
+// The entry that was read before, or the next one of the text.
+fn next_of<R: LineInput>(
     alloc: Global,
-    store: &mut OpenStore<D>,
-    present: Present,
+    read: &mut Option<Entry>,
+    text: &mut EntryText,
     reader: &mut R,
-    progress: &mut P,
-) -> io::Result<Loaded> {
-    let mut text = EntryText::new(alloc);
-    if let Some(why) = text.read_head(reader)? {
-        return Ok(Loaded::BadLine(text.number(), why));
+) -> io::Result<Next> {
+    match read.take() {
+        Some((key, rid, at)) => Ok(Next::Entry(key, rid, at)),
+        None => text.next_entry(alloc, reader),
     }
-    load_entries(alloc, store, present, reader, &mut text, progress)
 }
 
 // Puts in one entry after another, and commits the last ones.
@@ -146,16 +189,19 @@ fn load_entries<D: TwoLogs + Drop, R: LineInput, P: Progress>(
     alloc: Global,
     store: &mut OpenStore<D>,
     present: Present,
-    reader: &mut R,
+    risen: Risen,
     text: &mut EntryText,
+    reader: &mut R,
     progress: &mut P,
 ) -> io::Result<Loaded> {
     let mut number = 0;
     let mut count = LoadCount::default();
+    count.put = risen.count;
+    let mut read = risen.next;
     for done in 0..u64::MAX {
-        let (key, rid, at) = match text.next_entry(alloc, reader)? {
+        let (key, rid, at) = match next_of(alloc, &mut read, text, reader)? {
             Next::Entry(key, rid, at) => (key, rid, at),
-            Next::End => return Ok(end_load(store, number, count, text, progress)),
+            Next::End => return Ok(end_load(store, number, done, count, text, progress)),
             Next::Bad(at, why) => return Ok(Loaded::BadLine(at, why)),
             Next::Memory(at) => return Ok(Loaded::Refused(at, Fault::Memory)),
         };
@@ -178,26 +224,26 @@ fn load_entries<D: TwoLogs + Drop, R: LineInput, P: Progress>(
             if let Some(unkept) = store.unkept() {
                 return Ok(Loaded::Refused(at, unkept.fault));
             }
-            progress.show(done.saturating_add(1), text.all());
+            progress.show(count.all(), text.all());
         }
     }
     Ok(Loaded::All(count))
 }
 
-// Commits what was put in since the last commit.
+// Commits what was put in since the last commit, of so many steps.
 fn end_load<D: TwoLogs + Drop, P: Progress>(
     store: &mut OpenStore<D>,
     number: TxnId,
+    done: u64,
     count: LoadCount,
     text: &EntryText,
     progress: &mut P,
 ) -> Loaded {
-    let done = count.all();
     if done % A_COMMIT != 0 {
         if let Err(fault) = committed(store, number) {
             return Loaded::Refused(text.number(), fault);
         }
-        progress.show(done, text.all());
+        progress.show(count.all(), text.all());
     }
     match store.unkept() {
         None => Loaded::All(count),

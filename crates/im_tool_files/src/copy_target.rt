@@ -1,5 +1,5 @@
 //! The folder into which a store is copied.
-ghost use Rattle.std.specs.Prelude.{◌≡◌, false, IfOk, OnOk};
+ghost use Rattle.std.specs.Prelude.{◌≡◌, false, IfOk, IfSome, OnOk};
 
 use crate::copy_disk::CopyDisk;
 use im_base_disk::Disk;
@@ -85,7 +85,34 @@ pub fn named_copy<'a>(
     }
 }
 
-/// Takes the files of a copy away that was given up. Where that fails they stay, and the folder is refused as half a copy.
+/// Makes the files of a load in a folder that is empty, or that is made with those above it. `None` for any other folder, and where they are not to be had.
+pub fn begun_load<'a>(rt: &'a HostRuntime, dir: &str) -> Option<CopyDisk<'a>>
+    ensures { IfSome result (λ disk. ⟦<CopyDisk<'a> as Disk>⟧.failed disk ≡ false) }
+{
+    let Ok(name) = format!(in rt.alloc(); "{dir}") else {
+        return None;
+    };
+    match FileDisk::create_copy(rt, dir) {
+        Ok(files) => Some(CopyDisk::new(files, name, rt)),
+        Err(_) => None,
+    }
+}
+
+/// Gives the files of a load in a folder the names of a store, once all of it is written, and hands them back.
+///
+/// Refused with an error of the system: then the load may or may not have been finished.
+pub fn named_load<'a>(
+    rt: &HostRuntime,
+    disk: CopyDisk<'a>,
+    dir: &str,
+) -> Result<FileDisk, OpenError>
+    requires { ⟦<CopyDisk<'a> as Disk>⟧.failed disk ≡ false }
+    ensures { IfOk result (λ files. ⟦<FileDisk as Disk>⟧.failed files ≡ false) }
+{
+    disk.into_files().name_copy(rt, dir)
+}
+
+/// Takes the files of a copy away that was given up, or of a load. Where that fails they stay, and the folder is refused as half a copy.
 pub fn clear_copy(rt: &HostRuntime, folder: &str) {
     for name in ["pages.part", "log2.part", "log.part"] {
         if let Ok(path) = format!(in rt.alloc(); "{folder}/{name}") {

@@ -55,6 +55,8 @@ pub enum Task<'a> {
     Trim,
     /// A copy of the files, in the folder of this name.
     Copy(&'a str),
+    /// A store of the same entries, loaded into the folder of this name.
+    Compact(&'a str),
 }
 
 /// What the words of the command line say.
@@ -105,6 +107,8 @@ pub fn parse_options<'a>(
 fn task_of<'a>(matches: &ArgMatches<'a>) -> Task<'a> {
     if let Some(folder) = matches.get_str("copy") {
         Task::Copy(folder)
+    } else if let Some(folder) = matches.get_str("compact") {
+        Task::Compact(folder)
     } else if matches.get_flag("check") {
         Task::Check
     } else if matches.get_flag("stat") {
@@ -312,6 +316,13 @@ fn with_copies<'a>(alloc: Global, command: Command<'a>) -> Result<Command<'a>, E
         .value_name("FOLDER")
         .action(ArgAction::Set)
         .help("Copy the store, which no program writes, into a new folder, and check the copy");
+    let compact = Arg::new(alloc, "compact")
+        .long("compact")
+        .value_name("FOLDER")
+        .action(ArgAction::Set)
+        .help(
+            "Load the entries of the store, which no program writes, into a new folder, where they take as few pages as they can, and check what is there then",
+        );
     let read = flag(
         alloc,
         "read",
@@ -324,6 +335,7 @@ fn with_copies<'a>(alloc: Global, command: Command<'a>) -> Result<Command<'a>, E
     Ok(
         command
             .arg(as_task(copy, "copy")?)?
+            .arg(as_task(compact, "compact")?)?
             .arg(apart(read, "read")?)?,
     )
 }
@@ -380,7 +392,7 @@ fn as_task<'a>(arg: Arg<'a>, name: &'a str) -> Result<Arg<'a>, Error> {
 fn apart<'a>(arg: Arg<'a>, name: &'a str) -> Result<Arg<'a>, Error> {
     let mut arg = arg;
     for other in [
-        "read", "check", "stat", "log", "dump", "load", "trim", "copy",
+        "read", "check", "stat", "log", "dump", "load", "trim", "copy", "compact",
     ] {
         if other != name {
             arg = arg.conflicts_with(other)?;
