@@ -45,11 +45,12 @@ const char *vah_strerror(int code)
 	case VAH_ACTIVE: return "transactions are active, or a thread sleeps in a call";
 	case VAH_FORKED: return "the store was opened by the process that this one was forked from";
 	case VAH_DEADLOCK: return "the thread would wait for itself, or for one that waits for it";
-	case VAH_STOPPED: return "the opening, or the copy, was given up by its caller";
+	case VAH_STOPPED: return "the opening, the copy or the load was given up by its caller";
 	case VAH_CLOSED: return "the store was closed";
 	case VAH_READ_ONLY: return "the store was opened to be read only";
-	case VAH_NOT_EMPTY: return "the folder of a copy is not empty";
+	case VAH_NOT_EMPTY: return "the folder of a copy or a load is not empty";
 	case VAH_NOT_COPIED: return "a call of the system on the files of a copy failed";
+	case VAH_NOT_RISING: return "a key is not above the one before it";
 	default: return "no code of vahondrisa";
 	}
 }

@@ -371,7 +371,7 @@ static const char *const why_apart[] = {
 	[5] = "`pages` in it lacks pages that the store had when its log began",
 	[6] = "`log` in it does not begin as the log of a store",
 	[7] = "`log2` in it does not begin as the log of a store",
-	[UNFINISHED] = "a copy into it was not finished",
+	[UNFINISHED] = "a copy or a load into it was not finished",
 };
 
 /* Reads the beginning of a file: as many bytes as there is room for, and none where it has fewer than so many. */

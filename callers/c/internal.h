@@ -69,7 +69,7 @@ _Static_assert(sizeof(vah_info) == 104 && offsetof(vah_info, restarts) == 48, "b
 
 /* What is asked, and what is answered, by number: crates/im_calls. */
 enum { BEGIN, FETCH, SEEK, NEXT, SCAN, INSERT, DELETE, COMMIT, ROLLBACK, CONTINUE, FLUSH_PAGE, FORCE, CHECKPOINT, STAT, CLOSE = 15, SWITCH, PREV,
-	COPY_BEGIN, COPY_PIECE, COPY_END };
+	COPY_BEGIN, COPY_PIECE, COPY_END, LOAD_BEGIN, LOAD_PUT, LOAD_END };
 enum { STARTED, FOUND, ABSENT, ENTRY, END, ENTRIES, INSERTED, DUPLICATE, DELETED, COMMITTED, ROLLED_BACK, MORE, BLOCKED, DIE, DONE, REFUSED, BLOCKED_TREE };
 
 /* ---- the device: files.c ---- */

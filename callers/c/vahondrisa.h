@@ -208,22 +208,24 @@ typedef struct vah_info {
  *  that waits for this one. Nothing was changed, and the transaction goes on:
  *  end one of them. */
 #define VAH_DEADLOCK 107
-/** vah_config.progress gave the opening up, or that of a copy the copy. The store
- *  is as it was, and there is no copy. */
+/** vah_config.progress gave the opening up, that of a copy the copy, or the callback
+ *  of a load the load. The store is as it was, and there is no copy. */
 #define VAH_STOPPED 108
 /** The store was closed: open it again. */
 #define VAH_CLOSED 109
 /** The store was opened to be read only. Nothing was changed: open it without
  *  read_only, once nobody else looks at it. */
 #define VAH_READ_ONLY 110
-/** The folder of a copy has something in it, or lies in the store's own: name
- *  another. */
+/** The folder of a copy or a load has something in it, or that of a copy lies in the
+ *  store's own: name another. */
 #define VAH_NOT_EMPTY 111
 /** A call of the system on the folder or the files of a copy failed, as errno says.
  *  The store goes on: copy again, into another folder, where there is room. There is
  *  no copy, or half of one, which no opening takes. Where it was the very last call
  *  that failed, a sync, there is a whole one; but a power cut may leave less of it. */
 #define VAH_NOT_COPIED 112
+/** A key of a load is not above the one before it: sort them, or insert them. */
+#define VAH_NOT_RISING 113
 /* The refusals of the store, by the numbers that its programs print. */
 /** The transaction has ended: begin another. */
 #define VAH_NO_TRANSACTION 1
@@ -287,6 +289,26 @@ const char *vah_build(void);
  *  @return VAH_LOCKED, VAH_NOT_A_STORE, VAH_POOL_SIZE, VAH_DEVICE, VAH_MEMORY,
  *  VAH_STOPPED, VAH_TOO_MANY */
 int vah_open(const char *path, const vah_config *config, vah_store **store);
+
+/** Make a store in a folder of entries whose keys rise, without a log: each page is
+ *  written once, and full. The store has just these entries, on the disk, when 0 is
+ *  returned; else there is none. An opening of the folder meanwhile, or after a kill,
+ *  is refused VAH_NOT_A_STORE.
+ *  @param[in] path one that is empty, or is to be made
+ *  @param[in] next hands the next entries: it sets up to VAH_SCAN_MAX of them, whose
+ *  keys stay until it is called again, and returns how many; 0 at the end, and -1 to
+ *  give the load up. It may work with other stores
+ *  @param[in] with its first argument
+ *  @return VAH_NOT_RISING, VAH_KEY_LENGTH, VAH_STOPPED, VAH_NOT_EMPTY, VAH_DEVICE,
+ *  VAH_MEMORY, VAH_CAPACITY */
+int vah_load(const char *path, int (*next)(void *with, vah_ref *entries), void *with);
+
+/** Load the entries of a store that nobody writes meanwhile into a folder, where
+ *  they take as few pages as they can. Of one in use make a copy first (vah_copy).
+ *  @param[in] path the store, which is only read
+ *  @param[in] folder one that is empty, or is to be made
+ *  @return as vah_open, to read only, and as vah_load */
+int vah_compact(const char *path, const char *folder);
 
 /** Write all pages, leave a long log for an empty one or take a checkpoint, cut
  *  what of the logs nothing reads any more, and end the store. What was committed

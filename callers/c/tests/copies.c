@@ -212,7 +212,7 @@ static void is_half(const char *name)
 	for (int reads = 0; reads < 2; reads++) {
 		config.read_only = (uint64_t)reads;
 		IS(vah_open(in_folder(name), &config, &store), VAH_NOT_A_STORE);
-		HOLDS(!store && strstr(vah_last_error(), "a copy into it was not finished"));
+		HOLDS(!store && strstr(vah_last_error(), "a copy or a load into it was not finished"));
 	}
 }
 
@@ -469,7 +469,7 @@ static void is_none_or_whole(const char *dir, const unsigned long *acked)
 		look(dir, acked);
 	} else {
 		IS(vah_open(dir, NULL, &store), VAH_NOT_A_STORE);
-		HOLDS(!store && strstr(vah_last_error(), "a copy into it was not finished"));
+		HOLDS(!store && strstr(vah_last_error(), "a copy or a load into it was not finished"));
 		HOLDS(names_in(dir) == names);
 	}
 	HOLDS(!remove_folder(dir));

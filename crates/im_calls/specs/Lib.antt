@@ -4,3 +4,4 @@ pub mod Openings
 pub mod Sessions
 pub mod Made
 pub mod Copies
+pub mod Loads

@@ -20,9 +20,10 @@ use Rattle.im_calls.specs.declared.call.Call.{Call}
 use Rattle.im_calls.specs.Calls.{IsAnswered, Refuses, TellsWord, Shows, numbers_bytes}
 use Rattle.im_calls.specs.declared.session.Session.{Session}
 use Rattle.im_calls.specs.Copies.{IsBegunOver, IsCopyEnded, IsPieceMade}
+use Rattle.im_calls.specs.Loads.{Loads}
 use Rattle.im_calls.specs.declared.opening.Opening.{Opening}
 use Rattle.im_calls.specs.Openings.{AsksTheSame, IsOpeningOver}
-use Rattle.im_calls.specs.Sessions.{IsClosing, IsForStep, IsServed, standing}
+use Rattle.im_calls.specs.Sessions.{IsClosing, IsForLoad, IsForStep, IsServed, standing}
 
 -- the files of a store behind a pointer: its caller's, with its logs by name
 abbrev pub own_ghosts : Ghosts (Renamed CallerFiles)
@@ -49,7 +50,7 @@ pub record Opens (asked told : Opening) (was now : Session) : Type 0 where
 -- All that `made` promises: of the question and what it is told, and of the store before and after.
 pub record Makes (asked told : Call) (was now : Session) : Type 0 where
   pub question : IsAnswered asked told
-  pub closed : was.store ≡ None → Refuses told 10 × (now.store ≡ None)
+  pub closed : was.store ≡ None → (IsForLoad asked.step → ⊥) → Refuses told 10 × (now.store ≡ None)
   pub ended : asked.step ≡ 15 → now.store ≡ None
   pub stat : IfSome was.store (λ opened. asked.step ≡ 13 → TellsWord told 14 6 × (now.store ≡ Some opened))
   pub shown : IfSome was.store (λ opened. asked.step ≡ 13 → Shows told (numbers_bytes (standing file_ghosts opened.store.engine)))
@@ -58,3 +59,5 @@ pub record Makes (asked told : Call) (was now : Session) : Type 0 where
   pub copied : IfSome was.store (λ opened. asked.step ≡ 19 → IsSomeAnd now.store (λ left. IsPieceMade own_ghosts copy_ghosts file_ghosts told opened.store left.store))
   pub whole : IfSome was.store (λ opened. asked.step ≡ 20 → IsSomeAnd now.store (λ left. IsCopyEnded own_ghosts copy_ghosts file_ghosts told opened.store left.store))
   pub served : IfSome was.store (λ opened. IsForStep asked.step → IsServed file_ghosts asked told opened now.store)
+  pub loads : was.store ≡ None → IsForLoad asked.step → Loads caller.ghosts asked told was.load now.load
+  pub beside : IsForLoad asked.step → now.store ≡ was.store

@@ -14,9 +14,13 @@ use Rattle.im_calls.specs.declared.call.Call.{Call}
 use Rattle.im_calls.specs.Calls.{AsksStep, Tells, TellsWord, Refuses}
 use Rattle.im_calls.specs.declared.opened.Opened.{Opened}
 
--- a number that is for a step: it asks neither how the store stands, nor an end, nor for a copy
+-- a number that is for a step: it asks neither how the store stands, nor an end, nor for a copy or a load
 abbrev pub IsForStep : ℕ → Type 0
-IsForStep step = (step ≢ 13) × (step ≢ 15) × (step ≢ 18) × (step ≢ 19) × (step ≢ 20)
+IsForStep step = (step ≢ 13) × (step ≢ 15) × (step ≢ 18) × (step ≢ 19) × (step ≢ 20) × (step ≢ 21) × (step ≢ 22) × (step ≢ 23)
+
+-- a number that is for a load
+abbrev pub IsForLoad : ℕ → Type 0
+IsForLoad step = (step ≡ 21) ⊎ (step ≡ 22) ⊎ (step ≡ 23)
 
 -- a refusal is told just where something was refused, by its number, and else Done
 abbrev pub TellsEnd : Call → Result Unit Fault → Type 0

@@ -4,10 +4,12 @@ ghost use Rattle.std.specs.Prelude.{◌≡◌, ◌⊎◌, ◌<◌, ◌≤◌, �
 ghost use Rattle.std.specs.Option.{IsSomeAnd};
 ghost use Rattle.im_calls.specs.Copies.{IsBegunOver, IsCopyEnded, IsPieceMade};
 ghost use Rattle.im_calls.specs.Calls.{IsAnswered, Refuses, TellsWord, Shows, numbers_bytes};
+ghost use Rattle.im_calls.specs.Loads.{IsLoadBegunOver, IsLoadEnded, IsPut, Loads};
 ghost use Rattle.im_calls.specs.Openings.{AsksTheSame, IsOpeningOver};
-ghost use Rattle.im_calls.specs.Sessions.{IsClosing, IsServed, IsForStep, standing};
+ghost use Rattle.im_calls.specs.Sessions.{IsClosing, IsForLoad, IsServed, IsForStep, standing};
 
 use crate::call::Call;
+use crate::loading::Loading;
 use crate::opened::Opened;
 use crate::opening::Opening;
 use crate::telling::refuse;
@@ -29,21 +31,32 @@ const COPY_PIECE: u32 = 19;
 
 const COPY_END: u32 = 20;
 
+const LOAD_BEGIN: u32 = 21;
+
+const LOAD_PUT: u32 = 22;
+
+const LOAD_END: u32 = 23;
+
 /// The files of a store that its caller holds, and those of a copy of it, by their names.
 pub type Files = Mirrored<Renamed<CallerFiles>, Renamed<CallerDisk>>;
 
-/// A store, open or not.
+/// A store, open or not, or a load that makes one.
 #[derive(Drop)]
 pub struct Session {
     alloc: Global,
     store: Option<Opened<Files>>,
+    load: Option<Loading<CallerDisk>>,
 }
 
 /// A store that is not open.
 pub fn blank(alloc: Global) -> Session
     ensures { result.store ≡ None }
 {
-    Session { alloc, store: None }
+    Session {
+        alloc,
+        store: None,
+        load: None,
+    }
 }
 
 /// Opens the store over the descriptors that are asked, of files that are only read where that is asked, and puts the answer in its place. One that is open answers
@@ -84,9 +97,10 @@ fn disk_of(ask: u32, answer: u32, is_copy: bool) -> Option<CallerDisk>
 }
 
 /// Does what is asked, and puts the answer in its place. A store that is not open answers `Failed`.
+/// A load goes on from call to call, until one is refused, or it is ended; an end of the store lets it go.
 pub fn made(session: &mut Session, call: &mut Call)
     ensures question { IsAnswered call.old call.new }
-    ensures closed { session.old.store ≡ None → Refuses call.new 10 × (session.new.store ≡ None) }
+    ensures closed { session.old.store ≡ None → (IsForLoad call.old.step → ⊥) → Refuses call.new 10 × (session.new.store ≡ None) }
     ensures ended { call.old.step ≡ 15 → session.new.store ≡ None }
     ensures stat { IfSome session.old.store (λ opened. call.old.step ≡ 13 → TellsWord call.new 14 6 × (session.new.store ≡ Some opened)) }
     ensures shown { IfSome session.old.store (λ opened. call.old.step ≡ 13 → Shows call.new (numbers_bytes (standing ⟦<Files as Disk>⟧ opened.store.engine))) }
@@ -95,6 +109,8 @@ pub fn made(session: &mut Session, call: &mut Call)
     ensures copied { IfSome session.old.store (λ opened. call.old.step ≡ 19 → IsSomeAnd session.new.store (λ now. IsPieceMade ⟦<Renamed<CallerFiles> as Disk>⟧ ⟦<Renamed<CallerDisk> as Disk>⟧ ⟦<Files as Disk>⟧ call.new opened.store now.store)) }
     ensures whole { IfSome session.old.store (λ opened. call.old.step ≡ 20 → IsSomeAnd session.new.store (λ now. IsCopyEnded ⟦<Renamed<CallerFiles> as Disk>⟧ ⟦<Renamed<CallerDisk> as Disk>⟧ ⟦<Files as Disk>⟧ call.new opened.store now.store)) }
     ensures served { IfSome session.old.store (λ opened. IsForStep call.old.step → IsServed ⟦<Files as Disk>⟧ call.old call.new opened session.new.store) }
+    ensures loads { session.old.store ≡ None → IsForLoad call.old.step → Loads ⟦<CallerDisk as Disk>⟧ call.old call.new session.old.load session.new.load }
+    ensures beside { IsForLoad call.old.step → session.new.store ≡ session.old.store }
 {
     match call.step {
         CLOSE => close(session, call),
@@ -102,6 +118,9 @@ pub fn made(session: &mut Session, call: &mut Call)
         COPY_BEGIN => begin_copy(session, call),
         COPY_PIECE => copy_piece(session, call),
         COPY_END => end_copy(session, call),
+        LOAD_BEGIN => begin_load(session, call),
+        LOAD_PUT => put_load(session, call),
+        LOAD_END => end_load(session, call),
         _ => step(session, call),
     }
 }
@@ -112,6 +131,7 @@ fn close(session: &mut Session, call: &mut Call)
     ensures ended { session.new.store ≡ None }
     ensures left { IfSome session.old.store (λ opened. IsClosing ⟦<Files as Disk>⟧ call.new opened.store) }
 {
+    session.load = None;
     match session.store.take() {
         Some(store) => store.close(call),
         None => refuse(call, Fault::Failed),
@@ -177,4 +197,64 @@ fn end_copy(session: &mut Session, call: &mut Call)
         Some(store) => store.end_copy(call),
         None => refuse(call, Fault::Failed),
     }
+}
+
+// The files of the load are the caller's, over the descriptors that are `key_len` and `hi_len`, by the names of a copy.
+fn begin_load(session: &mut Session, call: &mut Call)
+    ensures question { IsAnswered call.old call.new }
+    ensures beside { session.new.store ≡ session.old.store }
+    ensures begun { session.old.store ≡ None → IsLoadBegunOver ⟦<CallerDisk as Disk>⟧ call.old call.new session.new.load }
+{
+    if session.store.is_some() {
+        refuse(call, Fault::Failed);
+    } else {
+        session.load = begun_load(session.alloc, call);
+    }
+}
+
+fn begun_load(alloc: Global, call: &mut Call) -> Option<Loading<CallerDisk>>
+    ensures question { IsAnswered call.old call.new }
+    ensures begun { IsLoadBegunOver ⟦<CallerDisk as Disk>⟧ call.old call.new result }
+{
+    let Some(disk) = disk_of(call.key_len, call.hi_len, true) else {
+        refuse(call, Fault::Device);
+        return None;
+    };
+    Loading::begin(alloc, disk, call)
+}
+
+// Where the load is refused an entry, it is let go.
+fn put_load(session: &mut Session, call: &mut Call)
+    ensures question { IsAnswered call.old call.new }
+    ensures beside { session.new.store ≡ session.old.store }
+    ensures none { session.old.load ≡ None → Refuses call.new 10 }
+    ensures put { IfSome session.old.load (λ load. ⟦<CallerDisk as Disk>⟧.failed load.disk ≡ false → IsPut ⟦<CallerDisk as Disk>⟧ call.old call.new load session.new.load) }
+{
+    let Some(load) = session.load.take() else {
+        refuse(call, Fault::Failed);
+        return;
+    };
+    if load.disk.has_failed() {
+        refuse(call, Fault::Failed);
+        return;
+    }
+    session.load = load.put(call);
+}
+
+fn end_load(session: &mut Session, call: &mut Call)
+    ensures question { IsAnswered call.old call.new }
+    ensures beside { session.new.store ≡ session.old.store }
+    ensures none { session.old.load ≡ None → Refuses call.new 10 }
+    ensures ended { session.new.load ≡ None }
+    ensures left { IfSome session.old.load (λ load. ⟦<CallerDisk as Disk>⟧.failed load.disk ≡ false → (disk : CallerDisk) × IsLoadEnded ⟦<CallerDisk as Disk>⟧ call.new load disk) }
+{
+    let Some(load) = session.load.take() else {
+        refuse(call, Fault::Failed);
+        return;
+    };
+    if load.disk.has_failed() {
+        refuse(call, Fault::Failed);
+        return;
+    }
+    let _disk = load.end(call);
 }
