@@ -42,6 +42,8 @@ pub struct vah_reading {
 
 pub type vah_progress = unsafe extern "C" fn(with: *mut c_void, bytes: u64) -> c_int;
 
+pub type vah_next_entries = unsafe extern "C" fn(with: *mut c_void, entries: *mut vah_ref) -> c_int;
+
 #[repr(C)]
 #[derive(Clone, Copy, Debug)]
 pub struct vah_config {
@@ -89,6 +91,7 @@ pub const VAH_CLOSED: c_int = 109;
 pub const VAH_READ_ONLY: c_int = 110;
 pub const VAH_NOT_EMPTY: c_int = 111;
 pub const VAH_NOT_COPIED: c_int = 112;
+pub const VAH_NOT_RISING: c_int = 113;
 pub const VAH_NO_TRANSACTION: c_int = 1;
 pub const VAH_MUST_ROLL_BACK: c_int = 2;
 pub const VAH_KEY_LENGTH: c_int = 3;
@@ -155,6 +158,8 @@ extern "C" {
     pub fn vah_checkpoint(store: *mut vah_store) -> c_int;
     pub fn vah_switch(store: *mut vah_store) -> c_int;
     pub fn vah_flush(store: *mut vah_store) -> c_int;
+    pub fn vah_load(path: *const c_char, next: Option<vah_next_entries>, with: *mut c_void) -> c_int;
+    pub fn vah_compact(path: *const c_char, folder: *const c_char) -> c_int;
     pub fn vah_copy(store: *mut vah_store, folder: *const c_char) -> c_int;
     pub fn vah_copy_with(store: *mut vah_store, folder: *const c_char, progress: Option<vah_progress>, with: *mut c_void) -> c_int;
     pub fn vah_name_key(

@@ -100,11 +100,13 @@ pub enum ErrorKind {
     Stopped,
     /// The store was opened to be read only. Nothing was changed.
     ReadOnly,
-    /// The folder of a copy has something in it, or lies in the store's own.
+    /// The folder of a copy or a load has something in it, or that of a copy lies in the store's own.
     NotEmpty,
     /// A call of the system on the folder or the files of a copy failed; `source` has its error. The store goes on. There is no copy, or half of one, which no
     /// opening takes; where the very last call failed, a sync, there is a whole one, of which a power cut may leave less.
     NotCopied,
+    /// A key of a load is not above the one before it. There is no store.
+    NotRising,
     /// A code of a later library.
     Other,
 }
@@ -156,6 +158,7 @@ impl Error {
             sys::VAH_READ_ONLY => ErrorKind::ReadOnly,
             sys::VAH_NOT_EMPTY => ErrorKind::NotEmpty,
             sys::VAH_NOT_COPIED => ErrorKind::NotCopied,
+            sys::VAH_NOT_RISING => ErrorKind::NotRising,
             _ => ErrorKind::Other,
         }
     }
@@ -190,7 +193,7 @@ impl From<Error> for io::Error {
             ErrorKind::Device | ErrorKind::Failed | ErrorKind::NotCopied => error.source.as_ref().map_or(io::ErrorKind::Other, io::Error::kind),
             ErrorKind::Memory => io::ErrorKind::OutOfMemory,
             ErrorKind::NotAStore => io::ErrorKind::InvalidData,
-            ErrorKind::KeyLength | ErrorKind::PoolSize | ErrorKind::Invalid => io::ErrorKind::InvalidInput,
+            ErrorKind::KeyLength | ErrorKind::PoolSize | ErrorKind::Invalid | ErrorKind::NotRising => io::ErrorKind::InvalidInput,
             ErrorKind::Locked | ErrorKind::Busy | ErrorKind::GiveWay => io::ErrorKind::WouldBlock,
             ErrorKind::ReadOnly => io::ErrorKind::PermissionDenied,
             ErrorKind::NotEmpty => io::ErrorKind::AlreadyExists,

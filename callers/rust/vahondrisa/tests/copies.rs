@@ -79,7 +79,7 @@ fn folders_of_copies() {
     fs::create_dir(dir.0.join("half")).unwrap();
     fs::write(dir.0.join("half/log.part"), "").unwrap();
     let error = Store::open(dir.0.join("half")).unwrap_err();
-    assert!(error.kind() == ErrorKind::NotAStore && error.to_string().ends_with("a copy into it was not finished"), "{error}");
+    assert!(error.kind() == ErrorKind::NotAStore && error.to_string().ends_with("a copy or a load into it was not finished"), "{error}");
     store.write(|txn| txn.put(b"b", 2)).unwrap(); // it goes on
 }
 

@@ -98,7 +98,7 @@ fn every_call_of_a_copy_fails_in_turn() {
         }
         match Store::open(&to) {
             Ok(copy) => assert_eq!(copy.begin().unwrap().get(b"a").unwrap(), Some(n)),
-            Err(error) => assert!(error.kind() == ErrorKind::NotAStore && error.to_string().ends_with("a copy into it was not finished"), "{n}: {error}"),
+            Err(error) => assert!(error.kind() == ErrorKind::NotAStore && error.to_string().ends_with("a copy or a load into it was not finished"), "{n}: {error}"),
         }
         if outcome.is_ok() {
             assert!(n > 12, "{n} calls alone");
