@@ -123,7 +123,7 @@ class Copies(Case):
             os.mkdir(self.dir + "5")
             with open(self.dir + "5/log.part", "wb"):
                 pass
-            self.assertRaisesRegex(vahondrisa.NotAStore, "a copy into it was not finished", vahondrisa.open, self.dir + "5")
+            self.assertRaisesRegex(vahondrisa.NotAStore, "a copy or a load into it was not finished", vahondrisa.open, self.dir + "5")
         self.assertRaisesRegex(ValueError, "^the store is closed$", store.copy, self.dir + "6")
         self.assertFalse(os.path.exists(self.dir + "6"))
 

@@ -77,7 +77,7 @@ class EveryCall(unittest.TestCase):
                     if not os.path.isdir(to) or not os.listdir(to):
                         self.assertTrue(failed)
                     elif os.path.exists(to + "/log.part"):
-                        self.assertRaisesRegex(vahondrisa.NotAStore, "a copy into it was not finished", vahondrisa.open, to)
+                        self.assertRaisesRegex(vahondrisa.NotAStore, "a copy or a load into it was not finished", vahondrisa.open, to)
                     else:
                         with vahondrisa.open(to) as copy:
                             self.assertEqual(copy.get(b"a"), n)

@@ -177,7 +177,7 @@ def refuse(code: int, path: Optional[str] = None, is_look: bool = False) -> NoRe
         raise ValueError("the transaction has ended")
     if code == c.CLOSED:
         raise ValueError("the store is closed")
-    if code in (c.KEY_LENGTH, c.POOL_SIZE, c.INVALID):
+    if code in (c.KEY_LENGTH, c.POOL_SIZE, c.INVALID, c.NOT_RISING):
         raise ValueError(text)
     kind = _KINDS.get(code, Error)
     if is_look and code == c.DEVICE and system == errno.ENOENT:

@@ -12,7 +12,7 @@ SCAN_MAX = 256
 NO_WAIT = 1
 REDO_GROWS = LOG_GROWS = CACHE_FITS = (1 << 64) - 1
 NOT_FOUND, EXISTS, GIVE_WAY, BUSY, INVALID, ACTIVE, FORKED, DEADLOCK, STOPPED, CLOSED = 100, 101, 102, 103, 104, 105, 106, 107, 108, 109
-READ_ONLY, NOT_EMPTY, NOT_COPIED = 110, 111, 112
+READ_ONLY, NOT_EMPTY, NOT_COPIED, NOT_RISING = 110, 111, 112, 113
 NO_TRANSACTION, MUST_ROLL_BACK, KEY_LENGTH, ROLLING_BACK, CAPACITY, LOG_FULL, DEVICE, MEMORY = 1, 2, 3, 4, 6, 7, 8, 9
 FAILED, NOT_A_STORE, POOL_SIZE, LOCKED = 10, 11, 13, 19
 
@@ -27,6 +27,10 @@ def entries(count: int) -> struct.Struct:
     return struct.Struct("=" + "Q256p" * count)
 
 
+class Ref(ctypes.Structure):
+    _fields_ = [("key", c_char_p), ("len", c_size_t), ("rid", c_uint64)]
+
+
 class Reading(ctypes.Structure):
     _fields_ = [("left", c_uint64), ("number", c_uint32), ("is_half", c_uint8)]
 
@@ -34,6 +38,9 @@ class Reading(ctypes.Structure):
 # What the library tells how far it is: a generator, which it was given beside this, gets the number, and answers by the next one that it yields.
 Progress = ctypes.CFUNCTYPE(c_int, py_object, c_uint64)
 TELL = Progress(types.GeneratorType.send)
+# Whom the library asks for entries: such a generator gets the room for them, and answers how many it has put there.
+Next = ctypes.CFUNCTYPE(c_int, py_object, POINTER(Ref))
+HAND = Next(types.GeneratorType.send)
 
 
 class Config(ctypes.Structure):
@@ -54,7 +61,7 @@ class Info(ctypes.Structure):
 
 
 # The library's own build tests these sizes too.
-assert (ctypes.sizeof(Entry), ctypes.sizeof(Config), ctypes.sizeof(Info), ctypes.sizeof(Reading)) == (264, 72, 104, 16) and entries(1).size == 264
+assert (ctypes.sizeof(Entry), ctypes.sizeof(Config), ctypes.sizeof(Info), ctypes.sizeof(Reading), ctypes.sizeof(Ref)) == (264, 72, 104, 16, 24) and entries(1).size == 264
 
 
 def _load() -> ctypes.CDLL:
@@ -89,6 +96,8 @@ _FUNCTIONS: "Dict[str, Tuple[Any, ...]]" = {
     "vah_switch": (c_void_p,),
     "vah_flush": (c_void_p,),
     "vah_copy_with": (c_void_p, c_char_p, Progress, py_object),
+    "vah_load": (c_char_p, Next, py_object),
+    "vah_compact": (c_char_p, c_char_p),
     "vah_name_key": (c_uint, c_char_p, c_size_t, c_char_p, c_size_t, c_void_p, POINTER(c_size_t)),
     "vah_long_part": (c_void_p, c_size_t, c_char_p, c_size_t, c_uint32, POINTER(c_size_t), POINTER(c_uint64)),
     "vah_long_read": (POINTER(Reading), c_size_t, c_char_p, c_size_t, c_uint64),
