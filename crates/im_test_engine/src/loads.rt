@@ -1,10 +1,10 @@
 //! Loads onto the model disk, and openings of what they leave.
 
-ghost use Rattle.std.specs.Prelude.{◌≡◌, false, OnOk};
+ghost use Rattle.std.specs.Prelude.{◌≡◌, false, true, Ok, OnOk};
 ghost use Rattle.im_base_disk.specs.Runs.{IsSynced};
 
 use im_base_disk::Disk;
-use im_base_model_disk::ModelDisk;
+use im_base_model_disk::{Fill, Length, ModelDisk, Stop};
 use im_base_two_logs::Renamed;
 use im_base_types::{Fault, FileId, Key, Rid};
 use im_engine::{Config, Engine};
@@ -253,5 +253,164 @@ fn at_once(rt: HostRuntime) -> Result<(), Fail> {
     let (falls, other) = loaded(alloc, &empty, b"acb")?;
     assert!(&rt; falls == Ending::NotRising);
     assert!(&rt; found_after(alloc, &other, 0, 0)?.0 == 0);
+    Ok(())
+}
+
+// The stop within this call, of one of six kinds: all of what was not synced is left, or none, or other bytes in its place, up to its long end or its short one.
+fn stop_at(alloc: Global, call: u64, kind: u8) -> Result<Stop, Fail> {
+    let length = if kind % 2 == 0 {
+        Length::Long
+    } else {
+        Length::Short
+    };
+    let fill = match kind / 2 {
+        0 => Fill::Written,
+        1 => Fill::Bytes(vec![in alloc; 0u8; 1]?),
+        _ => Fill::Bytes(vec![in alloc; 1u8; 1]?),
+    };
+    Ok(Stop { call, length, fill })
+}
+
+// What an opening of what a load left finds.
+#[derive(Clone, Copy, PartialEq, Eq)]
+enum Shown {
+    // No store, or files without bytes, of which it makes an empty one.
+    None,
+    // All entries.
+    Whole,
+    Other,
+}
+
+fn what_shows(alloc: Global, disk: &ModelDisk, entries: u32, len: usize) -> Result<Shown, Fail> {
+    let mut engine = match opened(alloc, disk) {
+        Ok(engine) => engine,
+        Err(Fault::NotAStore) => return Ok(Shown::None),
+        Err(_other) => return Ok(Shown::Other),
+    };
+    let told = found(alloc, &mut engine, entries, len);
+    end(engine);
+    Ok(match told? {
+        (_, true) => Shown::Whole,
+        (0, false) => Shown::None,
+        (_, false) => Shown::Other,
+    })
+}
+
+// Puts the keys of so many numbers, up to the first that is refused, and says whether none was.
+fn are_put<D: Disk>(
+    alloc: Global,
+    loader: &mut Loader,
+    disk: &mut D,
+    entries: u32,
+    len: usize,
+) -> Result<bool, Fail>
+    requires working { D.failed disk.old ≡ false }
+    ensures works { result ≡ Ok true → D.failed disk.new ≡ false }
+{
+    for number in 0..entries {
+        let key = key_of(alloc, number, len)?;
+        if loader.put(disk, &key, number as u64).is_err() {
+            return Ok(false);
+        }
+    }
+    Ok(true)
+}
+
+// Loads so many keys, and says whether nothing was refused.
+fn is_loaded<D: Disk>(alloc: Global, disk: &mut D, entries: u32, len: usize) -> Result<bool, Fail>
+    requires working { D.failed disk.old ≡ false }
+{
+    let Ok(Some(mut loader)) = Loader::begin(alloc, disk) else {
+        return Ok(false);
+    };
+    if !are_put(alloc, &mut loader, disk, entries, len)? {
+        return Ok(false);
+    }
+    Ok(loader.finish(disk).is_ok())
+}
+
+// How a load ends, whose disk stops, or fails, as was told, and what it leaves.
+fn shown_after(
+    alloc: Global,
+    disk: ModelDisk,
+    entries: u32,
+    len: usize,
+) -> Result<(bool, Shown), Fail>
+    requires working { ⟦<ModelDisk as Disk>⟧.failed disk ≡ false }
+{
+    let mut disk = disk;
+    let is_ended = is_loaded(alloc, &mut disk, entries, len)?;
+    Ok((is_ended, what_shows(alloc, &disk, entries, len)?))
+}
+
+// How many calls a whole load makes, in how many of its stops no store is left, and in how many all of it.
+#[derive(Clone, Copy, Debug, Default, PartialEq, Eq)]
+struct Left {
+    none: u64,
+    whole: u64,
+    bad: u64,
+}
+
+impl Left {
+    fn count(&mut self, told: (bool, Shown)) {
+        match told {
+            (_, Shown::Whole) => self.whole = self.whole.wrapping_add(1),
+            (false, Shown::None) => self.none = self.none.wrapping_add(1),
+            (true, Shown::None) | (_, Shown::Other) => self.bad = self.bad.wrapping_add(1),
+        }
+    }
+}
+
+// How many calls a whole load makes.
+fn calls_of(alloc: Global, entries: u32, len: usize) -> Result<u64, Fail> {
+    let mut disk = empty_disk(alloc);
+    load(alloc, &mut disk, entries, len)?;
+    Ok(disk.calls())
+}
+
+// What a load leaves that is stopped within this call.
+fn stopped_at(
+    alloc: Global,
+    call: u64,
+    kind: u8,
+    entries: u32,
+    len: usize,
+) -> Result<(bool, Shown), Fail> {
+    let mut disk = empty_disk(alloc);
+    disk.arm(stop_at(alloc, call, kind)?);
+    shown_after(alloc, disk, entries, len)
+}
+
+// What a load leaves whose call of that number fails.
+fn failed_at(alloc: Global, call: u64, entries: u32, len: usize) -> Result<(bool, Shown), Fail> {
+    let mut disk = empty_disk(alloc);
+    disk.fail_call(call);
+    shown_after(alloc, disk, entries, len)
+}
+
+// Stops a load within each of its calls, in each way, and lets each of them fail.
+fn every_stop(alloc: Global, entries: u32, len: usize) -> Result<Left, Fail> {
+    let mut left = Left::default();
+    for call in 0..calls_of(alloc, entries, len)? {
+        let call = call.wrapping_add(1);
+        for kind in 0..6u8 {
+            left.count(stopped_at(alloc, call, kind, entries, len)?);
+        }
+        left.count(failed_at(alloc, call, entries, len)?);
+    }
+    Ok(left)
+}
+
+// After a stop within any call there is no store, or all of it.
+#[test]
+fn a_stop_leaves_no_store_or_all_of_it(rt: HostRuntime) -> Result<(), Fail> {
+    let alloc = rt.alloc();
+    for (entries, len) in [(1, 4), (40, 255)] {
+        let left = every_stop(alloc, entries, len)?;
+        assert!(&rt;
+            left.bad == 0 && left.none > 0 && left.whole > 0,
+            "{entries} {left:?}"
+        );
+    }
     Ok(())
 }
