@@ -6,9 +6,9 @@
 #include "recipes.c"
 #undef main
 
-int block(vah_store *store, vah_txn *txn, const char *prefix, size_t len, size_t lo_len, size_t hi_len);
+int block(vah_store *store, vah_txn *txn, const char *prefix, size_t len, size_t lo_len, size_t hi_len, int (*next)(void *with, vah_ref *entries), void *with);
 
-int block(vah_store *store, vah_txn *txn, const char *prefix, size_t len, size_t lo_len, size_t hi_len)
+int block(vah_store *store, vah_txn *txn, const char *prefix, size_t len, size_t lo_len, size_t hi_len, int (*next)(void *with, vah_ref *entries), void *with)
 {
 	vah_entry entries[VAH_SCAN_MAX];
 	unsigned char key[VAH_KEY_MAX] = { 0 }, lo[VAH_KEY_MAX] = { 0 }, hi[VAH_KEY_MAX] = { 0 }, value[4096] = { 0 };
