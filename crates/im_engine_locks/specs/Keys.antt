@@ -20,7 +20,7 @@ digest k = folding.finish (folding.write folding.initial k)
 
 -- it has room for these bytes in place, or has them
 abbrev pub IsSettable : KeyBytes → Key → Type 0
-IsSettable (Short key) k = length k ≤ 31
+IsSettable (Short key) k = length k ≤ 32
 IsSettable (Long bytes) k = bytes.items ≡ k
 
 -- it has room for the name that this key is

@@ -6,7 +6,7 @@ ghost use Rattle.im_engine_locks.specs.Keys.{spelled, IsSettable};
 use crate::short_key::ShortKey;
 use std::alloc::{AllocError, Global};
 
-/// The bytes of a key: up to 31 in place.
+/// The bytes of a key: up to 32 in place.
 #[derive(Drop)]
 pub enum KeyBytes {
     Short(ShortKey),
@@ -14,11 +14,11 @@ pub enum KeyBytes {
 }
 
 impl KeyBytes {
-    /// Room for a copy of these bytes, which `set` makes. Memory is wanted where they are more than 31: then they are copied here.
+    /// Room for a copy of these bytes, which `set` makes. Memory is wanted where they are more than 32: then they are copied here.
     pub fn room_for(alloc: Global, bytes: &[u8]) -> Result<KeyBytes, AllocError>
         ensures { IfOk result (λ key. IsSettable key bytes.now) }
     {
-        if bytes.len() <= 31 {
+        if bytes.len() <= 32 {
             return Ok(KeyBytes::Short(ShortKey::empty()));
         }
         Ok(KeyBytes::Long(Vec::from_slice(alloc, bytes)?))

@@ -16,7 +16,7 @@
 //! one of those that fall back. An index has the places of the locks on each name: whose they are, in which of the two lists, and at
 //! which number. That it has the place of each lock under its name, and each list has each lock once, is the table's invariant
 //! (`IsInStep`); that a place is of a lock on this very name is read there. The index finds a key by a digest of its bytes, whose bucket
-//! lists the places of that digest: mostly one, in it, as are the bytes of keys of up to 31 in their lock, so that a lock on such a key
+//! lists the places of that digest: mostly one, in it, as are the bytes of keys of up to 32 in their lock, so that a lock on such a key
 //! that nobody else holds wants no memory but room in the two. So a request costs two look-ups of its name, however many
 //! locks are held: one for those who are against it, which is left out where nobody else has a lock, and one to keep it;
 //! and a release costs one for each lock of its owner, or, where nobody else has a lock and the index has at most eight times the room for
