@@ -27,6 +27,7 @@ pub mod Reopened
 pub mod AtRest
 pub mod Upgrading
 pub mod Openings
+pub mod Limits
 pub mod CurrentLogs
 pub mod Looked
 pub mod DiskReads

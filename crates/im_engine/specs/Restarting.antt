@@ -24,8 +24,8 @@ use Rattle.im_theory_steps.specs.Growth.{AreBelow}
 use Rattle.im_restart_analysis.specs.Losers.{is_loser}
 use Rattle.im_restart_analysis.specs.Numbers.{IsNextNumber}
 use Rattle.im_restart_analysis.specs.Orderly.{IsCounted}
-use Rattle.im_restart.specs.declared.restarted.Restarted.{Restarted}
 use Rattle.im_restart.specs.Restart.{IsReport, RunsOut}
+use Rattle.im_engine.specs.declared.restarting.Current.{Current}
 use Rattle.im_engine.specs.Stands.{Allowed, StandsFor}
 
 -- The current log is of the second format.
@@ -65,14 +65,14 @@ module _ {D : Type 0} (d : Ghosts D) (before : List Effect) where
 
   module _ (old : D) (stands : StandsFor before (d.seen old)) where
     -- What a restart answers: a store at rest, whose log is of the second format, the number of the next transaction, and what redo did.
-    pub record IsRestartedCurrent (r : Restarted) (new : D) : Type 0 where
-      pub rest : IsAtRest r.next r.writer new
+    pub record IsRestartedCurrent (r : Current) (new : D) : Type 0 where
+      pub rest : IsAtRest r.restarted.next r.restarted.writer new
       pub second : IsOfSecond d new
-      pub next : IsNextNumber (least_number (named stands.swapped (d.seen old) Log)) r.next stands.log
-      pub report : IsReport stands.b stands.log (file_page (d.seen old Pages)) r.report
+      pub next : IsNextNumber (least_number (named stands.swapped (d.seen old) Log)) r.restarted.next stands.log
+      pub report : IsReport stands.b stands.log (file_page (d.seen old Pages)) r.restarted.report
 
     -- What it keeps of files that stand for these effects: a stop within leaves files that stand for the same, and they are never found to be no store.
-    pub record CurrentKept (new : D) (result : Result Restarted Fault) : Type 0 where
+    pub record CurrentKept (new : D) (result : Result Current Fault) : Type 0 where
       pub sound : IsSound result (λ r. IsRestartedCurrent r new)
       pub stops : LeavesNamed d old new (Allowed before nothing_shown)
       pub used_up : IfErr result (λ e. e ≡ Capacity → RunsOut stands.b stands.log)

@@ -1,9 +1,11 @@
 //! How an engine is opened.
 
-ghost use Rattle.std.specs.Prelude.{◌≡◌, false};
+ghost use Rattle.std.specs.Prelude.{◌≡◌, ◌<◌, ◌≤◌, ◌⊎◌, ◌↔◌, false, IfSome, IsSomeAnd};
+ghost use Rattle.im_base_types.specs.declared.fault.Fault.TheVariants.{PoolSize, Workers};
 
 use crate::buffer_size::BufferSize;
 use crate::more_frames::MoreFrames;
+use im_base_types::{Fault, LEAST_FRAMES, MOST_FRAMES};
 
 /// The most workers of an opening.
 pub const MOST_WORKERS: usize = 16;
@@ -51,5 +53,23 @@ impl Default for Config {
             group: false,
             workers: 1,
         }
+    }
+}
+
+impl Config {
+    /// Why an opening with it is refused before anything is read, if it is: `PoolSize` where the frames are not 8 to 1,024, and after that `Workers`
+    /// where the workers are not 1 to 16.
+    pub fn refusal(&self) -> Option<Fault>
+        ensures frames { IsSomeAnd result (λ e. e ≡ PoolSize) ↔ ((self.now.frames < 8) ⊎ (1024 < self.now.frames)) }
+        ensures workers { IsSomeAnd result (λ e. e ≡ Workers) ↔ ((8 ≤ self.now.frames) × (self.now.frames ≤ 1024)) × ((self.now.workers < 1) ⊎ (16 < self.now.workers)) }
+        ensures causes { IfSome result (λ e. (e ≡ PoolSize) ⊎ (e ≡ Workers)) }
+    {
+        if self.frames < LEAST_FRAMES || self.frames > MOST_FRAMES {
+            return Some(Fault::PoolSize);
+        }
+        if self.workers < 1 || self.workers > MOST_WORKERS {
+            return Some(Fault::Workers);
+        }
+        None
     }
 }

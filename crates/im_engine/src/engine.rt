@@ -30,6 +30,8 @@ pub struct Engine<D: Disk> {
     pub(crate) dense: bool,
     // what redo did in this opening
     pub(crate) report: RedoReport,
+    // whether one of the two logs was of the first format in front of it
+    pub(crate) had_first: bool,
     pub(crate) txns: Transactions,
     pub(crate) locks: LockTable,
     // where records are read again for a rollback
@@ -132,6 +134,14 @@ impl<D: Disk> Engine<D> {
         ensures { result ≡ self.now.report }
     {
         self.report
+    }
+
+    /// Whether one of the two logs was one of the first format in front of the opening that made this engine. That log is the other one now, as it was:
+    /// a program of the first format would open what it says of the store as it was before.
+    pub fn had_first_format(&self) -> bool
+        ensures { result ≡ self.now.had_first }
+    {
+        self.had_first
     }
 
     /// Whether an earlier call broke it.

@@ -1,17 +1,17 @@
 //! How a store is opened, and how its engine ends.
 
-ghost use Rattle.std.specs.Prelude.{◌≡◌, ◌<◌, ◌≤◌, ◌+◌, ◌⊎◌, ◌↔◌, [], false, true, length, List, None, IfOk, IfErr};
+ghost use Rattle.std.specs.Prelude.{◌≡◌, ◌<◌, ◌≤◌, ◌+◌, ◌⊎◌, ◌↔◌, [], false, true, length, List, None, IfOk, IfErr, IsTrue};
 ghost use Rattle.std.specs.Result.{IsErrAnd};
 ghost use Rattle.im_base_types.specs.declared.fault.Fault.TheVariants.{Memory};
 
-use crate::config::{Config, MOST_WORKERS};
+use crate::config::Config;
 use crate::engine::Engine;
 use crate::restarting::restart_current;
 use crate::syncing::sync_files;
 use crate::transactions::Transactions;
 use im_base_disk::Disk;
 use im_base_two_logs::TwoLogs;
-use im_base_types::{Fault, LEAST_FRAMES, LONGEST_BATCH, MOST_FRAMES};
+use im_base_types::{Fault, LONGEST_BATCH};
 use im_engine_locks::LockTable;
 use im_restart::{Alone, ByThreads, Redoes};
 use std::alloc::Global;
@@ -29,6 +29,7 @@ impl<D: TwoLogs> Engine<D> {
     ghost use Rattle.im_base_types.specs.Changes.{Effect};
     ghost use Rattle.im_base_types.specs.declared.fault.Fault.TheVariants.{LogFull, Capacity, Device, Memory, NotAStore, PoolSize, Workers};
     ghost use Rattle.im_base_disk.specs.Runs.{IsSynced};
+    ghost use Rattle.im_log_choice.specs.Found.{HasFirst};
     ghost use Rattle.im_log_choice.specs.Switching.{ReadsNamed};
     ghost use Rattle.im_restart.specs.Restart.{IsFullLog};
     ghost use Rattle.im_engine.specs.Stands.{StandsFor, SpellsCurrent};
@@ -64,6 +65,7 @@ impl<D: TwoLogs> Engine<D> {
         ensures group { IfOk result (λ e. e.txns.group ≡ config.group) }
         ensures pool { IfOk result (λ e. e.writer.pool.frames ≡ config.frames + config.more.frames) }
         ensures spelled { IfOk result (λ _. D.tells → SpellsCurrent (D.seen disk)) }
+        ensures first { IfOk result (λ e. D.tells → IsTrue e.had_first ↔ HasFirst (D.seen disk)) }
         ensures causes { IfErr result (λ x. (x.0 ≡ PoolSize) ⊎ (x.0 ≡ Workers) ⊎ (x.0 ≡ Memory) ⊎ (x.0 ≡ Device) ⊎ (x.0 ≡ NotAStore) ⊎ (x.0 ≡ LogFull) ⊎ (x.0 ≡ Capacity)) }
         ensures unspelled { D.tells → ¬ (SpellsCurrent (D.seen disk)) → ReadsNamed D.Disk disk (disk_of D.Disk result) × IfErr result (λ x. (x.0 ≡ PoolSize) ⊎ (x.0 ≡ Workers) ⊎ (x.0 ≡ Memory) ⊎ (x.0 ≡ Device) ⊎ (x.0 ≡ NotAStore)) }
         ensures full { IfErr result (λ x. x.0 ≡ LogFull → D.tells → IsFullLog (D.seen x.1)) }
@@ -77,6 +79,7 @@ impl<D: TwoLogs> Engine<D> {
         requires working { D.failed disk ≡ false }
         requires synced { IsSynced D.Disk disk }
         ensures opening { IsOpening D.Disk config disk result }
+        ensures first { IfOk result (λ e. D.tells → IsTrue e.had_first ↔ HasFirst (D.seen disk)) }
         ensures group { IfOk result (λ e. e.txns.group ≡ config.group) }
     {
         Engine::open_by(&Alone, alloc, disk, config)
@@ -103,16 +106,14 @@ impl<D: TwoLogs> Engine<D> {
         ensures group { IfOk result (λ e. e.txns.group ≡ config.group) }
         ensures pool { IfOk result (λ e. e.writer.pool.frames ≡ config.frames + config.more.frames) }
         ensures spelled { IfOk result (λ _. D.tells → SpellsCurrent (D.seen disk)) }
+        ensures first { IfOk result (λ e. D.tells → IsTrue e.had_first ↔ HasFirst (D.seen disk)) }
         ensures causes { IfErr result (λ x. (x.0 ≡ PoolSize) ⊎ (x.0 ≡ Workers) ⊎ (x.0 ≡ Memory) ⊎ (x.0 ≡ Device) ⊎ (x.0 ≡ NotAStore) ⊎ (x.0 ≡ LogFull) ⊎ (x.0 ≡ Capacity)) }
         ensures unspelled { D.tells → ¬ (SpellsCurrent (D.seen disk)) → ReadsNamed D.Disk disk (disk_of D.Disk result) × IfErr result (λ x. (x.0 ≡ PoolSize) ⊎ (x.0 ≡ Workers) ⊎ (x.0 ≡ Memory) ⊎ (x.0 ≡ Device) ⊎ (x.0 ≡ NotAStore)) }
         ensures full { IfErr result (λ x. x.0 ≡ LogFull → D.tells → IsFullLog (D.seen x.1)) }
         ensures device { IsErrAnd result (λ x. x.0 ≡ Device) ↔ (D.failed (disk_of D.Disk result) ≡ true) }
     {
-        if config.frames < LEAST_FRAMES || config.frames > MOST_FRAMES {
-            return Err((Fault::PoolSize, disk));
-        }
-        if config.workers < 1 || config.workers > MOST_WORKERS {
-            return Err((Fault::Workers, disk));
+        if let Some(fault) = config.refusal() {
+            return Err((fault, disk));
         }
         let room = match make_room(alloc) {
             Ok(room) => room,
@@ -129,14 +130,15 @@ impl<D: TwoLogs> Engine<D> {
             config.workers,
         ) {
             Err(fault) => Err((fault, disk)),
-            Ok(restarted) => Ok(Engine {
+            Ok(current) => Ok(Engine {
                 alloc,
-                writer: restarted.writer,
+                writer: current.restarted.writer,
                 disk,
                 max_pages: config.max_pages,
                 dense: config.dense,
-                report: restarted.report,
-                txns: Transactions::starting_at(restarted.next, config.group),
+                report: current.restarted.report,
+                had_first: current.had_first,
+                txns: Transactions::starting_at(current.restarted.next, config.group),
                 locks: LockTable::new(alloc),
                 room,
                 failed: false,
@@ -190,6 +192,7 @@ impl<D: Disk> Engine<D> {
             max_pages: _max_pages,
             dense: _dense,
             report: _report,
+            had_first: _had_first,
             txns: _txns,
             locks: _locks,
             room: _room,

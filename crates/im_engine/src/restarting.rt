@@ -1,9 +1,10 @@
 //! A restart with the current log of two.
 
-ghost use Rattle.std.specs.Prelude.{◌≡◌, ◌≤◌, ◌⊎◌, List, false, IfOk, IfErr, OnOk};
+ghost use Rattle.std.specs.Prelude.{◌≡◌, ◌≤◌, ◌⊎◌, ◌↔◌, List, false, IfOk, IfErr, IsTrue, OnOk};
 ghost use Rattle.im_base_types.specs.declared.fault.Fault.TheVariants.{Device, Memory, NotAStore};
 ghost use Rattle.im_base_types.specs.Changes.{Effect};
 ghost use Rattle.im_base_disk.specs.Runs.{IsSynced};
+ghost use Rattle.im_log_choice.specs.Found.{HasFirst};
 ghost use Rattle.im_log_choice.specs.Switching.{ReadsNamed};
 ghost use Rattle.im_page_writer.specs.Outcome.{fault_of};
 ghost use Rattle.im_page_writer.specs.PageWriter.{IsReadyWriter};
@@ -17,6 +18,14 @@ use im_log_choice::choose;
 use im_page_writer::PageWriter;
 use im_restart::{Redoes, Restarted, open_or_create};
 use std::alloc::Global;
+
+/// A restart with the current log of two.
+#[derive(Drop)]
+pub(crate) struct Current {
+    pub(crate) restarted: Restarted,
+    /// One of the two logs was of the first format.
+    pub(crate) had_first: bool,
+}
 
 // A log of the first format goes on in the other file, as one of the second; one of the second stays.
 fn upgrade<D: TwoLogs>(writer: &mut PageWriter, disk: &mut D, next: TxnId) -> Result<(), Fault>
@@ -46,7 +55,7 @@ pub(crate) fn restart_current<D: TwoLogs, H: Redoes>(
     frames: usize,
     batches: usize,
     workers: usize,
-) -> Result<Restarted, Fault>
+) -> Result<Current, Fault>
     requires shared { H.shared }
     requires workers { 1 ≤ workers }
     requires few { (1 ≤ batches) × (batches ≤ 64) }
@@ -55,15 +64,20 @@ pub(crate) fn restart_current<D: TwoLogs, H: Redoes>(
     requires least { 8 ≤ frames }
     requires most { frames ≤ 262144 }
     ensures outcome { Opens D.Disk disk.new (fault_of result) }
-    ensures ready { IfOk result (λ r. IsReadyWriter D.Disk r.writer disk.new × (r.writer.failed ≡ false)) }
-    ensures pool { IfOk result (λ r. r.writer.pool.frames ≡ frames) }
-    ensures least { IfOk result (λ r. 1 ≤ r.next) }
+    ensures ready { IfOk result (λ r. IsReadyWriter D.Disk r.restarted.writer disk.new × (r.restarted.writer.failed ≡ false)) }
+    ensures pool { IfOk result (λ r. r.restarted.writer.pool.frames ≡ frames) }
+    ensures least { IfOk result (λ r. 1 ≤ r.restarted.next) }
+    ensures first { IfOk result (λ r. D.tells → IsTrue r.had_first ↔ HasFirst (D.seen disk.old)) }
     ensures spelled { IfOk result (λ _. D.tells → SpellsCurrent (D.seen disk.old)) }
     ensures kept { (before : List Effect) → D.tells → (stands : StandsFor before (D.seen disk.old)) → CurrentKept D.Disk before disk.old stands disk.new result }
     ensures unspelled { D.tells → ¬ (SpellsCurrent (D.seen disk.old)) → ReadsNamed D.Disk disk.old disk.new × IfErr result (λ e. (e ≡ Memory) ⊎ (e ≡ Device) ⊎ (e ≡ NotAStore)) }
 {
-    choose(disk)?;
+    let logs = choose(disk)?;
+    let had_first = logs.has_first_format();
     let mut restarted = open_or_create(how, alloc, disk, frames, batches, workers)?;
     upgrade(&mut restarted.writer, disk, restarted.next)?;
-    Ok(restarted)
+    Ok(Current {
+        restarted,
+        had_first,
+    })
 }

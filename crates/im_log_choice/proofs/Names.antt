@@ -1,6 +1,6 @@
 -- What is known of two logs whose headers were read, and of a disk once they have names.
 use Rattle.std.proofs.Common.{◌≡◌, ◌⊎◌, ◌↔◌, inl, inr, ⊎_elim, ℕ, ◌<◌, ◌≤◌, true, false, refl, sym, ◌∙◌, ap, subst, arith}
-use Rattle.std.specs.Prelude.{Result, Ok, Err, IsErrAnd}
+use Rattle.std.specs.Prelude.{Result, Ok, Err, IsErrAnd, IfSome, List, Option, Some, None}
 use Rattle.std.proofs.lemmas.Bool.{cases_eq}
 use Rattle.im_base_types.specs.declared.fault.Fault.{Fault}
 use Rattle.im_base_types.specs.declared.fault.Fault.TheVariants.{Device}
@@ -9,9 +9,13 @@ use Rattle.im_base_disk.specs.declared.disk.Disk.{Ghosts}
 use Rattle.im_base_disk.specs.Disk.{Files}
 use Rattle.im_base_disk.specs.Runs.{Reads}
 use Rattle.im_base_two_logs.specs.Renamed.{named}
+use Rattle.im_log_header.specs.declared.header.LogStart.{LogStart}
 use Rattle.im_log_header.specs.Header.{generation_of, IsUnmade, IsMade}
+use Rattle.im_log_header.specs.Start.{IsHeader, SaysStart}
 use Rattle.im_log_header.proofs.Saying.{unmade}
+use Rattle.im_log_choice.specs.declared.logs.Logs.{Logs}
 use Rattle.im_log_choice.specs.Current.{IsCurrent, HasCurrent}
+use Rattle.im_log_choice.specs.Found.{AreFound, HasFirst, IsFound, IsOfFirst, SaysFirst, StartsFirst}
 use Rattle.im_log_choice.specs.Switching.{ReadsNamed}
 
 module _ (files : Files) (x y : ℕ) (one : x ≡ generation_of (files Log)) (two : y ≡ generation_of (files Log2)) where
@@ -62,6 +66,42 @@ pub handed_on : {A B : Type 0} (r : Result A Fault) (f x : Fault) → IsErrAnd r
 handed_on (Ok a) f x is same = absurd is
 handed_on (Err e) f x is same = ap (λ (y : Fault). Err y) (sym is ∙ ap fault_in same)
 
+-- ---- what was read of the headers
+
+pub found_by : (T : Type 0) → T → (file : List ℕ) (found : Option LogStart) → (found ≡ None → T → IsUnmade file) → IfSome found (λ start. T → IsMade file) → IfSome found (λ start. T → SaysStart start file)
+    → IfSome found (λ start. IsHeader start.header) → IsFound found file
+found_by T told file None none made says ranged = none refl told
+found_by T told file (Some start) none made says ranged = (made told, says told, ranged)
+
+known : (file : List ℕ) (found : Option LogStart) → IsFound found file → IsUnmade file ⊎ IsMade file
+known file None is = inl is
+known file (Some start) is = inr is.0
+
+module _ (files : Files) (logs : Logs) (are : AreFound logs files) where
+  pub log_known : IsUnmade (files Log) ⊎ IsMade (files Log)
+  log_known = known (files Log) logs.log are.log
+
+  pub other_known : IsUnmade (files Log2) ⊎ IsMade (files Log2)
+  other_known = known (files Log2) logs.other are.other
+
+-- a made log whose gate stands there says so, and no other file
+starts_first : (file : List ℕ) (found : Option LogStart) → IsFound found file → StartsFirst found ↔ IsOfFirst file
+starts_first file None is = (λ never. absurd never, λ made. absurd (let gate = (unmade file is).gate in let first = made.1 in omega (arith, gate, first)))
+starts_first file (Some start) is = (λ first. (is.0, is.1.gate ∙ first), λ made. sym is.1.gate ∙ made.1)
+
+pub says_first : (logs : Logs) (files : Files) → AreFound logs files → SaysFirst logs ↔ HasFirst files
+says_first logs files are =
+    let log = starts_first (files Log) logs.log are.log in
+    let other = starts_first (files Log2) logs.other are.other in
+    (⊎_elim (λ first. inl (log.0 first)) (λ first. inr (other.0 first)), ⊎_elim (λ made. inl (log.1 made)) (λ made. inr (other.1 made)))
+
+either : {A B : Type 0} → A ⊎ B → B ⊎ A
+either (inl a) = inr a
+either (inr b) = inl b
+
+pub other_way : {A B C : Type 0} → (A ⊎ B) ↔ C → (B ⊎ A) ↔ C
+other_way both = (λ is. both.0 (either is), λ c. either (both.1 c))
+
 -- ---- names
 
 pub turned_current : (files : Files) → IsCurrent true files → IsCurrent false (named true files)
@@ -104,6 +144,9 @@ module _ {D : Type 0} (d : Ghosts D) (old mid : D) (reads : Reads d old mid) whe
     pub current_turned : IsCurrent true (d.seen old) → IsCurrent false (d.seen new)
     current_turned is = subst (IsCurrent false) (sym turned_seen) (turned_current (d.seen old) is)
 
+    pub found_turned : (logs : Logs) → AreFound logs (d.seen old) → AreFound (record { log = logs.other; other = logs.log; is_swapped = true }) (d.seen new)
+    found_turned logs are = subst (AreFound (record { log = logs.other; other = logs.log; is_swapped = true })) (sym turned_seen) (record { log = are.other; other = are.log })
+
     pub has_turned : HasCurrent (d.seen old) → HasCurrent (d.seen new)
     has_turned has = subst HasCurrent (sym turned_seen) (turned_has (d.seen old) has)
 
@@ -112,3 +155,6 @@ module _ {D : Type 0} (d : Ghosts D) (old mid : D) (reads : Reads d old mid) whe
 
   pub has_kept : HasCurrent (d.seen old) → HasCurrent (d.seen mid)
   has_kept has = subst HasCurrent (sym reads.seen) has
+
+  pub found_kept : (logs : Logs) → AreFound logs (d.seen old) → AreFound logs (d.seen mid)
+  found_kept logs are = subst (AreFound logs) (sym reads.seen) are

@@ -1,4 +1,3 @@
-mod FirstFormats
 pub mod Keeping
 mod LogLengths
 mod Synced

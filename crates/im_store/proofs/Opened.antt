@@ -1,17 +1,18 @@
 -- What an opening of the engine makes of one of a store.
 use Rattle.std.proofs.Common.{◌∙◌, ap, inl, inr, refl, subst, sym, arith}
 use Rattle.std.proofs.Math.Nat.{lt_of_not-le}
-use Rattle.std.specs.Prelude.{◌≡◌, ◌⊎◌, ◌↔◌, ◌<◌, ◌≤◌, ◌+◌, ℕ, Bool, true, None, Ok, Err}
+use Rattle.std.specs.Prelude.{◌≡◌, ◌⊎◌, ◌↔◌, ◌<◌, ◌≤◌, ◌+◌, ℕ, Bool, true, None, Result, Ok, Err, IfErr}
 use Rattle.im_base_types.specs.declared.fault.Fault.{Fault}
 use Rattle.im_base_types.specs.declared.fault.Fault.TheVariants.{Device, PoolSize, Workers}
 use Rattle.im_base_disk.specs.declared.disk.Disk.{Ghosts}
+use Rattle.im_base_disk.specs.Disk.{Files}
 use Rattle.im_base_disk.specs.Runs.{Reads}
 use Rattle.im_engine.specs.declared.config.Config.{Config}
 use Rattle.im_engine.specs.declared.engine.Engine.{Engine}
 use Rattle.im_engine.specs.Opening.{IsOpening}
 use Rattle.im_store.specs.declared.bounds.Bounds.{Bounds}
 use Rattle.im_store.specs.declared.upkeep.Upkeep.{Upkeep}
-use Rattle.im_store.specs.FirstFormat.{HasFirst}
+use Rattle.im_log_choice.specs.Found.{HasFirst}
 use Rattle.im_store.specs.LogFiles.{HasLong}
 use Rattle.im_store.specs.Noted.{fresh}
 use Rattle.im_store.specs.declared.open_store.OpenStore.{OpenStore}
@@ -37,10 +38,21 @@ pub not_workers : (frames workers : ℕ) → ((8 ≤ frames) × (frames ≤ 1024
 not_workers frames workers is (_, inl low) = omega (arith, is.1.0, low)
 not_workers frames workers is (_, inr high) = omega (arith, is.1.1, high)
 
+-- a refusal of theirs is none where they are right
+pub none_refused : (f : Fault) (frames workers : ℕ) → (f ≡ PoolSize → (frames < 8) ⊎ (1024 < frames)) → (f ≡ Workers → ((8 ≤ frames) × (frames ≤ 1024)) × ((workers < 1) ⊎ (16 < workers))) → (f ≡ PoolSize) ⊎ (f ≡ Workers)
+    → ((8 ≤ frames) × (frames ≤ 1024)) × ((1 ≤ workers) × (workers ≤ 16)) → ⊥
+none_refused f frames workers few none (inl pool) is = not_frames frames workers is (few pool)
+none_refused f frames workers few none (inr work) is = not_workers frames workers is (none work)
+
+-- a refusal, and what else is known
+pub refused_with : {A : Type 0} (r : Result A Fault) (P : Fault → Type 0) (Q : Type 0) → IfErr r P → Q → IfErr r (λ e. P e × Q)
+refused_with (Ok a) P Q why so = tt
+refused_with (Err e) P Q why so = (why, so)
+
 module _ {D : Type 0} (d : Ghosts D) (config : Config) (bounds : Bounds) (old read : D) where
   -- the engine was opened
   pub store_opened : (s : OpenStore D d) (e : Engine D d) (first long bare : Bool) → s.engine ≡ e → Reads d old read → ((AreRight config → ⊥) → read ≡ old) → IsOpening d config read (Ok e)
-      → s.upkeep ≡ record (fresh d bounds e) { is_upgraded = first; is_long = long; is_bare = bare } → s.unkept ≡ None → (AreRight config → d.tells → (first ≡ true) ↔ HasFirst (d.seen old))
+      → s.upkeep ≡ record (fresh d bounds e) { is_upgraded = first; is_long = long; is_bare = bare } → s.unkept ≡ None → (d.tells → (first ≡ true) ↔ HasFirst (d.seen read))
       → (AreRight config → d.tells → (long ≡ true) ↔ HasLong (d.seen old)) → IsOpenedStore d config bounds old (Ok s)
   store_opened s e first long bare same reads still opening stood kept has had =
       let is = subst (λ (x : Engine D d). IsOpening d config read (Ok x)) (sym same) opening in
@@ -54,7 +66,8 @@ module _ {D : Type 0} (d : Ghosts D) (config : Config) (bounds : Bounds) (old re
         upkeep = stands ∙ ap (λ (b : Bool). record (fresh d bounds s.engine) { is_upgraded = b; is_long = long; is_bare = bare }) (sym left)
             ∙ ap (λ (b : Bool). record (fresh d bounds s.engine) { is_upgraded = s.upkeep.is_upgraded; is_long = b; is_bare = bare }) (sym lengthy)
             ∙ ap (λ (b : Bool). record (fresh d bounds s.engine) { is_upgraded = s.upkeep.is_upgraded; is_long = s.upkeep.is_long; is_bare = b }) (sym stripped);
-        first = λ told. (let both = has rights told in (λ so. both.0 (sym left ∙ so), λ it. left ∙ both.1 it));
+        first = λ told.
+            (let both = subst (λ (f : Files). (first ≡ true) ↔ HasFirst f) reads.seen (has told) in (λ so. both.0 (sym left ∙ so), λ it. left ∙ both.1 it));
         long = λ told. (let both = had rights told in (λ so. both.0 (sym lengthy ∙ so), λ it. lengthy ∙ both.1 it));
         unkept = kept;
         opened = (read, reads, is);

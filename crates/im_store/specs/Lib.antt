@@ -1,4 +1,3 @@
-pub mod FirstFormat
 pub mod LogBound
 pub mod LogFiles
 pub mod Noted

@@ -15,7 +15,7 @@ use Rattle.im_engine.specs.Opening.{IsOpening}
 use Rattle.im_engine.specs.Told.{IsStep}
 use Rattle.im_store.specs.declared.bounds.Bounds.{Bounds}
 use Rattle.im_store.specs.declared.upkeep.Upkeep.{Upkeep}
-use Rattle.im_store.specs.FirstFormat.{HasFirst}
+use Rattle.im_log_choice.specs.Found.{HasFirst}
 use Rattle.im_store.specs.LogFiles.{HasLong}
 use Rattle.im_store.specs.Noted.{IsNoted, fresh, noted}
 use Rattle.im_store.specs.Numbers.{durable_end_of, log_length_of}
@@ -48,7 +48,7 @@ module _ {D : Type 0} (d : Ghosts D) where
   disk_of (Ok store) = store.engine.disk
   disk_of (Err x) = x.1
 
-  -- It is what the engine's own opening answers, over a disk that was only read before, to see which formats the logs have; where frames or workers are refused it was not even read.
+  -- It is what the engine's own opening answers, over a disk that was only read before, to see how long the logs' files are; where frames or workers are refused it was not even read.
   pub record IsByEngine (config : Config) (old : D) (result : Result (Engine D d) (Fault × D)) : Type 0 where
     pub read : D
     pub reads : Reads d old read

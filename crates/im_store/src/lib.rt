@@ -45,7 +45,6 @@ mod ahead;
 mod bounds;
 mod copying;
 mod due;
-mod first_format;
 mod log_bound;
 mod log_files;
 mod open_store;
@@ -55,7 +54,6 @@ mod upkeep;
 
 pub use bounds::Bounds;
 pub use due::Due;
-pub use first_format::has_first_format;
 pub use log_bound::LogBound;
 pub use log_files::{LogFiles, look_at_logs};
 pub use open_store::OpenStore;

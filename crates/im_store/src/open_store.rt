@@ -3,20 +3,18 @@
 ghost use Rattle.std.specs.Prelude.{◌≡◌, ◌↔◌, false, true, None, IfOk, IfErr, IsTrue};
 ghost use Rattle.im_base_types.specs.declared.fault.Fault.TheVariants.{Device};
 ghost use Rattle.im_base_disk.specs.Runs.{IsSynced, Reads};
-ghost use Rattle.im_store.specs.FirstFormat.{HasFirst};
 ghost use Rattle.im_store.specs.LogFiles.{HasLong};
 ghost use Rattle.im_store.specs.Stores.{AreRight, follows};
 
 use crate::bounds::Bounds;
-use crate::first_format::has_first_format;
 use crate::log_files::{LogFiles, look_at_logs};
 use crate::unkept::Unkept;
 use crate::upkeep::Upkeep;
 use im_base_disk::Disk;
 use im_base_steps::{Reply, Step};
 use im_base_two_logs::TwoLogs;
-use im_base_types::{Fault, Key, LEAST_FRAMES, MOST_FRAMES, Rid};
-use im_engine::{Config, Engine, MOST_WORKERS};
+use im_base_types::{Fault, Key, Rid};
+use im_engine::{Config, Engine};
 use std::alloc::Global;
 use std::thread::Threads;
 
@@ -59,12 +57,12 @@ impl<D: TwoLogs + Drop> OpenStore<D> {
         ensures { IsOpenedStore D.Disk config bounds disk result }
     {
         let mut disk = disk;
-        let found = match look(&mut disk, config) {
-            Ok(found) => found,
+        let files = match look(&mut disk, config) {
+            Ok(files) => files,
             Err(fault) => return Err((fault, disk)),
         };
         match Engine::open_or_create(rt, alloc, disk, config) {
-            Ok(engine) => Ok(OpenStore::kept_by(engine, bounds, found)),
+            Ok(engine) => Ok(OpenStore::kept_by(engine, bounds, files)),
             Err(refused) => Err(refused),
         }
     }
@@ -81,12 +79,12 @@ impl<D: TwoLogs + Drop> OpenStore<D> {
         ensures { IsOpenedStore D.Disk config bounds disk result }
     {
         let mut disk = disk;
-        let found = match look(&mut disk, config) {
-            Ok(found) => found,
+        let files = match look(&mut disk, config) {
+            Ok(files) => files,
             Err(fault) => return Err((fault, disk)),
         };
         match Engine::open_alone(alloc, disk, config) {
-            Ok(engine) => Ok(OpenStore::kept_by(engine, bounds, found)),
+            Ok(engine) => Ok(OpenStore::kept_by(engine, bounds, files)),
             Err(refused) => Err(refused),
         }
     }
@@ -105,15 +103,16 @@ impl<D: TwoLogs + Drop> OpenStore<D> {
         }
     }
 
-    // The same, over logs of which this was found before the opening.
-    fn kept_by(engine: Engine<D>, bounds: Bounds, found: Found) -> OpenStore<D>
+    // The same, over logs whose files were so before the opening.
+    fn kept_by(engine: Engine<D>, bounds: Bounds, files: LogFiles) -> OpenStore<D>
         ensures engine { result.engine ≡ engine }
-        ensures upkeep { result.upkeep ≡ record (fresh D.Disk bounds engine) { is_upgraded = found.is_first; is_long = found.files.is_long; is_bare = found.files.is_bare } }
+        ensures upkeep { result.upkeep ≡ record (fresh D.Disk bounds engine) { is_upgraded = engine.had_first; is_long = files.is_long; is_bare = files.is_bare } }
         ensures unkept { result.unkept ≡ None }
     {
+        let had_first = engine.had_first_format();
         let mut store = OpenStore::over(engine, bounds);
-        store.upkeep.know_files(found.files);
-        if found.is_first {
+        store.upkeep.know_files(files);
+        if had_first {
             store.upkeep.leave_first_format();
         }
         store
@@ -225,41 +224,23 @@ impl<D: TwoLogs + Drop> OpenStore<D> {
     }
 }
 
-// What was found of the logs before an opening.
-#[derive(Clone, Copy)]
-struct Found {
-    // One of them is one of the first format.
-    is_first: bool,
-    files: LogFiles,
-}
-
-// What is found of the logs. Where the frames or the workers will be refused nothing is read.
-fn look<D: Disk>(disk: &mut D, config: Config) -> Result<Found, Fault>
+// What the files of the logs are. Where the limits will be refused nothing is asked.
+fn look<D: Disk>(disk: &mut D, config: Config) -> Result<LogFiles, Fault>
     requires working { D.failed disk.old ≡ false }
     ensures reads { Reads D.Disk disk.old disk.new }
     ensures synced { IsSynced D.Disk disk.old → IsSynced D.Disk disk.new }
-    ensures says { AreRight config → IfOk result (λ found. D.tells → IsTrue found.is_first ↔ HasFirst (D.seen disk.old)) }
-    ensures long { AreRight config → IfOk result (λ found. D.tells → IsTrue found.files.is_long ↔ HasLong (D.seen disk.old)) }
+    ensures long { AreRight config → IfOk result (λ files. D.tells → IsTrue files.is_long ↔ HasLong (D.seen disk.old)) }
     ensures still { (AreRight config → ⊥) → disk.new ≡ disk.old }
     ensures causes { IfErr result (λ e. (e ≡ Device) × AreRight config) }
     ensures device { result ≡ Err Device ↔ (D.failed disk.new ≡ true) }
 {
-    if config.frames < LEAST_FRAMES
-        || config.frames > MOST_FRAMES
-        || config.workers < 1
-        || config.workers > MOST_WORKERS
-    {
-        return Ok(Found {
-            is_first: false,
-            files: LogFiles {
-                is_long: false,
-                is_bare: false,
-            },
+    if let Some(_fault) = config.refusal() {
+        return Ok(LogFiles {
+            is_long: false,
+            is_bare: false,
         });
     }
-    let is_first = has_first_format(disk)?;
-    let files = look_at_logs(disk)?;
-    Ok(Found { is_first, files })
+    look_at_logs(disk)
 }
 
 // Whether something may be due after a reply: the log may have grown, or a transaction has ended.

@@ -89,7 +89,7 @@ impl Upkeep {
         self.is_bare = files.is_bare;
     }
 
-    /// The other log is one of the first format, as `has_first_format` said before the opening. A Switch is then due as soon as nothing is active, so that both
+    /// The other log is one of the first format, as `Engine::had_first_format` says. A Switch is then due as soon as nothing is active, so that both
     /// files are of the second format, and a program of the first opens neither.
     pub fn leave_first_format(&mut self)
         ensures { self.new ≡ record self.old { is_upgraded = true } }

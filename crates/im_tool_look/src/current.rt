@@ -9,7 +9,7 @@ use im_base_disk::Disk;
 use im_base_model_disk::ModelDisk;
 use im_base_two_logs::Renamed;
 use im_base_types::{Fault, FileId, LAST_LSN, Lsn, PageNo, TxnId};
-use im_log_choice::choose;
+use im_log_choice::{Logs, choose};
 use im_log_header::{Header, LogStart, read_header};
 use im_restart_analysis::pages_at_first;
 use std::alloc::Global;
@@ -131,30 +131,27 @@ fn choice(disk: ModelDisk) -> Result<CurrentLog, LogDamage>
 {
     let mut named = Renamed::new(disk, false);
     match choose(&mut named) {
-        Ok(()) => chosen(named),
+        Ok(logs) => chosen(&logs),
         Err(Fault::NotAStore) => Err(refusal(named.into_disk())),
         Err(fault) => Err(LogDamage::Unread(fault)),
     }
 }
 
 // By the names that the choice gave.
-fn chosen(disk: Renamed<ModelDisk>) -> Result<CurrentLog, LogDamage>
-    requires working { ⟦<Renamed<ModelDisk> as Disk>⟧.failed disk ≡ false }
-{
-    let mut disk = disk;
-    let start = read_header(&mut disk, FileId::Log).map_err(LogDamage::Unread)?;
-    let other = read_header(&mut disk, FileId::Log2).map_err(LogDamage::Unread)?;
-    let mut disk = disk.into_disk();
-    let first = read_header(&mut disk, FileId::Log).map_err(LogDamage::Unread)?;
-    let file = if start == first {
-        FileId::Log
-    } else {
+fn chosen(logs: &Logs) -> Result<CurrentLog, LogDamage> {
+    let file = if logs.is_swapped {
         FileId::Log2
+    } else {
+        FileId::Log
     };
-    if !is_low(&start) {
+    if !is_low(&logs.log) {
         return Err(LogDamage::NoHeader(file_name(file)));
     }
-    Ok(CurrentLog { file, start, other })
+    Ok(CurrentLog {
+        file,
+        start: logs.log,
+        other: logs.other,
+    })
 }
 
 // Why nothing could be chosen.

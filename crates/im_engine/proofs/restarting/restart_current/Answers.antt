@@ -19,24 +19,24 @@ open_or_create-requires-clause-synced g c = names_synced g.D.Disk c.args.disk.no
 
 -- ---- nothing says which log is the current one
 
-pub returns-in_err-choose-clause-outcome : goal.returns-in_err-choose-clause-outcome
-returns-in_err-choose-clause-outcome g c =
-    let e = c.in_err-choose.ensures in
-    opens_refused g.D.Disk c.from_residual.result c.from_residual.ensures.1 (opens_read g.D.Disk _ c.in_err-choose.field-0.0 refl (chosen_causes c.in_err-choose.field-0.0 e.answers.causes) e.answers.device)
+pub returns-in_err-logs-clause-outcome : goal.returns-in_err-logs-clause-outcome
+returns-in_err-logs-clause-outcome g c =
+    let e = c.in_err-logs.ensures in
+    opens_refused g.D.Disk c.from_residual.result c.from_residual.ensures.1 (opens_read g.D.Disk _ c.in_err-logs.field-0.0 refl (chosen_causes c.in_err-logs.field-0.0 e.answers.causes) e.answers.device)
 
-pub returns-in_err-choose-clause-kept : goal.returns-in_err-choose-clause-kept
-returns-in_err-choose-clause-kept g c before told stands =
-    let e = c.in_err-choose.ensures in
+pub returns-in_err-logs-clause-kept : goal.returns-in_err-logs-clause-kept
+returns-in_err-logs-clause-kept g c before told stands =
+    let e = c.in_err-logs.ensures in
     record {
-      sound = sound_on c.from_residual.result c.in_err-choose.field-0.0 _ c.from_residual.ensures.1 (λ same. e.refused (ap Err same) told (has_current before (g.D.Disk.seen c.args.disk.now) stands));
+      sound = sound_on c.from_residual.result c.in_err-logs.field-0.0 _ c.from_residual.ensures.1 (λ same. e.refused (ap Err same) told (has_current before (g.D.Disk.seen c.args.disk.now) stands));
       stops = named_stops g.D.Disk before c.args.disk.now stands c.requires.synced (g.met.D.Disk.only_now c.args.disk.now) c.choose.new.disk e.reads;
-      used_up = err_on c.from_residual.result c.in_err-choose.field-0.0 (λ x. x ≡ Capacity → RunsOut stands.b stands.log) c.from_residual.ensures.1 (λ full. not_full c.in_err-choose.field-0.0 e.answers.causes full);
+      used_up = err_on c.from_residual.result c.in_err-logs.field-0.0 (λ x. x ≡ Capacity → RunsOut stands.b stands.log) c.from_residual.ensures.1 (λ full. not_full c.in_err-logs.field-0.0 e.answers.causes full);
     }
 
-pub returns-in_err-choose-clause-unspelled : goal.returns-in_err-choose-clause-unspelled
-returns-in_err-choose-clause-unspelled g c told none =
-    let e = c.in_err-choose.ensures in
-    (e.reads, err_on c.from_residual.result c.in_err-choose.field-0.0 _ c.from_residual.ensures.1 (chosen_causes c.in_err-choose.field-0.0 e.answers.causes))
+pub returns-in_err-logs-clause-unspelled : goal.returns-in_err-logs-clause-unspelled
+returns-in_err-logs-clause-unspelled g c told none =
+    let e = c.in_err-logs.ensures in
+    (e.reads, err_on c.from_residual.result c.in_err-logs.field-0.0 _ c.from_residual.ensures.1 (chosen_causes c.in_err-logs.field-0.0 e.answers.causes))
 
 -- ---- the restart is refused
 
@@ -48,7 +48,7 @@ returns-in_err-restarted-clause-kept g c before told stands =
     let d = g.D.Disk in
     let old = c.args.disk.now in
     let mid = c.choose.new.disk in
-    let chosen = c.in_ok-choose.ensures in
+    let chosen = c.in_ok-logs.ensures in
     let may = may_restart d before old stands mid chosen.reads (chosen.current told).0 in
     let e = c.in_err-restarted in
     let k = e.ensures.kept stands.b stands.base stands.log told may in
@@ -60,7 +60,7 @@ returns-in_err-restarted-clause-kept g c before told stands =
 
 pub returns-in_err-restarted-clause-unspelled : goal.returns-in_err-restarted-clause-unspelled
 returns-in_err-restarted-clause-unspelled g c told none =
-    let chosen = c.in_ok-choose.ensures in
+    let chosen = c.in_ok-logs.ensures in
     let e = c.in_err-restarted in
     let k = e.ensures.unspelled told (still_unspelled g.D.Disk c.args.disk.now c.choose.new.disk chosen.reads (chosen.current told).0 (chosen.current told).1 none) in
     (names_then g.D.Disk c.args.disk.now c.choose.new.disk chosen.reads c.open_or_create.new.disk k.0, err_on c.from_residual-in_err-restarted.result e.field-0.0 _ c.from_residual-in_err-restarted.ensures.1 k.1)
@@ -76,7 +76,7 @@ returns-in_err-upgrade-clause-kept g c before told stands =
     let old = c.args.disk.now in
     let mid = c.choose.new.disk in
     let near = c.open_or_create.new.disk in
-    let chosen = c.in_ok-choose.ensures in
+    let chosen = c.in_ok-logs.ensures in
     let may = may_restart d before old stands mid chosen.reads (chosen.current told).0 in
     let k = c.in_ok-restarted.ensures.kept stands.b stands.base stands.log told may in
     let e = c.in_err-upgrade in
@@ -89,7 +89,7 @@ returns-in_err-upgrade-clause-kept g c before told stands =
 
 pub returns-in_err-upgrade-clause-unspelled : goal.returns-in_err-upgrade-clause-unspelled
 returns-in_err-upgrade-clause-unspelled g c told none =
-    let chosen = c.in_ok-choose.ensures in
+    let chosen = c.in_ok-logs.ensures in
     absurd (still_unspelled g.D.Disk c.args.disk.now c.choose.new.disk chosen.reads (chosen.current told).0 (chosen.current told).1 none (c.in_ok-restarted.ensures.spelled told))
 
 -- ---- the store is open
@@ -101,7 +101,7 @@ returns-clause-kept g c before told stands =
     let mid = c.choose.new.disk in
     let near = c.open_or_create.new.disk in
     let r = c.in_ok-restarted.restarted in
-    let chosen = c.in_ok-choose.ensures in
+    let chosen = c.in_ok-logs.ensures in
     let may = may_restart d before old stands mid chosen.reads (chosen.current told).0 in
     let k = c.in_ok-restarted.ensures.kept stands.b stands.base stands.log told may in
     let up = c.in_ok-upgrade.ensures.kept before (opened_rest d before old stands mid chosen.reads (chosen.current told).0 r near k.sound) in
@@ -116,12 +116,18 @@ returns-clause-kept g c before told stands =
       used_up = tt;
     }
 
+pub returns-clause-first : goal.returns-clause-first
+returns-clause-first g c told =
+    let says = c.has_first_format-had_first.ensures in
+    let first = c.in_ok-logs.ensures.first told in
+    (λ is. first.0 (says.0 is), λ has. says.1 (first.1 has))
+
 pub returns-clause-spelled : goal.returns-clause-spelled
 returns-clause-spelled g c told =
-    let chosen = c.in_ok-choose.ensures in
+    let chosen = c.in_ok-logs.ensures in
     spells_old g.D.Disk c.args.disk.now c.choose.new.disk chosen.reads (chosen.current told).0 (chosen.current told).1 (c.in_ok-restarted.ensures.spelled told)
 
 pub returns-clause-unspelled : goal.returns-clause-unspelled
 returns-clause-unspelled g c told none =
-    let chosen = c.in_ok-choose.ensures in
+    let chosen = c.in_ok-logs.ensures in
     absurd (still_unspelled g.D.Disk c.args.disk.now c.choose.new.disk chosen.reads (chosen.current told).0 (chosen.current told).1 none (c.in_ok-restarted.ensures.spelled told))

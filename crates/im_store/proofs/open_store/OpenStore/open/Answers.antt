@@ -12,7 +12,7 @@ pub returns-in-Ok-open_or_create : goal.returns-in-Ok-open_or_create
 returns-in-Ok-open_or_create g c =
     let is = c.in-Ok-open_or_create.ensures in
     let seen = c.look.ensures in
-    store_opened g.D.Disk c.args.config c.args.bounds c.args.disk c.look.new.disk c.kept_by.result c.in-Ok-open_or_create.engine c.in-Ok.found.is_first c.in-Ok.found.files.is_long c.in-Ok.found.files.is_bare c.kept_by.ensures.engine seen.reads seen.still
+    store_opened g.D.Disk c.args.config c.args.bounds c.args.disk c.look.new.disk c.kept_by.result c.in-Ok-open_or_create.engine c.in-Ok-open_or_create.engine.had_first c.in-Ok.files.is_long c.in-Ok.files.is_bare c.kept_by.ensures.engine seen.reads seen.still
     (record {
       kept = λ before told stands. is.kept before told (seen.synced c.requires.synced) stands;
       plain = is.plain;
@@ -30,7 +30,7 @@ returns-in-Ok-open_or_create g c =
       full = is.full;
       unspelled = is.unspelled;
     })
-    c.kept_by.ensures.upkeep c.kept_by.ensures.unkept c.in-Ok.ensures.says c.in-Ok.ensures.long
+    c.kept_by.ensures.upkeep c.kept_by.ensures.unkept is.first c.in-Ok.ensures.long
 
 pub returns-in-Err-open_or_create : goal.returns-in-Err-open_or_create
 returns-in-Err-open_or_create g c =

@@ -10,8 +10,8 @@ returns-in-Err g c =
 
 pub returns-in-Ok-open_alone : goal.returns-in-Ok-open_alone
 returns-in-Ok-open_alone g c =
-    store_opened g.D.Disk c.args.config c.args.bounds c.args.disk c.look.new.disk c.kept_by.result c.in-Ok-open_alone.engine c.in-Ok.found.is_first c.in-Ok.found.files.is_long c.in-Ok.found.files.is_bare c.kept_by.ensures.engine c.look.ensures.reads c.look.ensures.still
-    c.in-Ok-open_alone.ensures.opening c.kept_by.ensures.upkeep c.kept_by.ensures.unkept c.in-Ok.ensures.says c.in-Ok.ensures.long
+    store_opened g.D.Disk c.args.config c.args.bounds c.args.disk c.look.new.disk c.kept_by.result c.in-Ok-open_alone.engine c.in-Ok-open_alone.engine.had_first c.in-Ok.files.is_long c.in-Ok.files.is_bare c.kept_by.ensures.engine c.look.ensures.reads c.look.ensures.still
+    c.in-Ok-open_alone.ensures.opening c.kept_by.ensures.upkeep c.kept_by.ensures.unkept c.in-Ok-open_alone.ensures.first c.in-Ok.ensures.long
 
 pub returns-in-Err-open_alone : goal.returns-in-Err-open_alone
 returns-in-Err-open_alone g c =
