@@ -3,6 +3,7 @@ pub mod PageFileLemmas
 pub mod PoolLemmas
 pub mod WalkLemmas
 pub mod EntryLemmas
+pub mod FrameLemmas
 pub mod GuessLemmas
 pub mod NumberLemmas
 pub mod PlaceLemmas

@@ -47,19 +47,30 @@ pub times_push : (f g : ℕ) (gs : List ℕ) → times f (gs ++ g ∷ []) ≡ ti
 times_push f g [] = omega arith
 times_push f g (h ∷ gs) = omega (arith, times_push f g gs)
 
-pub none_of_all : IsAll 0 []
-none_of_all = record { len = refl; once = λ f lt. absurd (omega arith); never = λ f le. refl }
+-- the last i of n numbers, the greatest first
+pub record AreLast (n i : ℕ) (gs : List ℕ) : Type 0 where
+  pub len : length gs ≡ i
+  pub once : (f : ℕ) → n ≤ f + i → f < n → times f gs ≡ 1
+  pub below : (f : ℕ) → f + i < n → times f gs ≡ 0
+  pub above : (f : ℕ) → n ≤ f → times f gs ≡ 0
+
+pub none_of_last : (n : ℕ) → AreLast n 0 []
+none_of_last n = record { len = refl; once = λ f le lt. absurd (omega (arith, le, lt)); below = λ f lt. refl; above = λ f le. refl }
 
 -- one number more
-pub all_push : (n : ℕ) (old new : List ℕ) → IsAll n old → new ≡ old ++ n ∷ [] → IsAll (n + 1) new
-all_push n old new all is = record {
-  len = ap length is ∙ length_push old n ∙ ap (λ k. k + 1) all.len;
-  once = λ f lt. ap (times f) is ∙ times_push f n old ∙ ⊎_elim
-      (λ (low : f < n). let t : (f == n) ≡ false = grind (arith, nat_tests) in let o = all.once f low in rw t (omega arith))
-      (λ (high : n ≤ f). let t : (f == n) ≡ true = grind (arith, nat_tests) in let o = all.never f high in rw t (omega arith))
-      (cases_lt f n);
-  never = λ f le. ap (times f) is ∙ times_push f n old ∙ (let t : (f == n) ≡ false = grind (arith, nat_tests) in let o = all.never f (omega arith) in rw t (omega arith));
+pub last_push : (n i : ℕ) (old new : List ℕ) → AreLast n i old → i < n → new ≡ old ++ (n - 1 - i) ∷ [] → AreLast n (i + 1) new
+last_push n i old new all room is = record {
+  len = ap length is ∙ length_push old (n - 1 - i) ∙ ap (λ k. k + 1) all.len;
+  once = λ f le lt. ap (times f) is ∙ times_push f (n - 1 - i) old ∙ ⊎_elim
+      (λ (low : f + i < n). let t : (f == (n - 1 - i)) ≡ true = grind (arith, nat_tests) in let o = all.below f low in rw t (omega arith))
+      (λ (high : n ≤ f + i). let t : (f == (n - 1 - i)) ≡ false = grind (arith, nat_tests) in let o = all.once f high lt in rw t (omega arith))
+      (cases_lt (f + i) n);
+  below = λ f lt. ap (times f) is ∙ times_push f (n - 1 - i) old ∙ (let t : (f == (n - 1 - i)) ≡ false = grind (arith, nat_tests) in let o = all.below f (omega arith) in rw t (omega arith));
+  above = λ f le. ap (times f) is ∙ times_push f (n - 1 - i) old ∙ (let t : (f == (n - 1 - i)) ≡ false = grind (arith, nat_tests) in let o = all.above f le in rw t (omega arith));
 }
+
+pub all_of_last : (n : ℕ) (gs : List ℕ) → AreLast n n gs → IsAll n gs
+all_of_last n gs all = record { len = all.len; once = λ f lt. all.once f (omega arith) lt; never = λ f le. all.above f le }
 
 -- all free, and none held
 pub apart_at_first : (n : ℕ) (v : PlacesView) → v.taken ≡ [] → IsAll n v.free → AreApart v

@@ -1,5 +1,5 @@
 -- What the frames have.
-use Rattle.std.specs.Prelude.{◌≡◌, ℕ, Bool, true, false, List, slice_index_or, slice_set}
+use Rattle.std.specs.Prelude.{◌≡◌, ℕ, ◌-◌, Bool, true, false, List, ◌++◌, length, replicate, slice_index_or, slice_set}
 use Rattle.im_base_types.specs.Pages.{Page}
 use Rattle.im_theory_page.specs.Header.{initial}
 
@@ -10,6 +10,10 @@ pub record Stored : Type 0 where
 
 abbrev pub no_page : Stored
 no_page = record { page = initial 0; changed = false }
+
+-- so many frames, of which the first ones were used
+abbrev pub frames_in : List Stored → ℕ → List Stored
+frames_in used count = used ++ replicate (count - length used) no_page
 
 -- what the frame at a place has
 abbrev pub stored_at : List Stored → ℕ → Stored

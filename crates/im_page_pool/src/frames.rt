@@ -1,6 +1,9 @@
 //! The frames: pages in memory, each with a mark where it was changed.
+//!
+//! The memory of all frames is taken at once, and nobody touches that of a frame before it is used: the system gives such memory out as
+//! it is used. So many frames cost a small store nothing.
 
-ghost use Rattle.std.specs.Prelude.{◌≡◌, ◌↔◌, ◌⊎◌, ◌+◌, ◌<◌, ◌≤◌, ◌^◌, true, false, length, Some, None, Err, slice_set, OnOk, OnErr, IfOk, IfErr, IsOk, insert, remove};
+ghost use Rattle.std.specs.Prelude.{◌≡◌, ◌↔◌, ◌⊎◌, ℕ, ◌+◌, ◌<◌, ◌≤◌, ◌^◌, true, false, length, Some, None, Err, slice_set, OnOk, OnErr, IfOk, IfErr, IsOk, insert, remove, vec_capacity};
 ghost use Rattle.im_base_types.specs.declared.fault.Fault.TheVariants.{Device, Memory, NotAStore};
 ghost use Rattle.im_base_types.specs.declared.file_id.FileId.TheVariants.{Pages};
 ghost use Rattle.im_base_types.specs.declared.page_kind.PageKind.TheVariants.{Free, Leaf, Inner};
@@ -9,7 +12,7 @@ ghost use Rattle.im_theory_page.specs.Entry.{Parts, taken, size};
 ghost use Rattle.im_theory_page.specs.Page.{HoldsEntries, is_leaf_kind, page_of, with_entries};
 ghost use Rattle.im_theory_page.specs.Header.{empty_body, HasPrev, HasNext, HasLeftmost};
 ghost use Rattle.im_theory_page.specs.PageFile.{file_page};
-ghost use Rattle.im_page_pool.specs.Frames.{stored_at, Puts};
+ghost use Rattle.im_page_pool.specs.Frames.{frames_in, no_page, stored_at, Puts};
 
 use crate::files::read_page;
 use im_base_disk::Disk;
@@ -22,7 +25,7 @@ use std::mem;
 /// A page in memory, and whether it was changed since it was read or written.
 #[derive(Drop)]
 struct Slot {
-    page: Box<Page>,
+    page: Page,
     changed: bool,
 }
 
@@ -31,22 +34,53 @@ impl Model for Slot {
 
     ghost Value = { Stored };
 
-    ghost view = { λ s. record { page = s.page.value; changed = s.changed } };
+    ghost view = { λ s. record { page = s.page; changed = s.changed } };
+}
+
+impl Slot {
+    // What a frame has before it is used.
+    fn unused() -> Slot
+        ensures { result ≡ no_page }
+    {
+        Slot {
+            page: Page::initial(0),
+            changed: false,
+        }
+    }
 }
 
 /// Frames by their places.
 #[derive(Drop)]
 pub struct Frames {
+    /// The frames used so far, and those of lower places. There is memory for all.
     slots: Vec<Slot>,
+    count: usize,
+    /// What each other frame has.
+    unused: Box<Slot>,
 }
 
 impl Model for Frames {
-    ghost use Rattle.std.specs.Prelude.{List};
-    ghost use Rattle.im_page_pool.specs.Frames.{Stored};
+    ghost use Rattle.std.specs.Prelude.{◌≡◌, ◌≤◌, List, length, vec_capacity};
+    ghost use Rattle.im_page_pool.specs.Frames.{Stored, frames_in, no_page};
 
     ghost Value = { List Stored };
 
-    ghost view = { λ f. f.slots.items };
+    ghost view = { λ f. frames_in f.slots.items f.count };
+
+    ghost invariant = { λ f. (length f.slots.items ≤ f.count) × (f.count ≤ vec_capacity f.slots) × (f.unused.value ≡ no_page) };
+}
+
+// Uses the frames up to a place.
+fn reach(slots: &mut Vec<Slot>, place: u32)
+    requires { place < vec_capacity slots.old }
+    ensures there { place < length slots.new.items }
+    ensures same { (n : ℕ) → length slots.old.items ≤ n → place < n → frames_in slots.new.items n ≡ frames_in slots.old.items n }
+    ensures within { (n : ℕ) → length slots.old.items ≤ n → place < n → length slots.new.items ≤ n }
+    ensures capacity { vec_capacity slots.new ≡ vec_capacity slots.old }
+{
+    while slots.len() <= place as usize {
+        slots.push_reserved(Slot::unused());
+    }
 }
 
 impl Frames {
@@ -55,23 +89,32 @@ impl Frames {
         ensures len { IfOk result (λ f. length f ≡ frames) }
         ensures refused { IfErr result (λ e. e ≡ Memory) }
     {
-        let mut slots = Vec::with_capacity(alloc, frames).map_err(|_| Fault::Memory)?;
-        for i in 0..frames {
-            let page = Box::new(alloc, Page::initial(0)).map_err(|_| Fault::Memory)?;
-            let slot = Slot {
-                page,
-                changed: false,
-            };
-            slots.push(slot).map_err(|_| Fault::Memory)?;
-        }
-        Ok(Frames { slots })
+        let slots = Vec::with_capacity(alloc, frames).map_err(|_| Fault::Memory)?;
+        let unused = Box::new(alloc, Slot::unused()).map_err(|_| Fault::Memory)?;
+        Ok(Frames {
+            slots,
+            count: frames,
+            unused,
+        })
     }
 
     /// How many there are.
     pub fn len(&self) -> usize
         ensures { result ≡ length self.now }
     {
-        self.slots.len()
+        self.count
+    }
+
+    // What a frame has.
+    fn slot(&self, place: u32) -> &Slot
+        requires { place < length self.now }
+        ensures { result.now ≡ stored_at self.now place }
+    {
+        if (place as usize) < self.slots.len() {
+            &self.slots[place as usize]
+        } else {
+            &self.unused
+        }
     }
 
     /// The page in a frame, lent.
@@ -79,7 +122,7 @@ impl Frames {
         requires { place < length self.now }
         ensures { result.now ≡ (stored_at self.now place).page }
     {
-        let slot = &self.slots[place as usize];
+        let slot = self.slot(place);
         &slot.page
     }
 
@@ -88,7 +131,7 @@ impl Frames {
         requires { place < length self.now }
         ensures { result ≡ (stored_at self.now place).changed }
     {
-        let slot = &self.slots[place as usize];
+        let slot = self.slot(place);
         slot.changed
     }
 
@@ -103,6 +146,7 @@ impl Frames {
         ensures device { result ≡ Err Device ↔ (D.failed disk.new ≡ true) }
         ensures reads { Reads D.Disk disk.old disk.new }
     {
+        reach(&mut self.slots, place);
         let slot = &mut self.slots[place as usize];
         slot.changed = false;
         read_page(disk, p, &mut slot.page)
@@ -113,19 +157,21 @@ impl Frames {
         requires { place < length self.old }
         ensures { self.new ≡ slice_set self.old place (record { page = (stored_at self.old place).page; changed = false }) }
     {
+        reach(&mut self.slots, place);
         let slot = &mut self.slots[place as usize];
         slot.changed = false;
     }
 
-    /// Puts another page into a frame, with a mark, in exchange for the page that it had. No page is copied.
+    /// Puts another page into a frame, with a mark, in exchange for the page that it had.
     pub fn exchange(&mut self, place: u32, page: &mut Box<Page>, changed: bool)
         requires { place < length self.old }
         ensures out { page.new.value ≡ (stored_at self.old place).page }
         ensures put { self.new ≡ slice_set self.old place (record { page = page.old.value; changed = changed }) }
     {
+        reach(&mut self.slots, place);
         let slot = &mut self.slots[place as usize];
         slot.changed = changed;
-        mem::swap(&mut slot.page, page);
+        mem::swap(&mut slot.page, &mut **page);
     }
 
     /// Makes it the page that bytes are. On `Err` it stays as it was.
@@ -138,6 +184,7 @@ impl Frames {
         ensures same { OnErr result (self.new ≡ self.old) }
         ensures refused { IfErr result (λ e. e ≡ NotAStore) }
     {
+        reach(&mut self.slots, place);
         let slot = &mut self.slots[place as usize];
         slot.page.load(bytes)?;
         slot.changed = true;
@@ -157,6 +204,7 @@ impl Frames {
         ensures len { length self.new ≡ length self.old }
         ensures full { IsOk result ↔ (taken (is_leaf_kind (stored_at self.old place).page.body.kind) (stored_at self.old place).page.body.entries + size (is_leaf_kind (stored_at self.old place).page.body.kind) (key.now, value) + 2 ≤ 4064) }
     {
+        reach(&mut self.slots, place);
         let slot = &mut self.slots[place as usize];
         slot.page.insert(i, key, value)?;
         slot.changed = true;
@@ -170,6 +218,7 @@ impl Frames {
         requires within { i < length (stored_at self.old place).page.body.entries }
         ensures { Puts place (with_entries (stored_at self.old place).page (remove (stored_at self.old place).page.body.entries i)) self.old self.new }
     {
+        reach(&mut self.slots, place);
         let slot = &mut self.slots[place as usize];
         slot.page.remove(i);
         slot.changed = true;
@@ -180,6 +229,7 @@ impl Frames {
         requires { place < length self.old }
         ensures { Puts place (record (stored_at self.old place).page { lsn = lsn }) self.old self.new }
     {
+        reach(&mut self.slots, place);
         let slot = &mut self.slots[place as usize];
         slot.page.set_lsn(lsn);
         slot.changed = true;
@@ -190,6 +240,7 @@ impl Frames {
         requires { place < length self.old }
         ensures { Puts place (record (stored_at self.old place).page { body = record (stored_at self.old place).page.body { marked = marked } }) self.old self.new }
     {
+        reach(&mut self.slots, place);
         let slot = &mut self.slots[place as usize];
         slot.page.set_marked(marked);
         slot.changed = true;
@@ -201,6 +252,7 @@ impl Frames {
         requires holds { HasPrev (stored_at self.old place).page.body.kind }
         ensures { Puts place (record (stored_at self.old place).page { body = record (stored_at self.old place).page.body { prev = prev } }) self.old self.new }
     {
+        reach(&mut self.slots, place);
         let slot = &mut self.slots[place as usize];
         slot.page.set_prev(prev);
         slot.changed = true;
@@ -212,6 +264,7 @@ impl Frames {
         requires holds { HasNext (stored_at self.old place).page.body.kind }
         ensures { Puts place (record (stored_at self.old place).page { body = record (stored_at self.old place).page.body { next = next } }) self.old self.new }
     {
+        reach(&mut self.slots, place);
         let slot = &mut self.slots[place as usize];
         slot.page.set_next(next);
         slot.changed = true;
@@ -223,6 +276,7 @@ impl Frames {
         requires holds { HasLeftmost (stored_at self.old place).page.body.kind }
         ensures { Puts place (record (stored_at self.old place).page { body = record (stored_at self.old place).page.body { leftmost = leftmost } }) self.old self.new }
     {
+        reach(&mut self.slots, place);
         let slot = &mut self.slots[place as usize];
         slot.page.set_leftmost(leftmost);
         slot.changed = true;
@@ -233,6 +287,7 @@ impl Frames {
         requires { place < length self.old }
         ensures { Puts place (record { lsn = (stored_at self.old place).page.lsn; body = empty_body Free 0 0 next 0 }) self.old self.new }
     {
+        reach(&mut self.slots, place);
         let slot = &mut self.slots[place as usize];
         slot.page.become_free(next);
         slot.changed = true;
@@ -243,6 +298,7 @@ impl Frames {
         requires { place < length self.old }
         ensures { Puts place (record { lsn = (stored_at self.old place).page.lsn; body = empty_body Leaf 0 prev next 0 }) self.old self.new }
     {
+        reach(&mut self.slots, place);
         let slot = &mut self.slots[place as usize];
         slot.page.become_leaf(prev, next);
         slot.changed = true;
@@ -254,6 +310,7 @@ impl Frames {
         requires level { 1 ≤ level }
         ensures { Puts place (record { lsn = (stored_at self.old place).page.lsn; body = empty_body Inner level 0 0 leftmost }) self.old self.new }
     {
+        reach(&mut self.slots, place);
         let slot = &mut self.slots[place as usize];
         slot.page.become_inner(level, leftmost);
         slot.changed = true;

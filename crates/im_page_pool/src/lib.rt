@@ -40,7 +40,9 @@
 //!
 //! # Memory
 //!
-//! `new` takes the memory of all frames, and of what finds them. No other call takes any, so that no other call is refused `Memory`.
+//! `new` takes the memory of all frames, and of what finds them. No other call takes any, so that no other call is refused `Memory`. Nobody
+//! touches a frame's memory before its first use, those of the lowest places first: a system that hands memory out as it is touched
+//! hands out what is used.
 //!
 //! # Speed
 //!

@@ -164,7 +164,7 @@ fn all_unused(alloc: Global, frames: usize) -> Result<LruCache<u32, Option<PageN
     Ok(by_use)
 }
 
-// So many numbers from 0 on, in room for just as many.
+// So many numbers from 0 on, the least last, which is taken first, in room for just as many.
 fn all_free(alloc: Global, frames: usize) -> Result<Vec<u32>, Fault>
     requires { frames ≤ 262144 }
     ensures all { IfOk result (λ v. IsAll frames v.items) }
@@ -173,7 +173,8 @@ fn all_free(alloc: Global, frames: usize) -> Result<Vec<u32>, Fault>
 {
     let mut free = Vec::with_capacity(alloc, frames).map_err(|_| Fault::Memory)?;
     for i in 0..frames {
-        free.push(i as u32).map_err(|_| Fault::Memory)?;
+        free.push((frames - 1 - i) as u32)
+            .map_err(|_| Fault::Memory)?;
     }
     Ok(free)
 }

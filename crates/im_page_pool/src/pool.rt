@@ -300,7 +300,7 @@ impl Pool {
 
     /// Puts another page into the frame of a held one, with a mark, in exchange for the page that it had: that one is then lent, until it
     /// comes back by a second exchange. The order of use, the frame and its number stay, so that lent and held pages together are at most as
-    /// many as there are frames. No page is copied, and no memory taken.
+    /// many as there are frames. The two pages are copied, and no memory is taken.
     pub fn exchange(&mut self, frame: Frame, page: &mut Box<Page>, changed: bool)
         requires { IsAt self.old frame }
         ensures out { page.new.value ≡ page_at self.old frame.number }

@@ -1,0 +1,12 @@
+use Rattle.std.proofs.Common.{true, ap, rules, ◌∙◌, arith}
+use Rattle.std.proofs.lemmas.Grind.{common_steps}
+use Rattle.im_base_types.specs.Pages.{Page}
+use Rattle.im_base_types.specs.declared.page_kind.PageKind.TheVariants.{Leaf}
+use Rattle.im_theory_page.specs.Header.{empty_body}
+use Rattle.im_page_pool.specs.Frames.{Stored}
+use Rattle.im_page_pool.proofs.FrameLemmas.{puts}
+use Rattle.im_page_pool.proofs.frames.Frames.become_leaf.Goals as goal
+
+pub returns : goal.returns
+returns c = puts c.self.inside.slots.items c.reach.new.slots.items c.args.self.now c.self.inside.count c.args.place c.self.invariant.0 c.requires c.self.view_is c.reach.ensures.same c.reach.ensures.there
+    (λ (s : Stored). record { page = record { lsn = s.page.lsn; body = empty_body Leaf 0 c.args.prev c.args.next 0 }; changed = true }) (record { page = c.slot.inside.page; changed = c.slot.inside.changed }) _ (c.slot.view_is ∙ first_of (search rules, grind (arith, common_steps))) (ap (λ (page : Page). record { page = page; changed = true }) c.become_leaf.ensures)
