@@ -308,6 +308,58 @@ static void bounds(const char *dir)
 	HOLDS(length_of(at, "log") <= 8 << 20 && length_of(at, "log2") <= 8 << 20);
 }
 
+/* Puts keys in, 100 a transaction, and looks each up. */
+static void put_keys(vah_store *store, unsigned from, unsigned to)
+{
+	vah_txn *txn = NULL;
+	char key[8];
+	uint64_t n;
+	for (unsigned i = from; i < to; i++) {
+		if (i % 100 == 0) OK(vah_begin(store, &txn));
+		snprintf(key, sizeof key, "k%06u", i);
+		OK(vah_insert(txn, key, 7, i));
+		OK(vah_fetch(txn, key, 7, &n));
+		if (i % 100 == 99) OK(vah_commit(txn));
+	}
+}
+
+/* A Switch is due for 10^5 steps while a transaction stays open: the logs grow past their bound until it has ended, and no more after that. */
+static void long_open(const char *dir)
+{
+	vah_config config = VAH_CONFIG_INIT;
+	vah_store *store;
+	vah_txn *old, *txn;
+	uint64_t n;
+	char key[8];
+	config.log_bytes = 1 << 20;
+	OK(vah_open(dir, &config, &store));
+	OK(vah_begin(store, &old)); /* `b` keeps the locks of `a` apart from those of the other keys */
+	OK(vah_insert(old, "b", 1, 7));
+	OK(vah_commit(old));
+	OK(vah_begin(store, &old));
+	OK(vah_insert(old, "a", 1, 7));
+	put_keys(store, 0, 50000);
+	long long log = length_of(dir, "log"), log2 = length_of(dir, "log2"), longest = log > log2 ? log : log2;
+	HOLDS(longest > 3 << 20);
+	OK(vah_commit(old));
+	put_keys(store, 50000, 150000);
+	log = length_of(dir, "log");
+	log2 = length_of(dir, "log2");
+	HOLDS(log <= longest + (1 << 20) && log2 <= longest + (1 << 20) && (log < 4 << 20 || log2 < 4 << 20));
+	OK(vah_close(store));
+	OK(vah_open(dir, &config, &store));
+	OK(vah_begin(store, &txn));
+	OK(vah_fetch(txn, "a", 1, &n));
+	HOLDS(n == 7);
+	for (unsigned i = 0; i < 150000; i++) {
+		snprintf(key, sizeof key, "k%06u", i);
+		OK(vah_fetch(txn, key, 7, &n));
+		HOLDS(n == i);
+	}
+	OK(vah_commit(txn));
+	OK(vah_close(store));
+}
+
 /* ---- memory for more pages ---- */
 
 /* Looks all keys up twice in a pool of 8 frames and so many bytes more: how many pages the second round reads. Without keys they are put in first. */
@@ -485,6 +537,8 @@ int main(int argc, char **argv)
 	on_a_table(dir, argc > 2 ? atoi(argv[2]) : 20000);
 	snprintf(dir, sizeof dir, "%s/bounds", argv[1]);
 	bounds(dir);
+	snprintf(dir, sizeof dir, "%s/long_open", argv[1]);
+	long_open(dir);
 	snprintf(dir, sizeof dir, "%s/cache", argv[1]);
 	cache(dir);
 	snprintf(dir, sizeof dir, "%s/threads", argv[1]);
