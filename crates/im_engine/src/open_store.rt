@@ -130,21 +130,25 @@ impl<D: TwoLogs> Engine<D> {
             config.workers,
         ) {
             Err(fault) => Err((fault, disk)),
-            Ok(current) => Ok(Engine {
-                alloc,
-                writer: current.restarted.writer,
-                disk,
-                max_pages: config.max_pages,
-                dense: config.dense,
-                report: current.restarted.report,
-                had_first: current.had_first,
-                txns: Transactions::starting_at(current.restarted.next, config.group),
-                locks: LockTable::new(alloc),
-                room,
-                failed: false,
-                stepped: config.stepped,
-                under: None,
-            }),
+            Ok(current) => {
+                let had_first = current.had_first;
+                let restarted = current.restarted;
+                Ok(Engine {
+                    alloc,
+                    writer: restarted.writer,
+                    disk,
+                    max_pages: config.max_pages,
+                    dense: config.dense,
+                    report: restarted.report,
+                    had_first,
+                    txns: Transactions::starting_at(restarted.next, config.group),
+                    locks: LockTable::new(alloc),
+                    room,
+                    failed: false,
+                    stepped: config.stepped,
+                    under: None,
+                })
+            }
         }
     }
 }
