@@ -1,11 +1,12 @@
 //! The entries of a range of keys.
 
-ghost use Rattle.std.specs.Prelude.{◌≡◌, ◌≤◌, ◌<◌, ◌++◌, [], ◌∷◌, ℕ, length, false, IfErr, IfOk, IfSome, OnOk};
+ghost use Rattle.std.specs.Prelude.{◌≡◌, ◌≤◌, ◌<◌, ◌++◌, [], ◌∷◌, ℕ, Bool, length, true, false, IfErr, IfOk, IfSome, OnOk};
 ghost use Rattle.im_base_types.specs.declared.fault.Fault.TheVariants.{Memory};
 ghost use Rattle.im_base_types.specs.Maps.{is_below};
 ghost use Rattle.im_theory_page.specs.Entry.{entry_at};
 ghost use Rattle.im_page_writer.specs.PageWriter.{IsReadyWriter};
 ghost use Rattle.im_page_writer.specs.Outcome.{fault_of, AllPages, IsSound, Lists};
+ghost use Rattle.im_tree_search.specs.HeldPages.{HoldsOn, IsQuiet};
 ghost use Rattle.im_tree_search.specs.Levels.{bodies_of};
 ghost use Rattle.im_tree_search.specs.NextKeys.{IsFar};
 ghost use Rattle.im_tree_search.specs.Ranges.{IsAlong, IsPart, Ranged, RangesAlong};
@@ -97,6 +98,7 @@ fn range_along<D: Disk>(
         → IsSound result (IfSeen (λ behind. RangesAlong (bodies_of pages) lo.now hi.now limit n list.new.items behind writer.old.pool.gets writer.new.pool.gets) (ScanMeetsDone (bodies_of pages) beside.entry lo.now hi.now limit)) }
     ensures far { IfOk result (IfSeen (λ behind. IfSome behind IsFar) (1 ≤ beside.entry.done)) }
     ensures most { OnOk result (length list.new.items ≤ limit) }
+    ensures quiet { (set : ℕ → Bool) → HoldsOn lo.now writer.old.pool set → (1 ≤ from → set from ≡ true) → IsQuiet writer.old disk.old writer.new disk.new }
 {
     let mut left = count_beside(writer, disk, beside)?;
     let mut number = from;
@@ -124,7 +126,8 @@ fn range_along<D: Disk>(
 ///
 /// It goes down once, to the leaf of `lo`, by one get for each level, and then along the leaf chain, by one get for each leaf, until
 /// a leaf has a key above `hi`. Refused `Memory` where there is no room for the list too; otherwise as `next_entry` is. After
-/// `NotAStore` and `Memory` the writer goes on.
+/// `NotAStore` and `Memory` the writer goes on. Where page 0 and the pages of the way and the walk are held, nothing is asked of the disk
+/// (`quiet`).
 #[tactic(auto, using(im_page_writer::proofs::Outcomes::then, im_page_writer::proofs::Outcomes::refused))]
 pub fn entries_between<D: Disk>(
     alloc: Global,
@@ -141,6 +144,7 @@ pub fn entries_between<D: Disk>(
         → IsSound result (IfSeen (λ x. Ranged (bodies_of pages) lo.now hi.now limit x.0.items x.1 writer.old.pool.gets writer.new.pool.gets) (ScanMeetsDone (bodies_of pages) beside.entry lo.now hi.now limit)) }
     ensures far { IfOk result (IfSeen (λ x. IfSome x.1 IsFar) (1 ≤ beside.entry.done)) }
     ensures most { IfOk result (IfSeen (λ x. length x.0.items ≤ limit) Unit) }
+    ensures quiet { (set : ℕ → Bool) → writer.old.failed ≡ false → HoldsOn lo.now writer.old.pool set → IsQuiet writer.old disk.old writer.new disk.new }
 {
     let Sight::Seen(frame) = leaf_beside(writer, disk, lo, beside)? else {
         return Ok(Sight::Hidden);

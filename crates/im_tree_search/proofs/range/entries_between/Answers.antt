@@ -10,6 +10,7 @@ use Rattle.im_tree_search.specs.Levels.{bodies_of}
 use Rattle.im_tree_search.specs.Ranges.{IsAlong, IsPart, IsRange, PassesOn, GetsOf}
 use Rattle.im_tree_search.specs.RangesBeside.{on_way}
 use Rattle.im_tree_search.proofs.Sighted.{at_hidden, at_seen, but_still}
+use Rattle.im_tree_search.proofs.Quiet.{next_in_set, on_still, quiet_then}
 use Rattle.im_tree_search.proofs.Walks.{memory_not}
 use Rattle.im_tree_search.proofs.Ranges.{along_begins, along_on, along_stops, empty_range, part_none, part_some, passes_none, range_of_none}
 use Rattle.im_page_writer.specs.Outcome.{mild}
@@ -157,3 +158,57 @@ returns-clause-kept g c pages tree =
     let next : IsAlong (bodies_of pages) lo hi list 1 c.next-next.result = subst (λ (q : ℕ). IsAlong (bodies_of pages) lo hi list 1 q) (sym c.next-next.ensures) past in
     let rest = at_seen c.in_ok-behind-2.field-0 c.in-Seen-2.behind _ _ c.in-Seen-2.is (c.in_ok-behind-2.ensures.kept pages 1 (but_still g.D.Disk tree c.in_ok-frame.ensures.outcome) next (omega arith)) in
     record { range = rest.range; gets = gets_of (bodies_of pages) lo hi c.args.writer.now.pool.gets v.pool.gets c.range_along.new.writer.pool.gets leaf.gets rest.gets }
+
+pub returns-in_err-frame-clause-quiet : goal.returns-in_err-frame-clause-quiet
+returns-in_err-frame-clause-quiet g c set working on = c.in_err-frame.ensures.quiet set working on.way
+
+pub returns-in_default-clause-quiet : goal.returns-in_default-clause-quiet
+returns-in_default-clause-quiet g c set working on = c.in_ok-frame.ensures.quiet set working on.way
+
+pub returns-in_err-list-clause-quiet : goal.returns-in_err-list-clause-quiet
+returns-in_err-list-clause-quiet g c set working on = c.in_ok-frame.ensures.quiet set working on.way
+
+pub returns-then-limit-eq0-clause-quiet : goal.returns-then-limit-eq0-clause-quiet
+returns-then-limit-eq0-clause-quiet g c set working on = c.in_ok-frame.ensures.quiet set working on.way
+
+pub returns-then-lies_below-clause-quiet : goal.returns-then-lies_below-clause-quiet
+returns-then-lies_below-clause-quiet g c set working on = c.in_ok-frame.ensures.quiet set working on.way
+
+pub returns-in_err-behind-clause-quiet : goal.returns-in_err-behind-clause-quiet
+returns-in_err-behind-clause-quiet g c set working on = c.in_ok-frame.ensures.quiet set working on.way
+
+pub returns-in-Some-clause-quiet : goal.returns-in-Some-clause-quiet
+returns-in-Some-clause-quiet g c set working on = c.in_ok-frame.ensures.quiet set working on.way
+
+pub returns-in_err-behind-2-clause-quiet : goal.returns-in_err-behind-2-clause-quiet
+returns-in_err-behind-2-clause-quiet g c set working on =
+    let e = c.in_ok-frame.ensures in
+    let frame = c.in-Seen.frame in
+    let still = e.quiet set working on.way in
+    let here = on_still c.args.lo.now set on still in
+    let settled = at_seen c.in_ok-frame.field-0 frame _ _ c.in-Seen.is e.settled in
+    let in_set = at_seen c.in_ok-frame.field-0 frame _ _ c.in-Seen.is (e.within set working on.way) in
+    quiet_then still (c.in_err-behind-2.ensures.quiet set here
+    (λ some. next_in_set c.args.lo.now set c.leaf_beside.new.writer.pool frame.number c.next-next.result c.page-leaf.result.now here in_set settled.level c.page-leaf.ensures.page c.next-next.ensures some))
+
+pub returns-in_default-3-clause-quiet : goal.returns-in_default-3-clause-quiet
+returns-in_default-3-clause-quiet g c set working on =
+    let e = c.in_ok-frame.ensures in
+    let frame = c.in-Seen.frame in
+    let still = e.quiet set working on.way in
+    let here = on_still c.args.lo.now set on still in
+    let settled = at_seen c.in_ok-frame.field-0 frame _ _ c.in-Seen.is e.settled in
+    let in_set = at_seen c.in_ok-frame.field-0 frame _ _ c.in-Seen.is (e.within set working on.way) in
+    quiet_then still (c.in_ok-behind-2.ensures.quiet set here
+    (λ some. next_in_set c.args.lo.now set c.leaf_beside.new.writer.pool frame.number c.next-next.result c.page-leaf.result.now here in_set settled.level c.page-leaf.ensures.page c.next-next.ensures some))
+
+pub returns-clause-quiet : goal.returns-clause-quiet
+returns-clause-quiet g c set working on =
+    let e = c.in_ok-frame.ensures in
+    let frame = c.in-Seen.frame in
+    let still = e.quiet set working on.way in
+    let here = on_still c.args.lo.now set on still in
+    let settled = at_seen c.in_ok-frame.field-0 frame _ _ c.in-Seen.is e.settled in
+    let in_set = at_seen c.in_ok-frame.field-0 frame _ _ c.in-Seen.is (e.within set working on.way) in
+    quiet_then still (c.in_ok-behind-2.ensures.quiet set here
+    (λ some. next_in_set c.args.lo.now set c.leaf_beside.new.writer.pool frame.number c.next-next.result c.page-leaf.result.now here in_set settled.level c.page-leaf.ensures.page c.next-next.ensures some))

@@ -1,4 +1,4 @@
-use Rattle.std.proofs.Common.{◌≤◌, ◌<◌, ℕ, List, length, suc, sym, subst, arith, refl}
+use Rattle.std.proofs.Common.{◌≡◌, ◌≤◌, ◌<◌, ℕ, true, List, length, suc, sym, subst, arith, refl}
 use Rattle.im_base_types.specs.Pages.{Entry}
 use Rattle.im_page_pool.specs.Pool.{page_at}
 use Rattle.im_page_writer.proofs.Outcomes.{out_of_memory, refused, sound_on, then, read_more, refuses}
@@ -7,6 +7,7 @@ use Rattle.im_tree_search.specs.Ranges.{IsAlong}
 use Rattle.im_tree_search.specs.RangesBeside.{along as made_along}
 use Rattle.im_tree_search.proofs.Sighted.{at_hidden, at_seen, but_still}
 use Rattle.im_tree_search.proofs.Pages.{got_says}
+use Rattle.im_tree_search.proofs.Quiet.{next_in_set, on_still, quiet_then}
 use Rattle.im_tree_search.proofs.Walks.{memory_not}
 use Rattle.im_tree_search.proofs.Ranges.{along_ends, along_level, along_on, along_stops, along_within, part_none, part_some}
 use Rattle.im_page_writer.specs.Outcome.{mild}
@@ -26,6 +27,7 @@ loop-number-init g c =
       outcome = e.outcome;
       room = c.requires.room;
       kept = λ pages n tree along some. record { n = n; along = along; some = some; count = omega (arith, e.kept pages tree); gone = omega (arith, e.gets) };
+      quiet = λ set on from. (e.quiet (on.way.held 0 on.meta), from);
     }
 
 pub returns-then-left-eq0-clause-outcome : goal.returns-then-left-eq0-clause-outcome
@@ -124,6 +126,14 @@ loop-number-preserved g c =
             count = omega (arith, so.count, c.if-left-eq0.false);
             gone = omega (arith, so.gone, at_seen c.in_ok-frame.field-0 frame _ _ c.in-Seen.is e.gets);
           };
+      quiet = λ set on from.
+          let was = l.invariant.quiet set on from in
+          let in_set = was.1 here in
+          let still = e.quiet l.invariant.outcome.ends.works ((on_still lo set on was.0).way.held l.number in_set) in
+          let both = quiet_then was.0 still in
+          let number = at_seen c.in_ok-frame.field-0 frame _ _ c.in-Seen.is e.frame in
+          let settled = at_seen c.in_ok-frame.field-0 frame _ _ c.in-Seen.is e.settled in
+          (both, λ more. next_in_set lo set pool frame.number c.next-number.result lent (on_still lo set on both) (subst (λ (n : ℕ). set n ≡ true) (sym number) in_set) settled.level c.page-leaf.ensures.page c.next-number.ensures more);
     }
 
 pub returns-clause-outcome : goal.returns-clause-outcome
@@ -137,3 +147,36 @@ returns-clause-kept g c pages n tree along some =
       range = along_ends (bodies_of pages) tree.spare c.args.lo.now c.args.hi.now c.args.limit l.list.items so.n l.number tree.good c.requires.order so.along (omega (arith, c.loop-number-test.false)) l.invariant.room;
       gets = record { m = so.n; passes = so.along.passes; some = so.some; count = omega (arith, so.gone) };
     }
+
+pub returns-in_err-left-clause-quiet : goal.returns-in_err-left-clause-quiet
+returns-in_err-left-clause-quiet g c set on from = c.in_err-left.ensures.quiet (on.way.held 0 on.meta)
+
+pub returns-then-left-eq0-clause-quiet : goal.returns-then-left-eq0-clause-quiet
+returns-then-left-eq0-clause-quiet g c set on from = (c.loop-number.invariant.quiet set on from).0
+
+pub returns-in_err-frame-clause-quiet : goal.returns-in_err-frame-clause-quiet
+returns-in_err-frame-clause-quiet g c set on from =
+    let l = c.loop-number in
+    let was = l.invariant.quiet set on from in
+    quiet_then was.0 (c.in_err-frame.ensures.quiet l.invariant.outcome.ends.works ((on_still c.args.lo.now set on was.0).way.held l.number (was.1 (omega (arith, c.loop-number-test.true)))))
+
+pub returns-in_default-clause-quiet : goal.returns-in_default-clause-quiet
+returns-in_default-clause-quiet g c set on from =
+    let l = c.loop-number in
+    let was = l.invariant.quiet set on from in
+    quiet_then was.0 (c.in_ok-frame.ensures.quiet l.invariant.outcome.ends.works ((on_still c.args.lo.now set on was.0).way.held l.number (was.1 (omega (arith, c.loop-number-test.true)))))
+
+pub returns-in_err-behind-clause-quiet : goal.returns-in_err-behind-clause-quiet
+returns-in_err-behind-clause-quiet g c set on from =
+    let l = c.loop-number in
+    let was = l.invariant.quiet set on from in
+    quiet_then was.0 (c.in_ok-frame.ensures.quiet l.invariant.outcome.ends.works ((on_still c.args.lo.now set on was.0).way.held l.number (was.1 (omega (arith, c.loop-number-test.true)))))
+
+pub returns-in-Some-clause-quiet : goal.returns-in-Some-clause-quiet
+returns-in-Some-clause-quiet g c set on from =
+    let l = c.loop-number in
+    let was = l.invariant.quiet set on from in
+    quiet_then was.0 (c.in_ok-frame.ensures.quiet l.invariant.outcome.ends.works ((on_still c.args.lo.now set on was.0).way.held l.number (was.1 (omega (arith, c.loop-number-test.true)))))
+
+pub returns-clause-quiet : goal.returns-clause-quiet
+returns-clause-quiet g c set on from = (c.loop-number.invariant.quiet set on from).0
