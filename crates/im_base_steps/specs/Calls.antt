@@ -41,7 +41,7 @@ abbrev pub told_by : Reply → answers.Reply
 told_by (replies.Started t) = answers.Started t
 told_by (replies.Found rid) = answers.Found rid
 told_by replies.Absent = answers.Absent
-told_by (replies.Entry key rid) = answers.Entry key rid
+told_by (replies.Entry key rid) = answers.Entry key.value rid
 told_by replies.End = answers.End
 told_by (replies.Entries list) = answers.Entries list.items
 told_by replies.Inserted = answers.Inserted

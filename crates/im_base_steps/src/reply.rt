@@ -14,7 +14,7 @@ pub enum Blocker {
     Tree,
 }
 
-/// The answer to a step.
+/// The answer to a step. The key of an entry lies on the heap, so that a reply takes little room: it is handed on from layer to layer.
 #[derive(Drop)]
 pub enum Reply {
     /// A transaction was begun; its number.
@@ -24,7 +24,7 @@ pub enum Reply {
     /// The key is not there.
     Absent,
     /// The least key that was asked for is there, or the greatest, with its row id.
-    Entry(Key, Rid),
+    Entry(Box<Key>, Rid),
     /// No key is there after the one that was named, or before it.
     End,
     /// The entries of a range, in rising order.
