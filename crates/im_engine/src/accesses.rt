@@ -128,6 +128,7 @@ impl<D: Disk> Engine<D> {
     {
         self.failed = true;
         let came = seek(
+            self.alloc,
             &mut self.writer,
             &mut self.disk,
             &mut self.locks,
@@ -151,6 +152,7 @@ impl<D: Disk> Engine<D> {
     {
         self.failed = true;
         let came = prev(
+            self.alloc,
             &mut self.writer,
             &mut self.disk,
             &mut self.locks,

@@ -1,8 +1,8 @@
 -- What a step by a key answers.
-use Rattle.std.specs.Prelude.{Bool, true, false, ℕ, List, [], Option, None, Some, Vec}
+use Rattle.std.specs.Prelude.{Bool, true, false, ℕ, List, [], Option, None, Some, Box, Vec}
 use Rattle.im_base_types.specs.Keys.{Key}
 use Rattle.im_base_types.specs.Pages.{Entry}
-use Rattle.im_base_types.specs.Answers.{Access, Seek, Next, Reply, Entries}
+use Rattle.im_base_types.specs.Answers.{Access, Seek, Next, Reply, Entries, entry}
 use Rattle.im_theory_page.specs.Entry.{entry_at}
 use Rattle.im_theory_machine.specs.Locks.{Name, At, PastAll}
 use Rattle.im_theory_machine.specs.declared.verdict.Verdict.{Verdict}
@@ -39,6 +39,19 @@ seek_at false key = Next key
 abbrev pub name_behind : Option NextKey → Option Name
 name_behind None = None
 name_behind (Some next) = Some (name_in [] next)
+
+-- an entry whose key lies on the heap
+abbrev pub as_entry : {Z : Type 0} → Box Key Z × ℕ → Entry
+as_entry e = (e.0.value, e.1)
+
+-- the same, where one was found
+abbrev pub as_found : {Z : Type 0} → Option (Box Key Z × ℕ) → Option Entry
+as_found None = None
+as_found (Some e) = Some (as_entry e)
+
+-- the reply of a search for one entry that found this
+abbrev pub entry_found : {Z : Type 0} → Option (Box Key Z × ℕ) → Reply
+entry_found found = entry (as_found found)
 
 -- the reply of a scan with these entries
 abbrev pub entries_found : {Z : Type 0} → Vec (Key × ℕ) Z → Reply

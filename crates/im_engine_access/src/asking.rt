@@ -5,14 +5,14 @@ ghost use Rattle.std.specs.FinMap.{get};
 ghost use Rattle.im_base_types.specs.declared.fault.Fault.TheVariants.{Memory};
 ghost use Rattle.im_base_types.specs.Keys.{Key as KeyBytes};
 ghost use Rattle.im_base_types.specs.Maps.{IndexMap, From, first, last_below};
-ghost use Rattle.im_base_types.specs.Answers.{Fetch, Prev, found as found_reply, entry as entry_found};
+ghost use Rattle.im_base_types.specs.Answers.{Fetch, Prev, found as found_reply};
 ghost use Rattle.im_engine_locks.specs.Found.{name_below};
 ghost use Rattle.im_engine_locks.specs.Requests.{named, named_if};
 ghost use Rattle.im_theory_machine.specs.Rows.{name_of, next_name};
 ghost use Rattle.im_theory_machine.specs.Table.{SameLasting, SameTable};
 ghost use Rattle.im_tree_search.specs.Levels.{start_at};
 ghost use Rattle.im_tree_search.specs.NextKeys.{IsWithin};
-ghost use Rattle.im_engine_access.specs.LockAnswers.{verdict_of, IfGranted, name_in as name_among, seek_at};
+ghost use Rattle.im_engine_access.specs.LockAnswers.{as_found, entry_found, verdict_of, IfGranted, name_in as name_among, seek_at};
 ghost use Rattle.im_engine_access.specs.Reads.{IsRead};
 
 use crate::lock_answer::LockAnswer;
@@ -47,8 +47,8 @@ pub fn outcome_of<T: Drop>(verdict: Verdict, value: T) -> LockAnswer<T>
 }
 
 // The name of what was found.
-pub(crate) fn name_found(found: &Option<(Key, Rid)>) -> Name<'_>
-    ensures { named result ≡ name_of found.now }
+pub(crate) fn name_found(found: &Option<(Box<Key>, Rid)>) -> Name<'_>
+    ensures { named result ≡ name_of (as_found found.now) }
 {
     match found {
         Some((key, _)) => Name::Key(key.bytes()),
@@ -57,8 +57,8 @@ pub(crate) fn name_found(found: &Option<(Key, Rid)>) -> Name<'_>
 }
 
 // The name of what was found below a key, where anything was.
-pub(crate) fn name_if_found(found: &Option<(Key, Rid)>) -> Option<Name<'_>>
-    ensures { named_if result ≡ name_below found.now }
+pub(crate) fn name_if_found(found: &Option<(Box<Key>, Rid)>) -> Option<Name<'_>>
+    ensures { named_if result ≡ name_below (as_found found.now) }
 {
     match found {
         Some((key, _)) => Some(Name::Key(key.bytes())),
@@ -106,9 +106,9 @@ pub(crate) fn ask_gap(
 pub(crate) fn ask_found(
     locks: &mut LockTable,
     transaction: TxnId,
-    found: Option<(Key, Rid)>,
-) -> Result<LockAnswer<Option<(Key, Rid)>>, Fault>
-    ensures read { (m : IndexMap) (key : KeyBytes) (inclusive : Bool) → found ≡ first (start_at inclusive key) m → IfOk result (IsRead entry_found transaction (seek_at inclusive key) m locks.old locks.new) }
+    found: Option<(Box<Key>, Rid)>,
+) -> Result<LockAnswer<Option<(Box<Key>, Rid)>>, Fault>
+    ensures read { (m : IndexMap) (key : KeyBytes) (inclusive : Bool) → as_found found ≡ first (start_at inclusive key) m → IfOk result (IsRead entry_found transaction (seek_at inclusive key) m locks.old locks.new) }
     ensures memory { IfErr result (λ e. e ≡ Memory) }
     ensures table { OnErr result (SameTable locks.old locks.new) }
     ensures lasting { OnErr result (SameLasting locks.old locks.new) }
@@ -123,10 +123,10 @@ pub(crate) fn ask_found(
 pub(crate) fn ask_around(
     locks: &mut LockTable,
     transaction: TxnId,
-    below: Option<(Key, Rid)>,
-    next: Option<(Key, Rid)>,
-) -> Result<LockAnswer<Option<(Key, Rid)>>, Fault>
-    ensures read { (m : IndexMap) (key : KeyBytes) → below ≡ last_below key m → next ≡ first (From key) m → IfOk result (IsRead entry_found transaction (Prev key) m locks.old locks.new) }
+    below: Option<(Box<Key>, Rid)>,
+    next: Option<(Box<Key>, Rid)>,
+) -> Result<LockAnswer<Option<(Box<Key>, Rid)>>, Fault>
+    ensures read { (m : IndexMap) (key : KeyBytes) → as_found below ≡ last_below key m → as_found next ≡ first (From key) m → IfOk result (IsRead entry_found transaction (Prev key) m locks.old locks.new) }
     ensures memory { IfErr result (λ e. e ≡ Memory) }
     ensures table { OnErr result (SameTable locks.old locks.new) }
     ensures lasting { OnErr result (SameLasting locks.old locks.new) }

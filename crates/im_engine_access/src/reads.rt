@@ -2,11 +2,12 @@
 
 ghost use Rattle.std.specs.Prelude.{◌≡◌, ◌⊎◌, ◌<◌, ℕ, Bool, None, false, true, length, IfOk, IfErr, OnErr};
 ghost use Rattle.std.specs.FinMap.{entries, get};
+ghost use Rattle.im_base_types.specs.declared.fault.Fault.TheVariants.{Memory};
 ghost use Rattle.im_base_types.specs.Maps.{IndexMap, From, first_in, last_in};
-ghost use Rattle.im_base_types.specs.Answers.{Fetch, Prev, found as found_reply, entry as entry_found};
+ghost use Rattle.im_base_types.specs.Answers.{Fetch, Prev, found as found_reply};
 ghost use Rattle.im_page_pool.specs.Pool.{page_at, IsAt};
 ghost use Rattle.im_page_writer.specs.PageWriter.{IsReadyWriter};
-ghost use Rattle.im_page_writer.specs.Outcome.{fault_of, AllPages, IsSound, Reads};
+ghost use Rattle.im_page_writer.specs.Outcome.{fault_of, AllPages, IsSound, Lists};
 ghost use Rattle.im_theory_machine.specs.Table.{SameLasting, SameTable};
 ghost use Rattle.im_theory_page.specs.Entry.{entry_at};
 ghost use Rattle.im_theory_tree.specs.Levels.{walk};
@@ -16,7 +17,7 @@ ghost use Rattle.im_tree_search.specs.Found.{IsReached};
 ghost use Rattle.im_tree_search.specs.Levels.{bodies_of, start_at, HasLevel};
 ghost use Rattle.im_tree_search.specs.HeldPages.{HoldsOn, IsQuiet};
 ghost use Rattle.im_tree_search.specs.Sights.{is_done, HasTreeBut, IfSeen};
-ghost use Rattle.im_engine_access.specs.LockAnswers.{seek_at};
+ghost use Rattle.im_engine_access.specs.LockAnswers.{as_entry, as_found, entry_found, seek_at};
 ghost use Rattle.im_engine_access.specs.LockCalls.{AsksLocks};
 ghost use Rattle.im_engine_access.specs.Reads.{IsReadBeside};
 
@@ -31,6 +32,7 @@ use im_page_writer::PageWriter;
 use im_tree_search::{
     Beside, Sight, leaf_beside, next_entry, next_in_leaf_beside, place_around, prev_entry, value_of,
 };
+use std::alloc::Global;
 
 // Asks the name after a key that is not there. Its leaf is held.
 fn fetch_gap<D: Disk>(
@@ -93,27 +95,30 @@ pub fn fetch<D: Disk>(
     fetch_gap(writer, disk, locks, transaction, held, key, beside)
 }
 
-// An entry of a page, copied.
-fn entry_of(page: &Page, at: usize) -> Result<(Key, Rid), Fault>
+// An entry of a page, copied, its key on the heap: so what is handed on takes little room. Refused `Memory` alone.
+fn entry_of(alloc: Global, page: &Page, at: usize) -> Result<(Box<Key>, Rid), Fault>
     requires { at < length page.now.body.entries }
-    ensures entry { IfOk result (λ entry. entry ≡ entry_at page.now.body.entries at) }
-    ensures always { IfErr result (λ e. ⊥) }
+    ensures entry { IfOk result (λ entry. as_entry entry ≡ entry_at page.now.body.entries at) }
+    ensures memory { IfErr result (λ e. e ≡ Memory) }
 {
-    Ok((Key::new(page.key(at))?, page.value(at)))
+    let key = Key::new(page.key(at))?;
+    let key = Box::new(alloc, key).map_err(|_| Fault::Memory)?;
+    Ok((key, page.value(at)))
 }
 
 // The first entry at or above a key, or above it, copied.
 fn found_from<D: Disk>(
+    alloc: Global,
     writer: &mut PageWriter,
     disk: &mut D,
     key: &[u8],
     inclusive: bool,
     beside: Beside<'_>,
-) -> Result<Sight<Option<(Key, Rid)>>, Fault>
+) -> Result<Sight<Option<(Box<Key>, Rid)>>, Fault>
     requires ready { IsReadyWriter D.Disk writer.old disk.old }
-    ensures outcome { Reads D.Disk writer.old disk.old writer.new disk.new (fault_of result) }
+    ensures outcome { Lists D.Disk writer.old disk.old writer.new disk.new (fault_of result) }
     ensures kept { (pages : AllPages) → HasTreeBut D.Disk pages beside.entry writer.old disk.old
-        → IsSound result (IfSeen (λ found. found ≡ first_in (start_at inclusive key.now) (walk (bodies_of pages))) (MeetsDone (bodies_of pages) (is_done beside.entry) (start_at inclusive key.now))) }
+        → IsSound result (IfSeen (λ found. as_found found ≡ first_in (start_at inclusive key.now) (walk (bodies_of pages))) (MeetsDone (bodies_of pages) (is_done beside.entry) (start_at inclusive key.now))) }
 {
     let Sight::Seen(found) = next_entry(writer, disk, key, inclusive, beside)? else {
         return Ok(Sight::Hidden);
@@ -121,7 +126,7 @@ fn found_from<D: Disk>(
     let Some(place) = found else {
         return Ok(Sight::Seen(None));
     };
-    let entry = entry_of(writer.page(place.frame), place.at)?;
+    let entry = entry_of(alloc, writer.page(place.frame), place.at)?;
     Ok(Sight::Seen(Some(entry)))
 }
 
@@ -129,8 +134,9 @@ fn found_from<D: Disk>(
 /// key is asked, else that of the name past the last key. It is hidden where a page that is made stands on the key's way, or where the walk along
 /// the leaves comes to; then no lock was asked.
 ///
-/// Refused as `fetch` is.
+/// Refused as `fetch` is, and `Memory` where the copy wants it, before a lock is asked.
 pub fn seek<D: Disk>(
+    alloc: Global,
     writer: &mut PageWriter,
     disk: &mut D,
     locks: &mut LockTable,
@@ -138,7 +144,7 @@ pub fn seek<D: Disk>(
     key: &[u8],
     inclusive: bool,
     beside: Beside<'_>,
-) -> Result<Sight<LockAnswer<Option<(Key, Rid)>>>, Fault>
+) -> Result<Sight<LockAnswer<Option<(Box<Key>, Rid)>>>, Fault>
     requires ready { IsReadyWriter D.Disk writer.old disk.old }
     ensures outcome { AsksLocks D.Disk writer.old disk.old writer.new disk.new (fault_of result) }
     ensures kept { (pages : AllPages) (m : IndexMap) → HasTreeBut D.Disk pages beside.entry writer.old disk.old → walk (bodies_of pages) ≡ entries m
@@ -146,7 +152,7 @@ pub fn seek<D: Disk>(
     ensures table { OnErr result (SameTable locks.old locks.new) }
     ensures lasting { OnErr result (SameLasting locks.old locks.new) }
 {
-    let Sight::Seen(found) = found_from(writer, disk, key, inclusive, beside)? else {
+    let Sight::Seen(found) = found_from(alloc, writer, disk, key, inclusive, beside)? else {
         return Ok(Sight::Hidden);
     };
     let answer = ask_found(locks, transaction, found)?;
@@ -155,15 +161,16 @@ pub fn seek<D: Disk>(
 
 // The last entry below a key, copied.
 fn found_below<D: Disk>(
+    alloc: Global,
     writer: &mut PageWriter,
     disk: &mut D,
     key: &[u8],
     beside: Beside<'_>,
-) -> Result<Sight<Option<(Key, Rid)>>, Fault>
+) -> Result<Sight<Option<(Box<Key>, Rid)>>, Fault>
     requires ready { IsReadyWriter D.Disk writer.old disk.old }
-    ensures outcome { Reads D.Disk writer.old disk.old writer.new disk.new (fault_of result) }
+    ensures outcome { Lists D.Disk writer.old disk.old writer.new disk.new (fault_of result) }
     ensures kept { (pages : AllPages) → HasTreeBut D.Disk pages beside.entry writer.old disk.old
-        → IsSound result (IfSeen (λ found. found ≡ last_in key.now (walk (bodies_of pages))) (MeetsDoneBack (bodies_of pages) (is_done beside.entry) key.now)) }
+        → IsSound result (IfSeen (λ found. as_found found ≡ last_in key.now (walk (bodies_of pages))) (MeetsDoneBack (bodies_of pages) (is_done beside.entry) key.now)) }
 {
     let Sight::Seen(found) = prev_entry(writer, disk, key, beside)? else {
         return Ok(Sight::Hidden);
@@ -171,7 +178,7 @@ fn found_below<D: Disk>(
     let Some(place) = found else {
         return Ok(Sight::Seen(None));
     };
-    let entry = entry_of(writer.page(place.frame), place.at)?;
+    let entry = entry_of(alloc, writer.page(place.frame), place.at)?;
     Ok(Sight::Seen(Some(entry)))
 }
 
@@ -179,15 +186,16 @@ fn found_below<D: Disk>(
 // each is looked for, and what was found first stands copied when its leaf is gone from the pool.
 #[tactic(auto, using(im_page_writer::proofs::Outcomes::then, im_page_writer::proofs::Outcomes::refused))]
 fn found_around<D: Disk>(
+    alloc: Global,
     writer: &mut PageWriter,
     disk: &mut D,
     key: &[u8],
     beside: Beside<'_>,
-) -> Result<Sight<(Option<(Key, Rid)>, Option<(Key, Rid)>)>, Fault>
+) -> Result<Sight<(Option<(Box<Key>, Rid)>, Option<(Box<Key>, Rid)>)>, Fault>
     requires ready { IsReadyWriter D.Disk writer.old disk.old }
-    ensures outcome { Reads D.Disk writer.old disk.old writer.new disk.new (fault_of result) }
+    ensures outcome { Lists D.Disk writer.old disk.old writer.new disk.new (fault_of result) }
     ensures kept { (pages : AllPages) → HasTreeBut D.Disk pages beside.entry writer.old disk.old
-        → IsSound result (IfSeen (λ x. (x.0 ≡ last_in key.now (walk (bodies_of pages))) × (x.1 ≡ first_in (From key.now) (walk (bodies_of pages))))
+        → IsSound result (IfSeen (λ x. (as_found x.0 ≡ last_in key.now (walk (bodies_of pages))) × (as_found x.1 ≡ first_in (From key.now) (walk (bodies_of pages))))
         (MeetsDoneBack (bodies_of pages) (is_done beside.entry) key.now ⊎ MeetsDone (bodies_of pages) (is_done beside.entry) (From key.now))) }
 {
     let Sight::Seen(leaf) = leaf_beside(writer, disk, key, beside)? else {
@@ -195,14 +203,14 @@ fn found_around<D: Disk>(
     };
     let page = writer.page(leaf);
     if let Some(place) = place_around(page, key) {
-        let below = entry_of(page, place - 1)?;
-        let next = entry_of(page, place)?;
+        let below = entry_of(alloc, page, place - 1)?;
+        let next = entry_of(alloc, page, place)?;
         return Ok(Sight::Seen((Some(below), Some(next))));
     }
-    let Sight::Seen(next) = found_from(writer, disk, key, true, beside)? else {
+    let Sight::Seen(next) = found_from(alloc, writer, disk, key, true, beside)? else {
         return Ok(Sight::Hidden);
     };
-    let Sight::Seen(below) = found_below(writer, disk, key, beside)? else {
+    let Sight::Seen(below) = found_below(alloc, writer, disk, key, beside)? else {
         return Ok(Sight::Hidden);
     };
     Ok(Sight::Seen((below, next)))
@@ -213,15 +221,16 @@ fn found_around<D: Disk>(
 /// where a page that is made stands on the key's way, or where the walk back comes to, or that on to the first entry at or above the key; then no
 /// lock was asked.
 ///
-/// Refused as `fetch` is.
+/// Refused as `seek` is.
 pub fn prev<D: Disk>(
+    alloc: Global,
     writer: &mut PageWriter,
     disk: &mut D,
     locks: &mut LockTable,
     transaction: TxnId,
     key: &[u8],
     beside: Beside<'_>,
-) -> Result<Sight<LockAnswer<Option<(Key, Rid)>>>, Fault>
+) -> Result<Sight<LockAnswer<Option<(Box<Key>, Rid)>>>, Fault>
     requires ready { IsReadyWriter D.Disk writer.old disk.old }
     ensures outcome { AsksLocks D.Disk writer.old disk.old writer.new disk.new (fault_of result) }
     ensures kept { (pages : AllPages) (m : IndexMap) → HasTreeBut D.Disk pages beside.entry writer.old disk.old → walk (bodies_of pages) ≡ entries m
@@ -229,7 +238,7 @@ pub fn prev<D: Disk>(
     ensures table { OnErr result (SameTable locks.old locks.new) }
     ensures lasting { OnErr result (SameLasting locks.old locks.new) }
 {
-    let Sight::Seen((below, next)) = found_around(writer, disk, key, beside)? else {
+    let Sight::Seen((below, next)) = found_around(alloc, writer, disk, key, beside)? else {
         return Ok(Sight::Hidden);
     };
     let answer = ask_around(locks, transaction, below, next)?;

@@ -1,7 +1,6 @@
 use Rattle.std.proofs.Common.{◌∙◌, refl}
 use Rattle.im_base_types.specs.Maps.{From}
-use Rattle.im_page_writer.proofs.Outcomes.{out_of_memory, refused, sound_on, read_more}
-use Rattle.im_page_writer.specs.Outcome.{mild}
+use Rattle.im_page_writer.proofs.Outcomes.{out_of_memory, refused, sound_on}
 use Rattle.im_theory_tree.specs.Levels.{walk}
 use Rattle.im_tree_search.specs.Levels.{bodies_of}
 use Rattle.im_tree_search.proofs.Sighted.{at_hidden, at_seen}
@@ -10,13 +9,13 @@ use Rattle.im_engine_access.proofs.Names.{first_is, last_is}
 use Rattle.im_engine_access.proofs.reads.prev.Goals as goal
 
 pub returns-in_err-below-clause-outcome : goal.returns-in_err-below-clause-outcome
-returns-in_err-below-clause-outcome g c = refused g.D.Disk c.from_residual.result c.from_residual.ensures.1 (read_more g.D.Disk mild refl c.in_err-below.ensures.outcome)
+returns-in_err-below-clause-outcome g c = refused g.D.Disk c.from_residual.result c.from_residual.ensures.1 c.in_err-below.ensures.outcome
 
 pub returns-in_err-below-clause-kept : goal.returns-in_err-below-clause-kept
 returns-in_err-below-clause-kept g c pages m tree is = sound_on c.from_residual.result _ _ c.from_residual.ensures.1 (c.in_err-below.ensures.kept pages tree)
 
 pub returns-in_default-clause-outcome : goal.returns-in_default-clause-outcome
-returns-in_default-clause-outcome g c = read_more g.D.Disk mild refl c.in_ok-below.ensures.outcome
+returns-in_default-clause-outcome g c = c.in_ok-below.ensures.outcome
 
 pub returns-in_default-clause-kept : goal.returns-in_default-clause-kept
 returns-in_default-clause-kept g c pages m tree is = (at_hidden c.in_ok-below.field-0 _ _ c.in_default.not-Seen (c.in_ok-below.ensures.kept pages tree), refl)
@@ -28,7 +27,7 @@ pub returns-in_err-answer-clause-kept : goal.returns-in_err-answer-clause-kept
 returns-in_err-answer-clause-kept g c pages m tree is = sound_on c.from_residual-in_err-answer.result _ _ c.from_residual-in_err-answer.ensures.1 (memory_not _ c.in_err-answer.ensures.memory)
 
 pub returns-clause-outcome : goal.returns-clause-outcome
-returns-clause-outcome g c = read_more g.D.Disk mild refl c.in_ok-below.ensures.outcome
+returns-clause-outcome g c = c.in_ok-below.ensures.outcome
 
 pub returns-clause-kept : goal.returns-clause-kept
 returns-clause-kept g c pages m tree is =
