@@ -31,7 +31,6 @@ use Rattle.im_smo_split.specs.Kept.{mild_to_split}
 use Rattle.im_engine_access.specs.declared.lock_answer.LockAnswer.{LockAnswer}
 use Rattle.im_engine_access.specs.declared.lock_answer.LockAnswer.TheVariants.{Granted, Wait, Die}
 use Rattle.im_engine_access.specs.declared.noted.Noted.{Noted}
-use Rattle.im_engine_access.specs.declared.noted.Taken.{Taken}
 use Rattle.im_engine.specs.declared.engine.Engine.{Engine}
 use Rattle.im_engine.specs.Accesses.{answer_in, as_seen, failed_in, rest_of, rows_in}
 use Rattle.im_engine.specs.Aims.{under_of}
@@ -141,7 +140,7 @@ module _ {D : Type 0} (d : Ghosts D) (t : ℕ) (key : Key) (rid : ℕ) (old : En
 
 module _ {D : Type 0} (d : Ghosts D) (t : ℕ) (key : Key) (old : Engine D d) (row : Transaction) (found : find (is_of t) old.txns.rows ≡ Some row) (checked : checked_by old.txns.rows (owns_in (under_of old.under) (Do t (Delete key))) (Do t (Delete key)) ≡ None) (plain : old.stepped ≡ false) where
   -- what the call below says of what it came to, and of what it left
-  pub record DeletesBelow (came : Result (LockAnswer (Option Taken)) Fault) (writer : PageWriter) (disk : D) (locks : Table) : Type 0 where
+  pub record DeletesBelow (came : Result (LockAnswer (Option Noted)) Fault) (writer : PageWriter) (disk : D) (locks : Table) : Type 0 where
     pub outcome : Logs d true mild old.writer old.disk writer disk (fault_of came)
     pub kept : deleting.Below d old t key row found checked (plain_under d old plain) locks writer disk came
     pub table : IfErr came (λ e. e ≡ Memory → SameTable old.locks locks)
@@ -151,22 +150,22 @@ module _ {D : Type 0} (d : Ghosts D) (t : ℕ) (key : Key) (old : Engine D d) (r
     drop_fixed : fixed_of d new ≡ fixed_of d old
     drop_fixed = rest_fixed d new writer disk locks (fixed_of d old) old.room.items rest
 
-    abbrev Dropped : Result (LockAnswer (Option Taken)) Fault → Type 0
+    abbrev Dropped : Result (LockAnswer (Option Noted)) Fault → Type 0
     Dropped came = DeletesBelow came new.writer new.disk new.locks
 
     drop_answered : (reply : Reply) → ((x : Fault) → reply ≢ replies.Refused x) → IsAnswered d (Do t (Delete key)) reply old new
     drop_answered reply not = behind d old new.writer.log new.disk works (Do t (Delete key)) reply checked (λ fault. not_refused_for d old new.writer.log new.disk works (DeleteCause d new.writer.log new.disk) reply not fault)
 
-    drop_wants : (o : LockAnswer (Option Taken)) → Dropped (Ok o) → (reply : Reply) → reply ≢ replies.More → ((x : Fault) → reply ≢ replies.Refused x) → (b : Base) (before : List Effect) (s : Shown) (v : View) (r : IsRunning d b before s v old) → WantsHere d b before s v r (Do t (Delete key)) reply new
+    drop_wants : (o : LockAnswer (Option Noted)) → Dropped (Ok o) → (reply : Reply) → reply ≢ replies.More → ((x : Fault) → reply ≢ replies.Refused x) → (b : Base) (before : List Effect) (s : Shown) (v : View) (r : IsRunning d b before s v old) → WantsHere d b before s v r (Do t (Delete key)) reply new
     drop_wants o has reply no_more not b before s v r = deleting.no_wants old.stepped plain _ _ _ _ _ _ _ (not faults.Failed) no_more
 
-    drop_made : (x : Option Taken) → Dropped (Ok (Granted x)) → new.failed ≡ false → (taken : Taken) → x ≡ Some taken → new.txns ≡ record old.txns { rows = map (changed t (with_taken taken.last taken.undo_next)) old.txns.rows } → IsMade d (Do t (Delete key)) replies.Deleted old new
+    drop_made : (x : Option Noted) → Dropped (Ok (Granted x)) → new.failed ≡ false → (taken : Noted) → x ≡ Some taken → new.txns ≡ record old.txns { rows = map (changed t (with_taken taken.last taken.undo_next)) old.txns.rows } → IsMade d (Do t (Delete key)) replies.Deleted old new
     drop_made x has on taken some table =
         exit_made d t (Delete key) old new works drop_fixed replies.Deleted (record { stays = λ k. refl; late = refl; answered = refl; number = tt; suits = refl; at_once = λ _. refl; grouped = tt }) (ap besides_rows table) (ap (λ (z : Numbered). length z.rows) table ∙ length-map old.txns.rows (changed t (with_taken taken.last taken.undo_next))) on has.outcome.ends.alive has.outcome.frames
         (λ before s v life. deleting.delete_made d old t key row found checked (plain_under d old plain) new drop_same before s v (life.running works).1 (Granted x) has.kept x refl taken some table on)
         (drop_answered replies.Deleted (λ y e. cc e)) (paced_alone d (Do t (Delete key)) replies.Deleted old new drop_same (λ e. (let clash : answers.Deleted ≡ answers.BlockedTree = e in cc clash)) plain) (drop_wants (Granted x) has replies.Deleted (λ e. cc e) (λ y e. cc e))
 
-    drop_needless : (x : Option Taken) → Dropped (Ok (Granted x)) → new.failed ≡ false → x ≡ None → new.txns ≡ old.txns → IsMade d (Do t (Delete key)) replies.Absent old new
+    drop_needless : (x : Option Noted) → Dropped (Ok (Granted x)) → new.failed ≡ false → x ≡ None → new.txns ≡ old.txns → IsMade d (Do t (Delete key)) replies.Absent old new
     drop_needless x has on none table =
         exit_made d t (Delete key) old new works drop_fixed replies.Absent (record { stays = λ k. refl; late = refl; answered = refl; number = tt; suits = refl; at_once = λ _. refl; grouped = tt }) (ap besides_rows table) (ap (λ (z : Numbered). length z.rows) table) on has.outcome.ends.alive has.outcome.frames
         (λ before s v life. deleting.delete_absent d old t key row found checked (plain_under d old plain) new drop_same before s v (life.running works).1 (Granted x) has.kept x refl none table on)
@@ -192,18 +191,18 @@ module _ {D : Type 0} (d : Ghosts D) (t : ℕ) (key : Key) (old : Engine D d) (r
         (paced_alone d (Do t (Delete key)) (replies.Refused (told_as f)) old new drop_same (λ e. (let clash : answers.Refused (number_of (told_as f)) ≡ answers.BlockedTree = e in cc clash)) plain)
         (λ b before s v r. deleting.delete_wants d old t key row found checked (plain_under d old plain) new.locks new.writer new.disk before s v r plain f has.kept has.outcome.ends (told_as f) refl)
 
-    module _ (came : Result (LockAnswer (Option Taken)) Fault) (has : DeletesBelow came writer disk locks) (sight : Result (Sight (LockAnswer (Option Taken))) Fault) (seen : sight ≡ as_seen came) (fails : new.failed ≡ failed_in sight) where
+    module _ (came : Result (LockAnswer (Option Noted)) Fault) (has : DeletesBelow came writer disk locks) (sight : Result (Sight (LockAnswer (Option Noted))) Fault) (seen : sight ≡ as_seen came) (fails : new.failed ≡ failed_in sight) where
       drop_here : OfSeen Dropped sight
       drop_here = of_seen Dropped came sight seen (rest_here d new writer disk locks (fixed_of d old) old.room.items rest (DeletesBelow came) has)
 
       -- the key went
-      pub delete_granted : (x : Option Taken) → Ok x ≡ answer_in sight → (taken : Taken) → x ≡ Some taken → (mid : Numbered) → mid ≡ record old.txns { rows = rows_in t sight old.txns.rows } → new.txns ≡ record mid { rows = map (changed t (with_taken taken.last taken.undo_next)) mid.rows } → IsMade d (Do t (Delete key)) replies.Deleted old new
+      pub delete_granted : (x : Option Noted) → Ok x ≡ answer_in sight → (taken : Noted) → x ≡ Some taken → (mid : Numbered) → mid ≡ record old.txns { rows = rows_in t sight old.txns.rows } → new.txns ≡ record mid { rows = map (changed t (with_taken taken.last taken.undo_next)) mid.rows } → IsMade d (Do t (Delete key)) replies.Deleted old new
       delete_granted x so taken some mid is table =
           let at = granted_at d t (Delete key) old new (OfSeen Dropped) sight drop_here fails x so in
           drop_made x at.0 at.1 taken some (noted_rows old.txns mid new.txns (rows_in t sight old.txns.rows) (changed t (with_taken taken.last taken.undo_next)) at.2 is table)
 
       -- it is not there
-      pub delete_needless : (x : Option Taken) → Ok x ≡ answer_in sight → x ≡ None → new.txns ≡ record old.txns { rows = rows_in t sight old.txns.rows } → IsMade d (Do t (Delete key)) replies.Absent old new
+      pub delete_needless : (x : Option Noted) → Ok x ≡ answer_in sight → x ≡ None → new.txns ≡ record old.txns { rows = rows_in t sight old.txns.rows } → IsMade d (Do t (Delete key)) replies.Absent old new
       delete_needless x so none table =
           let at = granted_at d t (Delete key) old new (OfSeen Dropped) sight drop_here fails x so in
           drop_needless x at.0 at.1 none (same_rows old.txns new.txns (rows_in t sight old.txns.rows) at.2 table)

@@ -32,7 +32,7 @@ use Rattle.im_base_types.specs.declared.fault.Fault.TheVariants as faults
 use Rattle.im_base_steps.specs.declared.reply.Reply.TheVariants as replies
 use Rattle.im_base_types.specs.Faults.{number_of}
 use Rattle.im_theory_steps.specs.Checks.{checked_by}
-use Rattle.im_engine_access.specs.declared.noted.Taken.{Taken}
+use Rattle.im_engine_access.specs.declared.noted.Noted.{Noted}
 use Rattle.im_engine_access.specs.declared.lock_answer.LockAnswer.{LockAnswer}
 use Rattle.im_engine_access.specs.declared.lock_answer.LockAnswer.TheVariants.{Granted, Wait, Die}
 use Rattle.im_engine_access.specs.Edits.{MayEdit, DeleteKept, HasOne}
@@ -74,14 +74,14 @@ module _ {D : Type 0} (d : Ghosts D) (old : Engine D d) (t : ℕ) (key : Key) (r
 
   module _ (locks : Table) (w : PageWriter) (disk : D) where
     -- what the call below kept, whatever it stood on
-    abbrev pub Below : Result (LockAnswer (Option Taken)) Fault → Type 0
+    abbrev pub Below : Result (LockAnswer (Option Noted)) Fault → Type 0
     Below result = (b : Base) (base : ℕ) (s : Writer) (e : ℕ) → MayEdit d b base s e row.number row.last row.undo_next (Delete key) old.locks old.writer old.disk → DeleteKept d b base s e row.number row.last key old.locks locks old.disk w disk result
 
     module _ {b : Base} (before : List Effect) (s : Shown) (v : View) (r : IsRunning d b before s v old) where
-      abbrev pub Here : Result (LockAnswer (Option Taken)) Fault → Type 0
+      abbrev pub Here : Result (LockAnswer (Option Noted)) Fault → Type 0
       Here result = DeleteKept d b r.base r.now r.redo_end t row.last key old.locks locks old.disk w disk result
 
-      pub kept_here : (result : Result (LockAnswer (Option Taken)) Fault) → Below result → Here result
+      pub kept_here : (result : Result (LockAnswer (Option Noted)) Fault) → Below result → Here result
       kept_here result below =
           subst (λ (n : ℕ). DeleteKept d b r.base r.now r.redo_end n row.last key old.locks locks old.disk w disk result) number
           (below b r.base r.now r.redo_end (subst (λ (n : ℕ). MayEdit d b r.base r.now r.redo_end n row.last row.undo_next (Delete key) old.locks old.writer old.disk) (sym number) (may_edit d before s v old r t row found mark (nobody_owner d before s v old r plain t) plain (Delete key))))
@@ -103,38 +103,38 @@ module _ {D : Type 0} (d : Ghosts D) (old : Engine D d) (t : ℕ) (key : Key) (r
       delete_wants at_once f below ends told is = record { fails = delete_fails f below ends told is; at_once = λ clash. absurd (cc clash); begun = λ clash. absurd (cc clash) }
 
   module _ (new : Engine D d) (stays : new.under ≡ old.under) where
-    abbrev Of : Result (LockAnswer (Option Taken)) Fault → Type 0
+    abbrev Of : Result (LockAnswer (Option Noted)) Fault → Type 0
     Of result = Below new.locks new.writer new.disk result
 
     module _ {b : Base} (before : List Effect) (s : Shown) (v : View) (r : IsRunning d b before s v old) where
-      abbrev At : Result (LockAnswer (Option Taken)) Fault → Type 0
+      abbrev At : Result (LockAnswer (Option Noted)) Fault → Type 0
       At result = Here new.locks new.writer new.disk before s v r result
 
-      at : (result : Result (LockAnswer (Option Taken)) Fault) → Of result → At result
+      at : (result : Result (LockAnswer (Option Noted)) Fault) → Of result → At result
       at result below = kept_here new.locks new.writer new.disk before s v r result below
 
       -- it was made
-      pub delete_made : (o : LockAnswer (Option Taken)) → Of (Ok o) → (x : Option Taken) → o ≡ Granted x → (taken : Taken) → x ≡ Some taken → new.txns ≡ record old.txns { rows = map (changed t (with_taken taken.last taken.undo_next)) old.txns.rows } → new.failed ≡ false
+      pub delete_made : (o : LockAnswer (Option Noted)) → Of (Ok o) → (x : Option Noted) → o ≡ Granted x → (taken : Noted) → x ≡ Some taken → new.txns ≡ record old.txns { rows = map (changed t (with_taken taken.last taken.undo_next)) old.txns.rows } → new.failed ≡ false
           → StepKept d before s v (Do t (Delete key)) answers.Deleted old new
       delete_made o below x granted taken some table works_on =
-          let kept = subst (λ (y : LockAnswer (Option Taken)). At (Ok y)) (granted ∙ ap Granted some) (at (Ok o) below) in
+          let kept = subst (λ (y : LockAnswer (Option Noted)). At (Ok y)) (granted ∙ ap Granted some) (at (Ok o) below) in
           deleted d before s v old r t row found mark (nobody_owner d before s v old r plain t) key new fits taken kept.sound.1 kept.sound.0 plain stays table kept.stops works_on
 
       -- the key is not there
-      pub delete_absent : (o : LockAnswer (Option Taken)) → Of (Ok o) → (x : Option Taken) → o ≡ Granted x → x ≡ None → new.txns ≡ old.txns → new.failed ≡ false → StepKept d before s v (Do t (Delete key)) answers.Absent old new
+      pub delete_absent : (o : LockAnswer (Option Noted)) → Of (Ok o) → (x : Option Noted) → o ≡ Granted x → x ≡ None → new.txns ≡ old.txns → new.failed ≡ false → StepKept d before s v (Do t (Delete key)) answers.Absent old new
       delete_absent o below x granted none table works_on =
-          let kept = subst (λ (y : LockAnswer (Option Taken)). At (Ok y)) (granted ∙ ap Granted none) (at (Ok o) below) in
+          let kept = subst (λ (y : LockAnswer (Option Noted)). At (Ok y)) (granted ∙ ap Granted none) (at (Ok o) below) in
           unchanged d before s v old r t row found mark (nobody_owner d before s v old r plain t) (Delete key) new kept.stops fits stays (ap (dropped key) kept.sound.1.0) kept.sound.0 kept.sound.1.1 answers.Absent (ap (λ (y : Option ℕ). cond (is_some y) answers.Deleted answers.Absent) kept.sound.1.0) table works_on
 
       -- it has to wait, or its transaction must die
-      pub delete_waits : (o : LockAnswer (Option Taken)) → Of (Ok o) → (holder : ℕ) → o ≡ Wait holder → new.txns ≡ old.txns → new.failed ≡ false → StepKept d before s v (Do t (Delete key)) (answers.Blocked holder) old new
+      pub delete_waits : (o : LockAnswer (Option Noted)) → Of (Ok o) → (holder : ℕ) → o ≡ Wait holder → new.txns ≡ old.txns → new.failed ≡ false → StepKept d before s v (Do t (Delete key)) (answers.Blocked holder) old new
       delete_waits o below holder is table works_on =
-          let kept = subst (λ (y : LockAnswer (Option Taken)). At (Ok y)) is (at (Ok o) below) in
+          let kept = subst (λ (y : LockAnswer (Option Noted)). At (Ok y)) is (at (Ok o) below) in
           blocked d before s v old r t row found mark (nobody_owner d before s v old r plain t) (Delete key) new kept.stops fits stays holder kept.sound.0 kept.sound.1 table works_on
 
-      pub delete_dies : (o : LockAnswer (Option Taken)) → Of (Ok o) → o ≡ Die → new.txns ≡ record old.txns { rows = map (changed t (with_mark MustRollBack)) old.txns.rows } → new.failed ≡ false → StepKept d before s v (Do t (Delete key)) answers.Die old new
+      pub delete_dies : (o : LockAnswer (Option Noted)) → Of (Ok o) → o ≡ Die → new.txns ≡ record old.txns { rows = map (changed t (with_mark MustRollBack)) old.txns.rows } → new.failed ≡ false → StepKept d before s v (Do t (Delete key)) answers.Die old new
       delete_dies o below is table works_on =
-          let kept = subst (λ (y : LockAnswer (Option Taken)). At (Ok y)) is (at (Ok o) below) in
+          let kept = subst (λ (y : LockAnswer (Option Noted)). At (Ok y)) is (at (Ok o) below) in
           died d before s v old r t row found mark (nobody_owner d before s v old r plain t) (Delete key) new kept.stops fits stays kept.sound.0 kept.sound.1 table works_on
 
     -- a call below refused it

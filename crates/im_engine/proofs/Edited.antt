@@ -1,5 +1,5 @@
 -- Steps that change a key: what their calls below ask, what a stop within them leaves, and the engine after them.
-use Rattle.std.proofs.Common.{◌≡◌, ◌≢◌, inl, inr, ℕ, ◌≤◌, ◌<◌, ◌^◌, List, [], ◌∷◌, true, false, cond, is_some, Option, Some, None, map, refl, sym, ap, subst, ◌∙◌}
+use Rattle.std.proofs.Common.{◌≡◌, ◌≢◌, ⊎_elim, inl, inr, ℕ, ◌≤◌, ◌<◌, ◌^◌, List, [], ◌∷◌, true, false, cond, is_some, Option, Some, None, map, refl, sym, ap, subst, ◌∙◌}
 use Rattle.std.specs.Prelude.{find}
 use Rattle.im_base_types.specs.Answers as answers
 use Rattle.im_base_types.specs.Answers.{Access, Blocked, Commit, Delete, Die, Do, Refused, Reply, answer, changes}
@@ -13,12 +13,12 @@ use Rattle.im_theory_log.specs.Lawful.{IsLawful}
 use Rattle.im_theory_log.specs.Lawful as lawful
 use Rattle.im_base_types.specs.Maps.{IndexMap}
 use Rattle.im_base_types.specs.Records.{What, InsertKey, DeleteKey, UndoInsert, UndoDelete, Smo, UndoSmo, DummyClr, Commit as CommitRecord, End, Image, Checkpoint, Unreadable, Logged}
-use Rattle.im_theory_log.specs.Structure.{open_smo}
+use Rattle.im_theory_log.specs.Structure.{open_smo, settled}
 use Rattle.im_theory_log.specs.Transactions.{contents, last_of, undo_next_of}
 use Rattle.im_theory_log.specs.Writer.{Writer}
 use Rattle.im_base_types.specs.Lives.{Asked, Shown, shows}
 use Rattle.im_theory_log.specs.Copies as copies
-use Rattle.im_theory_log.proofs.Fronts.{lawful_front}
+use Rattle.im_theory_log.proofs.Fronts.{has_tree, lawful_front}
 use Rattle.im_base_disk.specs.declared.disk.Disk.{Ghosts}
 use Rattle.im_base_disk.specs.Disk.{Files}
 use Rattle.im_base_disk.specs.Runs.{LeavesOnly}
@@ -30,7 +30,7 @@ use Rattle.im_page_writer.specs.PageWriter.{Evicted}
 use Rattle.im_theory_tree.specs.Good.{AllOf}
 use Rattle.im_theory_tree.specs.Theory.{page_tree}
 use Rattle.im_theory_tree.proofs.TheoryLaws.{page_tree_laws}
-use Rattle.im_smo_log.specs.Changes.{IsOfChange, GrowsByChange}
+use Rattle.im_smo_log.specs.Changes.{IsOfChange, GrowsByChange, HasRecordOf}
 use Rattle.im_smo_actions.specs.Structure.{IsUnfinished}
 use Rattle.im_base_txn.specs.declared.transaction.Mark.TheVariants.{Going, MustRollBack}
 use Rattle.im_base_txn.specs.declared.transaction.Transaction.{Transaction}
@@ -54,10 +54,10 @@ use Rattle.im_theory_steps.specs.Steps.{IsOnTheWay, key_record, with_made}
 use Rattle.im_theory_steps.specs.Durable.{AreCommitted}
 use Rattle.im_theory_steps.proofs.Cited.{asks_nothing, dies_ask_nothing, waits_ask_nothing, commits_stand, copies_are_images, images_change_nothing, numbers_stay_new, within_leaves_others, deletes_served, granted_keys_free, at, dies_served, mark_free, reads_served, structure_keeps, waits_served, ways_lead_on}
 use Rattle.im_engine_access.specs.KeyLogs.{LeftByEdit, LeavesEdit}
-use Rattle.im_engine_access.specs.Edits.{MayEdit, Deleted}
-use Rattle.im_engine_access.specs.declared.noted.Taken.{Taken}
+use Rattle.im_engine_access.specs.Edits.{MayEdit, Deleted, HasOne}
+use Rattle.im_engine_access.specs.declared.noted.Noted.{Noted}
 use Rattle.im_engine_access.proofs.KeyLogs.{grows_within}
-use Rattle.im_engine_access.proofs.Deletes.{within_then}
+use Rattle.im_engine_access.proofs.Deletes.{more_is_not_one, within_then}
 use Rattle.im_smo_actions.proofs.Growth.{images_as_change}
 use Rattle.im_engine.specs.declared.engine.Engine.{Engine}
 use Rattle.im_engine.specs.Numbered.{Numbered}
@@ -197,7 +197,7 @@ module _ {D : Type 0} (d : Ghosts D) {b : Base} (before : List Effect) (s : Show
     edited stops works adds = step_made d before s v (Do t a) (answer a v.walk) old new w served.0 edited_runs works (leaves_as d before s (shows s (Do t a) None) old.disk new.disk refl (edit_stops new.disk stops)) tt r adds
 
   -- a key that went
-  module _ (key : Key) (new : Engine D d) (fits : keys_fit (Delete key) ≡ true) (taken : Taken) (is : Deleted d b r.base r.now r.redo_end t row.last key taken new.writer new.disk) (decides : Decides old.locks t (asked (Delete key) (contents b r.now.log)) Granted new.locks)
+  module _ (key : Key) (new : Engine D d) (fits : keys_fit (Delete key) ≡ true) (taken : Noted) (is : Deleted d b r.base r.now r.redo_end t row.last key taken new.writer new.disk) (decides : Decides old.locks t (asked (Delete key) (contents b r.now.log)) Granted new.locks)
       (plain : old.under ≡ None) (stays : new.under ≡ old.under) where
     abbrev newest : Logged
     newest = key_record t row.last taken.undo_next is.page (DeleteKey key is.rid)
@@ -241,8 +241,11 @@ module _ {D : Type 0} (d : Ghosts D) {b : Base} (before : List Effect) (s : Show
         let with_record_of : GrowsWithin t r.now.log mid = record { more = newest ∷ images.more; is = ap (λ (l : History). newest ∷ l) images.is; within = (inr (refl, refl), images.within) } in
         within_then t r.now.log mid is.now.log with_record_of (grows_within t mid is.now.log is.change)
 
+    some : HasOne (settled b r.now.log) key → HasRecordOf t is.change.more
+    some one = ⊎_elim (λ more. absurd (more_is_not_one (settled b r.now.log) key (has_tree b page_tree r.now.log r.lawful).good more one)) (λ has. has) is.ended
+
     drops : DropsKey b t key r.now.log is.now.log
-    drops = record { before = is.before; images = is.images; rid = is.rid; last = row.last; lsn = taken.undo_next; page = is.page; change = is.change; only = is.only }
+    drops = record { before = is.before; images = is.images; rid = is.rid; last = row.last; lsn = taken.undo_next; page = is.page; change = is.change; only = is.only; some = some }
 
     pub deleted : new.txns ≡ record old.txns { rows = map (changed t (with_taken taken.last taken.undo_next)) old.txns.rows } → LeavesEdit d b r.base r.now t old.disk new.disk → new.failed ≡ false
         → StepKept d before s v (Do t (Delete key)) answers.Deleted old new

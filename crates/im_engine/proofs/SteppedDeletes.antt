@@ -58,7 +58,8 @@ use Rattle.im_engine.specs.Told.{DeleteCause, DeleteWants, IsAnswered, IsMade, f
 use Rattle.im_engine.proofs.Answered.{IsPlain, exit_made}
 use Rattle.im_engine.proofs.Causes.{behind, delete_cause, not_refused_for, refused_for, refused_inj}
 use Rattle.im_engine.proofs.Edited.{blocked, died, edit_refused, failed_as, unchanged}
-use Rattle.im_engine.proofs.SteppedDeleting.{Below, Here, begun_made, fits, kept_here, more_is_not_one, taken_made}
+use Rattle.im_engine_access.proofs.Deletes.{more_is_not_one}
+use Rattle.im_engine.proofs.SteppedDeleting.{Below, Here, begun_made, fits, kept_here, taken_made}
 use Rattle.im_engine.proofs.SteppedEdits.{by_itself, its_mark, walk_of}
 use Rattle.im_engine.proofs.SteppedExits.{barred_seen, hides, paced_by}
 use Rattle.im_engine.proofs.SteppedMade.{left_by_edit, tree_made}

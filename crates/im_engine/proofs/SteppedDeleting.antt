@@ -1,6 +1,6 @@
 -- A delete of a key beside a structure change, or with one that begins, from how the call below ended.
-use Rattle.std.proofs.Common.{◌≡◌, ◌≢◌, inl, inr, ℕ, ◌≤◌, ◌<◌, List, [], ◌∷◌, true, false, length, Option, Some, None, Result, map, refl, sym, ap, subst, ◌∙◌, arith}
-use Rattle.std.specs.Prelude.{◌⊎◌, find}
+use Rattle.std.proofs.Common.{◌≡◌, ℕ, ◌≤◌, ◌<◌, List, [], ◌∷◌, true, false, Option, Some, None, Result, map, refl, sym, ap, subst, ◌∙◌, arith}
+use Rattle.std.specs.Prelude.{find}
 use Rattle.im_base_types.specs.Answers as answers
 use Rattle.im_base_types.specs.Answers.{Delete, Do}
 use Rattle.im_base_types.specs.Changes.{Effect}
@@ -14,8 +14,10 @@ use Rattle.im_base_txn.specs.declared.transaction.Transaction.{Transaction}
 use Rattle.im_theory_log.specs.Histories.{Base, History, end_of}
 use Rattle.im_theory_log.specs.Lawful as lawful
 use Rattle.im_theory_log.specs.Lawful.{IsLawful}
+use Rattle.im_theory_log.specs.Structure.{settled}
 use Rattle.im_theory_log.specs.Transactions.{contents}
 use Rattle.im_theory_log.specs.Writer.{Writer}
+use Rattle.im_theory_log.proofs.Cited.{has_tree}
 use Rattle.im_theory_machine.specs.Machine.{keys_fit}
 use Rattle.im_theory_machine.specs.Rows.{asked}
 use Rattle.im_theory_machine.specs.Table.{Decides, lasting_of}
@@ -26,18 +28,15 @@ use Rattle.im_theory_steps.specs.Checks.{checked_by}
 use Rattle.im_theory_steps.specs.Serving.{IsServed}
 use Rattle.im_theory_steps.specs.Steps.{key_record, with_made}
 use Rattle.im_theory_steps.proofs.Cited.{deletes_begin, deletes_served}
-use Rattle.im_theory_tree.specs.Levels.{Pages}
-use Rattle.im_theory_tree.specs.Good.{IsGoodTree}
 use Rattle.im_theory_tree.specs.Theory.{page_tree}
 use Rattle.im_theory_tree.proofs.TheoryLaws.{page_tree_laws}
 use Rattle.im_tree_search.specs.declared.change_beside.Beside.{Beside}
 use Rattle.im_tree_search.specs.declared.sight.Sight.{Sight}
-use Rattle.im_smo_split.proofs.OneLeaf.{one_leaf}
 use Rattle.im_smo_actions.specs.declared.begun_change.BegunChange.{BegunChange}
 use Rattle.im_engine_access.specs.declared.begun.Deleting.{Deleting}
 use Rattle.im_engine_access.specs.declared.lock_answer.LockAnswer.{LockAnswer}
-use Rattle.im_engine_access.specs.Edits.{HasMore, HasOne}
 use Rattle.im_engine_access.specs.EditsBeside.{DeleteBegun, DeleteBesideKept, MayEditBeside, TakenBeside}
+use Rattle.im_engine_access.proofs.Deletes.{more_is_not_one}
 use Rattle.im_engine_access.specs.KeyLogs.{LeavesEdit}
 use Rattle.im_engine.specs.declared.engine.Engine.{Engine}
 use Rattle.im_engine.specs.declared.stepped.Aim.TheVariants.{Drops}
@@ -51,14 +50,6 @@ use Rattle.im_engine.proofs.Edited.{way_by_images}
 use Rattle.im_engine.proofs.SteppedEdits.{below_next, by_itself, decided_here, its_mark, its_number, key_changing, key_grows, key_law, may_edit_here}
 use Rattle.im_engine.proofs.SteppedMade.{left_by_edit, logged_made}
 use Rattle.im_engine.proofs.SteppedTold.{none_under}
-
--- a leaf that keeps another key is not left empty
-pub more_is_not_one : (pages : Pages) (key : Key) → IsGoodTree pages [] → HasMore pages key → HasOne pages key → ⊥
-more_is_not_one pages key good has one = by (subst (λ (p : ℕ). (p ≡ 1) ⊎ (length (pages p).entries ≢ 1)) (one_leaf pages [] key has.page one.page good has.way one.way) has.more)
-  where
-    by : (one.page ≡ 1) ⊎ (length (pages one.page).entries ≢ 1) → ⊥
-    by (inl root) = one.under root
-    by (inr other) = other one.one
 
 module _ {D : Type 0} (d : Ghosts D) (t : ℕ) (key : Key) (old new : Engine D d) (row : Transaction) (found : find (is_of t) old.txns.rows ≡ Some row) (checked : checked_by old.txns.rows (owns_in (under_of old.under) (Do t (Delete key))) (Do t (Delete key)) ≡ None)
     (beside : Beside) (told : IsBesideOf old.under beside) where
@@ -109,6 +100,7 @@ module _ {D : Type 0} (d : Ghosts D) (t : ℕ) (key : Key) (old new : Engine D d
         page = is.page;
         change = record { more = []; is = is.logged.is; all = tt };
         only = λ has. absurd has;
+        some = λ one. absurd (more_is_not_one (settled b r.now.log) key (has_tree b page_tree r.now.log r.lawful).good is.more one);
       }
 
       pub taken_made : LeavesEdit d b r.base r.now t old.disk new.disk → new.txns ≡ record old.txns { rows = map (changed t (with_made lsn)) old.txns.rows } → new.failed ≡ false → StepKept d before s v (Do t (Delete key)) answers.Deleted old new

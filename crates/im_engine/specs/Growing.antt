@@ -21,6 +21,7 @@ use Rattle.im_smo_actions.specs.DropPlan.{IsSpare}
 use Rattle.im_restart_undo.specs.Records.{GrowsByUndo, compensations}
 use Rattle.im_theory_steps.specs.Growth.{IsCheckpoint}
 use Rattle.im_theory_steps.specs.Steps.{commit_record, end_record, key_record}
+use Rattle.im_engine_access.specs.Edits.{HasOne}
 
 -- A key came: its record is the newest, after Images and, just where its leaf lacked room, a structure change of the transaction.
 pub record PutsKey (b : Base) (t : ℕ) (key : Key) (rid : ℕ) (older longer : History) : Type 0 where
@@ -33,7 +34,7 @@ pub record PutsKey (b : Base) (t : ℕ) (key : Key) (rid : ℕ) (older longer : 
   pub page : ℕ
   pub is : longer ≡ key_record t last lsn page (InsertKey key rid) ∷ between
 
--- A key went: its record is after Images, and in front of Images and, only where it left the key's leaf empty, a structure change of the transaction.
+-- A key went: its record is after Images, and in front of Images and, just where it left the key's leaf empty, which is not the root, a structure change of the transaction.
 pub record DropsKey (b : Base) (t : ℕ) (key : Key) (older longer : History) : Type 0 where
   pub before : History
   pub images : GrowsByImages b older before
@@ -43,6 +44,7 @@ pub record DropsKey (b : Base) (t : ℕ) (key : Key) (older longer : History) : 
   pub page : ℕ
   pub change : GrowsByChange t (key_record t last lsn page (DeleteKey key rid) ∷ before) longer
   pub only : HasRecordOf t change.more → IsSpare (bodies b (key_record t last lsn page (DeleteKey key rid) ∷ before)) key
+  pub some : HasOne (settled b older) key → HasRecordOf t change.more
 
 -- One change of the transaction was taken back: one compensation joined, with Images and structure changes of the transaction.
 pub record TakesOneBack (t : ℕ) (older longer : History) : Type 0 where

@@ -7,6 +7,7 @@ pub mod Planning
 pub mod Beside
 pub mod Comings
 pub mod NoneBeside
+mod DeletesAtOnce
 pub mod EditsBeside
 pub mod OwnChanges
 pub mod Leavings

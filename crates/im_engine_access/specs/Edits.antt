@@ -1,5 +1,5 @@
 -- What an insert or a delete of a transaction among many keeps.
-use Rattle.std.specs.Prelude.{◌≡◌, ◌≢◌, ◌⊎◌, ℕ, true, false, [], ◌∷◌, length, Option, None, Some, Result, IfOk, IfErr, Bool}
+use Rattle.std.specs.Prelude.{◌≡◌, ◌≢◌, ◌⊎◌, ℕ, [], ◌∷◌, length, Option, None, Some, Result, IfOk, IfErr, Bool}
 use Rattle.std.specs.FinMap.{get}
 use Rattle.im_base_types.specs.declared.fault.Fault.{Fault}
 use Rattle.im_base_types.specs.declared.fault.Fault.TheVariants.{Capacity, Failed, PagesFull}
@@ -11,6 +11,7 @@ use Rattle.im_theory_log.specs.Histories.{Base, History, IsFront}
 use Rattle.im_theory_log.specs.Copies.{GrowsByImages}
 use Rattle.im_theory_log.specs.Lawful as lawful
 use Rattle.im_theory_log.specs.LogLaws as logs
+use Rattle.im_theory_log.specs.Structure.{settled}
 use Rattle.im_theory_log.specs.Transactions.{contents}
 use Rattle.im_theory_log.specs.Writer.{Writer}
 use Rattle.im_base_disk.specs.declared.disk.Disk.{Ghosts}
@@ -23,7 +24,7 @@ use Rattle.im_tree_search.specs.Levels.{bodies}
 use Rattle.im_smo_log.specs.Changes.{GrowsByChange, HasRecordOf}
 use Rattle.im_smo_split.specs.Tops.{LacksRoomFor}
 use Rattle.im_smo_split.specs.Plan.{IsOver, IsWithin}
-use Rattle.im_smo_actions.specs.DropPlan.{IsSpare, IsKept}
+use Rattle.im_smo_actions.specs.DropPlan.{IsSpare}
 use Rattle.im_smo_actions.specs.Structure.{IsUnfinished, IsUsedUp}
 use Rattle.im_theory_machine.specs.Locks.{IsFree}
 use Rattle.im_theory_machine.specs.Rows.{asked}
@@ -33,7 +34,6 @@ use Rattle.im_theory_steps.specs.Steps.{key_record}
 use Rattle.im_engine_access.specs.declared.lock_answer.LockAnswer.{LockAnswer}
 use Rattle.im_engine_access.specs.declared.lock_answer.LockAnswer.TheVariants.{Granted, Wait, Die}
 use Rattle.im_engine_access.specs.declared.noted.Noted.{Noted}
-use Rattle.im_engine_access.specs.declared.noted.Taken.{Taken}
 use Rattle.im_engine_access.specs.LockAnswers.{verdict_of}
 use Rattle.im_engine_access.specs.KeyLogs.{LeavesEdit}
 
@@ -103,36 +103,29 @@ module _ {D : Type 0} (d : Ghosts D) (b : Base) (base : ℕ) where
   -- ---- a key that goes
 
   -- Its record joined the log, after Images; after it Images and a structure change of the transaction, where that took the key's leaf out of the tree, which it had left empty. No leaf
-  -- stays that it left empty, unless the answer says so.
-  pub record Deleted (s : Writer) (e t last : ℕ) (key : Key) (taken : Taken) (w : PageWriter) (disk : D) : Type 0 where
+  -- stays that it left empty.
+  pub record Deleted (s : Writer) (e t last : ℕ) (key : Key) (noted : Noted) (w : PageWriter) (disk : D) : Type 0 where
     pub rid : ℕ
     pub there : get (contents b s.log) key ≡ Some rid
     pub now : Writer
-    pub stands : IsUnfinished d b base now e t taken.last taken.undo_next w disk
+    pub stands : IsUnfinished d b base now e t noted.last noted.undo_next w disk
     pub point : now.point ≡ s.point
     pub durable : IsFront s.durable now.durable
     pub before : History
     pub images : GrowsByImages b s.log before
     pub page : ℕ
-    pub change : GrowsByChange t (key_record t last taken.undo_next page (DeleteKey key rid) ∷ before) now.log
-    pub only : HasRecordOf t change.more → IsSpare (logs.bodies b (key_record t last taken.undo_next page (DeleteKey key rid) ∷ before)) key
-    pub kept : taken.leaf_kept ≡ true → HasOne (bodies s) key
-    pub ended : taken.leaf_kept ≡ false → HasMore (bodies s) key ⊎ IsKept (logs.bodies b (key_record t last taken.undo_next page (DeleteKey key rid) ∷ before)) key ⊎ HasRecordOf t change.more
+    pub change : GrowsByChange t (key_record t last noted.undo_next page (DeleteKey key rid) ∷ before) now.log
+    pub only : HasRecordOf t change.more → IsSpare (logs.bodies b (key_record t last noted.undo_next page (DeleteKey key rid) ∷ before)) key
+    pub ended : HasMore (settled b s.log) key ⊎ HasRecordOf t change.more
 
-  -- what logging it and dropping its leaf keeps
-  pub record TakenKept (s : Writer) (e t last : ℕ) (key : Key) (old : D) (w : PageWriter) (disk : D) (result : Result Taken Fault) : Type 0 where
-    pub sound : IsSound result (λ taken. Deleted s e t last key taken w disk)
-    pub stops : LeavesEdit d b base s t old disk
-    pub begun : IfErr result (λ e. e ≡ Failed → HasOne (bodies s) key)
-
-  abbrev pub IsDelete : Writer → ℕ → ℕ → ℕ → Key → D → PageWriter → D → LockAnswer (Option Taken) → Type 0
+  abbrev pub IsDelete : Writer → ℕ → ℕ → ℕ → Key → D → PageWriter → D → LockAnswer (Option Noted) → Type 0
   IsDelete s e t last key old w disk (Granted None) = (get (contents b s.log) key ≡ None) × Evicted d b base s old w disk
-  IsDelete s e t last key old w disk (Granted (Some taken)) = Deleted s e t last key taken w disk
+  IsDelete s e t last key old w disk (Granted (Some noted)) = Deleted s e t last key noted w disk
   IsDelete s e t last key old w disk (Wait holder) = Evicted d b base s old w disk
   IsDelete s e t last key old w disk Die = Evicted d b base s old w disk
 
   -- What a delete keeps. `Failed` comes after the grant of the locks of a key that is there, where it was its leaf's only one or nothing but Images joined the log.
-  pub record DeleteKept (s : Writer) (e t last : ℕ) (key : Key) (held new : Table) (old : D) (w : PageWriter) (disk : D) (result : Result (LockAnswer (Option Taken)) Fault) : Type 0 where
+  pub record DeleteKept (s : Writer) (e t last : ℕ) (key : Key) (held new : Table) (old : D) (w : PageWriter) (disk : D) (result : Result (LockAnswer (Option Noted)) Fault) : Type 0 where
     pub sound : IsSound result (λ outcome. Decides held t (asked (Delete key) (contents b s.log)) (verdict_of outcome) new × IsDelete s e t last key old w disk outcome)
     pub stops : LeavesEdit d b base s t old disk
     pub begun : IfErr result (λ e. e ≡ Failed → (get (contents b s.log) key ≢ None) × Decides held t (asked (Delete key) (contents b s.log)) GrantedAll new × (HasOne (bodies s) key ⊎ Evicted d b base s old w disk))

@@ -16,8 +16,7 @@
 //! - `insert` searches the key's leaf, plans the split that it wants, asks its locks, and logs its key where they are granted, after that split. What it
 //!   logged is one record of the key, Images, and those of the split, which comes just where the leaf lacks room, within a limit of pages.
 //! - `delete` asks its locks, drops the key where they are granted, and takes out of the tree the leaf that it leaves empty. What it
-//!   logged is one record of the key, Images, and those of that structure change. A leaf stays empty only for want of memory, and the
-//!   answer says so.
+//!   logged is one record of the key, Images, and those of that structure change. No leaf stays that it leaves empty.
 //! - `insert_beside` and `delete_beside` are these for a store whose structure changes go on over several steps, beside another transaction's: one of
 //!   their own begins only where none is under way (`Inserting`, `Deleting`), and a page of another's is never changed. What bars them is told before
 //!   a lock is asked. `insert_end` closes a split that is all logged, and puts the key for which it was made.
@@ -47,7 +46,7 @@ pub use inserting::insert;
 pub use inserting_beside::{insert_beside, insert_end};
 pub use lock_answer::LockAnswer;
 pub use logging::{log_delete, log_insert};
-pub use noted::{Noted, Taken};
+pub use noted::Noted;
 pub use place::Place;
 pub use reads::{fetch, prev, seek};
 pub use scans::scan;

@@ -8,12 +8,3 @@ pub struct Noted {
     pub last: Lsn,
     pub undo_next: Lsn,
 }
-
-/// The same of a delete.
-#[derive(Clone, Copy, Debug, PartialEq, Eq)]
-pub struct Taken {
-    pub last: Lsn,
-    pub undo_next: Lsn,
-    /// Whether the key's leaf, left empty, stays in the tree for want of memory.
-    pub leaf_kept: bool,
-}

@@ -34,8 +34,7 @@ use Rattle.im_smo_split.specs.Plan.{Planned, WantsPages}
 use Rattle.im_smo_split.specs.Tops.{LacksRoomFor}
 use Rattle.im_smo_split.specs.declared.split_plan.SplitPlan.{SplitPlan}
 use Rattle.im_smo_split.proofs.OneLeaf.{one_leaf}
-use Rattle.im_smo_actions.proofs.Changes.{runs_out}
-use Rattle.im_smo_actions.proofs.DropPlans.{reads_never_short}
+use Rattle.im_smo_actions.proofs.Changes.{reads_never_short, runs_out}
 use Rattle.im_smo_actions.proofs.Told.{none_made}
 use Rattle.im_smo_actions.specs.GoingBeside.{is_planned, HasWholeTreeBut}
 use Rattle.im_restart_undo.specs.Undoing.{UsesUp, WantsRoom}

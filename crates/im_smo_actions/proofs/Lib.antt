@@ -1,5 +1,4 @@
 pub mod Growth
 pub mod Standing
-pub mod DropPlans
 pub mod Changes
 pub mod Told

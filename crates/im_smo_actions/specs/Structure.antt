@@ -1,26 +1,20 @@
--- How a transaction stands between two structure changes, and what those keep that a key asks for.
-use Rattle.std.specs.Prelude.{◌≡◌, ◌⊎◌, ◌-◌, ◌^◌, ℕ, false, [], Option, Some, None, Result, IfErr, IfOk, Bool}
-use Rattle.im_base_types.specs.declared.fault.Fault.{Fault}
-use Rattle.im_base_types.specs.declared.fault.Fault.TheVariants.{Failed, Memory}
-use Rattle.im_base_types.specs.declared.page_kind.PageKind.TheVariants.{Free}
+-- How a transaction stands between two structure changes, and after one of its own.
+use Rattle.std.specs.Prelude.{◌≡◌, ◌⊎◌, ◌-◌, ◌^◌, ℕ, false, [], Some, Bool}
 use Rattle.im_base_types.specs.Keys.{Key}
 use Rattle.im_theory_log.specs.Histories.{Base, IsFront}
-use Rattle.im_theory_log.specs.Copies.{GrowsByImages}
 use Rattle.im_theory_log.specs.Lawful.{IsLawful}
 use Rattle.im_theory_log.specs.Structure.{open_smo}
 use Rattle.im_theory_log.specs.Transactions.{last_of, undo_next_of, is_finished}
 use Rattle.im_theory_log.specs.Writer.{Writer}
 use Rattle.im_base_disk.specs.declared.disk.Disk.{Ghosts}
 use Rattle.im_page_writer.specs.declared.page_writer.PageWriter.{PageWriter}
-use Rattle.im_page_writer.specs.Outcome.{IsSound}
-use Rattle.im_page_writer.specs.PageWriter.{StandsAs, Evicted}
+use Rattle.im_page_writer.specs.PageWriter.{StandsAs}
 use Rattle.im_theory_tree.specs.Levels.{Pages, height, walk}
 use Rattle.im_theory_tree.specs.Theory.{page_tree}
 use Rattle.im_tree_search.specs.Levels.{bodies}
-use Rattle.im_smo_log.specs.Changes.{GrowsByChange, HasRecordOf, LeavesChange, Begun}
+use Rattle.im_smo_log.specs.Changes.{GrowsByChange}
 use Rattle.im_smo_split.specs.PendingSplits.{SplitsDown}
 use Rattle.im_smo_split.specs.Plan.{IsOver}
-use Rattle.im_smo_actions.specs.DropPlan.{IsSpare, IsKept}
 
 -- Page numbers would be used up by the pages that the split of the key's leaf takes, dense or not, or levels are: the root is of the last one, and has to be split.
 abbrev pub IsUsedUp : Bool → Pages → Key → Type 0
@@ -45,30 +39,3 @@ module _ {D : Type 0} (d : Ghosts D) (b : Base) (base : ℕ) where
     pub durable : IsFront s.durable now.durable
     pub grows : GrowsByChange t s.log now.log
     pub same : walk (bodies now) ≡ walk (bodies s)
-
-  -- ---- an empty leaf
-
-  -- The key's leaf was spare, and its page is free after a structure change; or it was not, and Images alone joined.
-  pub record Dropped (s : Writer) (e t last undo_next : ℕ) (key : Key) (w : PageWriter) (disk : D) : Type 0 where
-    pub made : Restructured s e t last undo_next w disk
-    pub gone : (spare : IsSpare (bodies s) key) → (bodies made.now spare.page).kind ≡ Free
-    pub either : (IsKept (bodies s) key × GrowsByImages b s.log made.now.log) ⊎ (IsSpare (bodies s) key × HasRecordOf t made.grows.more)
-
-  -- what the deletion of a key's leaf keeps; `Failed` comes after a record, and `Memory` only where the leaf is to go
-  pub record SpareKept (s : Writer) (e t undo_next : ℕ) (key : Key) (old : D) (w : PageWriter) (disk : D) (result : Result ℕ Fault) : Type 0 where
-    pub sound : IsSound result (λ last. Dropped s e t last undo_next key w disk)
-    pub stops : LeavesChange d b base s t old disk
-    pub begun : IfErr result (λ e. e ≡ Failed → Begun d b base s t w disk)
-    pub wants : IfErr result (λ e. e ≡ Memory → IsSpare (bodies s) key)
-
-  -- it is out of the tree, or stayed for want of memory, with all as it was
-  abbrev pub IsDropped : Writer → ℕ → ℕ → ℕ → Key → D → PageWriter → D → Option ℕ → Type 0
-  IsDropped s e t undo_next key old w disk None = Evicted d b base s old w disk
-  IsDropped s e t undo_next key old w disk (Some last) = Dropped s e t last undo_next key w disk
-
-  -- What that keeps where it may stay for want of memory, which is so only of a leaf that is to go. `Failed` comes after a record.
-  pub record DropKept (s : Writer) (e t undo_next : ℕ) (key : Key) (old : D) (w : PageWriter) (disk : D) (result : Result (Option ℕ) Fault) : Type 0 where
-    pub sound : IsSound result (IsDropped s e t undo_next key old w disk)
-    pub stops : LeavesChange d b base s t old disk
-    pub begun : IfErr result (λ e. e ≡ Failed → Begun d b base s t w disk)
-    pub left : IfOk result (λ last. last ≡ None → IsSpare (bodies s) key)

@@ -5,11 +5,12 @@ ghost use Rattle.im_theory_log.specs.Histories.{Base};
 ghost use Rattle.im_theory_log.specs.Writer.{Writer};
 ghost use Rattle.im_page_writer.specs.PageWriter.{IsReadyWriter, StandsAs};
 ghost use Rattle.im_page_writer.specs.Outcome.{fault_of, mild, Logs};
+ghost use Rattle.im_smo_log.specs.Changes.{ChangeKept, MayChange};
 ghost use Rattle.im_smo_log.specs.ChangePages.{numbers_of};
 ghost use Rattle.im_smo_log.specs.Stepping.{StepKept};
 
 use im_base_disk::Disk;
-use im_base_types::{Fault, PageNo};
+use im_base_types::{Fault, Lsn, PageNo};
 use im_page_writer::PageWriter;
 use im_smo_log::Change;
 use im_tree_search::Beside;
@@ -52,5 +53,15 @@ impl BegunChange {
         ensures plan { (self.new.change.images ≡ self.old.change.images) × (self.new.change.transaction ≡ self.old.change.transaction) × (self.new.change.undo_next ≡ self.old.change.undo_next) × (self.new.count ≡ self.old.count) }
     {
         self.change.step(writer, disk, true)
+    }
+    /// Logs all of it at once, as `Change::run` does, where no page of it is logged yet.
+    pub fn run<D: Disk>(&self, writer: &mut PageWriter, disk: &mut D) -> Result<Lsn, Fault>
+        requires ready { IsReadyWriter D.Disk writer.old disk.old }
+        requires working { writer.old.failed ≡ false }
+        ensures outcome { Logs D.Disk true mild writer.old disk.old writer.new disk.new (fault_of result) }
+        ensures kept { (b : Base) (base : ℕ) (s : Writer) (e : ℕ) → MayChange D.Disk b base s e self.now.change.images self.now.change.transaction self.now.change.last self.now.change.undo_next writer.old disk.old
+            → ChangeKept D.Disk b base s e self.now.change.images self.now.change.transaction self.now.change.undo_next disk.old writer.new disk.new result }
+    {
+        self.change.run(writer, disk)
     }
 }

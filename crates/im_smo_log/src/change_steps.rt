@@ -1,19 +1,19 @@
 //! The steps of a structure change that is made page by page, with records of others between its pages.
 
-ghost use Rattle.std.specs.Prelude.{◌≡◌, ◌<◌, ◌≤◌, ◌↔◌, ℕ, false, length, Some, IfErr, IfOk, IsTrue, OnErr};
+ghost use Rattle.std.specs.Prelude.{◌≡◌, ◌<◌, ◌≤◌, ◌↔◌, ℕ, false, true, length, Some, IfErr, IfOk, IsTrue, OnErr};
 ghost use Rattle.im_base_types.specs.declared.fault.Fault.TheVariants.{Memory};
 ghost use Rattle.im_theory_log.specs.Histories.{Base};
 ghost use Rattle.im_theory_log.specs.Writer.{Writer};
 ghost use Rattle.im_page_writer.specs.PageWriter.{IsReadyWriter, StandsAs};
 ghost use Rattle.im_page_writer.specs.Outcome.{fault_of, mild, none_mild, Logs};
-ghost use Rattle.im_smo_log.specs.Changes.{AreCounted};
+ghost use Rattle.im_smo_log.specs.Changes.{AreCounted, ChangeKept, MayChange};
 ghost use Rattle.im_smo_log.specs.ChangePages.{numbers_of};
 ghost use Rattle.im_smo_log.specs.Stepping.{StepKept, CloseKept};
 
 use crate::change::Change;
 use crate::page_record::{log_closing, log_image};
 use crate::plan_numbers::page_numbers;
-use crate::structure_change::are_counted;
+use crate::structure_change::{are_counted, run};
 use im_base_disk::Disk;
 use im_base_types::{Fault, Lsn, PageNo, TxnId};
 use im_page_writer::PageWriter;
@@ -98,6 +98,25 @@ impl Change {
             → CloseKept D.Disk b base s self.now disk.old writer.new disk.new result }
     {
         log_closing(writer, disk, self.transaction, self.last, self.undo_next)
+    }
+
+    /// Logs all of it at once, as `run` does, where no page of it is logged yet. It answers the LSN of the record that closes it, and is refused as
+    /// `run` is.
+    pub fn run<D: Disk>(&self, writer: &mut PageWriter, disk: &mut D) -> Result<Lsn, Fault>
+        requires ready { IsReadyWriter D.Disk writer.old disk.old }
+        requires working { writer.old.failed ≡ false }
+        ensures outcome { Logs D.Disk true mild writer.old disk.old writer.new disk.new (fault_of result) }
+        ensures kept { (b : Base) (base : ℕ) (s : Writer) (e : ℕ) → MayChange D.Disk b base s e self.now.images self.now.transaction self.now.last self.now.undo_next writer.old disk.old
+            → ChangeKept D.Disk b base s e self.now.images self.now.transaction self.now.undo_next disk.old writer.new disk.new result }
+    {
+        run(
+            writer,
+            disk,
+            &self.images,
+            self.transaction,
+            self.last,
+            self.undo_next,
+        )
     }
 
     /// Whether a page of it is still to be logged.

@@ -4,7 +4,7 @@ use Rattle.im_tree_search.proofs.Sighted.{some_done}
 use Rattle.im_restart_undo.proofs.PlaceCalls.{place_held}
 use Rattle.im_restart_undo.proofs.Plans.{leaf_seen, whole_but_still}
 use Rattle.im_restart_undo.proofs.place.leaf_with.Goals as goal
-use Rattle.im_smo_actions.proofs.DropPlans.{none_of}
+use Rattle.im_smo_actions.proofs.Changes.{none_of}
 
 pub returns-then-is_done-clause-outcome : goal.returns-then-is_done-clause-outcome
 returns-then-is_done-clause-outcome g c = idle g.D.Disk g.met.D.Disk.only_now c.args.writer.now c.args.disk.now c.requires.working c.requires.ready

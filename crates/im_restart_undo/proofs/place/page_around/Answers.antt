@@ -7,7 +7,7 @@ use Rattle.im_restart_undo.specs.Place.{HasGap}
 use Rattle.im_restart_undo.proofs.PlaceLaws.{way_of_gap}
 use Rattle.im_restart_undo.proofs.PlaceCalls.{lent_says, way_held}
 use Rattle.im_restart_undo.proofs.place.page_around.Goals as goal
-use Rattle.im_smo_actions.proofs.DropPlans.{none_of}
+use Rattle.im_smo_actions.proofs.Changes.{none_of}
 
 pub returns-in_err-frame-clause-kept : goal.returns-in_err-frame-clause-kept
 returns-in_err-frame-clause-kept g c pages whole = sound_on c.from_residual.result _ _ c.from_residual.ensures.1 (c.in_err-frame.ensures.kept pages whole)
