@@ -1,5 +1,5 @@
 -- An insert that is laid down beside a structure change of another: what it asks, what bars it, and what is kept of it.
-use Rattle.std.proofs.Common.{◌≡◌, ◌≢◌, ◌⊎◌, inl, inr, ⊎_elim, ◌≤◌, ℕ, true, false, Bool, List, [], length, None, Some, Option, Result, Ok, Err, refl, sym, ◌∙◌, ap, subst, ◌==◌}
+use Rattle.std.proofs.Common.{◌≡◌, ◌≢◌, ◌⊎◌, inl, inr, ⊎_elim, ◌≤◌, ℕ, true, false, Bool, List, [], length, None, Some, Option, Result, Ok, Err, refl, sym, ◌∙◌, ap, subst, ◌==◌, arith}
 use Rattle.std.specs.Prelude.{IsErrAnd}
 use Rattle.std.specs.FinMap.{entries, get}
 use Rattle.std.specs.FinMap.Entries.{find}
@@ -32,29 +32,24 @@ use Rattle.im_tree_search.specs.Found.{IsReached}
 use Rattle.im_tree_search.specs.Levels.{bodies_of}
 use Rattle.im_tree_search.specs.Sights.{HasTreeBut, IfSeen}
 use Rattle.im_smo_pages.specs.Images.{Numbered, IsRising}
-use Rattle.im_smo_split.specs.declared.split_plan.SplitPlan.{SplitPlan}
-use Rattle.im_smo_split.specs.Plan.{IsOver, Planned}
-use Rattle.im_smo_split.specs.Tops.{HasRoomFor, LacksRoomFor}
+use Rattle.im_smo_split.specs.Plan.{IsOver, IsWithin, Planned}
+use Rattle.im_smo_split.specs.Tops.{LacksRoomFor}
 use Rattle.im_smo_split.proofs.OneLeaf.{one_leaf}
 use Rattle.im_smo_split.proofs.Reasons.{never_pages_full}
 use Rattle.im_smo_actions.specs.declared.planned_change.PlannedChange.{PlannedChange}
 use Rattle.im_smo_actions.specs.GoingBeside.{is_planned}
 use Rattle.im_smo_actions.proofs.Told.{none_made}
 use Rattle.im_engine_access.specs.declared.change_plan.Coming.{Coming}
-use Rattle.im_engine_access.specs.declared.change_plan.Coming.TheVariants.{There, Fits, Splits, UsedUp}
+use Rattle.im_engine_access.specs.declared.change_plan.Coming.TheVariants.{There, Splits}
 use Rattle.im_engine_access.specs.declared.lock_answer.LockAnswer.{LockAnswer}
 use Rattle.im_engine_access.specs.declared.lock_answer.LockAnswer.TheVariants.{Granted, Wait, Die}
-use Rattle.im_engine_access.specs.declared.plan.Plan as plans
-use Rattle.im_engine_access.specs.declared.plan.Plan.{Plan}
 use Rattle.im_engine_access.specs.Barred.{Bars, IsBarred, TreeCause}
-use Rattle.im_engine_access.specs.ChangePlans.{asks_of, ComingKept, ComingPlanned, IsComing, IsComingDecided}
+use Rattle.im_engine_access.specs.ChangePlans.{asks_of, asks_row, begins, ComingKept, ComingPlanned, IsComing, IsComingDecided}
 use Rattle.im_engine_access.specs.Edits.{IsLimited}
-use Rattle.im_engine_access.specs.InsertPlans.{IsInsertPlan}
 use Rattle.im_engine_access.specs.LockAnswers.{verdict_of, IfGranted}
 use Rattle.im_engine_access.specs.LockCalls.{AsksLocks}
 use Rattle.im_engine_access.proofs.Calls.{decided_as}
 use Rattle.im_engine_access.proofs.Names.{found_is}
-use Rattle.im_engine_access.proofs.Planning.{limited_by}
 
 -- with none under way the pages are the settled ones
 pub alone_pages : {D : Type 0} (d : Ghosts D) (pages : AllPages) (beside : Beside) (w : PageWriter) (disk : D) → HasTreeBut d pages beside w disk → beside.pages.now ≡ [] → HasPages d AreLoaded pages w disk
@@ -62,49 +57,38 @@ alone_pages {D} d pages beside w disk but none = record { b = but.has.b; base = 
 
 -- ---- what it asks
 
--- where no change begins, what every insert asks
-pub asks_others : (coming : Coming) (key : Key) (rid : ℕ) (m : IndexMap) → ((plan : PlannedChange) (leaf : ℕ) → coming ≡ Splits plan leaf → ⊥) → asks_of coming key rid m ≡ asked (Insert key rid) m
-asks_others There key rid m not = refl
-asks_others (Fits page) key rid m not = refl
-asks_others (Splits plan leaf) key rid m not = absurd (not plan leaf refl)
-asks_others UsedUp key rid m not = refl
+-- who waits or dies has asked as an insert asks that ends at once
+asks_wait : (lasts : Bool) (old new : Table) (t holder : ℕ) (key : Key) (rid : ℕ) (m : IndexMap) → get m key ≡ None → Decides old t (asks_row lasts key rid m) (MustWait holder) new → Decides old t (asked (Insert key rid) m) (MustWait holder) new
+asks_wait true old new t holder key rid m none decides = begun_waits m key rid none old new t holder decides
+asks_wait false old new t holder key rid m none decides = decides
 
--- who waits or dies has asked that
-asks_wait : (coming : Coming) (old new : Table) (t holder : ℕ) (key : Key) (rid : ℕ) (m : IndexMap) → get m key ≡ None → Decides old t (asks_of coming key rid m) (MustWait holder) new → Decides old t (asked (Insert key rid) m) (MustWait holder) new
-asks_wait There old new t holder key rid m none decides = decides
-asks_wait (Fits page) old new t holder key rid m none decides = decides
-asks_wait (Splits plan leaf) old new t holder key rid m none decides = begun_waits m key rid none old new t holder decides
-asks_wait UsedUp old new t holder key rid m none decides = decides
-
-asks_die : (coming : Coming) (old new : Table) (t : ℕ) (key : Key) (rid : ℕ) (m : IndexMap) → get m key ≡ None → Decides old t (asks_of coming key rid m) MustDie new → Decides old t (asked (Insert key rid) m) MustDie new
-asks_die There old new t key rid m none decides = decides
-asks_die (Fits page) old new t key rid m none decides = decides
-asks_die (Splits plan leaf) old new t key rid m none decides = begun_dies m key rid none old new t decides
-asks_die UsedUp old new t key rid m none decides = decides
+asks_die : (lasts : Bool) (old new : Table) (t : ℕ) (key : Key) (rid : ℕ) (m : IndexMap) → get m key ≡ None → Decides old t (asks_row lasts key rid m) MustDie new → Decides old t (asked (Insert key rid) m) MustDie new
+asks_die true old new t key rid m none decides = begun_dies m key rid none old new t decides
+asks_die false old new t key rid m none decides = decides
 
 -- what the lock table decided, of a key that is not there
-pub coming_decided : (coming : Coming) (old new : Table) (t : ℕ) (key : Key) (rid : ℕ) (m : IndexMap) (row : List Request) (verdict : Verdict) (answer : LockAnswer Coming) → get m key ≡ None → Decides old t row verdict new → row ≡ asks_of coming key rid m
-    → verdict_of answer ≡ verdict → IfGranted answer (λ x. x ≡ coming) → IsComingDecided (λ x. x ≡ coming) old t key rid m new answer
-coming_decided coming old new t key rid m row verdict (Granted x) none decides is same value =
-    (subst (λ (c : Coming). Decides old t (asks_of c key rid m) GrantedAll new) (sym value) (decided_as old new t row (asks_of coming key rid m) verdict (Granted x) decides is same), value)
-coming_decided coming old new t key rid m row verdict (Wait holder) none decides is same value =
-    asks_wait coming old new t holder key rid m none (decided_as {X = Coming} old new t row (asks_of coming key rid m) verdict (Wait holder) decides is same)
-coming_decided coming old new t key rid m row verdict Die none decides is same value =
-    asks_die coming old new t key rid m none (decided_as {X = Coming} old new t row (asks_of coming key rid m) verdict Die decides is same)
+pub coming_decided : (stepped : Bool) (coming : Coming) (old new : Table) (t : ℕ) (key : Key) (rid : ℕ) (m : IndexMap) (row : List Request) (verdict : Verdict) (answer : LockAnswer Coming) → get m key ≡ None → Decides old t row verdict new → row ≡ asks_of stepped coming key rid m
+    → verdict_of answer ≡ verdict → IfGranted answer (λ x. x ≡ coming) → IsComingDecided stepped (λ x. x ≡ coming) old t key rid m new answer
+coming_decided stepped coming old new t key rid m row verdict (Granted x) none decides is same value =
+    (subst (λ (c : Coming). Decides old t (asks_of stepped c key rid m) GrantedAll new) (sym value) (decided_as old new t row (asks_of stepped coming key rid m) verdict (Granted x) decides is same), value)
+coming_decided stepped coming old new t key rid m row verdict (Wait holder) none decides is same value =
+    asks_wait (begins stepped coming) old new t holder key rid m none (decided_as {X = Coming} old new t row (asks_of stepped coming key rid m) verdict (Wait holder) decides is same)
+coming_decided stepped coming old new t key rid m row verdict Die none decides is same value =
+    asks_die (begins stepped coming) old new t key rid m none (decided_as {X = Coming} old new t row (asks_of stepped coming key rid m) verdict Die decides is same)
 
 -- and of one that is
-pub there_decided : (old new : Table) (t : ℕ) (key : Key) (rid : ℕ) (m : IndexMap) (row : List Request) (verdict : Verdict) (answer : LockAnswer Coming) → Decides old t row verdict new → row ≡ asked (Insert key rid) m
-    → verdict_of answer ≡ verdict → IfGranted answer (λ x. x ≡ There) → IsComingDecided (λ x. x ≡ There) old t key rid m new answer
-there_decided old new t key rid m row verdict (Granted x) decides is same value =
-    (subst (λ (c : Coming). Decides old t (asks_of c key rid m) GrantedAll new) (sym value) (decided_as old new t row (asked (Insert key rid) m) verdict (Granted x) decides is same), value)
-there_decided old new t key rid m row verdict (Wait holder) decides is same value = decided_as {X = Coming} old new t row (asked (Insert key rid) m) verdict (Wait holder) decides is same
-there_decided old new t key rid m row verdict Die decides is same value = decided_as {X = Coming} old new t row (asked (Insert key rid) m) verdict Die decides is same
+pub there_decided : (stepped : Bool) (old new : Table) (t : ℕ) (key : Key) (rid : ℕ) (m : IndexMap) (row : List Request) (verdict : Verdict) (answer : LockAnswer Coming) → Decides old t row verdict new → row ≡ asked (Insert key rid) m
+    → verdict_of answer ≡ verdict → IfGranted answer (λ x. x ≡ There) → IsComingDecided stepped (λ x. x ≡ There) old t key rid m new answer
+there_decided stepped old new t key rid m row verdict (Granted x) decides is same value =
+    (subst (λ (c : Coming). Decides old t (asks_of stepped c key rid m) GrantedAll new) (sym value) (decided_as old new t row (asked (Insert key rid) m) verdict (Granted x) decides is same), value)
+there_decided stepped old new t key rid m row verdict (Wait holder) decides is same value = decided_as {X = Coming} old new t row (asked (Insert key rid) m) verdict (Wait holder) decides is same
+there_decided stepped old new t key rid m row verdict Die decides is same value = decided_as {X = Coming} old new t row (asked (Insert key rid) m) verdict Die decides is same
 
 -- so the key may come
-pub coming_so : (P : Coming → Type 0) (coming : Coming) (old new : Table) (t : ℕ) (key : Key) (rid : ℕ) (m : IndexMap) (answer : LockAnswer Coming) → P coming → IsComingDecided (λ x. x ≡ coming) old t key rid m new answer → IsComingDecided P old t key rid m new answer
-coming_so P coming old new t key rid m (Granted x) holds is = (is.0, subst P (sym is.1) holds)
-coming_so P coming old new t key rid m (Wait holder) holds is = is
-coming_so P coming old new t key rid m Die holds is = is
+pub coming_so : (stepped : Bool) (P : Coming → Type 0) (coming : Coming) (old new : Table) (t : ℕ) (key : Key) (rid : ℕ) (m : IndexMap) (answer : LockAnswer Coming) → P coming → IsComingDecided stepped (λ x. x ≡ coming) old t key rid m new answer → IsComingDecided stepped P old t key rid m new answer
+coming_so stepped P coming old new t key rid m (Granted x) holds is = (is.0, subst P (sym is.1) holds)
+coming_so stepped P coming old new t key rid m (Wait holder) holds is = is
+coming_so stepped P coming old new t key rid m Die holds is = is
 
 -- ---- what bars it
 
@@ -134,36 +118,26 @@ files_refused d v old w new f works one sound = absurd (let clash : false ≡ tr
 
 -- ---- the plan
 
--- a plan of what bars nothing
-coming_limited : (pages : AllPages) (key : Key) (dense : Bool) (max : ℕ) (plan : Plan) → IsGoodTree (bodies_of pages) [] → IsInsertPlan pages key dense max plan → find key_order key (walk (bodies_of pages)) ≡ None → IsLimited dense (bodies_of pages) key max
-coming_limited pages key dense max plan good is none = limited_by pages key dense max [] good plan is none
-
-pub plan_splits : (pages : AllPages) (beside : Beside) (key : Key) (dense : Bool) (max : ℕ) (m : IndexMap) (split : SplitPlan) (plan : PlannedChange) → get m key ≡ None → find key_order key (walk (bodies_of pages)) ≡ None → IsGoodTree (bodies_of pages) [] → beside.pages.now ≡ []
-    → LacksRoomFor (bodies_of pages) key → IsInsertPlan pages key dense max (plans.TheVariants.Split split) → plan.images ≡ split.images → IsRising plan.images → plan.count ≡ (bodies_of pages 0).leftmost → ComingPlanned pages beside key dense max m (Ok (Splits plan split.leaf))
-plan_splits pages beside key dense max m split plan none lacks_it good alone lacks is same rising count = record {
-  sound = record {
-    absent = none;
-    alone = alone;
-    lacks = lacks;
-    planned = subst (λ (xs : List Numbered). Planned dense pages key (Some max) xs split.leaf) (sym same) is.1;
-    some = subst (λ (xs : List Numbered). 1 ≤ length xs) (sym same) is.0;
-    rising = rising;
-    count = count;
-  };
-  limited = coming_limited pages key dense max (plans.TheVariants.Split split) good is lacks_it;
-  full = tt;
-}
-
-pub plan_used_up : (pages : AllPages) (beside : Beside) (key : Key) (dense : Bool) (max : ℕ) (m : IndexMap) (plan : Plan) → get m key ≡ None → find key_order key (walk (bodies_of pages)) ≡ None → IsGoodTree (bodies_of pages) [] → beside.pages.now ≡ [] → LacksRoomFor (bodies_of pages) key
-    → ((split : SplitPlan) → plan ≡ plans.TheVariants.Split split → ⊥) → IsInsertPlan pages key dense max plan → ComingPlanned pages beside key dense max m (Ok UsedUp)
-plan_used_up pages beside key dense max m plans.TheVariants.Fits none lacks_it good alone lacks not is =
-    absurd (⊎_elim (λ (there : find key_order key (walk (bodies_of pages)) ≢ None). there lacks_it) (λ (room : HasRoomFor (bodies_of pages) key). room_not (bodies_of pages) [] key room.page good room.way room.room lacks) is)
-plan_used_up pages beside key dense max m (plans.TheVariants.Split split) none lacks_it good alone lacks not is = absurd (not split refl)
-plan_used_up pages beside key dense max m plans.TheVariants.UsedUp none lacks_it good alone lacks not is = record {
-  sound = record { absent = none; alone = alone; lacks = lacks; used_up = is.used_up };
-  limited = λ l. inr is.used_up;
-  full = tt;
-}
+pub plan_splits : (pages : AllPages) (beside : Beside) (key : Key) (dense : Bool) (max : ℕ) (m : IndexMap) (images : List Numbered) (leaf : ℕ) (plan : PlannedChange) → get m key ≡ None → beside.pages.now ≡ [] → LacksRoomFor (bodies_of pages) key → Planned dense pages key (Some max) images leaf
+    → plan.images ≡ images → IsRising plan.images → plan.count ≡ (bodies_of pages 0).leftmost → ComingPlanned pages beside key dense max m (Ok (Splits plan leaf))
+plan_splits pages beside key dense max m images leaf plan none alone lacks planned same rising count =
+    let some : 1 ≤ length images = planned.some lacks.page lacks.way lacks.lacks in
+    record {
+      sound = record {
+        absent = none;
+        alone = alone;
+        lacks = lacks;
+        planned = subst (λ (xs : List Numbered). Planned dense pages key (Some max) xs leaf) (sym same) planned;
+        some = subst (λ (xs : List Numbered). 1 ≤ length xs) (sym same) some;
+        rising = rising;
+        count = count;
+      };
+      limited =
+          λ l. inl
+          (⊎_elim (λ (no_image : images ≡ []). absurd (let zero_is : length images ≡ 0 = ap (λ (xs : List Numbered). length xs) no_image in omega (arith, some, zero_is)))
+          (λ (within : IsWithin dense (bodies_of pages) key max). within) (planned.within max refl));
+      full = tt;
+    }
 
 pub plan_coming_refused : (pages : AllPages) (beside : Beside) (key : Key) (dense : Bool) (max : ℕ) (m : IndexMap) (f : Fault) (r : Result Coming Fault) → IsErrAnd r (λ y. y ≡ f) → f ≢ NotAStore → (f ≡ PagesFull → LacksRoomFor (bodies_of pages) key × IsOver dense (bodies_of pages) key max)
     → ComingPlanned pages beside key dense max m r
@@ -172,9 +146,9 @@ plan_coming_refused pages beside key dense max m f (Err y) is sound full = recor
 
 -- ---- what is kept
 
-module _ (pages : AllPages) (beside : Beside) (t : ℕ) (key : Key) (rid : ℕ) (dense : Bool) (max : ℕ) (m : IndexMap) (old new : Table) where
+module _ (stepped : Bool) (pages : AllPages) (beside : Beside) (t : ℕ) (key : Key) (rid : ℕ) (dense : Bool) (max : ℕ) (m : IndexMap) (old new : Table) where
   abbrev Kept : Result (Sight (LockAnswer Coming)) Fault → Type 0
-  Kept r = ComingKept pages beside t key rid dense max m old new r
+  Kept r = ComingKept stepped pages beside t key rid dense max m old new r
 
   -- where it is hidden
   pub coming_hidden : TreeCause (bodies_of pages) beside (Insert key rid) m → new ≡ old → Kept (Ok Hidden)
@@ -183,9 +157,9 @@ module _ (pages : AllPages) (beside : Beside) (t : ℕ) (key : Key) (rid : ℕ) 
   -- where the change beside bars nothing
   pub coming_seen : {D : Type 0} (d : Ghosts D) {v : PageWriter} {before : D} {w : PageWriter} {disk : D} (coming : Coming) (r : Result (Sight (LockAnswer Coming)) Fault) → AsksLocks d v before w disk (fault_of r) → IsComing pages beside key dense max m coming
       → (get m key ≡ None → IsLimited dense (bodies_of pages) key max) → (Bars (bodies_of pages) beside (Insert key rid) m → ⊥)
-      → IsSound r (IfSeen (IsComingDecided (λ x. x ≡ coming) old t key rid m new) (TreeCause (bodies_of pages) beside (Insert key rid) m × (new ≡ old))) → Kept r
+      → IsSound r (IfSeen (IsComingDecided stepped (λ x. x ≡ coming) old t key rid m new) (TreeCause (bodies_of pages) beside (Insert key rid) m × (new ≡ old))) → Kept r
   coming_seen {D} d {v} {before} {w} {disk} coming (Ok (Seen answer)) one may limited never sound = record {
-    sound = coming_so (IsComing pages beside key dense max m) coming old new t key rid m answer may sound;
+    sound = coming_so stepped (IsComing pages beside key dense max m) coming old new t key rid m answer may sound;
     full = tt;
     limited = limited;
     first = λ bars. absurd (never bars);
@@ -215,9 +189,9 @@ memory_full f is same = let clash : Memory ≡ PagesFull = sym is ∙ same in cc
 pub memory_numbers : (f : Fault) → f ≡ Memory → f ≢ Capacity
 memory_numbers f is same = let clash : Memory ≡ Capacity = sym is ∙ same in cc clash
 
-pub there_kept : (pages : AllPages) (beside : Beside) (t : ℕ) (key : Key) (rid : ℕ) (dense : Bool) (max : ℕ) (m : IndexMap) (old new : Table) (answer : LockAnswer Coming) (i : ℕ) → get m key ≡ Some i → IsComingDecided (λ x. x ≡ There) old t key rid m new answer → ComingKept pages beside t key rid dense max m old new (Ok (Seen answer))
-there_kept pages beside t key rid dense max m old new answer i there decided = record {
-  sound = coming_so (IsComing pages beside key dense max m) There old new t key rid m answer (i, there) decided;
+pub there_kept : (stepped : Bool) (pages : AllPages) (beside : Beside) (t : ℕ) (key : Key) (rid : ℕ) (dense : Bool) (max : ℕ) (m : IndexMap) (old new : Table) (answer : LockAnswer Coming) (i : ℕ) → get m key ≡ Some i → IsComingDecided stepped (λ x. x ≡ There) old t key rid m new answer → ComingKept stepped pages beside t key rid dense max m old new (Ok (Seen answer))
+there_kept stepped pages beside t key rid dense max m old new answer i there decided = record {
+  sound = coming_so stepped (IsComing pages beside key dense max m) There old new t key rid m answer (i, there) decided;
   full = tt;
   limited = λ none. absurd (some_never m key i there none);
   first = λ bars. absurd (some_never m key i there bars.0);

@@ -60,8 +60,8 @@ use Rattle.im_engine_access.proofs.KeyLogs.{good_pages, is_going_on, leaf_has, o
 use Rattle.im_engine_access.proofs.NoneBeside.{cause_none}
 
 -- what came to nothing else than it may is told as failed
-pub failed_after : {D : Type 0} (d : Ghosts D) {m : Fault → Bool} {v : PageWriter} {old : D} {w : PageWriter} {mid : D} → Logs d false m v old w mid None → Logs d true mild v old w mid (Some Failed)
-failed_after {D} d {m} {v} {old} {w} {mid} one = record { ready = one.ready; frames = one.frames; ends = record { began = one.ends.began; works = one.ends.works; alive = one.ends.alive } }
+pub failed_after : {D : Type 0} (d : Ghosts D) {m n : Fault → Bool} {v : PageWriter} {old : D} {w : PageWriter} {mid : D} → Logs d false m v old w mid None → Logs d true n v old w mid (Some Failed)
+failed_after {D} d {m} {n} {v} {old} {w} {mid} one = record { ready = one.ready; frames = one.frames; ends = record { began = one.ends.began; works = one.ends.works; alive = one.ends.alive } }
 
 -- ---- the change that begins, made at once
 

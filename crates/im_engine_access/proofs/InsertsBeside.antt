@@ -5,7 +5,6 @@ use Rattle.std.specs.FinMap.{entries, get}
 use Rattle.im_base_types.specs.declared.fault.Fault.{Fault}
 use Rattle.im_base_types.specs.declared.fault.Fault.TheVariants.{Capacity, Device, Failed, LogFull, Memory, NotAStore, PagesFull}
 use Rattle.im_base_types.specs.Keys.{Key}
-use Rattle.im_base_types.specs.Maps.{IndexMap}
 use Rattle.im_base_types.specs.Changes.{Put}
 use Rattle.im_base_types.specs.Answers.{Insert}
 use Rattle.im_base_types.specs.Records.{InsertKey}
@@ -51,12 +50,6 @@ use Rattle.im_engine_access.proofs.EditsBeside.{going_evicted, going_left, going
 use Rattle.im_engine_access.proofs.KeyLogs.{left_edit, settled_walk}
 
 -- ---- which locks it has
-
-asked_row : (coming : Coming) (table : Table) (t : ℕ) (key : Key) (rid : ℕ) (m : IndexMap) (new : Table) → Decides table t (asks_of coming key rid m) GrantedAll new → Decides table t (asks_row (begins coming) key rid m) GrantedAll new
-asked_row There table t key rid m new decides = decides
-asked_row (Fits page) table t key rid m new decides = decides
-asked_row (Splits plan leaf) table t key rid m new decides = decides
-asked_row UsedUp table t key rid m new decides = decides
 
 asked_by : (b : Base) (s : Writer) (t : ℕ) (key : Key) (rid : ℕ) (table new : Table) (x : Inserting) → Decides table t (asks_row (has_begun x) key rid (contents b s.log)) GrantedAll new → IsAskedFor b s t key rid table new x
 asked_by b s t key rid table new inserting.TheVariants.There decides = decides
@@ -154,7 +147,7 @@ module _ {D : Type 0} (d : Ghosts D) (b : Base) (base : ℕ) where
 
     -- it is there
     pub logs_there : coming ≡ There → ComingLogKept d b base s e t last undo_next key rid dense max beside coming may.since w disk (Ok inserting.TheVariants.There)
-    logs_there is = let found = comes_as There is in record { laid = sym (ap begins is); sound = (found.0, found.1, from); stops = so_far; used_up = tt; begun = tt }
+    logs_there is = let found = comes_as There is in record { laid = sym (ap (begins true) is); sound = (found.0, found.1, from); stops = so_far; used_up = tt; begun = tt }
 
     -- page numbers are used up
     pub logs_none : coming ≡ UsedUp → ComingLogKept d b base s e t last undo_next key rid dense max beside coming may.since w disk (Err Capacity)
@@ -173,7 +166,7 @@ module _ {D : Type 0} (d : Ghosts D) (b : Base) (base : ℕ) where
 
       pub logs_put : (lsn : ℕ) (x : PageWriter) (new : D) → KeyLogKept d b base from.now e t last page (InsertKey key rid) disk x new (Ok lsn) → ComingLogKept d b base s e t last undo_next key rid dense max beside coming may.since x new (Ok (inserting.TheVariants.Put lsn))
       logs_put lsn x new kept = record {
-        laid = sym (ap begins is);
+        laid = sym (ap (begins true) is);
         sound = record {
           absent = fits.absent;
           page = page;
@@ -203,7 +196,7 @@ module _ {D : Type 0} (d : Ghosts D) (b : Base) (base : ℕ) where
       pub logs_split : (more : BegunChange) (x : PageWriter) (new : D) → FirstKept d b base from.now begun disk x new (Ok more) → more.count ≡ begun.count
           → ComingLogKept d b base s e t last undo_next key rid dense max beside coming may.since x new (Ok (inserting.TheVariants.Split more leaf))
       logs_split more x new kept count = record {
-        laid = sym (ap begins is);
+        laid = sym (ap (begins true) is);
         sound = insert_begun d b base s e t last undo_next may.start may.since may.going owner beside may.told key dense max plan leaf splits from.now w disk from.on begun same.0 same.1 whose.0 whose.1 whose.2 counts more x new kept.sound count;
         stops = grown new kept.stops;
         used_up = tt;
@@ -232,7 +225,7 @@ module _ {D : Type 0} (d : Ghosts D) (b : Base) (base : ℕ) where
 
     module _ (new : Table) (w : PageWriter) (disk : D) where
       abbrev Kept : Result (Sight (LockAnswer Coming)) Fault → Type 0
-      Kept r = ComingKept (settled_pages b s) beside t key rid dense max (contents b s.log) table new r
+      Kept r = ComingKept true (settled_pages b s) beside t key rid dense max (contents b s.log) table new r
 
       -- refused in front of the grant
       pub beside_refused : (f : Fault) → Ends d AreLoaded (mild_to_split (Some max)) v old w disk (Some f) → f ≢ Capacity → Kept (Err f) → (r : Result (Sight (LockAnswer Inserting)) Fault) → IsErrAnd r (λ y. y ≡ f)
@@ -257,12 +250,12 @@ module _ {D : Type 0} (d : Ghosts D) (b : Base) (base : ℕ) where
 
         pub beside_hidden : sight ≡ Hidden → InsertBesideKept d b base s e t last undo_next key rid dense max beside table new old w disk (Ok Hidden)
         beside_hidden is =
-            let why = subst (IfSeen (IsComingDecided (IsComing (settled_pages b s) beside key dense max (contents b s.log)) table t key rid (contents b s.log) new) (TreeCause (settled b s.log) beside (Insert key rid) (contents b s.log) × (new ≡ table))) is kept.sound in
+            let why = subst (IfSeen (IsComingDecided true (IsComing (settled_pages b s) beside key dense max (contents b s.log)) table t key rid (contents b s.log) new) (TreeCause (settled b s.log) beside (Insert key rid) (contents b s.log) × (new ≡ table))) is kept.sound in
             record { sound = (why.0, why.1, at); stops = left; full = tt; used_up = tt; limited = tt; begun = tt; first = λ bars. (tt, tt) }
 
         module _ (answer : LockAnswer Coming) (seen : sight ≡ Seen answer) where
-          decided : IsComingDecided (IsComing (settled_pages b s) beside key dense max (contents b s.log)) table t key rid (contents b s.log) new answer
-          decided = subst (IfSeen (IsComingDecided (IsComing (settled_pages b s) beside key dense max (contents b s.log)) table t key rid (contents b s.log) new) (TreeCause (settled b s.log) beside (Insert key rid) (contents b s.log) × (new ≡ table))) seen kept.sound
+          decided : IsComingDecided true (IsComing (settled_pages b s) beside key dense max (contents b s.log)) table t key rid (contents b s.log) new answer
+          decided = subst (IfSeen (IsComingDecided true (IsComing (settled_pages b s) beside key dense max (contents b s.log)) table t key rid (contents b s.log) new) (TreeCause (settled b s.log) beside (Insert key rid) (contents b s.log) × (new ≡ table))) seen kept.sound
 
           within : get (contents b s.log) key ≡ None → IsLimited dense (settled b s.log) key max
           within = subst (IfSeen (λ _. get (contents b s.log) key ≡ None → IsLimited dense (settled b s.log) key max) (Unit {0})) seen kept.limited
@@ -273,7 +266,7 @@ module _ {D : Type 0} (d : Ghosts D) (b : Base) (base : ℕ) where
 
           pub beside_waits : (holder : ℕ) → answer ≡ Wait holder → InsertBesideKept d b base s e t last undo_next key rid dense max beside table new old w disk (Ok (Seen (Wait holder)))
           beside_waits holder is = record {
-            sound = (subst (IsComingDecided (IsComing (settled_pages b s) beside key dense max (contents b s.log)) table t key rid (contents b s.log) new) is decided, at);
+            sound = (subst (IsComingDecided true (IsComing (settled_pages b s) beside key dense max (contents b s.log)) table t key rid (contents b s.log) new) is decided, at);
             stops = left;
             full = tt;
             used_up = tt;
@@ -284,7 +277,7 @@ module _ {D : Type 0} (d : Ghosts D) (b : Base) (base : ℕ) where
 
           pub beside_dies : answer ≡ Die → InsertBesideKept d b base s e t last undo_next key rid dense max beside table new old w disk (Ok (Seen Die))
           beside_dies is = record {
-            sound = (subst (IsComingDecided (IsComing (settled_pages b s) beside key dense max (contents b s.log)) table t key rid (contents b s.log) new) is decided, at);
+            sound = (subst (IsComingDecided true (IsComing (settled_pages b s) beside key dense max (contents b s.log)) table t key rid (contents b s.log) new) is decided, at);
             stops = left;
             full = tt;
             used_up = tt;
@@ -295,11 +288,11 @@ module _ {D : Type 0} (d : Ghosts D) (b : Base) (base : ℕ) where
 
           -- it is granted
           module _ (coming : Coming) (granted : answer ≡ Granted coming) where
-            pub asks : Decides table t (asks_of coming key rid (contents b s.log)) GrantedAll new × IsComing (settled_pages b s) beside key dense max (contents b s.log) coming
-            asks = subst (IsComingDecided (IsComing (settled_pages b s) beside key dense max (contents b s.log)) table t key rid (contents b s.log) new) granted decided
+            pub asks : Decides table t (asks_of true coming key rid (contents b s.log)) GrantedAll new × IsComing (settled_pages b s) beside key dense max (contents b s.log) coming
+            asks = subst (IsComingDecided true (IsComing (settled_pages b s) beside key dense max (contents b s.log)) table t key rid (contents b s.log) new) granted decided
 
-            pub asks_as : (known : Coming) → coming ≡ known → Decides table t (asks_of known key rid (contents b s.log)) GrantedAll new
-            asks_as known is = subst (λ (x : Coming). Decides table t (asks_of x key rid (contents b s.log)) GrantedAll new) is asks.0
+            pub asks_as : (known : Coming) → coming ≡ known → Decides table t (asks_of true known key rid (contents b s.log)) GrantedAll new
+            asks_as known is = subst (λ (x : Coming). Decides table t (asks_of true x key rid (contents b s.log)) GrantedAll new) is asks.0
 
             pub comes_known : (known : Coming) → coming ≡ known → IsComing (settled_pages b s) beside key dense max (contents b s.log) known
             comes_known known is = subst (IsComing (settled_pages b s) beside key dense max (contents b s.log)) is asks.1
@@ -317,7 +310,7 @@ module _ {D : Type 0} (d : Ghosts D) (b : Base) (base : ℕ) where
 
             pub beside_granted : (x : Inserting) (y : PageWriter) (end : D) → ComingLogKept d b base s e t last undo_next key rid dense max beside coming old y end (Ok x) → InsertBesideKept d b base s e t last undo_next key rid dense max beside table new old y end (Ok (Seen (Granted x)))
             beside_granted x y end log = record {
-              sound = (asked_by b s t key rid table new x (subst (λ (begins : Bool). Decides table t (asks_row begins key rid (contents b s.log)) GrantedAll new) (sym log.laid) (asked_row coming table t key rid (contents b s.log) new asks.0)), log.sound);
+              sound = (asked_by b s t key rid table new x (subst (λ (begins : Bool). Decides table t (asks_row begins key rid (contents b s.log)) GrantedAll new) (sym log.laid) asks.0), log.sound);
               stops = log.stops;
               full = tt;
               used_up = tt;

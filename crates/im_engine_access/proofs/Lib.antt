@@ -7,9 +7,10 @@ pub mod Planning
 pub mod Beside
 pub mod Comings
 pub mod NoneBeside
-mod DeletesAtOnce
 pub mod EditsBeside
 pub mod OwnChanges
 pub mod Leavings
 pub mod InsertsBeside
 pub mod DeletesBeside
+mod InsertsAtOnce
+mod DeletesAtOnce

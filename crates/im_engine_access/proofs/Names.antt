@@ -8,24 +8,19 @@ use Rattle.im_base_types.specs.Pages.{Entry, Page}
 use Rattle.im_base_types.specs.Maps.{IndexMap, Start, From, Above, first, first_in, last_below, last_in}
 use Rattle.im_base_types.specs.Answers.{Seek, Next, answer, entry, limit_of, scan}
 use Rattle.im_base_types.proofs.Maps.{sorted_find}
-use Rattle.im_page_pool.specs.declared.frame.Frame.{Frame}
 use Rattle.im_page_pool.specs.Pool.{PoolView, page_at}
-use Rattle.im_page_writer.specs.Outcome.{AllPages}
-use Rattle.im_theory_tree.specs.Good.{IsGoodTree}
 use Rattle.im_theory_tree.specs.Levels.{walk}
-use Rattle.im_theory_tree.proofs.LookupLemmas.{leaf_value}
 use Rattle.im_tree_search.specs.declared.next_key.NextKey.{NextKey}
 use Rattle.im_tree_search.specs.declared.next_key.NextKey.TheVariants.{Here, There, End}
 use Rattle.im_theory_page.specs.Entry.{entry_at}
 use Rattle.im_tree_search.specs.declared.entry_place.EntryPlace.{EntryPlace}
-use Rattle.im_tree_search.specs.Found.{IsReached, entries_of, entry_of}
+use Rattle.im_tree_search.specs.Found.{entries_of, entry_of}
 use Rattle.im_tree_search.specs.NextKeys.{next_name as next_key_name, far_name, IsFar}
 use Rattle.im_tree_search.specs.Ranges.{IsRange, key_if, within}
 use Rattle.im_theory_machine.specs.Locks.{Name, Request}
 use Rattle.im_theory_machine.specs.Rows.{asked, name_of, next_name}
 use Rattle.im_engine_locks.specs.Found.{FindsNextName, FindsBelow, FindsNext, IsScanOf, name_below}
-use Rattle.im_tree_search.specs.Levels.{bodies_of, start_at}
-use Rattle.im_engine_access.specs.Asks.{IsPlace}
+use Rattle.im_tree_search.specs.Levels.{start_at}
 use Rattle.im_engine_access.specs.LockAnswers.{name_in, name_behind, seek_at}
 
 -- what the walk has of a key, the map has
@@ -35,13 +30,6 @@ found_is m es key rid same is = sorted_find m key ∙ ap (λ (xs : List Entry). 
 -- and what the map has, the walk
 pub walk_says_map : (m : IndexMap) (es : List Entry) (key : Key) → es ≡ entries m → find key_order key es ≡ get m key
 walk_says_map m es key same = ap (λ (xs : List Entry). find key_order key xs) same ∙ sym (sorted_find m key)
-
--- a key's leaf, with what it has of the key
-pub place_found : (pages : AllPages) (spare : List ℕ) (m : IndexMap) (key : Key) (pool : PoolView) (leaf : Frame) (page : Page) (rid : Option ℕ) → IsGoodTree (bodies_of pages) spare → walk (bodies_of pages) ≡ entries m → IsReached pages key 0 leaf.number pool
-    → page ≡ page_at pool leaf.number → rid ≡ find key_order key page.body.entries → IsPlace pages key m pool (record { leaf = leaf; rid = rid })
-place_found pages spare m key pool leaf page rid good same r lent found =
-    let has_it : rid ≡ find key_order key (walk (bodies_of pages)) = found ∙ ap (λ (x : Page). find key_order key x.body.entries) (lent ∙ r.shown) ∙ sym (leaf_value (bodies_of pages) spare key leaf.number good r.way) in
-    record { leaf = r; value = sym (found_is m (walk (bodies_of pages)) key rid same has_it) }
 
 pub first_is : (s : Start) (m : IndexMap) (es : List Entry) → es ≡ entries m → first_in s es ≡ first s m
 unfolding first

@@ -69,24 +69,20 @@ IsComing pages beside key dense max m (Fits page) = KeyFits pages beside key m p
 IsComing pages beside key dense max m (Splits plan leaf) = KeySplits pages beside key dense max m plan leaf
 IsComing pages beside key dense max m UsedUp = KeyLacksNumbers pages beside key dense m
 
--- its locks: the next name until the change ends, where one begins
-abbrev pub asks_of : Coming → Key → ℕ → IndexMap → List Request
-asks_of There key rid m = asked (Insert key rid) m
-asks_of (Fits page) key rid m = asked (Insert key rid) m
-asks_of (Splits plan leaf) key rid m = asked_begun key m
-asks_of UsedUp key rid m = asked (Insert key rid) m
+-- whether a change begins that goes on over several steps
+abbrev pub begins : Bool → Coming → Bool
+begins stepped There = false
+begins stepped (Fits page) = false
+begins stepped (Splits plan leaf) = stepped
+begins stepped UsedUp = false
 
--- whether a change begins
-abbrev pub begins : Coming → Bool
-begins There = false
-begins (Fits page) = false
-begins (Splits plan leaf) = true
-begins UsedUp = false
-
--- the same by that
+-- the locks by that: where one begins the next name until it ends
 abbrev pub asks_row : Bool → Key → ℕ → IndexMap → List Request
 asks_row true key rid m = asked_begun key m
 asks_row false key rid m = asked (Insert key rid) m
+
+abbrev pub asks_of : Bool → Coming → Key → ℕ → IndexMap → List Request
+asks_of stepped coming key rid m = asks_row (begins stepped coming) key rid m
 
 -- what planning the split keeps
 pub record ComingPlanned (pages : AllPages) (beside : Beside) (key : Key) (dense : Bool) (max : ℕ) (m : IndexMap) (result : Result Coming Fault) : Type 0 where
@@ -96,14 +92,14 @@ pub record ComingPlanned (pages : AllPages) (beside : Beside) (key : Key) (dense
   pub full : IfErr result (λ e. e ≡ PagesFull → LacksRoomFor (bodies_of pages) key × IsOver dense (bodies_of pages) key max)
 
 -- The lock table has decided them; where they are granted, the key may come so. Who waits or dies has asked as an Insert asks that ends at once.
-abbrev pub IsComingDecided : (Coming → Type 0) → Table → ℕ → Key → ℕ → IndexMap → Table → LockAnswer Coming → Type 0
-IsComingDecided P old t key rid m new (Granted x) = Decides old t (asks_of x key rid m) GrantedAll new × P x
-IsComingDecided P old t key rid m new (Wait holder) = Decides old t (asked (Insert key rid) m) (MustWait holder) new
-IsComingDecided P old t key rid m new Die = Decides old t (asked (Insert key rid) m) MustDie new
+abbrev pub IsComingDecided : Bool → (Coming → Type 0) → Table → ℕ → Key → ℕ → IndexMap → Table → LockAnswer Coming → Type 0
+IsComingDecided stepped P old t key rid m new (Granted x) = Decides old t (asks_of stepped x key rid m) GrantedAll new × P x
+IsComingDecided stepped P old t key rid m new (Wait holder) = Decides old t (asked (Insert key rid) m) (MustWait holder) new
+IsComingDecided stepped P old t key rid m new Die = Decides old t (asked (Insert key rid) m) MustDie new
 
 -- what laying an insert down keeps
-pub record ComingKept (pages : AllPages) (beside : Beside) (t : ℕ) (key : Key) (rid : ℕ) (dense : Bool) (max : ℕ) (m : IndexMap) (old new : Table) (result : Result (Sight (LockAnswer Coming)) Fault) : Type 0 where
-  pub sound : IsSound result (IfSeen (IsComingDecided (IsComing pages beside key dense max m) old t key rid m new) (TreeCause (bodies_of pages) beside (Insert key rid) m × (new ≡ old)))
+pub record ComingKept (stepped : Bool) (pages : AllPages) (beside : Beside) (t : ℕ) (key : Key) (rid : ℕ) (dense : Bool) (max : ℕ) (m : IndexMap) (old new : Table) (result : Result (Sight (LockAnswer Coming)) Fault) : Type 0 where
+  pub sound : IsSound result (IfSeen (IsComingDecided stepped (IsComing pages beside key dense max m) old t key rid m new) (TreeCause (bodies_of pages) beside (Insert key rid) m × (new ≡ old)))
   pub full : IfErr result (λ e. e ≡ PagesFull → (get m key ≡ None) × LacksRoomFor (bodies_of pages) key × IsOver dense (bodies_of pages) key max)
   -- whatever was decided: a plan over the limit has asked no lock
   pub limited : IfOk result (IfSeen (λ _. get m key ≡ None → IsLimited dense (bodies_of pages) key max) (Unit {0}))

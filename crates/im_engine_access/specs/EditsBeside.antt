@@ -156,7 +156,7 @@ module _ {D : Type 0} (d : Ghosts D) (b : Base) (base : ℕ) where
   -- what logging it keeps
   pub record ComingLogKept (s : Writer) (e t last undo_next : ℕ) (key : Key) (rid : ℕ) (dense : Bool) (max : ℕ) (beside : Beside) (coming : Coming) (old : D) (w : PageWriter) (disk : D) (result : Result Inserting Fault) : Type 0 where
     -- a change has begun where one was to
-    pub laid : IfOk result (λ x. has_begun x ≡ begins coming)
+    pub laid : IfOk result (λ x. has_begun x ≡ begins true coming)
     pub sound : IsSound result (IsInserting s e t last undo_next key rid dense max beside old w disk)
     pub stops : LeavesEdit d b base s t old disk
     pub used_up : IfErr result (λ e. e ≡ Capacity → coming ≡ UsedUp)

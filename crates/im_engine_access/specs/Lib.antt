@@ -5,7 +5,7 @@ pub mod Asks
 pub mod LockCalls
 pub mod KeyLogs
 pub mod Edits
-pub mod InsertPlans
 pub mod Barred
 pub mod ChangePlans
+pub mod AtOnce
 pub mod EditsBeside

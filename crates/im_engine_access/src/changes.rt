@@ -1,11 +1,11 @@
 //! What inserts and deletes ask of the lock table, before they change anything.
 
-ghost use Rattle.std.specs.Prelude.{◌≡◌, ℕ, false, IfOk, OnErr, is_some};
+ghost use Rattle.std.specs.Prelude.{◌≡◌, IfOk, OnErr, is_some};
 ghost use Rattle.std.specs.FinMap.{entries};
 ghost use Rattle.std.specs.FinMap.Entries.{find};
 ghost use Rattle.im_base_types.specs.Keys.{key_order};
 ghost use Rattle.im_base_types.specs.Maps.{IndexMap};
-ghost use Rattle.im_base_types.specs.Answers.{Insert, Delete};
+ghost use Rattle.im_base_types.specs.Answers.{Delete};
 ghost use Rattle.im_page_pool.specs.Pool.{page_at, IsAt};
 ghost use Rattle.im_page_writer.specs.PageWriter.{IsReadyWriter};
 ghost use Rattle.im_page_writer.specs.Outcome.{fault_of, AllPages, IsSound};
@@ -15,17 +15,17 @@ ghost use Rattle.im_tree_search.specs.Levels.{HasLevel, bodies_of};
 ghost use Rattle.im_tree_search.specs.Found.{HasTree};
 ghost use Rattle.im_theory_machine.specs.Table.{SameLasting, SameTable};
 ghost use Rattle.im_engine_access.specs.LockAnswers.{IfGranted};
-ghost use Rattle.im_engine_access.specs.Asks.{IsAsked, IsPlace};
+ghost use Rattle.im_engine_access.specs.Asks.{IsAsked};
 
 use crate::asking::{name_in, outcome_of};
 use crate::lock_answer::LockAnswer;
 use crate::place::Place;
 use im_base_disk::Disk;
 use im_base_types::{Fault, Rid, TxnId};
-use im_engine_locks::{LockTable, delete_row, insert_row};
+use im_engine_locks::{LockTable, delete_row};
 use im_page::Page;
 use im_page_writer::PageWriter;
-use im_tree_search::{leaf_and_next, next_in_leaf};
+use im_tree_search::leaf_and_next;
 
 // What a leaf has of a key.
 pub(crate) fn rid_in(page: &Page, key: &[u8]) -> Option<Rid>
@@ -43,42 +43,6 @@ pub(crate) fn is_there(rid: &Option<Rid>) -> bool
     ensures { result ≡ is_some rid.now }
 {
     rid.is_some()
-}
-
-// Asks what an Insert of a key asks, which goes into this leaf, which is held, where the index has this row id with it. Where it is granted,
-// the leaf is held from now on. Where the next key stands in the leaf no page is got.
-pub(crate) fn ask_insert_at<D: Disk>(
-    writer: &mut PageWriter,
-    disk: &mut D,
-    locks: &mut LockTable,
-    transaction: TxnId,
-    key: &[u8],
-    found: Place,
-) -> Result<LockAnswer<Place>, Fault>
-    requires ready { IsReadyWriter D.Disk writer.old disk.old }
-    requires working { writer.old.failed ≡ false }
-    requires at { IsAt writer.old.pool found.leaf }
-    requires leaf { HasLevel 0 (page_at writer.old.pool found.leaf.number).body }
-    ensures outcome { AsksLocks D.Disk writer.old disk.old writer.new disk.new (fault_of result) }
-    ensures kept { (pages : AllPages) (m : IndexMap) (rid : ℕ) → HasTree D.Disk pages writer.old disk.old → walk (bodies_of pages) ≡ entries m → IsPlace pages key.now m writer.old.pool found
-        → IsSound result (IsAsked pages transaction (Insert key.now rid) key.now m locks.old locks.new writer.new.pool) }
-    ensures at { IfOk result (λ outcome. IfGranted outcome (λ place. IsAt writer.new.pool place.leaf)) }
-    ensures leaf { IfOk result (λ outcome. IfGranted outcome (λ place. HasLevel 0 (page_at writer.new.pool place.leaf.number).body)) }
-    ensures table { OnErr result (SameTable locks.old locks.new) }
-    ensures lasting { OnErr result (SameLasting locks.old locks.new) }
-{
-    let (leaf, next) = next_in_leaf(writer, disk, found.leaf, key)?;
-    let page = writer.page(leaf);
-    let there = is_there(&found.rid);
-    let row = insert_row(key, there, name_in(page, &next));
-    let verdict = locks.try_all(transaction, row.as_slice())?;
-    Ok(outcome_of(
-        verdict,
-        Place {
-            leaf,
-            rid: found.rid,
-        },
-    ))
 }
 
 /// Asks what a Delete of a key asks: where the key is there the lock of the next name, and for the instant the key's own, both against

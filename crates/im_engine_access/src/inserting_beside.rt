@@ -24,9 +24,9 @@ ghost use Rattle.im_engine_locks.specs.Requests.{named, requests_of, row};
 ghost use Rattle.im_smo_split.specs.Kept.{mild_to_split};
 ghost use Rattle.im_smo_split.specs.Tops.{LacksRoomFor};
 ghost use Rattle.im_smo_actions.specs.GoingBeside.{HasWholeTreeBut};
-ghost use Rattle.im_engine_access.specs.declared.change_plan.Coming.TheVariants.{There};
+ghost use Rattle.im_engine_access.specs.declared.change_plan.Coming.TheVariants.{There, UsedUp};
 ghost use Rattle.im_engine_access.specs.Barred.{TreeCause};
-ghost use Rattle.im_engine_access.specs.ChangePlans.{asks_of, wants_numbers, IsComingDecided, ComingKept, ComingPlanned};
+ghost use Rattle.im_engine_access.specs.ChangePlans.{asks_row, begins, wants_numbers, IsComingDecided, ComingKept, ComingPlanned};
 ghost use Rattle.im_engine_access.specs.EditsBeside.{MayEditBeside, InsertBesideKept, MayCome, ComingLogKept, FirstKept, MayEnd, InsertEndKept};
 ghost use Rattle.im_engine_access.specs.LockCalls.{AsksLocks};
 
@@ -34,10 +34,8 @@ use crate::asking::{name_in, outcome_of};
 use crate::begun::Inserting;
 use crate::change_plan::Coming;
 use crate::changes::{is_there, rid_in};
-use crate::inserting::plan_pages;
 use crate::lock_answer::LockAnswer;
 use crate::logging::log_insert;
-use crate::plan::Plan;
 use im_base_disk::Disk;
 use im_base_txn::Transaction;
 use im_base_types::{Fault, Lsn, PageNo, Rid, TxnId};
@@ -46,20 +44,30 @@ use im_page_pool::Frame;
 use im_page_writer::PageWriter;
 use im_smo_actions::{BegunChange, has_room, plan_change};
 use im_smo_log::{Change, late};
-use im_smo_split::SplitPlan;
+use im_smo_split::{SplitPlan, plan_split};
 use im_tree_search::{Beside, Sight, leaf_beside, next_in_leaf_beside, tree_page};
 use std::alloc::Global;
 
 // ---- in front of the grant
 
-// What is asked of a key that is not there: where a change begins first, the next name until that ends.
-fn row_for<'a>(coming: &Coming, key: &'a [u8], next: Name<'a>) -> Row<'a>
-    ensures { (m : IndexMap) (rid : ℕ) → get m key.now ≡ None → named next.entry ≡ next_name m key.now → row (requests_of result) ≡ asks_of coming.now key.now rid m }
+// Whether a change begins that goes on over several steps.
+fn lasts(coming: &Coming, stepped: bool) -> bool
+    ensures { result ≡ begins stepped coming.now }
 {
     match coming {
-        Coming::Splits(_, _) => insert_row_to_finish(key, next),
-        _ => insert_row(key, false, next),
+        Coming::Splits(_, _) => stepped,
+        _ => false,
     }
+}
+
+// What is asked of a key that is not there: where a change begins that goes on over several steps, the next name until that ends.
+fn row_for<'a>(lasts: bool, key: &'a [u8], next: Name<'a>) -> Row<'a>
+    ensures { (m : IndexMap) (rid : ℕ) → get m key.now ≡ None → named next.entry ≡ next_name m key.now → row (requests_of result) ≡ asks_row lasts key.now rid m }
+{
+    if lasts {
+        return insert_row_to_finish(key, next);
+    }
+    insert_row(key, false, next)
 }
 
 // Asks what an insert asks of a key that is there.
@@ -68,7 +76,7 @@ fn ask_duplicate(
     transaction: TxnId,
     key: &[u8],
 ) -> Result<LockAnswer<Coming>, Fault>
-    ensures decided { (m : IndexMap) (rid i : ℕ) → get m key.now ≡ Some i → IfOk result (IsComingDecided (λ x. x ≡ There) locks.old transaction key.now rid m locks.new) }
+    ensures decided { (stepped : Bool) (m : IndexMap) (rid i : ℕ) → get m key.now ≡ Some i → IfOk result (IsComingDecided stepped (λ x. x ≡ There) locks.old transaction key.now rid m locks.new) }
     ensures memory { IfErr result (λ e. e ≡ Memory) }
     ensures table { OnErr result (SameTable locks.old locks.new) }
     ensures lasting { OnErr result (SameLasting locks.old locks.new) }
@@ -87,6 +95,7 @@ fn ask_coming<D: Disk>(
     held: Frame,
     key: &[u8],
     coming: Coming,
+    stepped: bool,
     beside: Beside<'_>,
 ) -> Result<Sight<LockAnswer<Coming>>, Fault>
     requires ready { IsReadyWriter D.Disk writer.old disk.old }
@@ -95,16 +104,31 @@ fn ask_coming<D: Disk>(
     requires leaf { HasLevel 0 (page_at writer.old.pool held.number).body }
     ensures outcome { AsksLocks D.Disk writer.old disk.old writer.new disk.new (fault_of result) }
     ensures kept { (pages : AllPages) (m : IndexMap) (rid : ℕ) → HasTreeBut D.Disk pages beside.entry writer.old disk.old → IsReached pages key.now 0 held.number writer.old.pool → walk (bodies_of pages) ≡ entries m → get m key.now ≡ None
-        → IsSound result (IfSeen (IsComingDecided (λ x. x ≡ coming) locks.old transaction key.now rid m locks.new) (TreeCause (bodies_of pages) beside.entry (Insert key.now rid) m × (locks.new ≡ locks.old))) }
+        → IsSound result (IfSeen (IsComingDecided stepped (λ x. x ≡ coming) locks.old transaction key.now rid m locks.new) (TreeCause (bodies_of pages) beside.entry (Insert key.now rid) m × (locks.new ≡ locks.old))) }
     ensures table { OnErr result (SameTable locks.old locks.new) }
     ensures lasting { OnErr result (SameLasting locks.old locks.new) }
 {
     let Sight::Seen((leaf, next)) = next_in_leaf_beside(writer, disk, held, key, beside)? else {
         return Ok(Sight::Hidden);
     };
-    let row = row_for(&coming, key, name_in(writer.page(leaf), &next));
+    let row = row_for(
+        lasts(&coming, stepped),
+        key,
+        name_in(writer.page(leaf), &next),
+    );
     let verdict = locks.try_all(transaction, row.as_slice())?;
     Ok(Sight::Seen(outcome_of(verdict, coming)))
+}
+
+// What the refusal of a plan is answered as: a want of page numbers or levels is told after the locks.
+fn not_planned(fault: Fault) -> Result<Coming, Fault>
+    ensures used_up { IfOk result (λ coming. (coming ≡ UsedUp) × (fault ≡ Capacity)) }
+    ensures others { IfErr result (λ e. (e ≡ fault) × (e ≢ Capacity)) }
+{
+    match fault {
+        Fault::Capacity => Ok(Coming::UsedUp),
+        _ => Err(fault),
+    }
 }
 
 // The split of an absent key's leaf, which lacks room for the key, with no change under way.
@@ -124,13 +148,14 @@ fn plan_coming<D: Disk>(
         → LacksRoomFor (bodies_of pages) key.now → beside.pages.now ≡ [] → ComingPlanned pages beside key.now dense max m result }
     ensures never { IfErr result (λ e. e ≢ Capacity) }
 {
-    let pages = plan_pages(alloc, writer, disk, key, max, dense)?;
-    let Plan::Split(split) = pages else {
-        return Ok(Coming::UsedUp);
-    };
-    let SplitPlan { images, leaf } = split;
-    let plan = plan_change(alloc, writer, disk, images)?;
-    Ok(Coming::Splits(plan, leaf))
+    match plan_split(alloc, writer, disk, key, Some(max), dense) {
+        Ok(split) => {
+            let SplitPlan { images, leaf } = split;
+            let plan = plan_change(alloc, writer, disk, images)?;
+            Ok(Coming::Splits(plan, leaf))
+        }
+        Err(fault) => not_planned(fault),
+    }
 }
 
 // The same, and asks the key's locks after it. After a refusal nobody holds another lock than before.
@@ -144,6 +169,7 @@ fn prepare_coming_split<D: Disk>(
     key: &[u8],
     max: PageNo,
     dense: bool,
+    stepped: bool,
     beside: Beside<'_>,
 ) -> Result<Sight<LockAnswer<Coming>>, Fault>
     requires ready { IsReadyWriter D.Disk writer.old disk.old }
@@ -152,19 +178,29 @@ fn prepare_coming_split<D: Disk>(
     ensures outcome { Ends D.Disk AreLoaded (mild_to_split (Some max)) writer.old disk.old writer.new disk.new (fault_of result) }
     ensures kept { (pages : AllPages) (m : IndexMap) (rid : ℕ) → HasWholeTreeBut D.Disk pages beside.entry writer.old disk.old → walk (bodies_of pages) ≡ entries m → get m key.now ≡ None
         → IsOnWay (bodies_of pages) 0 key.now page → ¬ (HasRoom true (pages page).body.entries (key.now, 0)) → beside.entry.pages.now ≡ []
-        → ComingKept pages beside.entry transaction key.now rid dense max m locks.old locks.new result }
+        → ComingKept stepped pages beside.entry transaction key.now rid dense max m locks.old locks.new result }
     ensures never { IfErr result (λ e. e ≢ Capacity) }
     ensures table { OnErr result (SameTable locks.old locks.new) }
     ensures lasting { OnErr result (SameLasting locks.old locks.new) }
 {
     let coming = plan_coming(alloc, writer, disk, key, max, dense)?;
     let held = tree_page(writer, disk, page, 0)?;
-    ask_coming(writer, disk, locks, transaction, held, key, coming, beside)
+    ask_coming(
+        writer,
+        disk,
+        locks,
+        transaction,
+        held,
+        key,
+        coming,
+        stepped,
+        beside,
+    )
 }
 
 // Lays an insert down: the key's leaf is searched, the split that it wants planned, and then its locks are asked. After a refusal nobody
 // holds another lock than before.
-fn prepare_coming<D: Disk>(
+pub(crate) fn prepare_coming<D: Disk>(
     alloc: Global,
     writer: &mut PageWriter,
     disk: &mut D,
@@ -173,6 +209,7 @@ fn prepare_coming<D: Disk>(
     key: &[u8],
     max: PageNo,
     dense: bool,
+    stepped: bool,
     beside: Beside<'_>,
 ) -> Result<Sight<LockAnswer<Coming>>, Fault>
     requires ready { IsReadyWriter D.Disk writer.old disk.old }
@@ -180,7 +217,7 @@ fn prepare_coming<D: Disk>(
     requires short { length key.now ≤ 255 }
     ensures outcome { Ends D.Disk AreLoaded (mild_to_split (Some max)) writer.old disk.old writer.new disk.new (fault_of result) }
     ensures kept { (pages : AllPages) (m : IndexMap) (rid : ℕ) → HasWholeTreeBut D.Disk pages beside.entry writer.old disk.old → walk (bodies_of pages) ≡ entries m
-        → ComingKept pages beside.entry transaction key.now rid dense max m locks.old locks.new result }
+        → ComingKept stepped pages beside.entry transaction key.now rid dense max m locks.old locks.new result }
     ensures never { IfErr result (λ e. e ≢ Capacity) }
     ensures table { OnErr result (SameTable locks.old locks.new) }
     ensures lasting { OnErr result (SameLasting locks.old locks.new) }
@@ -198,7 +235,17 @@ fn prepare_coming<D: Disk>(
     }
     if has_room(writer, leaf, key) {
         let coming = Coming::Fits(leaf.number);
-        return ask_coming(writer, disk, locks, transaction, leaf, key, coming, beside);
+        return ask_coming(
+            writer,
+            disk,
+            locks,
+            transaction,
+            leaf,
+            key,
+            coming,
+            stepped,
+            beside,
+        );
     }
     if !beside.is_none() {
         return Ok(Sight::Hidden);
@@ -214,6 +261,7 @@ fn prepare_coming<D: Disk>(
         key,
         max,
         dense,
+        stepped,
         beside,
     )
 }
@@ -310,7 +358,7 @@ pub fn insert_beside<D: Disk>(
 {
     let number = transaction.number;
     let Sight::Seen(answer) = prepare_coming(
-        alloc, writer, disk, locks, number, key, max, dense, beside,
+        alloc, writer, disk, locks, number, key, max, dense, true, beside,
     )?
     else {
         return Ok(Sight::Hidden);

@@ -34,7 +34,6 @@ mod lock_answer;
 mod logging;
 mod noted;
 mod place;
-mod plan;
 mod reads;
 mod scans;
 

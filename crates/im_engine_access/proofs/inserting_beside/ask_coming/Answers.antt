@@ -1,4 +1,4 @@
-use Rattle.std.proofs.Common.{◌≡◌, ◌∙◌, ap, inr, refl}
+use Rattle.std.proofs.Common.{◌≡◌, Bool, ◌∙◌, ap, inr, refl}
 use Rattle.im_base_types.specs.Pages.{Page}
 use Rattle.im_page_writer.proofs.Outcomes.{out_of_memory, refused, sound_on, read_more}
 use Rattle.im_page_writer.specs.Outcome.{mild}
@@ -9,6 +9,7 @@ use Rattle.im_tree_search.proofs.Sighted.{at_hidden, at_seen}
 use Rattle.im_tree_search.proofs.Walks.{memory_not}
 use Rattle.im_engine_locks.specs.Requests.{row}
 use Rattle.im_engine_access.specs.Barred.{meets}
+use Rattle.im_engine_access.specs.ChangePlans.{asks_row}
 use Rattle.im_engine_access.specs.LockAnswers.{name_in}
 use Rattle.im_engine_access.proofs.Comings.{coming_decided}
 use Rattle.im_engine_access.proofs.Names.{next_is}
@@ -41,5 +42,6 @@ returns-clause-kept g c pages m rid tree reached is none =
     let r = at_seen c.in_ok-leaf.field-0 (c.in-Seen.leaf, c.in-Seen.next) _ _ c.in-Seen.is (c.in_ok-leaf.ensures.kept pages tree reached) in
     let name : name_in c.page.result.now.body.entries c.in-Seen.next ≡ next_name m key =
     ap (λ (x : Page). name_in x.body.entries c.in-Seen.next) c.page.ensures.page ∙ next_is m (walk (bodies_of pages)) key c.next_in_leaf_beside.new.writer.pool c.in-Seen.leaf.number c.in-Seen.next is r.name in
-    let asks = ap row c.as_slice.ensures ∙ c.row_for-row.ensures m rid none (c.name_in.ensures ∙ name) in
-    coming_decided c.args.coming c.args.locks.now c.try_all.new.self c.args.transaction key rid m _ c.in_ok-verdict.verdict c.outcome_of.result none c.in_ok-verdict.ensures.decided asks c.outcome_of.ensures.verdict c.outcome_of.ensures.value
+    let begun = λ (x : Bool). asks_row x key rid m in
+    let asks = ap row c.as_slice.ensures ∙ c.row_for-row.ensures m rid none (c.name_in.ensures ∙ name) ∙ ap begun c.lasts.ensures in
+    coming_decided c.args.stepped c.args.coming c.args.locks.now c.try_all.new.self c.args.transaction key rid m _ c.in_ok-verdict.verdict c.outcome_of.result none c.in_ok-verdict.ensures.decided asks c.outcome_of.ensures.verdict c.outcome_of.ensures.value

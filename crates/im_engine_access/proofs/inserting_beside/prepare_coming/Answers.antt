@@ -23,7 +23,7 @@ pub returns-in_err-leaf-clause-kept : goal.returns-in_err-leaf-clause-kept
 returns-in_err-leaf-clause-kept g c pages m rid but is =
     let a = c.args in
     let sound = c.in_err-leaf.ensures.kept pages but.tree in
-    coming_refused pages a.beside a.transaction a.key.now rid a.dense a.max m a.locks.now a.locks.now c.in_err-leaf.field-0.0 c.from_residual.result c.from_residual.ensures.1 sound
+    coming_refused a.stepped pages a.beside a.transaction a.key.now rid a.dense a.max m a.locks.now a.locks.now c.in_err-leaf.field-0.0 c.from_residual.result c.from_residual.ensures.1 sound
     (λ over. absurd (never_pages_full g.D.Disk refl c.in_err-leaf.ensures.outcome over)) (λ bars. files_refused g.D.Disk a.writer.now a.disk.now c.leaf_beside.new.writer c.leaf_beside.new.disk c.in_err-leaf.field-0.0 c.requires.working c.in_err-leaf.ensures.outcome sound)
 
 pub returns-in_err-leaf-clause-never : goal.returns-in_err-leaf-clause-never
@@ -35,7 +35,7 @@ returns-in_default-clause-outcome g c = read_more g.D.Disk (mild_to_split (Some 
 pub returns-in_default-clause-kept : goal.returns-in_default-clause-kept
 returns-in_default-clause-kept g c pages m rid but is =
     let a = c.args in
-    coming_hidden pages a.beside a.transaction a.key.now rid a.dense a.max m a.locks.now a.locks.now (meets (inl (at_hidden c.in_ok-leaf.field-0 _ _ c.in_default.not-Seen (c.in_ok-leaf.ensures.kept pages but.tree)))) refl
+    coming_hidden a.stepped pages a.beside a.transaction a.key.now rid a.dense a.max m a.locks.now a.locks.now (meets (inl (at_hidden c.in_ok-leaf.field-0 _ _ c.in_default.not-Seen (c.in_ok-leaf.ensures.kept pages but.tree)))) refl
 
 pub returns-in_err-answer-clause-outcome : goal.returns-in_err-answer-clause-outcome
 returns-in_err-answer-clause-outcome g c =
@@ -48,7 +48,7 @@ returns-in_err-answer-clause-kept g c pages m rid but is =
     let r = (at_seen c.in_ok-leaf.field-0 c.in-Seen.leaf _ _ c.in-Seen.is (c.in_ok-leaf.ensures.kept pages but.tree)).reached in
     let found = some_of c.rid_in-rid.result (sym c.is_there.ensures ∙ c.if-is_there.true) in
     let there : get m key ≡ Some found.0 = leaf_has_it pages but.tree.spare m key c.in-Seen.leaf.number c.page.result.now c.leaf_beside.new.writer.pool c.rid_in-rid.result but.tree.good is r c.page.ensures.page c.rid_in-rid.ensures ∙ found.1 in
-    coming_refused pages a.beside a.transaction key rid a.dense a.max m a.locks.now c.ask_duplicate.new.locks c.in_err-answer.field-0.0 c.from_residual-in_err-answer.result c.from_residual-in_err-answer.ensures.1 (memory_not _ c.in_err-answer.ensures.memory)
+    coming_refused a.stepped pages a.beside a.transaction key rid a.dense a.max m a.locks.now c.ask_duplicate.new.locks c.in_err-answer.field-0.0 c.from_residual-in_err-answer.result c.from_residual-in_err-answer.ensures.1 (memory_not _ c.in_err-answer.ensures.memory)
     (λ over. absurd (memory_full _ c.in_err-answer.ensures.memory over)) (λ bars. absurd (some_never m key found.0 there bars.0))
 
 pub returns-in_err-answer-clause-never : goal.returns-in_err-answer-clause-never
@@ -64,7 +64,7 @@ returns-then-is_there-clause-kept g c pages m rid but is =
     let r = (at_seen c.in_ok-leaf.field-0 c.in-Seen.leaf _ _ c.in-Seen.is (c.in_ok-leaf.ensures.kept pages but.tree)).reached in
     let found = some_of c.rid_in-rid.result (sym c.is_there.ensures ∙ c.if-is_there.true) in
     let there : get m key ≡ Some found.0 = leaf_has_it pages but.tree.spare m key c.in-Seen.leaf.number c.page.result.now c.leaf_beside.new.writer.pool c.rid_in-rid.result but.tree.good is r c.page.ensures.page c.rid_in-rid.ensures ∙ found.1 in
-    there_kept pages a.beside a.transaction key rid a.dense a.max m a.locks.now c.ask_duplicate.new.locks c.in_ok-answer.answer found.0 there (c.in_ok-answer.ensures.decided m rid found.0 there)
+    there_kept a.stepped pages a.beside a.transaction key rid a.dense a.max m a.locks.now c.ask_duplicate.new.locks c.in_ok-answer.answer found.0 there (c.in_ok-answer.ensures.decided a.stepped m rid found.0 there)
 
 pub returns-then-has-clause-outcome : goal.returns-then-has-clause-outcome
 returns-then-has-clause-outcome g c = read_more g.D.Disk (mild_to_split (Some c.args.max)) refl c.in_ok-leaf.ensures.outcome
@@ -77,7 +77,7 @@ returns-then-has-clause-kept g c pages m rid but is =
     let r = (at_seen c.in_ok-leaf.field-0 c.in-Seen.leaf _ _ c.in-Seen.is (c.in_ok-leaf.ensures.kept pages but.tree)).reached in
     let absent : get m key ≡ None = leaf_has_it pages but.tree.spare m key p c.page.result.now c.leaf_beside.new.writer.pool c.rid_in-rid.result but.tree.good is r c.page.ensures.page c.rid_in-rid.ensures ∙ not_there c.rid_in-rid.result c.is_there.result c.is_there.ensures c.if-is_there.false in
     let bars : IsBarred (bodies_of pages) a.beside key (LacksRoomFor (bodies_of pages) key) = record { leaf = p; way = r.way; by = inl (sym c.has.ensures ∙ c.if-has.true) } in
-    coming_hidden pages a.beside a.transaction key rid a.dense a.max m a.locks.now a.locks.now (barred (absent, bars)) refl
+    coming_hidden a.stepped pages a.beside a.transaction key rid a.dense a.max m a.locks.now a.locks.now (barred (absent, bars)) refl
 
 pub returns-then-has_room-clause-outcome : goal.returns-then-has_room-clause-outcome
 returns-then-has_room-clause-outcome g c = with_more g.D.Disk (mild_to_split (Some c.args.max)) (mild_splits (Some c.args.max)) (then g.D.Disk c.in_ok-leaf.ensures.outcome c.ask_coming.ensures.outcome)
@@ -92,7 +92,7 @@ returns-then-has_room-clause-kept g c pages m rid but is =
     let room = subst (λ (x : Page). HasRoom true x.body.entries (key, 0)) r.shown (c.has_room.ensures.room c.if-has_room.true) in
     let apart = sym c.has.ensures ∙ c.if-has.false in
     let fits : KeyFits pages a.beside key m p = record { absent = absent; apart = apart; way = r.way; room = room } in
-    coming_seen pages a.beside a.transaction key rid a.dense a.max m a.locks.now c.ask_coming.new.locks g.D.Disk (Fits p) c.ask_coming.result c.ask_coming.ensures.outcome fits
+    coming_seen a.stepped pages a.beside a.transaction key rid a.dense a.max m a.locks.now c.ask_coming.new.locks g.D.Disk (Fits p) c.ask_coming.result c.ask_coming.ensures.outcome fits
     (λ none lacks. absurd (room_not (bodies_of pages) but.tree.spare key p but.tree.good r.way room lacks))
     (λ bars. apart_bars (bodies_of pages) but.tree.spare a.beside key (LacksRoomFor (bodies_of pages) key) p but.tree.good r.way apart (room_not (bodies_of pages) but.tree.spare key p but.tree.good r.way room) bars.1)
     (c.ask_coming.ensures.kept pages m rid (but_still g.D.Disk but.tree c.in_ok-leaf.ensures.outcome) r is absent)
@@ -112,7 +112,7 @@ returns-then-not-is_none-clause-kept g c pages m rid but is =
     let absent : get m key ≡ None = leaf_has_it pages but.tree.spare m key p c.page.result.now c.leaf_beside.new.writer.pool c.rid_in-rid.result but.tree.good is r c.page.ensures.page c.rid_in-rid.ensures ∙ not_there c.rid_in-rid.result c.is_there.result c.is_there.ensures c.if-is_there.false in
     let lacks : LacksRoomFor (bodies_of pages) key = record { page = p; way = r.way; lacks = λ (room : HasRoom true (pages p).body.entries (key, 0)). c.has_room.ensures.full c.if-has_room.false (subst (λ (x : Page). HasRoom true x.body.entries (key, 0)) (sym r.shown) room) } in
     let bars : IsBarred (bodies_of pages) a.beside key (LacksRoomFor (bodies_of pages) key) = record { leaf = p; way = r.way; by = inr (c.is_none.ensures.some c.if-not-is_none.true, lacks) } in
-    coming_hidden pages a.beside a.transaction key rid a.dense a.max m a.locks.now a.locks.now (barred (absent, bars)) refl
+    coming_hidden a.stepped pages a.beside a.transaction key rid a.dense a.max m a.locks.now a.locks.now (barred (absent, bars)) refl
 
 pub returns-clause-outcome : goal.returns-clause-outcome
 returns-clause-outcome g c = then g.D.Disk c.in_ok-leaf.ensures.outcome c.prepare_coming_split.ensures.outcome

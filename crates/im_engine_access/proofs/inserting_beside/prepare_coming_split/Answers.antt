@@ -20,7 +20,7 @@ returns-in_err-coming-clause-kept g c pages m rid but is absent way full alone =
     let key = a.key.now in
     let lacks : LacksRoomFor (bodies_of pages) key = record { page = a.page; way = way; lacks = full } in
     let plan = c.in_err-coming.ensures.kept pages a.beside m (alone_pages g.D.Disk pages a.beside a.writer.now a.disk.now but.tree alone) but.good is absent lacks alone in
-    coming_refused pages a.beside a.transaction key rid a.dense a.max m a.locks.now a.locks.now c.in_err-coming.field-0.0 c.from_residual.result c.from_residual.ensures.1 plan.sound (λ over. let more = plan.full over in (absent, more.0, more.1))
+    coming_refused a.stepped pages a.beside a.transaction key rid a.dense a.max m a.locks.now a.locks.now c.in_err-coming.field-0.0 c.from_residual.result c.from_residual.ensures.1 plan.sound (λ over. let more = plan.full over in (absent, more.0, more.1))
     (λ bars. absurd (alone_bars (bodies_of pages) a.beside key (LacksRoomFor (bodies_of pages) key) alone bars.1))
 
 pub returns-in_err-coming-clause-never : goal.returns-in_err-coming-clause-never
@@ -35,7 +35,7 @@ returns-in_err-held-clause-kept g c pages m rid but is absent way full alone =
     let a = c.args in
     let key = a.key.now in
     let has = alone_pages g.D.Disk pages a.beside a.writer.now a.disk.now but.tree alone in
-    coming_refused pages a.beside a.transaction key rid a.dense a.max m a.locks.now a.locks.now c.in_err-held.field-0.0 c.from_residual-in_err-held.result c.from_residual-in_err-held.ensures.1
+    coming_refused a.stepped pages a.beside a.transaction key rid a.dense a.max m a.locks.now a.locks.now c.in_err-held.field-0.0 c.from_residual-in_err-held.result c.from_residual-in_err-held.ensures.1
     (c.in_err-held.ensures.kept pages (pages_still g.D.Disk has c.in_ok-coming.ensures.outcome) (way_level (bodies_of pages) 0 key a.page way))
     (λ over. absurd (never_pages_full g.D.Disk refl c.in_err-held.ensures.outcome over))
     (λ bars. absurd (alone_bars (bodies_of pages) a.beside key (LacksRoomFor (bodies_of pages) key) alone bars.1))
@@ -58,7 +58,7 @@ returns-clause-kept g c pages m rid but is absent way full alone =
     let here : IsReached pages key 0 a.page pool = record { shown = shown; way = way } in
     let reached : IsReached pages key 0 c.in_ok-held.held.number pool = subst (λ n. IsReached pages key 0 n pool) (sym c.in_ok-held.ensures.frame) here in
     let tree = but_still g.D.Disk (but_still g.D.Disk but.tree c.in_ok-coming.ensures.outcome) c.in_ok-held.ensures.outcome in
-    coming_seen pages a.beside a.transaction key rid a.dense a.max m a.locks.now c.ask_coming.new.locks g.D.Disk c.in_ok-coming.coming c.ask_coming.result c.ask_coming.ensures.outcome plan.sound (λ none. plan.limited)
+    coming_seen a.stepped pages a.beside a.transaction key rid a.dense a.max m a.locks.now c.ask_coming.new.locks g.D.Disk c.in_ok-coming.coming c.ask_coming.result c.ask_coming.ensures.outcome plan.sound (λ none. plan.limited)
     (λ bars. alone_bars (bodies_of pages) a.beside key (LacksRoomFor (bodies_of pages) key) alone bars.1) (c.ask_coming.ensures.kept pages m rid tree reached is absent)
 
 pub returns-clause-never : goal.returns-clause-never
