@@ -135,8 +135,3 @@ pub late_cause : (f answer : Fault) → (f ≡ Memory → answer ≡ Failed) →
 late_cause f answer memory others cause is =
     let other : f ≢ Memory = λ same. (let clash : Failed ≡ NotAStore = sym (memory same) ∙ is in cc clash) in
     cause (sym (others other) ∙ is)
-
-pub never_late : (f answer : Fault) → (f ≡ Memory → answer ≡ Failed) → (f ≢ Memory → answer ≡ f) → answer ≡ Memory → ⊥
-never_late f answer memory others is =
-    let other : f ≢ Memory = λ same. (let clash : Failed ≡ Memory = sym (memory same) ∙ is in cc clash) in
-    other (sym (others other) ∙ is)

@@ -200,8 +200,7 @@ fn log_leaving<D: Disk>(
 /// It is hidden where a page that is made stands on the key's way, or where the walk to the next key comes to; where the key is there, and its
 /// leaf a page of the change beside; and where its leaf would be left empty beside one. Then no lock was asked.
 ///
-/// Refused as `delete` is, but that what a change wants of memory is had before a lock is asked. After `Memory`, `Wait` and `Die` nobody
-/// holds another lock than before.
+/// What the change wants of memory is had before a lock is asked. After `Memory`, `Wait` and `Die` nobody holds another lock than before.
 pub fn delete_beside<D: Disk>(
     alloc: Global,
     writer: &mut PageWriter,

@@ -54,6 +54,7 @@ impl BegunChange {
     {
         self.change.step(writer, disk, true)
     }
+
     /// Logs all of it at once, as `Change::run` does, where no page of it is logged yet.
     pub fn run<D: Disk>(&self, writer: &mut PageWriter, disk: &mut D) -> Result<Lsn, Fault>
         requires ready { IsReadyWriter D.Disk writer.old disk.old }

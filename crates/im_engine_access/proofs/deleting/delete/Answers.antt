@@ -1,10 +1,9 @@
 use Rattle.std.proofs.Common.{◌≡◌, ◌∙◌, ap}
 use Rattle.im_base_types.specs.declared.fault.Fault.TheVariants.{Memory}
 use Rattle.im_page_writer.specs.Outcome.{mild}
-use Rattle.im_page_writer.proofs.Cited.{err_on, late_behind, log_refused, logs_both, logs_late}
+use Rattle.im_page_writer.proofs.Cited.{err_on, log_refused, logs_both, logs_late}
 use Rattle.im_smo_log.specs.declared.change.Change.{Change}
 use Rattle.im_theory_machine.specs.Table.{SameLasting, SameTable}
-use Rattle.im_engine_access.proofs.Deletes.{never_late}
 use Rattle.im_engine_access.proofs.DeletesAtOnce.{dies, dropping_late, dropping_once, failed_after, gone_once, may_beside, never_hidden, not_laid, taken_once, waits, was}
 use Rattle.im_engine_access.proofs.deleting.delete.Goals as goal
 
@@ -118,11 +117,8 @@ returns-in-Ok-clause-kept g c b base s e may =
     dropping_once g.D.Disk b base s e t.number t.last t.undo_next a.writer.now a.disk.now a.key.now a.locks.now c.delete_beside.new.locks may c.requires.owner beside none v mid c.in_ok-sight.sight k c.in-Seen.answer c.in-Seen.is c.in-Granted.deleting c.in-Granted.is
     c.in-Dropping.begun c.in-Dropping.is c.in-Ok.last c.undo_next-lsn.result (c.undo_next-lsn.ensures ∙ ap (λ (x : Change). x.undo_next) c.change.ensures) c.run.new.writer c.run.new.disk (c.in-Ok.ensures.kept b base began.logged.now e)
 
-pub returns-in-Err-clause-outcome : goal.returns-in-Err-clause-outcome
-returns-in-Err-clause-outcome g c = late_behind g.D.Disk c.in_ok-sight.ensures.outcome c.in-Err.ensures.outcome c.late.ensures.memory c.late.ensures.others
-
-pub returns-in-Err-clause-kept : goal.returns-in-Err-clause-kept
-returns-in-Err-clause-kept g c b base s e may =
+pub returns-clause-kept : goal.returns-clause-kept
+returns-clause-kept g c b base s e may =
     let a = c.args in
     let t = a.transaction.now in
     let beside = c.none.result in
@@ -134,9 +130,3 @@ returns-in-Err-clause-kept g c b base s e may =
     c.in-Dropping.begun c.in-Dropping.is in
     dropping_late g.D.Disk b base s e t.number t.last t.undo_next a.writer.now a.disk.now a.key.now a.locks.now c.delete_beside.new.locks may c.requires.owner beside none v mid c.in_ok-sight.sight k c.in-Seen.answer c.in-Seen.is c.in-Granted.deleting c.in-Granted.is
     c.in-Dropping.begun c.in-Dropping.is c.in-Err.fault c.late.result c.late.ensures.memory c.late.ensures.others c.run.new.writer c.run.new.disk (c.in-Err.ensures.kept b base began.logged.now e)
-
-pub returns-in-Err-clause-table : goal.returns-in-Err-clause-table
-returns-in-Err-clause-table g c = λ is. absurd (never_late c.in-Err.fault c.late.result c.late.ensures.memory c.late.ensures.others is)
-
-pub returns-in-Err-clause-lasting : goal.returns-in-Err-clause-lasting
-returns-in-Err-clause-lasting g c = λ is. absurd (never_late c.in-Err.fault c.late.result c.late.ensures.memory c.late.ensures.others is)
