@@ -15,7 +15,7 @@ ghost use Rattle.im_tree_search.specs.Backward.{MeetsDoneBack};
 ghost use Rattle.im_tree_search.specs.Beside.{MeetsDone};
 ghost use Rattle.im_tree_search.specs.Found.{IsReached};
 ghost use Rattle.im_tree_search.specs.Levels.{bodies_of, start_at, HasLevel};
-ghost use Rattle.im_tree_search.specs.HeldPages.{HoldsOn, IsQuiet};
+ghost use Rattle.im_tree_search.specs.HeldPages.{HoldsBack, HoldsOn, IsQuiet};
 ghost use Rattle.im_tree_search.specs.Sights.{is_done, HasTreeBut, IfSeen};
 ghost use Rattle.im_engine_access.specs.LockAnswers.{as_entry, as_found, entry_found, seek_at};
 ghost use Rattle.im_engine_access.specs.LockCalls.{AsksLocks};
@@ -119,6 +119,7 @@ fn found_from<D: Disk>(
     ensures outcome { Lists D.Disk writer.old disk.old writer.new disk.new (fault_of result) }
     ensures kept { (pages : AllPages) → HasTreeBut D.Disk pages beside.entry writer.old disk.old
         → IsSound result (IfSeen (λ found. as_found found ≡ first_in (start_at inclusive key.now) (walk (bodies_of pages))) (MeetsDone (bodies_of pages) (is_done beside.entry) (start_at inclusive key.now))) }
+    ensures quiet { (set : ℕ → Bool) → writer.old.failed ≡ false → HoldsOn key.now writer.old.pool set → IsQuiet writer.old disk.old writer.new disk.new }
 {
     let Sight::Seen(found) = next_entry(writer, disk, key, inclusive, beside)? else {
         return Ok(Sight::Hidden);
@@ -132,7 +133,7 @@ fn found_from<D: Disk>(
 
 /// The first entry at or above a key (`inclusive`), or the first above it, copied; `None` where the index has none. The lock of its
 /// key is asked, else that of the name past the last key. It is hidden where a page that is made stands on the key's way, or where the walk along
-/// the leaves comes to; then no lock was asked.
+/// the leaves comes to; then no lock was asked. Where the pages are held that `fetch` speaks of, nothing is asked of the disk (`quiet`).
 ///
 /// Refused as `fetch` is, and `Memory` where the copy wants it, before a lock is asked.
 pub fn seek<D: Disk>(
@@ -151,6 +152,7 @@ pub fn seek<D: Disk>(
         → IsSound result (IsReadBeside entry_found transaction (seek_at inclusive key.now) m (bodies_of pages) beside.entry locks.old locks.new) }
     ensures table { OnErr result (SameTable locks.old locks.new) }
     ensures lasting { OnErr result (SameLasting locks.old locks.new) }
+    ensures quiet { (set : ℕ → Bool) → writer.old.failed ≡ false → HoldsOn key.now writer.old.pool set → IsQuiet writer.old disk.old writer.new disk.new }
 {
     let Sight::Seen(found) = found_from(alloc, writer, disk, key, inclusive, beside)? else {
         return Ok(Sight::Hidden);
@@ -171,6 +173,7 @@ fn found_below<D: Disk>(
     ensures outcome { Lists D.Disk writer.old disk.old writer.new disk.new (fault_of result) }
     ensures kept { (pages : AllPages) → HasTreeBut D.Disk pages beside.entry writer.old disk.old
         → IsSound result (IfSeen (λ found. as_found found ≡ last_in key.now (walk (bodies_of pages))) (MeetsDoneBack (bodies_of pages) (is_done beside.entry) key.now)) }
+    ensures quiet { (set : ℕ → Bool) → writer.old.failed ≡ false → HoldsBack key.now writer.old.pool set → IsQuiet writer.old disk.old writer.new disk.new }
 {
     let Sight::Seen(found) = prev_entry(writer, disk, key, beside)? else {
         return Ok(Sight::Hidden);
@@ -197,6 +200,7 @@ fn found_around<D: Disk>(
     ensures kept { (pages : AllPages) → HasTreeBut D.Disk pages beside.entry writer.old disk.old
         → IsSound result (IfSeen (λ x. (as_found x.0 ≡ last_in key.now (walk (bodies_of pages))) × (as_found x.1 ≡ first_in (From key.now) (walk (bodies_of pages))))
         (MeetsDoneBack (bodies_of pages) (is_done beside.entry) key.now ⊎ MeetsDone (bodies_of pages) (is_done beside.entry) (From key.now))) }
+    ensures quiet { (set : ℕ → Bool) → writer.old.failed ≡ false → HoldsOn key.now writer.old.pool set → HoldsBack key.now writer.old.pool set → IsQuiet writer.old disk.old writer.new disk.new }
 {
     let Sight::Seen(leaf) = leaf_beside(writer, disk, key, beside)? else {
         return Ok(Sight::Hidden);
@@ -219,7 +223,7 @@ fn found_around<D: Disk>(
 /// The last entry below a key, copied; `None` where the index has none. The lock of the first key at or above it is asked, else that of the
 /// name past the last key, which guards the gap below the key; and that of the key that is answered, where there is one: all at once. It is hidden
 /// where a page that is made stands on the key's way, or where the walk back comes to, or that on to the first entry at or above the key; then no
-/// lock was asked.
+/// lock was asked. Where those pages are held, and the leaves before too, nothing is asked of the disk (`quiet`).
 ///
 /// Refused as `seek` is.
 pub fn prev<D: Disk>(
@@ -237,6 +241,7 @@ pub fn prev<D: Disk>(
         → IsSound result (IsReadBeside entry_found transaction (Prev key.now) m (bodies_of pages) beside.entry locks.old locks.new) }
     ensures table { OnErr result (SameTable locks.old locks.new) }
     ensures lasting { OnErr result (SameLasting locks.old locks.new) }
+    ensures quiet { (set : ℕ → Bool) → writer.old.failed ≡ false → HoldsOn key.now writer.old.pool set → HoldsBack key.now writer.old.pool set → IsQuiet writer.old disk.old writer.new disk.new }
 {
     let Sight::Seen((below, next)) = found_around(alloc, writer, disk, key, beside)? else {
         return Ok(Sight::Hidden);

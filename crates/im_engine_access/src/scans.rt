@@ -1,6 +1,6 @@
 //! The entries of a range.
 
-ghost use Rattle.std.specs.Prelude.{◌≡◌, ◌≤◌, ℕ, false, true, length, IfOk, IfErr, IfSome, OnErr};
+ghost use Rattle.std.specs.Prelude.{◌≡◌, ◌≤◌, ℕ, Bool, false, true, length, IfOk, IfErr, IfSome, OnErr};
 ghost use Rattle.std.specs.FinMap.{entries};
 ghost use Rattle.im_base_types.specs.declared.fault.Fault.TheVariants.{Memory};
 ghost use Rattle.im_base_types.specs.Keys.{Key as KeyBytes};
@@ -10,6 +10,7 @@ ghost use Rattle.im_page_writer.specs.PageWriter.{IsReadyWriter};
 ghost use Rattle.im_page_writer.specs.Outcome.{fault_of, AllPages, IsSound};
 ghost use Rattle.im_engine_access.specs.LockCalls.{AsksLocks};
 ghost use Rattle.im_theory_tree.specs.Levels.{walk};
+ghost use Rattle.im_tree_search.specs.HeldPages.{HoldsOn, IsQuiet};
 ghost use Rattle.im_tree_search.specs.Levels.{bodies_of};
 ghost use Rattle.im_tree_search.specs.NextKeys.{IsFar};
 ghost use Rattle.im_tree_search.specs.Sights.{HasTreeBut, IfSeen};
@@ -84,7 +85,8 @@ fn lacks_keys(lo: &[u8], hi: &[u8]) -> bool
 /// more (`most`). The lock of each entry is asked and, where they are fewer than the limit, that of the first key above `hi`, else of
 /// the name past the last key. It is hidden where a page that a structure change of another transaction makes stands on the way to `lo`, or where
 /// the walk along the leaves comes to before it has `limit` entries; then no lock was asked. Where `hi` is below `lo` nothing is read, and so
-/// nothing is hidden and no lock is asked.
+/// nothing is hidden and no lock is asked. Where page 0, the pages of the way to `lo` and the leaves after are held, nothing is asked of the disk
+/// (`quiet`).
 ///
 /// Refused as `im_tree_search::entries_between` is, and `Memory` where it is wanted for the locks. After a refusal, `Wait` and `Die` nobody
 /// holds another lock than before.
@@ -108,6 +110,7 @@ pub fn scan<D: Disk>(
     ensures empty { is_below hi.now lo.now ≡ true → (writer.new ≡ writer.old) × (disk.new ≡ disk.old) × IfOk result (IfSeen (λ _. Unit) ⊥) × IfErr result (λ _. ⊥) }
     ensures table { OnErr result (SameTable locks.old locks.new) }
     ensures lasting { OnErr result (SameLasting locks.old locks.new) }
+    ensures quiet { (set : ℕ → Bool) → HoldsOn lo.now writer.old.pool set → IsQuiet writer.old disk.old writer.new disk.new }
 {
     if lacks_keys(lo, hi) {
         return Ok(Sight::Seen(LockAnswer::Granted(Vec::new(alloc))));

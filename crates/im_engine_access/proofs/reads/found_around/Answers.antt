@@ -5,6 +5,7 @@ use Rattle.im_page_writer.proofs.Outcomes.{sound_on, then}
 use Rattle.im_tree_search.specs.Backward.{on_way}
 use Rattle.im_tree_search.specs.Levels.{bodies_of}
 use Rattle.im_tree_search.proofs.GoingBack.{around_says}
+use Rattle.im_tree_search.proofs.Quiet.{back_still, on_still, quiet_then}
 use Rattle.im_tree_search.proofs.Sighted.{at_hidden, at_seen, but_still}
 use Rattle.im_engine_access.proofs.reads.found_around.Goals as goal
 
@@ -53,3 +54,48 @@ returns-clause-kept g c pages tree =
     let there = but_still g.D.Disk tree c.in_ok-leaf.ensures.outcome in
     let behind = but_still g.D.Disk there c.in_ok-next-2.ensures.outcome in
     (at_seen c.in_ok-below-2.field-0 _ _ _ c.in-Seen-3.is (c.in_ok-below-2.ensures.kept pages behind), at_seen c.in_ok-next-2.field-0 _ _ _ c.in-Seen-2.is (c.in_ok-next-2.ensures.kept pages there))
+
+pub returns-in_err-leaf-clause-quiet : goal.returns-in_err-leaf-clause-quiet
+returns-in_err-leaf-clause-quiet g c set working on back = c.in_err-leaf.ensures.quiet set working on.way
+
+pub returns-in_default-clause-quiet : goal.returns-in_default-clause-quiet
+returns-in_default-clause-quiet g c set working on back = c.in_ok-leaf.ensures.quiet set working on.way
+
+pub returns-in-Some-clause-quiet : goal.returns-in-Some-clause-quiet
+returns-in-Some-clause-quiet g c set working on back = c.in_ok-leaf.ensures.quiet set working on.way
+
+pub returns-in_err-next-2-clause-quiet : goal.returns-in_err-next-2-clause-quiet
+returns-in_err-next-2-clause-quiet g c set working on back =
+    let e = c.in_ok-leaf.ensures in
+    let still = e.quiet set working on.way in
+    quiet_then still (c.in_err-next-2.ensures.quiet set e.outcome.ends.works (on_still c.args.key.now set on still))
+
+pub returns-in_default-2-clause-quiet : goal.returns-in_default-2-clause-quiet
+returns-in_default-2-clause-quiet g c set working on back =
+    let e = c.in_ok-leaf.ensures in
+    let still = e.quiet set working on.way in
+    quiet_then still (c.in_ok-next-2.ensures.quiet set e.outcome.ends.works (on_still c.args.key.now set on still))
+
+pub returns-in_err-below-2-clause-quiet : goal.returns-in_err-below-2-clause-quiet
+returns-in_err-below-2-clause-quiet g c set working on back =
+    let e = c.in_ok-leaf.ensures in
+    let next = c.in_ok-next-2.ensures in
+    let still = e.quiet set working on.way in
+    let both = quiet_then still (next.quiet set e.outcome.ends.works (on_still c.args.key.now set on still)) in
+    quiet_then both (c.in_err-below-2.ensures.quiet set next.outcome.ends.works (back_still c.args.key.now set back both))
+
+pub returns-in_default-3-clause-quiet : goal.returns-in_default-3-clause-quiet
+returns-in_default-3-clause-quiet g c set working on back =
+    let e = c.in_ok-leaf.ensures in
+    let next = c.in_ok-next-2.ensures in
+    let still = e.quiet set working on.way in
+    let both = quiet_then still (next.quiet set e.outcome.ends.works (on_still c.args.key.now set on still)) in
+    quiet_then both (c.in_ok-below-2.ensures.quiet set next.outcome.ends.works (back_still c.args.key.now set back both))
+
+pub returns-clause-quiet : goal.returns-clause-quiet
+returns-clause-quiet g c set working on back =
+    let e = c.in_ok-leaf.ensures in
+    let next = c.in_ok-next-2.ensures in
+    let still = e.quiet set working on.way in
+    let both = quiet_then still (next.quiet set e.outcome.ends.works (on_still c.args.key.now set on still)) in
+    quiet_then both (c.in_ok-below-2.ensures.quiet set next.outcome.ends.works (back_still c.args.key.now set back both))

@@ -6,6 +6,7 @@ use Rattle.im_page_writer.proofs.Outcomes.{idle, sound_on}
 use Rattle.im_theory_tree.specs.Levels.{walk}
 use Rattle.im_tree_search.specs.Levels.{bodies_of}
 use Rattle.im_tree_search.specs.RangesBeside.{ScanMeetsDone}
+use Rattle.im_tree_search.proofs.Quiet.{quiet_start}
 use Rattle.im_tree_search.proofs.Sighted.{at_hidden, at_seen}
 use Rattle.im_theory_machine.specs.Rows.{asked}
 use Rattle.im_engine_locks.specs.Found.{IsScanOf}
@@ -52,3 +53,18 @@ returns-clause-kept g c pages m tree is =
       decides = decided_as c.args.locks.now c.ask_range.new.locks c.args.transaction (asked (Scan lo hi c.args.limit) m) (asked (Scan lo hi c.args.limit) m) c.in_ok-verdict.verdict c.outcome_of.result (c.in_ok-verdict.ensures.decided m lo hi c.args.limit lent) refl c.outcome_of.ensures.verdict;
       says = says_as entries_found c.outcome_of.result c.in-Seen.list (answer (Scan lo hi c.args.limit) m) c.outcome_of.ensures.value (ap Entries scanned.entries);
     }
+
+pub returns-then-lacks_keys-clause-quiet : goal.returns-then-lacks_keys-clause-quiet
+returns-then-lacks_keys-clause-quiet g c set on = quiet_start c.args.writer.now c.args.disk.now
+
+pub returns-in_err-list-clause-quiet : goal.returns-in_err-list-clause-quiet
+returns-in_err-list-clause-quiet g c set on = c.in_err-list.ensures.quiet set c.requires.working on
+
+pub returns-in_default-clause-quiet : goal.returns-in_default-clause-quiet
+returns-in_default-clause-quiet g c set on = c.in_ok-list.ensures.quiet set c.requires.working on
+
+pub returns-in_err-verdict-clause-quiet : goal.returns-in_err-verdict-clause-quiet
+returns-in_err-verdict-clause-quiet g c set on = c.in_ok-list.ensures.quiet set c.requires.working on
+
+pub returns-clause-quiet : goal.returns-clause-quiet
+returns-clause-quiet g c set on = c.in_ok-list.ensures.quiet set c.requires.working on
