@@ -40,9 +40,10 @@
 //!
 //! # Memory
 //!
-//! `new` takes the memory of all frames, and of what finds them. No other call takes any, so that no other call is refused `Memory`. Nobody
-//! touches a frame's memory before its first use, those of the lowest places first: a system that hands memory out as it is touched
-//! hands out what is used.
+//! `new` takes the memory of all frames, and of what finds them. No other call takes any, so that no other call is refused `Memory`. It
+//! writes what finds the frames, and no frame: these stand in one list, which grows up to a place when the frame there is first changed.
+//! The free place that is taken next is the one that was given back last, else the lowest that was never taken. So a system that hands
+//! memory out as it is touched hands out that of as many frames as were ever held at once.
 //!
 //! # Speed
 //!
@@ -55,8 +56,8 @@
 //! Each call of `get` or of `get_absent` adds one to the pool's `gets`, whether it succeeds or not, and each of `get_held` that finds
 //! its page. That number has no bytes (`Count` of `im_base_disk`): it stands in contracts alone.
 //!
-//! The crate stands on `im_page` and on `im_base_disk`. A place is an index of the vector of frames; the invariant says that each place
-//! stands once among those of the held pages and the free ones.
+//! The crate stands on `im_page` and on `im_base_disk`. A place is an index of the list of frames, those not used yet among them; the
+//! invariant says that each place stands once among those of the held pages and the free ones.
 #![tactic(auto)]
 
 mod files;
