@@ -216,7 +216,7 @@ module _ {D : Type 0} (d : Ghosts D) (b : Base) (base : ℕ) where
     abbrev pub at : Evicted d b base s may.since w disk
     at = stands_behind s e t last undo_next may.start may.since may.unfinished may.calls
 
-    so_far : LeavesEdit d b base s t may.since disk
+    pub so_far : LeavesEdit d b base s t may.since disk
     so_far = calls_left s e t last undo_next may.start may.since may.unfinished may.calls
 
     tree : IsGoodTree (bodies s) []
@@ -256,7 +256,7 @@ module _ {D : Type 0} (d : Ghosts D) (b : Base) (base : ℕ) where
       room : HasRoom true (bodies s page).entries (key, 0)
       room = subst (λ (f : Pages). HasRoom true (f page).entries (key, 0)) settled_here leaf.room
 
-      none_lacks : {A : Type 0} → LacksRoomFor (bodies s) key → A
+      pub none_lacks : {A : Type 0} → LacksRoomFor (bodies s) key → A
       none_lacks {A} l = absurd (l.lacks (subst (λ (p : ℕ). HasRoom true (bodies s p).entries (key, 0)) (one_leaf (bodies s) [] key page l.page tree way l.way) room))
 
       abbrev pub comes_first : ComesTo d b base s e t last undo_next key dense max w disk
@@ -328,7 +328,7 @@ module _ {D : Type 0} (d : Ghosts D) (b : Base) (base : ℕ) where
     pages_are : settled_pages b s ≡ pages_of s
     pages_are = fun_ext (λ (p : ℕ). ap (λ (x : Body). record (s.pages p).page { body = x }) (ap (λ (f : Pages). f p) (settled_are d b base s e t last undo_next may.start may.since may.unfinished)))
 
-    planned : Planned dense (pages_of s) key (Some max) change.images leaf
+    pub planned : Planned dense (pages_of s) key (Some max) change.images leaf
     planned = subst (λ (store : AllPages). Planned dense store key (Some max) change.images leaf) pages_are may.planned
 
     run_by_owner : MayChange d b base from.now e change.images t last undo_next w disk
@@ -363,12 +363,12 @@ module _ {D : Type 0} (d : Ghosts D) (b : Base) (base : ℕ) where
     pub run_left : (new : D) → LeavesChange d b base from.now t disk new → LeavesEdit d b base s t may.since new
     run_left new stops = left_edit d b base s t may.since new (left_then d b base s t may.since from.now w disk may.unfinished.lawful from.on new stops)
 
-    not_none : (change.images ≡ []) ⊎ IsWithin dense (bodies s) key max → IsWithin dense (bodies s) key max
+    pub not_none : (change.images ≡ []) ⊎ IsWithin dense (bodies s) key max → IsWithin dense (bodies s) key max
     not_none (inl none) = let some : 1 ≤ length change.images = may.some in let zero_is : length change.images ≡ 0 = ap (λ (l : List Numbered). length l) none in absurd (omega (arith, some, zero_is))
     not_none (inr is) = is
 
     module _ (lsn : ℕ) (x : PageWriter) (new : D) (kept : ChangeKept d b base from.now e change.images t undo_next disk x new (Ok lsn)) where
-      pages_made : bodies kept.sound.now ≡ seen (pages_of s) change.images
+      pub pages_made : bodies kept.sound.now ≡ seen (pages_of s) change.images
       pages_made = fun_ext kept.sound.pages ∙ ap (λ (store : AllPages). seen store change.images) (pages_stay b s from.now from.on.goes.keeps)
 
       abbrev pub comes_split : ComesTo d b base s e t lsn undo_next key dense max x new

@@ -99,8 +99,11 @@ module _ {D : Type 0} (d : Ghosts D) (b : Base) (base : ℕ) (s : Writer) (e t l
       Says x = IfSeen (IsComingDecided false (IsComing (settled_pages b s) beside key dense max (contents b s.log)) table t key rid (contents b s.log) new) (TreeCause (settled b s.log) beside (Insert key rid) (contents b s.log) × (new ≡ table)) x
 
       -- nothing is hidden
-      pub never_hidden : sight ≡ Hidden → ⊥
+      never_hidden : sight ≡ Hidden → ⊥
       never_hidden is = let why = subst Says is laid.sound in cause_none (settled b s.log) beside (Insert key rid) (contents b s.log) none why.0
+
+      pub hides : sight ≡ Hidden → Kept w mid (Err Failed)
+      hides is = absurd (never_hidden is)
 
       module _ (answer : LockAnswer Coming) (seen : sight ≡ Seen answer) where
         decided : IsComingDecided false (IsComing (settled_pages b s) beside key dense max (contents b s.log)) table t key rid (contents b s.log) new answer
@@ -120,10 +123,10 @@ module _ {D : Type 0} (d : Ghosts D) (b : Base) (base : ℕ) (s : Writer) (e t l
 
         -- it is granted
         module _ (coming : Coming) (granted : answer ≡ Granted coming) where
-          asks : Decides table t (asks_of false coming key rid (contents b s.log)) GrantedAll new × IsComing (settled_pages b s) beside key dense max (contents b s.log) coming
+          pub asks : Decides table t (asks_of false coming key rid (contents b s.log)) GrantedAll new × IsComing (settled_pages b s) beside key dense max (contents b s.log) coming
           asks = decided_as (Granted coming) granted
 
-          locked : Decides table t (asked (Insert key rid) (contents b s.log)) GrantedAll new
+          pub locked : Decides table t (asked (Insert key rid) (contents b s.log)) GrantedAll new
           locked = asks_once coming table t key rid (contents b s.log) new asks.0
 
           abbrev pub may_insert : MayInsert d b base s e t last undo_next key dense max beside coming w mid

@@ -27,10 +27,6 @@ use Rattle.im_engine_access.specs.LockAnswers.{name_in, name_behind, seek_at}
 pub found_is : (m : IndexMap) (es : List Entry) (key : Key) (rid : Option ℕ) → es ≡ entries m → rid ≡ find key_order key es → get m key ≡ rid
 found_is m es key rid same is = sorted_find m key ∙ ap (λ (xs : List Entry). find key_order key xs) (sym same) ∙ sym is
 
--- and what the map has, the walk
-pub walk_says_map : (m : IndexMap) (es : List Entry) (key : Key) → es ≡ entries m → find key_order key es ≡ get m key
-walk_says_map m es key same = ap (λ (xs : List Entry). find key_order key xs) same ∙ sym (sorted_find m key)
-
 pub first_is : (s : Start) (m : IndexMap) (es : List Entry) → es ≡ entries m → first_in s es ≡ first s m
 unfolding first
 first_is s m es same = ap (first_in s) same
@@ -115,9 +111,6 @@ seek_says m key true found at = ap entry at
 seek_says m key false found at = ap entry at
 
 -- ---- what a change finds
-
-pub finds_any : (m : IndexMap) (key : Key) (there : Bool) (next : Name) → is_some (get m key) ≡ there → next ≡ next_name m key → FindsNextName m key there next
-finds_any m key there next is at = record { there_is = is; next_is = λ _. at }
 
 pub finds_both : (m : IndexMap) (key : Key) (there : Bool) (next : Name) → is_some (get m key) ≡ there → next ≡ next_name m key → FindsNext m key there next
 finds_both m key there next is at = record { there_is = is; next_is = at }

@@ -3,7 +3,7 @@ use Rattle.im_page_writer.proofs.Cited.{changed_none, log_refused, logs_for_more
 use Rattle.im_smo_actions.specs.GoingBeside.{settled_pages}
 use Rattle.im_engine_access.proofs.DeletesAtOnce.{failed_after}
 use Rattle.im_engine_access.proofs.Inserts.{log_late}
-use Rattle.im_engine_access.proofs.InsertsAtOnce.{dies, fails_once, map_here, may_insert, never_hidden, never_short, not_laid, put_once, tree_here, waits}
+use Rattle.im_engine_access.proofs.InsertsAtOnce.{dies, fails_once, hides, map_here, may_insert, never_short, not_laid, put_once, tree_here, waits}
 use Rattle.im_engine_access.proofs.Planning.{fewer_splits, late_table, never_full}
 use Rattle.im_engine_access.proofs.inserting.insert.Goals as goal
 
@@ -29,7 +29,7 @@ returns-in-Hidden-clause-kept g c b base s e may =
     let a = c.args in
     let t = a.transaction.now in
     let kept = c.in_ok-sight.ensures.kept (settled_pages b s) (contents b s.log) a.rid (tree_here g.D.Disk b base s e t.number t.last t.undo_next a.writer.now a.disk.now a.key.now a.rid a.dense a.max a.locks.now c.prepare_coming.new.locks may c.none.result c.none.ensures.pages) (map_here g.D.Disk b base s e t.number t.last t.undo_next a.writer.now a.disk.now a.key.now a.rid a.dense a.max a.locks.now c.prepare_coming.new.locks may c.none.result c.none.ensures.pages) in
-    absurd (never_hidden g.D.Disk b base s e t.number t.last t.undo_next a.writer.now a.disk.now a.key.now a.rid a.dense a.max a.locks.now c.prepare_coming.new.locks may c.none.result c.none.ensures.pages c.prepare_coming.new.writer c.prepare_coming.new.disk c.in_ok-sight.ensures.outcome c.in_ok-sight.sight kept c.in-Hidden.is)
+    hides g.D.Disk b base s e t.number t.last t.undo_next a.writer.now a.disk.now a.key.now a.rid a.dense a.max a.locks.now c.prepare_coming.new.locks may c.none.result c.none.ensures.pages c.prepare_coming.new.writer c.prepare_coming.new.disk c.in_ok-sight.ensures.outcome c.in_ok-sight.sight kept c.in-Hidden.is
 
 pub returns-in-Hidden-clause-table : goal.returns-in-Hidden-clause-table
 returns-in-Hidden-clause-table g c = λ is. absurd (never_short is)
