@@ -93,7 +93,7 @@ fn told_row(outcome: LockAnswer<Option<Rid>>) -> Told {
 }
 
 // What a search for one entry answered.
-fn told_entry(outcome: LockAnswer<Option<(Key, Rid)>>) -> Told {
+fn told_entry(outcome: LockAnswer<Option<(Box<Key>, Rid)>>) -> Told {
     match outcome {
         LockAnswer::Granted(Some((_, rid))) => Told::Row(rid),
         LockAnswer::Granted(None) => Told::Absent,
@@ -140,6 +140,7 @@ fn fetched<D: Disk>(
 
 // A search for the next entry.
 fn sought<D: Disk>(
+    alloc: Global,
     writer: &mut PageWriter,
     disk: &mut D,
     locks: &mut LockTable,
@@ -150,7 +151,16 @@ fn sought<D: Disk>(
     requires ready { IsReadyWriter D.Disk writer.old disk.old }
     ensures ready { IsReadyWriter D.Disk writer.new disk.new }
 {
-    match seek(writer, disk, locks, t, key, inclusive, Beside::none()) {
+    match seek(
+        alloc,
+        writer,
+        disk,
+        locks,
+        t,
+        key,
+        inclusive,
+        Beside::none(),
+    ) {
         Ok(Sight::Seen(outcome)) => told_entry(outcome),
         Ok(Sight::Hidden) => Told::Hidden,
         Err(fault) => Told::Refused(fault),
@@ -159,6 +169,7 @@ fn sought<D: Disk>(
 
 // A search for the entry before.
 fn sought_back<D: Disk>(
+    alloc: Global,
     writer: &mut PageWriter,
     disk: &mut D,
     locks: &mut LockTable,
@@ -168,7 +179,7 @@ fn sought_back<D: Disk>(
     requires ready { IsReadyWriter D.Disk writer.old disk.old }
     ensures ready { IsReadyWriter D.Disk writer.new disk.new }
 {
-    match prev(writer, disk, locks, t, key, Beside::none()) {
+    match prev(alloc, writer, disk, locks, t, key, Beside::none()) {
         Ok(Sight::Seen(outcome)) => told_entry(outcome),
         Ok(Sight::Hidden) => Told::Hidden,
         Err(fault) => Told::Refused(fault),
@@ -239,8 +250,8 @@ fn answer<D: Disk>(
 {
     match ask {
         Ask::Fetch(t, key) => fetched(writer, disk, locks, *t, key),
-        Ask::Seek(t, key, inclusive) => sought(writer, disk, locks, *t, key, *inclusive),
-        Ask::Prev(t, key) => sought_back(writer, disk, locks, *t, key),
+        Ask::Seek(t, key, inclusive) => sought(alloc, writer, disk, locks, *t, key, *inclusive),
+        Ask::Prev(t, key) => sought_back(alloc, writer, disk, locks, *t, key),
         Ask::Scan(t, lo, hi, limit) => { scanned(alloc, writer, disk, locks, *t, (lo, hi), *limit) }
         Ask::Delete(t, key) => delete_asked(writer, disk, locks, *t, key),
         Ask::Hold(t, key) => hold(locks, *t, key),
