@@ -23,7 +23,7 @@ use im_smo_log::late;
 use im_tree_search::{Beside, Sight};
 use std::alloc::Global;
 
-/// Drops a key, for a transaction that is going, where no structure change is under way. Its locks are those that `ask_delete` asks. A leaf other than
+/// Drops a key, for a transaction that is going, where no structure change is under way. Its locks are those that the access asks. A leaf other than
 /// the root that is left empty is taken out of the tree, after the key's record: it is what `delete_beside` begins, made at once. It answers what the
 /// transaction's row notes, and `None` where the key is not there.
 ///

@@ -10,7 +10,6 @@
 //! - `scan` answers the entries of a range.
 //! - Beside another transaction's structure change that is made page by page (`Beside`) these four answer as over the tree from before it; where
 //!   they would have to read a page that is made, they are hidden, and ask no lock. Beside none, nothing is.
-//! - `ask_delete` asks the locks of a delete, and holds the leaf where it goes.
 //! - `log_insert` and `log_delete` log the change on that leaf, after which the log is lawful and the transaction not finished. Another
 //!   transaction's structure change may be open that has not changed that leaf.
 //! - `insert` searches the key's leaf, plans the split that it wants, asks its locks, and logs its key where they are granted, after that split. What it
@@ -33,12 +32,10 @@ mod inserting_beside;
 mod lock_answer;
 mod logging;
 mod noted;
-mod place;
 mod reads;
 mod scans;
 
 pub use begun::{Deleting, Inserting};
-pub use changes::ask_delete;
 pub use deleting::delete;
 pub use deleting_beside::delete_beside;
 pub use inserting::insert;
@@ -46,6 +43,5 @@ pub use inserting_beside::{insert_beside, insert_end};
 pub use lock_answer::LockAnswer;
 pub use logging::{log_delete, log_insert};
 pub use noted::Noted;
-pub use place::Place;
 pub use reads::{fetch, prev, seek};
 pub use scans::scan;

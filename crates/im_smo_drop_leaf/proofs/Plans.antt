@@ -29,25 +29,7 @@ use Rattle.im_smo_drop_leaf.proofs.Leaving.{chain_drops, chain_keeps, leaves_bes
 pub the_leaf : (pages : Pages) (key : Key) (parent : ℕ) (place : ChildPlace) (n : ℕ) (above : List ℕ) (p : ℕ) → IsGoodTree pages [] → IsPlaced pages key parent place 0 n above → IsOnWay pages 0 key p → n ≡ p
 the_leaf pages key parent place n above p good at way = one_leaf pages [] key n p good at.way way
 
--- where that one is empty and not page 1, it is so
-pub record IsSpare (pages : Pages) (key : Key) (parent : ℕ) (place : ChildPlace) (n : ℕ) (above : List ℕ) (p : ℕ) : Type 0 where
-  pub is : n ≡ p
-  pub level : HasLevel 0 (pages n)
-  pub empty : (pages n).entries ≡ []
-  pub other : n ≢ 1
-
-pub spare_leaf : (pages : Pages) (key : Key) (parent : ℕ) (place : ChildPlace) (n : ℕ) (above : List ℕ) (p : ℕ) → IsGoodTree pages [] → IsPlaced pages key parent place 0 n above → IsOnWay pages 0 key p → (pages p).entries ≡ [] → p ≢ 1
-    → IsSpare pages key parent place n above p
-spare_leaf pages key parent place n above p good at way none other =
-    let is : n ≡ p = the_leaf pages key parent place n above p good at way in
-    record {
-      is = is;
-      level = way_level pages 0 key n at.way;
-      empty = ap (λ (x : ℕ). (pages x).entries) is ∙ none;
-      other = λ root. other (sym is ∙ root);
-    }
-
--- where it has one entry, it is so
+-- the leaf of a key, where it has one entry and is not page 1
 pub record IsLast (pages : Pages) (n p : ℕ) : Type 0 where
   pub is : n ≡ p
   pub level : HasLevel 0 (pages n)

@@ -46,9 +46,6 @@ inner_level pages tree h key n same some way = subst (HasLevel h) (sym (inner_sa
 pub same_self : (pages : Pages) → SameAbove pages pages
 same_self pages = record { kind = λ q. refl; level = λ q. refl; inner = λ q is. refl }
 
-pub but_self : (pages : Pages) (n : ℕ) → (pages n).kind ≡ Leaf → SameBut n pages pages
-but_self pages n leaf = record { leaf = leaf; others = λ q other. refl }
-
 -- ---- the leaf without its entries
 
 emptied_here : (pages : AllPages) (p : ℕ) → bodies (emptied pages p) p ≡ with_entries (bodies pages p) []

@@ -8,11 +8,10 @@
 //! empty leaf. The leaves beside the leaf name each other then. The pages that went are given back, the leaf first and then
 //! upward, so that the highest is the first free one. An inner page with one child left stays.
 //!
-//! - `reading`: what an empty leaf says of the leaves beside it; nothing is changed.
 //! - `way`: one pass down from the root notes the pages that go, and where they hang (`IsPlaced`).
 //! - `dropping`: the parent loses the child, and the leaf goes out of the chain of leaves.
 //! - `giving`: the pages are given back.
-//! - `emptying`: the leaf without its last entry, for a plan that is made before that entry is taken out.
+//! - `emptying`: the leaf without its last entry, as the plan is made before that entry is taken out; the leaves beside it.
 //!
 //! It is total: where the pages are none of a good tree it is refused, and the images are dropped. In a good tree whose leaf for
 //! the key is empty and is not page 1, the images, put in the place of the pages that are there, are a good tree with the same
@@ -33,4 +32,4 @@ mod plan;
 mod way;
 
 pub use kept_ways::deletion_plans_keep_ways;
-pub use plan::{plan_delete, plan_delete_last};
+pub use plan::plan_delete_last;

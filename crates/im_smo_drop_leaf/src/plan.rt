@@ -13,7 +13,7 @@ ghost use Rattle.im_smo_drop_leaf.specs.Emptied.{emptied, SameBut};
 ghost use Rattle.im_smo_drop_leaf.specs.Plan.{IsPlan};
 ghost use Rattle.im_smo_drop_leaf.specs.Ways.{IsPlaced};
 
-use crate::beside::{Beside, beside_of};
+use crate::beside::Beside;
 use crate::dropping::take_out;
 use crate::emptying::put_emptied;
 use crate::giving::give_back;
@@ -46,39 +46,13 @@ fn drop_chain<D: Disk>(
     give_back(alloc, images, writer, disk, above, leaf.number)
 }
 
-/// The pages that have to be written so that the empty leaf of a key leaves the tree, as images: the leaf in whose range the
-/// key lies is empty and is not page 1. Put in the place of the pages that are there they are a good tree with the same walk
-/// and no page spare, in which that leaf's page is free.
+/// The pages that have to be written so that the leaf of a key leaves the tree, as images, planned before its last entry is taken out,
+/// so that memory for the plan is asked before the record that takes it out: the leaf in whose range the key lies has one entry and is not
+/// page 1. Put in the place of the pages without that entry they are a good tree with the same walk and no page spare, in which that
+/// leaf's page is free.
 ///
-/// Refused `NotAStore` where the leaf has an entry or is page 1, or a page on the way, beside the leaf or in front of the free
-/// list is none of its kind; otherwise as `PageWriter::get` is, and `Memory`. No page of the pool is changed.
-pub fn plan_delete<D: Disk>(
-    alloc: Global,
-    writer: &mut PageWriter,
-    disk: &mut D,
-    key: &[u8],
-) -> Result<Images, Fault>
-    requires ready { IsReadyWriter D.Disk writer.old disk.old }
-    requires working { writer.old.failed ≡ false }
-    ensures outcome { Plans D.Disk writer.old disk.old writer.new disk.new (fault_of result) }
-    ensures kept { (pages : AllPages) → HasPages D.Disk AreLoaded pages writer.old disk.old → IsGoodTree (bodies pages) [] → (p : ℕ) → IsOnWay (bodies pages) 0 key.now p → (bodies pages p).entries ≡ [] → p ≢ 1
-        → IsSound result (IsPlan pages p) }
-{
-    let mut above = Vec::new(alloc);
-    let leaf = find_chain(&mut above, writer, disk, key)?;
-    if leaf.number == 1 {
-        return Err(Fault::NotAStore);
-    }
-    let beside = beside_of(writer, disk, leaf.number)?;
-    let mut images = Images::new(alloc);
-    drop_chain(alloc, &mut images, writer, disk, &mut above, leaf, beside)?;
-    Ok(images)
-}
-
-/// The same before the last entry of a key's leaf is taken out, so that memory for the plan is asked before the record that takes it
-/// out: the leaf in whose range the key lies has one entry and is not page 1. The plan is that of the pages without that entry.
-///
-/// Refused `NotAStore` where the leaf has another number of entries or is page 1; otherwise as `plan_delete` is.
+/// Refused `NotAStore` where the leaf has another number of entries or is page 1, or a page on the way, beside the leaf or in front of the
+/// free list is none of its kind; otherwise as `PageWriter::get` is, and `Memory`. No page of the pool is changed.
 pub fn plan_delete_last<D: Disk>(
     alloc: Global,
     writer: &mut PageWriter,

@@ -1,9 +1,9 @@
-//! A leaf left empty under a chain of pages: they go with it.
+//! A leaf that loses its last entry under a chain of pages: they go with it.
 use crate::pages::{add_leaf, add_meta, put, shown};
 use crate::shared::{end, opened};
 use im_base_types::{Fault, PageKind, PageNo};
 use im_page::Page;
-use im_smo_drop_leaf::plan_delete;
+use im_smo_drop_leaf::plan_delete_last;
 use im_smo_pages::Images;
 use std::alloc::Global;
 use std::test::Fail;
@@ -40,7 +40,7 @@ fn add_two_chains(file: &mut Vec<u8>) -> Result<(), Fail> {
         add_single(file, *level, *child)?;
     }
     add_leaf(file, b"a", 0, 7)?;
-    add_leaf(file, b"", 6, 0)
+    add_leaf(file, b"x", 6, 0)
 }
 
 // The plan of a delete over these pages.
@@ -48,7 +48,7 @@ fn plan(alloc: Global, key: u8) -> Result<Result<Images, Fault>, Fail> {
     let mut pages = Vec::new(alloc);
     add_two_chains(&mut pages)?;
     let (mut writer, mut disk) = opened(alloc, pages)?;
-    let planned = plan_delete(alloc, &mut writer, &mut disk, &[key]);
+    let planned = plan_delete_last(alloc, &mut writer, &mut disk, &[key]);
     end(writer, disk);
     Ok(planned)
 }

@@ -4,8 +4,8 @@ ghost use Rattle.im_page_writer.specs.PageWriter.{IsReadyWriter};
 use crate::pages::add_three_leaves;
 use crate::shared::{end, opened};
 use im_base_disk::Disk;
-use im_base_types::{Fault, Key, PageNo, Rid, TxnId};
-use im_engine_access::{LockAnswer, Place, ask_delete, fetch, prev, scan, seek};
+use im_base_types::{Fault, Key, Rid, TxnId};
+use im_engine_access::{LockAnswer, fetch, prev, scan, seek};
 use im_engine_locks::{LockTable, Name, Request};
 use im_page_writer::PageWriter;
 use im_theory_machine::{Duration, Mode, Verdict};
@@ -23,8 +23,6 @@ enum Ask {
     Prev(TxnId, &'static [u8]),
     // The entries of a range, up to a limit.
     Scan(TxnId, &'static [u8], &'static [u8], usize),
-    // The locks of a delete.
-    Delete(TxnId, &'static [u8]),
     // To hold a key against every other.
     Hold(TxnId, &'static [u8]),
     // Whether a key is locked.
@@ -41,8 +39,6 @@ enum Told {
     Absent,
     // How many entries there are.
     Many(usize),
-    // The number of a key's leaf, and its row id, 0 where there is none.
-    Leaf(PageNo, u64),
     Wait(TxnId),
     Die,
     Held,
@@ -106,15 +102,6 @@ fn told_entry(outcome: LockAnswer<Option<(Box<Key>, Rid)>>) -> Told {
 fn told_many(outcome: LockAnswer<Vec<(Key, Rid)>>) -> Told {
     match outcome {
         LockAnswer::Granted(list) => Told::Many(list.len()),
-        LockAnswer::Wait(holder) => Told::Wait(holder),
-        LockAnswer::Die => Told::Die,
-    }
-}
-
-// What the request for a change's locks answered.
-fn told_place(outcome: LockAnswer<Place>) -> Told {
-    match outcome {
-        LockAnswer::Granted(place) => Told::Leaf(place.leaf.number, place.rid.unwrap_or(0)),
         LockAnswer::Wait(holder) => Told::Wait(holder),
         LockAnswer::Die => Told::Die,
     }
@@ -220,23 +207,6 @@ fn scanned<D: Disk>(
     }
 }
 
-// A request for the locks of a delete.
-fn delete_asked<D: Disk>(
-    writer: &mut PageWriter,
-    disk: &mut D,
-    locks: &mut LockTable,
-    t: TxnId,
-    key: &[u8],
-) -> Told
-    requires ready { IsReadyWriter D.Disk writer.old disk.old }
-    ensures ready { IsReadyWriter D.Disk writer.new disk.new }
-{
-    match ask_delete(writer, disk, locks, t, key) {
-        Ok(outcome) => told_place(outcome),
-        Err(fault) => Told::Refused(fault),
-    }
-}
-
 // What is answered to one request.
 fn answer<D: Disk>(
     alloc: Global,
@@ -253,7 +223,6 @@ fn answer<D: Disk>(
         Ask::Seek(t, key, inclusive) => sought(alloc, writer, disk, locks, *t, key, *inclusive),
         Ask::Prev(t, key) => sought_back(alloc, writer, disk, locks, *t, key),
         Ask::Scan(t, lo, hi, limit) => { scanned(alloc, writer, disk, locks, *t, (lo, hi), *limit) }
-        Ask::Delete(t, key) => delete_asked(writer, disk, locks, *t, key),
         Ask::Hold(t, key) => hold(locks, *t, key),
         Ask::IsLocked(key) => locked(locks, Name::Key(key)),
         Ask::IsEndLocked => locked(locks, Name::End),
@@ -431,15 +400,6 @@ static ROWS: [(&str, &[Ask], &[Told]); 10] = [
             Ask::IsLocked(b"m"),
         ],
         &[Told::Many(1), Told::Locked(true), Told::Locked(false)],
-    ),
-    (
-        "a_delete_locks_the_next_name",
-        &[
-            Ask::Delete(1, b"b"),
-            Ask::IsLocked(b"m"),
-            Ask::IsLocked(b"b"),
-        ],
-        &[Told::Leaf(2, 98), Told::Locked(true), Told::Locked(false)],
     ),
 ];
 

@@ -7,8 +7,8 @@ use im_base_disk::Disk;
 use im_base_types::{Fault, Key, PageNo, Rid};
 use im_page_writer::PageWriter;
 use im_tree_search::{
-    Beside, NextKey, Sight, entries, entries_between, leaf_and_next, leaf_for, next_entry,
-    prev_entry, value_of,
+    Beside, NextKey, Sight, entries, entries_between, leaf_beside, leaf_for, next_entry,
+    next_in_leaf_beside, prev_entry, value_of,
 };
 use std::alloc::Global;
 use std::test::Fail;
@@ -118,8 +118,14 @@ fn beside<D: Disk>(writer: &mut PageWriter, disk: &mut D, key: &[u8]) -> Told
     requires ready { IsReadyWriter D.Disk writer.old disk.old }
     ensures ready { IsReadyWriter D.Disk writer.new disk.new }
 {
-    let (frame, next) = match leaf_and_next(writer, disk, key) {
-        Ok(found) => found,
+    let leaf = match leaf_beside(writer, disk, key, Beside::none()) {
+        Ok(Sight::Seen(leaf)) => leaf,
+        Ok(Sight::Hidden) => return Told::Hidden,
+        Err(fault) => return Told::Refused(fault),
+    };
+    let (frame, next) = match next_in_leaf_beside(writer, disk, leaf, key, Beside::none()) {
+        Ok(Sight::Seen(found)) => found,
+        Ok(Sight::Hidden) => return Told::Hidden,
         Err(fault) => return Told::Refused(fault),
     };
     match next {

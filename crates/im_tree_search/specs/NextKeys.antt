@@ -1,5 +1,5 @@
 -- The key after a key.
-use Rattle.std.specs.Prelude.{◌≡◌, ◌+◌, ◌<◌, ℕ, List, length, Option, Some, None, option_map}
+use Rattle.std.specs.Prelude.{◌≡◌, ◌<◌, ℕ, List, length, Option, Some, None, option_map}
 use Rattle.im_base_types.specs.Keys.{Key}
 use Rattle.im_base_types.specs.Pages.{Entry}
 use Rattle.im_base_types.specs.Maps.{Above, first_in}
@@ -7,7 +7,7 @@ use Rattle.im_theory_page.specs.Entry.{entry_at}
 use Rattle.im_page_pool.specs.declared.frame.Frame.{Frame}
 use Rattle.im_page_pool.specs.Pool.{PoolView, page_at}
 use Rattle.im_page_writer.specs.Outcome.{AllPages}
-use Rattle.im_theory_tree.specs.Levels.{Pages, height, walk}
+use Rattle.im_theory_tree.specs.Levels.{Pages, walk}
 use Rattle.im_tree_search.specs.declared.next_key.NextKey.{NextKey}
 use Rattle.im_tree_search.specs.declared.next_key.NextKey.TheVariants.{Here, There, End}
 use Rattle.im_tree_search.specs.Levels.{HasLevel, bodies_of}
@@ -57,9 +57,3 @@ pub record IsNextInLeaf (pages : AllPages) (key : Key) (p : ℕ) (next : NextKey
   pub leaf : IsReached pages key 0 p pool
   pub name : next_name pool p next ≡ name_above key (bodies_of pages)
   pub gets : IsHere next → pool.gets ≡ old_gets
-
--- The key's leaf is held, and is the writer's, and what is answered beside it names the first key of the walk above the key; by one get for each level, where that key stands in the leaf.
-pub record IsLeafAndNext (pages : AllPages) (key : Key) (p : ℕ) (next : NextKey) (old_gets : ℕ) (pool : PoolView) : Type 0 where
-  pub leaf : IsReached pages key 0 p pool
-  pub name : next_name pool p next ≡ name_above key (bodies_of pages)
-  pub gets : IsHere next → pool.gets ≡ old_gets + (height (bodies_of pages) + 1)

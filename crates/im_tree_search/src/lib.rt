@@ -8,7 +8,7 @@
 //!   leaf, and from there along the leaf chain past leaves that have no such entry.
 //! - `prev_entry` answers where the last entry below a key stands: down to the key's leaf, and from there back along the leaf chain.
 //!   `place_around` answers it and the first at or above the key of a page that has both.
-//! - `leaf_and_next` answers the leaf of a key, and the key after it; `next_in_leaf` answers that key beside a leaf that the caller holds.
+//! - `next_in_leaf_beside` answers the key after a key, beside the key's leaf, which the caller holds.
 //! - `entries` answers copies of all entries, along the leaf chain.
 //! - `entries_between` answers copies of the entries of a range, at most so many, and the key after them.
 //! - `level_of` answers the level of a page of the tree, `child_of` the child of an inner page on a key's way, and where it
@@ -17,7 +17,7 @@
 //!
 //! Beside a structure change that is made page by page (`Beside`) a search goes on over the pages that are not made yet, and answers as over
 //! the tree from before the change; where it would have to read a page that is made, it answers `Hidden`. Where nothing is hidden, beside
-//! nothing (`Beside::none`), three have a form for who has no change: `leaf_for` of `leaf_beside`, `next_in_leaf` and `leaf_and_next`.
+//! nothing (`Beside::none`), one has a form for who has no change: `leaf_for` of `leaf_beside`.
 //!
 //! The contract: where the pages are a good tree, all with their copies loaded (`HasTree`), the answers are those of the
 //! walk, the entries of the leaves from left to right; the number of gets is the root's level plus one; and no search is
@@ -65,8 +65,6 @@ pub use level_and_child::{child_in, child_of, level_of};
 pub use levels::{has_level, tree_page};
 pub use listing::entries;
 pub use lookup::value_of;
-pub use next_key::{
-    NextKey, leaf_and_next, leaf_and_next_beside, next_in_leaf, next_in_leaf_beside,
-};
+pub use next_key::{NextKey, next_in_leaf_beside};
 pub use range::entries_between;
 pub use sight::Sight;

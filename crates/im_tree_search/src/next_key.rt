@@ -1,4 +1,4 @@
-//! The leaf of a key, and the key after it.
+//! The key after a key.
 
 ghost use Rattle.std.specs.Prelude.{◌≡◌, ◌≤◌, ◌<◌, ℕ, Bool, false, true, IfOk, length};
 ghost use Rattle.im_base_types.specs.Maps.{Above};
@@ -8,19 +8,17 @@ ghost use Rattle.im_page_writer.specs.PageWriter.{IsReadyWriter};
 ghost use Rattle.im_page_writer.specs.Outcome.{fault_of, AllPages, IsSound, Reads};
 ghost use Rattle.im_theory_tree.specs.Lookups.{IsAhead};
 ghost use Rattle.im_tree_search.specs.Levels.{HasLevel, bodies_of};
-ghost use Rattle.im_tree_search.specs.Found.{HasTree, IsReached};
+ghost use Rattle.im_tree_search.specs.Found.{IsReached};
 ghost use Rattle.im_tree_search.specs.HeldPages.{HoldsOn, IsQuiet};
-ghost use Rattle.im_tree_search.specs.NextKeys.{far_name, name_above, IsFar, IsWithinLeaf, IsNextInLeaf, IsLeafAndNext};
+ghost use Rattle.im_tree_search.specs.NextKeys.{far_name, name_above, IsFar, IsWithinLeaf, IsNextInLeaf};
 ghost use Rattle.im_tree_search.specs.declared.next_key.NextKey.TheVariants.{There};
 ghost use Rattle.im_tree_search.specs.Beside.{Comes, MeetsDone};
 ghost use Rattle.im_tree_search.specs.Sights.{HasTreeBut, IfSeen, is_done};
 
 use crate::change_beside::Beside;
-use crate::descent::leaf_beside;
 use crate::leaf_chain::{first_along, first_past};
 use crate::levels::page_beside;
 use crate::sight::Sight;
-use crate::sights::seen;
 use im_base_disk::Disk;
 use im_base_types::{Fault, Key, PageNo};
 use im_page::Page;
@@ -71,8 +69,9 @@ fn name_along<D: Disk>(
     Ok(Sight::Seen(copied(writer.page(place.frame), place.at)))
 }
 
-/// The next key above a key beside a structure change, beside the key's leaf, which is held. It is hidden where the key's leaf has to be
-/// got again and is made, or the walk along the chain comes to a leaf that is.
+/// The next key above a key, beside the key's leaf, which is held: the leaf's own entries are looked at first, by no get; where none is
+/// above the key, the search goes along the leaf chain, and then gets the leaf again. Answered is where the leaf is held from now on. Beside a
+/// structure change it is hidden where the key's leaf has to be got again and is made, or the walk along the chain comes to a leaf that is.
 ///
 /// Refused as `next_entry` is.
 #[tactic(auto, using(im_page_writer::proofs::Outcomes::then, im_page_writer::proofs::Outcomes::refused))]
@@ -107,74 +106,4 @@ pub fn next_in_leaf_beside<D: Disk>(
         return Ok(Sight::Hidden);
     };
     Ok(Sight::Seen((frame, name)))
-}
-
-/// The next key above a key, beside the key's leaf, which is held: the leaf's own entries are looked at first, by no get; where none is
-/// above the key, the search goes along the leaf chain, and then gets the leaf again. Answered is where the leaf is held from now on.
-///
-/// Refused as `next_entry` is.
-pub fn next_in_leaf<D: Disk>(
-    writer: &mut PageWriter,
-    disk: &mut D,
-    leaf: Frame,
-    key: &[u8],
-) -> Result<(Frame, NextKey), Fault>
-    requires ready { IsReadyWriter D.Disk writer.old disk.old }
-    requires working { writer.old.failed ≡ false }
-    requires at { IsAt writer.old.pool leaf }
-    requires page { HasLevel 0 (page_at writer.old.pool leaf.number).body }
-    ensures outcome { Reads D.Disk writer.old disk.old writer.new disk.new (fault_of result) }
-    ensures kept { (pages : AllPages) → HasTree D.Disk pages writer.old disk.old → IsReached pages key.now 0 leaf.number writer.old.pool
-        → IsSound result (λ x. IsNextInLeaf pages key.now x.0.number x.1 writer.old.pool.gets writer.new.pool) }
-    ensures at { IfOk result (λ x. IsAt writer.new.pool x.0) }
-    ensures number { IfOk result (λ x. x.0.number ≡ leaf.number) }
-    ensures leaf { IfOk result (IsWithinLeaf writer.new.pool) }
-    ensures quiet { (set : ℕ → Bool) → HoldsOn key.now writer.old.pool set → set leaf.number ≡ true → IsQuiet writer.old disk.old writer.new disk.new }
-{
-    seen(next_in_leaf_beside(writer, disk, leaf, key, Beside::none()))
-}
-
-/// Where the leaf of a key is held from now on, and the next key above it, beside a structure change. It is hidden where a page on the
-/// key's way is made, or a leaf that the walk along the chain comes to.
-///
-/// Refused as `next_entry` is.
-#[tactic(auto, using(im_page_writer::proofs::Outcomes::then, im_page_writer::proofs::Outcomes::refused))]
-pub fn leaf_and_next_beside<D: Disk>(
-    writer: &mut PageWriter,
-    disk: &mut D,
-    key: &[u8],
-    beside: Beside<'_>,
-) -> Result<Sight<(Frame, NextKey)>, Fault>
-    requires ready { IsReadyWriter D.Disk writer.old disk.old }
-    ensures outcome { Reads D.Disk writer.old disk.old writer.new disk.new (fault_of result) }
-    ensures kept { (pages : AllPages) → HasTreeBut D.Disk pages beside.entry writer.old disk.old
-        → IsSound result (IfSeen (λ x. IsLeafAndNext pages key.now x.0.number x.1 writer.old.pool.gets writer.new.pool) (MeetsDone (bodies_of pages) (is_done beside.entry) (Above key.now))) }
-    ensures at { IfOk result (IfSeen (λ x. IsAt writer.new.pool x.0) (1 ≤ beside.entry.done)) }
-    ensures leaf { IfOk result (IfSeen (IsWithinLeaf writer.new.pool) Unit) }
-    ensures quiet { (set : ℕ → Bool) → writer.old.failed ≡ false → HoldsOn key.now writer.old.pool set → IsQuiet writer.old disk.old writer.new disk.new }
-{
-    let Sight::Seen(leaf) = leaf_beside(writer, disk, key, beside)? else {
-        return Ok(Sight::Hidden);
-    };
-    next_in_leaf_beside(writer, disk, leaf, key, beside)
-}
-
-/// Where the leaf of a key is held from now on, and the next key above it. The leaf's own entries are looked at first, by one get for
-/// each level; where none is above the key, the search goes along the leaf chain, and then gets the leaf again, so that it is held.
-///
-/// Refused as `next_entry` is.
-pub fn leaf_and_next<D: Disk>(
-    writer: &mut PageWriter,
-    disk: &mut D,
-    key: &[u8],
-) -> Result<(Frame, NextKey), Fault>
-    requires ready { IsReadyWriter D.Disk writer.old disk.old }
-    ensures outcome { Reads D.Disk writer.old disk.old writer.new disk.new (fault_of result) }
-    ensures kept { (pages : AllPages) → HasTree D.Disk pages writer.old disk.old
-        → IsSound result (λ x. IsLeafAndNext pages key.now x.0.number x.1 writer.old.pool.gets writer.new.pool) }
-    ensures at { IfOk result (λ x. IsAt writer.new.pool x.0) }
-    ensures leaf { IfOk result (IsWithinLeaf writer.new.pool) }
-    ensures quiet { (set : ℕ → Bool) → writer.old.failed ≡ false → HoldsOn key.now writer.old.pool set → IsQuiet writer.old disk.old writer.new disk.new }
-{
-    seen(leaf_and_next_beside(writer, disk, key, Beside::none()))
 }
