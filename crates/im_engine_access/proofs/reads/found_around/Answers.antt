@@ -64,6 +64,12 @@ returns-in_default-clause-quiet g c set working on back = c.in_ok-leaf.ensures.q
 pub returns-in-Some-clause-quiet : goal.returns-in-Some-clause-quiet
 returns-in-Some-clause-quiet g c set working on back = c.in_ok-leaf.ensures.quiet set working on.way
 
+pub returns-in_err-below-clause-quiet : goal.returns-in_err-below-clause-quiet
+returns-in_err-below-clause-quiet g c set working on back = c.in_ok-leaf.ensures.quiet set working on.way
+
+pub returns-in_err-next-clause-quiet : goal.returns-in_err-next-clause-quiet
+returns-in_err-next-clause-quiet g c set working on back = c.in_ok-leaf.ensures.quiet set working on.way
+
 pub returns-in_err-next-2-clause-quiet : goal.returns-in_err-next-2-clause-quiet
 returns-in_err-next-2-clause-quiet g c set working on back =
     let e = c.in_ok-leaf.ensures in
