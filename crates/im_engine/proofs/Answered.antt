@@ -31,7 +31,7 @@ use Rattle.im_engine.specs.Faults.{told_as, ends_engine}
 use Rattle.im_engine.specs.Kept.{StepKept}
 use Rattle.im_engine.specs.Numbered.{Numbered, besides_rows}
 use Rattle.im_engine.specs.Running.{IsLife, IsRunning}
-use Rattle.im_engine.specs.Told.{Fixed, HasNext, IsAnswered, IsMade, IsPaced, Known, SuitsGroup, WantsHere, after, fixed_of, is_early}
+use Rattle.im_engine.specs.Told.{Fixed, HasNext, IsAnswered, IsIdle, IsMade, IsPaced, Known, SuitsGroup, WantsHere, after, fixed_of, is_early}
 use Rattle.im_engine.proofs.Telling.{is_refused, told_answered, told_refused}
 
 -- ---- what the engine has of the call below
@@ -96,10 +96,10 @@ module _ {D : Type 0} (d : Ghosts D) (t : ℕ) (a : Access) (old new : Engine D 
     pub at_once : old.stepped ≡ false → SuitsAtOnce (Do t a) (told_by reply)
     pub grouped : SuitsGroup (Do t a) reply old.txns
 
-  pub exit_made : (works : old.failed ≡ false) (fixed : fixed_of d new ≡ fixed_of d old) (reply : Reply) → IsPlain reply → besides_rows new.txns ≡ besides_rows old.txns → length new.txns.rows ≡ length old.txns.rows → new.failed ≡ false → d.failed new.disk ≡ false → new.writer.pool.frames ≡ old.writer.pool.frames
+  pub exit_made : (IsIdle d (Do t a) old → new.disk ≡ old.disk) → (works : old.failed ≡ false) (fixed : fixed_of d new ≡ fixed_of d old) (reply : Reply) → IsPlain reply → besides_rows new.txns ≡ besides_rows old.txns → length new.txns.rows ≡ length old.txns.rows → new.failed ≡ false → d.failed new.disk ≡ false → new.writer.pool.frames ≡ old.writer.pool.frames
       → ((before : List Effect) (s : Shown) (v : View) → IsLife d before s v old → StepKept d before s v (Do t a) (told_by reply) old new) → IsAnswered d (Do t a) reply old new → IsPaced d (Do t a) reply old new
       → ((b : Base) (before : List Effect) (s : Shown) (v : View) (r : IsRunning d b before s v old) → WantsHere d b before s v r (Do t a) reply new) → IsMade d (Do t a) reply old new
-  exit_made works fixed reply plain rest rows works_on alive frames kept answered paced wants = record {
+  exit_made quiet works fixed reply plain rest rows works_on alive frames kept answered paced wants = record {
     kept = kept;
     told = told_answered d old new works rest fixed reply plain.stays plain.late plain.answered plain.number works_on rows alive;
     answered = answered;
@@ -109,7 +109,7 @@ module _ {D : Type 0} (d : Ghosts D) (t : ℕ) (a : Access) (old new : Engine D 
     grouped = plain.grouped;
     frames = frames;
     wants = wants;
-    quiet = λ none. absurd (none tt);
+    quiet = quiet;
     costs = tt;
   }
 
@@ -120,10 +120,10 @@ module _ {D : Type 0} (d : Ghosts D) (t : ℕ) (a : Access) (old new : Engine D 
   dies_plain = record { stays = λ k. refl; late = refl; answered = refl; number = tt; suits = refl; at_once = λ _. refl; grouped = tt }
 
   -- a call below refused it
-  pub refused_made : (works : old.failed ≡ false) (fixed : fixed_of d new ≡ fixed_of d old) (f : Fault) → new.failed ≡ ends_engine f → new.txns ≡ old.txns → ((f ≡ Memory) ⊎ (f ≡ PagesFull) → SameTable old.locks new.locks) → (d.failed new.disk ≡ true → told_as f ≡ faults.Device) → new.writer.pool.frames ≡ old.writer.pool.frames
+  pub refused_made : (IsIdle d (Do t a) old → new.disk ≡ old.disk) → (works : old.failed ≡ false) (fixed : fixed_of d new ≡ fixed_of d old) (f : Fault) → new.failed ≡ ends_engine f → new.txns ≡ old.txns → ((f ≡ Memory) ⊎ (f ≡ PagesFull) → SameTable old.locks new.locks) → (d.failed new.disk ≡ true → told_as f ≡ faults.Device) → new.writer.pool.frames ≡ old.writer.pool.frames
       → ((before : List Effect) (s : Shown) (v : View) → IsLife d before s v old → StepKept d before s v (Do t a) (answers.Refused (number_of (told_as f))) old new) → IsAnswered d (Do t a) (replies.Refused (told_as f)) old new → IsPaced d (Do t a) (replies.Refused (told_as f)) old new
       → ((b : Base) (before : List Effect) (s : Shown) (v : View) (r : IsRunning d b before s v old) → WantsHere d b before s v r (Do t a) (replies.Refused (told_as f)) new) → IsMade d (Do t a) (replies.Refused (told_as f)) old new
-  refused_made works fixed f fails table locks lost frames kept answered paced wants = record {
+  refused_made quiet works fixed f fails table locks lost frames kept answered paced wants = record {
     kept = kept;
     told = told_refused d old new works (ap besides_rows table) fixed f (told_as f) refl fails table locks lost;
     answered = answered;
@@ -133,6 +133,6 @@ module _ {D : Type 0} (d : Ghosts D) (t : ℕ) (a : Access) (old new : Engine D 
     grouped = tt;
     frames = frames;
     wants = wants;
-    quiet = λ none. absurd (none tt);
+    quiet = quiet;
     costs = tt;
   }

@@ -86,31 +86,31 @@ module _ {D : Type 0} (d : Ghosts D) (t : ℕ) (key : Key) (rid : ℕ) (old : En
 
     put_made : (x : Option Noted) → Put (Ok (Granted x)) → new.failed ≡ false → (noted : Noted) → x ≡ Some noted → new.txns ≡ record old.txns { rows = map (changed t (with_made noted.last)) old.txns.rows } → IsMade d (Do t (Insert key rid)) replies.Inserted old new
     put_made x has on noted some table =
-        exit_made d t (Insert key rid) old new works put_fixed replies.Inserted (record { stays = λ k. refl; late = refl; answered = refl; number = tt; suits = refl; at_once = λ _. refl; grouped = tt }) (ap besides_rows table) (ap (λ (z : Numbered). length z.rows) table ∙ length-map old.txns.rows (changed t (with_made noted.last))) on has.outcome.ends.alive has.outcome.frames
+        exit_made d t (Insert key rid) old new (λ none. absurd (none tt)) works put_fixed replies.Inserted (record { stays = λ k. refl; late = refl; answered = refl; number = tt; suits = refl; at_once = λ _. refl; grouped = tt }) (ap besides_rows table) (ap (λ (z : Numbered). length z.rows) table ∙ length-map old.txns.rows (changed t (with_made noted.last))) on has.outcome.ends.alive has.outcome.frames
         (λ before s v life. inserting.insert_made d old new t key rid row found checked (plain_under d old plain) plain put_same before s v (life.running works).1 (Granted x) has.kept x refl noted some table on)
         (put_answered replies.Inserted (λ y e. cc e)) (paced_alone d (Do t (Insert key rid)) replies.Inserted old new put_same (λ e. (let clash : answers.Inserted ≡ answers.BlockedTree = e in cc clash)) plain) (λ b before s v r. inserting.made_wants d old new.locks new.writer new.disk t key rid row found checked (plain_under d old plain) plain before s v r (Granted x) has.kept x refl noted some)
 
     put_needless : (x : Option Noted) → Put (Ok (Granted x)) → new.failed ≡ false → x ≡ None → new.txns ≡ old.txns → IsMade d (Do t (Insert key rid)) replies.Duplicate old new
     put_needless x has on none table =
-        exit_made d t (Insert key rid) old new works put_fixed replies.Duplicate (record { stays = λ k. refl; late = refl; answered = refl; number = tt; suits = refl; at_once = λ _. refl; grouped = tt }) (ap besides_rows table) (ap (λ (z : Numbered). length z.rows) table) on has.outcome.ends.alive has.outcome.frames
+        exit_made d t (Insert key rid) old new (λ none. absurd (none tt)) works put_fixed replies.Duplicate (record { stays = λ k. refl; late = refl; answered = refl; number = tt; suits = refl; at_once = λ _. refl; grouped = tt }) (ap besides_rows table) (ap (λ (z : Numbered). length z.rows) table) on has.outcome.ends.alive has.outcome.frames
         (λ before s v life. inserting.insert_there d old new t key rid row found checked (plain_under d old plain) plain put_same before s v (life.running works).1 (Granted x) has.kept x refl none table on)
         (put_answered replies.Duplicate (λ y e. cc e)) (paced_alone d (Do t (Insert key rid)) replies.Duplicate old new put_same (λ e. (let clash : answers.Duplicate ≡ answers.BlockedTree = e in cc clash)) plain) (put_wants (Granted x) has replies.Duplicate (λ e. cc e) (λ e. cc e) (λ y e. cc e))
 
     put_waits : (holder : ℕ) → Put (Ok (Wait holder)) → new.failed ≡ false → new.txns ≡ old.txns → IsMade d (Do t (Insert key rid)) (replies.Blocked (blockers.Lock holder)) old new
     put_waits holder has on table =
-        exit_made d t (Insert key rid) old new works put_fixed (replies.Blocked (blockers.Lock holder)) (waits_plain d t (Insert key rid) old new holder) (ap besides_rows table) (ap (λ (z : Numbered). length z.rows) table) on has.outcome.ends.alive has.outcome.frames
+        exit_made d t (Insert key rid) old new (λ none. absurd (none tt)) works put_fixed (replies.Blocked (blockers.Lock holder)) (waits_plain d t (Insert key rid) old new holder) (ap besides_rows table) (ap (λ (z : Numbered). length z.rows) table) on has.outcome.ends.alive has.outcome.frames
         (λ before s v life. inserting.insert_waits d old new t key rid row found checked (plain_under d old plain) plain put_same before s v (life.running works).1 (Wait holder) has.kept holder refl table on)
         (put_answered (replies.Blocked (blockers.Lock holder)) (λ y e. cc e)) (paced_alone d (Do t (Insert key rid)) (replies.Blocked (blockers.Lock holder)) old new put_same (λ e. (let clash : answers.Blocked holder ≡ answers.BlockedTree = e in cc clash)) plain) (put_wants (Wait holder) has (replies.Blocked (blockers.Lock holder)) (λ e. cc e) (λ e. cc e) (λ y e. cc e))
 
     put_dies : Put (Ok Die) → new.failed ≡ false → new.txns ≡ record old.txns { rows = map (changed t (with_mark MustRollBack)) old.txns.rows } → IsMade d (Do t (Insert key rid)) replies.Die old new
     put_dies has on table =
-        exit_made d t (Insert key rid) old new works put_fixed replies.Die (dies_plain d t (Insert key rid) old new) (ap besides_rows table) (ap (λ (z : Numbered). length z.rows) table ∙ length-map old.txns.rows (changed t (with_mark MustRollBack))) on has.outcome.ends.alive has.outcome.frames
+        exit_made d t (Insert key rid) old new (λ none. absurd (none tt)) works put_fixed replies.Die (dies_plain d t (Insert key rid) old new) (ap besides_rows table) (ap (λ (z : Numbered). length z.rows) table ∙ length-map old.txns.rows (changed t (with_mark MustRollBack))) on has.outcome.ends.alive has.outcome.frames
         (λ before s v life. inserting.insert_dies d old new t key rid row found checked (plain_under d old plain) plain put_same before s v (life.running works).1 Die has.kept refl table on)
         (put_answered replies.Die (λ y e. cc e)) (paced_alone d (Do t (Insert key rid)) replies.Die old new put_same (λ e. (let clash : answers.Die ≡ answers.BlockedTree = e in cc clash)) plain) (put_wants Die has replies.Die (λ e. cc e) (λ e. cc e) (λ y e. cc e))
 
     put_refused : ((u : ℕ) (c : Files) → u ≤ d.moment new.disk → d.may_leave new.disk c → d.left_since new.disk u c) → (f : Fault) → Put (Err f) → new.failed ≡ ends_engine f → new.txns ≡ old.txns → IsMade d (Do t (Insert key rid)) (replies.Refused (told_as f)) old new
     put_refused counts_now f has fails table =
-        refused_made d t (Insert key rid) old new works put_fixed f fails table has.table (λ lost. late_lost d old.writer old.disk new.writer new.disk lost (mild_to_split (Some old.max_pages)) f has.outcome.ends) has.outcome.frames
+        refused_made d t (Insert key rid) old new (λ none. absurd (none tt)) works put_fixed f fails table has.table (λ lost. late_lost d old.writer old.disk new.writer new.disk lost (mild_to_split (Some old.max_pages)) f has.outcome.ends) has.outcome.frames
         (λ before s v life. inserting.insert_refused d old new t key rid row found checked (plain_under d old plain) plain put_same before s v life works counts_now f has.kept has.outcome.ends fails table (λ which. (has.table which, has.lasting which)) (told_as f) refl)
         (inserting.insert_not_answered d old new.writer.log new.disk works t key rid checked f (told_as f) refl (insert_cause d old.writer old.disk new.writer new.disk (mild_to_split (Some old.max_pages)) f has.outcome.ends))
         (paced_alone d (Do t (Insert key rid)) (replies.Refused (told_as f)) old new put_same (λ e. (let clash : answers.Refused (number_of (told_as f)) ≡ answers.BlockedTree = e in cc clash)) plain)
@@ -161,31 +161,31 @@ module _ {D : Type 0} (d : Ghosts D) (t : ℕ) (key : Key) (old : Engine D d) (r
 
     drop_made : (x : Option Noted) → Dropped (Ok (Granted x)) → new.failed ≡ false → (taken : Noted) → x ≡ Some taken → new.txns ≡ record old.txns { rows = map (changed t (with_taken taken.last taken.undo_next)) old.txns.rows } → IsMade d (Do t (Delete key)) replies.Deleted old new
     drop_made x has on taken some table =
-        exit_made d t (Delete key) old new works drop_fixed replies.Deleted (record { stays = λ k. refl; late = refl; answered = refl; number = tt; suits = refl; at_once = λ _. refl; grouped = tt }) (ap besides_rows table) (ap (λ (z : Numbered). length z.rows) table ∙ length-map old.txns.rows (changed t (with_taken taken.last taken.undo_next))) on has.outcome.ends.alive has.outcome.frames
+        exit_made d t (Delete key) old new (λ none. absurd (none tt)) works drop_fixed replies.Deleted (record { stays = λ k. refl; late = refl; answered = refl; number = tt; suits = refl; at_once = λ _. refl; grouped = tt }) (ap besides_rows table) (ap (λ (z : Numbered). length z.rows) table ∙ length-map old.txns.rows (changed t (with_taken taken.last taken.undo_next))) on has.outcome.ends.alive has.outcome.frames
         (λ before s v life. deleting.delete_made d old t key row found checked (plain_under d old plain) new drop_same before s v (life.running works).1 (Granted x) has.kept x refl taken some table on)
         (drop_answered replies.Deleted (λ y e. cc e)) (paced_alone d (Do t (Delete key)) replies.Deleted old new drop_same (λ e. (let clash : answers.Deleted ≡ answers.BlockedTree = e in cc clash)) plain) (drop_wants (Granted x) has replies.Deleted (λ e. cc e) (λ y e. cc e))
 
     drop_needless : (x : Option Noted) → Dropped (Ok (Granted x)) → new.failed ≡ false → x ≡ None → new.txns ≡ old.txns → IsMade d (Do t (Delete key)) replies.Absent old new
     drop_needless x has on none table =
-        exit_made d t (Delete key) old new works drop_fixed replies.Absent (record { stays = λ k. refl; late = refl; answered = refl; number = tt; suits = refl; at_once = λ _. refl; grouped = tt }) (ap besides_rows table) (ap (λ (z : Numbered). length z.rows) table) on has.outcome.ends.alive has.outcome.frames
+        exit_made d t (Delete key) old new (λ none. absurd (none tt)) works drop_fixed replies.Absent (record { stays = λ k. refl; late = refl; answered = refl; number = tt; suits = refl; at_once = λ _. refl; grouped = tt }) (ap besides_rows table) (ap (λ (z : Numbered). length z.rows) table) on has.outcome.ends.alive has.outcome.frames
         (λ before s v life. deleting.delete_absent d old t key row found checked (plain_under d old plain) new drop_same before s v (life.running works).1 (Granted x) has.kept x refl none table on)
         (drop_answered replies.Absent (λ y e. cc e)) (paced_alone d (Do t (Delete key)) replies.Absent old new drop_same (λ e. (let clash : answers.Absent ≡ answers.BlockedTree = e in cc clash)) plain) (drop_wants (Granted x) has replies.Absent (λ e. cc e) (λ y e. cc e))
 
     drop_waits : (holder : ℕ) → Dropped (Ok (Wait holder)) → new.failed ≡ false → new.txns ≡ old.txns → IsMade d (Do t (Delete key)) (replies.Blocked (blockers.Lock holder)) old new
     drop_waits holder has on table =
-        exit_made d t (Delete key) old new works drop_fixed (replies.Blocked (blockers.Lock holder)) (waits_plain d t (Delete key) old new holder) (ap besides_rows table) (ap (λ (z : Numbered). length z.rows) table) on has.outcome.ends.alive has.outcome.frames
+        exit_made d t (Delete key) old new (λ none. absurd (none tt)) works drop_fixed (replies.Blocked (blockers.Lock holder)) (waits_plain d t (Delete key) old new holder) (ap besides_rows table) (ap (λ (z : Numbered). length z.rows) table) on has.outcome.ends.alive has.outcome.frames
         (λ before s v life. deleting.delete_waits d old t key row found checked (plain_under d old plain) new drop_same before s v (life.running works).1 (Wait holder) has.kept holder refl table on)
         (drop_answered (replies.Blocked (blockers.Lock holder)) (λ y e. cc e)) (paced_alone d (Do t (Delete key)) (replies.Blocked (blockers.Lock holder)) old new drop_same (λ e. (let clash : answers.Blocked holder ≡ answers.BlockedTree = e in cc clash)) plain) (drop_wants (Wait holder) has (replies.Blocked (blockers.Lock holder)) (λ e. cc e) (λ y e. cc e))
 
     drop_dies : Dropped (Ok Die) → new.failed ≡ false → new.txns ≡ record old.txns { rows = map (changed t (with_mark MustRollBack)) old.txns.rows } → IsMade d (Do t (Delete key)) replies.Die old new
     drop_dies has on table =
-        exit_made d t (Delete key) old new works drop_fixed replies.Die (dies_plain d t (Delete key) old new) (ap besides_rows table) (ap (λ (z : Numbered). length z.rows) table ∙ length-map old.txns.rows (changed t (with_mark MustRollBack))) on has.outcome.ends.alive has.outcome.frames
+        exit_made d t (Delete key) old new (λ none. absurd (none tt)) works drop_fixed replies.Die (dies_plain d t (Delete key) old new) (ap besides_rows table) (ap (λ (z : Numbered). length z.rows) table ∙ length-map old.txns.rows (changed t (with_mark MustRollBack))) on has.outcome.ends.alive has.outcome.frames
         (λ before s v life. deleting.delete_dies d old t key row found checked (plain_under d old plain) new drop_same before s v (life.running works).1 Die has.kept refl table on)
         (drop_answered replies.Die (λ y e. cc e)) (paced_alone d (Do t (Delete key)) replies.Die old new drop_same (λ e. (let clash : answers.Die ≡ answers.BlockedTree = e in cc clash)) plain) (drop_wants Die has replies.Die (λ e. cc e) (λ y e. cc e))
 
     drop_refused : ((u : ℕ) (c : Files) → u ≤ d.moment new.disk → d.may_leave new.disk c → d.left_since new.disk u c) → (f : Fault) → Dropped (Err f) → new.failed ≡ ends_engine f → new.txns ≡ old.txns → IsMade d (Do t (Delete key)) (replies.Refused (told_as f)) old new
     drop_refused counts_now f has fails table =
-        refused_made d t (Delete key) old new works drop_fixed f fails table (delete_table d old.writer old.disk new.writer new.disk f has.outcome.ends old.locks new.locks has.table) (λ lost. late_lost d old.writer old.disk new.writer new.disk lost mild f has.outcome.ends) has.outcome.frames
+        refused_made d t (Delete key) old new (λ none. absurd (none tt)) works drop_fixed f fails table (delete_table d old.writer old.disk new.writer new.disk f has.outcome.ends old.locks new.locks has.table) (λ lost. late_lost d old.writer old.disk new.writer new.disk lost mild f has.outcome.ends) has.outcome.frames
         (λ before s v life. deleting.delete_refused d old t key row found checked (plain_under d old plain) new drop_same before s v life works counts_now f has.kept has.outcome.ends fails table (λ which. (has.table which, has.lasting which)) (told_as f) refl)
         (behind d old new.writer.log new.disk works (Do t (Delete key)) (replies.Refused (told_as f)) checked (λ fault. refused_for d old new.writer.log new.disk works (DeleteCause d new.writer.log new.disk) f (told_as f) refl (delete_cause d old.writer old.disk new.writer new.disk f has.outcome.ends) fault))
         (paced_alone d (Do t (Delete key)) (replies.Refused (told_as f)) old new drop_same (λ e. (let clash : answers.Refused (number_of (told_as f)) ≡ answers.BlockedTree = e in cc clash)) plain)

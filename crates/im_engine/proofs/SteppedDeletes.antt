@@ -119,7 +119,7 @@ module _ {D : Type 0} (d : Ghosts D) (t : ℕ) (key : Key) (old new : Engine D d
           → (reply ≢ replies.More) → ((b : Base) (before : List Effect) (s : Shown) (v : View) (r : IsRunning d b before s v old) → reply ≡ replies.Deleted → HasOne (settled b r.now.log) key → ⊥)
           → ((before : List Effect) (s : Shown) (v : View) → IsLife d before s v old → StepKept d before s v (Do t a) (told_by reply) old new) → IsMade d (Do t a) reply old new
       seen_made x so reply plain rest rows not unblocked no_more keeps kept_as =
-          exit_made d t a old new works fixed reply plain rest rows works_on one.ends.alive one.frames kept_as (answered reply not)
+          exit_made d t a old new (λ none. absurd (none tt)) works fixed reply plain rest rows works_on one.ends.alive one.frames kept_as (answered reply not)
           (paced_by d t a old new checked beside told reply (λ clash. absurd (unblocked clash)) (λ b before s v r bars. absurd (off before s v r x so bars)) (λ b before s v r. inl stays_under))
           (λ b before s v r. wants_here (settled b r.now.log) v.walk (Evicted d b r.base r.now old.disk new.writer new.disk) old.stepped (locks_of old.locks) t key reply not (keeps b before s v r) (λ is. absurd (no_more is)))
 
@@ -173,7 +173,7 @@ module _ {D : Type 0} (d : Ghosts D) (t : ℕ) (key : Key) (old new : Engine D d
       -- the structure change of another stands in its way
       pub made_hidden : o ≡ Hidden → new.txns ≡ old.txns → IsMade d (Do t a) (replies.Blocked blockers.Tree) old new
       made_hidden so table =
-          exit_made d t a old new works fixed (replies.Blocked blockers.Tree) (record { stays = λ k. refl; late = refl; answered = refl; number = tt; suits = refl; at_once = λ _. refl; grouped = tt }) (ap besides_rows table) (ap (λ (z : Numbered). length z.rows) table)
+          exit_made d t a old new (λ none. absurd (none tt)) works fixed (replies.Blocked blockers.Tree) (record { stays = λ k. refl; late = refl; answered = refl; number = tt; suits = refl; at_once = λ _. refl; grouped = tt }) (ap besides_rows table) (ap (λ (z : Numbered). length z.rows) table)
           works_on one.ends.alive one.frames
           (λ before s v life.
           let r = (life.running works).1 in
@@ -189,7 +189,7 @@ module _ {D : Type 0} (d : Ghosts D) (t : ℕ) (key : Key) (old new : Engine D d
     pub made_begun : (stepped : old.stepped ≡ true) (begun : BegunChange) → o ≡ Seen (Granted (Dropping begun)) → new.under ≡ Some (record { begun = begun; aim = Drops key })
         → new.txns ≡ record old.txns { rows = map (changed t (with_made begun.change.last)) old.txns.rows } → IsMade d (Do t a) replies.More old new
     made_begun stepped begun so under table =
-        exit_made d t a old new works fixed replies.More
+        exit_made d t a old new (λ none. absurd (none tt)) works fixed replies.More
         (record { stays = λ k. refl; late = refl; answered = refl; number = tt; suits = refl; at_once = λ plain. absurd (let clash : true ≡ false = sym stepped ∙ plain in cc clash); grouped = tt }) (ap besides_rows table)
         (ap (λ (z : Numbered). length z.rows) table ∙ length-map old.txns.rows (changed t (with_made begun.change.last))) works_on one.ends.alive one.frames
         (λ before s v life.

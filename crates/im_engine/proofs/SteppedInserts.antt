@@ -155,7 +155,7 @@ module _ {D : Type 0} (d : Ghosts D) (t : ℕ) (key : Key) (rid : ℕ) (old new 
           → (reply ≢ replies.More) → ((b : Base) (before : List Effect) (s : Shown) (v : View) (r : IsRunning d b before s v old) → reply ≡ replies.Inserted → LacksRoomFor (settled b r.now.log) key → ⊥)
           → ((before : List Effect) (s : Shown) (v : View) → IsLife d before s v old → StepKept d before s v (Do t a) (told_by reply) old new) → IsMade d (Do t a) reply old new
       seen_made x so reply plain rest rows not unblocked no_more fits_in kept_as =
-          exit_made d t a old new works fixed reply plain rest rows works_on one.ends.alive one.frames kept_as
+          exit_made d t a old new (λ none. absurd (none tt)) works fixed reply plain rest rows works_on one.ends.alive one.frames kept_as
           (insert_answered d old new.writer.log new.disk works t key rid checked reply not)
           (paced_by d t a old new checked beside told reply (λ clash. absurd (unblocked clash)) (λ b before s v r bars. absurd (off before s v r x so bars)) (λ b before s v r. inl stays_under))
           (λ b before s v r. wants_here (settled b r.now.log) v.walk (Evicted d b r.base r.now old.disk new.writer new.disk) old.stepped (locks_of old.locks) old.dense old.max_pages t key rid reply not (λ other. within before s v r x so) (fits_in b before s v r) (λ is. absurd (no_more is)))
@@ -207,7 +207,7 @@ module _ {D : Type 0} (d : Ghosts D) (t : ℕ) (key : Key) (rid : ℕ) (old new 
       -- the structure change of another stands in its way
       pub made_hidden : o ≡ Hidden → new.txns ≡ old.txns → IsMade d (Do t a) (replies.Blocked blockers.Tree) old new
       made_hidden so table =
-          exit_made d t a old new works fixed (replies.Blocked blockers.Tree) (record { stays = λ k. refl; late = refl; answered = refl; number = tt; suits = refl; at_once = λ _. refl; grouped = tt }) (ap besides_rows table) (ap (λ (z : Numbered). length z.rows) table)
+          exit_made d t a old new (λ none. absurd (none tt)) works fixed (replies.Blocked blockers.Tree) (record { stays = λ k. refl; late = refl; answered = refl; number = tt; suits = refl; at_once = λ _. refl; grouped = tt }) (ap besides_rows table) (ap (λ (z : Numbered). length z.rows) table)
           works_on one.ends.alive one.frames
           (λ before s v life.
           let r = (life.running works).1 in
@@ -226,7 +226,7 @@ module _ {D : Type 0} (d : Ghosts D) (t : ℕ) (key : Key) (rid : ℕ) (old new 
     pub made_begun : (stepped : old.stepped ≡ true) (begun : BegunChange) (leaf : ℕ) → o ≡ Seen (Granted (Split begun leaf)) → new.under ≡ Some (record { begun = begun; aim = Puts key rid leaf })
         → new.txns ≡ record old.txns { rows = map (changed t (with_record begun.change.last begun.change.last)) old.txns.rows } → IsMade d (Do t a) replies.More old new
     made_begun stepped begun leaf so under table =
-        exit_made d t a old new works fixed replies.More
+        exit_made d t a old new (λ none. absurd (none tt)) works fixed replies.More
         (record { stays = λ k. refl; late = refl; answered = refl; number = tt; suits = refl; at_once = λ plain. absurd (let clash : true ≡ false = sym stepped ∙ plain in cc clash); grouped = tt }) (ap besides_rows table)
         (ap (λ (z : Numbered). length z.rows) table ∙ length-map old.txns.rows (changed t (with_record begun.change.last begun.change.last))) works_on one.ends.alive one.frames
         (λ before s v life.

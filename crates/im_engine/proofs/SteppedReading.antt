@@ -36,6 +36,7 @@ use Rattle.im_theory_tree.specs.Levels.{Pages, walk}
 use Rattle.im_tree_search.specs.declared.change_beside.Beside.{Beside}
 use Rattle.im_tree_search.specs.declared.sight.Sight.{Sight}
 use Rattle.im_tree_search.specs.declared.sight.Sight.TheVariants.{Seen, Hidden}
+use Rattle.im_tree_search.specs.HeldPages.{HoldsOn}
 use Rattle.im_tree_search.specs.Levels.{bodies_of}
 use Rattle.im_tree_search.specs.Sights.{HasTreeBut, IfSeen}
 use Rattle.im_engine_access.specs.declared.lock_answer.LockAnswer.{LockAnswer}
@@ -50,7 +51,7 @@ use Rattle.im_engine.specs.Faults.{told_as, ends_engine}
 use Rattle.im_engine.specs.Kept.{StepKept}
 use Rattle.im_engine.specs.Numbered.{Numbered, besides_rows}
 use Rattle.im_engine.specs.Running.{IsLife, IsRunning}
-use Rattle.im_engine.specs.Told.{IsBlockedBy, IsMade, WantsHere, WantsOf, fixed_of}
+use Rattle.im_engine.specs.Told.{IsBlockedBy, IsIdle, IsMade, WantsHere, WantsOf, fixed_of}
 use Rattle.im_engine.proofs.Answered.{IsPlain, dies_plain, exit_made, granted_at, other_at, refused_made, rest_fixed, rest_here, same_rows, waits_plain}
 use Rattle.im_engine.proofs.Causes.{read_answered, read_cause, read_refused, reads}
 use Rattle.im_engine.proofs.Telling.{is_refused, read_lost}
@@ -112,6 +113,7 @@ module _ {D : Type 0} (d : Ghosts D) (t : ℕ) (a : Access) (old : Engine D d) (
     pub kept : (pages : AllPages) (m : IndexMap) → HasTreeBut d pages beside old.writer old.disk → walk (bodies_of pages) ≡ entries m → IsSound came (IsReadBeside says t a m (bodies_of pages) beside old.locks locks)
     pub table : OnErr came (SameTable old.locks locks)
     pub lasting : OnErr came (SameLasting old.locks locks)
+    pub quiet : IsIdle d (Do t a) old → disk ≡ old.disk
 
 module _ {D : Type 0} (d : Ghosts D) (t : ℕ) (a : Access) (is : reads a ≡ true) (old new : Engine D d) (works : old.failed ≡ false) (checked : checked_by old.txns.rows (owns_in (under_of old.under) (Do t a)) (Do t a) ≡ None) (beside : Beside) (told_it : IsBesideOf old.under beside) (same : new.under ≡ old.under)
     (writer : PageWriter) (disk : D) (locks : Table) (rest : rest_of d new ≡ (writer, disk, locks, fixed_of d old, old.room.items)) {X : Type 0} (says : X → answers.Reply) where
@@ -128,7 +130,7 @@ module _ {D : Type 0} (d : Ghosts D) (t : ℕ) (a : Access) (is : reads a ≡ tr
       → ((before : List Effect) (s : Shown) (v : View) → IsLife d before s v old → StepKept d before s v (Do t a) (told_by reply) old new)
       → (told_by reply ≡ answers.BlockedTree → (b : Base) (before : List Effect) (s : Shown) (v : View) (r : IsRunning d b before s v old) → IsBlockedBy d b before s v (Do t a) old r) → IsMade d (Do t a) reply old new
   plainly o has on reply plain others rows kept tree =
-      exit_made d t a old new works fixed reply plain others rows on has.outcome.ends.alive has.outcome.frames kept (read_answered d old new.writer.log new.disk works t a is checked reply (never_refused reply plain.answered))
+      exit_made d t a old new has.quiet works fixed reply plain others rows on has.outcome.ends.alive has.outcome.frames kept (read_answered d old new.writer.log new.disk works t a is checked reply (never_refused reply plain.answered))
       (paced_read d t a old checked new is same reply tree) (wants reply)
 
   read_at : (x : LockAnswer X) → Below (Ok (Seen x)) → (before : List Effect) (s : Shown) (v : View) → IsLife d before s v old → IsRead says t a v.walk old.locks new.locks x
@@ -165,7 +167,7 @@ module _ {D : Type 0} (d : Ghosts D) (t : ℕ) (a : Access) (is : reads a ≡ tr
   -- the call below refused it
   made_refused : ((u : ℕ) (c : Files) → u ≤ d.moment new.disk → d.may_leave new.disk c → d.left_since new.disk u c) → (f : Fault) → Below (Err f) → new.failed ≡ ends_engine f → new.txns ≡ old.txns → IsMade d (Do t a) (replies.Refused (told_as f)) old new
   made_refused counts_now f has fails table =
-      refused_made d t a old new works fixed f fails table (λ _. has.table) (λ lost. read_lost d old.writer old.disk new.writer new.disk lost f has.outcome.ends (old.working works)) has.outcome.frames
+      refused_made d t a old new has.quiet works fixed f fails table (λ _. has.table) (λ lost. read_lost d old.writer old.disk new.writer new.disk lost f has.outcome.ends (old.working works)) has.outcome.frames
       (λ before s v life.
       let r = (life.running works).1 in
       refused d before s v t a old new life works checked counts_now f (reads_want_memory t a is) has.outcome (has.kept _ v.walk (tree_here d before s v old r beside told_it).tree (walk_here d before s v old r beside told_it)) fails table (has.table, has.lasting) (told_as f) refl same)
@@ -190,6 +192,11 @@ module _ {D : Type 0} (d : Ghosts D) (t : ℕ) (a : Access) (is : reads a ≡ tr
 pub seeks_search : (t : ℕ) (inclusive : Bool) (key : Key) → is_search (Do t (seek_at inclusive key)) ≡ true
 seeks_search t true key = refl
 seeks_search t false key = refl
+
+-- and ask nothing of the disk where the same pages are held
+pub seeks_idle : {D : Type 0} (d : Ghosts D) (t : ℕ) (inclusive : Bool) (key : Key) (e : Engine D d) → IsIdle d (Do t (seek_at inclusive key)) e → (set : ℕ → Bool) × HoldsOn key e.writer.pool set
+seeks_idle d t true key e idle = idle
+seeks_idle d t false key e idle = idle
 
 -- a scan answers no more than its limit
 most_as : (limit : ℕ) (came : Result (Sight (LockAnswer (Vec (List ℕ × ℕ) Global))) Fault) → IfOk came (IfSeen (λ x. IfGranted x (λ l. length l.items ≤ limit_of limit)) (Unit {0})) → IfOk (answer_in came) (λ l. length l.items ≤ limit_of limit)

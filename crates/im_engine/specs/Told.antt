@@ -33,6 +33,7 @@ use Rattle.im_engine_access.specs.Edits.{HasOne}
 use Rattle.im_restart_undo.specs.Planning.{HoldsOneKey}
 use Rattle.im_restart_undo.specs.Undoing.{HasBegun}
 use Rattle.im_tree_search.specs.declared.change_beside.Beside.{Beside}
+use Rattle.im_tree_search.specs.HeldPages.{HoldsBack, HoldsOn}
 use Rattle.im_base_txn.specs.declared.transaction.Transaction.{Transaction}
 use Rattle.im_base_txn.specs.Rows.{is_of}
 use Rattle.im_theory_machine.specs.Locks.{Lock, IsFree}
@@ -212,7 +213,7 @@ module _ {D : Type 0} (d : Ghosts D) where
   abbrev pub IsLastLog : Engine D d → Type 0
   IsLastLog e = 2 ^ 62 ≤ generation_at e.writer.log.gate + 1
 
-  -- Steps that make no device call: a Begin, a RollTo, a Rollback, but where all changes are taken back and the End does not fit into the buffer, a Commit of a transaction that has no records, or one that waits for a force, or of which no change stands, and whose record fits into the buffer, the flush of a page that was not changed, a force where nothing is buffered, a Switch of a log after which there is no other.
+  -- Steps that may make a device call: not a Begin, a RollTo, a Rollback, but where all changes are taken back and the End does not fit into the buffer, a Commit of a transaction that has no records, or one that waits for a force, or of which no change stands, and whose record fits into the buffer, the flush of a page that was not changed, a force where nothing is buffered, a Switch of a log after which there is no other.
   abbrev pub CallsDevice : answers.Step → Engine D d → Type 0
   CallsDevice answers.Begin e = ⊥
   CallsDevice (answers.Do t access) e = Unit {0}
@@ -224,6 +225,15 @@ module _ {D : Type 0} (d : Ghosts D) where
   CallsDevice answers.Force e = 1 ≤ e.writer.log.used
   CallsDevice answers.Checkpoint e = Unit {0}
   CallsDevice answers.Switch e = (EndsNearTop e → ⊥) × (IsLastLog e → ⊥)
+
+  -- Steps that make none: those, and one that reads where page 0 is held, the pages of its key's way, and the leaves after; of a Prev the leaves before too.
+  abbrev pub IsIdle : answers.Step → Engine D d → Type 0
+  IsIdle (answers.Do t (answers.Fetch key)) e = (set : ℕ → Bool) × HoldsOn key e.writer.pool set
+  IsIdle (answers.Do t (answers.Seek key)) e = (set : ℕ → Bool) × HoldsOn key e.writer.pool set
+  IsIdle (answers.Do t (answers.Next key)) e = (set : ℕ → Bool) × HoldsOn key e.writer.pool set
+  IsIdle (answers.Do t (answers.Prev key)) e = (set : ℕ → Bool) × HoldsOn key e.writer.pool set × HoldsBack key e.writer.pool set
+  IsIdle (answers.Do t (answers.Scan lo hi limit)) e = (set : ℕ → Bool) × HoldsOn lo e.writer.pool set
+  IsIdle step e = CallsDevice step e → ⊥
 
   -- What a step costs that is asked for to bring records or a page to the disk. A Checkpoint costs so little where it need write no page first, as its record has room for each that was changed since its last write, and else no more after these writes.
   abbrev pub StepCosts : answers.Step → Reply → Engine D d → Engine D d → Type 0
@@ -389,7 +399,7 @@ module _ {D : Type 0} (d : Ghosts D) where
     pub grouped : SuitsGroup step reply old.txns
     pub frames : new.writer.pool.frames ≡ old.writer.pool.frames
     pub wants : (b : Base) (before : List Effect) (s : Shown) (v : View) (r : IsRunning d b before s v old) → WantsHere b before s v r step reply new
-    pub quiet : (CallsDevice d step old → ⊥) → new.disk ≡ old.disk
+    pub quiet : IsIdle d step old → new.disk ≡ old.disk
     pub costs : StepCosts d step reply old new
 
   -- a step of the engine
@@ -408,7 +418,8 @@ module _ {D : Type 0} (d : Ghosts D) where
     -- a Commit that is not refused is answered More just where Commits wait for a force and changes of its transaction stand
     pub grouped : SuitsGroup (asked_by step) reply old.txns
     pub wants : old.failed ≡ false → (b : Base) (before : List Effect) (s : Shown) (v : View) (r : IsRunning d b before s v old) → WantsHere b before s v r (asked_by step) reply new
-    pub quiet : (CallsDevice d (asked_by step) old → ⊥) → new.disk ≡ old.disk
+    -- what finds all that it reads held, or has nothing to write, asks nothing of the disk
+    pub quiet : IsIdle d (asked_by step) old → new.disk ≡ old.disk
     pub costs : StepCosts d (asked_by step) reply old new
     pub works : d.failed new.disk ≡ true → new.failed ≡ true
     -- the bytes of a sound store are never found to be none

@@ -12,19 +12,19 @@ pub returns-in-Ok-Some : goal.returns-in-Ok-Some
 returns-in-Ok-Some g c =
     let below = c.fetch-came in
     made_answered g.D.Disk c.args.t (answers.Fetch c.args.key.now) refl c.args.self.now _ c.requires.works c.requires.checked c.beside_of.result c.beside_of.ensures c.in-Ok-Some.ensures.under below.new.writer below.new.disk below.new.locks c.in-Ok-Some.ensures.rest answers.found below.result
-    (record { outcome = below.ensures.outcome; kept = below.ensures.kept; table = below.ensures.table; lasting = below.ensures.lasting }) c.in-Ok-Some.ensures.failed c.in-Ok-Some.ensures.table
+    (record { outcome = below.ensures.outcome; kept = below.ensures.kept; table = below.ensures.table; lasting = below.ensures.lasting; quiet = λ idle. (below.ensures.quiet idle.0 (c.args.self.now.working c.requires.works) idle.1).disk }) c.in-Ok-Some.ensures.failed c.in-Ok-Some.ensures.table
     c.in-Ok-Some.field-0 c.in-Ok-Some.ensures.answer (replies.Found c.in-Ok-Some.rid) (record { stays = λ k. refl; late = refl; answered = refl; number = tt; suits = refl; at_once = λ _. refl; grouped = tt }) (ap answers.found c.in-Ok-Some.field-0-is) refl
 
 pub returns-in-Ok-None : goal.returns-in-Ok-None
 returns-in-Ok-None g c =
     let below = c.fetch-came in
     made_answered g.D.Disk c.args.t (answers.Fetch c.args.key.now) refl c.args.self.now _ c.requires.works c.requires.checked c.beside_of.result c.beside_of.ensures c.in-Ok-None.ensures.under below.new.writer below.new.disk below.new.locks c.in-Ok-None.ensures.rest answers.found below.result
-    (record { outcome = below.ensures.outcome; kept = below.ensures.kept; table = below.ensures.table; lasting = below.ensures.lasting }) c.in-Ok-None.ensures.failed c.in-Ok-None.ensures.table
+    (record { outcome = below.ensures.outcome; kept = below.ensures.kept; table = below.ensures.table; lasting = below.ensures.lasting; quiet = λ idle. (below.ensures.quiet idle.0 (c.args.self.now.working c.requires.works) idle.1).disk }) c.in-Ok-None.ensures.failed c.in-Ok-None.ensures.table
     c.in-Ok-None.field-0 c.in-Ok-None.ensures.answer replies.Absent (record { stays = λ k. refl; late = refl; answered = refl; number = tt; suits = refl; at_once = λ _. refl; grouped = tt }) (ap answers.found c.in-Ok-None.field-0-is) refl
 
 pub returns-in-Err : goal.returns-in-Err
 returns-in-Err g c =
     let below = c.fetch-came in
     made_otherwise g.D.Disk c.args.t (answers.Fetch c.args.key.now) refl c.args.self.now _ c.requires.works c.requires.checked c.beside_of.result c.beside_of.ensures c.in-Err.ensures.under below.new.writer below.new.disk below.new.locks c.in-Err.ensures.rest answers.found below.result
-    (record { outcome = below.ensures.outcome; kept = below.ensures.kept; table = below.ensures.table; lasting = below.ensures.lasting }) c.in-Err.ensures.failed c.in-Err.ensures.table
+    (record { outcome = below.ensures.outcome; kept = below.ensures.kept; table = below.ensures.table; lasting = below.ensures.lasting; quiet = λ idle. (below.ensures.quiet idle.0 (c.args.self.now.working c.requires.works) idle.1).disk }) c.in-Err.ensures.failed c.in-Err.ensures.table
     (λ u f le left. g.met.D.Disk.counts_now c.answered.new.self.disk u f le left) c.in-Err.reply c.in-Err.ensures.answer
