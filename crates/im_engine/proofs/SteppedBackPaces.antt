@@ -13,7 +13,7 @@ use Rattle.im_base_types.specs.declared.fault.Fault.TheVariants.{Capacity, Faile
 use Rattle.im_base_disk.specs.declared.disk.Disk.{Ghosts}
 use Rattle.im_base_steps.specs.Calls.{told_by}
 use Rattle.im_base_steps.specs.declared.reply.Reply.{Reply}
-use Rattle.im_base_steps.specs.declared.reply.Reply.TheVariants.{More, Refused}
+use Rattle.im_base_steps.specs.declared.reply.Reply.TheVariants.{More, Refused, RolledBack}
 use Rattle.im_base_txn.specs.Rows.{is_committing, is_of}
 use Rattle.im_base_txn.specs.declared.transaction.Transaction.{Transaction}
 use Rattle.im_theory_log.specs.Histories.{Base}
@@ -52,7 +52,7 @@ use Rattle.im_engine.specs.Faults.{told_as}
 use Rattle.im_engine.specs.Paces.{Bars, BarsBack, EndsAs, GoesOnWith, IsRefusal, change_needed, leaf_planned, page_made}
 use Rattle.im_engine.specs.Running.{IsRunning}
 use Rattle.im_engine.specs.Told.{IsBlockedBy, IsPaced, LacksRoom, NeedsBack, TurnWants}
-use Rattle.im_engine.specs.TurningBack.{EndsBack}
+use Rattle.im_engine.specs.TurningBack.{EndsBack, aim_back}
 use Rattle.im_engine.proofs.Paced.{kept_under}
 use Rattle.im_engine.proofs.SteppedBacks.{next_same, same_done, same_planned}
 use Rattle.im_engine.proofs.SteppedTold.{none_under}
@@ -212,27 +212,32 @@ first_refused d v w new g ends sound alone early told is = absurd (let never = e
 -- ---- a change of its own that ends
 
 -- is the one under way
-pub ends_some : (aim : Aim) (t : ℕ) (under : Option Under) (ends : EndsBack aim t under) (u : Under) → under ≡ Some u → u ≡ ends.u
-ends_some aim t under ends u some = let same : Some u ≡ Some ends.u = sym some ∙ ends.is in cc same
+pub ends_some : (splits : Bool) (t : ℕ) (under : Option Under) (ends : EndsBack splits t under) (u : Under) → under ≡ Some u → u ≡ ends.u
+ends_some splits t under ends u some = let same : Some u ≡ Some ends.u = sym some ∙ ends.is in cc same
 
-module _ {D : Type 0} (d : Ghosts D) (t : ℕ) (aim : Aim) (old : Engine D d) (ends : EndsBack aim t old.under) where
+-- by what its end answers
+ends_as : (splits : Bool) (reply : Reply) → (reply ≡ More) ⊎ (reply ≡ RolledBack) → EndsAs (aim_back splits) reply
+ends_as true reply is = is
+ends_as false reply is = is
+
+module _ {D : Type 0} (d : Ghosts D) (t : ℕ) (splits : Bool) (old : Engine D d) (ends : EndsBack splits t old.under) where
   own_is : owner_of (under_of old.under) ≡ Some t
   own_is = ap (λ (u : Option Under). owner_of (under_of u)) ends.is ∙ ap (λ (n : ℕ). Some n) ends.owner
 
   same_u : (u : Under) → old.under ≡ Some u → ends.u ≡ u
   same_u u some = let same : Some ends.u ≡ Some u = sym ends.is ∙ some in cc same
 
-  pub ends_pace : (new : Engine D d) (reply : Reply) → told_by reply ≢ answers.BlockedTree → (EndsAs aim reply × (new.under ≡ None)) ⊎ IsRefusal reply → IsPaced d (Continue t) reply old new
+  pub ends_pace : (new : Engine D d) (reply : Reply) → told_by reply ≢ answers.BlockedTree → (((reply ≡ More) ⊎ (reply ≡ RolledBack)) × (new.under ≡ None)) ⊎ IsRefusal reply → IsPaced d (Continue t) reply old new
   ends_pace new reply unblocked how = record {
     tree = λ is. absurd (unblocked is);
     first = λ none b before s v r u some other. absurd (let clash : false ≡ true = sym other ∙ eq-eqb u.begun.change.transaction t (ap (λ (x : Under). x.begun.change.transaction) (sym (same_u u some)) ∙ ends.owner) in cc clash);
     told = λ none u some is.
-        elim how [ inl ended ↦ inr (inr (subst (λ (x : Under). EndsAs x.aim reply) (same_u u some) (subst (λ (a : Aim). EndsAs a reply) (sym ends.aim_is) ended.0))) | inr refused ↦ inl refused ];
+        elim how [ inl ended ↦ inr (inr (subst (λ (x : Under). EndsAs x.aim reply) (same_u u some) (subst (λ (a : Aim). EndsAs a reply) (sym ends.aim_is) (ends_as splits reply ended.0)))) | inr refused ↦ inl refused ];
     own = λ none b before s v r u some is.
         let same = same_u u some in
         subst (λ (x : Under). GoesOnWith x reply new.under) same (record {
           page = λ left. absurd (omega (arith, left, ends.end));
-          end = λ done. elim how [ inl ended ↦ inl (subst (λ (a : Aim). EndsAs a reply) (sym ends.aim_is) ended.0, ended.1) | inr refused ↦ inr refused ];
+          end = λ done. elim how [ inl ended ↦ inl (subst (λ (a : Aim). EndsAs a reply) (sym ends.aim_is) (ends_as splits reply ended.0), ended.1) | inr refused ↦ inr refused ];
         });
     others = λ b before s v r not. absurd (not ends.u ends.is (ap Continue (sym ends.owner)));
   }

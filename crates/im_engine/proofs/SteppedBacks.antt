@@ -43,7 +43,7 @@ use Rattle.im_engine.specs.declared.stepped.Aim.{Aim}
 use Rattle.im_engine.specs.declared.stepped.Under.{Under}
 use Rattle.im_engine.specs.Aims.{IsBesideOf, IsChanging, IsGoing, aim_of, owned, under_of}
 use Rattle.im_engine.specs.Growing.{TakesAlone, TakesOneBack}
-use Rattle.im_engine.specs.TurningBack.{EndsBack}
+use Rattle.im_engine.specs.TurningBack.{EndsBack, aim_back}
 use Rattle.im_engine.proofs.GoingOn.{others_go}
 use Rattle.im_engine.proofs.SteppedLogs.{none_of}
 use Rattle.im_engine.proofs.Turning.{continue_found, made_by, undo_grows}
@@ -188,8 +188,12 @@ pub other_checked : (rows : List Transaction) (u : Option views.Under) (t : ℕ)
 other_checked rows u t other is = subst (λ (o : Bool). checked_by rows o (Continue t) ≡ None) (owns_other u t other) is
 
 -- and so does one whose own is of a rollback
-pub ends_free : (aim : Aim) (t : ℕ) (under : Option Under) → EndsBack aim t under → pending_for (aim_of aim) ≡ None → owns_in (under_of under) (Continue t) ≡ false
-ends_free aim t under ends none = ap (λ (u : Option Under). owns_in (under_of u) (Continue t)) ends.is ∙ owns_back (owned ends.u) t (ap (λ (a : Aim). pending_for (aim_of a)) ends.aim_is ∙ none)
+pub ends_free : (splits : Bool) (t : ℕ) (under : Option Under) → EndsBack splits t under → owns_in (under_of under) (Continue t) ≡ false
+ends_free splits t under ends = ap (λ (u : Option Under). owns_in (under_of u) (Continue t)) ends.is ∙ owns_back (owned ends.u) t (ap (λ (a : Aim). pending_for (aim_of a)) ends.aim_is ∙ none splits)
+  where
+    none : (is : Bool) → pending_for (aim_of (aim_back is)) ≡ None
+    none true = refl
+    none false = refl
 
-pub ends_checked : (rows : List Transaction) (aim : Aim) (t : ℕ) (under : Option Under) → EndsBack aim t under → pending_for (aim_of aim) ≡ None → checked_by rows (owns_in (under_of under) (Continue t)) (Continue t) ≡ None → checked_by rows false (Continue t) ≡ None
-ends_checked rows aim t under ends none is = subst (λ (o : Bool). checked_by rows o (Continue t) ≡ None) (ends_free aim t under ends none) is
+pub ends_checked : (rows : List Transaction) (splits : Bool) (t : ℕ) (under : Option Under) → EndsBack splits t under → checked_by rows (owns_in (under_of under) (Continue t)) (Continue t) ≡ None → checked_by rows false (Continue t) ≡ None
+ends_checked rows splits t under ends is = subst (λ (o : Bool). checked_by rows o (Continue t) ≡ None) (ends_free splits t under ends) is

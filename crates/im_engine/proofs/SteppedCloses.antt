@@ -5,8 +5,6 @@ use Rattle.std.proofs.lemmas.Bool.{cases_Bool, cases_eq, cond-false, cond-true, 
 use Rattle.im_base_types.specs.Answers.{Continue, More, RolledBack}
 use Rattle.im_base_types.specs.Changes.{Effect}
 use Rattle.im_base_types.specs.declared.fault.Fault.{Fault}
-use Rattle.im_base_types.specs.declared.fault.Fault.TheVariants.{Capacity, Failed, Memory}
-use Rattle.im_engine_rollback.specs.Ends.{TurnEnds, may_be_full}
 use Rattle.im_base_types.specs.Lives.{Shown, shows}
 use Rattle.im_base_types.specs.Records.{Logged}
 use Rattle.im_base_disk.specs.declared.disk.Disk.{Ghosts}
@@ -31,7 +29,7 @@ use Rattle.im_restart_analysis.specs.declared.rows.Loser.{Loser}
 use Rattle.im_restart_undo.specs.declared.back.Back.TheVariants.{Plain}
 use Rattle.im_restart_undo.specs.Undoing.{LeavesUndo}
 use Rattle.im_restart_undo.proofs.Growth.{grows_change}
-use Rattle.im_engine_rollback.specs.SplitsBack.{ClosedBack, CloseDropKept, CloseSplitKept, DropClosed, IsSplitBack, SplitClosed}
+use Rattle.im_engine_rollback.specs.SplitsBack.{BackClosed, CloseBackKept, ClosedBack, DropClosed, IsSplitBack, SplitClosed}
 use Rattle.im_engine_rollback.specs.declared.undone.Undone.{Undone}
 use Rattle.im_engine_rollback.specs.Turns.{WentOn}
 use Rattle.im_engine_rollback.specs.TurnsBeside.{HasEndedBeside, HasMoreBeside}
@@ -51,9 +49,9 @@ use Rattle.im_engine.specs.declared.stepped.Under.{Under}
 use Rattle.im_engine.specs.Aims.{Aims, IsChanging, IsGoing, aim_of, owned, under_of}
 use Rattle.im_engine.specs.Growing as grows
 use Rattle.im_engine.specs.Kept.{StepKept}
-use Rattle.im_engine.specs.Numbered.{Numbered}
+use Rattle.im_engine.specs.Numbered.{Numbered, with_back}
 use Rattle.im_engine.specs.Running.{IsRunning}
-use Rattle.im_engine.specs.TurningBack.{EndsBack}
+use Rattle.im_engine.specs.TurningBack.{EndsBack, aim_back}
 use Rattle.im_engine.proofs.Edited.{by_structure}
 use Rattle.im_engine.proofs.Numbers.{fused}
 use Rattle.im_engine.proofs.Made.{step_made}
@@ -118,20 +116,10 @@ module _ (b : Base) (t lsn last : ℕ) (older log : History) (stays : Stays b ol
     ];
   }
 
--- a deletion is closed, or the device or the log refuses it
-pub drop_never : {D : Type 0} (d : Ghosts D) (v w : PageWriter) (new : D) (f : Fault) → TurnEnds d may_be_full v w new (Some f) → (f ≡ Memory) ⊎ (f ≡ Capacity) ⊎ (f ≡ Failed) → ⊥
-drop_never d v w new f ends is = elim is [
-  | inl memory ↦ (let clash : false ≡ true = (subst (λ (x : Fault). TurnEnds d may_be_full v w new (Some x)) memory ends).0 in cc clash)
-  | inr more ↦ elim more [
-    | inl capacity ↦ (let clash : false ≡ true = (subst (λ (x : Fault). TurnEnds d may_be_full v w new (Some x)) capacity ends).0 in cc clash)
-    | inr failed ↦ (let clash : false ≡ true = (subst (λ (x : Fault). TurnEnds d may_be_full v w new (Some x)) failed ends).0 in cc clash)
-  ]
-]
-
 -- ---- the record that closes a change of its own
 
 module _ {D : Type 0} (d : Ghosts D) {b : Base} (before : List Effect) (s : Shown) (v : View) (t : ℕ) (row : Transaction) (old : Engine D d) (r : IsRunning d b before s v old) (found : find (is_of t) old.txns.rows ≡ Some row) (checked : checked_by old.txns.rows false (Continue t) ≡ None)
-    (aim : Aim) (ends : EndsBack aim t old.under) where
+    (splits : Bool) (ends : EndsBack splits t old.under) where
   rolling : row.mark ≡ marks.RollingBack
   rolling = mark d before s v t row old r found checked
 
@@ -148,23 +136,15 @@ module _ {D : Type 0} (d : Ghosts D) {b : Base} (before : List Effect) (s : Show
   below = below_next d before s v t row old r found checked
 
   -- what closing it keeps, of its own transaction
-  pub split_kept : aim ≡ TakesBack → (c : Change) → c ≡ ends.u.begun.change → (w : PageWriter) (disk : D) (result answer : Result Undone Fault) → result ≡ answer
-      → (Goes b c r.now.log → IsSplitBack b c.undo_next c.images r.now.log → CloseSplitKept d b r.base r.now r.redo_end c.transaction c.last c.undo_next old.disk w disk result)
-      → CloseSplitKept d b r.base r.now r.redo_end t ends.u.begun.change.last ends.u.begun.change.undo_next old.disk w disk answer
-  split_kept takes c same w disk result answer is kept =
+  pub back_kept : (c : Change) → c ≡ ends.u.begun.change → (w : PageWriter) (disk : D) (result answer : Result Undone Fault) → result ≡ answer
+      → (Goes b c r.now.log → (splits ≡ true → IsSplitBack b c.undo_next c.images r.now.log) → CloseBackKept d b r.base splits r.now r.redo_end c.transaction c.last c.undo_next old.disk w disk result)
+      → CloseBackKept d b r.base splits r.now r.redo_end t ends.u.begun.change.last ends.u.begun.change.undo_next old.disk w disk answer
+  back_kept c same w disk result answer is kept =
       let u = ends.u in
-      subst (λ (x : Result Undone Fault). CloseSplitKept d b r.base r.now r.redo_end t u.begun.change.last u.begun.change.undo_next old.disk w disk x) is
-      (subst (λ (n : ℕ). CloseSplitKept d b r.base r.now r.redo_end n u.begun.change.last u.begun.change.undo_next old.disk w disk result) ends.owner
-      (subst (λ (x : Change). Goes b x r.now.log → IsSplitBack b x.undo_next x.images r.now.log → CloseSplitKept d b r.base r.now r.redo_end x.transaction x.last x.undo_next old.disk w disk result) same kept going.goes
-      (subst (λ (a : Aim). Aims b a u.begun.change.undo_next u.begun.change.images r.now.log) (ends.aim_is ∙ takes) going.aims)))
-
-  pub drop_kept : (c : Change) → c ≡ ends.u.begun.change → (w : PageWriter) (disk : D) (result answer : Result Undone Fault) → result ≡ answer → (Goes b c r.now.log → CloseDropKept d b r.base r.now r.redo_end c.transaction c.last c.undo_next old.disk w disk result)
-      → CloseDropKept d b r.base r.now r.redo_end t ends.u.begun.change.last ends.u.begun.change.undo_next old.disk w disk answer
-  drop_kept c same w disk result answer is kept =
-      let u = ends.u in
-      subst (λ (x : Result Undone Fault). CloseDropKept d b r.base r.now r.redo_end t u.begun.change.last u.begun.change.undo_next old.disk w disk x) is
-      (subst (λ (n : ℕ). CloseDropKept d b r.base r.now r.redo_end n u.begun.change.last u.begun.change.undo_next old.disk w disk result) ends.owner
-      (subst (λ (x : Change). Goes b x r.now.log → CloseDropKept d b r.base r.now r.redo_end x.transaction x.last x.undo_next old.disk w disk result) same kept going.goes))
+      subst (λ (x : Result Undone Fault). CloseBackKept d b r.base splits r.now r.redo_end t u.begun.change.last u.begun.change.undo_next old.disk w disk x) is
+      (subst (λ (n : ℕ). CloseBackKept d b r.base splits r.now r.redo_end n u.begun.change.last u.begun.change.undo_next old.disk w disk result) ends.owner
+      (subst (λ (x : Change). Goes b x r.now.log → (splits ≡ true → IsSplitBack b x.undo_next x.images r.now.log) → CloseBackKept d b r.base splits r.now r.redo_end x.transaction x.last x.undo_next old.disk w disk result) same kept going.goes
+      (λ for_split. subst (λ (a : Aim). Aims b a u.begun.change.undo_next u.begun.change.images r.now.log) (ends.aim_is ∙ ap aim_back for_split) going.aims)))
 
   module _ (lsn : ℕ) (closed : Writer) (between : PageWriter) (mid : D) (shut : ClosedBack d b r.base r.now r.redo_end t ends.u.begun.change.last ends.u.begun.change.undo_next lsn closed between mid) where
     change : GrowsByChange t r.now.log closed.log
@@ -209,7 +189,7 @@ module _ {D : Type 0} (d : Ghosts D) {b : Base} (before : List Effect) (s : Show
 
     -- ---- a split is closed, and the key comes back
 
-    pub split_more : (takes : ends.u.aim ≡ TakesBack) (last undo_next : ℕ) → SplitClosed d b r.base r.now r.redo_end t ends.u.begun.change.last ends.u.begun.change.undo_next new.writer new.disk (turns.More last undo_next) → new.locks ≡ old.locks
+    split_more : (takes : ends.u.aim ≡ TakesBack) (last undo_next : ℕ) → SplitClosed d b r.base r.now r.redo_end t ends.u.begun.change.last ends.u.begun.change.undo_next new.writer new.disk (turns.More last undo_next) → new.locks ≡ old.locks
         → new.txns ≡ record old.txns { rows = map (changed t (with_undone last undo_next)) old.txns.rows } → StepKept d before s v (Continue t) More old new
     split_more takes last undo_next is locks table =
         let closed = is.closed in
@@ -253,7 +233,7 @@ module _ {D : Type 0} (d : Ghosts D) {b : Base} (before : List Effect) (s : Show
         step_made d before s v (Continue t) More old new w served.0 running works_on (stops_back d before s v t row old r found checked new.disk stops) tt r
         (grows.takes_behind (was_as views.TakesBack (ap aim_of takes)) under_gone (record { closed = closed.log; closes = closes is.lsn closed is.between is.mid shut; behind = takes_alone d b r.base closed r.redo_end t turned.entry took.page last is.mid new.writer new.disk taken }))
 
-    pub split_ended : (takes : ends.u.aim ≡ TakesBack) → SplitClosed d b r.base r.now r.redo_end t ends.u.begun.change.last ends.u.begun.change.undo_next new.writer new.disk turns.Ended → IsReleased old.locks t new.locks → length old.txns.rows ≡ length (without t old.txns.rows) + 1
+    split_ended : (takes : ends.u.aim ≡ TakesBack) → SplitClosed d b r.base r.now r.redo_end t ends.u.begun.change.last ends.u.begun.change.undo_next new.writer new.disk turns.Ended → IsReleased old.locks t new.locks → length old.txns.rows ≡ length (without t old.txns.rows) + 1
         → new.txns ≡ record old.txns { rows = without t old.txns.rows } → StepKept d before s v (Continue t) RolledBack old new
     split_ended takes is released once table =
         let closed = is.closed in
@@ -307,7 +287,7 @@ module _ {D : Type 0} (d : Ghosts D) {b : Base} (before : List Effect) (s : Show
 
     -- ---- a deletion is closed, after which others are left
 
-    pub drop_more : (took : ends.u.aim ≡ TookBack) (last undo_next : ℕ) → DropClosed d b r.base r.now r.redo_end t ends.u.begun.change.last ends.u.begun.change.undo_next new.writer new.disk (turns.More last undo_next) → new.locks ≡ old.locks
+    drop_more : (took : ends.u.aim ≡ TookBack) (last undo_next : ℕ) → DropClosed d b r.base r.now r.redo_end t ends.u.begun.change.last ends.u.begun.change.undo_next new.writer new.disk (turns.More last undo_next) → new.locks ≡ old.locks
         → new.txns ≡ record old.txns { rows = map (changed t (with_record last undo_next)) old.txns.rows } → StepKept d before s v (Continue t) More old new
     drop_more took last undo_next is locks table =
         let closed = is.closed in
@@ -340,7 +320,7 @@ module _ {D : Type 0} (d : Ghosts D) {b : Base} (before : List Effect) (s : Show
         step_made d before s v (Continue t) More old new w served.0 running works_on (stops_back d before s v t row old r found checked new.disk stops) tt r
         (grows.drops (was_as views.TookBack (ap aim_of took)) under_gone (closes is.lsn closed is.between is.mid shut))
 
-    pub drop_ended : (took : ends.u.aim ≡ TookBack) → DropClosed d b r.base r.now r.redo_end t ends.u.begun.change.last ends.u.begun.change.undo_next new.writer new.disk turns.Ended → IsReleased old.locks t new.locks → length old.txns.rows ≡ length (without t old.txns.rows) + 1
+    drop_ended : (took : ends.u.aim ≡ TookBack) → DropClosed d b r.base r.now r.redo_end t ends.u.begun.change.last ends.u.begun.change.undo_next new.writer new.disk turns.Ended → IsReleased old.locks t new.locks → length old.txns.rows ≡ length (without t old.txns.rows) + 1
         → new.txns ≡ record old.txns { rows = without t old.txns.rows } → StepKept d before s v (Continue t) RolledBack old new
     drop_ended took is released once table =
         let closed = is.closed in
@@ -379,3 +359,15 @@ module _ {D : Type 0} (d : Ghosts D) {b : Base} (before : List Effect) (s : Show
         } in
         step_made d before s v (Continue t) RolledBack old new w served.0 running works_on (stops_back d before s v t row old r found checked new.disk stops) tt r
         (grows.ends_drop (was_as views.TookBack (ap aim_of took)) (record { closed = closed.log; closes = closes is.lsn closed is.between is.mid shut; behind = record { last = is.lsn; lsn = end.lsn; is = end.log } }))
+
+    -- ---- one of them is closed
+
+    pub back_more : (for_split : Bool) → ends.u.aim ≡ aim_back for_split → (last undo_next : ℕ) → BackClosed d b r.base for_split r.now r.redo_end t ends.u.begun.change.last ends.u.begun.change.undo_next new.writer new.disk (turns.More last undo_next)
+        → new.locks ≡ old.locks → new.txns ≡ record old.txns { rows = map (changed t (with_back for_split last undo_next)) old.txns.rows } → StepKept d before s v (Continue t) More old new
+    back_more true = split_more
+    back_more false = drop_more
+
+    pub back_ended : (for_split : Bool) → ends.u.aim ≡ aim_back for_split → BackClosed d b r.base for_split r.now r.redo_end t ends.u.begun.change.last ends.u.begun.change.undo_next new.writer new.disk turns.Ended → IsReleased old.locks t new.locks
+        → length old.txns.rows ≡ length (without t old.txns.rows) + 1 → new.txns ≡ record old.txns { rows = without t old.txns.rows } → StepKept d before s v (Continue t) RolledBack old new
+    back_ended true = split_ended
+    back_ended false = drop_ended

@@ -1,9 +1,8 @@
 -- Which part of a structure change a Continue makes next.
 use Rattle.std.specs.Prelude.{◌≢◌, ℕ, Option, Some}
 use Rattle.im_theory_machine.specs.View.{owner_of}
-use Rattle.im_engine.specs.declared.stepped.Aim.TheVariants.{TakesBack, TookBack}
 use Rattle.im_engine.specs.declared.stepped.Part as parts
-use Rattle.im_engine.specs.declared.stepped.Part.TheVariants.{Other, Page, Insert, Delete, Split, Drop}
+use Rattle.im_engine.specs.declared.stepped.Part.TheVariants.{Other, Page, Insert, Delete, Back}
 use Rattle.im_engine.specs.declared.stepped.Under.{Under}
 use Rattle.im_engine.specs.Aims.{under_of}
 use Rattle.im_engine.specs.OwnSteps.{EndsDelete, EndsInsert, OwnsPage}
@@ -15,5 +14,4 @@ IsNextPart t under Other = owner_of (under_of under) ≢ Some t
 IsNextPart t under Page = OwnsPage t under
 IsNextPart t under Insert = EndsInsert t under
 IsNextPart t under Delete = EndsDelete t under
-IsNextPart t under Split = EndsBack TakesBack t under
-IsNextPart t under Drop = EndsBack TookBack t under
+IsNextPart t under (Back splits) = EndsBack splits t under

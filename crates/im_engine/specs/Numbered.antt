@@ -2,9 +2,11 @@
 use Rattle.std.specs.Prelude.{◌≡◌, ℕ, Bool, true, false, List, [], ◌∷◌}
 use mathlib.Core.Bool.{Bool-set}
 use mathlib.Core.HLevel.{×_prop, Unit-prop}
+use Rattle.im_base_txn.specs.Rows.{with_record}
 use Rattle.im_base_txn.specs.declared.transaction.Mark.{Mark}
 use Rattle.im_base_txn.specs.declared.transaction.Mark.TheVariants.{Going, MustRollBack, RollingBack, Returning, Committing}
 use Rattle.im_base_txn.specs.declared.transaction.Transaction.{Transaction}
+use Rattle.im_theory_steps.specs.Steps.{with_undone}
 
 pub record Numbered : Type 0 where
   pub rows : List Transaction
@@ -17,6 +19,11 @@ pub record Numbered : Type 0 where
 -- what a step leaves that changes rows, but begins no transaction and lets none wait
 abbrev pub besides_rows : Numbered → ℕ × Bool × ℕ
 besides_rows x = (x.next, x.group, x.waiting)
+
+-- its row after the end of a structure change of a rollback: with a split a change was taken back
+abbrev pub with_back : (splits : Bool) → (last undo_next : ℕ) → Transaction → Transaction
+with_back true last undo_next = with_undone last undo_next
+with_back false last undo_next = with_record last undo_next
 
 -- it takes changes back until some are left, and then goes on
 abbrev pub is_returning : Mark → Bool

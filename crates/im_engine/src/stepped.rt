@@ -40,8 +40,8 @@ pub(crate) enum Part {
     Page,
     Insert,
     Delete,
-    Split,
-    Drop,
+    // of a rollback, a split or a deletion
+    Back(bool),
 }
 
 // What others are told of it.

@@ -5,7 +5,7 @@ ghost use Rattle.im_base_txn.specs.Rows.{AreRising, begun, changed, is_of, is_co
 ghost use Rattle.im_theory_steps.specs.Steps.{counted, with_made, with_undone};
 ghost use Rattle.im_base_txn.specs.declared.transaction.Mark.TheVariants.{Committing};
 ghost use Rattle.im_base_txn.specs.declared.transaction.Transaction.{Transaction as Row};
-ghost use Rattle.im_engine.specs.Numbered.{NoneReturns, is_returning};
+ghost use Rattle.im_engine.specs.Numbered.{NoneReturns, is_returning, with_back};
 
 use im_base_txn::{Mark, Table, Transaction, law_numbers_stay_below};
 use im_base_types::{LAST_TRANSACTION, Lsn, TxnId};
@@ -148,6 +148,18 @@ impl Transactions {
         self.law_are_counted();
         let changes = count_undone(self.table.find(number));
         self.note_change(number, last, undo_next, changes);
+    }
+
+    /// Notes the last record of the end of a structure change of a rollback: after a split a change was taken back.
+    pub fn note_back(&mut self, number: TxnId, last: Lsn, undo_next: Lsn, splits: bool)
+        ensures table { self.new ≡ record self.old { rows = map (changed number (with_back splits last undo_next)) self.old.rows } }
+        ensures forward { NoneReturns self.new.rows }
+    {
+        if splits {
+            self.note_undone(number, last, undo_next);
+        } else {
+            self.note_record(number, last, undo_next);
+        }
     }
 
     fn note_change(&mut self, number: TxnId, lsn: Lsn, undo_next: Lsn, changes: u64)

@@ -1,5 +1,5 @@
 -- What comes after a structure change of a rollback.
-use Rattle.std.proofs.Common.{◌≡◌, ◌≢◌, ℕ, Bool, true, false, List, [], ◌∷◌, length, Option, None, Some, Result, Ok, Err, inl, inr, refl, sym, ◌∙◌, ap, subst, ◌==◌}
+use Rattle.std.proofs.Common.{◌≡◌, ◌≢◌, ◌⊎◌, ℕ, Bool, true, false, List, [], ◌∷◌, length, Option, None, Some, Result, Ok, Err, inl, inr, refl, sym, ◌∙◌, ap, subst, ◌==◌}
 use Rattle.std.specs.Prelude.{◌||◌, IfErr, IfOk, IsErrAnd}
 use Rattle.std.proofs.lemmas.Bool.{cond-true, eq-eqb}
 use Rattle.im_base_types.specs.declared.fault.Fault.{Fault}
@@ -53,7 +53,7 @@ use Rattle.im_engine_rollback.specs.declared.undone.Undone.{Undone}
 use Rattle.im_engine_rollback.specs.declared.undone_beside.UndoneBeside.{UndoneBeside}
 use Rattle.im_engine_rollback.specs.declared.undone_beside.UndoneBeside.TheVariants.{Made, Splits, Drops}
 use Rattle.im_engine_rollback.specs.EndsBeside.{EndIfUndoneBesideKept}
-use Rattle.im_engine_rollback.specs.SplitsBack.{IsSplitBack, ClosedBack, CloseDropKept, CloseSplitKept}
+use Rattle.im_engine_rollback.specs.SplitsBack.{IsSplitBack, ClosedBack, CloseBackKept}
 use Rattle.im_engine_rollback.specs.TurnsBeside.{TurnBesideKept}
 use Rattle.im_engine_rollback.specs.Ends.{may_be_full, may_turn, TurnOutcome}
 use Rattle.im_engine_rollback.proofs.Ends.{never_capacity, never_failed, never_memory}
@@ -100,6 +100,14 @@ module _ {D : Type 0} (d : Ghosts D) where
       subst (λ (x : Fault). TurnOutcome d may_turn v w new (Some x)) (sym (memory refl)) failed
   late_turn {v} {w} {new} f answer memory others one = subst (λ (x : Fault). TurnOutcome d may_turn v w new (Some x)) (sym (others (λ same. let never : ⊥ = cc same in never))) one
 
+  -- an End is refused for none of these
+  pub full_never : {v w : PageWriter} {new : D} (r : Result Undone Fault) → TurnOutcome d may_be_full v w new (fault_of r) → IfErr r (λ f. (f ≡ Memory) ⊎ (f ≡ Capacity) ⊎ (f ≡ Failed) → ⊥)
+  full_never {v} {w} {new} (Ok undone) one = tt
+  full_never {v} {w} {new} (Err f) one = λ is. elim is [
+    | inl memory ↦ never_memory d {A = Undone} {v = v} ⊥ (Err f) refl one memory
+    | inr more ↦ elim more [ inl capacity ↦ never_capacity d {A = Undone} {v = v} ⊥ (Err f) refl one capacity | inr failed ↦ never_failed d {A = Undone} {v = v} ⊥ (Err f) refl one failed ]
+  ]
+
 -- all pages of a change are logged
 pub whole_way : (b : Base) (c : Change) (log : History) → c.done ≡ length c.images → Goes b c log → IsUnderWay b c.transaction c.undo_next c.images (length c.images) c.last log
 whole_way b c log end goes = subst (λ (n : ℕ). IsUnderWay b c.transaction c.undo_next c.images n c.last log) end goes
@@ -107,16 +115,13 @@ whole_way b c log end goes = subst (λ (n : ℕ). IsUnderWay b c.transaction c.u
 module _ {D : Type 0} (d : Ghosts D) (b : Base) (base : ℕ) where
   -- it could not be closed
   pub close_refused : (s : Writer) (e t last undo_next : ℕ) (old : D) (start w : PageWriter) (new : D) (f : Fault) → TurnOutcome d may_be_full start w new (Some f) → f ≢ NotAStore → LeavesUndo d b base s t old new
-      → (result : Result Undone Fault) → IsErrAnd result (λ x. x ≡ f) → CloseSplitKept d b base s e t last undo_next old w new result
+      → (result : Result Undone Fault) → IsErrAnd result (λ x. x ≡ f) → CloseBackKept d b base true s e t last undo_next old w new result
   close_refused s e t last undo_next old start w new f one sound stops (Ok undone) here = absurd here
   close_refused s e t last undo_next old start w new f one sound stops (Err x) here =
-      subst (λ (y : Fault). CloseSplitKept d b base s e t last undo_next old w new (Err y)) (sym here) (record {
+      subst (λ (y : Fault). CloseBackKept d b base true s e t last undo_next old w new (Err y)) (sym here) (record {
         sound = sound;
         stops = stops;
-        never = λ is. elim is [
-          | inl memory ↦ never_memory d {A = Undone} {v = start} ⊥ (Err f) refl one memory
-          | inr more ↦ elim more [ inl capacity ↦ never_capacity d {A = Undone} {v = start} ⊥ (Err f) refl one capacity | inr failed ↦ never_failed d {A = Undone} {v = start} ⊥ (Err f) refl one failed ]
-        ];
+        never = full_never d {v = start} (Err f) one;
       })
 
   -- ---- calls of the change's own transaction
@@ -234,7 +239,7 @@ module _ {D : Type 0} (d : Ghosts D) (b : Base) (base : ℕ) where
 
         module _ (old : D) (left : LeavesUndo d b base s t old mid) where
           pub split_closed : (sight : Sight UndoneBeside) → TurnBesideKept d b base closed e t lsn undo_next beside mid w new (Ok sight) → (result : Result Undone Fault) → IfOk result (λ undone. sight ≡ Seen (Made undone))
-              → IfErr result (λ f. (f ≡ Failed) × ((undone : Undone) → sight ≡ Seen (Made undone) → ⊥)) → CloseSplitKept d b base s e t last undo_next old w new result
+              → IfErr result (λ f. (f ≡ Failed) × ((undone : Undone) → sight ≡ Seen (Made undone) → ⊥)) → CloseBackKept d b base true s e t last undo_next old w new result
           split_closed sight k (Ok undone) made other =
               let kept : TurnBesideKept d b base closed e t lsn undo_next beside mid w new (Ok (Seen (Made undone))) = subst (λ (x : Sight UndoneBeside). TurnBesideKept d b base closed e t lsn undo_next beside mid w new (Ok x)) made k in
               record {
@@ -244,12 +249,12 @@ module _ {D : Type 0} (d : Ghosts D) (b : Base) (base : ℕ) where
               }
           split_closed sight k (Err f) made other = let seen = made_sight sight k in absurd (other.1 seen.0 seen.1)
 
-          pub split_refused : (f answer : Fault) → (f ≡ Memory → answer ≡ Failed) → (f ≢ Memory → answer ≡ f) → TurnBesideKept d b base closed e t lsn undo_next beside mid w new (Err f) → CloseSplitKept d b base s e t last undo_next old w new (Err answer)
+          pub split_refused : (f answer : Fault) → (f ≡ Memory → answer ≡ Failed) → (f ≢ Memory → answer ≡ f) → TurnBesideKept d b base closed e t lsn undo_next beside mid w new (Err f) → CloseBackKept d b base true s e t last undo_next old w new (Err answer)
           split_refused f answer memory others k =
               let short : f ≡ Memory → ⊥ = λ is. (let needs = k.short is in never_needs needs.entry needs.next needs.needs) in
               let used : f ≡ Capacity → ⊥ = λ is. (let used = k.used_up is in never_used used.entry used.next used.used_up) in
               let same : answer ≡ f = others (λ is. short is) in
-              subst (λ (x : Fault). CloseSplitKept d b base s e t last undo_next old w new (Err x)) (sym same) (record {
+              subst (λ (x : Fault). CloseBackKept d b base true s e t last undo_next old w new (Err x)) (sym same) (record {
                 sound = k.sound;
                 stops = left_closed old new left k.stops;
                 never = λ is. elim is [ inl memory ↦ short memory | inr more ↦ elim more [ inl capacity ↦ used capacity | inr failed ↦ k.early failed ] ];
@@ -257,9 +262,11 @@ module _ {D : Type 0} (d : Ghosts D) (b : Base) (base : ℕ) where
 
     -- ---- a deletion is closed
 
-    pub drop_closed : (old : D) → LeavesUndo d b base s t old mid → (w : PageWriter) (new : D) (result : Result Undone Fault) → EndIfUndoneBesideKept d b base closed e t lsn undo_next mid w new result → CloseDropKept d b base s e t last undo_next old w new result
-    drop_closed old left w new (Ok undone) k = record {
+    pub drop_closed : (old : D) → LeavesUndo d b base s t old mid → (start w : PageWriter) (new : D) (result : Result Undone Fault) → TurnOutcome d may_be_full start w new (fault_of result) → EndIfUndoneBesideKept d b base closed e t lsn undo_next mid w new result
+        → CloseBackKept d b base false s e t last undo_next old w new result
+    drop_closed old left start w new (Ok undone) one k = record {
       sound = record { lsn = lsn; closed = closed; between = between; mid = mid; shut = shut; went = went_closed d b base closed e t lsn undo_next w new undone shut.going.can.closed k.sound };
       stops = left_closed old new left k.stops;
+      never = tt;
     }
-    drop_closed old left w new (Err f) k = record { sound = k.sound; stops = left_closed old new left k.stops }
+    drop_closed old left start w new (Err f) one k = record { sound = k.sound; stops = left_closed old new left k.stops; never = full_never d {v = start} (Err f) one }

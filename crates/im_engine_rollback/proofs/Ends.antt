@@ -9,7 +9,7 @@ use Rattle.im_page_writer.specs.declared.page_writer.PageWriter.{PageWriter}
 use Rattle.im_page_writer.specs.PageWriter.{IsReadyWriter}
 use Rattle.im_page_writer.specs.Outcome.{fault_of, none_mild, Works, LogEnds, Logs}
 use Rattle.im_page_file.proofs.LogEnds.{still_working}
-use Rattle.im_engine_rollback.specs.Ends.{may_be_full, may_turn, TurnEnds, TurnOutcome}
+use Rattle.im_engine_rollback.specs.Ends.{may_be_full, may_close, may_turn, TurnEnds, TurnOutcome}
 
 module _ {D : Type 0} (d : Ghosts D) where
   -- ---- calls in a row
@@ -135,6 +135,10 @@ none_may n e is = absurd (cc is)
 pub full_may : (e : Fault) → may_be_full e ≡ true → may_turn e ≡ true
 full_may LogFull is = refl
 full_may e is = absurd (cc is)
+
+pub close_may : (splits : Bool) (e : Fault) → may_close splits e ≡ true → may_turn e ≡ true
+close_may true e is = is
+close_may false e is = full_may e is
 
 pub device_not_store : (e : Fault) → e ≡ Device → e ≢ NotAStore
 device_not_store e is same = let clash : Device ≡ NotAStore = sym is ∙ same in cc clash

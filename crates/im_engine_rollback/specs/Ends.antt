@@ -23,6 +23,11 @@ may_turn LogFull = true
 may_turn Memory = true
 may_turn e = false
 
+-- those of the end of a structure change: of a split, after which a change is taken back, and of a deletion
+abbrev pub may_close : Bool → Fault → Bool
+may_close true = may_turn
+may_close false = may_be_full
+
 module _ {D : Type 0} (d : Ghosts D) where
   -- How it ends. The writer goes on after any refusal but `Device` and `LogFull`; of `NotAStore` that is not said, since a record that could not be read leaves the writer failed.
   abbrev pub TurnEnds : (Fault → Bool) → PageWriter → PageWriter → D → Option Fault → Type 0

@@ -1,5 +1,5 @@
 -- A key that comes back into a leaf that is split first, over several steps; and what comes after a structure change of a rollback.
-use Rattle.std.specs.Prelude.{◌≡◌, ◌⊎◌, ◌++◌, ℕ, true, List, [], ◌∷◌, Some, Result, IfErr}
+use Rattle.std.specs.Prelude.{◌≡◌, ◌⊎◌, ◌++◌, ℕ, Bool, true, false, List, [], ◌∷◌, Some, Result, IfErr}
 use Rattle.im_base_types.specs.declared.fault.Fault.{Fault}
 use Rattle.im_base_types.specs.declared.fault.Fault.TheVariants.{Capacity, Failed, Memory}
 use Rattle.im_base_types.specs.Keys.{Key}
@@ -90,12 +90,13 @@ module _ {D : Type 0} (d : Ghosts D) (b : Base) (base : ℕ) where
     pub shut : ClosedBack s e t last undo_next lsn closed between mid
     pub went : WentOn d b base closed e t lsn undo_next w disk undone
 
+  -- By whether it splits.
+  abbrev pub BackClosed : (splits : Bool) → Writer → (e t last undo_next : ℕ) → PageWriter → D → Undone → Type 0
+  BackClosed true s e t last undo_next w disk undone = SplitClosed s e t last undo_next w disk undone
+  BackClosed false s e t last undo_next w disk undone = DropClosed s e t last undo_next w disk undone
+
   -- What that keeps. It is refused neither for want of memory nor of page numbers, nor as failed.
-  pub record CloseSplitKept (s : Writer) (e t last undo_next : ℕ) (old : D) (w : PageWriter) (disk : D) (result : Result Undone Fault) : Type 0 where
-    pub sound : IsSound result (λ undone. SplitClosed s e t last undo_next w disk undone)
+  pub record CloseBackKept (splits : Bool) (s : Writer) (e t last undo_next : ℕ) (old : D) (w : PageWriter) (disk : D) (result : Result Undone Fault) : Type 0 where
+    pub sound : IsSound result (λ undone. BackClosed splits s e t last undo_next w disk undone)
     pub stops : LeavesUndo d b base s t old disk
     pub never : IfErr result (λ e. (e ≡ Memory) ⊎ (e ≡ Capacity) ⊎ (e ≡ Failed) → ⊥)
-
-  pub record CloseDropKept (s : Writer) (e t last undo_next : ℕ) (old : D) (w : PageWriter) (disk : D) (result : Result Undone Fault) : Type 0 where
-    pub sound : IsSound result (λ undone. DropClosed s e t last undo_next w disk undone)
-    pub stops : LeavesUndo d b base s t old disk

@@ -13,7 +13,7 @@
 //! `undo_beside` does so in a store whose structure changes are made page by page, beside one of another transaction: it makes none itself, but
 //! hands out the one that is needed, in front of the compensation or after it. What it did or planned is what im_restart_undo planned over the
 //! settled tree (`IsBack`), and where that is hidden it says why. A change that is handed out may begin at once (`IsUnderWay`), with all that wants
-//! memory had before the first record. After its last page `close_split` and `close_drop` go on with the turn that it interrupts: a split is then known
+//! memory had before the first record. After its last page `close_back` goes on with the turn that it interrupts: a split is then known
 //! to have made room (`IsSplitBack`), so that none is needed twice. `undo_in_steps` is `undo_beside` so far as one step goes: a change that it hands
 //! out has begun, a split with its first page.
 //!
@@ -31,7 +31,7 @@ mod undone;
 mod undone_beside;
 mod undone_in_steps;
 
-pub use behind_changes::{close_drop, close_split};
+pub use behind_changes::close_back;
 pub use first_step::undo_in_steps;
 pub use split_laws::splits_go_on_back;
 pub use step_beside::undo_beside;

@@ -5,7 +5,7 @@ ghost use Rattle.im_engine_rollback.specs.SplitsBack.{OthersLeaveSplitsBack, Pag
 use im_base_disk::Disk;
 
 /// A split that `undo_beside` hands out is for the record that is undone next, and goes on to be so over all its steps, whatever others log
-/// between them: `close_split` asks for that.
+/// between them: `close_back` asks for that.
 pub fn splits_go_on_back<D: Disk>()
     ensures begins { SplitsBackBegin D.Disk }
     ensures others { OthersLeaveSplitsBack }

@@ -8,9 +8,9 @@ use im_smo_actions::BegunChange;
 pub enum UndoneInSteps {
     /// It is taken back.
     Made(Undone),
-    /// It waits for the split of its key's leaf, whose first page is logged. After the last one `close_split` takes it back.
+    /// It waits for the split of its key's leaf, whose first page is logged. After the last one `close_back` takes it back.
     Splitting(BegunChange),
     /// It is taken back, and its key's leaf was left empty: this change, of which no page is logged, takes it out of the tree. After its last page
-    /// `close_drop` says whether the transaction has more to undo.
+    /// `close_back` says whether the transaction has more to undo.
     Dropping(BegunChange),
 }

@@ -25,8 +25,8 @@ fn next_part(under: &Option<Under>, t: TxnId) -> Part
     match &under.aim {
         Aim::Puts(..) => Part::Insert,
         Aim::Drops(..) => Part::Delete,
-        Aim::TakesBack => Part::Split,
-        Aim::TookBack => Part::Drop,
+        Aim::TakesBack => Part::Back(true),
+        Aim::TookBack => Part::Back(false),
     }
 }
 
@@ -49,8 +49,7 @@ impl<D: Disk> Engine<D> {
             Part::Page => self.log_page(t),
             Part::Insert => self.end_insert(t),
             Part::Delete => self.end_delete(t),
-            Part::Split => self.end_split(t),
-            Part::Drop => self.end_drop(t),
+            Part::Back(splits) => self.end_back(t, splits),
         }
     }
 }

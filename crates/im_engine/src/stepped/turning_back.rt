@@ -1,27 +1,27 @@
 //! The end of a structure change of a rollback.
 
-ghost use Rattle.std.specs.Prelude.{◌≡◌, None, Some, false, true};
+ghost use Rattle.std.specs.Prelude.{◌≡◌, None, false};
 
 use crate::accesses::{breaks, told};
 use crate::engine::Engine;
 use im_base_disk::Disk;
 use im_base_steps::Reply;
 use im_base_types::{Fault, TxnId};
-use im_engine_rollback::{Undone, close_drop, close_split};
+use im_engine_rollback::{Undone, close_back};
 
 impl<D: Disk> Engine<D> {
     ghost use Rattle.im_base_types.specs.Answers as answers;
     ghost use Rattle.im_theory_machine.specs.View.{owns_in};
     ghost use Rattle.im_theory_steps.specs.Checks.{checked_by};
-    ghost use Rattle.im_engine.specs.declared.stepped.Aim.TheVariants.{TakesBack, TookBack};
     ghost use Rattle.im_engine.specs.Aims.{under_of};
     ghost use Rattle.im_engine.specs.TurningBack.{EndsBack};
     ghost use Rattle.im_engine.specs.Told.{IsMade};
 
-    // Ends the split in front of a compensation: closes it, and takes back the change for which it was made.
-    pub(crate) fn end_split(&mut self, t: TxnId) -> Reply
+    // Ends the structure change of a rollback: closes it, and takes back the change for which a split was made. Where nothing is left to take back
+    // then, the transaction ends.
+    pub(crate) fn end_back(&mut self, t: TxnId, splits: bool) -> Reply
         requires works { self.old.failed ≡ false }
-        requires end { EndsBack TakesBack t self.old.under }
+        requires end { EndsBack splits t self.old.under }
         requires checked { checked_by self.old.txns.rows (owns_in (under_of self.old.under) (answers.Continue t)) (answers.Continue t) ≡ None }
         ensures { IsMade D.Disk (answers.Continue t) result self.old self.new }
     {
@@ -29,54 +29,18 @@ impl<D: Disk> Engine<D> {
             return Reply::Refused(Fault::NoTransaction);
         };
         self.failed = true;
-        match close_split(
+        match close_back(
             self.alloc,
             &mut self.writer,
             &mut self.disk,
             under.begun.change(),
+            splits,
             self.room.as_mut_slice(),
         ) {
             Ok(Undone::More { last, undo_next }) => {
                 self.failed = false;
                 self.under = None;
-                self.txns.note_undone(t, last, undo_next);
-                Reply::More
-            }
-            Ok(Undone::Ended) => {
-                self.failed = false;
-                self.under = None;
-                self.locks.release_all(t);
-                self.txns.end(t);
-                Reply::RolledBack
-            }
-            Err(fault) => {
-                self.failed = breaks(fault);
-                Reply::Refused(told(fault))
-            }
-        }
-    }
-
-    // Ends the deletion after a compensation: closes it, and ends the transaction where it has nothing left to take back.
-    pub(crate) fn end_drop(&mut self, t: TxnId) -> Reply
-        requires works { self.old.failed ≡ false }
-        requires end { EndsBack TookBack t self.old.under }
-        requires checked { checked_by self.old.txns.rows (owns_in (under_of self.old.under) (answers.Continue t)) (answers.Continue t) ≡ None }
-        ensures { IsMade D.Disk (answers.Continue t) result self.old self.new }
-    {
-        let Some(under) = &self.under else {
-            return Reply::Refused(Fault::NoTransaction);
-        };
-        self.failed = true;
-        match close_drop(
-            &mut self.writer,
-            &mut self.disk,
-            under.begun.change(),
-            self.room.as_mut_slice(),
-        ) {
-            Ok(Undone::More { last, undo_next }) => {
-                self.failed = false;
-                self.under = None;
-                self.txns.note_record(t, last, undo_next);
+                self.txns.note_back(t, last, undo_next, splits);
                 Reply::More
             }
             Ok(Undone::Ended) => {

@@ -1,6 +1,6 @@
 use Rattle.im_page_writer.proofs.Outcomes.{sound_on}
 use Rattle.im_restart_undo.proofs.Closed.{closed_beside}
-use Rattle.im_engine_rollback.proofs.BehindChanges.{closed_loser, closing, drop_closed, end_as}
+use Rattle.im_engine_rollback.proofs.BehindChanges.{closed_loser, closing, drop_closed, end_as, full_never}
 use Rattle.im_engine_rollback.proofs.Ends.{end_turn, turn_behind, turn_refused_on}
 use Rattle.im_engine_rollback.proofs.Turning.{left_covered}
 use Rattle.im_engine_rollback.proofs.behind_changes.close_drop.Goals as goal
@@ -15,6 +15,7 @@ returns-in_err-lsn-clause-kept g c b base s e stands over goes =
     record {
       sound = sound_on c.from_residual.result _ _ c.from_residual.ensures.1 k.sound;
       stops = left_covered g.D.Disk b base s change.transaction c.args.disk.now c.close.new.disk goes.lawful k.stops;
+      never = full_never g.D.Disk c.from_residual.result (turn_refused_on g.D.Disk c.from_residual.result c.from_residual.ensures.1 (end_turn g.D.Disk c.requires.working c.in_err-lsn.ensures.outcome));
     }
 
 pub returns-clause-outcome : goal.returns-clause-outcome
@@ -33,4 +34,4 @@ returns-clause-kept g c b base s e stands over goes =
     let end = end_as g.D.Disk b base shut.closed e t c.in_ok-lsn.lsn change.undo_next c.owner.result c.undo_next.result v mid c.end_if_undone.new.writer c.end_if_undone.new.disk c.end_if_undone.result c.owner.ensures c.undo_next.ensures
     (c.end_if_undone.ensures.beside b base shut.closed e) (closed_beside g.D.Disk b base shut.closed e t c.in_ok-lsn.lsn change.undo_next v mid shut.shut.going)
     (closed_loser g.D.Disk b base s e t change.last change.undo_next c.in_ok-lsn.lsn shut.closed v mid shut.shut) in
-    drop_closed g.D.Disk b base s e t change.last change.undo_next c.in_ok-lsn.lsn shut.closed v mid shut.shut old left c.end_if_undone.new.writer c.end_if_undone.new.disk c.end_if_undone.result end
+    drop_closed g.D.Disk b base s e t change.last change.undo_next c.in_ok-lsn.lsn shut.closed v mid shut.shut old left v c.end_if_undone.new.writer c.end_if_undone.new.disk c.end_if_undone.result c.end_if_undone.ensures.outcome end
