@@ -49,6 +49,7 @@ impl<D: Disk> Engine<D> {
             row.last,
             row.undo_next,
             self.room.as_mut_slice(),
+            true,
         ) {
             Ok(Undone::More { last, undo_next }) => {
                 self.failed = false;

@@ -41,6 +41,7 @@ impl<D: Disk> Engine<D> {
             row.undo_next,
             self.room.as_mut_slice(),
             beside_of(&self.under),
+            true,
         ) {
             Ok(Sight::Seen(UndoneInSteps::Made(Undone::More { last, undo_next }))) => {
                 self.failed = false;

@@ -36,6 +36,7 @@ impl<D: Disk> Engine<D> {
             under.begun.change(),
             splits,
             self.room.as_mut_slice(),
+            true,
         ) {
             Ok(Undone::More { last, undo_next }) => {
                 self.failed = false;
