@@ -148,7 +148,7 @@ module _ {D : Type 0} (d : Ghosts D) (before : List Effect) (s : Shown) (v : Vie
         let r = run.1 in
         let le_old : old.txns.next ≤ 2 ^ 62 = subst (λ (n : ℕ). n ≤ 2 ^ 62) is le in
         let below = r.numbered le_old in
-        let served = begins_served run.0 r.earlier before s v r.now.log old.txns.rows old.txns.next old.locks r.serving (numbers_stay_new.none old.txns.next r.now.log below) old.numbered.0 le_old few in
+        let served = begins_served run.0 r.earlier before s v r.now.log old.txns.rows old.txns.next old.locks r.serving (numbers_stay_new.none old.txns.next r.now.log below) old.numbered le_old few in
         let after : Numbered = record old.txns { rows = old.txns.rows ++ row_begun old.txns.next ∷ []; next = suc old.txns.next } in
         let next_is : number + 1 ≡ suc old.txns.next = omega (arith, is) in
         let table_is : new.txns ≡ after = table ∙ ap (λ (n : ℕ). record old.txns { rows = old.txns.rows ++ row_begun n ∷ []; next = number + 1 }) is ∙ ap (λ (n : ℕ). record old.txns { rows = old.txns.rows ++ row_begun old.txns.next ∷ []; next = n }) next_is in
@@ -394,7 +394,7 @@ module _ {D : Type 0} (d : Ghosts D) (before : List Effect) (s : Shown) (v : Vie
       let running = runs_on d before s v old r s v new f.now f.on
       (subst (λ (x : Numbered). IsServing b r.earlier before s v f.now.log x.rows x.next new.locks) (sym table)
       (subst (λ (l : _). IsServing b r.earlier before s v f.now.log old.txns.rows old.txns.next l) (sym locks) served.1)) commits
-      (subst (λ (n : ℕ). n ≤ 2 ^ 62 → AreBelow n f.now.log) (sym (ap (λ (x : Numbered). x.next) table)) (λ le. same.below old.txns.next old.numbered.0 (r.numbered le))) refl stays in
+      (subst (λ (n : ℕ). n ≤ 2 ^ 62 → AreBelow n f.now.log) (sym (ap (λ (x : Numbered). x.next) table)) (λ le. same.below old.txns.next old.numbered (r.numbered le))) refl stays in
       let reads = f.on.goes.writing.stands.file.reads p ∙ f.in_file ((f.on.goes.keeps.pages p).waits ∙ none_waits d before s v old r p) ∙ ap (λ (g : Page). Some g) (page_is d before s v new running p) in
       step_made d before s v (FlushPage p) Done old new v served.0 running works_on (read_stops d before s v old r new.writer new.disk (flush_asks d one)) (record { b = b; running = running; reads = reads }) r
       f.on.goes.keeps.log

@@ -2,7 +2,7 @@
 use Rattle.std.proofs.Common.{inl, inr, ◌≡◌, ◌≤◌, ◌<◌, ℕ, Bool, true, false, not, List, [], ◌∷◌, ◌++◌, Option, Some, None, IfSome, map, refl, sym, ap, subst, ◌∙◌, arith}
 use Rattle.std.specs.Prelude.{filter, find, ◌==◌, if◌then◌else◌}
 use Rattle.im_theory_steps.specs.Steps.{with_made}
-use Rattle.im_engine.specs.Numbered.{NoneReturns, Numbered, is_returning}
+use Rattle.im_engine.specs.Numbered.{Numbered}
 use Rattle.im_base_txn.specs.declared.transaction.Transaction.{Transaction}
 use Rattle.std.proofs.lemmas.Bool.{cases_eq, cond-false, cond-true, eq-eqb, ne_eqb}
 use Rattle.im_base_txn.specs.Rows.{AreAbove, AreRising, begun, changed, is_of, with_changes, with_record}
@@ -50,40 +50,6 @@ owned_by number rows are (Some row) is =
     let same = found_number number rows (Some row) (sym is) row refl in
     let above = found_above 0 number rows are (Some row) (sym is) row refl same in
     omega (arith, above, same)
-
--- ---- none of the rows returns
-
-pub forward_begun : (number : ℕ) (rows : List Transaction) → NoneReturns rows → NoneReturns (rows ++ begun number ∷ [])
-forward_begun number [] are = (refl, tt)
-forward_begun number (row ∷ rows) are = (are.0, forward_begun number rows are.1)
-
-pub forward_changed : (number : ℕ) (f : Transaction → Transaction) → ((row : Transaction) → is_returning row.mark ≡ false → is_returning (f row).mark ≡ false) → (rows : List Transaction) → NoneReturns rows → NoneReturns (map (changed number f) rows)
-forward_changed number f keeps [] are = tt
-forward_changed number f keeps (row ∷ rows) are = (by (row.number == number), forward_changed number f keeps rows are.1)
-  where
-    by : (b : Bool) → is_returning (if b then f row else row).mark ≡ false
-    by true = keeps row are.0
-    by false = are.0
-
-pub forward_part : (p : Transaction → Bool) (rows : List Transaction) → NoneReturns rows → NoneReturns (filter p rows)
-forward_part p [] are = tt
-forward_part p (row ∷ rows) are = by (p row) (forward_part p rows are.1)
-  where
-    by : (b : Bool) → NoneReturns (filter p rows) → NoneReturns (if b then row ∷ filter p rows else filter p rows)
-    by true more = (are.0, more)
-    by false more = more
-
--- nor one that is found
-pub found_forward : (number : ℕ) (rows : List Transaction) → NoneReturns rows → (row : Transaction) → find (is_of number) rows ≡ Some row → is_returning row.mark ≡ false
-found_forward number [] are row is = absurd (cc is)
-found_forward number (first ∷ rows) are row is = by (is_of number first) refl (found_forward number rows are.1 row)
-  where
-    by : (b : Bool) → is_of number first ≡ b → (find (is_of number) rows ≡ Some row → is_returning row.mark ≡ false) → is_returning row.mark ≡ false
-    by true here more =
-        let same : Some first ≡ Some row = sym (ap (λ (x : Bool). if x then Some first else find (is_of number) rows) here) ∙ is in
-        let it : first ≡ row = cc same in
-        subst (λ (r : Transaction). is_returning r.mark ≡ false) it are.0
-    by false here more = more (sym (ap (λ (x : Bool). if x then Some first else find (is_of number) rows) here) ∙ is)
 
 -- ---- one row is changed
 
