@@ -50,8 +50,9 @@ module _ (fits : ℕ → ℕ → List ℕ → Bool) where
 unfoldable pub sum_of : (salt : List ℕ) (lsn gate : ℕ) → List ℕ → ℕ
 sum_of salt lsn gate behind = sip.finish (sip.write (sip.write (sip.write sip.initial salt) (to_be_bytes w64 lsn)) (gate ∷ take (batch_length behind - 4) behind))
 
+-- It is that of the one open gate or of the other, whichever the byte is: a gate whose write was cut short may be the other one, or closed.
 abbrev pub sum_fits : List ℕ → ℕ → ℕ → List ℕ → Bool
-sum_fits salt lsn gate behind = sum_found behind == sum_of salt lsn gate behind
+sum_fits salt lsn gate behind = (sum_found behind == sum_of salt lsn 1 behind) || (sum_found behind == sum_of salt lsn 2 behind)
 
 -- ---- a file
 

@@ -1,11 +1,14 @@
 -- What a file shows at a place, by its parts.
-use Rattle.std.proofs.Common.{◌≡◌, ◌⊎◌, ⊎_elim, nat_eq, ℕ, suc, ◌+◌, ◌-◌, ◌<◌, ◌≤◌, ◌&&◌, Bool, true, false, List, [], ◌∷◌, length, take, drop, get_or, Option, Some, None, refl, sym, ◌∙◌, ap, subst, arith}
+use Rattle.std.proofs.Common.{◌≡◌, ◌⊎◌, ⊎_elim, nat_eq, ℕ, ◌+◌, ◌-◌, ◌<◌, ◌≤◌, ◌&&◌, Bool, true, false, List, [], ◌∷◌, length, take, drop, get_or, Option, Some, None, refl, sym, ◌∙◌, ap, subst, arith}
+use Rattle.std.specs.Prelude.{◌||◌}
+use Rattle.std.specs.Hash.DefaultHasher as sip
+use Rattle.std.specs.Hash.DefaultHasher.{write}
+use Rattle.core.specs.declared.hash.sip.DefaultHasher.{DefaultHasher}
 use Rattle.std.specs.Int.{w64, from_be_bytes}
 use Rattle.std.proofs.lemmas.Bool.{cases_lt}
-use Rattle.std.proofs.lemmas.Bool.Decides.{nat_tests}
 use Rattle.std.proofs.lemmas.List.{drop-drop, drop_more, drop_all}
 use Rattle.std.proofs.lemmas.Option.{none-some}
-use Rattle.im_base_disk.specs.Sums.{batch_length, base_in, counts, is_third, is_whole, pick, records, salt_in, shown, shows, shows_by_header, sum_fits, sum_of}
+use Rattle.im_base_disk.specs.Sums.{batch_length, base_in, counts, is_third, pick, records, salt_in, shown, shows, shows_by_header, sum_fits, sum_of}
 use Rattle.im_base_sum_disk.specs.Digest.{salted_digest}
 use Rattle.im_base_sum_disk.specs.Leaves.{ShowsNoMore}
 
@@ -51,21 +54,23 @@ stands file behind p size rest sized is within counted =
     ∙ ap (λ (n : ℕ). Some (take n (drop (p + 5) file)))
     (let same : batch_length (drop (p + 1) file) - 8 ≡ p + size - 3 - (p + 5) = omega (arith, sized, ap batch_length rest) in same)
 
-whole_some : (behind : List ℕ) → is_whole behind ≡ true → 9 ≤ batch_length behind
-whole_some behind whole = grind (arith, nat_tests)
+-- a digest goes on after the gate
+pub after_gate : (state : DefaultHasher) (gate : ℕ) (batch : List ℕ) → sip.write (sip.write state (gate ∷ [])) batch ≡ sip.write state (gate ∷ batch)
+unfolding write
+after_gate state gate batch = refl
 
--- the test of a sum
-pub sum_test : (file behind : List ℕ) (place size base number digested : ℕ) → behind ≡ drop (place + 1) file → size ≡ batch_length behind → place < length file → is_whole (drop (place + 1) file) ≡ true
-    → number ≡ from_be_bytes w64 (take 8 (drop (size - 4) behind)) → base ≡ base_in file → digested ≡ salted_digest (salt_in file) (base + place) (take (place + size - 3 - place) (drop place file))
-    → nat_eq number digested ≡ sum_fits (salt_in file) (base_in file + place) (get_or file place 0) (drop (place + 1) file)
+-- the test of a sum: of the one gate or of the other
+pub sum_test : (file behind : List ℕ) (place size base lsn number first later : ℕ) → behind ≡ drop (place + 1) file → size ≡ batch_length behind
+    → number ≡ from_be_bytes w64 (take 8 (drop (size - 4) behind)) → base ≡ base_in file → lsn ≡ base + place
+    → first ≡ salted_digest (salt_in file) lsn (1 ∷ take (size - 4) behind) → later ≡ salted_digest (salt_in file) lsn (2 ∷ take (size - 4) behind)
+    → (nat_eq number first || nat_eq number later) ≡ sum_fits (salt_in file) (base_in file + place) (get_or file place 0) (drop (place + 1) file)
 unfolding sum_of
-sum_test file behind place size base number digested rest sized within whole number_is base_is digested_is =
+sum_test file behind place size base lsn number first later rest sized number_is base_is lsn_is first_is later_is =
     let size_is : size ≡ batch_length (drop (place + 1) file) = sized ∙ ap batch_length rest in
-    let some : 9 ≤ batch_length (drop (place + 1) file) = whole_some (drop (place + 1) file) whole in
-    let batch_is : take (place + size - 3 - place) (drop place file) ≡ get_or file place 0 ∷ take (batch_length (drop (place + 1) file) - 4) (drop (place + 1) file) =
-    ap (take (place + size - 3 - place)) (drop_more file place 0 within)
-    ∙ ap (λ (k : ℕ). take k (get_or file place 0 ∷ drop (place + 1) file)) (let same : place + size - 3 - place ≡ suc (batch_length (drop (place + 1) file) - 4) = omega (arith, size_is, some) in same) in
+    let at : lsn ≡ base_in file + place = lsn_is ∙ ap (λ (n : ℕ). n + place) base_is in
     let found : number ≡ from_be_bytes w64 (take 8 (drop (batch_length (drop (place + 1) file) - 4) (drop (place + 1) file))) =
     number_is ∙ (λ i. from_be_bytes w64 (take 8 (drop (size_is i - 4) (rest i)))) in
-    let made = digested_is ∙ (λ i. salted_digest (salt_in file) (base_is i + place) (batch_is i)) in
-    (λ i. nat_eq (found i) (made i))
+    let made : (gate sum : ℕ) → sum ≡ salted_digest (salt_in file) lsn (gate ∷ take (size - 4) behind)
+    → sum ≡ salted_digest (salt_in file) (base_in file + place) (gate ∷ take (batch_length (drop (place + 1) file) - 4) (drop (place + 1) file)) =
+    λ gate sum is. is ∙ (λ i. salted_digest (salt_in file) (at i) (gate ∷ take (size_is i - 4) (rest i))) in
+    (λ i. nat_eq (found i) (made 1 first first_is i) || nat_eq (found i) (made 2 later later_is i))

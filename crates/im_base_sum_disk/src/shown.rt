@@ -1,6 +1,6 @@
 //! What a file shows at a place.
 
-ghost use Rattle.std.specs.Prelude.{◌≡◌, ◌+◌, ◌-◌, ◌^◌, ◌<◌, ◌≤◌, ℕ, List, Some, None, true, length, take, drop, slice_index, IfSome, false};
+ghost use Rattle.std.specs.Prelude.{◌≡◌, ◌+◌, ◌-◌, ◌^◌, ◌<◌, ◌≤◌, ◌∷◌, ℕ, List, Some, None, true, length, take, drop, slice_index, IfSome, false};
 ghost use Rattle.std.specs.Int.{w64, from_be_bytes};
 ghost use Rattle.im_base_disk.specs.Sums.{batch_length, base_in, counts, is_open, is_third, is_whole, salt_in, shows_by_header, sum_fits};
 ghost use Rattle.im_base_sum_disk.specs.Digest.{salted_digest};
@@ -57,13 +57,15 @@ fn is_whole(behind: &[u8]) -> bool
     (9 <= size && size <= 16384) && 4 + size < behind.len()
 }
 
-// The digest of salt, LSN, and a batch from its gate to its records.
-fn digest(salt: &[u8], lsn: u64, batch: &[u8]) -> u64
-    ensures { result ≡ salted_digest salt.now lsn batch.now }
+// The digest of salt, LSN, and a batch with this gate, whose length and records these are.
+#[tactic(auto, using(crate::proofs::AtPlaces::after_gate))]
+fn digest(salt: &[u8], lsn: u64, gate: u8, batch: &[u8]) -> u64
+    ensures { result ≡ salted_digest salt.now lsn (gate ∷ batch.now) }
 {
     let mut hasher = DefaultHasher::new();
     hasher.write(salt);
     hasher.write(&lsn.to_be_bytes());
+    hasher.write(&[gate]);
     hasher.write(batch);
     hasher.finish()
 }
@@ -77,12 +79,11 @@ fn has_sum(file: &[u8], place: usize) -> bool
 {
     let behind = &file[place + 1..];
     let size = batch_length(behind);
-    let sum = digest(
-        &file[40..43],
-        base_of(file) + place as u64,
-        &file[place..place + size - 3],
-    );
-    number(behind, size - 4) == sum
+    let lsn = base_of(file) + place as u64;
+    let found = number(behind, size - 4);
+    let first = digest(&file[40..43], lsn, 1, &behind[..size - 4]);
+    let later = digest(&file[40..43], lsn, 2, &behind[..size - 4]);
+    found == first || found == later
 }
 
 // A batch stands at this place.

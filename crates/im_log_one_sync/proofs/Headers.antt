@@ -26,14 +26,14 @@ module _ (old file : List ℕ) (same : take 47 file ≡ take 47 old) where
   byte : (i : ℕ) → i < 47 → get_or file i 0 ≡ get_or old i 0
   byte i lt = sym (get_or-take 47 file i 0 lt) ∙ ap (λ (l : List ℕ). get_or l i 0) same ∙ get_or-take 47 old i 0 lt
 
-  salt : salt_in file ≡ salt_in old
+  pub salt : salt_in file ≡ salt_in old
   salt = part 40 3 (omega arith)
 
-  base : base_in file ≡ base_in old
+  pub base : base_in file ≡ base_in old
   unfolding base_in
   base = ap (from_be_bytes w64) (part 24 8 (omega arith))
 
-  third : 46 < length file → is_third old ≡ true → is_third file ≡ true
+  pub third : 46 < length file → is_third old ≡ true → is_third file ≡ true
   third long is =
       let first = byte 0 (omega arith) in
       let name = byte 8 (omega arith) in

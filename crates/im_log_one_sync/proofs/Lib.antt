@@ -4,3 +4,6 @@ pub mod TwoSyncs
 pub mod Headers
 pub mod Puts
 mod WorkedSums
+pub mod Closing
+pub mod Seals
+pub mod Rooms

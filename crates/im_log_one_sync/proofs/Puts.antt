@@ -24,7 +24,7 @@ module _ (place : ℕ) (before bs : List (List ℕ)) (body old : List ℕ) (may 
   base = base_in old
 
   -- a file with the front of the old one has its header
-  header : (c : List ℕ) → take place c ≡ take place old → take 47 c ≡ take 47 old
+  pub header : (c : List ℕ) → take place c ≡ take place old → take 47 c ≡ take 47 old
   header c same = sym (take-take 47 place c may.header) ∙ ap (take 47) same ∙ take-take 47 place old may.header
 
   as_read : (c : List ℕ) → take place c ≡ take place old → batches_in c ≡ batches_from (sum_fits (salt_in old)) 47 base c
@@ -55,7 +55,7 @@ module _ (place : ℕ) (before bs : List (List ℕ)) (body old : List ℕ) (may 
   put_there new put =
       ap batches_in put ∙ as_read (whole place (1 ∷ body) old) whole_torn.before ∙ are_there (sum_fits (salt_in old)) 47 base place bs (1 ∷ body) old before may.last may.lays
 
-  to_front : (c : List ℕ) → take place c ≡ take place old
+  pub to_front : (c : List ℕ) → take place c ≡ take place old
       → (batches_from (sum_fits (salt_in old)) 47 base c ≡ before) ⊎ (batches_from (sum_fits (salt_in old)) 47 base c ≡ before ++ bs) → HasFront before bs c
   to_front c same either =
       ⊎_elim

@@ -40,7 +40,7 @@ shut false r never = refl
 both : (b : Bool) → b ≡ false → b ≡ true → ⊥
 both b is_false is_true = grind arith
 
-zero_closed : (gate : ℕ) → gate ≡ 0 → is_open gate ≡ false
+pub zero_closed : (gate : ℕ) → gate ≡ 0 → is_open gate ≡ false
 zero_closed gate is = grind (arith, nat_tests)
 
 module _ (fits : ℕ → ℕ → List ℕ → Bool) where
@@ -94,3 +94,17 @@ module _ (fits : ℕ → ℕ → List ℕ → Bool) where
       by : (b : Bool) → (pick b (records behind) ≡ None) ⊎ (pick b (records behind) ≡ Some r)
       by true = inr (ap Some (picked (counts fits lsn 1 behind) (records behind) r is).1)
       by false = inl refl
+
+-- where an open gate shows nothing, and what fits does not ask which gate it is, neither does another
+other_gate : (w o p f : Bool) → o ≡ true → (w && (o && f)) ≡ false → (w && (p && f)) ≡ false
+other_gate false o p f opened none = refl
+other_gate true true false f opened none = refl
+other_gate true true true f opened none = none
+other_gate true false p f opened none = grind arith
+
+pub still_none : (fits : ℕ → ℕ → List ℕ → Bool) (lsn gate another : ℕ) (behind : List ℕ) → fits lsn gate behind ≡ fits lsn another behind → is_open gate ≡ true → shown fits lsn (gate ∷ behind) ≡ None → shown fits lsn (another ∷ behind) ≡ None
+still_none fits lsn gate another behind same opened none =
+    let was : counts fits lsn gate behind ≡ false = not_picked (counts fits lsn gate behind) (records behind) none in
+    let is : counts fits lsn another behind ≡ false =
+    ap (λ (f : Bool). is_whole behind && (is_open another && f)) (sym same) ∙ other_gate (is_whole behind) (is_open gate) (is_open another) (fits lsn gate behind) opened was in
+    ap (λ (b : Bool). pick b (records behind)) is

@@ -23,10 +23,14 @@ sum_asked : sum_of (0 ∷ 0 ∷ 0 ∷ []) 47 1 behind ≡ 0x83ce_c790_f99b_3f7e
 unfolding sum_of batch_length initial write write_byte write_word round finish
 sum_asked = refl
 
--- so the file shows its records, and with another salt nothing
+-- so the file shows its records, also with the other open gate, and with another salt nothing
 file_shows : shows_by_header 47 (header ++ (1 ∷ behind)) ≡ Some (insert ++ commit)
 unfolding shows_by_header base_in sum_of batch_length initial write write_byte write_word round finish
 file_shows = refl
+
+other_gate_shows : shows_by_header 47 (header ++ (2 ∷ behind)) ≡ Some (insert ++ commit)
+unfolding shows_by_header base_in sum_of batch_length initial write write_byte write_word round finish
+other_gate_shows = refl
 
 other_salt_shows_nothing : shows_by_header 47 (take 42 header ++ (1 ∷ drop 43 header) ++ (1 ∷ behind)) ≡ None
 unfolding shows_by_header base_in sum_of batch_length initial write write_byte write_word round finish

@@ -1,8 +1,9 @@
 -- What one write and one sync may do.
-use Rattle.std.specs.Prelude.{◌≡◌, ◌≢◌, ◌⊎◌, ℕ, ◌+◌, ◌<◌, ◌≤◌, Bool, false, List, [], ◌∷◌, ◌++◌, length, take, slice_index}
+use Rattle.std.specs.Prelude.{◌≡◌, ◌≢◌, ◌⊎◌, ℕ, ◌+◌, ◌<◌, ◌≤◌, Bool, true, false, List, [], ◌∷◌, ◌++◌, length, take, drop, slice_index, Some}
 use Rattle.im_base_disk.specs.Disk.{Shows, Torn, Unforged, whole}
-use Rattle.im_base_disk.specs.Sums.{is_open, shows}
+use Rattle.im_base_disk.specs.Sums.{is_open, shown, shows, sum_fits}
 use Rattle.im_log_one_sync.specs.Batches.{batches_from, IsLast, IsClear, LaysFrom}
+use Rattle.im_log_one_sync.specs.Sealed.{sealed, sealed_all, MayAll, MaySeal}
 
 -- Where no stop forges a sum: at whatever moment within the write and its sync a stop falls, the log has its batches, or these and the new one, whole.
 abbrev pub OneOrNone : Type 0
@@ -54,3 +55,13 @@ abbrev pub NoneIsZero : Type 0
 NoneIsZero = (at : ℕ) (bytes old new : List ℕ) → Mixed at bytes old new
     → ((i : ℕ) → at ≤ i → i < at + length bytes → slice_index old i ≡ 0) → ((i : ℕ) → at ≤ i → i < at + length bytes → slice_index new i ≢ 0)
     → (i : ℕ) → at ≤ i → i < at + length bytes → slice_index new i ≡ slice_index (whole at bytes old) i
+
+-- Batches that are sealed by the salt, and by the place of each, are laid by a write of their bytes over whatever stands there.
+abbrev pub SealedAreLaid : Type 0
+SealedAreLaid = (salt : List ℕ) (base place : ℕ) (bs : List (List ℕ)) (old : List ℕ) → place ≤ length old → MayAll salt (base + place) 1 bs
+    → LaysFrom (sum_fits salt) base (place + length (sealed_all salt (base + place) 1 bs)) place bs (whole place (sealed_all salt (base + place) 1 bs) old)
+
+-- Whichever open gate stands in front of a sealed batch, it is shown.
+abbrev pub EitherGateShows : Type 0
+EitherGateShows = (salt : List ℕ) (lsn gate other : ℕ) (r after : List ℕ) → (gate ≡ 1) ⊎ (gate ≡ 2) → is_open other ≡ true → MaySeal salt lsn gate r → 1 ≤ length after
+    → shown (sum_fits salt) lsn (other ∷ drop 1 (sealed salt lsn gate r) ++ after) ≡ Some r

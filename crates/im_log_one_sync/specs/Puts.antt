@@ -1,7 +1,7 @@
 -- What one write and one sync put into a log file, or two of each, by the header that the file has.
-use Rattle.std.specs.Prelude.{◌≡◌, ℕ, ◌+◌, ◌≤◌, true, List, ◌∷◌, ◌++◌, length, take}
+use Rattle.std.specs.Prelude.{◌≡◌, ℕ, ◌+◌, ◌<◌, ◌≤◌, true, false, List, [], ◌∷◌, ◌++◌, length, take, slice_index}
 use Rattle.im_base_disk.specs.Disk.{whole}
-use Rattle.im_base_disk.specs.Sums.{sum_fits, is_third, base_in, salt_in}
+use Rattle.im_base_disk.specs.Sums.{sum_fits, is_open, is_third, base_in, salt_in}
 use Rattle.im_log_one_sync.specs.Batches.{batches_from, IsLast, IsClear, LaysFrom}
 
 -- The batches of a file, by its own salt and LSN: the records of each.
@@ -23,3 +23,9 @@ pub record MayPut (place : ℕ) (before bs : List (List ℕ)) (body file : List 
   pub some : 1 ≤ length bs
   pub last : IsLast (sum_fits (salt_in file)) 47 (base_in file) place file before
   pub lays : LaysFrom (sum_fits (salt_in file)) (base_in file) (place + length (1 ∷ body)) place bs (whole place (1 ∷ body) file)
+
+-- The file is as it was but for the gate, which is closed now.
+pub record IsShut (place : ℕ) (old new : List ℕ) : Type 0 where
+  pub is : new ≡ whole place (0 ∷ []) old
+  pub within : place < length new
+  pub closed : is_open (slice_index new place) ≡ false

@@ -1,6 +1,6 @@
 //! The law of one sync.
 
-ghost use Rattle.im_log_one_sync.specs.Laws.{OneOrNone, FrontOfAll, AreThere, ZerosAreClear, TwoSyncs, CanBeKept, NoReader, NoneIsZero};
+ghost use Rattle.im_log_one_sync.specs.Laws.{OneOrNone, FrontOfAll, AreThere, ZerosAreClear, TwoSyncs, CanBeKept, NoReader, NoneIsZero, SealedAreLaid, EitherGateShows};
 
 /// A stop within one write of a batch with its sum leaves the log as it was, or with all of the batch, where no stop forges a sum; once it is done the
 /// batch is there. Without that premise no reader can do it; where no stop leaves garbage, zeros do for a sum. A law, and nothing that runs.
@@ -13,4 +13,11 @@ pub fn one_sync_is_enough()
     ensures kept { CanBeKept }
     ensures none { NoReader }
     ensures zeros { NoneIsZero }
+{}
+
+/// Batches whose sums are of their places and bytes are shown at these places, whatever stood there before; and by either open gate, since a gate whose write
+/// was cut short may be the other one. A law, and nothing that runs.
+pub fn sealed_batches_count()
+    ensures laid { SealedAreLaid }
+    ensures gates { EitherGateShows }
 {}
