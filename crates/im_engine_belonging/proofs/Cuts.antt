@@ -1,5 +1,5 @@
 -- What a close cuts of the logs takes nothing away from what the files stand for.
-use Rattle.std.proofs.Common.{◌≡◌, ◌≢◌, ◌⊎◌, inl, inr, ⊎_elim, ℕ, ◌+◌, ◌-◌, ◌^◌, ◌<◌, ◌≤◌, ◌==◌, not, if◌then◌else◌, Bool, true, false, true≢false, List, [], ◌++◌, length, take, drop, get_or, slice_index, Some, refl, sym, ◌∙◌, ap, subst, arith, take-take}
+use Rattle.std.proofs.Common.{◌≡◌, ◌≢◌, ◌⊎◌, inl, inr, ⊎_elim, ℕ, ◌+◌, ◌-◌, ◌^◌, ◌<◌, ◌≤◌, ◌==◌, ◌||◌, not, if◌then◌else◌, Bool, true, false, true≢false, List, [], ◌++◌, length, take, drop, get_or, slice_index, Some, refl, sym, ◌∙◌, ap, subst, arith, take-take}
 use Rattle.std.proofs.lemmas.Bool.{cases_Bool, cond-true, cond-false, eqb-false, and_parts}
 use Rattle.std.proofs.lemmas.List.{append_assoc, drop-take, get_or-take, length-take-le, take-append-drop}
 use Rattle.im_base_types.specs.Changes.{Effect}
@@ -15,7 +15,7 @@ use Rattle.im_files_belonging.proofs.Cuts.{end_is_gate, gone_some, kept_is_far, 
 use Rattle.im_log_header.specs.Header as headers
 use Rattle.im_log_header.specs.Header.{first_gate, base_of, generation_of, IsSecond, IsUnmade, StartsAlike}
 use Rattle.im_log_header.proofs.Beginnings.{gate_second}
-use Rattle.im_log_header.proofs.Saying.{fronts, least_gate}
+use Rattle.im_log_header.proofs.Saying.{fronts, fronts_keep_sums, least_gate}
 use Rattle.im_log_choice.specs.Current.{IsCurrent}
 use Rattle.im_log_gate.specs.Header.{IsMade}
 use Rattle.im_log_gate.proofs.Reading.{ends_here}
@@ -71,6 +71,7 @@ module _ (k : ℕ) (file : List ℕ) (past : 47 ≤ k) where
         made = cut.made;
         named = cut.named;
         low = subst (λ (n : ℕ). n ≤ 2 ^ 62) (sym (ap (λ (n : ℕ). n + first_gate (take k file)) base_cut ∙ ap (λ (n : ℕ). base_of file + n) gate_cut)) made.low;
+        plain = (let most = gate_most file in fronts_keep_sums file (take k file) (take-take (first_gate file) k file (omega (arith, most, past))) ∙ made.plain);
       }
 
   -- one that was left says what it said
@@ -237,7 +238,7 @@ keeps_gate end file front is emptied = elim (cases_Bool (gone_of end front == 0)
             gate,
             (λ (one : get_or file 47 0 ≡ 1). e.closed (gate_is file front is ∙ ap (λ (n : ℕ). get_or file n 0) gate ∙ one)),
             omega (arith, ends, long, more),
-            unmade_says file front is (and_parts (front_says_made front) (slice_index (take 47 (shown front)) 8 == 50) e.second).0,
+            unmade_says file front is (and_parts (front_says_made front) ((slice_index (take 47 (shown front)) 8 == 50) || (slice_index (take 47 (shown front)) 8 == 51)) e.second).0,
           );
         }
 

@@ -234,7 +234,7 @@ module _ (front : Front) (read : length front.bytes ≡ 65) (second : front_says
     generation = says.1;
     base = says.0.base;
     gate = gate_stays;
-    long = inr (record { made = (and_parts (front_says_made front) (slice_index (take 47 (shown front)) 8 == 50) second).0; before = omega (arith, more); after = omega arith });
+    long = inr (record { made = (and_parts (front_says_made front) ((slice_index (take 47 (shown front)) 8 == 50) || (slice_index (take 47 (shown front)) 8 == 51)) second).0; before = omega (arith, more); after = omega arith });
   }
 
 -- ---- what is cut

@@ -1,5 +1,5 @@
 -- What a stop leaves while a log goes on in the other file, and what is known once it has.
-use Rattle.std.proofs.Common.{◌≡◌, ◌≢◌, ◌↔◌, ℕ, ◌≤◌, true, false, not, List, sym, ◌∙◌, ap, subst}
+use Rattle.std.proofs.Common.{◌≡◌, ◌≢◌, ◌↔◌, ℕ, ◌≤◌, true, false, not, List, Option, sym, ◌∙◌, ap, subst}
 use Rattle.im_base_types.specs.declared.file_id.FileId.TheVariants.{Log, Pages, Log2}
 use Rattle.im_base_disk.specs.declared.disk.Disk.{Ghosts}
 use Rattle.im_base_disk.specs.Disk.{Files, Only, Stepped, InFile}
@@ -8,8 +8,9 @@ use Rattle.im_base_disk.proofs.Runs.{weakened}
 use Rattle.im_base_two_logs.specs.Renamed.{file_named, named, same_files}
 use Rattle.im_base_two_logs.specs.Runs.{IsNameless, LeavesNamed}
 use Rattle.im_base_two_logs.proofs.Runs.{other_names, swapped_leaves, then_named, unnamed}
-use Rattle.im_log_header.specs.Header.{IsBeingMade}
-use Rattle.im_log_choice.specs.Switching.{IsSwitching}
+use Rattle.im_log_header.specs.declared.header.Sums.{Sums}
+use Rattle.im_log_header.specs.Header.{IsBeingMadeBy}
+use Rattle.im_log_choice.specs.Switching.{IsSwitchingBy}
 
 pub log_not_other : Log ≢ Log2
 log_not_other e = cc
@@ -17,24 +18,24 @@ log_not_other e = cc
 pub pages_not_other : Pages ≢ Log2
 pages_not_other e = cc
 
-module _ (was : Files) (g b n : ℕ) where
+module _ (sums : Option Sums) (was : Files) (g b n : ℕ) where
   -- by the other names it is the same
-  pub going_nameless : IsNameless (IsSwitching was g b n)
+  pub going_nameless : IsNameless (IsSwitchingBy sums was g b n)
   going_nameless c r = record {
     swapped = not r.swapped;
     log = subst (λ (f : Files). f Log ≡ was Log) (sym back) r.log;
     pages = subst (λ (f : Files). f Pages ≡ was Pages) (sym back) r.pages;
-    other = subst (λ (f : Files). IsBeingMade (was Log2) g b n (f Log2)) (sym back) r.other;
+    other = subst (λ (f : Files). IsBeingMadeBy sums (was Log2) g b n (f Log2)) (sym back) r.other;
   }
     where
       back : named (not r.swapped) (named true c) ≡ named r.swapped c
       back = other_names r.swapped (named true c) ∙ ap (named r.swapped) (same_files true c)
 
-module _ {D : Type 0} (d : Ghosts D) (old mid : D) (g b n : ℕ) where
+module _ {D : Type 0} (d : Ghosts D) (sums : Option Sums) (old mid : D) (g b n : ℕ) where
   -- while the other file is made
-  pub making_goes_on : IsSynced d old → LeavesIn d Log2 old mid (IsBeingMade (d.seen old Log2) g b n) → LeavesOnly d old mid (IsSwitching (d.seen old) g b n)
+  pub making_goes_on : IsSynced d old → LeavesIn d Log2 old mid (IsBeingMadeBy sums (d.seen old Log2) g b n) → LeavesOnly d old mid (IsSwitchingBy sums (d.seen old) g b n)
   making_goes_on synced run =
-      weakened d old mid (Stepped (InFile Log2 (λ _ bytes. IsBeingMade (d.seen old Log2) g b n bytes)) (d.may_leave old)) (IsSwitching (d.seen old) g b n) run
+      weakened d old mid (Stepped (InFile Log2 (λ _ bytes. IsBeingMadeBy sums (d.seen old Log2) g b n bytes)) (d.may_leave old)) (IsSwitchingBy sums (d.seen old) g b n) run
       (λ told c left. record {
         swapped = false;
         log = left.2.others Log log_not_other ∙ synced Log left.0 left.1;
@@ -42,8 +43,8 @@ module _ {D : Type 0} (d : Ghosts D) (old mid : D) (g b n : ℕ) where
         other = left.2.changed;
       })
 
-  pub stops_making : IsSynced d old → LeavesIn d Log2 old mid (IsBeingMade (d.seen old Log2) g b n) → LeavesNamed d old mid (IsSwitching (d.seen old) g b n)
-  stops_making synced run = unnamed d (IsSwitching (d.seen old) g b n) (going_nameless (d.seen old) g b n) old mid (making_goes_on synced run)
+  pub stops_making : IsSynced d old → LeavesIn d Log2 old mid (IsBeingMadeBy sums (d.seen old Log2) g b n) → LeavesNamed d old mid (IsSwitchingBy sums (d.seen old) g b n)
+  stops_making synced run = unnamed d (IsSwitchingBy sums (d.seen old) g b n) (going_nameless sums (d.seen old) g b n) old mid (making_goes_on synced run)
 
   module _ (changes : ChangesOnly d Log2 old mid) (durable : Only Log2 (d.seen mid) (d.may_leave mid)) where
     -- once it is made
@@ -77,9 +78,9 @@ module _ {D : Type 0} (d : Ghosts D) (old mid : D) (g b n : ℕ) where
 
       module _ (counts_now : (t : ℕ) (c : Files) → t ≤ d.moment mid → d.may_leave mid c → d.left_since mid t c) (only_now : (c : Files) → d.left_since mid (d.moment mid) c → d.may_leave mid c)
           (moment : d.moment new ≡ d.moment mid) (left_since : (t : ℕ) (c : Files) → d.left_since new t c ↔ d.left_since mid t (named true c)) where
-        pub stops_turned : IsSynced d old → LeavesIn d Log2 old mid (IsBeingMade (d.seen old Log2) g b n) → LeavesNamed d old new (IsSwitching (d.seen old) g b n)
+        pub stops_turned : IsSynced d old → LeavesIn d Log2 old mid (IsBeingMadeBy sums (d.seen old Log2) g b n) → LeavesNamed d old new (IsSwitchingBy sums (d.seen old) g b n)
         stops_turned synced run =
             let making = making_goes_on synced run in
-            then_named d (IsSwitching (d.seen old) g b n) (going_nameless (d.seen old) g b n) old mid new (stops_making synced run)
-            (swapped_leaves d (IsSwitching (d.seen old) g b n) (going_nameless (d.seen old) g b n) mid new moment (λ t c left. (left_since t c).0 left) only_now
+            then_named d (IsSwitchingBy sums (d.seen old) g b n) (going_nameless sums (d.seen old) g b n) old mid new (stops_making synced run)
+            (swapped_leaves d (IsSwitchingBy sums (d.seen old) g b n) (going_nameless sums (d.seen old) g b n) mid new moment (λ t c left. (left_since t c).0 left) only_now
             (λ told c left. making.each told c (counts_now (d.moment old) c making.later left)))

@@ -6,11 +6,11 @@ ghost use Rattle.im_base_types.specs.declared.fault.Fault.TheVariants.{Capacity,
 ghost use Rattle.im_base_disk.specs.Disk.{Answers};
 ghost use Rattle.im_base_disk.specs.Runs.{IsSynced, ChangesOnly, CostsAtMost};
 ghost use Rattle.im_base_two_logs.specs.Runs.{LeavesNamed};
-ghost use Rattle.im_log_choice.specs.Switching.{LogsTurned, IsNextHeader, IsSwitching};
+ghost use Rattle.im_log_choice.specs.Switching.{LogsTurned, LogsTurnedBy, IsNextHeader, IsSwitching, IsSwitchingBy};
 
 use im_base_two_logs::TwoLogs;
 use im_base_types::{Fault, FileId, LAST_LSN, TxnId};
-use im_log_header::{Header, make_log};
+use im_log_header::{Header, Sums, make_log_by};
 
 // The first generation that no log has.
 const GENERATIONS: u64 = 1 << 62;
@@ -38,10 +38,28 @@ pub fn next_header(header: &Header, end: u64, next: TxnId) -> Result<Header, Fau
     })
 }
 
-/// Makes the other log one with this header and no batch, and changes the names of the two: by six device calls, or four where that file has two bytes or more
-/// and its byte 0 is not 1. The log from before is the other one then, as it was.
+/// Makes the other log one with this header and no batch, of the third format where it is to say something of sums, else of the second, and changes the names of
+/// the two: by six device calls, or four where that file has two bytes or more and its byte 0 is not 1. The log from before is the other one then, as it was.
 ///
 /// Refused `Device`, and the names stay.
+pub fn switch_log_by<D: TwoLogs>(
+    disk: &mut D,
+    header: &Header,
+    sums: &Option<Sums>,
+) -> Result<(), Fault>
+    requires working { D.failed disk.old ≡ false }
+    ensures turned { OnOk result (LogsTurnedBy D.Disk sums.now header.now disk.old disk.new) }
+    ensures any_moment { IsSynced D.Disk disk.old → LeavesNamed D.Disk disk.old disk.new (IsSwitchingBy sums.now (D.seen disk.old) header.now.generation header.now.base header.now.next) }
+    ensures stays { OnErr result (ChangesOnly D.Disk Log2 disk.old disk.new) }
+    ensures few { CostsAtMost D.Disk 3 3 disk.old disk.new }
+    ensures answers { Answers (D.failed disk.new) result }
+{
+    make_log_by(disk, FileId::Log2, header, sums)?;
+    disk.swap_logs();
+    Ok(())
+}
+
+/// The same, of the second format.
 pub fn switch_log<D: TwoLogs>(disk: &mut D, header: &Header) -> Result<(), Fault>
     requires working { D.failed disk.old ≡ false }
     ensures turned { OnOk result (LogsTurned D.Disk header.now disk.old disk.new) }
@@ -50,7 +68,5 @@ pub fn switch_log<D: TwoLogs>(disk: &mut D, header: &Header) -> Result<(), Fault
     ensures few { CostsAtMost D.Disk 3 3 disk.old disk.new }
     ensures answers { Answers (D.failed disk.new) result }
 {
-    make_log(disk, FileId::Log2, header)?;
-    disk.swap_logs();
-    Ok(())
+    switch_log_by(disk, header, &None)
 }

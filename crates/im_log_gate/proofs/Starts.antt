@@ -1,16 +1,18 @@
 -- What a log file says of where its log starts.
-use Rattle.std.proofs.Common.{◌≡◌, ◌≢◌, ◌⊎◌, inl, inr, ℕ, ◌+◌, ◌^◌, ◌<◌, ◌≤◌, false, List, [], length, take, drop, get_or, Some, sym, ◌∙◌, ap, subst, arith}
+use Rattle.std.proofs.Common.{◌≡◌, ◌≢◌, ◌⊎◌, inl, inr, ℕ, ◌+◌, ◌^◌, ◌<◌, ◌≤◌, false, List, [], length, take, drop, get_or, Some, None, sym, ◌∙◌, ap, subst, arith}
 use Rattle.std.proofs.lemmas.List.{get_or-take, drop-take, take-take}
-use Rattle.im_log_header.proofs.Fronts.{first_says, front_second}
-use Rattle.im_log_header.proofs.Saying.{fronts, gate_second, least_gate, says_its_own, unmade}
-use Rattle.im_log_header.specs.Header.{second_header}
+use Rattle.im_log_header.proofs.Fronts.{first_says, gate_of_second, not_unmade, says_of_second}
+use Rattle.im_log_header.proofs.Saying.{fronts, fronts_keep_sums, least_gate, unmade}
+use Rattle.im_log_header.specs.declared.header.LogStart.{LogStart}
+use Rattle.im_log_header.specs.Header as headers
+use Rattle.im_log_header.specs.Start.{SaysStart}
 use Rattle.im_base_types.specs.declared.file_id.FileId.{FileId}
 use Rattle.im_base_disk.specs.declared.disk.Disk.{Ghosts}
 use Rattle.im_base_disk.specs.Disk.{Only}
 use Rattle.im_log_gate.specs.declared.gate.Gate.{Gate}
 use Rattle.im_log_gate.specs.Batches.{batches, Reaches}
 use Rattle.im_log_gate.specs.Gate.{file_of, first_of, place_of, has_failed, StartsAs, IsNewGate}
-use Rattle.im_log_gate.specs.Header.{first_gate, base_of, generation_of, first_header, StartsAlike, IsMade, IsSecond, IsUnmade, IsBlank, IsNewLog}
+use Rattle.im_log_gate.specs.Header.{first_gate, base_of, generation_of, first_header, StartsAlike, IsMade, IsSecond, IsUnmade, IsBlank, IsNewLog, Says}
 use Rattle.im_log_gate.proofs.Making.{first_reaches}
 
 -- A file that keeps what stands in front of its first gate says the same, and is of the same generation.
@@ -53,7 +55,7 @@ module _ (file c : List ℕ) (same : take (first_gate file) c ≡ take (first_ga
         | inl first ↦ inl (behind_made 30 (omega (arith, least)) ∙ first)
         | inr second ↦ (
             let long : 1 ≤ length file = omega (arith, least, made.within) in
-            let gate = gate_second file second.0 second.1 second.2 (front_second file (second_header second.0 second.1 second.2) long made.made second.3) in
+            let gate = gate_of_second file long made.made second in
             inr (subst IsSecond (sym (behind_made 46 (omega (arith, gate)))) second))
       ]
 
@@ -66,6 +68,7 @@ module _ (file c : List ℕ) (same : take (first_gate file) c ≡ take (first_ga
         made = sym (get_or-take (first_gate file) c 0 0 (omega (arith, least))) ∙ ap (λ (l : List ℕ). get_or l 0 0) same ∙ get_or-take (first_gate file) file 0 0 (omega (arith, least)) ∙ made.made;
         named = named_so made;
         low = omega (arith, alike.base, alike.gate, made.low);
+        plain = fronts_keep_sums file c same ∙ made.plain;
       }
 
 -- A made file is of some generation.
@@ -75,13 +78,26 @@ made_some file made =
     elim made.named [
       | inl first ↦ (let says = first_says file (omega (arith, least, made.within)) made.made first in omega (arith, says.generation))
       | inr second ↦ (
-          let front = front_second file (second_header second.0 second.1 second.2) (omega (arith, least, made.within)) made.made second.3 in
           let some = second.4 in
-          let last = second.5 in
-          let low = second.6 in
-          let says = says_its_own file second.0 second.1 second.2 front (omega (arith, last)) (omega (arith, low)) second.7 in
+          let says = says_of_second file (omega (arith, least, made.within)) made.made second in
           omega (arith, says.generation, some))
     ]
+
+-- ---- what was read of where a log starts
+
+module _ (start : LogStart) (file : List ℕ) (made : headers.IsMade file) (starts : SaysStart start file) where
+  -- a log whose batches have sums is none that a gate reads
+  pub is_refused : start.sums ≢ None → ¬ (IsUnmade file) × ¬ (IsMade file)
+  is_refused summed =
+      let least = least_gate file in
+      let within = made.within in
+      (not_unmade file (omega (arith, least, within)) made.made, (λ (mine : IsMade file). summed (sym starts.sums ∙ mine.plain)))
+
+  pub is_read : start.sums ≡ None → start.header.base + start.first_gate ≤ 2 ^ 62 → IsMade file
+  is_read none low = record { within = made.within; made = made.made; named = made.named; low = omega (arith, starts.base, starts.gate, low); plain = starts.sums ∙ none }
+
+  pub says_read : Says start.first_gate start.header.generation start.header.base start.header.next file
+  says_read = record { gate = starts.gate; generation = starts.generation; base = starts.base; number = starts.number }
 
 -- the first gate of a made file is reached
 pub start_reaches : (first place : ℕ) (bytes : List ℕ) → first ≡ first_gate bytes → place ≡ first → first_gate bytes < length bytes → Reaches first bytes place

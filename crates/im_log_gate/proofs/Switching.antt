@@ -1,9 +1,9 @@
 -- A log of the second format that was just made, as its gate sees it.
-use Rattle.std.proofs.Common.{◌≡◌, ℕ, ◌+◌, ◌^◌, ◌<◌, ◌≤◌, List, [], Some, ◌∙◌, ap, arith}
+use Rattle.std.proofs.Common.{◌≡◌, ℕ, ◌+◌, ◌^◌, ◌<◌, ◌≤◌, List, [], Some, None, ◌∙◌, ap, arith}
 use Rattle.im_log_header.specs.declared.header.Header.{Header}
 use Rattle.im_log_header.specs.Header.{IsEmptyLog}
 use Rattle.im_log_header.specs.Start.{IsHeader}
-use Rattle.im_log_header.proofs.Saying.{empty_logs}
+use Rattle.im_log_header.proofs.Saying.{empty_logs, empty_says, no_sums}
 use Rattle.im_log_gate.specs.Batches.{batches}
 use Rattle.im_log_gate.specs.Header.{first_gate, Says, IsMade}
 
@@ -15,7 +15,13 @@ module _ (h : Header) (file : List ℕ) (ranged : IsHeader h) (low : h.base + 47
   made =
       let m = empty_logs.made h.generation h.base h.next file ranged.some ranged.last ranged.low fits is in
       let s = says in
-      record { within = m.within; made = m.made; named = m.named; low = omega (arith, s.base, s.gate, low) }
+      record {
+        within = m.within;
+        made = m.made;
+        named = m.named;
+        low = omega (arith, s.base, s.gate, low);
+        plain = (empty_says None h.generation h.base h.next no_sums file is (omega (arith, ranged.last)) (omega (arith, low)) ranged.numbered fits).1;
+      }
 
   none : batches 47 file ≡ Some []
   none = ap (batches 47) is.1

@@ -17,6 +17,7 @@ pub(crate) const NEW_START: LogStart = LogStart {
         base: 0,
         next: 1,
     },
+    sums: None,
 };
 
 // Makes a log of generation 1, without batches, of a file that is none yet: by six device calls, or four where the file has two bytes or more.

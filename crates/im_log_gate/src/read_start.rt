@@ -1,6 +1,6 @@
 //! Where the log of a file starts.
 
-ghost use Rattle.std.specs.Prelude.{◌≡◌, ◌↔◌, ◌+◌, ◌^◌, ◌≤◌, true, false, IfOk, IfSome};
+ghost use Rattle.std.specs.Prelude.{◌≡◌, ◌≢◌, ◌↔◌, ◌+◌, ◌^◌, ◌≤◌, true, false, IfOk, IfSome};
 ghost use Rattle.im_base_types.specs.declared.fault.Fault.TheVariants.{NotAStore};
 ghost use Rattle.im_base_disk.specs.Ends.{ReadsOr};
 ghost use Rattle.im_log_gate.specs.Header.{IsMade, IsUnmade, Says};
@@ -16,8 +16,19 @@ fn is_low(start: &LogStart) -> bool
     start.first_gate <= LAST_LSN && start.header.base <= LAST_LSN - start.first_gate
 }
 
+// Its batches have sums.
+fn has_sums(start: &LogStart) -> bool
+    ensures yes { result ≡ true → start.now.sums ≢ None }
+    ensures no { result ≡ false → start.now.sums ≡ None }
+{
+    match &start.sums {
+        Some(_) => true,
+        None => false,
+    }
+}
+
 // Where the log of a made file starts; none of a file that is not made. Refused `NotAStore` where a made file has no header
-// of either format, or its first gate an LSN above 2^62; `Device`.
+// of the first format or the second, or its first gate an LSN above 2^62; `Device`.
 pub(crate) fn read_start<D: Disk>(disk: &mut D, file: FileId) -> Result<Option<LogStart>, Fault>
     requires { D.failed disk.old ≡ false }
     ensures unmade { result ≡ Ok None → D.tells → IsUnmade (D.seen disk.old file) }
@@ -30,6 +41,10 @@ pub(crate) fn read_start<D: Disk>(disk: &mut D, file: FileId) -> Result<Option<L
     let Some(start) = read_header(disk, file)? else {
         return Ok(None);
     };
+    let summed = has_sums(&start);
+    if summed {
+        return Err(Fault::NotAStore);
+    }
     let low = is_low(&start);
     if !low {
         return Err(Fault::NotAStore);

@@ -1,13 +1,16 @@
 -- What bytes at hand say.
-use Rattle.std.proofs.Common.{◌≡◌, inl, inr, ℕ, ◌+◌, ◌-◌, ◌<◌, ◌≤◌, max, ◌&&◌, Bool, true, false, true≢false, List, ◌++◌, length, take, drop, get_or, replicate, slice_index, refl, sym, ◌∙◌, ap, arith, length-take, get_or-take, get_or-drop}
+use Rattle.std.proofs.Common.{◌≡◌, inl, inr, ℕ, ◌+◌, ◌-◌, ◌<◌, ◌≤◌, max, ◌&&◌, Bool, true, false, true≢false, List, [], ◌∷◌, ◌++◌, length, take, drop, get_or, replicate, slice_index, Option, Some, None, refl, sym, ◌∙◌, ap, arith, length-take, get_or-take, get_or-drop}
 use Rattle.std.specs.Prelude.{◌==◌, if◌then◌else◌}
 use Rattle.std.specs.Int.{w64, from_be_bytes}
 use Rattle.std.proofs.Math.Seq.{take-append-add}
-use Rattle.std.proofs.lemmas.Bool.{cases_lt, cond-true, eqb-false, eqb-true, le-ltb, lt-ltb}
+use Rattle.std.proofs.lemmas.Bool.{cases_lt, cond-false, cond-true, eqb-false, eqb-true, le-ltb, lt-ltb}
 use Rattle.std.proofs.lemmas.List.{drop-replicate, get_or-append_right, get_or-replicate, get_or_append_left, get_or_past, take-replicate}
-use Rattle.im_log_header.specs.Header.{IsMade, IsSecond, IsUnmade, Says, StartsAlike, base_of, first_gate, first_header, generation_of, least_number, number_at, says_made, says_second, second_header}
-use Rattle.im_log_header.proofs.Fronts.{first_is_made, front_second, second_is_made}
-use Rattle.im_log_header.proofs.Saying.{least_gate, gate_second as gate_of_second}
+use Rattle.im_log_header.specs.declared.header.LogStart.{LogStart}
+use Rattle.im_log_header.specs.declared.header.Sums.{Sums}
+use Rattle.im_log_header.specs.Header.{IsMade, IsSecond, IsUnmade, Says, StartsAlike, base_of, first_gate, first_header, generation_of, least_number, number_at, says_made, says_second, says_third, sums_of, sums_said}
+use Rattle.im_log_header.specs.Start.{SaysStart}
+use Rattle.im_log_header.proofs.Fronts.{first_is_made, gate_of_second, second_is_made}
+use Rattle.im_log_header.proofs.Saying.{gate_is, least_gate, second_starts, sums_other, says_other}
 
 -- ---- by the first bytes
 
@@ -51,34 +54,51 @@ module _ (at : ℕ) (fits : at + 8 ≤ 47) (l : List ℕ) where
   number_padded =
       omega (arith, same_byte 0 (omega arith), same_byte 1 (omega arith), same_byte 2 (omega arith), same_byte 3 (omega arith), same_byte 4 (omega arith), same_byte 5 (omega arith), same_byte 6 (omega arith), same_byte 7 (omega arith))
 
+-- ---- sums
+
+byte_padded : (l : List ℕ) (i : ℕ) → i < 47 → get_or (take 47 (l ++ replicate 47 0)) i 0 ≡ get_or (take 47 l) i 0
+byte_padded l i lt = get_or-take 47 (l ++ replicate 47 0) i 0 lt ∙ zeros_after l i lt ∙ sym (get_or-take 47 l i 0 lt)
+
+-- What a file of the third format says of them, by the bytes with zeros after them.
+pub sums_padded : (l : List ℕ) → says_third (take 47 l) ≡ true → sums_of l ≡ Some (sums_said (take 47 (l ++ replicate 47 0)))
+unfolding sums_of
+sums_padded l third =
+    cond-true (says_third (take 47 l)) (Some (sums_said (take 47 l))) None third
+    ∙ (λ i.
+    let x = sym (byte_padded l 40 (omega arith)) in
+    let y = sym (byte_padded l 41 (omega arith)) in
+    let z = sym (byte_padded l 42 (omega arith)) in
+    let t = sym (byte_padded l 13 (omega arith)) in
+    Some (record { salt = x i ∷ y i ∷ z i ∷ []; two_syncs = t i == 1 }))
+
+pub sums_none : (l : List ℕ) → says_third (take 47 l) ≡ false → sums_of l ≡ None
+unfolding sums_of
+sums_none l other = cond-false (says_third (take 47 l)) (Some (sums_said (take 47 l))) None other
+
 -- ---- starts
 
-module _ (file : List ℕ) (second : says_second (take 47 file) ≡ true) where
-  pub gate_second : first_gate file ≡ 47
-  unfolding first_gate
-  gate_second = cond-true (says_second (take 47 file)) 47 (if says_made (take 47 file) then 31 else 47) second
+pub gate_second : (file : List ℕ) → says_second (take 47 file) ≡ true → first_gate file ≡ 47
+gate_second = gate_is
 
-  base_second : base_of file ≡ number_at 24 (take 47 file)
-  unfolding base_of
-  base_second = cond-true (says_second (take 47 file)) (number_at 24 (take 47 file)) 0 second
-
-  number_second : least_number file ≡ max 1 (number_at 32 (take 47 file))
-  unfolding least_number
-  number_second = cond-true (says_second (take 47 file)) (max 1 (number_at 32 (take 47 file))) 1 second
-
-  generation_second : generation_of file ≡ number_at 16 (take 47 file)
-  unfolding generation_of
-  generation_second = cond-true (says_second (take 47 file)) (number_at 16 (take 47 file)) (if says_made (take 47 file) then 1 else 0) second
-
-  -- A file of the second format says the numbers of its header.
-  second_starts : Says 47 (number_at 16 (take 47 file)) (number_at 24 (take 47 file)) (max 1 (number_at 32 (take 47 file))) file
-  second_starts = record { gate = gate_second; generation = generation_second; base = base_second; number = number_second }
-
--- The same of numbers that were read.
-pub second_starts_as : (file : List ℕ) → says_second (take 47 file) ≡ true → (g b n m : ℕ) → g ≡ number_at 16 (take 47 file) → b ≡ number_at 24 (take 47 file) → n ≡ number_at 32 (take 47 file) → m ≡ max 1 n → Says 47 g b m file
-second_starts_as file second g b n m one two three from =
+-- What a file of the second format or the third says, of numbers that were read.
+pub second_starts_as : (file : List ℕ) → says_second (take 47 file) ≡ true → (g b n m : ℕ) → g ≡ number_at 16 (take 47 file) → b ≡ number_at 24 (take 47 file) → n ≡ number_at 32 (take 47 file) → m ≡ max 1 n
+    → (sums : Option Sums) → sums_of file ≡ sums → SaysStart (record { first_gate = 47; header = record { generation = g; base = b; next = m }; sums = sums }) file
+second_starts_as file second g b n m one two three from sums same =
     let says = second_starts file second in
-    record { gate = says.gate; generation = says.generation ∙ sym one; base = says.base ∙ sym two; number = says.number ∙ sym (from ∙ ap (λ (k : ℕ). max 1 k) three) }
+    record {
+      gate = says.gate;
+      generation = says.generation ∙ sym one;
+      base = says.base ∙ sym two;
+      number = says.number ∙ sym (from ∙ ap (λ (k : ℕ). max 1 k) three);
+      sums = same;
+    }
+
+-- and any other
+pub other_starts : (file : List ℕ) → says_second (take 47 file) ≡ false → (made : Bool) → says_made (take 47 file) ≡ made
+    → SaysStart (record { first_gate = if made then 31 else 47; header = record { generation = if made then 1 else 0; base = 0; next = 1 }; sums = None }) file
+other_starts file other made is =
+    let says = says_other file other made is in
+    record { gate = says.gate; generation = says.generation; base = says.base; number = says.number; sums = sums_other file other }
 
 -- Files with the same first 47 bytes say the same.
 module _ (a b : List ℕ) (same : take 47 b ≡ take 47 a) where
@@ -127,9 +147,7 @@ module _ (l : List ℕ) where
   whole_first is first = first_is_made l first.0 (made_by is).1 first.1
 
   pub whole_second : says_made (take 47 l) ≡ true → (47 < length l) × IsSecond (take 46 (drop 1 l)) → IsMade l
-  whole_second is second =
-      let s = second.1 in
-      second_is_made l s.0 s.1 s.2 second.0 (made_by is).1 s.3 s.4 s.5 s.6 s.7
+  whole_second is second = second_is_made l second.0 (made_by is).1 second.1
 
   -- of the second format where it is not of the first
   pub whole_as : IsMade l → ((31 < length l) × (take 30 (drop 1 l) ≡ first_header) → ⊥) → (47 < length l) × IsSecond (take 46 (drop 1 l))
@@ -142,5 +160,5 @@ module _ (l : List ℕ) where
       long second =
           let least = least_gate l in
           let within = whole.within in
-          let gate = gate_of_second l second.0 second.1 second.2 (front_second l (second_header second.0 second.1 second.2) (omega (arith, least, within)) whole.made second.3) in
+          let gate = gate_of_second l (omega (arith, least, within)) whole.made second in
           omega (arith, gate, within)

@@ -1,11 +1,12 @@
 -- What a stop leaves at each moment while a log is made.
-use Rattle.std.proofs.Common.{◌≡◌, ◌≢◌, ◌⊎◌, inl, inr, ℕ, ◌≤◌, List, [], ◌∷◌, ◌++◌, length, slice_index, refl, subst}
+use Rattle.std.proofs.Common.{◌≡◌, ◌≢◌, ◌⊎◌, inl, inr, ℕ, ◌≤◌, List, [], ◌∷◌, ◌++◌, length, slice_index, Option, refl, subst}
 use Rattle.im_base_types.specs.declared.file_id.FileId.{FileId}
 use Rattle.im_base_disk.specs.declared.disk.Disk.{Ghosts}
 use Rattle.im_base_disk.specs.Disk.{Files, Only, Stepped, InFile, Holds, Torn}
 use Rattle.im_base_disk.specs.Runs.{LeavesOnly, LeavesIn, ChangesOnly, Reads}
 use Rattle.im_base_disk.proofs.Runs.{step_in, in_then, in_started, in_weakened, reads_on, changes_reads, only_reads}
-use Rattle.im_log_header.specs.Header.{IsUnmade, IsEmptyLog, IsBeingMade, second_header}
+use Rattle.im_log_header.specs.declared.header.Sums.{Sums}
+use Rattle.im_log_header.specs.Header.{IsUnmade, IsEmptyLogBy, IsBeingMadeBy, AreSums, header_by}
 use Rattle.im_log_header.proofs.Stops.{torn_closing, torn_closed, torn_opening}
 
 -- as it was, or not made
@@ -29,41 +30,41 @@ module _ {D : Type 0} (d : Ghosts D) (file : FileId) (old mid new : D) where
       (λ told c torn. torn_closing (d.seen old file) c (other told) (subst (λ (f : Files). Torn 0 1 (f file) c) reads.seen torn)))
       (λ told c p. p) (λ told c p. p)
 
-  module _ (g b n : ℕ) where
+  module _ (sums : Option Sums) (g b n : ℕ) where
     abbrev pub IsOpening : List ℕ → Type 0
-    IsOpening c = IsUnmade c ⊎ IsEmptyLog g b n c
+    IsOpening c = IsUnmade c ⊎ IsEmptyLogBy sums g b n c
 
     -- the header after a closed byte 0
     pub header_run : (bytes : List ℕ) (begun : d.tells → 1 ≤ length (d.seen old file)) (closed : d.tells → slice_index (d.seen old file) 0 ≢ 1) → Only file (d.seen old) (d.may_leave old)
         → LeavesOnly d old mid (Stepped (InFile file (Torn 1 (length bytes))) (d.may_leave old)) → LeavesIn d file old mid IsOpening
     header_run bytes begun closed synced run =
-        step_in d file old mid IsOpening 1 (length bytes) synced run (λ told c torn. inl (torn_closed g b n (d.seen old file) (begun told) (closed told) (length bytes) c torn))
+        step_in d file old mid IsOpening 1 (length bytes) synced run (λ told c torn. inl (torn_closed sums g b n (d.seen old file) (begun told) (closed told) (length bytes) c torn))
 
     -- and then that byte
-    pub open_run : (bytes : List ℕ) → bytes ≡ second_header g b n ++ 0 ∷ [] → (begun : d.tells → 1 ≤ length (d.seen old file)) (closed : d.tells → slice_index (d.seen old file) 0 ≢ 1) → Only file (d.seen old) (d.may_leave old)
+    pub open_run : (bytes : List ℕ) → AreSums sums → bytes ≡ header_by sums g b n ++ 0 ∷ [] → (begun : d.tells → 1 ≤ length (d.seen old file)) (closed : d.tells → slice_index (d.seen old file) 0 ≢ 1) → Only file (d.seen old) (d.may_leave old)
         → LeavesOnly d old mid (Stepped (InFile file (Torn 1 (length bytes))) (d.may_leave old)) → (d.tells → Holds 1 bytes (d.seen old file) (d.seen mid file))
         → ChangesOnly d file old mid → Only file (d.seen mid) (d.may_leave mid) → LeavesOnly d mid new (Stepped (InFile file (Torn 0 1)) (d.may_leave mid)) → LeavesIn d file old new IsOpening
-    open_run bytes is begun closed synced run written changes mid_synced second =
+    open_run bytes salted is begun closed synced run written changes mid_synced second =
         in_then d file old mid new IsOpening IsOpening IsOpening
         (header_run bytes begun closed synced run)
         changes
         (step_in d file mid new IsOpening 0 1 mid_synced second
-        (λ told c torn. torn_opening g b n (d.seen old file) (begun told) (closed told) (d.seen mid file) c (subst (λ (l : List ℕ). Holds 1 l (d.seen old file) (d.seen mid file)) is (written told)) torn))
+        (λ told c torn. torn_opening sums g b n (d.seen old file) (begun told) (closed told) salted (d.seen mid file) c (subst (λ (l : List ℕ). Holds 1 l (d.seen old file) (d.seen mid file)) is (written told)) torn))
         (λ told c p. p) (λ told c p. p)
 
     -- the two halves together
-    closing_making : (o c : List ℕ) → IsClosing o c → IsBeingMade o g b n c
+    closing_making : (o c : List ℕ) → IsClosing o c → IsBeingMadeBy sums o g b n c
     closing_making o c (inl same) = inl same
     closing_making o c (inr unmade) = inr (inl unmade)
 
-    opening_making : (o c : List ℕ) → IsOpening c → IsBeingMade o g b n c
+    opening_making : (o c : List ℕ) → IsOpening c → IsBeingMadeBy sums o g b n c
     opening_making o c (inl unmade) = inr (inl unmade)
     opening_making o c (inr made) = inr (inr made)
 
-    pub closed_run : LeavesIn d file old mid (IsClosing (d.seen old file)) → LeavesIn d file old mid (IsBeingMade (d.seen old file) g b n)
-    closed_run run = in_weakened d file old mid (IsClosing (d.seen old file)) (IsBeingMade (d.seen old file) g b n) run (λ told c p. closing_making (d.seen old file) c p)
+    pub closed_run : LeavesIn d file old mid (IsClosing (d.seen old file)) → LeavesIn d file old mid (IsBeingMadeBy sums (d.seen old file) g b n)
+    closed_run run = in_weakened d file old mid (IsClosing (d.seen old file)) (IsBeingMadeBy sums (d.seen old file) g b n) run (λ told c p. closing_making (d.seen old file) c p)
 
-    pub made_run : LeavesIn d file old mid (IsClosing (d.seen old file)) → ChangesOnly d file old mid → LeavesIn d file mid new IsOpening → LeavesIn d file old new (IsBeingMade (d.seen old file) g b n)
+    pub made_run : LeavesIn d file old mid (IsClosing (d.seen old file)) → ChangesOnly d file old mid → LeavesIn d file mid new IsOpening → LeavesIn d file old new (IsBeingMadeBy sums (d.seen old file) g b n)
     made_run first changes second =
-        in_then d file old mid new (IsClosing (d.seen old file)) IsOpening (IsBeingMade (d.seen old file) g b n) first changes second
+        in_then d file old mid new (IsClosing (d.seen old file)) IsOpening (IsBeingMadeBy sums (d.seen old file) g b n) first changes second
         (λ told c p. closing_making (d.seen old file) c p) (λ told c p. opening_making (d.seen old file) c p)

@@ -1,10 +1,10 @@
 //! What the beginning of a log file says, where its bytes are at hand and no disk is asked.
 
-ghost use Rattle.std.specs.Prelude.{◌≡◌, ◌↔◌, ◌+◌, ◌<◌, ◌≤◌, ◌++◌, true, drop, length, replicate, take, IfSome};
-ghost use Rattle.im_log_header.specs.Header.{first_header, number_at, says_made, says_second, IsMade, IsSecond};
+ghost use Rattle.std.specs.Prelude.{◌≡◌, ◌↔◌, ◌+◌, ◌<◌, ◌≤◌, ◌++◌, true, drop, length, replicate, slice_index, take, IfSome};
+ghost use Rattle.im_log_header.specs.Header.{first_header, number_at, says_made, says_second, says_third, sums_of, IsMade, IsSecond};
 ghost use Rattle.im_log_header.specs.Start.{IsSpelled, SaysStart};
 
-use crate::header::{Header, LogStart};
+use crate::header::{Header, LogStart, Sums};
 use crate::spelling::{FIRST_FORMAT, from_one, number, parse};
 
 /// The file says that a log was made of it.
@@ -14,11 +14,27 @@ pub fn is_made_log(head: &[u8]) -> bool
     head.len() > 1 && head[0] == 1
 }
 
-/// It says so, and that the log is of the second format.
+// The byte in which the name ends, 0 where there are not so many.
+fn name_end(head: &[u8]) -> u8
+    ensures { result ≡ slice_index (take 47 head.now) 8 }
+{
+    if head.len() < 9 { 0 } else { head[8] }
+}
+
+/// It says so, and that the log is of the second format or the third.
 pub fn is_second_log(head: &[u8]) -> bool
     ensures { result ≡ says_second (take 47 head.now) }
 {
-    is_made_log(head) && head.len() > 8 && head[8] == b'2'
+    let end = name_end(head);
+    is_made_log(head) && (end == b'2' || end == b'3')
+}
+
+/// It says so, and that the log is of the third format.
+pub fn is_third_log(head: &[u8]) -> bool
+    ensures { result ≡ says_third (take 47 head.now) }
+{
+    let end = name_end(head);
+    is_made_log(head) && end == b'3'
 }
 
 // The first 47 bytes, zeros where there are no more.
@@ -42,6 +58,20 @@ fn number_in(head: &[u8], at: usize) -> u64
     number(&padded(head), at)
 }
 
+// What the file says of sums.
+fn sums_in(head: &[u8]) -> Option<Sums>
+    ensures { sums_of head.now ≡ result }
+{
+    if !is_third_log(head) {
+        return None;
+    }
+    let bytes = padded(head);
+    Some(Sums {
+        salt: [bytes[40], bytes[41], bytes[42]],
+        two_syncs: bytes[13] == 1,
+    })
+}
+
 /// What the file says of where its log starts. One that is not made says the generation 0, and the first gate of a log that is made of it.
 pub fn start_of(head: &[u8]) -> LogStart
     ensures says { SaysStart result head.now }
@@ -55,6 +85,7 @@ pub fn start_of(head: &[u8]) -> LogStart
                 base: number_in(head, 24),
                 next: from_one(number_in(head, 32)),
             },
+            sums: sums_in(head),
         };
     }
     if is_made_log(head) {
@@ -65,6 +96,7 @@ pub fn start_of(head: &[u8]) -> LogStart
                 base: 0,
                 next: 1,
             },
+            sums: None,
         };
     }
     LogStart {
@@ -74,12 +106,13 @@ pub fn start_of(head: &[u8]) -> LogStart
             base: 0,
             next: 1,
         },
+        sums: None,
     }
 }
 
-// The header of the second format, where there is one with a gate after it.
-fn second_in(head: &[u8]) -> Option<Header>
-    ensures there { IfSome result (λ header. (47 < length head.now) × IsSpelled header (take 46 (drop 1 head.now))) }
+// What the header says, of the second format or the third, where there is one with a gate after it.
+fn second_in(head: &[u8]) -> Option<LogStart>
+    ensures there { IfSome result (λ start. (47 < length head.now) × IsSpelled start (take 46 (drop 1 head.now))) }
     ensures none { result ≡ None → 47 < length head.now → IsSecond (take 46 (drop 1 head.now)) → ⊥ }
 {
     if head.len() < 48 {
@@ -90,7 +123,7 @@ fn second_in(head: &[u8]) -> Option<Header>
     parse(found)
 }
 
-/// Whatever byte 0 is, a header of the second format stands after it, and a gate after that.
+/// Whatever byte 0 is, a header of the second format or the third stands after it, and a gate after that.
 pub fn has_second_header(head: &[u8]) -> bool
     ensures { (result ≡ true) ↔ (47 < length head.now) × IsSecond (take 46 (drop 1 head.now)) }
 {
@@ -107,7 +140,7 @@ fn has_first_header(head: &[u8]) -> bool
     head.len() > 31 && head[1..31] == FIRST_FORMAT[..]
 }
 
-/// The file is a log of either format: made, with a header, and a gate after it.
+/// The file is a log of any format: made, with a header, and a gate after it.
 pub fn is_whole_log(head: &[u8]) -> bool
     ensures { (result ≡ true) ↔ IsMade head.now }
 {

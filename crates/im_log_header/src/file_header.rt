@@ -46,12 +46,12 @@ fn has_first_header<D: Disk>(disk: &mut D, file: FileId) -> Result<bool, Fault>
     Ok(found == FIRST_FORMAT)
 }
 
-// The header of the second format, where there is one with a gate after it.
-fn second_header_of<D: Disk>(disk: &mut D, file: FileId) -> Result<Option<Header>, Fault>
+// What the header says, of the second format or the third, where there is one with a gate after it.
+fn second_start_of<D: Disk>(disk: &mut D, file: FileId) -> Result<Option<LogStart>, Fault>
     requires { D.failed disk.old ≡ false }
-    ensures there { IfOk result (λ found. IfSome found (λ header. D.tells → (47 < length (D.seen disk.old file)) × IsSpelled header (take 46 (drop 1 (D.seen disk.old file))))) }
+    ensures there { IfOk result (λ found. IfSome found (λ start. D.tells → (47 < length (D.seen disk.old file)) × IsSpelled start (take 46 (drop 1 (D.seen disk.old file))))) }
     ensures not_there { result ≡ Ok None → D.tells → 47 < length (D.seen disk.old file) → IsSecond (take 46 (drop 1 (D.seen disk.old file))) → ⊥ }
-    ensures ranged { IfOk result (λ found. IfSome found (λ header. IsHeader header)) }
+    ensures ranged { IfOk result (λ found. IfSome found (λ start. IsHeader start.header)) }
     ensures reads { Reads D.Disk disk.old disk.new }
     ensures causes { IfErr result (λ e. e ≡ Device) }
     ensures device { result ≡ Err Device ↔ (D.failed disk.new ≡ true) }
@@ -66,7 +66,8 @@ fn second_header_of<D: Disk>(disk: &mut D, file: FileId) -> Result<Option<Header
 
 /// Where the log of a file starts, as the bytes in front of its first gate say; none of a file that is not made. It only reads.
 ///
-/// Refused `NotAStore` where the file is made and is of neither format, or ends in front of its first gate; `Device`.
+/// Refused `NotAStore` where the file is made and is of no format, as where a header of the third has another sum than its own, or ends in front of its
+/// first gate; `Device`.
 pub fn read_header<D: Disk>(disk: &mut D, file: FileId) -> Result<Option<LogStart>, Fault>
     requires working { D.failed disk.old ≡ false }
     ensures unmade { result ≡ Ok None → D.tells → IsUnmade (D.seen disk.old file) }
@@ -89,13 +90,11 @@ pub fn read_header<D: Disk>(disk: &mut D, file: FileId) -> Result<Option<LogStar
                 base: 0,
                 next: 1,
             },
+            sums: None,
         }));
     }
-    let Some(header) = second_header_of(disk, file)? else {
+    let Some(start) = second_start_of(disk, file)? else {
         return Err(Fault::NotAStore);
     };
-    Ok(Some(LogStart {
-        first_gate: 47,
-        header,
-    }))
+    Ok(Some(start))
 }

@@ -1,12 +1,12 @@
-//! How a log of the second format is made: byte 0 is closed, then the header and the first gate are written after it, then it is
+//! How a log of the second format or the third is made: byte 0 is closed, then the header and the first gate are written after it, then it is
 //! opened. Each step goes from one state of the file, all of it on the disk, to the next.
 
 ghost use Rattle.std.specs.Prelude.{◌≡◌, ◌≢◌, ◌≤◌, ◌⊎◌, ◌++◌, [], ◌∷◌, true, false, length, slice_index, OnOk};
 ghost use Rattle.im_base_disk.specs.Disk.{Only, Answers};
 ghost use Rattle.im_base_disk.specs.Runs.{LeavesIn, ChangesOnly, Reads, CostsAtMost};
-ghost use Rattle.im_log_header.specs.Header.{IsClosed, IsUnmade, IsEmptyLog, IsBeingMade, second_header};
+ghost use Rattle.im_log_header.specs.Header.{IsClosed, IsUnmade, IsEmptyLog, IsEmptyLogBy, IsBeingMade, IsBeingMadeBy, AreSums, header_by};
 
-use crate::header::Header;
+use crate::header::{Header, Sums};
 use crate::spelling::spell;
 use im_base_disk::{Disk, write_synced};
 use im_base_types::{Fault, FileId};
@@ -47,35 +47,61 @@ fn close<D: Disk>(disk: &mut D, file: FileId) -> Result<(), Fault>
 }
 
 // The header and a closed gate.
-fn front(header: &Header) -> [u8; 47]
-    ensures { result ≡ second_header header.now.generation header.now.base header.now.next ++ 0 ∷ [] }
+fn front(header: &Header, sums: &Option<Sums>) -> [u8; 47]
+    ensures front { result ≡ header_by sums.now header.now.generation header.now.base header.now.next ++ 0 ∷ [] }
+    ensures salted { AreSums sums.now }
 {
     let mut bytes = [0; 47];
-    bytes[..46].copy_from_slice(&spell(header.generation, header.base, header.next));
+    bytes[..46].copy_from_slice(&spell(sums, header.generation, header.base, header.next));
     bytes
 }
 
 // Writes the header and the first gate after a closed byte 0, and opens it.
-fn write<D: Disk>(disk: &mut D, file: FileId, header: &Header) -> Result<(), Fault>
+fn write<D: Disk>(
+    disk: &mut D,
+    file: FileId,
+    header: &Header,
+    sums: &Option<Sums>,
+) -> Result<(), Fault>
     requires working { D.failed disk.old ≡ false }
     requires begun { D.tells → 1 ≤ length (D.seen disk.old file) }
     requires closed { D.tells → slice_index (D.seen disk.old file) 0 ≢ 1 }
-    ensures made { OnOk result (D.tells → IsEmptyLog header.now.generation header.now.base header.now.next (D.seen disk.new file)) }
+    ensures made { OnOk result (D.tells → IsEmptyLogBy sums.now header.now.generation header.now.base header.now.next (D.seen disk.new file)) }
     ensures durable { OnOk result (Only file (D.seen disk.new) (D.may_leave disk.new)) }
-    ensures any_moment { Only file (D.seen disk.old) (D.may_leave disk.old) → LeavesIn D.Disk file disk.old disk.new (λ c. IsUnmade c ⊎ IsEmptyLog header.now.generation header.now.base header.now.next c) }
+    ensures any_moment { Only file (D.seen disk.old) (D.may_leave disk.old) → LeavesIn D.Disk file disk.old disk.new (λ c. IsUnmade c ⊎ IsEmptyLogBy sums.now header.now.generation header.now.base header.now.next c) }
     ensures changes { ChangesOnly D.Disk file disk.old disk.new }
     ensures few { CostsAtMost D.Disk 2 2 disk.old disk.new }
     ensures answers { Answers (D.failed disk.new) result }
 {
-    write_synced(disk, file, 1, &front(header))?;
+    write_synced(disk, file, 1, &front(header, sums))?;
     write_synced(disk, file, 0, &[1])?;
     Ok(())
 }
 
-/// Makes a log of the second format with this header and no batch, of a file whatever it has: by six device calls, or four where
-/// the file has two bytes or more and its byte 0 is not 1. Where all of the file was on the disk, a stop within leaves it as it was, or not made, or the new log.
+/// Makes a log with this header and no batch, of a file whatever it has: of the third format where it is to say something of sums, else of the second. By six
+/// device calls, or four where the file has two bytes or more and its byte 0 is not 1. Where all of the file was on the disk, a stop within leaves it as it was, or not made, or the new log.
 ///
 /// Refused `Device`.
+pub fn make_log_by<D: Disk>(
+    disk: &mut D,
+    file: FileId,
+    header: &Header,
+    sums: &Option<Sums>,
+) -> Result<(), Fault>
+    requires working { D.failed disk.old ≡ false }
+    ensures made { OnOk result (D.tells → IsEmptyLogBy sums.now header.now.generation header.now.base header.now.next (D.seen disk.new file)) }
+    ensures durable { OnOk result (Only file (D.seen disk.new) (D.may_leave disk.new)) }
+    ensures any_moment { Only file (D.seen disk.old) (D.may_leave disk.old) → LeavesIn D.Disk file disk.old disk.new (IsBeingMadeBy sums.now (D.seen disk.old file) header.now.generation header.now.base header.now.next) }
+    ensures changes { ChangesOnly D.Disk file disk.old disk.new }
+    ensures few { CostsAtMost D.Disk 3 3 disk.old disk.new }
+    ensures answers { Answers (D.failed disk.new) result }
+{
+    close(disk, file)?;
+    write(disk, file, header, sums)?;
+    Ok(())
+}
+
+/// The same of the second format.
 pub fn make_log<D: Disk>(disk: &mut D, file: FileId, header: &Header) -> Result<(), Fault>
     requires working { D.failed disk.old ≡ false }
     ensures made { OnOk result (D.tells → IsEmptyLog header.now.generation header.now.base header.now.next (D.seen disk.new file)) }
@@ -85,7 +111,5 @@ pub fn make_log<D: Disk>(disk: &mut D, file: FileId, header: &Header) -> Result<
     ensures few { CostsAtMost D.Disk 3 3 disk.old disk.new }
     ensures answers { Answers (D.failed disk.new) result }
 {
-    close(disk, file)?;
-    write(disk, file, header)?;
-    Ok(())
+    make_log_by(disk, file, header, &None)
 }

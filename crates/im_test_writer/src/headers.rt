@@ -7,7 +7,7 @@ use im_base_model_disk::{Fill, Length, ModelDisk, Stop};
 use im_base_two_logs::{Renamed, TwoLogs};
 use im_base_types::{Fault, FileId};
 use im_log_choice::{choose, next_header, switch_log};
-use im_log_header::{Header, make_log, read_header};
+use im_log_header::{Header, LogStart, Sums, make_log_by, read_header};
 use std::alloc::Global;
 use std::test::Fail;
 
@@ -19,12 +19,21 @@ pub(crate) static FIRST: [u8; 32] =
 static SECOND: [u8; 48] =
     *b"\x01ARIESIM2\0\0\x10\0\0\0\0\0\0\0\0\0\0\0\x01?\xff\xff\xff\xff\xff\xff\x9c\0\0\0\0\0\0\0\x01\0\0\0\0\0\0\0\0";
 
+// A log of the third format of generation 1 with no batch: its sum was found by another program.
+static THIRD: [u8; 48] =
+    *b"\x01ARIESIM3\0\0\x10\0\0\0\0\0\0\0\0\0\0\0\x01\0\0\0\0\0\0\0\0\0\0\0\0\0\0\0\x01\0\0\0\xe5\x81\x26\xbe\0";
+
 // Makes a log of the other file, and answers its bytes.
-fn made<D: Disk>(alloc: Global, disk: &mut D, header: &Header) -> Result<Vec<u8>, Fault>
+fn made<D: Disk>(
+    alloc: Global,
+    disk: &mut D,
+    header: &Header,
+    sums: &Option<Sums>,
+) -> Result<Vec<u8>, Fault>
     requires working { D.failed disk.old ≡ false }
     requires synced { IsSynced D.Disk disk.old }
 {
-    make_log(disk, FileId::Log2, header)?;
+    make_log_by(disk, FileId::Log2, header, sums)?;
     if disk.len(FileId::Log2)? != 48 {
         return Err(Fault::NotAStore);
     }
@@ -40,9 +49,61 @@ fn a_header_is_written(rt: HostRuntime) -> Result<(), Fail> {
         base: (1 << 62) - 100,
         next: 1,
     };
-    let bytes = made(alloc, &mut disk, &header)?;
+    let bytes = made(alloc, &mut disk, &header, &None)?;
     assert!(rt; bytes.as_slice() == SECOND.as_slice());
     assert!(rt; disk.calls() == 6);
+    Ok(())
+}
+
+#[test]
+fn a_header_with_a_sum_is_written(rt: HostRuntime) -> Result<(), Fail> {
+    let alloc = rt.alloc();
+    let mut disk = ModelDisk::new(Vec::new(alloc), Vec::new(alloc));
+    let header = Header {
+        generation: 1,
+        base: 0,
+        next: 1,
+    };
+    let sums = Some(Sums {
+        salt: [0, 0, 0],
+        two_syncs: false,
+    });
+    let bytes = made(alloc, &mut disk, &header, &sums)?;
+    assert!(rt; bytes.as_slice() == THIRD.as_slice());
+    Ok(())
+}
+
+// What is read of a log that was made so.
+fn said<D: Disk>(
+    disk: &mut D,
+    header: &Header,
+    sums: &Option<Sums>,
+) -> Result<Option<LogStart>, Fault>
+    requires working { D.failed disk.old ≡ false }
+{
+    make_log_by(disk, FileId::Log2, header, sums)?;
+    read_header(disk, FileId::Log2)
+}
+
+#[test]
+fn a_salt_is_read(rt: HostRuntime) -> Result<(), Fail> {
+    let alloc = rt.alloc();
+    let mut disk = ModelDisk::new(Vec::new(alloc), Vec::new(alloc));
+    let header = Header {
+        generation: 7,
+        base: 1 << 62,
+        next: 3,
+    };
+    let sums = Some(Sums {
+        salt: [1, 2, 255],
+        two_syncs: true,
+    });
+    let start = LogStart {
+        first_gate: 47,
+        header,
+        sums,
+    };
+    assert!(rt; said(&mut disk, &header, &sums) == Ok(Some(start)));
     Ok(())
 }
 
@@ -93,6 +154,11 @@ fn other_headers_are_refused(rt: HostRuntime) -> Result<(), Fail> {
     assert!(rt; chosen(alloc, &[], &changed(24, 0x40))? == Err(Fault::NotAStore));
     assert!(rt; chosen(alloc, &[], &changed(11, 0))? == Err(Fault::NotAStore));
     assert!(rt; chosen(alloc, &[], &changed(46, 1))? == Err(Fault::NotAStore));
+    // A byte of the third format that its sum does not fit.
+    let mut other = THIRD;
+    other[40] = 1;
+    assert!(rt; chosen(alloc, &[], &THIRD)? == Ok(Some(1)));
+    assert!(rt; chosen(alloc, &[], &other)? == Err(Fault::NotAStore));
     Ok(())
 }
 

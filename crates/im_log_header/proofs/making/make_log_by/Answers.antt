@@ -1,21 +1,21 @@
 use Rattle.im_base_disk.proofs.Runs.{changes_then}
 use Rattle.im_log_header.proofs.Runs.{closed_run, made_run}
-use Rattle.im_log_header.proofs.making.make_log.Goals as goal
+use Rattle.im_log_header.proofs.making.make_log_by.Goals as goal
 
 pub returns-in_err-close-clause-any_moment : goal.returns-in_err-close-clause-any_moment
 returns-in_err-close-clause-any_moment g c synced =
     let h = c.args.header.now in
-    closed_run g.D.Disk c.args.file c.args.disk.now c.close.new.disk c.close.new.disk h.generation h.base h.next (c.close.ensures.any_moment synced)
+    closed_run g.D.Disk c.args.file c.args.disk.now c.close.new.disk c.close.new.disk c.args.sums.now h.generation h.base h.next (c.close.ensures.any_moment synced)
 
 pub returns-in_err-write-clause-any_moment : goal.returns-in_err-write-clause-any_moment
 returns-in_err-write-clause-any_moment g c synced =
     let h = c.args.header.now in
-    made_run g.D.Disk c.args.file c.args.disk.now c.close.new.disk c.write.new.disk h.generation h.base h.next (c.close.ensures.any_moment synced) c.in_ok-close.ensures.changes (c.write.ensures.any_moment (c.in_ok-close.ensures.durable synced))
+    made_run g.D.Disk c.args.file c.args.disk.now c.close.new.disk c.write.new.disk c.args.sums.now h.generation h.base h.next (c.close.ensures.any_moment synced) c.in_ok-close.ensures.changes (c.write.ensures.any_moment (c.in_ok-close.ensures.durable synced))
 
 pub returns-clause-any_moment : goal.returns-clause-any_moment
 returns-clause-any_moment g c synced =
     let h = c.args.header.now in
-    made_run g.D.Disk c.args.file c.args.disk.now c.close.new.disk c.write.new.disk h.generation h.base h.next (c.close.ensures.any_moment synced) c.in_ok-close.ensures.changes (c.write.ensures.any_moment (c.in_ok-close.ensures.durable synced))
+    made_run g.D.Disk c.args.file c.args.disk.now c.close.new.disk c.write.new.disk c.args.sums.now h.generation h.base h.next (c.close.ensures.any_moment synced) c.in_ok-close.ensures.changes (c.write.ensures.any_moment (c.in_ok-close.ensures.durable synced))
 
 pub returns-clause-changes : goal.returns-clause-changes
 returns-clause-changes g c = changes_then g.D.Disk c.args.file c.args.disk.now c.close.new.disk c.write.new.disk c.in_ok-close.ensures.changes c.in_ok-write.ensures.changes

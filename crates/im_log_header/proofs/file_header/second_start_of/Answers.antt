@@ -2,10 +2,10 @@ use Rattle.std.proofs.Common.{List, ℕ, take, drop, Option, None, Result, Ok, E
 use Rattle.im_base_types.specs.declared.fault.Fault.{Fault}
 use Rattle.im_base_disk.specs.Disk.{Files}
 use Rattle.im_log_header.specs.Header.{IsSecond}
-use Rattle.im_log_header.specs.declared.header.Header.{Header}
-use Rattle.im_log_header.proofs.file_header.second_header_of.Goals as goal
+use Rattle.im_log_header.specs.declared.header.LogStart.{LogStart}
+use Rattle.im_log_header.proofs.file_header.second_start_of.Goals as goal
 
-found_in : Result (Option Header) Fault → Option Header
+found_in : Result (Option LogStart) Fault → Option LogStart
 found_in (Ok found) = found
 found_in (Err fault) = None
 
