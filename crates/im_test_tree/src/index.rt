@@ -258,7 +258,7 @@ fn over(alloc: Global, asks: &[Ask]) -> Result<Vec<Told>, Fail> {
 }
 
 // Requests over the three leaves, with no lock held before, and what is answered.
-static ROWS: [(&str, &[Ask], &[Told]); 10] = [
+static ROWS: [(&str, &[Ask], &[Told]); 9] = [
     (
         "a_key_that_is_there_is_locked",
         &[
