@@ -145,8 +145,8 @@ typedef struct vah_config {
 	                           *   VAH_READ_ONLY. Any number may look at a store at a
 	                           *   time. It must be there. Or 0 */
 	uint64_t cache_bytes;     /**< memory for more pages, beside `frames`: whole frames
-	                           *   of 4 KiB, up to 1,020 MiB. All of it is taken when
-	                           *   the store is opened */
+	                           *   of 4 KiB, up to 1,020 MiB. All of it is asked for
+	                           *   when the store is opened, and used as pages come */
 } vah_config;
 
 /** For redo_bytes, and the default: 16 MiB, or 7 times the bytes of the file of

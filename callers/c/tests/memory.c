@@ -1,5 +1,5 @@
 /* Requests for memory of a life are refused in turn, with caches of several sizes; what is refused for want of memory is asked again, and then the store is opened
- * again. memory FOLDER */
+ * again. memory FOLDER [each]: with that word each request, and else the first and the last of a life, and 50 between. */
 #include "life.h"
 
 void *__libc_malloc(size_t size);
@@ -69,8 +69,7 @@ int main(int argc, char **argv)
 		long all = 0, tried = 0;
 		config.frames = POOLS[i].frames;
 		config.cache_bytes = POOLS[i].more << 12;
-		/* all of a short life, and of a long one some: its first, its last, and each so many */
-		for (long n = 0; n <= all; n += n < 12 || n + 12 > all ? 1 : 1 + all / 50) {
+		for (long n = 0; n <= all; n += argc > 2 || n < 12 || n + 12 > all ? 1 : 1 + all / 50) {
 			int acked = 0;
 			snprintf(dir, sizeof dir, "%s/%zu.%ld", argv[1], i, n);
 			came = 0;

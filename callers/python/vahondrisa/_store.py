@@ -27,7 +27,7 @@ def open(
 ) -> "Store":
     """Opens the store in a folder, or makes one, with the folder and those above it.
 
-    `frames` are pages of 4 KiB kept in memory, 8 to 1,024, and `cache_bytes` memory for more of them, at most 1,020 MiB, which is taken at once, and by
+    `frames` are pages of 4 KiB kept in memory, 8 to 1,024, and `cache_bytes` memory for more of them, at most 1,020 MiB, which is asked for at once, and by
     default twice what the file of pages has, at most 64 MiB; `max_pages` the most that the store may have; `redo_bytes` the most log that the next
     opening has to redo, 0 for any, and by default 16 MiB, or 7 times the file of pages; `log_bytes` the most that it has to read, where now and then
     no transaction is active, 0 for any, and by default 64 MiB, or 8 times. `timeout` is how many seconds a call waits at most for other transactions

@@ -60,8 +60,8 @@ impl Options {
         self
     }
 
-    /// Memory for more pages, beside `frames`: whole frames of 4 KiB, at most 1,020 MiB, or the opening is refused `PoolSize`. All of it is taken when the store is
-    /// opened. Where nothing is said it is twice what the file of pages has then, at most 64 MiB.
+    /// Memory for more pages, beside `frames`: whole frames of 4 KiB, at most 1,020 MiB, or the opening is refused `PoolSize`. All of it is asked for when
+    /// the store is opened, and used as pages come. Where nothing is said it is twice what the file of pages has then, at most 64 MiB.
     ///
     /// ```
     /// # let dir = std::env::temp_dir().join(format!("vahondrisa-doc-cache-{}", std::process::id()));
