@@ -95,7 +95,6 @@ barred v step = first_check v.failed v.active (mark_for (λ t. (v.txns t).mark) 
 -- Pages are wanting for an Insert, or memory, and nothing is changed. The machine does not say when: that they come only for cause is the engine's own promise.
 abbrev pub Wants : Step → ℕ → Type 0
 Wants (Do t (Insert k r)) f = (f ≡ pages_full) ⊎ (f ≡ memory)
-Wants (RollTo t n) f = (f ≡ no_transaction) ⊎ (f ≡ memory)  -- a store that does not serve it refuses it so
 Wants _ f = f ≡ memory
 
 -- capacity, the log or the device failed, or memory within the step, and the engine with it

@@ -1,10 +1,10 @@
 -- Steps of a structure change that is made page by page, and steps of others that it stands in the way of.
-use Rattle.std.proofs.Common.{◌≡◌, ◌≢◌, ◌≤◌, inl, ℕ, nat_eq, List, ◌++◌, [], ◌∷◌, length, map, refl, sym, ◌∙◌, ap, subst, true, false, Bool, Option, is_some, cond, None, Some, eq-eqb, ne_eqb}
+use Rattle.std.proofs.Common.{◌≡◌, ◌≢◌, ◌≤◌, inl, inr, arith, ℕ, nat_eq, List, ◌++◌, [], ◌∷◌, length, map, refl, sym, ◌∙◌, ap, subst, true, false, Bool, Option, is_some, cond, None, Some, eq-eqb, ne_eqb}
 use Rattle.std.specs.Prelude.{find}
 use Rattle.std.specs.FinMap.{empty, get}
 use Rattle.im_base_types.specs.Keys.{Key}
 use Rattle.im_base_types.specs.Maps.{IndexMap}
-use Rattle.im_base_types.specs.Changes.{Effect, Put, Drop, apply_all, undone}
+use Rattle.im_base_types.specs.Changes.{Change, Effect, Put, Drop, apply_all, undone}
 use Rattle.im_base_types.specs.Records.{InsertKey, DeleteKey}
 use Rattle.im_base_types.specs.Answers as answers
 use Rattle.im_base_types.specs.Answers.{Access, Insert, Delete, Inserted, Deleted, Do, Continue, More, BlockedTree, Done, RolledBack, changes}
@@ -16,7 +16,8 @@ use Rattle.im_theory_log.specs.Lawful as lawful
 use Rattle.im_theory_log.specs.Lawful.{Follows}
 use Rattle.im_theory_log.specs.Transactions.{net, last_of, undo_next_of, is_finished}
 use Rattle.im_theory_log.proofs.LogLaws.{logs_stay_lawful}
-use Rattle.im_base_txn.specs.declared.transaction.Mark.TheVariants.{Going, RollingBack, Returning}
+use Rattle.im_base_txn.specs.declared.transaction.Mark as marks
+use Rattle.im_base_txn.specs.declared.transaction.Mark.TheVariants.{Going, RollingBack, Returning, Committing}
 use Rattle.im_base_txn.specs.declared.transaction.Transaction.{Transaction}
 use Rattle.im_base_txn.specs.Rows.{is_of, changed, with_mark, with_record}
 use Rattle.im_base_txn.specs.LookUps.{without}
@@ -26,11 +27,11 @@ use Rattle.im_theory_machine.specs.Rows.{asked}
 use Rattle.im_theory_machine.specs.Table.{Table, locks_of, lasting_of}
 use Rattle.im_theory_machine.specs.Changing.{MatchesWithKept}
 use Rattle.im_theory_machine.specs.View.{View, Under, Aim, Puts, Drops, TakesBack, TookBack, Txn, idle, owner_of, pending_for, pending_of, kept_for, kept_lock, locks_in, own_locks, did, did_txn, locked, marked, undid_more, dropped_by, with_change, change_made, is_among, nets_of}
-use Rattle.im_theory_machine.specs.Machine.{logs_page, drops_leaf, drops_first, takes_later, takes_first, takes_leaf, takes_last, leaf_is_back, tree_blocks, tree_halts, barred, barred_to_continue, or_else, fault_if}
+use Rattle.im_theory_machine.specs.Machine.{MayTakeBack, logs_page, drops_leaf, drops_first, takes_later, takes_first, takes_leaf, takes_last, leaf_is_back, tree_blocks, tree_halts, barred, barred_to_continue, or_else, fault_if}
 use Rattle.im_theory_machine.proofs.Cited.{changes-serve, by_txn, pending_granted, nets_same}
 use Rattle.im_theory_steps.specs.Seen.{IsSeen}
 use Rattle.im_theory_steps.specs.Serving.{IsRow, mark_of, IsServing}
-use Rattle.im_theory_steps.specs.Steps.{counted, key_record, noted, with_made, with_undone, InsertsBegin, PagesAreServed, InsertsStayFree, InsertsEnd, DeletesBegin, DeletesEnd, TurnsBegin, TurnsEmpty, TurnsDrop, TurnsEnd, TreesBlock, TreesHalt, takes_back}
+use Rattle.im_theory_steps.specs.Steps.{counted, key_record, noted, with_made, with_undone, InsertsBegin, PagesAreServed, InsertsStayFree, InsertsEnd, DeletesBegin, DeletesEnd, TurnsBegin, TurnsEmpty, TurnsDrop, TurnsEnd, TreesBlock, TreesHalt, TurnsOn, takes_back}
 use Rattle.im_theory_steps.specs.Undone.{ReturnsDrop}
 use Rattle.im_theory_steps.proofs.Asking.{trees_ask_nothing}
 use Rattle.im_theory_steps.proofs.Growth.{structure_changes_no_key, same_here, same_then}
@@ -270,18 +271,47 @@ deletes_end b earlier before s v older longer rows next held t row k h found mar
 
 -- ---- a change that is taken back
 
+module _ (b : Base) (earlier before : List Effect) (s : Shown) (v : View) (older : History) (rows : List Transaction) (next : ℕ) (held : Table) (t : ℕ) (row : Transaction) (h : IsServing b earlier before s v older rows next held) (found : find (is_of t) rows ≡ Some row) (turns : TurnsOn row) where
+  turns_free : row.mark ≡ Committing → ⊥
+  turns_free = elim turns [ inl rolling ↦ mark_free row.mark RollingBack rolling (λ x. cc x) | inr back ↦ mark_free row.mark (Returning back.0) back.1 (λ x. cc x) ]
+
+  turns_at : (row.number ≡ t) × IsRow row next older × ((v.txns t).mark ≡ mark_of row.mark)
+  turns_at = at b earlier before s v older rows next held h t row found turns_free
+
+  turns_marked : takes_back ((v.txns t).mark) ≡ true
+  turns_marked = ap takes_back turns_at.2 ∙ elim turns [ inl rolling ↦ ap (λ (m : marks.Mark). takes_back (mark_of m)) rolling | inr back ↦ ap (λ (m : marks.Mark). takes_back (mark_of m)) back.1 ]
+
+  -- it waits for no force
+  turns_new : is_among t v.queue ≡ false
+  turns_new = new_by b earlier before s v older rows next held h t ((v.txns t).mark) refl (λ waits. let never : takes_back answers.Committing ≡ true = sym (ap takes_back waits) ∙ turns_marked in cc never)
+
+  turns_count : row.changes ≡ length ((v.txns t).net)
+  turns_count = counted_at t next older row turns_at.0 turns_at.1 ∙ ap (λ (e : Effect). length e) (sym (h.seen_by.nets t turns_new))
+
+  -- it may take its newest change back
+  turns_may : (c : Change) (cs : List Change) → (v.txns t).net ≡ c ∷ cs → MayTakeBack ((v.txns t).mark) cs
+  turns_may c cs net_is = elim turns [
+    | inl rolling ↦ inl (turns_at.2 ∙ ap mark_of rolling)
+    | inr back ↦
+        let count = turns_count ∙ ap (λ (e : Effect). length e) net_is in
+        inr (back.0, turns_at.2 ∙ ap mark_of back.1, omega (arith, back.2, count))
+  ]
+
+  -- it has one to take back
+  turns_has : v.under ≡ None → (v.txns t).net ≢ []
+  turns_has none nothing = elim turns [
+    | inl rolling ↦ (let never : None ≡ Some (record { owner = t; aim = TookBack }) = sym none ∙ rolling_is (apply_all empty before) v h.reached t (turns_at.2 ∙ ap mark_of rolling) nothing in cc never)
+    | inr back ↦ (let count = turns_count ∙ ap (λ (e : Effect). length e) nothing in absurd (omega (arith, back.2, count)))
+  ]
+
 pub turns_begin : TurnsBegin
-turns_begin b earlier before s v older longer rows next held t row h found mark none grows =
-    let free = mark_free row.mark RollingBack mark (λ x. cc x) in
-    let is = at b earlier before s v older rows next held h t row found free in
-    let rolling : (v.txns t).mark ≡ answers.RollingBack = is.2 ∙ ap mark_of mark in
-    let on = structure_keeps b earlier before s v older longer rows next held t row h found free grows in
-    let has : (v.txns t).net ≢ [] = λ nothing. let never : None ≡ Some (record { owner = t; aim = TookBack }) = sym none ∙ rolling_is (apply_all empty before) v h.reached t rolling nothing in cc never in
-    let more = cases_net ((v.txns t).net) has in
+turns_begin b earlier before s v older longer rows next held t row h found turns none grows =
+    let on = structure_keeps b earlier before s v older longer rows next held t row h found (turns_free b earlier before s v older rows next held t row h found turns) grows in
+    let more = cases_net ((v.txns t).net) (turns_has b earlier before s v older rows next held t row h found turns none) in
     let w = with_change v t TakesBack in
     served b earlier before s v longer (noted t longer rows) next held on (Continue t) More w longer (noted t longer rows) next held
-    (moves_by v w (Continue t) More (continue_passes v t h.works rolling)
-    (takes_later t more.0 more.1 refl (inl rolling) none more.2 refl refl))
+    (moves_by v w (Continue t) More (taking_passes v t h.works (turns_marked b earlier before s v older rows next held t row h found turns))
+    (takes_later t more.0 more.1 refl (turns_may b earlier before s v older rows next held t row h found turns more.0 more.1 more.2) none more.2 refl refl))
     on.works
     (seen_like b longer v w on.seen_by refl refl refl (λ u. refl))
     refl
@@ -290,18 +320,18 @@ turns_begin b earlier before s v older longer rows next held t row h found mark 
     (begins_bare v held on.locks t TakesBack none (λ m. refl))
 
 pub turns_empty : TurnsEmpty
-turns_empty b earlier before s v older longer rows next held t last undo_next row c h found mark none on others now_row =
-    let free = mark_free row.mark RollingBack mark (λ x. cc x) in
-    let is = at b earlier before s v older rows next held h t row found free in
-    let rolling : (v.txns t).mark ≡ answers.RollingBack = is.2 ∙ ap mark_of mark in
-    let new_one = new_by b earlier before s v older rows next held h t answers.RollingBack rolling (λ x. cc x) in
+turns_empty b earlier before s v older longer rows next held t last undo_next row c h found turns none on others now_row =
+    let free = turns_free b earlier before s v older rows next held t row h found turns in
+    let is = turns_at b earlier before s v older rows next held t row h found turns in
+    let new_one = turns_new b earlier before s v older rows next held t row h found turns in
     let rest = net t longer in
     let net_is : (v.txns t).net ≡ c ∷ rest = h.seen_by.nets t new_one ∙ on.own in
     let x : Txn = record (v.txns t) { net = rest } in
     let done = undid_more v t c rest in
     let w = with_change done t TookBack in
     served b earlier before s v older rows next held h (Continue t) More w longer (map (changed t (with_undone last undo_next)) rows) next held
-    (moves_by v w (Continue t) More (continue_passes v t h.works rolling) (takes_first t c rest refl (inl rolling) none net_is refl refl))
+    (moves_by v w (Continue t) More (taking_passes v t h.works (turns_marked b earlier before s v older rows next held t row h found turns))
+    (takes_first t c rest refl (turns_may b earlier before s v older rows next held t row h found turns c rest net_is) none net_is refl refl))
     h.works
     (seen_like b longer done w (together.takes_back b older longer v t c rest h.seen_by new_one net_is on) refl refl refl (λ u. refl))
     on.commits
@@ -315,16 +345,14 @@ turns_empty b earlier before s v older longer rows next held t last undo_next ro
     record { lasting = locks.0; held = locks.1 })
 
 pub turns_drop : TurnsDrop
-turns_drop b earlier before s v older longer rows next held t row h found mark under left grows =
-    let free = mark_free row.mark RollingBack mark (λ x. cc x) in
-    let is = at b earlier before s v older rows next held h t row found free in
-    let rolling : (v.txns t).mark ≡ answers.RollingBack = is.2 ∙ ap mark_of mark in
-    let on = structure_keeps b earlier before s v older longer rows next held t row h found free grows in
+turns_drop b earlier before s v older longer rows next held t row h found turns under left grows =
+    let on = structure_keeps b earlier before s v older longer rows next held t row h found (turns_free b earlier before s v older rows next held t row h found turns) grows in
     let more = cases_net (net t longer) left in
+    let net_is = on.seen_by.nets t (turns_new b earlier before s v older rows next held t row h found turns) ∙ more.2 in
     let w = change_made v in
     served b earlier before s v longer (noted t longer rows) next held on (Continue t) More w longer (noted t longer rows) next held
-    (moves_by v w (Continue t) More (continue_passes v t h.works rolling)
-    (takes_leaf t more.0 more.1 refl (inl rolling) under (on.seen_by.nets t (new_by b earlier before s v older rows next held h t answers.RollingBack rolling (λ x. cc x)) ∙ more.2) refl refl))
+    (moves_by v w (Continue t) More (taking_passes v t h.works (turns_marked b earlier before s v older rows next held t row h found turns))
+    (takes_leaf t more.0 more.1 refl (turns_may b earlier before s v older rows next held t row h found turns more.0 more.1 net_is) under net_is refl refl))
     on.works
     (seen_like b longer v w on.seen_by refl refl refl (λ u. refl))
     refl
@@ -400,10 +428,9 @@ trees_block b earlier before s v older longer rows next held t row a u h found m
 
 pub trees_halt : TreesHalt
 trees_halt b earlier before s v older longer rows next held t row u h found mark under differ stays all =
-    let is = at b earlier before s v older rows next held h t row found (mark_free row.mark RollingBack mark (λ x. cc x)) in
-    let rolling : (v.txns t).mark ≡ answers.RollingBack = is.2 ∙ ap mark_of mark in
+    let is = at b earlier before s v older rows next held h t row found (λ waits. let never : takes_back (mark_of Committing) ≡ true = sym (ap (λ (m : marks.Mark). takes_back (mark_of m)) waits) ∙ mark in cc never) in
     served b earlier before s v older rows next held h (Continue t) BlockedTree v longer rows next held
-    (moves_by v v (Continue t) BlockedTree (continue_passes v t h.works rolling) (tree_halts t u refl under differ refl refl))
+    (moves_by v v (Continue t) BlockedTree (taking_passes v t h.works (ap takes_back is.2 ∙ mark)) (tree_halts t u refl under differ refl refl))
     h.works
     (together.stays b older longer v h.seen_by stays)
     stays.commits

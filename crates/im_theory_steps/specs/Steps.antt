@@ -25,7 +25,7 @@ use Rattle.im_theory_machine.specs.Rows.{asked}
 use Rattle.im_theory_machine.specs.View.{View, Under, Aim, pending_of, Puts, Drops, TakesBack as TakesLater, TookBack, owner_in, own_locks, begun, did, locked, marked, committed_by, dropped_by, undid_more, undid_last, with_change, change_made, queued, forced_by, is_among}
 use Rattle.im_theory_machine.specs.Machine.{IsReached, keys_fit, barred, start, Wants}
 use Rattle.im_theory_steps.specs.Growth.{Stays, Adds, TakesBack, Commits, IsOfOthers, IsOfAll, IsOver, HasNone, IsCheckpoint, GrowsByImages, GrowsByStructure}
-use Rattle.im_theory_steps.specs.Serving.{IsRow, IsServing, IsServed}
+use Rattle.im_theory_steps.specs.Serving.{IsRow, IsServing, IsServed, mark_of}
 
 -- ---- what an opening leaves
 
@@ -316,22 +316,32 @@ DeletesEnd = (b : Base) (earlier before : List Effect) (s : Shown) (v : View) (o
     → IsServing b earlier before s v older rows next held → find (is_of t) rows ≡ Some row → row.mark ≡ Going → v.under ≡ Some (record { owner = t; aim = Drops k }) → GrowsByStructure t older longer
     → IsServed b earlier before s v (Continue t) Deleted (change_made v) longer (noted t longer rows) next held
 
+-- one that takes its changes back: it rolls back, or returns
+abbrev pub takes_back : answers.Mark → Bool
+takes_back answers.RollingBack = true
+takes_back (answers.Returning n) = true
+takes_back _ = false
+
+-- one that has a change more to take back: it rolls back, or returns to fewer changes than it has
+abbrev pub TurnsOn : Transaction → Type 0
+TurnsOn row = (row.mark ≡ RollingBack) ⊎ ((n : ℕ) × (row.mark ≡ Returning n) × (n < row.changes))
+
 -- A change to be taken back whose key wants a split: its first page is logged. At the end it is taken back as ever.
 abbrev pub TurnsBegin : Type 0
 TurnsBegin = (b : Base) (earlier before : List Effect) (s : Shown) (v : View) (older longer : History) (rows : List Transaction) (next : ℕ) (held : Table) (t : ℕ) (row : Transaction)
-    → IsServing b earlier before s v older rows next held → find (is_of t) rows ≡ Some row → row.mark ≡ RollingBack → v.under ≡ None → GrowsByStructure t older longer
+    → IsServing b earlier before s v older rows next held → find (is_of t) rows ≡ Some row → TurnsOn row → v.under ≡ None → GrowsByStructure t older longer
     → IsServed b earlier before s v (Continue t) More (with_change v t TakesLater) longer (noted t longer rows) next held
 
 -- One that leaves a leaf empty: it is taken back, and the change begins, with no page logged.
 abbrev pub TurnsEmpty : Type 0
 TurnsEmpty = (b : Base) (earlier before : List Effect) (s : Shown) (v : View) (older longer : History) (rows : List Transaction) (next : ℕ) (held : Table) (t last undo_next : ℕ) (row : Transaction) (c : Change)
-    → IsServing b earlier before s v older rows next held → find (is_of t) rows ≡ Some row → row.mark ≡ RollingBack → v.under ≡ None → TakesBack b t c older longer → IsOfOthers t older longer → IsRow (with_undone last undo_next row) next longer
+    → IsServing b earlier before s v older rows next held → find (is_of t) rows ≡ Some row → TurnsOn row → v.under ≡ None → TakesBack b t c older longer → IsOfOthers t older longer → IsRow (with_undone last undo_next row) next longer
     → IsServed b earlier before s v (Continue t) More (with_change (undid_more v t c (net t longer)) t TookBack) longer (map (changed t (with_undone last undo_next)) rows) next held
 
--- It ends with the record that closes it, where others are left to take back, or else with an End.
+-- It ends with the record that closes it, where others are left to take back, or else, of a rollback, with an End.
 abbrev pub TurnsDrop : Type 0
 TurnsDrop = (b : Base) (earlier before : List Effect) (s : Shown) (v : View) (older longer : History) (rows : List Transaction) (next : ℕ) (held : Table) (t : ℕ) (row : Transaction)
-    → IsServing b earlier before s v older rows next held → find (is_of t) rows ≡ Some row → row.mark ≡ RollingBack → v.under ≡ Some (record { owner = t; aim = TookBack }) → net t longer ≢ [] → GrowsByStructure t older longer
+    → IsServing b earlier before s v older rows next held → find (is_of t) rows ≡ Some row → TurnsOn row → v.under ≡ Some (record { owner = t; aim = TookBack }) → net t longer ≢ [] → GrowsByStructure t older longer
     → IsServed b earlier before s v (Continue t) More (change_made v) longer (noted t longer rows) next held
 
 abbrev pub TurnsEnd : Type 0
@@ -348,19 +358,13 @@ TreesBlock = (b : Base) (earlier before : List Effect) (s : Shown) (v : View) (o
 
 abbrev pub TreesHalt : Type 0
 TreesHalt = (b : Base) (earlier before : List Effect) (s : Shown) (v : View) (older longer : History) (rows : List Transaction) (next : ℕ) (held : Table) (t : ℕ) (row : Transaction) (u : Under)
-    → IsServing b earlier before s v older rows next held → find (is_of t) rows ≡ Some row → row.mark ≡ RollingBack → v.under ≡ Some u → t ≢ u.owner → Stays b older longer → IsOfAll older longer
+    → IsServing b earlier before s v older rows next held → find (is_of t) rows ≡ Some row → takes_back (mark_of row.mark) ≡ true → v.under ≡ Some u → t ≢ u.owner → Stays b older longer → IsOfAll older longer
     → IsServed b earlier before s v (Continue t) BlockedTree v longer rows next held
 
 -- An Insert that would end in a later step waits, and dies, as one that ends at once.
 pub record BegunAskTheSame : Type 0 where
   pub waits : (w : IndexMap) (k : Key) (i : ℕ) → get w k ≡ None → (old new : Table) (t holder : ℕ) → Decides old t (asked_begun k w) (Wait holder) new → Decides old t (asked (Insert k i) w) (Wait holder) new
   pub dies : (w : IndexMap) (k : Key) (i : ℕ) → get w k ≡ None → (old new : Table) (t : ℕ) → Decides old t (asked_begun k w) MustDie new → Decides old t (asked (Insert k i) w) MustDie new
-
--- one that takes its changes back: it rolls back, or returns
-abbrev pub takes_back : answers.Mark → Bool
-takes_back answers.RollingBack = true
-takes_back (answers.Returning n) = true
-takes_back _ = false
 
 -- what its owner is while a structure change is under way
 abbrev pub IsMarkFor : Aim → answers.Mark → Type 0
