@@ -114,11 +114,11 @@ whole_way b c log end goes = subst (λ (n : ℕ). IsUnderWay b c.transaction c.u
 
 module _ {D : Type 0} (d : Ghosts D) (b : Base) (base : ℕ) where
   -- it could not be closed
-  pub close_refused : (s : Writer) (e t last undo_next : ℕ) (old : D) (start w : PageWriter) (new : D) (f : Fault) → TurnOutcome d may_be_full start w new (Some f) → f ≢ NotAStore → LeavesUndo d b base s t old new
-      → (result : Result Undone Fault) → IsErrAnd result (λ x. x ≡ f) → CloseBackKept d b base true s e t last undo_next old w new result
-  close_refused s e t last undo_next old start w new f one sound stops (Ok undone) here = absurd here
-  close_refused s e t last undo_next old start w new f one sound stops (Err x) here =
-      subst (λ (y : Fault). CloseBackKept d b base true s e t last undo_next old w new (Err y)) (sym here) (record {
+  pub close_refused : (ends : Bool) (s : Writer) (e t last undo_next : ℕ) (old : D) (start w : PageWriter) (new : D) (f : Fault) → TurnOutcome d may_be_full start w new (Some f) → f ≢ NotAStore → LeavesUndo d b base s t old new
+      → (result : Result Undone Fault) → IsErrAnd result (λ x. x ≡ f) → CloseBackKept d b base true ends s e t last undo_next old w new result
+  close_refused ends s e t last undo_next old start w new f one sound stops (Ok undone) here = absurd here
+  close_refused ends s e t last undo_next old start w new f one sound stops (Err x) here =
+      subst (λ (y : Fault). CloseBackKept d b base true ends s e t last undo_next old w new (Err y)) (sym here) (record {
         sound = sound;
         stops = stops;
         never = full_never d {v = start} (Err f) one;
@@ -126,19 +126,19 @@ module _ {D : Type 0} (d : Ghosts D) (b : Base) (base : ℕ) where
 
   -- ---- calls of the change's own transaction
 
-  pub turn_as : (s : Writer) (e t last undo_next u m : ℕ) (beside : Beside) (start : PageWriter) (old : D) (w : PageWriter) (new : D) (result : Result (Sight UndoneBeside) Fault) → u ≡ t → m ≡ undo_next
-      → (IsGoingBeside d b base s e u last m start old → to_undo u s.log ≢ [] → IsToldOf b beside s.log → TurnBesideKept d b base s e u last m beside old w new result)
-      → IsGoingBeside d b base s e t last undo_next start old → to_undo t s.log ≢ [] → IsToldOf b beside s.log → TurnBesideKept d b base s e t last undo_next beside old w new result
-  turn_as s e t last undo_next u m beside start old w new result owner at kept =
-      subst (λ (n : ℕ). IsGoingBeside d b base s e t last n start old → to_undo t s.log ≢ [] → IsToldOf b beside s.log → TurnBesideKept d b base s e t last n beside old w new result) at
-      (subst (λ (n : ℕ). IsGoingBeside d b base s e n last m start old → to_undo n s.log ≢ [] → IsToldOf b beside s.log → TurnBesideKept d b base s e n last m beside old w new result) owner kept)
+  pub turn_as : (ends : Bool) (s : Writer) (e t last undo_next u m : ℕ) (beside : Beside) (start : PageWriter) (old : D) (w : PageWriter) (new : D) (result : Result (Sight UndoneBeside) Fault) → u ≡ t → m ≡ undo_next
+      → (IsGoingBeside d b base s e u last m start old → to_undo u s.log ≢ [] → IsToldOf b beside s.log → TurnBesideKept d b base ends s e u last m beside old w new result)
+      → IsGoingBeside d b base s e t last undo_next start old → to_undo t s.log ≢ [] → IsToldOf b beside s.log → TurnBesideKept d b base ends s e t last undo_next beside old w new result
+  turn_as ends s e t last undo_next u m beside start old w new result owner at kept =
+      subst (λ (n : ℕ). IsGoingBeside d b base s e t last n start old → to_undo t s.log ≢ [] → IsToldOf b beside s.log → TurnBesideKept d b base ends s e t last n beside old w new result) at
+      (subst (λ (n : ℕ). IsGoingBeside d b base s e n last m start old → to_undo n s.log ≢ [] → IsToldOf b beside s.log → TurnBesideKept d b base ends s e n last m beside old w new result) owner kept)
 
-  pub end_as : (s : Writer) (e t last undo_next u m : ℕ) (start : PageWriter) (old : D) (w : PageWriter) (new : D) (result : Result Undone Fault) → u ≡ t → m ≡ undo_next
-      → (IsGoingBeside d b base s e u last m start old → is_loser u s.log ≡ true → EndIfUndoneBesideKept d b base s e u last m old w new result) → IsGoingBeside d b base s e t last undo_next start old → is_loser t s.log ≡ true
-      → EndIfUndoneBesideKept d b base s e t last undo_next old w new result
-  end_as s e t last undo_next u m start old w new result owner at kept =
-      subst (λ (n : ℕ). IsGoingBeside d b base s e t last n start old → is_loser t s.log ≡ true → EndIfUndoneBesideKept d b base s e t last n old w new result) at
-      (subst (λ (n : ℕ). IsGoingBeside d b base s e n last m start old → is_loser n s.log ≡ true → EndIfUndoneBesideKept d b base s e n last m old w new result) owner kept)
+  pub end_as : (ends : Bool) (s : Writer) (e t last undo_next u m : ℕ) (start : PageWriter) (old : D) (w : PageWriter) (new : D) (result : Result Undone Fault) → u ≡ t → m ≡ undo_next
+      → (IsGoingBeside d b base s e u last m start old → is_loser u s.log ≡ true → EndIfUndoneBesideKept d b base ends s e u last m old w new result) → IsGoingBeside d b base s e t last undo_next start old → is_loser t s.log ≡ true
+      → EndIfUndoneBesideKept d b base ends s e t last undo_next old w new result
+  end_as ends s e t last undo_next u m start old w new result owner at kept =
+      subst (λ (n : ℕ). IsGoingBeside d b base s e t last n start old → is_loser t s.log ≡ true → EndIfUndoneBesideKept d b base ends s e t last n old w new result) at
+      (subst (λ (n : ℕ). IsGoingBeside d b base s e n last m start old → is_loser n s.log ≡ true → EndIfUndoneBesideKept d b base ends s e n last m old w new result) owner kept)
 
   -- ---- the record that closes a change
 
@@ -231,30 +231,30 @@ module _ {D : Type 0} (d : Ghosts D) (b : Base) (base : ℕ) where
 
       module _ (beside : Beside) (none : beside.pages.now ≡ []) (w : PageWriter) (new : D) where
         -- what is seen is made
-        made_sight : (sight : Sight UndoneBeside) → TurnBesideKept d b base closed e t lsn undo_next beside mid w new (Ok sight) → (undone : Undone) × (sight ≡ Seen (Made undone))
-        made_sight (Seen (Made undone)) k = (undone, refl)
-        made_sight (Seen (Splits change)) k = absurd (never_needs k.sound.entry k.sound.next.next (split_needs (settled_pages b closed) (what_of k.sound.entry) _ k.sound.splits.planned.can))
-        made_sight (Seen (Drops change l n)) k = absurd (never_needs k.sound.entry k.sound.next.next (drop_needs (settled_pages b closed) (what_of k.sound.entry) k.sound.drops.page change.images k.sound.drops.planned.can))
-        made_sight Hidden k = absurd (never_hidden (settled b closed.log) beside (page_of k.sound.entry) (what_of k.sound.entry) none k.sound.why)
+        made_sight : (ends : Bool) (sight : Sight UndoneBeside) → TurnBesideKept d b base ends closed e t lsn undo_next beside mid w new (Ok sight) → (undone : Undone) × (sight ≡ Seen (Made undone))
+        made_sight ends (Seen (Made undone)) k = (undone, refl)
+        made_sight ends (Seen (Splits change)) k = absurd (never_needs k.sound.entry k.sound.next.next (split_needs (settled_pages b closed) (what_of k.sound.entry) _ k.sound.splits.planned.can))
+        made_sight ends (Seen (Drops change l n)) k = absurd (never_needs k.sound.entry k.sound.next.next (drop_needs (settled_pages b closed) (what_of k.sound.entry) k.sound.drops.page change.images k.sound.drops.planned.can))
+        made_sight ends Hidden k = absurd (never_hidden (settled b closed.log) beside (page_of k.sound.entry) (what_of k.sound.entry) none k.sound.why)
 
         module _ (old : D) (left : LeavesUndo d b base s t old mid) where
-          pub split_closed : (sight : Sight UndoneBeside) → TurnBesideKept d b base closed e t lsn undo_next beside mid w new (Ok sight) → (result : Result Undone Fault) → IfOk result (λ undone. sight ≡ Seen (Made undone))
-              → IfErr result (λ f. (f ≡ Failed) × ((undone : Undone) → sight ≡ Seen (Made undone) → ⊥)) → CloseBackKept d b base true s e t last undo_next old w new result
-          split_closed sight k (Ok undone) made other =
-              let kept : TurnBesideKept d b base closed e t lsn undo_next beside mid w new (Ok (Seen (Made undone))) = subst (λ (x : Sight UndoneBeside). TurnBesideKept d b base closed e t lsn undo_next beside mid w new (Ok x)) made k in
+          pub split_closed : (ends : Bool) (sight : Sight UndoneBeside) → TurnBesideKept d b base ends closed e t lsn undo_next beside mid w new (Ok sight) → (result : Result Undone Fault) → IfOk result (λ undone. sight ≡ Seen (Made undone))
+              → IfErr result (λ f. (f ≡ Failed) × ((undone : Undone) → sight ≡ Seen (Made undone) → ⊥)) → CloseBackKept d b base true ends s e t last undo_next old w new result
+          split_closed ends sight k (Ok undone) made other =
+              let kept : TurnBesideKept d b base ends closed e t lsn undo_next beside mid w new (Ok (Seen (Made undone))) = subst (λ (x : Sight UndoneBeside). TurnBesideKept d b base ends closed e t lsn undo_next beside mid w new (Ok x)) made k in
               record {
                 sound = record { lsn = lsn; closed = closed; between = between; mid = mid; shut = shut; beside = beside; none = none; turned = kept.sound };
                 stops = left_closed old new left kept.stops;
                 never = tt;
               }
-          split_closed sight k (Err f) made other = let seen = made_sight sight k in absurd (other.1 seen.0 seen.1)
+          split_closed ends sight k (Err f) made other = let seen = made_sight ends sight k in absurd (other.1 seen.0 seen.1)
 
-          pub split_refused : (f answer : Fault) → (f ≡ Memory → answer ≡ Failed) → (f ≢ Memory → answer ≡ f) → TurnBesideKept d b base closed e t lsn undo_next beside mid w new (Err f) → CloseBackKept d b base true s e t last undo_next old w new (Err answer)
-          split_refused f answer memory others k =
+          pub split_refused : (ends : Bool) (f answer : Fault) → (f ≡ Memory → answer ≡ Failed) → (f ≢ Memory → answer ≡ f) → TurnBesideKept d b base ends closed e t lsn undo_next beside mid w new (Err f) → CloseBackKept d b base true ends s e t last undo_next old w new (Err answer)
+          split_refused ends f answer memory others k =
               let short : f ≡ Memory → ⊥ = λ is. (let needs = k.short is in never_needs needs.entry needs.next needs.needs) in
               let used : f ≡ Capacity → ⊥ = λ is. (let used = k.used_up is in never_used used.entry used.next used.used_up) in
               let same : answer ≡ f = others (λ is. short is) in
-              subst (λ (x : Fault). CloseBackKept d b base true s e t last undo_next old w new (Err x)) (sym same) (record {
+              subst (λ (x : Fault). CloseBackKept d b base true ends s e t last undo_next old w new (Err x)) (sym same) (record {
                 sound = k.sound;
                 stops = left_closed old new left k.stops;
                 never = λ is. elim is [ inl memory ↦ short memory | inr more ↦ elim more [ inl capacity ↦ used capacity | inr failed ↦ k.early failed ] ];
@@ -262,11 +262,11 @@ module _ {D : Type 0} (d : Ghosts D) (b : Base) (base : ℕ) where
 
     -- ---- a deletion is closed
 
-    pub drop_closed : (old : D) → LeavesUndo d b base s t old mid → (start w : PageWriter) (new : D) (result : Result Undone Fault) → TurnOutcome d may_be_full start w new (fault_of result) → EndIfUndoneBesideKept d b base closed e t lsn undo_next mid w new result
-        → CloseBackKept d b base false s e t last undo_next old w new result
-    drop_closed old left start w new (Ok undone) one k = record {
-      sound = record { lsn = lsn; closed = closed; between = between; mid = mid; shut = shut; went = went_closed d b base closed e t lsn undo_next w new undone shut.going.can.closed k.sound };
+    pub drop_closed : (ends : Bool) (old : D) → LeavesUndo d b base s t old mid → (start w : PageWriter) (new : D) (result : Result Undone Fault) → TurnOutcome d may_be_full start w new (fault_of result) → EndIfUndoneBesideKept d b base ends closed e t lsn undo_next mid w new result
+        → CloseBackKept d b base false ends s e t last undo_next old w new result
+    drop_closed ends old left start w new (Ok undone) one k = record {
+      sound = record { lsn = lsn; closed = closed; between = between; mid = mid; shut = shut; went = went_closed d b base ends closed e t lsn undo_next w new undone shut.going.can.closed k.sound };
       stops = left_closed old new left k.stops;
       never = tt;
     }
-    drop_closed old left start w new (Err f) one k = record { sound = k.sound; stops = left_closed old new left k.stops; never = full_never d {v = start} (Err f) one }
+    drop_closed ends old left start w new (Err f) one k = record { sound = k.sound; stops = left_closed old new left k.stops; never = full_never d {v = start} (Err f) one }

@@ -1,5 +1,5 @@
 -- One step of a rollback in a store whose structure changes are made page by page.
-use Rattle.std.proofs.Common.{◌≡◌, ◌≢◌, ℕ, zero, suc, true, false, List, [], ◌∷◌, ◌++◌, Option, None, Some, Result, Ok, Err, refl, sym, ◌∙◌, ap, subst, append_assoc}
+use Rattle.std.proofs.Common.{◌≡◌, ◌≢◌, ℕ, zero, suc, Bool, true, false, List, [], ◌∷◌, ◌++◌, Option, None, Some, Result, Ok, Err, refl, sym, ◌∙◌, ap, subst, append_assoc}
 use Rattle.std.specs.Prelude.{IsErrAnd}
 use Rattle.im_base_types.specs.declared.fault.Fault.{Fault}
 use Rattle.im_base_types.specs.declared.fault.Fault.TheVariants.{Device, Failed, LogFull, Memory, NotAStore}
@@ -38,15 +38,14 @@ use Rattle.im_restart_undo.specs.GoingBeside.{IsGoingBeside}
 use Rattle.im_restart_undo.specs.Planning.{NeedsChange}
 use Rattle.im_restart_undo.proofs.Beside.{left_behind, settled_longer}
 use Rattle.im_engine_rollback.specs.declared.undone.Undone.{Undone}
-use Rattle.im_engine_rollback.specs.declared.undone.Undone.TheVariants.{More, Ended}
 use Rattle.im_engine_rollback.specs.declared.undone_beside.UndoneBeside.{UndoneBeside}
 use Rattle.im_engine_rollback.specs.declared.undone_beside.UndoneBeside.TheVariants as turns
 use Rattle.im_engine_rollback.specs.declared.undone_in_steps.UndoneInSteps.{UndoneInSteps}
 use Rattle.im_engine_rollback.specs.declared.undone_in_steps.UndoneInSteps.TheVariants as steps
 use Rattle.im_engine_rollback.specs.Ends.{may_turn, TurnEnds, TurnOutcome}
-use Rattle.im_engine_rollback.specs.InSteps.{FirstLogged, InStepsKept, SplitBegunKept, SteppedBack}
+use Rattle.im_engine_rollback.specs.InSteps.{FirstLogged, InStepsKept, SplitBegunKept}
 use Rattle.im_engine_rollback.specs.SplitsBack.{IsSplitBack}
-use Rattle.im_engine_rollback.specs.TurnsBeside.{DropsBehind, SplitsFirst, TurnBesideKept, TurnedBeside}
+use Rattle.im_engine_rollback.specs.TurnsBeside.{DropsBehind, SplitsFirst, TurnBesideKept}
 use Rattle.im_engine_rollback.proofs.LoggingBack.{drop_needs, split_needs}
 use Rattle.im_engine_rollback.proofs.SplitsBack.{others_leave_splits_back, pages_leave_splits_back, splits_back_begin}
 
@@ -192,22 +191,18 @@ module _ {D : Type 0} (d : Ghosts D) (b : Base) (base : ℕ) where
   -- ---- the turn, so far as it goes
 
   module _ (s : Writer) (e t last undo_next : ℕ) (beside : Beside) (start : PageWriter) (old : D) (g : IsGoingBeside d b base s e t last undo_next start old) (v : PageWriter) (mid : D) where
-    pub step_hidden : TurnBesideKept d b base s e t last undo_next beside old v mid (Ok Hidden) → InStepsKept d b base s e t last undo_next beside old v mid (Ok Hidden)
-    step_hidden k = record { sound = k.sound; stops = k.stops; again = tt; short = tt; used_up = tt; alone = tt; early = tt }
+    pub step_hidden : (ends : Bool) → TurnBesideKept d b base ends s e t last undo_next beside old v mid (Ok Hidden) → InStepsKept d b base ends s e t last undo_next beside old v mid (Ok Hidden)
+    step_hidden ends k = record { sound = k.sound; stops = k.stops; again = tt; short = tt; used_up = tt; alone = tt; early = tt }
 
-    pub step_refused : (f : Fault) → TurnBesideKept d b base s e t last undo_next beside old v mid (Err f) → InStepsKept d b base s e t last undo_next beside old v mid (Err f)
-    step_refused f k = record { sound = k.sound; stops = k.stops; again = k.again; short = k.short; used_up = k.used_up; alone = k.alone; early = k.early }
+    pub step_refused : (ends : Bool) → (f : Fault) → TurnBesideKept d b base ends s e t last undo_next beside old v mid (Err f) → InStepsKept d b base ends s e t last undo_next beside old v mid (Err f)
+    step_refused ends f k = record { sound = k.sound; stops = k.stops; again = k.again; short = k.short; used_up = k.used_up; alone = k.alone; early = k.early }
 
-    step_made_is : (undone : Undone) → TurnedBeside d b base s e t last undo_next beside old v mid (turns.Made undone) → SteppedBack d b base s e t last undo_next beside old v mid (steps.Made undone)
-    step_made_is (More l n) is = is
-    step_made_is Ended is = is
+    pub step_made : (ends : Bool) (undone : Undone) → TurnBesideKept d b base ends s e t last undo_next beside old v mid (Ok (Seen (turns.Made undone))) → InStepsKept d b base ends s e t last undo_next beside old v mid (Ok (Seen (steps.Made undone)))
+    step_made ends undone k = record { sound = k.sound; stops = k.stops; again = tt; short = tt; used_up = tt; alone = tt; early = tt }
 
-    pub step_made : (undone : Undone) → TurnBesideKept d b base s e t last undo_next beside old v mid (Ok (Seen (turns.Made undone))) → InStepsKept d b base s e t last undo_next beside old v mid (Ok (Seen (steps.Made undone)))
-    step_made undone k = record { sound = step_made_is undone k.sound; stops = k.stops; again = tt; short = tt; used_up = tt; alone = tt; early = tt }
-
-    pub step_drops : (plan : PlannedChange) (l n : ℕ) (begun : BegunChange) → (begun.change.images ≡ plan.images) → (begun.change.done ≡ zero) → begun.change.transaction ≡ t → begun.change.last ≡ l → begun.change.undo_next ≡ n → begun.count ≡ plan.count
-        → TurnBesideKept d b base s e t last undo_next beside old v mid (Ok (Seen (turns.Drops plan l n))) → InStepsKept d b base s e t last undo_next beside old v mid (Ok (Seen (steps.Dropping begun)))
-    step_drops plan l n begun pages none owner at leads count k =
+    pub step_drops : (ends : Bool) → (plan : PlannedChange) (l n : ℕ) (begun : BegunChange) → (begun.change.images ≡ plan.images) → (begun.change.done ≡ zero) → begun.change.transaction ≡ t → begun.change.last ≡ l → begun.change.undo_next ≡ n → begun.count ≡ plan.count
+        → TurnBesideKept d b base ends s e t last undo_next beside old v mid (Ok (Seen (turns.Drops plan l n))) → InStepsKept d b base ends s e t last undo_next beside old v mid (Ok (Seen (steps.Dropping begun)))
+    step_drops ends plan l n begun pages none owner at leads count k =
         let drops : DropsBehind d b base s e t begun.change.last n beside k.sound.entry plan old v mid = subst (λ (x : ℕ). DropsBehind d b base s e t x n beside k.sound.entry plan old v mid) (sym at) k.sound.drops in
         record {
           sound = record {
@@ -231,7 +226,7 @@ module _ {D : Type 0} (d : Ghosts D) (b : Base) (base : ℕ) where
 
     -- ---- a split begins
 
-    module _ (plan : PlannedChange) (k : TurnBesideKept d b base s e t last undo_next beside old v mid (Ok (Seen (turns.Splits plan)))) where
+    module _ (ends : Bool) (plan : PlannedChange) (k : TurnBesideKept d b base ends s e t last undo_next beside old v mid (Ok (Seen (turns.Splits plan)))) where
       abbrev splits : SplitsFirst d b base s e t last undo_next beside k.sound.entry plan old v mid
       splits = k.sound.splits
 
@@ -248,7 +243,7 @@ module _ {D : Type 0} (d : Ghosts D) (b : Base) (base : ℕ) where
       needs = split_needs (settled_pages b s) (what_of k.sound.entry) (record { images = plan.images; leaf = splits.leaf }) splits.planned.can
 
       module _ (w : PageWriter) (new : D) where
-        pub step_splits : (begun : BegunChange) → SplitBegunKept d b base splits.now e t last undo_next mid w new (Ok begun) → InStepsKept d b base s e t last undo_next beside old w new (Ok (Seen (steps.Splitting begun)))
+        pub step_splits : (begun : BegunChange) → SplitBegunKept d b base splits.now e t last undo_next mid w new (Ok begun) → InStepsKept d b base ends s e t last undo_next beside old w new (Ok (Seen (steps.Splitting begun)))
         step_splits begun kept = record {
           sound = record { entry = k.sound.entry; next = k.sound.next; needs = needs; alone = splits.planned.clear; first = first_behind s e t last undo_next old splits.now v mid splits.on begun w new kept.sound };
           stops = left_behind d b base s old splits.now v mid splits.on t g.lawful new kept.stops;
@@ -259,7 +254,7 @@ module _ {D : Type 0} (d : Ghosts D) (b : Base) (base : ℕ) where
           early = tt;
         }
 
-        pub step_not_split : (f : Fault) → Logs d false mild v mid w new (Some f) → SplitBegunKept d b base splits.now e t last undo_next mid w new (Err f) → InStepsKept d b base s e t last undo_next beside old w new (Err f)
+        pub step_not_split : (f : Fault) → Logs d false mild v mid w new (Some f) → SplitBegunKept d b base splits.now e t last undo_next mid w new (Err f) → InStepsKept d b base ends s e t last undo_next beside old w new (Err f)
         step_not_split f one kept = record {
           sound = kept.sound;
           stops = left_behind d b base s old splits.now v mid splits.on t g.lawful new kept.stops;
@@ -278,9 +273,9 @@ module _ {D : Type 0} (d : Ghosts D) (b : Base) (base : ℕ) where
   -- ---- refusals that are handed on
 
   module _ (s : Writer) (e t last undo_next : ℕ) (beside : Beside) (old : D) (w : PageWriter) (new : D) (f : Fault) where
-    pub step_on : (result : Result (Sight UndoneInSteps) Fault) → IsErrAnd result (λ x. x ≡ f) → InStepsKept d b base s e t last undo_next beside old w new (Err f) → InStepsKept d b base s e t last undo_next beside old w new result
-    step_on (Ok a) is k = absurd is
-    step_on (Err x) is k = subst (λ (y : Fault). InStepsKept d b base s e t last undo_next beside old w new (Err y)) (sym is) k
+    pub step_on : (ends : Bool) → (result : Result (Sight UndoneInSteps) Fault) → IsErrAnd result (λ x. x ≡ f) → InStepsKept d b base ends s e t last undo_next beside old w new (Err f) → InStepsKept d b base ends s e t last undo_next beside old w new result
+    step_on ends (Ok a) is k = absurd is
+    step_on ends (Err x) is k = subst (λ (y : Fault). InStepsKept d b base ends s e t last undo_next beside old w new (Err y)) (sym is) k
 
   pub begun_on : (s : Writer) (e t last undo_next : ℕ) (old : D) (w : PageWriter) (new : D) (f : Fault) (result : Result BegunChange Fault) → IsErrAnd result (λ x. x ≡ f) → SplitBegunKept d b base s e t last undo_next old w new (Err f)
       → SplitBegunKept d b base s e t last undo_next old w new result

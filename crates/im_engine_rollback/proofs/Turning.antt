@@ -1,5 +1,5 @@
 -- Calls in a row within one turn.
-use Rattle.std.proofs.Common.{◌≡◌, ◌≢◌, ℕ, true, [], Some, refl, sym, ◌∙◌, ap, subst}
+use Rattle.std.proofs.Common.{◌≡◌, ◌≢◌, ℕ, true, [], Some, refl, sym, ◌∙◌, ap, subst, Bool, false}
 use Rattle.std.specs.Prelude.{Result, Ok, Err}
 use Rattle.im_base_types.specs.declared.fault.Fault.{Fault}
 use Rattle.im_base_types.specs.declared.fault.Fault.TheVariants.{Memory}
@@ -54,6 +54,10 @@ module _ {D : Type 0} (d : Ghosts D) (b : Base) (base : ℕ) where
   pub read_stops : (s : Writer) (e t last undo_next : ℕ) (w : PageWriter) (old new : D) → ((c : Files) → d.left_since old (d.moment old) c → d.may_leave old c) → IsGoing d b base s e t last undo_next w old → Reads d old new → LeavesUndo d b base s t old new
   read_stops s e t last undo_next w old new only_now g reads = read_stops_beside s e t last undo_next w old new only_now (closed_beside d b base s e t last undo_next w old g) reads
 
+  -- and where none was made
+  pub none_stops : (s : Writer) (e t last undo_next : ℕ) (w : PageWriter) (old : D) → ((c : Files) → d.left_since old (d.moment old) c → d.may_leave old c) → IsGoingBeside d b base s e t last undo_next w old → LeavesUndo d b base s t old old
+  none_stops s e t last undo_next w old only_now g = left_images d b base s t old old g.lawful (leaves_so_far d b base s old s w.log w.table w.pool old (goes_on_start d b base s w old only_now g.stands).goes)
+
   -- the transaction is as it was after calls that only read
   pub beside_read : (s : Writer) (e t last undo_next : ℕ) (w x : PageWriter) (old new : D) → IsGoingBeside d b base s e t last undo_next w old → StandsAs d b base s x new → IsGoingBeside d b base s e t last undo_next x new
   beside_read s e t last undo_next w x old new g after = record { stands = after; over = g.over; lawful = g.lawful; outside = g.outside; owner = g.owner; unfinished = g.unfinished; row = g.row }
@@ -87,13 +91,15 @@ module _ {D : Type 0} (d : Ghosts D) (b : Base) (base : ℕ) where
     durable = end.durable;
   }
 
-  pub went_closed : (s : Writer) (e t last undo_next : ℕ) (w : PageWriter) (disk : D) (undone : Undone) → open_smo s.log ≡ [] → WentOnBeside d b base s e t last undo_next w disk undone → WentOn d b base s e t last undo_next w disk undone
-  went_closed s e t last undo_next w disk (More l n) closed is = is
-  went_closed s e t last undo_next w disk Ended closed is = (is.0, ended_now s e t last w disk closed is.1)
+  pub went_closed : (ends : Bool) (s : Writer) (e t last undo_next : ℕ) (w : PageWriter) (disk : D) (undone : Undone) → open_smo s.log ≡ [] → WentOnBeside d b base ends s e t last undo_next w disk undone → WentOn d b base ends s e t last undo_next w disk undone
+  went_closed true s e t last undo_next w disk (More l n) closed is = is
+  went_closed true s e t last undo_next w disk Ended closed is = (is.0, ended_now s e t last w disk closed is.1)
+  went_closed false s e t last undo_next w disk (More l n) closed is = is
+  went_closed false s e t last undo_next w disk Ended closed is = is
 
-  pub end_closed : (s : Writer) (e t last undo_next : ℕ) (old : D) (w : PageWriter) (new : D) (result : Result Undone Fault) → open_smo s.log ≡ [] → EndIfUndoneBesideKept d b base s e t last undo_next old w new result → EndIfUndoneKept d b base s e t last undo_next old w new result
-  end_closed s e t last undo_next old w new (Ok undone) closed k = record { sound = went_closed s e t last undo_next w new undone closed k.sound; stops = k.stops }
-  end_closed s e t last undo_next old w new (Err f) closed k = record { sound = k.sound; stops = k.stops }
+  pub end_closed : (ends : Bool) (s : Writer) (e t last undo_next : ℕ) (old : D) (w : PageWriter) (new : D) (result : Result Undone Fault) → open_smo s.log ≡ [] → EndIfUndoneBesideKept d b base ends s e t last undo_next old w new result → EndIfUndoneKept d b base ends s e t last undo_next old w new result
+  end_closed ends s e t last undo_next old w new (Ok undone) closed k = record { sound = went_closed ends s e t last undo_next w new undone closed k.sound; stops = k.stops }
+  end_closed ends s e t last undo_next old w new (Err f) closed k = record { sound = k.sound; stops = k.stops }
 
   -- a change that was taken back after calls that only read
   pub took_behind : (s : Writer) (e t m n : ℕ) (old mid : D) (w : PageWriter) (new : D) → LeavesUndo d b base s t old mid → Took d b base s e t m n mid w new → Took d b base s e t m n old w new
@@ -114,29 +120,34 @@ module _ {D : Type 0} (d : Ghosts D) (b : Base) (base : ℕ) where
       }
 
   -- and one before calls that only read
+  abbrev took_still : (s : Writer) (e t m n : ℕ) (old : D) (v : PageWriter) (mid : D) (w : PageWriter) (new : D) (took : Took d b base s e t m n old v mid) → LeavesUndo d b base s t old new → StandsAs d b base took.taken.now w new → Took d b base s e t m n old w new
+  took_still s e t m n old v mid w new took stops stands =
+      let taken = took.taken in
+      let going = taken.goes.going in
+      record {
+        entry = took.entry;
+        next = took.next;
+        taken = record {
+          now = taken.now;
+          goes = record { going = record { stands = stands; over = going.over; can = going.can; owner = going.owner; unfinished = going.unfinished; row = going.row }; point = taken.goes.point; durable = taken.goes.durable; grows = taken.goes.grows; stops = stops };
+          lsn = taken.lsn;
+          stack = taken.stack;
+          map = taken.map;
+          once = taken.once;
+        };
+        leads = took.leads;
+      }
+
   pub took_before : (s : Writer) (e t m n : ℕ) (old : D) (v : PageWriter) (mid : D) (w : PageWriter) (new : D) (took : Took d b base s e t m n old v mid) → LeavesUndo d b base s t old new → StandsAs d b base took.taken.now w new
       → (l k : ℕ) → l ≡ m → k ≡ n → net t took.taken.now.log ≢ [] → HasMore d b base s e t l k old w new
   took_before s e t m n old v mid w new took stops stands l k is at left =
-      let taken = took.taken in
-      let going = taken.goes.going in
       subst (λ (x : ℕ). HasMore d b base s e t x k old w new) (sym is)
-      (subst (λ (x : ℕ). HasMore d b base s e t m x old w new) (sym at)
-      (record {
-        took = record {
-          entry = took.entry;
-          next = took.next;
-          taken = record {
-            now = taken.now;
-            goes = record { going = record { stands = stands; over = going.over; can = going.can; owner = going.owner; unfinished = going.unfinished; row = going.row }; point = taken.goes.point; durable = taken.goes.durable; grows = taken.goes.grows; stops = stops };
-            lsn = taken.lsn;
-            stack = taken.stack;
-            map = taken.map;
-            once = taken.once;
-          };
-          leads = took.leads;
-        };
-        left = left;
-      }))
+      (subst (λ (x : ℕ). HasMore d b base s e t m x old w new) (sym at) (record { took = took_still s e t m n old v mid w new took stops stands; left = left }))
+
+  pub took_on : (s : Writer) (e t m n : ℕ) (old : D) (v : PageWriter) (mid : D) (w : PageWriter) (new : D) (took : Took d b base s e t m n old v mid) → LeavesUndo d b base s t old new → StandsAs d b base took.taken.now w new
+      → (l k : ℕ) → l ≡ m → k ≡ n → Took d b base s e t l k old w new
+  took_on s e t m n old v mid w new took stops stands l k is at =
+      subst (λ (x : ℕ). Took d b base s e t x k old w new) (sym is) (subst (λ (x : ℕ). Took d b base s e t m x old w new) (sym at) (took_still s e t m n old v mid w new took stops stands))
 
   -- what stands at the LSN is to be taken back
   pub to_undo_so : (s : Writer) (t l : ℕ) (entry : Entry) (at : IsNextAt t l s.log) → logged_at l entry ≡ at.found → IsToUndo d b base s t entry
@@ -178,9 +189,9 @@ module _ {D : Type 0} (d : Ghosts D) (b : Base) (base : ℕ) where
     }
 
   -- a turn that was refused as its one change was, after calls that only read
-  pub turn_refused : (s : Writer) (e t : ℕ) (old : D) (v : PageWriter) (mid : D) → GoesOn d b base s old s v mid → LeavesUndo d b base s t old mid → (w : PageWriter) (new : D) (f : Fault) → TakeKept d b base s e t mid w new (Err f)
-      → TurnKept d b base s e t old w new (Err f)
-  turn_refused s e t old v mid on left w new f k = record {
+  pub turn_refused : (ends : Bool) (s : Writer) (e t : ℕ) (old : D) (v : PageWriter) (mid : D) → GoesOn d b base s old s v mid → LeavesUndo d b base s t old mid → (w : PageWriter) (new : D) (f : Fault) → TakeKept d b base s e t mid w new (Err f)
+      → TurnKept d b base ends s e t old w new (Err f)
+  turn_refused ends s e t old v mid on left w new f k = record {
     sound = k.sound;
     stops = left_both d b base s t old mid new left k.stops;
     again = λ is. let ev = k.again is in record { now = ev.now; on = goes_on_then d b base s old s v mid on ev.now w new ev.on };
@@ -201,15 +212,24 @@ module _ {D : Type 0} (d : Ghosts D) (b : Base) (base : ℕ) where
   going_on s e t m n old w disk took = subst (λ (x : ℕ). IsGoing d b base took.taken.now e t m x w disk) (sym took.leads) took.taken.goes.going
 
   -- calls after a change that was taken back
-  pub turn_then : (s : Writer) (e t m n : ℕ) (old : D) (v : PageWriter) (mid : D) (took : Took d b base s e t m n old v mid) (w : PageWriter) (new : D) (result : Result Undone Fault) → TurnOutcome d may_be_full v w new (fault_of result)
-      → EndIfUndoneKept d b base took.taken.now e t m n mid w new result → TurnKept d b base s e t old w new result
-  turn_then s e t m n old v mid took w new result one k = by result one k
+  pub turn_then : (ends : Bool) (s : Writer) (e t m n : ℕ) (old : D) (v : PageWriter) (mid : D) (took : Took d b base s e t m n old v mid) (w : PageWriter) (new : D) (result : Result Undone Fault) → TurnOutcome d may_be_full v w new (fault_of result)
+      → EndIfUndoneKept d b base ends took.taken.now e t m n mid w new result → TurnKept d b base ends s e t old w new result
+  turn_then ends s e t m n old v mid took w new result one k = by ends result one k
     where
       stops : LeavesUndo d b base took.taken.now t mid new → LeavesUndo d b base s t old new
       stops later = left_then d b base s e t m (prev_of took.entry) old took.taken.now v mid took.taken.goes new later
 
-      by : (r : Result Undone Fault) → TurnOutcome d may_be_full v w new (fault_of r) → EndIfUndoneKept d b base took.taken.now e t m n mid w new r → TurnKept d b base s e t old w new r
-      by (Ok (More l i)) one kept = record {
+      by : (last : Bool) (r : Result Undone Fault) → TurnOutcome d may_be_full v w new (fault_of r) → EndIfUndoneKept d b base last took.taken.now e t m n mid w new r → TurnKept d b base last s e t old w new r
+      by false (Ok (More l i)) one kept = record {
+        sound = took_on s e t m n old v mid w new took (stops kept.stops) kept.sound.2 l i kept.sound.0 kept.sound.1;
+        stops = stops kept.stops;
+        again = tt;
+        short = tt;
+        used_up = tt;
+        begun = tt;
+      }
+      by false (Ok Ended) one kept = absurd kept.sound
+      by true (Ok (More l i)) one kept = record {
         sound = took_before s e t m n old v mid w new took (stops kept.stops) kept.sound.3 l i kept.sound.0 kept.sound.1 kept.sound.2;
         stops = stops kept.stops;
         again = tt;
@@ -217,7 +237,7 @@ module _ {D : Type 0} (d : Ghosts D) (b : Base) (base : ℕ) where
         used_up = tt;
         begun = tt;
       }
-      by (Ok Ended) one kept = record {
+      by true (Ok Ended) one kept = record {
         sound = record { last = m; undo_next = n; between = v; mid = mid; took = took; none = kept.sound.0; end = kept.sound.1 };
         stops = stops kept.stops;
         again = tt;
@@ -225,7 +245,7 @@ module _ {D : Type 0} (d : Ghosts D) (b : Base) (base : ℕ) where
         used_up = tt;
         begun = tt;
       }
-      by (Err f) one kept = record {
+      by last (Err f) one kept = record {
         sound = kept.sound;
         stops = stops kept.stops;
         again = never_memory d {A = Undone} _ (Err f) refl one;

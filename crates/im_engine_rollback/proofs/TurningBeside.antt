@@ -45,7 +45,7 @@ use Rattle.im_engine_rollback.specs.declared.undone_beside.UndoneBeside.{UndoneB
 use Rattle.im_engine_rollback.specs.declared.undone_beside.UndoneBeside.TheVariants.{Made, Splits, Drops}
 use Rattle.im_engine_rollback.specs.Ends.{may_be_full, TurnOutcome}
 use Rattle.im_engine_rollback.specs.EndsBeside.{EndIfUndoneBesideKept}
-use Rattle.im_engine_rollback.specs.TurnsBeside.{BackBesideKept, HasMoreBeside, IsLoggedBack, LoggedBackKept, TakesPlain, TurnBesideKept}
+use Rattle.im_engine_rollback.specs.TurnsBeside.{BackBesideKept, HasMoreBeside, IsLoggedBack, LoggedBackKept, TakesPlain, TookBeside, TurnBesideKept}
 use Rattle.im_engine_rollback.proofs.Ends.{never_capacity, never_failed as never_late, never_memory}
 use Rattle.im_engine_rollback.proofs.LoggingBack.{evicted_short}
 
@@ -205,24 +205,24 @@ module _ {D : Type 0} (d : Ghosts D) (b : Base) (base : ℕ) where
     back_on (Ok a) is k = absurd is
     back_on (Err x) is k = subst (λ (y : Fault). BackBesideKept d b base s e t last undo_next beside old w new (Err y)) (sym is) k
 
-    pub turn_on : (result : Result (Sight UndoneBeside) Fault) → IsErrAnd result (λ x. x ≡ f) → TurnBesideKept d b base s e t last undo_next beside old w new (Err f) → TurnBesideKept d b base s e t last undo_next beside old w new result
-    turn_on (Ok a) is k = absurd is
-    turn_on (Err x) is k = subst (λ (y : Fault). TurnBesideKept d b base s e t last undo_next beside old w new (Err y)) (sym is) k
+    pub turn_on : (ends : Bool) → (result : Result (Sight UndoneBeside) Fault) → IsErrAnd result (λ x. x ≡ f) → TurnBesideKept d b base ends s e t last undo_next beside old w new (Err f) → TurnBesideKept d b base ends s e t last undo_next beside old w new result
+    turn_on ends (Ok a) is k = absurd is
+    turn_on ends (Err x) is k = subst (λ (y : Fault). TurnBesideKept d b base ends s e t last undo_next beside old w new (Err y)) (sym is) k
 
   -- ---- the turn
 
   module _ (s : Writer) (e t last undo_next : ℕ) (beside : Beside) (start : PageWriter) (old : D) (g : IsGoingBeside d b base s e t last undo_next start old) (v : PageWriter) (mid : D) where
-    pub turn_refused : (f : Fault) → BackBesideKept d b base s e t last undo_next beside old v mid (Err f) → TurnBesideKept d b base s e t last undo_next beside old v mid (Err f)
-    turn_refused f k = record { sound = k.sound; stops = k.stops; again = k.again; short = k.short; used_up = k.used_up; alone = k.alone; early = k.early }
+    pub turn_refused : (ends : Bool) → (f : Fault) → BackBesideKept d b base s e t last undo_next beside old v mid (Err f) → TurnBesideKept d b base ends s e t last undo_next beside old v mid (Err f)
+    turn_refused ends f k = record { sound = k.sound; stops = k.stops; again = k.again; short = k.short; used_up = k.used_up; alone = k.alone; early = k.early }
 
-    pub turn_hidden : BackBesideKept d b base s e t last undo_next beside old v mid (Ok Hidden) → TurnBesideKept d b base s e t last undo_next beside old v mid (Ok Hidden)
-    turn_hidden k = record { sound = k.sound; stops = k.stops; again = tt; short = tt; used_up = tt; alone = tt; early = tt }
+    pub turn_hidden : (ends : Bool) → BackBesideKept d b base s e t last undo_next beside old v mid (Ok Hidden) → TurnBesideKept d b base ends s e t last undo_next beside old v mid (Ok Hidden)
+    turn_hidden ends k = record { sound = k.sound; stops = k.stops; again = tt; short = tt; used_up = tt; alone = tt; early = tt }
 
-    pub turn_splits : (change : PlannedChange) → BackBesideKept d b base s e t last undo_next beside old v mid (Ok (Seen (backs.Splits change))) → TurnBesideKept d b base s e t last undo_next beside old v mid (Ok (Seen (Splits change)))
-    turn_splits change k = record { sound = record { entry = k.sound.entry; next = k.sound.next; splits = k.sound.logged }; stops = k.stops; again = tt; short = tt; used_up = tt; alone = tt; early = tt }
+    pub turn_splits : (ends : Bool) → (change : PlannedChange) → BackBesideKept d b base s e t last undo_next beside old v mid (Ok (Seen (backs.Splits change))) → TurnBesideKept d b base ends s e t last undo_next beside old v mid (Ok (Seen (Splits change)))
+    turn_splits ends change k = record { sound = record { entry = k.sound.entry; next = k.sound.next; splits = k.sound.logged }; stops = k.stops; again = tt; short = tt; used_up = tt; alone = tt; early = tt }
 
-    pub turn_drops : (change : PlannedChange) (l n : ℕ) → BackBesideKept d b base s e t last undo_next beside old v mid (Ok (Seen (backs.Drops change l n))) → TurnBesideKept d b base s e t last undo_next beside old v mid (Ok (Seen (Drops change l n)))
-    turn_drops change l n k = record { sound = record { entry = k.sound.entry; next = k.sound.next; drops = k.sound.logged }; stops = k.stops; again = tt; short = tt; used_up = tt; alone = tt; early = tt }
+    pub turn_drops : (ends : Bool) → (change : PlannedChange) (l n : ℕ) → BackBesideKept d b base s e t last undo_next beside old v mid (Ok (Seen (backs.Drops change l n))) → TurnBesideKept d b base ends s e t last undo_next beside old v mid (Ok (Seen (Drops change l n)))
+    turn_drops ends change l n k = record { sound = record { entry = k.sound.entry; next = k.sound.next; drops = k.sound.logged }; stops = k.stops; again = tt; short = tt; used_up = tt; alone = tt; early = tt }
 
     -- ---- the end after a compensation
 
@@ -241,38 +241,50 @@ module _ {D : Type 0} (d : Ghosts D) (b : Base) (base : ℕ) where
         stops : LeavesUndo d b base took.taken.now t mid new → LeavesUndo d b base s t old new
         stops later = left_both d b base s t old mid new k.stops (left_from d b base s t took.taken.now mid new took.taken.durable took.taken.grows later)
 
+        abbrev still : StandsAs d b base took.taken.now w new → LeavesUndo d b base s t old new → TakesPlain d b base s e t l n beside k.sound.entry old w new
+        still stands left = record {
+          page = took.page;
+          planned = took.planned;
+          taken = record {
+            now = took.taken.now;
+            going = record { stands = stands; over = took.taken.going.over; lawful = took.taken.going.lawful; outside = took.taken.going.outside; owner = took.taken.going.owner; unfinished = took.taken.going.unfinished; row = took.taken.going.row };
+            point = took.taken.point;
+            durable = took.taken.durable;
+            grows = took.taken.grows;
+            stops = left;
+            lsn = took.taken.lsn;
+            stack = took.taken.stack;
+            map = took.taken.map;
+            once = took.taken.once;
+            going_on = took.taken.going_on;
+            planned = took.taken.planned;
+            pages = took.taken.pages;
+          };
+          leads = took.leads;
+        }
+
         more : StandsAs d b base took.taken.now w new → LeavesUndo d b base s t old new → net t took.taken.now.log ≢ [] → (m u : ℕ) → m ≡ l → u ≡ n → HasMoreBeside d b base s e t m u beside old w new
         more stands left some m u is at =
             subst (λ (x : ℕ). HasMoreBeside d b base s e t x u beside old w new) (sym is)
-            (subst (λ (x : ℕ). HasMoreBeside d b base s e t l x beside old w new) (sym at)
-            (record {
-              entry = k.sound.entry;
-              next = k.sound.next;
-              took = record {
-                page = took.page;
-                planned = took.planned;
-                taken = record {
-                  now = took.taken.now;
-                  going = record { stands = stands; over = took.taken.going.over; lawful = took.taken.going.lawful; outside = took.taken.going.outside; owner = took.taken.going.owner; unfinished = took.taken.going.unfinished; row = took.taken.going.row };
-                  point = took.taken.point;
-                  durable = took.taken.durable;
-                  grows = took.taken.grows;
-                  stops = left;
-                  lsn = took.taken.lsn;
-                  stack = took.taken.stack;
-                  map = took.taken.map;
-                  once = took.taken.once;
-                  going_on = took.taken.going_on;
-                  planned = took.taken.planned;
-                  pages = took.taken.pages;
-                };
-                leads = took.leads;
-              };
-              left = some;
-            }))
+            (subst (λ (x : ℕ). HasMoreBeside d b base s e t l x beside old w new) (sym at) (record { entry = k.sound.entry; next = k.sound.next; took = still stands left; left = some }))
 
-        pub turn_ends : (undone : Undone) → EndIfUndoneBesideKept d b base took.taken.now e t l n mid w new (Ok undone) → TurnBesideKept d b base s e t last undo_next beside old w new (Ok (Seen (Made undone)))
-        turn_ends (More m u) kept = record {
+        again : StandsAs d b base took.taken.now w new → LeavesUndo d b base s t old new → (m u : ℕ) → m ≡ l → u ≡ n → TookBeside d b base s e t m u beside old w new
+        again stands left m u is at =
+            subst (λ (x : ℕ). TookBeside d b base s e t x u beside old w new) (sym is)
+            (subst (λ (x : ℕ). TookBeside d b base s e t l x beside old w new) (sym at) (record { entry = k.sound.entry; next = k.sound.next; took = still stands left }))
+
+        pub turn_ends : (ends : Bool) (undone : Undone) → EndIfUndoneBesideKept d b base ends took.taken.now e t l n mid w new (Ok undone) → TurnBesideKept d b base ends s e t last undo_next beside old w new (Ok (Seen (Made undone)))
+        turn_ends false (More m u) kept = record {
+          sound = again kept.sound.2 (stops kept.stops) m u kept.sound.0 kept.sound.1;
+          stops = stops kept.stops;
+          again = tt;
+          short = tt;
+          used_up = tt;
+          alone = tt;
+          early = tt;
+        }
+        turn_ends false Ended kept = absurd kept.sound
+        turn_ends true (More m u) kept = record {
           sound = more kept.sound.3 (stops kept.stops) kept.sound.2 m u kept.sound.0 kept.sound.1;
           stops = stops kept.stops;
           again = tt;
@@ -281,7 +293,7 @@ module _ {D : Type 0} (d : Ghosts D) (b : Base) (base : ℕ) where
           alone = tt;
           early = tt;
         }
-        turn_ends Ended kept = record {
+        turn_ends true Ended kept = record {
           sound = record { entry = k.sound.entry; next = k.sound.next; last = l; undo_next = n; between = v; mid = mid; took = took; none = kept.sound.0; end = kept.sound.1 };
           stops = stops kept.stops;
           again = tt;
@@ -291,8 +303,8 @@ module _ {D : Type 0} (d : Ghosts D) (b : Base) (base : ℕ) where
           early = tt;
         }
 
-        pub turn_not_ended : (f : Fault) → TurnOutcome d may_be_full v w new (Some f) → EndIfUndoneBesideKept d b base took.taken.now e t l n mid w new (Err f) → TurnBesideKept d b base s e t last undo_next beside old w new (Err f)
-        turn_not_ended f one kept = record {
+        pub turn_not_ended : (ends : Bool) (f : Fault) → TurnOutcome d may_be_full v w new (Some f) → EndIfUndoneBesideKept d b base ends took.taken.now e t l n mid w new (Err f) → TurnBesideKept d b base ends s e t last undo_next beside old w new (Err f)
+        turn_not_ended ends f one kept = record {
           sound = kept.sound;
           stops = stops kept.stops;
           again = never_memory d {A = Undone} _ (Err f) refl one;

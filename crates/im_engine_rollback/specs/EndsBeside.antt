@@ -1,5 +1,5 @@
 -- The end of a rollback, beside a structure change of another transaction too.
-use Rattle.std.specs.Prelude.{◌≡◌, ◌≢◌, ℕ, [], ◌∷◌, Some, Result}
+use Rattle.std.specs.Prelude.{◌≡◌, ◌≢◌, ℕ, Bool, true, false, [], ◌∷◌, Some, Result}
 use Rattle.im_base_types.specs.declared.fault.Fault.{Fault}
 use Rattle.im_theory_log.specs.Histories.{Base, IsFront}
 use Rattle.im_theory_log.specs.Lawful.{IsLawful}
@@ -36,11 +36,13 @@ module _ {D : Type 0} (d : Ghosts D) (b : Base) (base : ℕ) where
     pub sound : IsSound result (λ _. EndedBeside s e t last w disk)
     pub stops : LeavesUndo d b base s t old disk
 
-  -- after a change that was taken back: others are left, or the transaction has ended
-  abbrev pub WentOnBeside : (s : Writer) (e t last undo_next : ℕ) (w : PageWriter) (disk : D) → Undone → Type 0
-  WentOnBeside s e t last undo_next w disk (More l n) = (l ≡ last) × (n ≡ undo_next) × (net t s.log ≢ []) × StandsAs d b base s w disk
-  WentOnBeside s e t last undo_next w disk Ended = (net t s.log ≡ []) × EndedBeside s e t last w disk
+  -- After a change that was taken back: of a transaction that ends with its last one others are left, or it has ended; one that does not end so goes on, whatever is left.
+  abbrev pub WentOnBeside : (ends : Bool) (s : Writer) (e t last undo_next : ℕ) (w : PageWriter) (disk : D) → Undone → Type 0
+  WentOnBeside true s e t last undo_next w disk (More l n) = (l ≡ last) × (n ≡ undo_next) × (net t s.log ≢ []) × StandsAs d b base s w disk
+  WentOnBeside true s e t last undo_next w disk Ended = (net t s.log ≡ []) × EndedBeside s e t last w disk
+  WentOnBeside false s e t last undo_next w disk (More l n) = (l ≡ last) × (n ≡ undo_next) × StandsAs d b base s w disk
+  WentOnBeside false s e t last undo_next w disk Ended = ⊥
 
-  pub record EndIfUndoneBesideKept (s : Writer) (e t last undo_next : ℕ) (old : D) (w : PageWriter) (disk : D) (result : Result Undone Fault) : Type 0 where
-    pub sound : IsSound result (λ undone. WentOnBeside s e t last undo_next w disk undone)
+  pub record EndIfUndoneBesideKept (ends : Bool) (s : Writer) (e t last undo_next : ℕ) (old : D) (w : PageWriter) (disk : D) (result : Result Undone Fault) : Type 0 where
+    pub sound : IsSound result (λ undone. WentOnBeside ends s e t last undo_next w disk undone)
     pub stops : LeavesUndo d b base s t old disk

@@ -1,5 +1,5 @@
 -- One step of a rollback in a store whose structure changes are made page by page.
-use Rattle.std.specs.Prelude.{◌≡◌, ◌⊎◌, ℕ, zero, suc, true, [], ◌∷◌, Some, Result, IfErr}
+use Rattle.std.specs.Prelude.{◌≡◌, ◌⊎◌, ℕ, zero, suc, Bool, true, [], ◌∷◌, Some, Result, IfErr}
 use Rattle.im_base_types.specs.declared.fault.Fault.{Fault}
 use Rattle.im_base_types.specs.declared.fault.Fault.TheVariants.{Capacity, Failed, Memory}
 use Rattle.im_base_types.specs.Pages.{Body}
@@ -23,11 +23,10 @@ use Rattle.im_restart_undo.specs.declared.back.Back.TheVariants.{Plain}
 use Rattle.im_restart_undo.specs.GoingBeside.{TakenBeside}
 use Rattle.im_restart_undo.specs.Planning.{NeedsChange}
 use Rattle.im_restart_undo.specs.Undoing.{LeavesUndo}
-use Rattle.im_engine_rollback.specs.declared.undone.Undone.TheVariants.{More, Ended}
 use Rattle.im_engine_rollback.specs.declared.undone_in_steps.UndoneInSteps.{UndoneInSteps}
 use Rattle.im_engine_rollback.specs.declared.undone_in_steps.UndoneInSteps.TheVariants.{Made, Splitting, Dropping}
 use Rattle.im_engine_rollback.specs.SplitsBack.{IsSplitBack}
-use Rattle.im_engine_rollback.specs.TurnsBeside.{HasEndedBeside, HasMoreBeside, HasNoWayBack, IsHiddenBack, IsSeenNext, NeedsChangeBack}
+use Rattle.im_engine_rollback.specs.TurnsBeside.{HasNoWayBack, IsHiddenBack, IsSeenNext, MadeBeside, NeedsChangeBack}
 
 -- The change is this transaction's, after which its undo goes on there, and so many of its pages are logged.
 pub record IsBegunBy (t undo_next made : ℕ) (begun : BegunChange) : Type 0 where
@@ -80,15 +79,14 @@ module _ {D : Type 0} (d : Ghosts D) (b : Base) (base : ℕ) where
     pub by : IsBegunBy t (prev_of entry) zero begun
     pub count : begun.count ≡ (settled b taken.now.log 0).leftmost
 
-  abbrev pub SteppedBack : (s : Writer) (e t last undo_next : ℕ) (beside : Beside) (old : D) (w : PageWriter) (disk : D) → UndoneInSteps → Type 0
-  SteppedBack s e t last undo_next beside old w disk (Made (More l n)) = HasMoreBeside d b base s e t l n beside old w disk
-  SteppedBack s e t last undo_next beside old w disk (Made Ended) = HasEndedBeside d b base s e t beside old w disk
-  SteppedBack s e t last undo_next beside old w disk (Splitting begun) = IsSplitting s e t last undo_next beside begun w disk
-  SteppedBack s e t last undo_next beside old w disk (Dropping begun) = IsDropping s e t beside begun old w disk
+  abbrev pub SteppedBack : (ends : Bool) (s : Writer) (e t last undo_next : ℕ) (beside : Beside) (old : D) (w : PageWriter) (disk : D) → UndoneInSteps → Type 0
+  SteppedBack ends s e t last undo_next beside old w disk (Made undone) = MadeBeside d b base ends s e t beside old w disk undone
+  SteppedBack ends s e t last undo_next beside old w disk (Splitting begun) = IsSplitting s e t last undo_next beside begun w disk
+  SteppedBack ends s e t last undo_next beside old w disk (Dropping begun) = IsDropping s e t beside begun old w disk
 
   -- What such a step keeps, refused as `undo_beside` is.
-  pub record InStepsKept (s : Writer) (e t last undo_next : ℕ) (beside : Beside) (old : D) (w : PageWriter) (disk : D) (result : Result (Sight UndoneInSteps) Fault) : Type 0 where
-    pub sound : IsSound result (IfSeen (SteppedBack s e t last undo_next beside old w disk) (IsHiddenBack d b base s t beside old w disk))
+  pub record InStepsKept (ends : Bool) (s : Writer) (e t last undo_next : ℕ) (beside : Beside) (old : D) (w : PageWriter) (disk : D) (result : Result (Sight UndoneInSteps) Fault) : Type 0 where
+    pub sound : IsSound result (IfSeen (SteppedBack ends s e t last undo_next beside old w disk) (IsHiddenBack d b base s t beside old w disk))
     pub stops : LeavesUndo d b base s t old disk
     pub again : IfErr result (λ e. e ≡ Memory → Evicted d b base s old w disk)
     pub short : IfErr result (λ e. e ≡ Memory → NeedsChangeBack d b base s t)

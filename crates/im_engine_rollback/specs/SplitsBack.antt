@@ -26,9 +26,8 @@ use Rattle.im_smo_actions.specs.declared.planned_change.PlannedChange.{PlannedCh
 use Rattle.im_restart_undo.specs.GoingBeside.{IsGoingBeside}
 use Rattle.im_restart_undo.specs.Undoing.{IsGoing, IsToUndo, LeavesUndo}
 use Rattle.im_engine_rollback.specs.declared.undone.Undone.{Undone}
-use Rattle.im_engine_rollback.specs.declared.undone_beside.UndoneBeside.TheVariants.{Made}
 use Rattle.im_engine_rollback.specs.Turns.{WentOn}
-use Rattle.im_engine_rollback.specs.TurnsBeside.{SplitsFirst, TurnedBeside}
+use Rattle.im_engine_rollback.specs.TurnsBeside.{MadeBeside, SplitsFirst}
 
 -- What the split is for: reading from where undo goes on after it comes to a record that dropped this key, and the key's leaf after it is this page, one of its images, with room for the key.
 pub record IsSplitBack (b : Base) (undo_next : ℕ) (images : List Numbered) (log : History) : Type 0 where
@@ -71,7 +70,7 @@ module _ {D : Type 0} (d : Ghosts D) (b : Base) (base : ℕ) where
     pub durable : IsFront s.durable closed.durable
 
   -- A split is closed, and then the key came back by a compensation alone, as in a turn beside no change.
-  pub record SplitClosed (s : Writer) (e t last undo_next : ℕ) (w : PageWriter) (disk : D) (undone : Undone) : Type 0 where
+  pub record SplitClosed (ends : Bool) (s : Writer) (e t last undo_next : ℕ) (w : PageWriter) (disk : D) (undone : Undone) : Type 0 where
     pub lsn : ℕ
     pub closed : Writer
     pub between : PageWriter
@@ -79,24 +78,24 @@ module _ {D : Type 0} (d : Ghosts D) (b : Base) (base : ℕ) where
     pub shut : ClosedBack s e t last undo_next lsn closed between mid
     pub beside : Beside
     pub none : beside.pages.now ≡ []
-    pub turned : TurnedBeside d b base closed e t lsn undo_next beside mid w disk (Made undone)
+    pub turned : MadeBeside d b base ends closed e t beside mid w disk undone
 
-  -- A deletion is closed, and then the transaction ended, where it had nothing left to undo.
-  pub record DropClosed (s : Writer) (e t last undo_next : ℕ) (w : PageWriter) (disk : D) (undone : Undone) : Type 0 where
+  -- A deletion is closed, and then the transaction ended, where it had nothing left to undo and ends so.
+  pub record DropClosed (ends : Bool) (s : Writer) (e t last undo_next : ℕ) (w : PageWriter) (disk : D) (undone : Undone) : Type 0 where
     pub lsn : ℕ
     pub closed : Writer
     pub between : PageWriter
     pub mid : D
     pub shut : ClosedBack s e t last undo_next lsn closed between mid
-    pub went : WentOn d b base closed e t lsn undo_next w disk undone
+    pub went : WentOn d b base ends closed e t lsn undo_next w disk undone
 
-  -- By whether it splits.
-  abbrev pub BackClosed : (splits : Bool) → Writer → (e t last undo_next : ℕ) → PageWriter → D → Undone → Type 0
-  BackClosed true s e t last undo_next w disk undone = SplitClosed s e t last undo_next w disk undone
-  BackClosed false s e t last undo_next w disk undone = DropClosed s e t last undo_next w disk undone
+  -- By whether it splits, and whether the transaction ends with its last change.
+  abbrev pub BackClosed : (splits ends : Bool) → Writer → (e t last undo_next : ℕ) → PageWriter → D → Undone → Type 0
+  BackClosed true ends s e t last undo_next w disk undone = SplitClosed ends s e t last undo_next w disk undone
+  BackClosed false ends s e t last undo_next w disk undone = DropClosed ends s e t last undo_next w disk undone
 
   -- What that keeps. It is refused neither for want of memory nor of page numbers, nor as failed.
-  pub record CloseBackKept (splits : Bool) (s : Writer) (e t last undo_next : ℕ) (old : D) (w : PageWriter) (disk : D) (result : Result Undone Fault) : Type 0 where
-    pub sound : IsSound result (λ undone. BackClosed splits s e t last undo_next w disk undone)
+  pub record CloseBackKept (splits ends : Bool) (s : Writer) (e t last undo_next : ℕ) (old : D) (w : PageWriter) (disk : D) (result : Result Undone Fault) : Type 0 where
+    pub sound : IsSound result (λ undone. BackClosed splits ends s e t last undo_next w disk undone)
     pub stops : LeavesUndo d b base s t old disk
     pub never : IfErr result (λ e. (e ≡ Memory) ⊎ (e ≡ Capacity) ⊎ (e ≡ Failed) → ⊥)

@@ -1,5 +1,5 @@
 -- One turn of a rollback: one change more is taken back, and where it was the last one, the transaction ends.
-use Rattle.std.specs.Prelude.{◌≡◌, ◌≢◌, ℕ, [], ◌∷◌, Some, Result, IfErr}
+use Rattle.std.specs.Prelude.{◌≡◌, ◌≢◌, ℕ, Bool, true, false, [], ◌∷◌, Some, Result, IfErr}
 use Rattle.im_base_types.specs.declared.fault.Fault.{Fault}
 use Rattle.im_base_types.specs.declared.fault.Fault.TheVariants.{Capacity, Failed, Memory}
 use Rattle.im_theory_log.specs.Histories.{Base, IsFront}
@@ -61,13 +61,15 @@ module _ {D : Type 0} (d : Ghosts D) (b : Base) (base : ℕ) where
 
   -- ---- a turn
 
-  -- after a change that was taken back: others are left, or the transaction has ended
-  abbrev pub WentOn : (s : Writer) (e t last undo_next : ℕ) (w : PageWriter) (disk : D) → Undone → Type 0
-  WentOn s e t last undo_next w disk (More l n) = (l ≡ last) × (n ≡ undo_next) × (net t s.log ≢ []) × StandsAs d b base s w disk
-  WentOn s e t last undo_next w disk Ended = (net t s.log ≡ []) × EndedNow s e t last w disk
+  -- After a change that was taken back: of a transaction that ends with its last one others are left, or it has ended; one that does not end so goes on, whatever is left.
+  abbrev pub WentOn : (ends : Bool) (s : Writer) (e t last undo_next : ℕ) (w : PageWriter) (disk : D) → Undone → Type 0
+  WentOn true s e t last undo_next w disk (More l n) = (l ≡ last) × (n ≡ undo_next) × (net t s.log ≢ []) × StandsAs d b base s w disk
+  WentOn true s e t last undo_next w disk Ended = (net t s.log ≡ []) × EndedNow s e t last w disk
+  WentOn false s e t last undo_next w disk (More l n) = (l ≡ last) × (n ≡ undo_next) × StandsAs d b base s w disk
+  WentOn false s e t last undo_next w disk Ended = ⊥
 
-  pub record EndIfUndoneKept (s : Writer) (e t last undo_next : ℕ) (old : D) (w : PageWriter) (disk : D) (result : Result Undone Fault) : Type 0 where
-    pub sound : IsSound result (λ undone. WentOn s e t last undo_next w disk undone)
+  pub record EndIfUndoneKept (ends : Bool) (s : Writer) (e t last undo_next : ℕ) (old : D) (w : PageWriter) (disk : D) (result : Result Undone Fault) : Type 0 where
+    pub sound : IsSound result (λ undone. WentOn ends s e t last undo_next w disk undone)
     pub stops : LeavesUndo d b base s t old disk
 
   -- One change was taken back, and others are left.
@@ -85,13 +87,16 @@ module _ {D : Type 0} (d : Ghosts D) (b : Base) (base : ℕ) where
     pub none : net t took.taken.now.log ≡ []
     pub end : EndedNow took.taken.now e t last w disk
 
-  abbrev pub Turned : (s : Writer) (e t : ℕ) (old : D) (w : PageWriter) (disk : D) → Undone → Type 0
-  Turned s e t old w disk (More last undo_next) = HasMore s e t last undo_next old w disk
-  Turned s e t old w disk Ended = HasEndedNow s e t old w disk
+  -- of one that does not end with its last change, one change was taken back, and no other record joined the log
+  abbrev pub Turned : (ends : Bool) (s : Writer) (e t : ℕ) (old : D) (w : PageWriter) (disk : D) → Undone → Type 0
+  Turned true s e t old w disk (More last undo_next) = HasMore s e t last undo_next old w disk
+  Turned true s e t old w disk Ended = HasEndedNow s e t old w disk
+  Turned false s e t old w disk (More last undo_next) = Took s e t last undo_next old w disk
+  Turned false s e t old w disk Ended = ⊥
 
   -- what a turn keeps; refusals as those of one change
-  pub record TurnKept (s : Writer) (e t : ℕ) (old : D) (w : PageWriter) (disk : D) (result : Result Undone Fault) : Type 0 where
-    pub sound : IsSound result (λ undone. Turned s e t old w disk undone)
+  pub record TurnKept (ends : Bool) (s : Writer) (e t : ℕ) (old : D) (w : PageWriter) (disk : D) (result : Result Undone Fault) : Type 0 where
+    pub sound : IsSound result (λ undone. Turned ends s e t old w disk undone)
     pub stops : LeavesUndo d b base s t old disk
     pub again : IfErr result (λ e. e ≡ Memory → Evicted d b base s old w disk)
     pub short : IfErr result (λ e. e ≡ Memory → LacksRoomBack s t)

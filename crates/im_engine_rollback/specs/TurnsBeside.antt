@@ -1,5 +1,5 @@
 -- One turn of a rollback, beside a structure change of another transaction.
-use Rattle.std.specs.Prelude.{◌≡◌, ◌≢◌, ◌⊎◌, ℕ, false, [], Result, IfErr}
+use Rattle.std.specs.Prelude.{◌≡◌, ◌≢◌, ◌⊎◌, ℕ, Bool, true, false, [], Result, IfErr}
 use Rattle.im_base_types.specs.declared.fault.Fault.{Fault}
 use Rattle.im_base_types.specs.declared.fault.Fault.TheVariants.{Capacity, Failed, Memory}
 use Rattle.im_theory_log.specs.Histories.{Base}
@@ -24,6 +24,7 @@ use Rattle.im_restart_undo.specs.Planning.{HiddenBack, IsBack, NeedsChange}
 use Rattle.im_restart_undo.specs.Undoing.{IsToUndo, LeavesUndo, UsesUp}
 use Rattle.im_engine_rollback.specs.declared.logged_back.LoggedBack.{LoggedBack}
 use Rattle.im_engine_rollback.specs.declared.logged_back.LoggedBack.TheVariants as backs
+use Rattle.im_engine_rollback.specs.declared.undone.Undone.{Undone}
 use Rattle.im_engine_rollback.specs.declared.undone.Undone.TheVariants.{More, Ended}
 use Rattle.im_engine_rollback.specs.declared.undone_beside.UndoneBeside.{UndoneBeside}
 use Rattle.im_engine_rollback.specs.declared.undone_beside.UndoneBeside.TheVariants.{Made, Splits, Drops}
@@ -135,6 +136,12 @@ module _ {D : Type 0} (d : Ghosts D) (b : Base) (base : ℕ) where
     pub none : net t took.taken.now.log ≡ []
     pub end : EndedBeside d b base took.taken.now e t last w disk
 
+  -- One change was taken back, whatever is left.
+  pub record TookBeside (s : Writer) (e t last undo_next : ℕ) (beside : Beside) (old : D) (w : PageWriter) (disk : D) : Type 0 where
+    pub entry : Entry
+    pub next : IsSeenNext s t beside entry
+    pub took : TakesPlain s e t last undo_next beside entry old w disk
+
   -- A split has to be made first.
   pub record MustSplitFirst (s : Writer) (e t last undo_next : ℕ) (beside : Beside) (change : PlannedChange) (old : D) (w : PageWriter) (disk : D) : Type 0 where
     pub entry : Entry
@@ -147,15 +154,21 @@ module _ {D : Type 0} (d : Ghosts D) (b : Base) (base : ℕ) where
     pub next : IsSeenNext s t beside entry
     pub drops : DropsBehind s e t last undo_next beside entry change old w disk
 
-  abbrev pub TurnedBeside : (s : Writer) (e t last undo_next : ℕ) (beside : Beside) (old : D) (w : PageWriter) (disk : D) → UndoneBeside → Type 0
-  TurnedBeside s e t last undo_next beside old w disk (Made (More l n)) = HasMoreBeside s e t l n beside old w disk
-  TurnedBeside s e t last undo_next beside old w disk (Made Ended) = HasEndedBeside s e t beside old w disk
-  TurnedBeside s e t last undo_next beside old w disk (Splits change) = MustSplitFirst s e t last undo_next beside change old w disk
-  TurnedBeside s e t last undo_next beside old w disk (Drops change l n) = MustDropBehind s e t l n beside change old w disk
+  -- It was taken back at once: of a transaction that ends with its last change others are left, or it has ended; of one that does not end so no other record joined the log.
+  abbrev pub MadeBeside : (ends : Bool) (s : Writer) (e t : ℕ) (beside : Beside) (old : D) (w : PageWriter) (disk : D) → Undone → Type 0
+  MadeBeside true s e t beside old w disk (More l n) = HasMoreBeside s e t l n beside old w disk
+  MadeBeside true s e t beside old w disk Ended = HasEndedBeside s e t beside old w disk
+  MadeBeside false s e t beside old w disk (More l n) = TookBeside s e t l n beside old w disk
+  MadeBeside false s e t beside old w disk Ended = ⊥
+
+  abbrev pub TurnedBeside : (ends : Bool) (s : Writer) (e t last undo_next : ℕ) (beside : Beside) (old : D) (w : PageWriter) (disk : D) → UndoneBeside → Type 0
+  TurnedBeside ends s e t last undo_next beside old w disk (Made undone) = MadeBeside ends s e t beside old w disk undone
+  TurnedBeside ends s e t last undo_next beside old w disk (Splits change) = MustSplitFirst s e t last undo_next beside change old w disk
+  TurnedBeside ends s e t last undo_next beside old w disk (Drops change l n) = MustDropBehind s e t l n beside change old w disk
 
   -- What a turn keeps. Refused `Memory` it leaves all as it was, and only a structure change wants it, beside none; `Capacity` comes only where page numbers or levels are used up too; `Failed` never.
-  pub record TurnBesideKept (s : Writer) (e t last undo_next : ℕ) (beside : Beside) (old : D) (w : PageWriter) (disk : D) (result : Result (Sight UndoneBeside) Fault) : Type 0 where
-    pub sound : IsSound result (IfSeen (TurnedBeside s e t last undo_next beside old w disk) (IsHiddenBack s t beside old w disk))
+  pub record TurnBesideKept (ends : Bool) (s : Writer) (e t last undo_next : ℕ) (beside : Beside) (old : D) (w : PageWriter) (disk : D) (result : Result (Sight UndoneBeside) Fault) : Type 0 where
+    pub sound : IsSound result (IfSeen (TurnedBeside ends s e t last undo_next beside old w disk) (IsHiddenBack s t beside old w disk))
     pub stops : LeavesUndo d b base s t old disk
     pub again : IfErr result (λ e. e ≡ Memory → Evicted d b base s old w disk)
     pub short : IfErr result (λ e. e ≡ Memory → NeedsChangeBack s t)

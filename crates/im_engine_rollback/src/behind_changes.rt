@@ -13,7 +13,7 @@ ghost use Rattle.im_engine_rollback.specs.Ends.{may_be_full, may_close, may_turn
 ghost use Rattle.im_engine_rollback.specs.SplitsBack.{IsSplitBack, CloseBackKept};
 
 use crate::step_beside::undo_beside;
-use crate::undo_step::end_if_undone;
+use crate::undo_step::end_or_go_on;
 use crate::undone::Undone;
 use crate::undone_beside::UndoneBeside;
 use im_base_disk::Disk;
@@ -44,6 +44,7 @@ fn close_split<D: Disk>(
     disk: &mut D,
     change: &Change,
     room: &mut [u8],
+    ends: bool,
 ) -> Result<Undone, Fault>
     requires room { 16384 ≤ length room.old }
     requires ready { IsReadyWriter D.Disk writer.old disk.old }
@@ -52,7 +53,7 @@ fn close_split<D: Disk>(
     ensures outcome { TurnOutcome D.Disk may_turn writer.old writer.new disk.new (fault_of result) }
     ensures room { length room.new ≡ length room.old }
     ensures kept { (b : Base) (base : ℕ) (s : Writer) (e : ℕ) → StandsAs D.Disk b base s writer.old disk.old → s.redo_end ≡ Some e → Goes b change.now s.log → IsSplitBack b change.now.undo_next change.now.images s.log
-        → CloseBackKept D.Disk b base true s e change.now.transaction change.now.last change.now.undo_next disk.old writer.new disk.new result }
+        → CloseBackKept D.Disk b base true ends s e change.now.transaction change.now.last change.now.undo_next disk.old writer.new disk.new result }
 {
     let lsn = change.close(writer, disk)?;
     match undo_beside(
@@ -64,6 +65,7 @@ fn close_split<D: Disk>(
         change.undo_next(),
         room,
         Beside::none(),
+        ends,
     ) {
         Ok(sight) => made_of(sight),
         Err(fault) => Err(late(fault)),
@@ -76,6 +78,7 @@ fn close_drop<D: Disk>(
     disk: &mut D,
     change: &Change,
     room: &mut [u8],
+    ends: bool,
 ) -> Result<Undone, Fault>
     requires room { 16384 ≤ length room.old }
     requires ready { IsReadyWriter D.Disk writer.old disk.old }
@@ -84,15 +87,23 @@ fn close_drop<D: Disk>(
     ensures outcome { TurnOutcome D.Disk may_be_full writer.old writer.new disk.new (fault_of result) }
     ensures room { length room.new ≡ length room.old }
     ensures kept { (b : Base) (base : ℕ) (s : Writer) (e : ℕ) → StandsAs D.Disk b base s writer.old disk.old → s.redo_end ≡ Some e → Goes b change.now s.log
-        → CloseBackKept D.Disk b base false s e change.now.transaction change.now.last change.now.undo_next disk.old writer.new disk.new result }
+        → CloseBackKept D.Disk b base false ends s e change.now.transaction change.now.last change.now.undo_next disk.old writer.new disk.new result }
 {
     let lsn = change.close(writer, disk)?;
-    end_if_undone(writer, disk, change.owner(), lsn, change.undo_next(), room)
+    end_or_go_on(
+        writer,
+        disk,
+        change.owner(),
+        lsn,
+        change.undo_next(),
+        room,
+        ends,
+    )
 }
 
 /// Closes a structure change of a rollback whose pages are all logged, and goes on with the turn that it interrupts: the split in front of a
 /// compensation, if it `splits`, and else the deletion of a leaf after one. After a split the record is taken back for which it was made: its key
-/// comes back into the leaf. Where the last change of the transaction is taken back, its End is logged. Records are read into the room, of 16,384 bytes.
+/// comes back into the leaf. Where the last change of the transaction is taken back, and it `ends` so, its End is logged. Records are read into the room, of 16,384 bytes.
 ///
 /// Of a split that `undo_beside` handed out this needs no second one, whatever others logged meanwhile, and is refused only `LogFull` or `Device`.
 /// Of another it may be refused `Failed` or `Capacity`, too. A deletion wants no memory, and is refused only `LogFull`, `Device`, or `NotAStore` where
@@ -104,6 +115,7 @@ pub fn close_back<D: Disk>(
     change: &Change,
     splits: bool,
     room: &mut [u8],
+    ends: bool,
 ) -> Result<Undone, Fault>
     requires room { 16384 ≤ length room.old }
     requires ready { IsReadyWriter D.Disk writer.old disk.old }
@@ -113,10 +125,10 @@ pub fn close_back<D: Disk>(
     ensures room { length room.new ≡ length room.old }
     ensures kept { (b : Base) (base : ℕ) (s : Writer) (e : ℕ) → StandsAs D.Disk b base s writer.old disk.old → s.redo_end ≡ Some e → Goes b change.now s.log
         → (splits ≡ true → IsSplitBack b change.now.undo_next change.now.images s.log)
-        → CloseBackKept D.Disk b base splits s e change.now.transaction change.now.last change.now.undo_next disk.old writer.new disk.new result }
+        → CloseBackKept D.Disk b base splits ends s e change.now.transaction change.now.last change.now.undo_next disk.old writer.new disk.new result }
 {
     if splits {
-        return close_split(alloc, writer, disk, change, room);
+        return close_split(alloc, writer, disk, change, room, ends);
     }
-    close_drop(writer, disk, change, room)
+    close_drop(writer, disk, change, room, ends)
 }

@@ -47,7 +47,7 @@ fn begin_split<D: Disk>(
 
 /// Takes back the newest change that a transaction has left to undo so far as one step goes, beside a structure change of another that may be under
 /// way. It is as `undo_beside` where that makes no structure change. A split that comes first begins, and its first page is logged; a deletion
-/// after the compensation begins, with no page logged.
+/// after the compensation begins, with no page logged. Whether the transaction `ends` with its last change is as there.
 ///
 /// It is hidden where `undo_beside` is. Refused `Memory` only where a structure change is needed, beside none, with all as it was; otherwise as
 /// `undo_beside` is.
@@ -60,6 +60,7 @@ pub fn undo_in_steps<D: Disk>(
     undo_next: Lsn,
     room: &mut [u8],
     beside: Beside<'_>,
+    ends: bool,
 ) -> Result<Sight<UndoneInSteps>, Fault>
     requires room { 16384 ≤ length room.old }
     requires ready { IsReadyWriter D.Disk writer.old disk.old }
@@ -68,7 +69,7 @@ pub fn undo_in_steps<D: Disk>(
     ensures outcome { TurnOutcome D.Disk may_turn writer.old writer.new disk.new (fault_of result) }
     ensures room { length room.new ≡ length room.old }
     ensures kept { (b : Base) (base : ℕ) (s : Writer) (e : ℕ) → IsGoingBeside D.Disk b base s e transaction last undo_next writer.old disk.old → to_undo transaction s.log ≢ [] → IsToldOf b beside.entry s.log
-        → InStepsKept D.Disk b base s e transaction last undo_next beside.entry disk.old writer.new disk.new result }
+        → InStepsKept D.Disk b base ends s e transaction last undo_next beside.entry disk.old writer.new disk.new result }
 {
     let Sight::Seen(undone) = undo_beside(
         alloc,
@@ -79,6 +80,7 @@ pub fn undo_in_steps<D: Disk>(
         undo_next,
         room,
         beside,
+        ends,
     )?
     else {
         return Ok(Sight::Hidden);

@@ -2,12 +2,13 @@
 //!
 //! One transaction rolled back, a change at a time, while others go on.
 //!
-//! `undo_next` takes back the newest change that a transaction has left to undo, and logs its End where that was the last one. It reads
+//! `undo_next` takes back the newest change that a transaction has left to undo, and logs its End where that was the last one and the
+//! transaction `ends` with it; one that returns to a part of its changes does not, and goes on. It reads
 //! the transaction's records from where its undo goes on, and passes over compensations and the ends of structure changes, each of which
 //! names an earlier record; at an insert or a delete it stops, and `im_restart_undo` takes that back, wherever splits have moved its key.
 //!
 //! The contract: in a lawful log with no structure change open, one compensation joins the log, and the tree's map lacks that change
-//! alone; where the transaction's net is empty then, its End joins the log too, and it is unfinished no more. It is not refused
+//! alone; where the transaction's net is empty then, and it ends so, its End joins the log too, and it is unfinished no more. It is not refused
 //! `NotAStore`. A stop at any moment leaves the older log with some of these records (`LeavesUndo`), lawful again.
 //!
 //! `undo_beside` does so in a store whose structure changes are made page by page, beside one of another transaction: it makes none itself, but

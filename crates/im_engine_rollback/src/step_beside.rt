@@ -21,7 +21,7 @@ ghost use Rattle.im_engine_rollback.specs.TurnsBeside.{BackBesideKept, LoggedBac
 
 use crate::logged_back::LoggedBack;
 use crate::next_record::next_key_record;
-use crate::undo_step::end_if_undone;
+use crate::undo_step::end_or_go_on;
 use crate::undone_beside::UndoneBeside;
 use im_base_disk::Disk;
 use im_base_types::{Fault, Lsn, TxnId};
@@ -137,8 +137,8 @@ fn back_at<D: Disk>(
     back_beside(alloc, writer, disk, &record, last, undo_next, beside)
 }
 
-/// Takes back the newest change that a transaction has left to undo, beside a structure change of another that may be under way, and logs
-/// its End where that was the last one. A structure change that it takes is handed out to be made in later steps, with what others are told of it: a
+/// Takes back the newest change that a transaction has left to undo, beside a structure change of another that may be under way. One that `ends`
+/// gets its End where that was the last one. A structure change that it takes is handed out to be made in later steps, with what others are told of it: a
 /// split in front of the compensation, and one that takes an empty leaf out of the tree after it. Records are read into the room, of 16,384 bytes.
 ///
 /// It is hidden, with nothing logged but Images, where the change beside has made the page that the record names, or a page on the way to its key;
@@ -156,6 +156,7 @@ pub fn undo_beside<D: Disk>(
     undo_next: Lsn,
     room: &mut [u8],
     beside: Beside<'_>,
+    ends: bool,
 ) -> Result<Sight<UndoneBeside>, Fault>
     requires room { 16384 ≤ length room.old }
     requires ready { IsReadyWriter D.Disk writer.old disk.old }
@@ -164,7 +165,7 @@ pub fn undo_beside<D: Disk>(
     ensures outcome { TurnOutcome D.Disk may_turn writer.old writer.new disk.new (fault_of result) }
     ensures room { length room.new ≡ length room.old }
     ensures kept { (b : Base) (base : ℕ) (s : Writer) (e : ℕ) → IsGoingBeside D.Disk b base s e transaction last undo_next writer.old disk.old → to_undo transaction s.log ≢ [] → IsToldOf b beside.entry s.log
-        → TurnBesideKept D.Disk b base s e transaction last undo_next beside.entry disk.old writer.new disk.new result }
+        → TurnBesideKept D.Disk b base ends s e transaction last undo_next beside.entry disk.old writer.new disk.new result }
 {
     let lsn = next_key_record(writer, disk, transaction, undo_next, room)?;
     if lsn == 0 {
@@ -186,7 +187,7 @@ pub fn undo_beside<D: Disk>(
     };
     match logged {
         LoggedBack::Taken { last, undo_next } => {
-            let undone = end_if_undone(writer, disk, transaction, last, undo_next, room)?;
+            let undone = end_or_go_on(writer, disk, transaction, last, undo_next, room, ends)?;
             Ok(Sight::Seen(UndoneBeside::Made(undone)))
         }
         LoggedBack::Splits(change) => Ok(Sight::Seen(UndoneBeside::Splits(change))),

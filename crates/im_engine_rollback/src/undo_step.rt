@@ -98,9 +98,9 @@ pub fn end_if_undone<D: Disk>(
     ensures outcome { TurnOutcome D.Disk may_be_full writer.old writer.new disk.new (fault_of result) }
     ensures room { length room.new ≡ length room.old }
     ensures kept { (b : Base) (base : ℕ) (s : Writer) (e : ℕ) → IsGoing D.Disk b base s e transaction last undo_next writer.old disk.old → is_loser transaction s.log ≡ true
-        → EndIfUndoneKept D.Disk b base s e transaction last undo_next disk.old writer.new disk.new result }
+        → EndIfUndoneKept D.Disk b base true s e transaction last undo_next disk.old writer.new disk.new result }
     ensures beside { (b : Base) (base : ℕ) (s : Writer) (e : ℕ) → IsGoingBeside D.Disk b base s e transaction last undo_next writer.old disk.old → is_loser transaction s.log ≡ true
-        → EndIfUndoneBesideKept D.Disk b base s e transaction last undo_next disk.old writer.new disk.new result }
+        → EndIfUndoneBesideKept D.Disk b base true s e transaction last undo_next disk.old writer.new disk.new result }
 {
     let next = next_key_record(writer, disk, transaction, undo_next, room)?;
     if next == 0 {
@@ -110,8 +110,36 @@ pub fn end_if_undone<D: Disk>(
     Ok(Undone::More { last, undo_next })
 }
 
-/// Takes back the newest change that a transaction has left to undo, and logs its End where that was the last one. `last` is the LSN of
-/// its last record, and `undo_next` where its undo goes on. Records are read into the room, of 16,384 bytes.
+// What is left of a transaction whose change was taken back, where it `ends` with its last one. One that does not goes on: nothing is read or logged.
+pub(crate) fn end_or_go_on<D: Disk>(
+    writer: &mut PageWriter,
+    disk: &mut D,
+    transaction: TxnId,
+    last: Lsn,
+    undo_next: Lsn,
+    room: &mut [u8],
+    ends: bool,
+) -> Result<Undone, Fault>
+    requires room { 16384 ≤ length room.old }
+    requires ready { IsReadyWriter D.Disk writer.old disk.old }
+    requires working { writer.old.failed ≡ false }
+    requires owner { 1 ≤ transaction }
+    ensures outcome { TurnOutcome D.Disk may_be_full writer.old writer.new disk.new (fault_of result) }
+    ensures room { length room.new ≡ length room.old }
+    ensures kept { (b : Base) (base : ℕ) (s : Writer) (e : ℕ) → IsGoing D.Disk b base s e transaction last undo_next writer.old disk.old → is_loser transaction s.log ≡ true
+        → EndIfUndoneKept D.Disk b base ends s e transaction last undo_next disk.old writer.new disk.new result }
+    ensures beside { (b : Base) (base : ℕ) (s : Writer) (e : ℕ) → IsGoingBeside D.Disk b base s e transaction last undo_next writer.old disk.old → is_loser transaction s.log ≡ true
+        → EndIfUndoneBesideKept D.Disk b base ends s e transaction last undo_next disk.old writer.new disk.new result }
+{
+    if ends {
+        return end_if_undone(writer, disk, transaction, last, undo_next, room);
+    }
+    Ok(Undone::More { last, undo_next })
+}
+
+/// Takes back the newest change that a transaction has left to undo. One that `ends` gets its End where that was the last one; one that does not
+/// has one compensation more, and goes on. `last` is the LSN of its last record, and `undo_next` where its undo goes on. Records are read into the
+/// room, of 16,384 bytes.
 ///
 /// No lock is asked. Refused `Capacity` only where a key that comes back finds its leaf without room, and page numbers or levels are used
 /// up; `Memory` only where it finds no room either, with all as it was; `Failed` only where memory is wanted after a record of the
@@ -124,6 +152,7 @@ pub fn undo_next<D: Disk>(
     last: Lsn,
     undo_next: Lsn,
     room: &mut [u8],
+    ends: bool,
 ) -> Result<Undone, Fault>
     requires room { 16384 ≤ length room.old }
     requires ready { IsReadyWriter D.Disk writer.old disk.old }
@@ -132,12 +161,12 @@ pub fn undo_next<D: Disk>(
     ensures outcome { TurnOutcome D.Disk may_turn writer.old writer.new disk.new (fault_of result) }
     ensures room { length room.new ≡ length room.old }
     ensures kept { (b : Base) (base : ℕ) (s : Writer) (e : ℕ) → IsGoing D.Disk b base s e transaction last undo_next writer.old disk.old → to_undo transaction s.log ≢ []
-        → TurnKept D.Disk b base s e transaction disk.old writer.new disk.new result }
+        → TurnKept D.Disk b base ends s e transaction disk.old writer.new disk.new result }
 {
     let lsn = next_key_record(writer, disk, transaction, undo_next, room)?;
     if lsn == 0 {
         return Err(Fault::NotAStore);
     }
     let (behind, next) = undo_at(alloc, writer, disk, transaction, last, undo_next, lsn, room)?;
-    end_if_undone(writer, disk, transaction, behind, next, room)
+    end_or_go_on(writer, disk, transaction, behind, next, room, ends)
 }

@@ -19,7 +19,7 @@ returns-in_err-lsn-clause-kept g c b base s e stands over goes =
     }
 
 pub returns-clause-outcome : goal.returns-clause-outcome
-returns-clause-outcome g c = turn_behind g.D.Disk (λ f is. is) (end_turn g.D.Disk c.requires.working c.in_ok-lsn.ensures.outcome) c.end_if_undone.ensures.outcome
+returns-clause-outcome g c = turn_behind g.D.Disk (λ f is. is) (end_turn g.D.Disk c.requires.working c.in_ok-lsn.ensures.outcome) c.end_or_go_on.ensures.outcome
 
 pub returns-clause-kept : goal.returns-clause-kept
 returns-clause-kept g c b base s e stands over goes =
@@ -31,7 +31,7 @@ returns-clause-kept g c b base s e stands over goes =
     let k = c.in_ok-lsn.ensures.kept b base s e stands over in
     let shut = closing g.D.Disk b base s e c.args.writer.now old stands over change c.requires.end goes c.in_ok-lsn.lsn v mid k.sound in
     let left = left_covered g.D.Disk b base s t old mid goes.lawful k.stops in
-    let end = end_as g.D.Disk b base shut.closed e t c.in_ok-lsn.lsn change.undo_next c.owner.result c.undo_next.result v mid c.end_if_undone.new.writer c.end_if_undone.new.disk c.end_if_undone.result c.owner.ensures c.undo_next.ensures
-    (c.end_if_undone.ensures.beside b base shut.closed e) (closed_beside g.D.Disk b base shut.closed e t c.in_ok-lsn.lsn change.undo_next v mid shut.shut.going)
+    let end = end_as g.D.Disk b base c.args.ends shut.closed e t c.in_ok-lsn.lsn change.undo_next c.owner.result c.undo_next.result v mid c.end_or_go_on.new.writer c.end_or_go_on.new.disk c.end_or_go_on.result c.owner.ensures c.undo_next.ensures
+    (c.end_or_go_on.ensures.beside b base shut.closed e) (closed_beside g.D.Disk b base shut.closed e t c.in_ok-lsn.lsn change.undo_next v mid shut.shut.going)
     (closed_loser g.D.Disk b base s e t change.last change.undo_next c.in_ok-lsn.lsn shut.closed v mid shut.shut) in
-    drop_closed g.D.Disk b base s e t change.last change.undo_next c.in_ok-lsn.lsn shut.closed v mid shut.shut old left v c.end_if_undone.new.writer c.end_if_undone.new.disk c.end_if_undone.result c.end_if_undone.ensures.outcome end
+    drop_closed g.D.Disk b base s e t change.last change.undo_next c.in_ok-lsn.lsn shut.closed v mid shut.shut c.args.ends old left v c.end_or_go_on.new.writer c.end_or_go_on.new.disk c.end_or_go_on.result c.end_or_go_on.ensures.outcome end

@@ -59,7 +59,7 @@ returns-in_err-logged-clause-kept g c b base s e going some told =
     let left = read_stops_beside g.D.Disk b base s e t last next w old mid only_now going c.next_key_record.ensures.reads in
     let k : BackBesideKept g.D.Disk b base s e t last next c.args.beside old x late (Err c.in_err-logged.field-0.0) =
     back_read g.D.Disk b base s e t last next c.args.beside (owner_some t going.owner) going.lawful old v mid on left x late (Err c.in_err-logged.field-0.0) (c.in_err-logged.ensures.kept b base s e still (found.1.some c.if-lsn-eq0.false) told) in
-    turn_on g.D.Disk b base s e t last next c.args.beside old x late c.in_err-logged.field-0.0 c.from_residual-in_err-logged.result c.from_residual-in_err-logged.ensures.1 (turn_refused g.D.Disk b base s e t last next c.args.beside w old going x late c.in_err-logged.field-0.0 k)
+    turn_on g.D.Disk b base s e t last next c.args.beside old x late c.in_err-logged.field-0.0 c.args.ends c.from_residual-in_err-logged.result c.from_residual-in_err-logged.ensures.1 (turn_refused g.D.Disk b base s e t last next c.args.beside w old going x late c.args.ends c.in_err-logged.field-0.0 k)
 
 pub returns-in_default-clause-outcome : goal.returns-in_default-clause-outcome
 returns-in_default-clause-outcome g c = turn_behind g.D.Disk (λ f is. is) c.in_ok-lsn.ensures.outcome c.in_ok-logged.ensures.outcome
@@ -83,7 +83,7 @@ returns-in_default-clause-kept g c b base s e going some told =
     let k : BackBesideKept g.D.Disk b base s e t last next c.args.beside old x late (Ok (Hidden)) =
     back_read g.D.Disk b base s e t last next c.args.beside (owner_some t going.owner) going.lawful old v mid on left x late (Ok (Hidden)) (subst (λ (y : Sight LoggedBack). BackBesideKept g.D.Disk b base s e t last next c.args.beside mid x late (Ok y)) (hidden_is c.in_ok-logged.field-0 c.in_default.not-Seen)
     (c.in_ok-logged.ensures.kept b base s e still (found.1.some c.if-lsn-eq0.false) told)) in
-    turn_hidden g.D.Disk b base s e t last next c.args.beside w old going x late k
+    turn_hidden g.D.Disk b base s e t last next c.args.beside w old going x late c.args.ends k
 
 pub returns-in_err-undone-in-Taken-clause-outcome : goal.returns-in_err-undone-in-Taken-clause-outcome
 returns-in_err-undone-in-Taken-clause-outcome g c =
@@ -110,8 +110,8 @@ returns-in_err-undone-in-Taken-clause-kept g c b base s e going some told =
     (c.in_ok-logged.ensures.kept b base s e still (found.1.some c.if-lsn-eq0.false) told)) in
     let f = c.in_err-undone-in-Taken.field-0.0 in
     let end = c.in_err-undone-in-Taken.ensures.beside b base k.sound.logged.taken.now e (goes_on g.D.Disk b base s e t last next c.args.beside w old going x late c.in-Taken.last c.in-Taken.undo_next k) (still_loser g.D.Disk b base s e t last next c.args.beside w old going x late c.in-Taken.last c.in-Taken.undo_next k) in
-    turn_on g.D.Disk b base s e t last next c.args.beside old c.end_if_undone.new.writer c.end_if_undone.new.disk f c.from_residual-in_err-undone-in-Taken.result c.from_residual-in_err-undone-in-Taken.ensures.1
-    (turn_not_ended g.D.Disk b base s e t last next c.args.beside w old going x late c.in-Taken.last c.in-Taken.undo_next k c.end_if_undone.new.writer c.end_if_undone.new.disk f c.in_err-undone-in-Taken.ensures.outcome end)
+    turn_on g.D.Disk b base s e t last next c.args.beside old c.end_or_go_on.new.writer c.end_or_go_on.new.disk f c.args.ends c.from_residual-in_err-undone-in-Taken.result c.from_residual-in_err-undone-in-Taken.ensures.1
+    (turn_not_ended g.D.Disk b base s e t last next c.args.beside w old going x late c.in-Taken.last c.in-Taken.undo_next k c.end_or_go_on.new.writer c.end_or_go_on.new.disk c.args.ends f c.in_err-undone-in-Taken.ensures.outcome end)
 
 pub returns-in_ok-undone-in-Taken-clause-outcome : goal.returns-in_ok-undone-in-Taken-clause-outcome
 returns-in_ok-undone-in-Taken-clause-outcome g c = turn_behind g.D.Disk full_may (turn_behind g.D.Disk (λ f is. is) c.in_ok-lsn.ensures.outcome c.in_ok-logged.ensures.outcome) c.in_ok-undone-in-Taken.ensures.outcome
@@ -136,7 +136,7 @@ returns-in_ok-undone-in-Taken-clause-kept g c b base s e going some told =
     back_read g.D.Disk b base s e t last next c.args.beside (owner_some t going.owner) going.lawful old v mid on left x late (Ok (Seen (backs.Taken c.in-Taken.last c.in-Taken.undo_next))) (subst (λ (y : Sight LoggedBack). BackBesideKept g.D.Disk b base s e t last next c.args.beside mid x late (Ok y)) (c.in-Seen.is ∙ ap Seen c.in-Taken.is)
     (c.in_ok-logged.ensures.kept b base s e still (found.1.some c.if-lsn-eq0.false) told)) in
     let end = c.in_ok-undone-in-Taken.ensures.beside b base k.sound.logged.taken.now e (goes_on g.D.Disk b base s e t last next c.args.beside w old going x late c.in-Taken.last c.in-Taken.undo_next k) (still_loser g.D.Disk b base s e t last next c.args.beside w old going x late c.in-Taken.last c.in-Taken.undo_next k) in
-    turn_ends g.D.Disk b base s e t last next c.args.beside w old going x late c.in-Taken.last c.in-Taken.undo_next k c.end_if_undone.new.writer c.end_if_undone.new.disk c.in_ok-undone-in-Taken.undone end
+    turn_ends g.D.Disk b base s e t last next c.args.beside w old going x late c.in-Taken.last c.in-Taken.undo_next k c.end_or_go_on.new.writer c.end_or_go_on.new.disk c.args.ends c.in_ok-undone-in-Taken.undone end
 
 pub returns-in-Splits-clause-outcome : goal.returns-in-Splits-clause-outcome
 returns-in-Splits-clause-outcome g c = turn_behind g.D.Disk (λ f is. is) c.in_ok-lsn.ensures.outcome c.in_ok-logged.ensures.outcome
@@ -160,7 +160,7 @@ returns-in-Splits-clause-kept g c b base s e going some told =
     let k : BackBesideKept g.D.Disk b base s e t last next c.args.beside old x late (Ok (Seen (backs.Splits c.in-Splits.change))) =
     back_read g.D.Disk b base s e t last next c.args.beside (owner_some t going.owner) going.lawful old v mid on left x late (Ok (Seen (backs.Splits c.in-Splits.change))) (subst (λ (y : Sight LoggedBack). BackBesideKept g.D.Disk b base s e t last next c.args.beside mid x late (Ok y)) (c.in-Seen.is ∙ ap Seen c.in-Splits.is)
     (c.in_ok-logged.ensures.kept b base s e still (found.1.some c.if-lsn-eq0.false) told)) in
-    turn_splits g.D.Disk b base s e t last next c.args.beside w old going x late c.in-Splits.change k
+    turn_splits g.D.Disk b base s e t last next c.args.beside w old going x late c.args.ends c.in-Splits.change k
 
 pub returns-in-Drops-clause-outcome : goal.returns-in-Drops-clause-outcome
 returns-in-Drops-clause-outcome g c = turn_behind g.D.Disk (λ f is. is) c.in_ok-lsn.ensures.outcome c.in_ok-logged.ensures.outcome
@@ -184,4 +184,4 @@ returns-in-Drops-clause-kept g c b base s e going some told =
     let k : BackBesideKept g.D.Disk b base s e t last next c.args.beside old x late (Ok (Seen (backs.Drops c.in-Drops.change c.in-Drops.last c.in-Drops.undo_next))) =
     back_read g.D.Disk b base s e t last next c.args.beside (owner_some t going.owner) going.lawful old v mid on left x late (Ok (Seen (backs.Drops c.in-Drops.change c.in-Drops.last c.in-Drops.undo_next))) (subst (λ (y : Sight LoggedBack). BackBesideKept g.D.Disk b base s e t last next c.args.beside mid x late (Ok y)) (c.in-Seen.is ∙ ap Seen c.in-Drops.is)
     (c.in_ok-logged.ensures.kept b base s e still (found.1.some c.if-lsn-eq0.false) told)) in
-    turn_drops g.D.Disk b base s e t last next c.args.beside w old going x late c.in-Drops.change c.in-Drops.last c.in-Drops.undo_next k
+    turn_drops g.D.Disk b base s e t last next c.args.beside w old going x late c.args.ends c.in-Drops.change c.in-Drops.last c.in-Drops.undo_next k

@@ -1,4 +1,4 @@
-use Rattle.std.proofs.Common.{Ok, refl}
+use Rattle.std.proofs.Common.{true, Ok, refl}
 use Rattle.im_page_writer.proofs.Outcomes.{sound_on}
 use Rattle.im_restart_undo.proofs.Growth.{left_both}
 use Rattle.im_engine_rollback.specs.declared.undone.Undone.TheVariants.{More, Ended}
@@ -73,20 +73,20 @@ returns-clause-beside g c b base s e going loser =
 
 pub returns-in_err-next-clause-kept : goal.returns-in_err-next-clause-kept
 returns-in_err-next-clause-kept g c b base s e going loser =
-    end_closed g.D.Disk b base s e c.args.transaction c.args.last c.args.undo_next c.args.disk.now c.next_key_record.new.writer c.next_key_record.new.disk c.from_residual.result going.can.closed
+    end_closed g.D.Disk b base true s e c.args.transaction c.args.last c.args.undo_next c.args.disk.now c.next_key_record.new.writer c.next_key_record.new.disk c.from_residual.result going.can.closed
     (returns-in_err-next-clause-beside g c b base s e (closed_beside g.D.Disk b base s e c.args.transaction c.args.last c.args.undo_next c.args.writer.now c.args.disk.now going) loser)
 
 pub returns-in_err-log_end-clause-kept : goal.returns-in_err-log_end-clause-kept
 returns-in_err-log_end-clause-kept g c b base s e going loser =
-    end_closed g.D.Disk b base s e c.args.transaction c.args.last c.args.undo_next c.args.disk.now c.log_end.new.writer c.log_end.new.disk c.from_residual-in_err-log_end.result going.can.closed
+    end_closed g.D.Disk b base true s e c.args.transaction c.args.last c.args.undo_next c.args.disk.now c.log_end.new.writer c.log_end.new.disk c.from_residual-in_err-log_end.result going.can.closed
     (returns-in_err-log_end-clause-beside g c b base s e (closed_beside g.D.Disk b base s e c.args.transaction c.args.last c.args.undo_next c.args.writer.now c.args.disk.now going) loser)
 
 pub returns-then-next-eq0-clause-kept : goal.returns-then-next-eq0-clause-kept
 returns-then-next-eq0-clause-kept g c b base s e going loser =
-    end_closed g.D.Disk b base s e c.args.transaction c.args.last c.args.undo_next c.args.disk.now c.log_end.new.writer c.log_end.new.disk (Ok Ended) going.can.closed
+    end_closed g.D.Disk b base true s e c.args.transaction c.args.last c.args.undo_next c.args.disk.now c.log_end.new.writer c.log_end.new.disk (Ok Ended) going.can.closed
     (returns-then-next-eq0-clause-beside g c b base s e (closed_beside g.D.Disk b base s e c.args.transaction c.args.last c.args.undo_next c.args.writer.now c.args.disk.now going) loser)
 
 pub returns-clause-kept : goal.returns-clause-kept
 returns-clause-kept g c b base s e going loser =
-    end_closed g.D.Disk b base s e c.args.transaction c.args.last c.args.undo_next c.args.disk.now c.next_key_record.new.writer c.next_key_record.new.disk (Ok (More c.args.last c.args.undo_next)) going.can.closed
+    end_closed g.D.Disk b base true s e c.args.transaction c.args.last c.args.undo_next c.args.disk.now c.next_key_record.new.writer c.next_key_record.new.disk (Ok (More c.args.last c.args.undo_next)) going.can.closed
     (returns-clause-beside g c b base s e (closed_beside g.D.Disk b base s e c.args.transaction c.args.last c.args.undo_next c.args.writer.now c.args.disk.now going) loser)

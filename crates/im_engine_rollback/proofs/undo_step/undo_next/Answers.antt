@@ -48,7 +48,7 @@ returns-in_err-behind-clause-kept g c b base s e going some =
     let k = c.in_ok-lsn.ensures.kept b base s e last (closed_beside g.D.Disk b base s e t last next w old going) in
     let only_now = g.met.D.Disk.only_now old in
     let still = going_read g.D.Disk b base s e t last next w v old mid going k.0 in
-    let r = turn_refused g.D.Disk b base s e t old v mid (read_on g.D.Disk b base s w v old mid only_now going.stands c.next_key_record.ensures.reads k.0) (read_stops g.D.Disk b base s e t last next w old mid only_now going c.next_key_record.ensures.reads)
+    let r = turn_refused g.D.Disk b base c.args.ends s e t old v mid (read_on g.D.Disk b base s w v old mid only_now going.stands c.next_key_record.ensures.reads k.0) (read_stops g.D.Disk b base s e t last next w old mid only_now going c.next_key_record.ensures.reads)
     c.undo_at.new.writer c.undo_at.new.disk f (c.in_err-behind.ensures.kept b base s e still (k.1.some c.if-lsn-eq0.false)) in
     record {
       sound = sound_on c.from_residual-in_err-behind.result _ _ c.from_residual-in_err-behind.ensures.1 r.sound;
@@ -60,7 +60,7 @@ returns-in_err-behind-clause-kept g c b base s e going some =
     }
 
 pub returns-clause-outcome : goal.returns-clause-outcome
-returns-clause-outcome g c = turn_behind g.D.Disk full_may (turn_behind g.D.Disk (λ f is. is) c.in_ok-lsn.ensures.outcome c.in_ok-behind.ensures.outcome) c.end_if_undone.ensures.outcome
+returns-clause-outcome g c = turn_behind g.D.Disk full_may (turn_behind g.D.Disk (λ f is. is) c.in_ok-lsn.ensures.outcome c.in_ok-behind.ensures.outcome) c.end_or_go_on.ensures.outcome
 
 pub returns-clause-kept : goal.returns-clause-kept
 returns-clause-kept g c b base s e going some =
@@ -80,5 +80,5 @@ returns-clause-kept g c b base s e going some =
     let took : Took g.D.Disk b base s e t c.in_ok-behind.behind c.in_ok-behind.next old x late =
     took_behind g.D.Disk b base s e t c.in_ok-behind.behind c.in_ok-behind.next old mid x late (read_stops g.D.Disk b base s e t last next w old mid only_now going c.next_key_record.ensures.reads) taken.sound in
     let loser = loser_on g.D.Disk b base s e t c.in_ok-behind.behind c.in_ok-behind.next c.in_ok-lsn.lsn last next w old old x late going (k.1.some c.if-lsn-eq0.false) took in
-    let rest = c.end_if_undone.ensures.kept b base took.taken.now e (going_on g.D.Disk b base s e t c.in_ok-behind.behind c.in_ok-behind.next old x late took) loser in
-    turn_then g.D.Disk b base s e t c.in_ok-behind.behind c.in_ok-behind.next old x late took c.end_if_undone.new.writer c.end_if_undone.new.disk c.end_if_undone.result c.end_if_undone.ensures.outcome rest
+    let rest = c.end_or_go_on.ensures.kept b base took.taken.now e (going_on g.D.Disk b base s e t c.in_ok-behind.behind c.in_ok-behind.next old x late took) loser in
+    turn_then g.D.Disk b base c.args.ends s e t c.in_ok-behind.behind c.in_ok-behind.next old x late took c.end_or_go_on.new.writer c.end_or_go_on.new.disk c.end_or_go_on.result c.end_or_go_on.ensures.outcome rest
