@@ -1,7 +1,7 @@
 -- A run of the machine is as good as its transactions alone, by its steps and replies.
 use Rattle.std.proofs.Common.{◌≡◌, inl, inr, ⊎_elim, ℕ, true, List, [], ◌∷◌, ◌++◌, refl, sym, subst, ◌∙◌}
 use Rattle.im_base_types.specs.Maps.{IndexMap}
-use Rattle.im_base_types.specs.Answers.{Step, Reply, Rollback, Mark, Committing, Going, MustRollBack}
+use Rattle.im_base_types.specs.Answers.{Step, Reply, Rollback, RollTo, Mark, Committing, Going, MustRollBack}
 use Rattle.im_theory_machine.specs.View.{View, MayRollBack, is_among}
 use Rattle.im_theory_machine.specs.Machine.{Moves, Run, start}
 use Rattle.im_theory_machine.specs.Isolation.{IsReplay, finished}
@@ -37,6 +37,9 @@ as_alone base first trace last run =
           let here = iso.rolled_back front rest c.at c.next last c.before t reply which c.moves c.after in
           let then = subst (λ (m : IndexMap). IsReplay m (finished t (front ++ (Rollback t, reply) ∷ rest))) (iso.in_order front c.at c.before).0 here in
           subst (λ (es : List (Step × Reply)). IsReplay (committed_map base front) (finished t es)) (sym is) then;
+      returned = λ front rest t left reply is which.
+          let c = cut (start base first) last front rest (RollTo t left, reply) (subst (λ (es : List (Step × Reply)). Run (start base first) es last) is run) in
+          subst (λ (m : IndexMap). IsReplay m (finished t front)) (iso.in_order front c.at c.before).0 (iso.returned front c.at c.next c.before t left reply which c.moves);
       going = λ t either.
           subst (λ (m : IndexMap). IsReplay m (finished t trace)) order.0 (iso.going trace last run t
           (⊎_elim (λ may. inl (mark_is _ _ ((runs_commit base first trace last run).shown.marks t) may))

@@ -192,6 +192,6 @@ module _ {D : Type 0} (d : Ghosts D) (before : List Effect) where
             subst (λ (held : Table). IsServing x.b x.earlier before nothing_shown v x.now.log e.txns.rows e.txns.next held) (sym locks)
             (subst (λ (list : List Transaction). IsServing x.b x.earlier before nothing_shown v x.now.log list e.txns.next []) (sym rows) counts);
         commits = commits_stand.begins x.earlier before x.now.durable x.now.log (sym x.is) (ap committed x.durable);
-        numbered = λ le. subst (λ (n : ℕ). AreBelow n x.now.log) (sym number) (x.numbered (subst (λ (n : ℕ). 1 ≤ n) number e.numbered.0) (subst (λ (n : ℕ). n ≤ 2 ^ 62) number le));
+        numbered = λ le. subst (λ (n : ℕ). AreBelow n x.now.log) (sym number) (x.numbered (subst (λ (n : ℕ). 1 ≤ n) number e.numbered) (subst (λ (n : ℕ). n ≤ 2 ^ 62) number le));
         same = ap under_of (sym none);
       })

@@ -201,8 +201,9 @@ is_emptied t rows row found some zero_is = subst IsEmptied (sym found) (some, ze
 -- ---- a RollTo
 
 module _ {D : Type 0} (d : Ghosts D) (old : Engine D d) (log : LogFile) (disk : D) (works : old.failed ≡ false) (t left : ℕ) (checked : checked_by old.txns.rows (owns_in (under_of old.under) (answers.RollTo t left)) (answers.RollTo t left) ≡ None) where
-  pub return_refused : Answers d old log disk (answers.RollTo t left) (Refused faults.NoTransaction)
-  return_refused = behind d old log disk works (answers.RollTo t left) (Refused faults.NoTransaction) checked (λ fault. named faults.NoTransaction fault faults.NoTransaction refl)
+  -- after the checks it is never refused
+  pub return_made : (reply : Reply) → ((x : Fault) → reply ≢ Refused x) → Answers d old log disk (answers.RollTo t left) reply
+  return_made reply not = behind d old log disk works (answers.RollTo t left) reply checked (λ fault. none (not fault))
 
 -- ---- a Commit
 

@@ -88,5 +88,9 @@ pub back_found : (rows : List Transaction) (owns : Bool) (t : ℕ) → find (is_
 back_found rows owns t none is = let never = sym (ap (λ (o : Option Transaction). barred_to_rollback (mark_at o)) none) ∙ first_of (barred_to_rollback (mark_at (find (is_of t) rows))) (fault_if owns unfinished) is in cc never
 
 -- so it does not wait for a force
+pub either_done : (m : Mark) → (m ≡ Going) ⊎ (m ≡ MustRollBack) → is_committing m ≡ false
+either_done m (inl e) = ap is_committing e
+either_done m (inr e) = ap is_committing e
+
 pub access_free : (rows : List Transaction) (owns : Bool) (t : ℕ) (a : Access) → checked_by rows owns (Do t a) ≡ None → waits_at (find (is_of t) rows) ≡ false
 access_free rows owns t a is = let g = access_going rows _ t a is in ap waits_at g.found ∙ ap is_committing g.mark

@@ -9,7 +9,7 @@ use Rattle.im_base_types.specs.Pages.{Page}
 use Rattle.im_engine.specs.Faults.{told_as}
 use Rattle.im_engine.proofs.Refused.{breaks_with}
 use Rattle.im_base_types.specs.Answers as answers
-use Rattle.im_base_types.specs.Answers.{Begin, Started, Commit, Committed, Rollback, RolledBack, More, Force, FlushPage, Done, Refused}
+use Rattle.im_base_types.specs.Answers.{Begin, Started, Commit, Committed, Rollback, RolledBack, RollTo, More, Force, FlushPage, Done, Refused}
 use Rattle.im_base_types.specs.Changes.{Effect, seen_effect}
 use Rattle.im_theory_log.specs.Histories.{Base, History, Rises, end_of}
 use Rattle.im_theory_log.specs.Lawful.{IsLawful, Follows, IsOutside}
@@ -36,7 +36,7 @@ use Rattle.im_theory_tree.proofs.TheoryLaws.{page_tree_laws}
 use Rattle.im_base_txn.specs.Rows.{AreRising, begun as row_begun, is_of, is_committing, changed, with_mark, waiting_in, waiting_numbers, without_waiting}
 use Rattle.im_base_txn.specs.LookUps.{without}
 use Rattle.im_base_txn.specs.declared.transaction.Mark.{Mark}
-use Rattle.im_base_txn.specs.declared.transaction.Mark.TheVariants.{Going, MustRollBack, RollingBack, Committing}
+use Rattle.im_base_txn.specs.declared.transaction.Mark.TheVariants.{Going, MustRollBack, RollingBack, Returning, Committing}
 use Rattle.im_base_txn.specs.declared.transaction.Transaction.{Transaction}
 use Rattle.im_theory_machine.specs.Table.{Table, AreReleased, IsReleased, locks_of}
 use Rattle.im_theory_machine.specs.View.{View, begun, marked, committed_by, dropped_by, queued, forced_by, is_among, owns_in, pending_of, owner_in, owner_of}
@@ -44,20 +44,21 @@ use Rattle.im_theory_machine.specs.Machine.{Breaks, barred, fault_if}
 use Rattle.im_theory_steps.specs.Checks.{checked_by}
 use Rattle.im_theory_steps.specs.Durable.{AreCommitted}
 use Rattle.im_theory_steps.specs.Growth.{AreBelow, Stays, IsOfAll}
-use Rattle.im_theory_steps.specs.Serving.{IsServing, mark_of}
-use Rattle.im_theory_steps.proofs.Cited.{empty_asked, copies_are_images, images_change_nothing, numbers_stay_new, unlogged, commits_stand, others_ask_nothing, cut_commits_stand, commit_commits, logged_commits_served, logged_commits_wait, effect_shown, at, mark_free, unlogged_commits_served, begins_served, drops_served, turns_served, flushes_served, forces_served, some_stand}
+use Rattle.im_theory_steps.specs.Serving.{IsServed, IsServing, mark_of}
+use Rattle.im_theory_steps.proofs.Cited.{empty_asked, copies_are_images, images_change_nothing, numbers_stay_new, unlogged, commits_stand, others_ask_nothing, cut_commits_stand, commit_commits, logged_commits_served, logged_commits_wait, effect_shown, at, mark_free, unlogged_commits_served, begins_served, drops_served, returns_stay, returns_turn, turns_served, flushes_served, forces_served, some_stand}
 use Rattle.im_theory_steps.specs.Steps.{commit_record}
 use Rattle.im_engine.specs.declared.engine.Engine.{Engine}
 use Rattle.im_engine.specs.Numbered.{Numbered}
 use Rattle.im_engine.specs.Stands.{Allowed}
 use Rattle.im_engine.specs.Running.{IsRunning, IsLife}
-use Rattle.im_engine.specs.Kept.{StepKept}
+use Rattle.im_engine.specs.Kept.{IsDone, StepKept}
 use Rattle.im_engine.proofs.Stands.{covered_allowed}
 use Rattle.im_engine.specs.declared.stepped.Under.{Under}
 use Rattle.im_engine.specs.Aims.{IsChanging, under_of}
 use Rattle.im_engine.proofs.GoingOn.{record_goes}
 use Rattle.im_engine.proofs.Running.{outside_of, not_owner, nothing_pending, checks_tell, allowed_as, tells, none_waits, page_is, read_stops, covered_stops, idle_stops, runs_on}
-use Rattle.im_engine.specs.Growing.{no_records, with_records, without_records}
+use Rattle.im_engine.specs.Growing.{GrowsAs, no_records, with_records, without_records}
+use Rattle.im_page_table.specs.DirtyTable.{FitsRecord}
 use Rattle.im_engine.proofs.Made.{step_made, step_broke, leaves_as}
 use Rattle.im_engine.proofs.Waits.{out_of, not_waiting, nobody, left_rows, left_count, left_locks}
 
@@ -148,7 +149,7 @@ module _ {D : Type 0} (d : Ghosts D) (before : List Effect) (s : Shown) (v : Vie
         let r = run.1 in
         let le_old : old.txns.next ≤ 2 ^ 62 = subst (λ (n : ℕ). n ≤ 2 ^ 62) is le in
         let below = r.numbered le_old in
-        let served = begins_served run.0 r.earlier before s v r.now.log old.txns.rows old.txns.next old.locks r.serving (numbers_stay_new.none old.txns.next r.now.log below) old.numbered.0 le_old few in
+        let served = begins_served run.0 r.earlier before s v r.now.log old.txns.rows old.txns.next old.locks r.serving (numbers_stay_new.none old.txns.next r.now.log below) old.numbered le_old few in
         let after : Numbered = record old.txns { rows = old.txns.rows ++ row_begun old.txns.next ∷ []; next = suc old.txns.next } in
         let next_is : number + 1 ≡ suc old.txns.next = omega (arith, is) in
         let table_is : new.txns ≡ after = table ∙ ap (λ (n : ℕ). record old.txns { rows = old.txns.rows ++ row_begun n ∷ []; next = number + 1 }) is ∙ ap (λ (n : ℕ). record old.txns { rows = old.txns.rows ++ row_begun old.txns.next ∷ []; next = n }) next_is in
@@ -184,20 +185,40 @@ module _ {D : Type 0} (d : Ghosts D) (before : List Effect) (s : Shown) (v : Vie
           let last_is : last_of t r.now.log ≡ 0 = sym (is.1.last ∙ ap (λ (n : ℕ). last_of n r.now.log) is.0) ∙ none in
           step_made d before s v (Rollback t) RolledBack old new w served.0 running works_on (stops_here (shows s (Rollback t) None) refl) tt r (no_records last_is refl)
 
-      -- it has changes left, and is marked
-      pub turned : 1 ≤ row.changes → new.locks ≡ old.locks → new.txns ≡ record old.txns { rows = map (changed t (with_mark RollingBack)) old.txns.rows } → new.failed ≡ false → StepKept d before s v (Rollback t) More old new
+      -- its mark is another, and all else is as it was
+      remarked : (step : answers.Step) (reply : answers.Reply) (m : Mark) (w : View) → w.under ≡ v.under → IsServed run.0 run.1.earlier before s v step reply w run.1.now.log (map (changed t (with_mark m)) old.txns.rows) old.txns.next old.locks
+          → (shows s step None).asked ≡ s.asked → (shows s step (Some reply)).asked ≡ s.asked → IsDone d before (shows s step (Some reply)) w step reply new
+          → GrowsAs run.0 (FitsRecord old.writer.table) (under_of old.under) (under_of new.under) reply step run.1.now.log run.1.now.log
+          → new.locks ≡ old.locks → new.txns ≡ record old.txns { rows = map (changed t (with_mark m)) old.txns.rows } → new.failed ≡ false → StepKept d before s v step reply old new
       unfolding runs_on
-      turned some locks table works_on =
+      remarked step reply m w beside served cut asks done grows locks table works_on =
           let r = run.1 in
-          let served = turns_served run.0 r.earlier before s v r.now.log old.txns.rows old.txns.next old.locks t row r.serving found mark some free in
-          let after : Numbered = record old.txns { rows = map (changed t (with_mark RollingBack)) old.txns.rows } in
-          let shown = shows s (Rollback t) (Some More) in
-          let w = marked v t answers.RollingBack in
+          let after : Numbered = record old.txns { rows = map (changed t (with_mark m)) old.txns.rows } in
+          let shown = shows s step (Some reply) in
           let running = runs_on d before s v old r shown w new r.now on_here
           (subst (λ (x : Numbered). IsServing run.0 r.earlier before shown w r.now.log x.rows x.next new.locks) (sym table)
-          (subst (λ (l : _). IsServing run.0 r.earlier before shown w r.now.log after.rows after.next l) (sym locks) served.1)) r.commits
-          (subst (λ (n : ℕ). n ≤ 2 ^ 62 → AreBelow n r.now.log) (sym (ap (λ (x : Numbered). x.next) table)) r.numbered) refl stays in
-          step_made d before s v (Rollback t) More old new w served.0 running works_on (stops_here (shows s (Rollback t) None) refl) tt r refl
+          (subst (λ (l : _). IsServing run.0 r.earlier before shown w r.now.log after.rows after.next l) (sym locks) served.1))
+          (subst (λ (l : List Asked). AreCommitted r.earlier before l r.now.durable r.now.log) (sym asks) r.commits)
+          (subst (λ (n : ℕ). n ≤ 2 ^ 62 → AreBelow n r.now.log) (sym (ap (λ (x : Numbered). x.next) table)) r.numbered) beside stays in
+          step_made d before s v step reply old new w served.0 running works_on (stops_here (shows s step None) cut) done r grows
+
+      -- it has changes left, and rolls back
+      pub turned : 1 ≤ row.changes → new.locks ≡ old.locks → new.txns ≡ record old.txns { rows = map (changed t (with_mark RollingBack)) old.txns.rows } → new.failed ≡ false → StepKept d before s v (Rollback t) More old new
+      turned some locks table works_on =
+          let served = turns_served run.0 run.1.earlier before s v run.1.now.log old.txns.rows old.txns.next old.locks t row run.1.serving found mark some free in
+          remarked (Rollback t) More RollingBack (marked v t answers.RollingBack) refl served refl refl tt refl locks table works_on
+
+      -- it has no more changes than its RollTo leaves, and is going
+      pub stays_back : (left : ℕ) → row.changes ≤ left → new.locks ≡ old.locks → new.txns ≡ record old.txns { rows = map (changed t (with_mark Going)) old.txns.rows } → new.failed ≡ false → StepKept d before s v (RollTo t left) Done old new
+      stays_back left few locks table works_on =
+          let served = returns_stay run.0 run.1.earlier before s v run.1.now.log old.txns.rows old.txns.next old.locks t left row run.1.serving found mark few free in
+          remarked (RollTo t left) Done Going (marked v t answers.Going) refl served refl refl tt refl locks table works_on
+
+      -- it has more, and returns
+      pub turns_back : (left : ℕ) → left < row.changes → new.locks ≡ old.locks → new.txns ≡ record old.txns { rows = map (changed t (with_mark (Returning left))) old.txns.rows } → new.failed ≡ false → StepKept d before s v (RollTo t left) More old new
+      turns_back left more locks table works_on =
+          let served = returns_turn run.0 run.1.earlier before s v run.1.now.log old.txns.rows old.txns.next old.locks t left row run.1.serving found mark more free in
+          remarked (RollTo t left) More (Returning left) (marked v t (answers.Returning left)) refl served refl refl tt refl locks table works_on
 
   -- the log was forced, and all that waited have ended
   pub log_forced : GoesOn d run.0 run.1.base run.1.now old.disk (forced run.1.now) new.writer new.disk → LeavesCovered d run.0 run.1.base run.1.now.durable run.1.now.log old.disk new.disk → AreRising old.txns.rows → AreReleased old.locks (λ t. is_among t (waiting_numbers old.txns.rows)) new.locks
@@ -394,7 +415,7 @@ module _ {D : Type 0} (d : Ghosts D) (before : List Effect) (s : Shown) (v : Vie
       let running = runs_on d before s v old r s v new f.now f.on
       (subst (λ (x : Numbered). IsServing b r.earlier before s v f.now.log x.rows x.next new.locks) (sym table)
       (subst (λ (l : _). IsServing b r.earlier before s v f.now.log old.txns.rows old.txns.next l) (sym locks) served.1)) commits
-      (subst (λ (n : ℕ). n ≤ 2 ^ 62 → AreBelow n f.now.log) (sym (ap (λ (x : Numbered). x.next) table)) (λ le. same.below old.txns.next old.numbered.0 (r.numbered le))) refl stays in
+      (subst (λ (n : ℕ). n ≤ 2 ^ 62 → AreBelow n f.now.log) (sym (ap (λ (x : Numbered). x.next) table)) (λ le. same.below old.txns.next old.numbered (r.numbered le))) refl stays in
       let reads = f.on.goes.writing.stands.file.reads p ∙ f.in_file ((f.on.goes.keeps.pages p).waits ∙ none_waits d before s v old r p) ∙ ap (λ (g : Page). Some g) (page_is d before s v new running p) in
       step_made d before s v (FlushPage p) Done old new v served.0 running works_on (read_stops d before s v old r new.writer new.disk (flush_asks d one)) (record { b = b; running = running; reads = reads }) r
       f.on.goes.keeps.log

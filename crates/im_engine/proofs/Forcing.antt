@@ -125,7 +125,7 @@ module _ {D : Type 0} (d : Ghosts D) (before : List Effect) (s : Shown) (v : Vie
         serving = subst (λ (x : Numbered). IsServing run.0 r.earlier before s v longer x.rows x.next new.locks) (sym table)
             (subst (λ (l : _). IsServing run.0 r.earlier before s v longer old.txns.rows old.txns.next l) (sym locks) law.served.1);
         commits = commits_stand.all r.earlier before s.asked longer law.served.1.says;
-        numbered = subst (λ (n : ℕ). n ≤ 2 ^ 62 → AreBelow n longer) (sym (ap (λ (x : Numbered). x.next) table)) (λ le. on.below old.txns.next old.numbered.0 (images.below old.txns.next old.numbered.0 (r.numbered le)));
+        numbered = subst (λ (n : ℕ). n ≤ 2 ^ 62 → AreBelow n longer) (sym (ap (λ (x : Numbered). x.next) table)) (λ le. on.below old.txns.next old.numbered (images.below old.txns.next old.numbered (r.numbered le)));
         same = r.same ∙ ap under_of (sym stays);
       } in
       step_made d before s v Checkpoint Done old new v law.served.0 running works_on leaves (record {

@@ -16,9 +16,9 @@ pub mod Barred
 pub mod Costs
 pub mod Telling
 pub mod Causes
-pub mod Unserved
 pub mod Stepping
 pub mod Counted
+pub mod Returning
 pub mod Turning
 pub mod Alone
 pub mod Forcing
@@ -30,6 +30,7 @@ pub mod Openings
 pub mod Limits
 pub mod CurrentLogs
 pub mod Looked
+pub mod Standing
 pub mod DiskReads
 pub mod TurnLemmas
 pub mod Acknowledging
@@ -71,4 +72,5 @@ pub mod SteppedBacks
 pub mod SteppedTurns
 pub mod SteppedCloses
 pub mod SteppedBackPaces
+pub mod SteppedReturns
 pub mod SteppedParts

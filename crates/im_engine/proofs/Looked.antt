@@ -219,7 +219,7 @@ module _ {D : Type 0} (d : Ghosts D) (before : List Effect) (s : Shown) (v : Vie
         runs_on d before s v old r s v new is.now is.on
         (subst (λ (held : Table). IsServing b r.earlier before s v is.now.log new.txns.rows new.txns.next held) (sym locks) (subst (λ (x : Numbered). IsServing b r.earlier before s v is.now.log x.rows x.next old.locks) (sym table) serves))
         commits
-        (subst (λ (n : ℕ). n ≤ 2 ^ 62 → AreBelow n is.now.log) (sym (ap (λ (x : Numbered). x.next) table)) (λ le. same.below old.txns.next old.numbered.0 (r.numbered le))) refl stays
+        (subst (λ (n : ℕ). n ≤ 2 ^ 62 → AreBelow n is.now.log) (sym (ap (λ (x : Numbered). x.next) table)) (λ le. same.below old.txns.next old.numbered (r.numbered le))) refl stays
 
     -- a look that was answered
     pub look_kept : SearchedBy d old new None → LookKept d before s v old new

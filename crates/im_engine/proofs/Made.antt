@@ -72,7 +72,7 @@ module _ {D : Type 0} (d : Ghosts D) (before : List Effect) where
         let running = runs_on d before s v old r (shows s step (Some reply)) w new is.now is.on
         (subst (λ (x : Numbered). IsServing b r.earlier before (shows s step (Some reply)) w is.now.log x.rows x.next new.locks) (sym table) served.1)
         (subst (λ (l : List Asked). AreCommitted r.earlier before l is.now.durable is.now.log) (sym asks) commits)
-        (subst (λ (n : ℕ). n ≤ 2 ^ 62 → AreBelow n is.now.log) (sym (ap (λ (x : Numbered). x.next) table ∙ next)) (λ le. same.below old.txns.next old.numbered.0 (r.numbered le))) goes_on stays in
+        (subst (λ (n : ℕ). n ≤ 2 ^ 62 → AreBelow n is.now.log) (sym (ap (λ (x : Numbered). x.next) table ∙ next)) (λ le. same.below old.txns.next old.numbered (r.numbered le))) goes_on stays in
         step_made s v step reply old new w served.0 running works (leaves_as s (shows s step None) old.disk new.disk cut stops) done r
         (bare is.now.log is.on.goes.keeps.log)
 

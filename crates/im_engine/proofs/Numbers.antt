@@ -1,11 +1,13 @@
--- Numbers of rows that are above another.
-use Rattle.std.proofs.Common.{inl, inr, ◌≡◌, ◌≤◌, ◌<◌, ℕ, Bool, true, false, not, List, [], ◌∷◌, ◌++◌, Option, Some, None, IfSome, map, refl, sym, ap, subst, ◌∙◌, arith}
-use Rattle.std.specs.Prelude.{filter, find, ◌==◌, if◌then◌else◌}
+-- Numbers of rows that are above another, and one row of a table that is changed.
+use Rattle.std.proofs.Common.{inl, inr, ◌≡◌, ◌≤◌, ◌<◌, ℕ, Bool, true, false, not, List, [], ◌∷◌, ◌++◌, Option, Some, None, IfSome, IfNone, map, refl, sym, ap, subst, ◌∙◌, arith, ltb-false, ltb-true}
+use Rattle.std.specs.Prelude.{find, ◌==◌, if◌then◌else◌}
 use Rattle.im_theory_steps.specs.Steps.{with_made}
-use Rattle.im_engine.specs.Numbered.{NoneReturns, Numbered, is_returning}
+use Rattle.im_engine.specs.Numbered.{Numbered, has_returned, is_within, on_again}
+use Rattle.im_base_txn.specs.declared.transaction.Mark.{Mark}
+use Rattle.im_base_txn.specs.declared.transaction.Mark.TheVariants.{Going, MustRollBack, RollingBack, Returning, Committing}
 use Rattle.im_base_txn.specs.declared.transaction.Transaction.{Transaction}
-use Rattle.std.proofs.lemmas.Bool.{cases_eq, cond-false, cond-true, eq-eqb, ne_eqb}
-use Rattle.im_base_txn.specs.Rows.{AreAbove, AreRising, begun, changed, is_of, with_changes, with_record}
+use Rattle.std.proofs.lemmas.Bool.{cases_eq, cond-false, cond-true, eq-eqb, ne_eqb, not-false, not-true}
+use Rattle.im_base_txn.specs.Rows.{AreAbove, AreRising, begun, changed, is_of, with_changes, with_mark, with_record}
 use Rattle.im_base_txn.specs.LookUps.{Keeps, without}
 use Rattle.im_base_txn.proofs.LookUps.{found_here, found_later, look_ups_follow}
 
@@ -50,40 +52,6 @@ owned_by number rows are (Some row) is =
     let same = found_number number rows (Some row) (sym is) row refl in
     let above = found_above 0 number rows are (Some row) (sym is) row refl same in
     omega (arith, above, same)
-
--- ---- none of the rows returns
-
-pub forward_begun : (number : ℕ) (rows : List Transaction) → NoneReturns rows → NoneReturns (rows ++ begun number ∷ [])
-forward_begun number [] are = (refl, tt)
-forward_begun number (row ∷ rows) are = (are.0, forward_begun number rows are.1)
-
-pub forward_changed : (number : ℕ) (f : Transaction → Transaction) → ((row : Transaction) → is_returning row.mark ≡ false → is_returning (f row).mark ≡ false) → (rows : List Transaction) → NoneReturns rows → NoneReturns (map (changed number f) rows)
-forward_changed number f keeps [] are = tt
-forward_changed number f keeps (row ∷ rows) are = (by (row.number == number), forward_changed number f keeps rows are.1)
-  where
-    by : (b : Bool) → is_returning (if b then f row else row).mark ≡ false
-    by true = keeps row are.0
-    by false = are.0
-
-pub forward_part : (p : Transaction → Bool) (rows : List Transaction) → NoneReturns rows → NoneReturns (filter p rows)
-forward_part p [] are = tt
-forward_part p (row ∷ rows) are = by (p row) (forward_part p rows are.1)
-  where
-    by : (b : Bool) → NoneReturns (filter p rows) → NoneReturns (if b then row ∷ filter p rows else filter p rows)
-    by true more = (are.0, more)
-    by false more = more
-
--- nor one that is found
-pub found_forward : (number : ℕ) (rows : List Transaction) → NoneReturns rows → (row : Transaction) → find (is_of number) rows ≡ Some row → is_returning row.mark ≡ false
-found_forward number [] are row is = absurd (cc is)
-found_forward number (first ∷ rows) are row is = by (is_of number first) refl (found_forward number rows are.1 row)
-  where
-    by : (b : Bool) → is_of number first ≡ b → (find (is_of number) rows ≡ Some row → is_returning row.mark ≡ false) → is_returning row.mark ≡ false
-    by true here more =
-        let same : Some first ≡ Some row = sym (ap (λ (x : Bool). if x then Some first else find (is_of number) rows) here) ∙ is in
-        let it : first ≡ row = cc same in
-        subst (λ (r : Transaction). is_returning r.mark ≡ false) it are.0
-    by false here more = more (sym (ap (λ (x : Bool). if x then Some first else find (is_of number) rows) here) ∙ is)
 
 -- ---- one row is changed
 
@@ -153,3 +121,50 @@ fused_in t f g keeps old mid new first second =
 -- a row after the record of a key at an LSN, and those of a structure change after it
 abbrev pub with_taken : (last lsn : ℕ) → Transaction → Transaction
 with_taken last lsn row = with_record last lsn (with_made lsn row)
+
+-- ---- one that has returned goes on
+
+-- nothing is changed
+same_set : (n : ℕ) (rows : List Transaction) → map (changed n (λ x. x)) rows ≡ rows
+same_set n [] = refl
+same_set n (row ∷ rows) = λ i. by (row.number == n) i ∷ same_set n rows i
+  where
+    by : (b : Bool) → (if b then row else row) ≡ row
+    by true = refl
+    by false = refl
+
+abbrev goes_again : Transaction → Transaction
+goes_again row = if has_returned row then with_mark Going row else row
+
+-- the rows then, where its row is found, and it has returned
+pub again_on : (t : ℕ) (rows : List Transaction) → AreRising rows → (row : Transaction) → find (is_of t) rows ≡ Some row → has_returned row ≡ true → on_again t rows ≡ map (changed t (with_mark Going)) rows
+again_on t rows rising row found is = found_set t goes_again (with_mark Going) rows rising row found (cond-true (has_returned row) (with_mark Going row) row is)
+
+-- or has not
+pub again_still : (t : ℕ) (rows : List Transaction) → AreRising rows → (row : Transaction) → find (is_of t) rows ≡ Some row → has_returned row ≡ false → on_again t rows ≡ rows
+again_still t rows rising row found is = found_set t goes_again (λ x. x) rows rising row found (cond-false (has_returned row) (with_mark Going row) row is) ∙ same_set t rows
+
+-- by what a test of the row says that is found, or not
+pub again_if : (t : ℕ) (rows : List Transaction) → AreRising rows → (o : Option Transaction) → o ≡ find (is_of t) rows → (b : Bool) → IfSome o (λ row. b ≡ has_returned row) → IfNone o (b ≡ false)
+    → (b ≡ true → on_again t rows ≡ map (changed t (with_mark Going)) rows) × (b ≡ false → on_again t rows ≡ rows)
+again_if t rows rising None found b some none = ((λ is. absurd (let never : true ≡ false = sym is ∙ none in cc never)), λ is. none_set t goes_again rows (sym found))
+again_if t rows rising (Some row) found b some none = ((λ is. again_on t rows rising row (sym found) (sym some ∙ is)), λ is. again_still t rows rising row (sym found) (sym some ∙ is))
+
+-- of a row that is found, and was changed, a test of the row that is found then says what it is of the row as it was changed
+pub said_of : (t : ℕ) (f : Transaction → Transaction) → Keeps f → (rows : List Transaction) (row : Transaction) → find (is_of t) rows ≡ Some row → (mid : List Transaction) → mid ≡ map (changed t f) rows → (b : Bool) → IfSome (find (is_of t) mid) (λ x. b ≡ has_returned x) → b ≡ has_returned (f row)
+said_of t f keeps rows row found mid is b said =
+    subst (λ (o : Option Transaction). IfSome o (λ x. b ≡ has_returned x)) (ap (find (is_of t)) is ∙ look_ups_follow.changed_own t f keeps rows row found) said
+
+-- what that tells of the row
+within_marks : (m : Mark) (changes : ℕ) → is_within m changes ≡ true → (n : ℕ) × (m ≡ Returning n) × (changes ≤ n)
+within_marks (Returning n) changes is = (n, refl, ltb-false n changes (not-true _ is))
+within_marks Going changes is = absurd (cc is)
+within_marks MustRollBack changes is = absurd (cc is)
+within_marks RollingBack changes is = absurd (cc is)
+within_marks Committing changes is = absurd (cc is)
+
+pub has_come_back : (row : Transaction) → has_returned row ≡ true → (n : ℕ) × (row.mark ≡ Returning n) × (row.changes ≤ n)
+has_come_back row is = within_marks row.mark row.changes is
+
+pub not_yet_back : (row : Transaction) → has_returned row ≡ false → (n : ℕ) → row.mark ≡ Returning n → n < row.changes
+not_yet_back row is n mark = ltb-true n row.changes (not-false _ (sym (ap (λ (m : Mark). is_within m row.changes) mark) ∙ is))

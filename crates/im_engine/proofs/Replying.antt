@@ -49,7 +49,7 @@ module _ {D : Type 0} (d : Ghosts D) (reply : Reply) (old : Engine D d) (log : L
   no_cause (answers.Do t (answers.Delete k)) is = is.1
   no_cause (answers.Commit t) is = no_where (no_where (λ e. cc e) (no_where (λ e. cc e) (λ e. e))) (λ e. e) is
   no_cause (answers.Rollback t) is = no_where (no_where (λ e. cc e) (no_where (λ e. cc e) (λ e. e))) (λ e. e) is
-  no_cause (answers.RollTo t n) is = cc is
+  no_cause (answers.RollTo t n) is = is
   no_cause (answers.Continue t) is = is.1
   no_cause (answers.FlushPage p) is = is.1
   no_cause answers.Force is = no_where (λ e. cc e) (λ e. e) is

@@ -13,13 +13,13 @@ use Rattle.im_base_types.specs.declared.fault.Fault.TheVariants.{Capacity, Faile
 use Rattle.im_base_disk.specs.declared.disk.Disk.{Ghosts}
 use Rattle.im_base_steps.specs.Calls.{told_by}
 use Rattle.im_base_steps.specs.declared.reply.Reply.{Reply}
-use Rattle.im_base_steps.specs.declared.reply.Reply.TheVariants.{More, Refused, RolledBack}
-use Rattle.im_base_txn.specs.Rows.{is_committing, is_of}
+use Rattle.im_base_steps.specs.declared.reply.Reply.TheVariants.{Done, More, Refused, RolledBack}
+use Rattle.im_base_txn.specs.Rows.{is_of}
 use Rattle.im_base_txn.specs.declared.transaction.Transaction.{Transaction}
 use Rattle.im_theory_log.specs.Histories.{Base}
 use Rattle.im_theory_log.specs.LogLaws as logs
 use Rattle.im_theory_log.specs.Structure.{open_smo, settled}
-use Rattle.im_theory_log.specs.Transactions.{change_of, changes_of, is_key, net}
+use Rattle.im_theory_log.specs.Transactions.{change_of, changes_of, is_key}
 use Rattle.im_theory_log.proofs.Fronts.{has_tree}
 use Rattle.im_log.specs.Spelled.{logged_at}
 use Rattle.im_log.specs.Whats.{what_of}
@@ -54,10 +54,10 @@ use Rattle.im_engine.specs.Running.{IsRunning}
 use Rattle.im_engine.specs.Told.{IsBlockedBy, IsPaced, LacksRoom, NeedsBack, TurnWants}
 use Rattle.im_engine.specs.TurningBack.{EndsBack, aim_back}
 use Rattle.im_engine.proofs.Paced.{kept_under}
+use Rattle.im_engine.proofs.Returning.{net_at}
 use Rattle.im_engine.proofs.SteppedBacks.{next_same, same_done, same_planned}
 use Rattle.im_engine.proofs.SteppedTold.{none_under}
-use Rattle.im_engine.proofs.SteppedTurns.{mark}
-use Rattle.im_engine.proofs.Waits.{not_waiting, out_of}
+use Rattle.im_engine.proofs.SteppedTurns.{goes}
 
 -- ---- what a change that is taken back needs, by the net of its transaction
 
@@ -96,8 +96,7 @@ module _ {D : Type 0} (d : Ghosts D) {b : Base} (before : List Effect) (s : Show
 
   net_is : (entry : Entry) (to : IsToUndo d b r.base r.now t entry) → (v.txns t).net ≡ change_of (what_of entry) ++ changes_of to.next.rest
   net_is entry to =
-      r.serving.seen_by.nets t (out_of b r.earlier before s v r.now.log old.txns.rows old.txns.next old.locks r.serving t (not_waiting old.txns.rows t row found (ap is_committing (mark d before s v t row old r found checked))))
-      ∙ ap changes_of to.next.stack
+      net_at b r.earlier before s v r.now.log old.txns.rows old.txns.next old.locks t row r.serving found (goes d before s v t row old r found checked) ∙ ap changes_of to.next.stack
 
   -- it wants memory only for that
   pub needs_memory : NeedsChangeBack d b r.base r.now t → NeedsBack pages v.walk ((v.txns t).net)
@@ -216,7 +215,7 @@ pub ends_some : (splits : Bool) (t : ℕ) (under : Option Under) (ends : EndsBac
 ends_some splits t under ends u some = let same : Some u ≡ Some ends.u = sym some ∙ ends.is in cc same
 
 -- by what its end answers
-ends_as : (splits : Bool) (reply : Reply) → (reply ≡ More) ⊎ (reply ≡ RolledBack) → EndsAs (aim_back splits) reply
+ends_as : (splits : Bool) (reply : Reply) → (reply ≡ More) ⊎ (reply ≡ RolledBack) ⊎ (reply ≡ Done) → EndsAs (aim_back splits) reply
 ends_as true reply is = is
 ends_as false reply is = is
 
@@ -227,7 +226,7 @@ module _ {D : Type 0} (d : Ghosts D) (t : ℕ) (splits : Bool) (old : Engine D d
   same_u : (u : Under) → old.under ≡ Some u → ends.u ≡ u
   same_u u some = let same : Some ends.u ≡ Some u = sym ends.is ∙ some in cc same
 
-  pub ends_pace : (new : Engine D d) (reply : Reply) → told_by reply ≢ answers.BlockedTree → (((reply ≡ More) ⊎ (reply ≡ RolledBack)) × (new.under ≡ None)) ⊎ IsRefusal reply → IsPaced d (Continue t) reply old new
+  pub ends_pace : (new : Engine D d) (reply : Reply) → told_by reply ≢ answers.BlockedTree → (((reply ≡ More) ⊎ (reply ≡ RolledBack) ⊎ (reply ≡ Done)) × (new.under ≡ None)) ⊎ IsRefusal reply → IsPaced d (Continue t) reply old new
   ends_pace new reply unblocked how = record {
     tree = λ is. absurd (unblocked is);
     first = λ none b before s v r u some other. absurd (let clash : false ≡ true = sym other ∙ eq-eqb u.begun.change.transaction t (ap (λ (x : Under). x.begun.change.transaction) (sym (same_u u some)) ∙ ends.owner) in cc clash);

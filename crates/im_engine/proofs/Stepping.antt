@@ -145,8 +145,7 @@ wants_store Begin is = cc is
 wants_store (Commit t) is = cc is
 wants_store (Rollback t) is = cc is
 wants_store (Continue t) is = cc is
-wants_store (RollTo t left) (inl is) = let never : not_a_store ≡ 1 = is in cc never
-wants_store (RollTo t left) (inr is) = let never : not_a_store ≡ 9 = is in cc never
+wants_store (RollTo t left) is = cc is
 wants_store (FlushPage p) is = cc is
 wants_store Force is = cc is
 wants_store Checkpoint is = cc is

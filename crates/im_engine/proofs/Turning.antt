@@ -1,11 +1,12 @@
 -- Changes that are taken back, one at a time.
-use Rattle.std.proofs.Common.{◌≡◌, ◌≢◌, inl, inr, ℕ, ◌+◌, ◌≤◌, ◌<◌, ◌^◌, List, [], ◌∷◌, ◌++◌, true, false, Option, Some, None, length, map, refl, sym, ap, subst, ◌∙◌}
+use Rattle.std.proofs.Common.{◌≡◌, ◌≢◌, inl, inr, ℕ, suc, Bool, ◌-◌, ◌+◌, ◌≤◌, ◌<◌, ◌^◌, List, [], ◌∷◌, ◌++◌, true, false, Option, Some, None, length, map, refl, sym, ap, subst, ◌∙◌, arith}
 use Rattle.std.specs.Prelude.{find}
 use Rattle.im_base_types.specs.Keys.{Key}
 use Rattle.im_base_types.specs.Maps.{IndexMap}
 use Rattle.im_base_types.specs.Changes.{Change, Put, Drop, Effect, undone}
 use Rattle.im_base_types.specs.Records.{What, InsertKey, DeleteKey, UndoInsert, UndoDelete, Smo, UndoSmo, DummyClr, Commit, End, Image, Checkpoint, Unreadable, Logged}
-use Rattle.im_base_types.specs.Answers.{Continue, More, RolledBack, Refused}
+use Rattle.im_base_types.specs.Answers as answers
+use Rattle.im_base_types.specs.Answers.{Continue, More, Done, RolledBack, Refused}
 use Rattle.im_base_types.specs.declared.fault.Fault.{Fault}
 use Rattle.im_base_types.specs.declared.fault.Fault.TheVariants.{Capacity, Failed, LogFull, Device, Memory, NotAStore, PagesFull}
 use Rattle.im_theory_log.specs.Histories.{Base, History}
@@ -13,7 +14,7 @@ use Rattle.im_theory_log.specs.LogLaws as logs
 use Rattle.im_theory_log.specs.Structure.{settled}
 use Rattle.std.specs.FinMap.{get}
 use Rattle.im_theory_log.specs.Transactions.{change_of, changes_of, committed, contents, contents_after, net, is_end, is_finished, is_key, last_of, undo_next_of, to_undo}
-use Rattle.im_base_types.specs.Lives.{Shown, shows}
+use Rattle.im_base_types.specs.Lives.{Asked, Shown, shows}
 use Rattle.im_theory_log.specs.Writer.{Writer}
 use Rattle.im_base_disk.specs.declared.disk.Disk.{Ghosts}
 use Rattle.im_base_disk.specs.Disk.{Files}
@@ -43,7 +44,7 @@ use Rattle.im_engine_rollback.specs.Ends.{TurnEnds, may_turn}
 use Rattle.im_engine_rollback.specs.declared.undone.Undone.{Undone}
 use Rattle.im_engine_rollback.specs.declared.undone.Undone.TheVariants as turns
 use Rattle.im_engine_rollback.specs.Turns.{Took, HasMore, HasEndedNow, LacksWayBack, Turned, LacksRoomBack}
-use Rattle.im_base_txn.specs.Rows.{is_of, changed, is_committing}
+use Rattle.im_base_txn.specs.Rows.{is_of, changed, with_mark}
 use Rattle.im_base_txn.specs.LookUps.{without}
 use Rattle.im_base_txn.specs.declared.transaction.Mark.{Mark}
 use Rattle.im_base_txn.specs.declared.transaction.Mark.TheVariants as marks
@@ -53,44 +54,36 @@ use Rattle.im_base_steps.specs.declared.reply.Reply.{Reply}
 use Rattle.im_base_steps.specs.declared.reply.Reply.TheVariants as replies
 use Rattle.im_base_types.specs.Faults.{number_of}
 use Rattle.im_theory_machine.specs.Table.{Table, IsReleased, locks_of, lasting_of}
-use Rattle.im_theory_machine.specs.View.{View, of_others, undid_more, undid_last, owner_of, owns_in}
+use Rattle.im_theory_machine.specs.View.{View, marked, of_others, undid_more, undid_last, owner_in, owner_of, owns_in}
 use Rattle.im_theory_machine.specs.Machine.{barred, barred_to_continue}
 use Rattle.im_theory_steps.specs.Checks.{checked_by, mark_at}
 use Rattle.im_theory_steps.specs.Growth.{AreBelow, AreWithin, GrowsWithin, IsWithin}
-use Rattle.im_theory_steps.specs.Steps.{with_undone}
-use Rattle.im_theory_steps.specs.Undone.{UndoesNewest}
-use Rattle.im_theory_steps.specs.Serving.{IsRow, IsServing, mark_of}
-use Rattle.im_theory_steps.proofs.Cited.{numbers_stay_new, within_leaves_others, commits_stand, at, mark_free, ends_leave_nothing, last_undone_served, rolling_has_more, undone_served}
+use Rattle.im_theory_steps.specs.Steps.{TurnsOn, with_undone}
+use Rattle.im_theory_steps.specs.Undone.{UndoesNewest, uncounted}
+use Rattle.im_theory_steps.specs.Durable.{AreCommitted}
+use Rattle.im_theory_steps.specs.Serving.{IsRow, IsServed, IsServing, mark_of}
+use Rattle.im_theory_steps.proofs.Cited.{numbers_stay_new, within_leaves_others, commits_stand, at, counted_at, ends_leave_nothing, last_undone_served, returning_more, returns_end, returns_go_on, rolling_has_more, some_stand, undo_takes_back, undone_served}
 use Rattle.im_engine.specs.declared.engine.Engine.{Engine}
 use Rattle.im_engine.specs.Faults.{told_as, ends_engine}
-use Rattle.im_engine.specs.Numbered.{NoneReturns, Numbered, is_returning}
+use Rattle.im_engine.specs.Numbered.{Numbered, ends_back, has_returned, is_rolling_back}
 use Rattle.im_engine.specs.Stands.{Allowed}
 use Rattle.im_engine.specs.Running.{IsRunning, IsLife}
-use Rattle.im_engine.specs.Kept.{StepKept}
+use Rattle.im_engine.specs.Kept.{IsDone, StepKept}
 use Rattle.im_engine.specs.Told.{LacksRoom, TurnCause}
 use Rattle.im_engine.proofs.Waits.{out_of, not_waiting}
 use Rattle.im_engine.specs.declared.stepped.Under.{Under}
 use Rattle.im_engine.specs.Aims.{IsChanging, under_of}
-use Rattle.im_engine.specs.Growing.{turns as by_turn, ends_by_turn}
+use Rattle.im_engine.specs.Growing.{GoesOnBy, GrowsAs, turns as by_turn, ends_by_turn}
+use Rattle.im_page_table.specs.DirtyTable.{FitsRecord}
 use Rattle.im_engine.proofs.Running.{nobody_owner, closed_now, checks_tell, bodies_are, left_on}
 use Rattle.im_engine.proofs.Made.{step_made}
-use Rattle.im_engine.proofs.Numbers.{found_forward}
+use Rattle.im_engine.proofs.Numbers.{has_come_back, not_yet_back}
+use Rattle.im_engine.proofs.Returning.{GoesBack, back_free, back_waits, continue_back}
 use Rattle.im_engine.proofs.Refused.{breaks_with, lacks_with}
 use Rattle.im_engine.proofs.Causes.{Answers, behind, not_refused_for, refused_for}
 use Rattle.im_engine.proofs.Looked.{not_true}
 
 -- ---- the row of a step that goes on
-
-back_by : (m : Mark) (row : Transaction) → row.mark ≡ m → is_returning m ≡ false → barred_to_continue (mark_at (Some row)) ≡ None → row.mark ≡ marks.RollingBack
-back_by marks.RollingBack row is forward none = is
-back_by marks.Going row is forward none = absurd (let never = sym (ap (λ (x : Mark). barred_to_continue (mark_at (Some (record row { mark = x })))) is) ∙ none in cc never)
-back_by marks.MustRollBack row is forward none = absurd (let never = sym (ap (λ (x : Mark). barred_to_continue (mark_at (Some (record row { mark = x })))) is) ∙ none in cc never)
-back_by (marks.Returning n) row is forward none = absurd (cc forward)
-back_by marks.Committing row is forward none = absurd (let never = sym (ap (λ (x : Mark). barred_to_continue (mark_at (Some (record row { mark = x })))) is) ∙ none in cc never)
-
--- none returns to a part of its changes
-pub continue_mark : (rows : List Transaction) → NoneReturns rows → (t : ℕ) (row : Transaction) → find (is_of t) rows ≡ Some row → checked_by rows false (Continue t) ≡ None → row.mark ≡ marks.RollingBack
-continue_mark rows forward t row found is = back_by row.mark row refl (found_forward t rows forward row found) (sym (ap (λ (o : Option Transaction). barred_to_continue (mark_at o)) found) ∙ is)
 
 pub continue_found : (rows : List Transaction) (t : ℕ) → find (is_of t) rows ≡ None → checked_by rows false (Continue t) ≡ None → ⊥
 continue_found rows t none is = let never = sym (ap (λ (o : Option Transaction). barred_to_continue (mark_at o)) none) ∙ is in cc never
@@ -159,6 +152,20 @@ module _ {D : Type 0} (d : Ghosts D) (b : Base) (base : ℕ) (s : Writer) (e t l
 
 -- ---- a step
 
+module _ {D : Type 0} (d : Ghosts D) {b : Base} (before : List Effect) (s : Shown) (v : View) (t : ℕ) (row : Transaction) (old : Engine D d) (r : IsRunning d b before s v old)
+    (found : find (is_of t) old.txns.rows ≡ Some row) (free : owner_in v ≢ Some t) where
+  -- one that goes back, and has no structure change under way, has a change more to take back
+  pub turns_on : GoesBack row → TurnsOn row
+  turns_on (inl is) = inl is
+  turns_on (inr x) = inr (x.0, x.1, returning_more b r.earlier before s v r.now.log old.txns.rows old.txns.next old.locks t x.0 row r.serving found x.1 free)
+
+  pub left_to_undo : GoesBack row → to_undo t r.now.log ≢ []
+  left_to_undo (inl is) = rolling_has_more b r.earlier before s v r.now.log old.txns.rows old.txns.next old.locks t row r.serving found is free
+  left_to_undo (inr x) =
+      let more = returning_more b r.earlier before s v r.now.log old.txns.rows old.txns.next old.locks t x.0 row r.serving found x.1 free in
+      let is = at b r.earlier before s v r.now.log old.txns.rows old.txns.next old.locks r.serving t row found (back_free row (inr x)) in
+      (λ none. some_stand t old.txns.next r.now.log row is.0 is.1 (omega (arith, more)) (ap changes_of none))
+
 -- where no structure change is under way, nobody has one, and the check is that of the table
 none_owns : {under : Option Under} (t : ℕ) → under ≡ None → owner_of (under_of under) ≢ Some t
 none_owns t none is = let never : None ≡ Some t = sym (ap (λ (u : Option Under). owner_of (under_of u)) none) ∙ is in cc never
@@ -168,11 +175,11 @@ alone_checked d old t plain checked = subst (λ (u : Option Under). checked_by o
 
 module _ {D : Type 0} (d : Ghosts D) {b : Base} (before : List Effect) (s : Shown) (v : View) (t : ℕ) (row : Transaction) (old : Engine D d) (r : IsRunning d b before s v old)
     (found : find (is_of t) old.txns.rows ≡ Some row) (checked : checked_by old.txns.rows (owns_in (under_of old.under) (Continue t)) (Continue t) ≡ None) (plain : old.under ≡ None) where
-  mark : row.mark ≡ marks.RollingBack
-  mark = continue_mark old.txns.rows old.numbered.1 t row found (alone_checked d old t plain checked)
+  mark : GoesBack row
+  mark = continue_back old.txns.rows t row found (alone_checked d old t plain checked)
 
   its : (row.number ≡ t) × IsRow row old.txns.next r.now.log × ((v.txns t).mark ≡ mark_of row.mark)
-  its = at b r.earlier before s v r.now.log old.txns.rows old.txns.next old.locks r.serving t row found (mark_free row.mark marks.RollingBack mark (λ x. cc x))
+  its = at b r.earlier before s v r.now.log old.txns.rows old.txns.next old.locks r.serving t row found (back_free row mark)
 
   -- how the transaction stands in front of it
   pub stands_going : IsGoing d b r.base r.now r.redo_end t row.last row.undo_next old.writer old.disk
@@ -188,7 +195,7 @@ module _ {D : Type 0} (d : Ghosts D) {b : Base} (before : List Effect) (s : Show
   }
 
   pub has_more_to_undo : to_undo t r.now.log ≢ []
-  has_more_to_undo = rolling_has_more b r.earlier before s v r.now.log old.txns.rows old.txns.next old.locks t row r.serving found mark (nobody_owner d before s v old r plain t)
+  has_more_to_undo = left_to_undo d before s v t row old r found (nobody_owner d before s v old r plain t) mark
 
   -- numbers from the next one on stay new
   below_next : t < old.txns.next
@@ -196,7 +203,7 @@ module _ {D : Type 0} (d : Ghosts D) {b : Base} (before : List Effect) (s : Show
 
   -- what the machine has of it
   net_now : (v.txns t).net ≡ net t r.now.log
-  net_now = r.serving.seen_by.nets t (out_of b r.earlier before s v r.now.log old.txns.rows old.txns.next old.locks r.serving t (not_waiting old.txns.rows t row found (ap is_committing mark)))
+  net_now = r.serving.seen_by.nets t (out_of b r.earlier before s v r.now.log old.txns.rows old.txns.next old.locks r.serving t (not_waiting old.txns.rows t row found (back_waits row mark)))
 
   -- the key of the record that is to undo next comes back, and finds its leaf without room
   abbrev comes_back : (entry : Entry) (next : IsToUndo d b r.base r.now t entry) (k : Key) (i : ℕ) → what_of entry ≡ DeleteKey k i → LacksRoomFor (bodies r.now) k → LacksRoom (settled b r.now.log) v.walk ((v.txns t).net)
@@ -263,55 +270,130 @@ module _ {D : Type 0} (d : Ghosts D) (before : List Effect) (s : Shown) (v : Vie
       (λ told c is. left_on d before s v old r is.high is.lawful (within_leaves_others t r.now.log is.high (undo_grows t r.now.log is.high is.grows)).1 c is.covered)
 
   module _ (works_on : new.failed ≡ false) (stops : LeavesUndo d run.0 run.1.base run.1.now t old.disk new.disk) where
-    -- other changes are left
-    pub has_more : (u : Undone) (last undo_next : ℕ) → u ≡ turns.More last undo_next → Turned d run.0 run.1.base run.1.now run.1.redo_end t old.disk new.writer new.disk u → new.locks ≡ old.locks
-        → new.txns ≡ record old.txns { rows = map (changed t (with_undone last undo_next)) old.txns.rows } → StepKept d before s v (Continue t) More old new
-    has_more u last undo_next same turned locks table =
-        let b = run.0 in
-        let r = run.1 in
-        let below = below_next d before s v t row old r found checked plain in
-        let is : HasMore d b r.base r.now r.redo_end t last undo_next old.disk new.writer new.disk = subst (λ (x : Undone). Turned d b r.base r.now r.redo_end t old.disk new.writer new.disk x) same turned in
-        let took = is.took in
-        let now = took.taken.now in
-        let going = took.taken.goes.going in
-        let undoes = took_newest d b r.base r.now r.redo_end t last undo_next old.disk new.writer new.disk took in
-        let c = undone_change d b r.base r.now r.redo_end t last undo_next old.disk new.writer new.disk took in
-        let left_same = within_leaves_others t r.now.log now.log undoes.grows in
-        let w = undid_more v t c (net t now.log) in
-        let served = undone_served b r.earlier before s v r.now.log now.log old.txns.rows old.txns.next old.locks t row c r.serving found (mark d before s v t row old r found checked plain) undoes is.left going.unfinished in
-        let rows_of : ℕ → ℕ → List Transaction = λ l n. map (changed t (with_undone l n)) old.txns.rows in
-        let table_is : new.txns ≡ record old.txns { rows = rows_of (last_of t now.log) (undo_next_of t now.log) } =
-        table ∙ ap (λ (l : ℕ). record old.txns { rows = rows_of l undo_next }) (sym (took_last d b r.base r.now r.redo_end t last undo_next old.disk new.writer new.disk took))
-        ∙ ap (λ (n : ℕ). record old.txns { rows = rows_of (last_of t now.log) n }) (sym (took_next d b r.base r.now r.redo_end t last undo_next old.disk new.writer new.disk took)) in
-        let running : IsRunning d b before s w new = record {
-          base = r.base;
-          start = r.start;
-          counted = r.counted;
-          earlier = r.earlier;
-          now = now;
-          stands = going.stands;
-          redo_end = r.redo_end;
-          over = going.over;
-          lawful = going.can.lawful;
-          changing = subst (λ (u : Option Under). IsChanging b u now.log) (sym (stays ∙ plain)) going.can.closed;
-          serving = subst (λ (x : Numbered). IsServing b r.earlier before s w now.log x.rows x.next new.locks) (sym table_is)
-              (subst (λ (l : Table). IsServing b r.earlier before s w now.log (rows_of (last_of t now.log) (undo_next_of t now.log)) old.txns.next l) (sym locks) served.1);
-          commits = commits_stand.more r.earlier before s.asked r.now.durable now.log now.durable (commits_stand.stay r.earlier before s.asked r.now.durable r.now.log now.log r.commits left_same.1)
-              (record { from = took.taken.goes.durable; upto = going.stands.writing.stands.kept.front });
-          numbered = subst (λ (n : ℕ). n ≤ 2 ^ 62 → AreBelow n now.log) (sym (ap (λ (x : Numbered). x.next) table))
-              (λ le. numbers_stay_new.within old.txns.next t r.now.log now.log below (r.numbered le) undoes.grows);
-          same = ap (of_others t) (r.same ∙ ap under_of plain) ∙ sym (ap under_of (stays ∙ plain));
-        } in
-        step_made d before s v (Continue t) More old new w served.0 running works_on (undo_stops stops) tt r (by_turn (none_owns t plain) (none_owns t (stays ∙ plain)) (record { grows = took.taken.goes.grows; once = took.taken.once }))
+    -- one change was taken back: after that these are the rows, and the machine is there
+    module _ (last undo_next : ℕ) (took : Took d run.0 run.1.base run.1.now run.1.redo_end t last undo_next old.disk new.writer new.disk) where
+      abbrev longer : History
+      longer = took.taken.now.log
+
+      abbrev change : Change
+      change = undone_change d run.0 run.1.base run.1.now run.1.redo_end t last undo_next old.disk new.writer new.disk took
+
+      undoes : UndoesNewest run.0 t change run.1.now.log longer
+      undoes = took_newest d run.0 run.1.base run.1.now run.1.redo_end t last undo_next old.disk new.writer new.disk took
+
+      abbrev undone_to : View
+      undone_to = undid_more v t change (net t longer)
+
+      -- the rows that note it
+      noted_so : uncounted t longer old.txns.rows ≡ map (changed t (with_undone last undo_next)) old.txns.rows
+      noted_so =
+          let rows_of : ℕ → ℕ → List Transaction = λ l n. map (changed t (with_undone l n)) old.txns.rows in
+          ap (λ (l : ℕ). rows_of l (undo_next_of t longer)) (took_last d run.0 run.1.base run.1.now run.1.redo_end t last undo_next old.disk new.writer new.disk took)
+          ∙ ap (λ (n : ℕ). rows_of last n) (took_next d run.0 run.1.base run.1.now run.1.redo_end t last undo_next old.disk new.writer new.disk took)
+
+      -- one change fewer is left
+      one_fewer : row.changes ≡ suc (length (net t longer))
+      one_fewer =
+          let is = its d before s v t row old run.1 found checked plain in
+          counted_at t old.txns.next run.1.now.log row is.0 is.1 ∙ ap (λ (e : Effect). length e) (undo_takes_back run.0 t change run.1.now.log longer undoes).0.own
+
+      went_on : (reply : answers.Reply) (rows : List Transaction) (w : View) → w.under ≡ of_others t v.under → IsServed run.0 run.1.earlier before s v (Continue t) reply w longer rows old.txns.next old.locks
+          → (shows s (Continue t) (Some reply)).asked ≡ s.asked → IsDone d before (shows s (Continue t) (Some reply)) w (Continue t) reply new
+          → GrowsAs run.0 (FitsRecord old.writer.table) (under_of old.under) (under_of new.under) reply (Continue t) run.1.now.log longer
+          → new.locks ≡ old.locks → new.txns ≡ record old.txns { rows = rows } → StepKept d before s v (Continue t) reply old new
+      went_on reply rows w beside served asks done grows locks table =
+          let b = run.0 in
+          let r = run.1 in
+          let below = below_next d before s v t row old r found checked plain in
+          let now = took.taken.now in
+          let going = took.taken.goes.going in
+          let left_same = within_leaves_others t r.now.log now.log undoes.grows in
+          let shown = shows s (Continue t) (Some reply) in
+          let commits = commits_stand.more r.earlier before s.asked r.now.durable now.log now.durable (commits_stand.stay r.earlier before s.asked r.now.durable r.now.log now.log r.commits left_same.1)
+          (record { from = took.taken.goes.durable; upto = going.stands.writing.stands.kept.front }) in
+          let running : IsRunning d b before shown w new = record {
+            base = r.base;
+            start = r.start;
+            counted = r.counted;
+            earlier = r.earlier;
+            now = now;
+            stands = going.stands;
+            redo_end = r.redo_end;
+            over = going.over;
+            lawful = going.can.lawful;
+            changing = subst (λ (u : Option Under). IsChanging b u now.log) (sym (stays ∙ plain)) going.can.closed;
+            serving = subst (λ (x : Numbered). IsServing b r.earlier before shown w now.log x.rows x.next new.locks) (sym table)
+                (subst (λ (l : Table). IsServing b r.earlier before shown w now.log rows old.txns.next l) (sym locks) served.1);
+            commits = subst (λ (l : List Asked). AreCommitted r.earlier before l now.durable now.log) (sym asks) commits;
+            numbered = subst (λ (n : ℕ). n ≤ 2 ^ 62 → AreBelow n now.log) (sym (ap (λ (x : Numbered). x.next) table))
+                (λ le. numbers_stay_new.within old.txns.next t r.now.log now.log below (r.numbered le) undoes.grows);
+            same = beside ∙ ap (of_others t) (r.same ∙ ap under_of plain) ∙ sym (ap under_of (stays ∙ plain));
+          } in
+          step_made d before s v (Continue t) reply old new w served.0 running works_on (undo_stops stops) done r grows
+
+      turns_so : GoesOnBy run.0 (under_of old.under) (under_of new.under) t run.1.now.log longer
+      turns_so = by_turn (none_owns t plain) (none_owns t (stays ∙ plain)) (record { grows = took.taken.goes.grows; once = took.taken.once })
+
+      going_still : is_finished t longer ≡ false
+      going_still = took.taken.goes.going.unfinished
+
+      -- of one that rolls back others are left
+      rolls_on : row.mark ≡ marks.RollingBack → net t longer ≢ [] → new.locks ≡ old.locks → new.txns ≡ record old.txns { rows = map (changed t (with_undone last undo_next)) old.txns.rows } → StepKept d before s v (Continue t) More old new
+      rolls_on is left locks table =
+          went_on More (uncounted t longer old.txns.rows) undone_to refl
+          (undone_served run.0 run.1.earlier before s v run.1.now.log longer old.txns.rows old.txns.next old.locks t row change run.1.serving found is undoes left going_still)
+          refl tt turns_so locks (table ∙ ap (λ (rows : List Transaction). record old.txns { rows = rows }) (sym noted_so))
+
+      -- of one that returns more are left than it returns to
+      returns_on : (n : ℕ) → row.mark ≡ marks.Returning n → n < row.changes - 1 → new.locks ≡ old.locks → new.txns ≡ record old.txns { rows = map (changed t (with_undone last undo_next)) old.txns.rows } → StepKept d before s v (Continue t) More old new
+      returns_on n is more locks table =
+          let count = one_fewer in
+          went_on More (uncounted t longer old.txns.rows) undone_to refl
+          (returns_go_on run.0 run.1.earlier before s v run.1.now.log longer old.txns.rows old.txns.next old.locks t n row change run.1.serving found is undoes (omega (arith, more, count)) going_still)
+          refl tt turns_so locks (table ∙ ap (λ (rows : List Transaction). record old.txns { rows = rows }) (sym noted_so))
+
+      -- or as many, and it is going
+      returned : (n : ℕ) → row.mark ≡ marks.Returning n → row.changes - 1 ≤ n → new.locks ≡ old.locks → new.txns ≡ record old.txns { rows = map (changed t (with_mark marks.Going)) (map (changed t (with_undone last undo_next)) old.txns.rows) }
+          → StepKept d before s v (Continue t) Done old new
+      returned n is few locks table =
+          let count = one_fewer in
+          let more = returning_more run.0 run.1.earlier before s v run.1.now.log old.txns.rows old.txns.next old.locks t n row run.1.serving found is (nobody_owner d before s v old run.1 plain t) in
+          went_on Done (map (changed t (with_mark marks.Going)) (uncounted t longer old.txns.rows)) (marked undone_to t answers.Going) refl
+          (returns_end run.0 run.1.earlier before s v run.1.now.log longer old.txns.rows old.txns.next old.locks t n row change run.1.serving found is undoes (omega (arith, few, more, count)) going_still)
+          refl tt turns_so locks (table ∙ ap (λ (rows : List Transaction). record old.txns { rows = map (changed t (with_mark marks.Going)) rows }) (sym noted_so))
+
+    -- other changes are left to take back
+    pub has_more : (ends : Bool) → ends ≡ ends_back row → (u : Undone) (last undo_next : ℕ) → u ≡ turns.More last undo_next → Turned d run.0 run.1.base ends run.1.now run.1.redo_end t old.disk new.writer new.disk u
+        → has_returned (with_undone last undo_next row) ≡ false → new.locks ≡ old.locks → new.txns ≡ record old.txns { rows = map (changed t (with_undone last undo_next)) old.txns.rows } → StepKept d before s v (Continue t) More old new
+    has_more ends ends_so u last undo_next same turned yet locks table = by (mark d before s v t row old run.1 found checked plain)
+      where
+        by : GoesBack row → StepKept d before s v (Continue t) More old new
+        by (inl is) =
+            let it : HasMore d run.0 run.1.base run.1.now run.1.redo_end t last undo_next old.disk new.writer new.disk =
+            subst (λ (x : Bool × Undone). Turned d run.0 run.1.base x.0 run.1.now run.1.redo_end t old.disk new.writer new.disk x.1) (λ i. ((ends_so ∙ ap is_rolling_back is) i, same i)) turned in
+            rolls_on last undo_next it.took is it.left locks table
+        by (inr x) =
+            let took : Took d run.0 run.1.base run.1.now run.1.redo_end t last undo_next old.disk new.writer new.disk =
+            subst (λ (y : Bool × Undone). Turned d run.0 run.1.base y.0 run.1.now run.1.redo_end t old.disk new.writer new.disk y.1) (λ i. ((ends_so ∙ ap is_rolling_back x.1) i, same i)) turned in
+            returns_on last undo_next took x.0 x.1 (not_yet_back (with_undone last undo_next row) yet x.0 x.1) locks table
+
+    -- it has returned
+    pub has_gone_back : (ends : Bool) → ends ≡ ends_back row → (u : Undone) (last undo_next : ℕ) → u ≡ turns.More last undo_next → Turned d run.0 run.1.base ends run.1.now run.1.redo_end t old.disk new.writer new.disk u
+        → has_returned (with_undone last undo_next row) ≡ true → new.locks ≡ old.locks → new.txns ≡ record old.txns { rows = map (changed t (with_mark marks.Going)) (map (changed t (with_undone last undo_next)) old.txns.rows) }
+        → StepKept d before s v (Continue t) Done old new
+    has_gone_back ends ends_so u last undo_next same turned back locks table =
+        let is = has_come_back (with_undone last undo_next row) back in
+        let took : Took d run.0 run.1.base run.1.now run.1.redo_end t last undo_next old.disk new.writer new.disk =
+        subst (λ (y : Bool × Undone). Turned d run.0 run.1.base y.0 run.1.now run.1.redo_end t old.disk new.writer new.disk y.1) (λ i. ((ends_so ∙ ap is_rolling_back is.1) i, same i)) turned in
+        returned last undo_next took is.0 is.1 is.2 locks table
 
     -- the last one was taken back
-    pub has_ended : (u : Undone) → u ≡ turns.Ended → Turned d run.0 run.1.base run.1.now run.1.redo_end t old.disk new.writer new.disk u → IsReleased old.locks t new.locks → length old.txns.rows ≡ length (without t old.txns.rows) + 1
+    has_ended_so : row.mark ≡ marks.RollingBack → HasEndedNow d run.0 run.1.base run.1.now run.1.redo_end t old.disk new.writer new.disk → IsReleased old.locks t new.locks → length old.txns.rows ≡ length (without t old.txns.rows) + 1
         → new.txns ≡ record old.txns { rows = without t old.txns.rows } → StepKept d before s v (Continue t) RolledBack old new
-    has_ended u same turned released once table =
+    has_ended_so rolling is released once table =
         let b = run.0 in
         let r = run.1 in
         let below = below_next d before s v t row old r found checked plain in
-        let is : HasEndedNow d b r.base r.now r.redo_end t old.disk new.writer new.disk = subst (λ (x : Undone). Turned d b r.base r.now r.redo_end t old.disk new.writer new.disk x) same turned in
         let took = is.took in
         let between = took.taken.now.log in
         let undoes = took_newest d b r.base r.now r.redo_end t is.last is.undo_next old.disk is.between is.mid took in
@@ -321,7 +403,7 @@ module _ {D : Type 0} (d : Ghosts D) (before : List Effect) (s : Shown) (v : Vie
         let ended = ends_leave_nothing b t c r.now.log between newest undoes is.none refl refl in
         let w = undid_last v t c in
         let shown = shows s (Continue t) (Some RolledBack) in
-        let served = last_undone_served b r.earlier before s v r.now.log between old.txns.rows old.txns.next old.locks new.locks t row c newest r.serving found (mark d before s v t row old r found checked plain) undoes is.none refl refl released once in
+        let served = last_undone_served b r.earlier before s v r.now.log between old.txns.rows old.txns.next old.locks new.locks t row c newest r.serving found rolling undoes is.none refl refl released once in
         let now = is.end.now in
         let running : IsRunning d b before shown w new = record {
           base = r.base;
@@ -345,6 +427,17 @@ module _ {D : Type 0} (d : Ghosts D) (before : List Effect) (s : Shown) (v : Vie
         } in
         step_made d before s v (Continue t) RolledBack old new w served.0 running works_on (undo_stops stops) tt r
         (ends_by_turn (none_owns t plain) (record { between = between; one = record { grows = took.taken.goes.grows; once = took.taken.once }; last = is.last; lsn = is.end.lsn; is = is.end.log }))
+
+    pub has_ended : (ends : Bool) → ends ≡ ends_back row → (u : Undone) → u ≡ turns.Ended → Turned d run.0 run.1.base ends run.1.now run.1.redo_end t old.disk new.writer new.disk u → IsReleased old.locks t new.locks
+        → length old.txns.rows ≡ length (without t old.txns.rows) + 1 → new.txns ≡ record old.txns { rows = without t old.txns.rows } → StepKept d before s v (Continue t) RolledBack old new
+    has_ended ends ends_so u same turned released once table = by (mark d before s v t row old run.1 found checked plain)
+      where
+        so : (m : Mark) → row.mark ≡ m → Turned d run.0 run.1.base (is_rolling_back m) run.1.now run.1.redo_end t old.disk new.writer new.disk turns.Ended
+        so m is = subst (λ (x : Bool × Undone). Turned d run.0 run.1.base x.0 run.1.now run.1.redo_end t old.disk new.writer new.disk x.1) (λ i. ((ends_so ∙ ap is_rolling_back is) i, same i)) turned
+
+        by : GoesBack row → StepKept d before s v (Continue t) RolledBack old new
+        by (inl is) = has_ended_so is (so marks.RollingBack is) released once table
+        by (inr x) = absurd (so (marks.Returning x.0) x.1)
 
   -- it is refused: for want of memory all is as it was, and any other refusal breaks the engine
   pub turn_refused : (f : Fault) → TurnEnds d may_turn old.writer new.writer new.disk (Some f) → f ≢ NotAStore → (f ≡ Memory → Evicted d run.0 run.1.base run.1.now old.disk new.writer new.disk)

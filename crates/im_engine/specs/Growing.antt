@@ -1,6 +1,6 @@
 -- Which records join the log in a step.
 use Rattle.std.specs.Prelude.{◌≡◌, ◌≢◌, ◌≤◌, ℕ, true, false, [], ◌∷◌, length, Option, None, Some}
-use Rattle.im_base_types.specs.Answers.{Step, Reply, Do, Insert, Delete, Commit, Rollback, Continue, Force, Checkpoint, Switch, Started, Inserted, Deleted, Committed, RolledBack, More, Done}
+use Rattle.im_base_types.specs.Answers.{Step, Reply, Do, Insert, Delete, Commit, Rollback, Continue, RollTo, Force, Checkpoint, Switch, Started, Inserted, Deleted, Committed, RolledBack, More, Done}
 use Rattle.im_base_types.specs.Keys.{Key}
 use Rattle.im_base_types.specs.Pages.{Body}
 use Rattle.im_base_types.specs.Records.{InsertKey, DeleteKey, Logged}
@@ -144,7 +144,7 @@ pub record ClosesThen (t : ℕ) (Behind : History → Type 0) (older : History) 
   pub closes : Closes t older closed
   pub behind : Behind closed
 
--- What a Continue adds that is answered More, by whose structure change was under way, and is.
+-- What a Continue adds that is answered More, or Done where a return ends, by whose structure change was under way, and is.
 pub data GoesOnBy (b : Base) (was now : Option Under) (t : ℕ) (older longer : History) : Type 0 where
   -- a change is taken back, beside the structure change of another or none
   turns : owner_of was ≢ Some t → owner_of now ≢ Some t → TakesOneBack t older longer → GoesOnBy b was now t older longer
@@ -163,7 +163,7 @@ pub data EndsBy (was : Option Under) (t : ℕ) (older longer : History) : Type 0
   ends_behind : was ≡ Some (record { owner = t; aim = TakesBack }) → ClosesThen t (λ between. TakesLastBack t between longer) older → EndsBy was t older longer
   ends_drop : was ≡ Some (record { owner = t; aim = TookBack }) → ClosesThen t (λ between. EndsAlone t between longer) older → EndsBy was t older longer
 
--- By the reply and the step, by whether a Checkpoint may list each changed page, and by the structure change that was under way before the step and is after it. A step that is not named here adds Images alone, which writes of pages want, and a Begin, a Rollback that begins and a Force add nothing.
+-- By the reply and the step, by whether a Checkpoint may list each changed page, and by the structure change that was under way before the step and is after it. A step that is not named here adds Images alone, which writes of pages want, and a Begin, a Rollback that begins, a RollTo and a Force add nothing.
 abbrev pub GrowsAs : Base → (Few : Type 0) → (was now : Option Under) → Reply → Step → History → History → Type 0
 GrowsAs b Few was now Inserted (Do t (Insert key rid)) older longer = PutsKey b t key rid older longer
 GrowsAs b Few was now Inserted (Continue t) older longer = ClosesThen t (λ between. PutsPending b was between longer) older
@@ -174,10 +174,13 @@ GrowsAs b Few was now More (Do t (Insert key rid)) older longer = LogsPage b t o
 GrowsAs b Few was now More (Do t (Delete key)) older longer = DropsAlone b t key older longer
 GrowsAs b Few was now More (Commit t) older longer = AddsCommit t older longer
 GrowsAs b Few was now More (Rollback t) older longer = longer ≡ older
+GrowsAs b Few was now More (RollTo t n) older longer = longer ≡ older
 GrowsAs b Few was now More (Continue t) older longer = GoesOnBy b was now t older longer
+GrowsAs b Few was now Done (Continue t) older longer = GoesOnBy b was now t older longer
 GrowsAs b Few was now RolledBack (Rollback t) older longer = AddsEnd t older longer
 GrowsAs b Few was now RolledBack (Continue t) older longer = EndsBy was t older longer
 GrowsAs b Few was now (Started n) step older longer = longer ≡ older
+GrowsAs b Few was now Done (RollTo t n) older longer = longer ≡ older
 GrowsAs b Few was now Done Force older longer = longer ≡ older
 GrowsAs b Few was now Done Checkpoint older longer = AddsCheckpoint b Few older longer
 GrowsAs b Few was now Done Switch older longer = ⊥  -- the log goes on in the other file

@@ -7,7 +7,7 @@ use Rattle.im_base_types.specs.Maps.{IndexMap}
 use Rattle.im_base_types.specs.Records.{What, Logged}
 use Rattle.im_base_types.specs.declared.fault.Fault.{Fault}
 use Rattle.im_base_steps.specs.declared.reply.Reply.{Reply}
-use Rattle.im_base_steps.specs.declared.reply.Reply.TheVariants.{Inserted, Deleted, RolledBack, More, Refused}
+use Rattle.im_base_steps.specs.declared.reply.Reply.TheVariants.{Inserted, Deleted, RolledBack, More, Done, Refused}
 use Rattle.im_theory_log.specs.Histories.{History}
 use Rattle.im_theory_tree.specs.Levels.{Pages}
 use Rattle.im_theory_tree.specs.Search.{IsOnWay}
@@ -70,12 +70,12 @@ TreeCause pages beside m log _ = ⊥
 abbrev pub IsRefusal : Reply → Type 0
 IsRefusal reply = (fault : Fault) × (reply ≡ Refused fault)
 
--- what its last step answers
+-- what its last step answers; after one for a change that is taken back it is More, or the end of a rollback or of a return
 abbrev pub EndsAs : Aim → Reply → Type 0
 EndsAs (Puts key rid leaf) reply = reply ≡ Inserted
 EndsAs (Drops key) reply = reply ≡ Deleted
-EndsAs TakesBack reply = (reply ≡ More) ⊎ (reply ≡ RolledBack)
-EndsAs TookBack reply = (reply ≡ More) ⊎ (reply ≡ RolledBack)
+EndsAs TakesBack reply = (reply ≡ More) ⊎ (reply ≡ RolledBack) ⊎ (reply ≡ Done)
+EndsAs TookBack reply = (reply ≡ More) ⊎ (reply ≡ RolledBack) ⊎ (reply ≡ Done)
 
 -- Its owner's Continue makes one page of it, as long as one is left, and after the last one ends it. Refused at a page, it is as it was.
 pub record GoesOnWith (u : Under) (reply : Reply) (new : Option Under) : Type 0 where

@@ -2,7 +2,7 @@
 --
 -- A store is three files: two logs, of which one is the current one, and pages. It lives again and again. A life is an opening, steps of any transactions in any order, and a stop: at the end, or at any moment before, within a step or within the opening. The next life begins with what the stop left of the three files.
 --
--- What a transaction did is its effect: keys put with a number, keys dropped. Its commit is asked when the step Commit is made, and acknowledged when `Committed` has been handed out, or, where it was answered `More`, when `Done` of the next Force has been.
+-- What a transaction did is its effect: keys put with a number, keys dropped, but for what it took back. Its commit is asked when the step Commit is made, and acknowledged when `Committed` has been handed out, or, where it was answered `More`, when `Done` of the next Force has been.
 use Rattle.std.specs.Prelude.{◌≡◌, ◌⊎◌, ◌++◌, ℕ, zero, suc, true, List, [], ◌∷◌, map, take, Option, None, Some, IfSome}
 use Rattle.std.specs.List.{Contains}
 use Rattle.std.specs.FinMap.{empty, entries}
@@ -92,5 +92,8 @@ pub record IsAsAlone (base : IndexMap) (trace : List (answers.Step × answers.Re
   -- One that was rolled back gets them on the map committed just before.
   pub rolled_back : (front rest : List (answers.Step × answers.Reply)) (t : ℕ) (reply : answers.Reply) → trace ≡ front ++ (answers.Rollback t, reply) ∷ rest → (reply ≡ answers.More) ⊎ (reply ≡ answers.RolledBack) →
       IsReplay (committed_map base front) (finished t trace)
+  -- What one took back, with all before it, it had been told on the map committed just before. From then on this counts as none of its replies.
+  pub returned : (front rest : List (answers.Step × answers.Reply)) (t left : ℕ) (reply : answers.Reply) → trace ≡ front ++ (answers.RollTo t left, reply) ∷ rest → (reply ≡ answers.More) ⊎ (reply ≡ answers.Done) →
+      IsReplay (committed_map base front) (finished t front)
   -- One that is still active gets them on the map committed now: it is going, or was told to roll back, or its commit waits for a Force.
   pub going : (t : ℕ) → MayRollBack (((shown_by nothing_shown trace).running t).mark) ⊎ (is_among t (queue_after_all [] trace) ≡ true) → IsReplay (committed_map base trace) (finished t trace)

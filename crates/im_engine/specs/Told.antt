@@ -156,10 +156,17 @@ abbrev pub IsEmptied : Option Transaction → Type 0
 IsEmptied None = ⊥
 IsEmptied (Some row) = (1 ≤ row.last) × (row.changes ≡ 0)
 
--- A Commit is answered at once where Commits do not wait for a force, or no change of its transaction stands, and else it waits.
+-- no more than so many changes of it stand
+abbrev pub HasAtMost : ℕ → Option Transaction → Type 0
+HasAtMost left None = ⊥
+HasAtMost left (Some row) = row.changes ≤ left
+
+-- A Commit is answered at once where Commits do not wait for a force, or no change of its transaction stands, and else it waits. A RollTo is answered Done where no more changes stand than it leaves, and else More.
 abbrev pub SuitsGroup : answers.Step → Reply → Numbered → Type 0
 SuitsGroup (answers.Commit t) Committed txns = (txns.group ≡ false) ⊎ (HasChanged (find (is_of t) txns.rows) → ⊥)
 SuitsGroup (answers.Commit t) More txns = (txns.group ≡ true) × HasChanged (find (is_of t) txns.rows)
+SuitsGroup (answers.RollTo t left) Done txns = HasAtMost left (find (is_of t) txns.rows)
+SuitsGroup (answers.RollTo t left) More txns = HasAtMost left (find (is_of t) txns.rows) → ⊥
 SuitsGroup _ _ txns = Unit {0}
 
 -- The fault is that of the first check that is failed; where none is, it has this cause.
@@ -263,7 +270,7 @@ module _ {D : Type 0} (d : Ghosts D) where
     abbrev pub OfForce : Type 0
     OfForce = Where (d.failed disk ≡ true) (fault ≡ Device) ⊥
 
-    -- After the checks, why this fault refuses a step that left this log and this disk. The record of a Commit takes 33 bytes, and so does the End of one of which no change stands. A Checkpoint syncs the file of pages before its record joins the log, so a disk that fails is told first; where it writes pages before that, it may be refused as a flush is, or for its record, and the log is full either way. A Rollback that was let through is refused only where all changes are taken back, as the End is logged, of 33 bytes too. A RollTo is not served.
+    -- After the checks, why this fault refuses a step that left this log and this disk. The record of a Commit takes 33 bytes, and so does the End of one of which no change stands. A Checkpoint syncs the file of pages before its record joins the log, so a disk that fails is told first; where it writes pages before that, it may be refused as a flush is, or for its record, and the log is full either way. A Rollback that was let through is refused only where all changes are taken back, as the End is logged, of 33 bytes too; a RollTo never.
     abbrev pub Refuses : answers.Step → Type 0
     Refuses answers.Begin = Where (2 ^ 62 < old.txns.next) (fault ≡ Capacity) ⊥
     Refuses (answers.Do t (answers.Fetch key)) = IsFor (ReadCause d log disk)
@@ -275,7 +282,7 @@ module _ {D : Type 0} (d : Ghosts D) where
     Refuses (answers.Do t (answers.Delete key)) = IsFor (DeleteCause d log disk)
     Refuses (answers.Commit t) = Where (HasLogged (find (is_of t) old.txns.rows)) (Where (2 ^ 62 < end_with old.writer.log 33) (fault ≡ LogFull) OfForce) ⊥
     Refuses (answers.Rollback t) = Where (IsEmptied (find (is_of t) old.txns.rows)) (Where (2 ^ 62 < end_with old.writer.log 33) (fault ≡ LogFull) OfForce) ⊥
-    Refuses (answers.RollTo t left) = fault ≡ NoTransaction
+    Refuses (answers.RollTo t left) = ⊥
     Refuses (answers.Continue t) = IsFor (TurnCause d log disk)
     Refuses (answers.FlushPage page) = IsFor (FlushCause d log disk)
     Refuses answers.Force = OfForce
@@ -415,7 +422,7 @@ module _ {D : Type 0} (d : Ghosts D) where
     pub at_once : old.stepped ≡ false → SuitsAtOnce (asked_by step) (told_by reply)
     -- how it goes on with a structure change that is made page by page, or beside it
     pub paced : IsPaced (asked_by step) reply old new
-    -- a Commit that is not refused is answered More just where Commits wait for a force and changes of its transaction stand
+    -- a Commit that is not refused is answered More just where Commits wait for a force and changes of its transaction stand, and a RollTo just where more stand than it leaves
     pub grouped : SuitsGroup (asked_by step) reply old.txns
     pub wants : old.failed ≡ false → (b : Base) (before : List Effect) (s : Shown) (v : View) (r : IsRunning d b before s v old) → WantsHere b before s v r (asked_by step) reply new
     -- what finds all that it reads held, or has nothing to write, asks nothing of the disk

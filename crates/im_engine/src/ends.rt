@@ -146,14 +146,22 @@ impl<D: Disk> Engine<D> {
         Reply::RolledBack
     }
 
-    // A return to a part of the changes is not served.
+    // Begins to take the newest changes of a transaction back, up to so many (`returns_turn`); one that has no more goes on, also where it was
+    // told to die (`returns_stay`).
     pub(crate) fn roll_to(&mut self, t: TxnId, left: u64) -> Reply
         requires works { self.old.failed ≡ false }
         requires checked { checked_by self.old.txns.rows (owns_in (under_of self.old.under) (answers.RollTo t left)) (answers.RollTo t left) ≡ None }
         ensures { IsMade D.Disk (answers.RollTo t left) result self.old self.new }
     {
-        let _asked = (t, left);
-        Reply::Refused(Fault::NoTransaction)
+        let Some(row) = self.txns.find(t) else {
+            return Reply::Refused(Fault::NoTransaction);
+        };
+        if row.changes <= left {
+            self.txns.set_mark(t, Mark::Going);
+            return Reply::Done;
+        }
+        self.txns.set_mark(t, Mark::Returning(left));
+        Reply::More
     }
 
     // Makes every record durable, and ends all that wait (`forces_are_served`, `commits_stand.acked`).

@@ -4,7 +4,6 @@ ghost use Rattle.std.specs.Prelude.{◌≡◌, ◌≤◌, length, false, is_some
 ghost use Rattle.std.proofs.Props.{props};
 ghost use Rattle.im_log.proofs.Waiting.{sealed_prop};
 ghost use Rattle.im_page_writer.specs.PageWriter.{IsReadyWriter};
-ghost use Rattle.im_engine.specs.Numbered.{NoneReturns, none_returns_prop};
 
 use crate::engine::checks::{has_length, owns, to_access, to_commit, to_continue, to_rollback};
 use crate::stepped::Under;
@@ -42,7 +41,7 @@ pub struct Engine<D: Disk> {
     pub(crate) under: Option<Under>,
     ghost ready: { IsReadyWriter D.Disk writer disk } by { Prim.hlevel (props, sealed_prop) },
     ghost working: { failed ≡ false → writer.failed ≡ false },
-    ghost numbered: { (1 ≤ txns.next) × NoneReturns txns.rows } by { Prim.hlevel (props, none_returns_prop) },
+    ghost numbered: { 1 ≤ txns.next },
     ghost sized: { length room.items ≡ 16384 },
     ghost whole: { stepped ≡ false → is_some under ≡ false },
 }
@@ -171,10 +170,15 @@ impl<D: TwoLogs> Engine<D> {
     /// Continues. Meanwhile a step of another is answered `Blocked` by the tree where it would read a page that is made, change one that is
     /// to be made, or needs a change of its own.
     ///
+    /// `RollTo` names how many changes of its transaction are to stand: its replies `Inserted` and `Deleted`, but for those taken back. Where no more
+    /// stand it is answered `Done`, and the transaction is going, also where it had been answered `Die`. Else it is answered `More`, and each Continue
+    /// takes the newest change back, as in a rollback, up to the one that is answered `Done`: then so many stand, and it is going. It keeps its locks,
+    /// and nothing is logged for it but the compensations. One that has records and no change that stands ends with an End, and no force.
+    ///
     /// Refused by the first of these that holds: `Failed` where an earlier step broke the engine; `TooMany` at Begin where 64 transactions
     /// are active; `Busy` at Switch where one is, or waits for a force; `NoTransaction` where none of that number is active or it waits for
-    /// a force, or at Continue where it has nothing to go on with, and at RollTo, which is not served; `MustRollBack` where it was answered `Die`; `RollingBack` where it is
-    /// taking back; `Unfinished` where an Insert or a Delete of it goes on, but at Continue; `KeyLength`; `PagesFull` where an insert needs
+    /// a force, or at Continue where it has nothing to go on with; `MustRollBack` where it was answered `Die`, but at Rollback and RollTo;
+    /// `RollingBack` where it takes changes back, but at Continue; `Unfinished` where an Insert or a Delete of it goes on, but at Continue; `KeyLength`; `PagesFull` where an insert needs
     /// pages past the limit; `Capacity` where page numbers, levels, transaction numbers or generations of the log are used up. In between
     /// come `LogFull` where the log has no room below LSN 2^62, `Device`, `NotAStore` where a page's bytes are none, `Memory`, and `Failed`
     /// where memory was wanted too late. `LogFull`, `Capacity`, `Device`, `NotAStore` and `Failed` break the engine; after every other

@@ -5,7 +5,7 @@ ghost use Rattle.std.specs.Prelude.{◌≡◌, ◌≢◌, List, Err, IfOk, IfErr
 use crate::accesses::breaks;
 use crate::engine::Engine;
 use im_base_disk::Disk;
-use im_base_types::{Fault, Key, PageNo, Rid};
+use im_base_types::{Fault, Key, PageNo, Rid, TxnId};
 use im_page::Header;
 use im_page_pool::Frame;
 use std::alloc::Global;
@@ -23,7 +23,7 @@ impl<D: Disk> Engine<D> {
     ghost use Rattle.im_theory_machine.specs.View.{View};
     ghost use Rattle.im_engine.specs.Running.{IsRunning, IsLife};
     ghost use Rattle.im_engine.specs.Kept.{LookKept, EntriesKept};
-    ghost use Rattle.im_engine.specs.Looking.{Looks, header_of};
+    ghost use Rattle.im_engine.specs.Looking.{Looks, header_of, Counts};
     ghost use Rattle.im_engine.specs.declared.config.Config.{Config};
     ghost use Rattle.im_engine.specs.Opening.{IsOpening};
     ghost use Rattle.im_engine.specs.Stands.{StandsFor};
@@ -56,6 +56,20 @@ impl<D: Disk> Engine<D> {
                 self.failed = breaks(fault);
                 Err(fault)
             }
+        }
+    }
+
+    /// How many changes of a transaction stand: of its replies `Inserted` and `Deleted` those that it did not take back. A later RollTo of as many
+    /// returns to here. Refused `Failed`; `NoTransaction` where none of that number is active, or it waits for a force.
+    pub fn changes(&self, t: TxnId) -> Result<u64, Fault>
+        ensures { Counts D.Disk t self.now result }
+    {
+        if self.failed {
+            return Err(Fault::Failed);
+        }
+        match self.txns.find(t) {
+            Some(row) if !row.mark.is_committing() => Ok(row.changes),
+            _ => Err(Fault::NoTransaction),
         }
     }
 

@@ -1,11 +1,11 @@
-//! Active transactions, and the number that is given next. None of them is marked as one that returns to a part of its changes.
+//! Active transactions, and the number that is given next.
 
 ghost use Rattle.std.specs.Prelude.{◌≡◌, ◌<◌, ◌≤◌, ◌^◌, ◌+◌, ◌-◌, ◌++◌, [], ◌∷◌, not, filter, find, length, map, true, false, IfSome, IfNone, Some};
 ghost use Rattle.im_base_txn.specs.Rows.{AreRising, begun, changed, is_of, is_committing, is_waiting, waits_at, waiting_in, with_changes, with_mark, with_record, without_waiting};
 ghost use Rattle.im_theory_steps.specs.Steps.{counted, with_made, with_undone};
-ghost use Rattle.im_base_txn.specs.declared.transaction.Mark.TheVariants.{Committing};
+ghost use Rattle.im_base_txn.specs.declared.transaction.Mark.TheVariants.{Committing, Going};
 ghost use Rattle.im_base_txn.specs.declared.transaction.Transaction.{Transaction as Row};
-ghost use Rattle.im_engine.specs.Numbered.{NoneReturns, is_returning, with_back};
+ghost use Rattle.im_engine.specs.Numbered.{has_returned, on_again, with_back};
 
 use im_base_txn::{Mark, Table, Transaction, law_numbers_stay_below};
 use im_base_types::{LAST_TRANSACTION, Lsn, TxnId};
@@ -23,7 +23,7 @@ pub struct Transactions {
 }
 
 impl Model for Transactions {
-    ghost use Rattle.im_engine.specs.Numbered.{NoneReturns, Numbered};
+    ghost use Rattle.im_engine.specs.Numbered.{Numbered};
     ghost use Rattle.im_base_txn.specs.Rows.{AreAbove, AreBelow, waiting_in};
     ghost use Rattle.std.specs.Prelude.{◌≡◌, false, length, ◌≤◌};
 
@@ -31,7 +31,7 @@ impl Model for Transactions {
 
     ghost view = { λ txns. record { rows = txns.table; next = txns.next; group = txns.group; waiting = txns.waiting } };
 
-    ghost invariant = { λ txns. AreBelow txns.next txns.table × (length txns.table ≤ 64) × AreAbove 0 txns.table × (1 ≤ txns.next) × (txns.waiting ≡ waiting_in txns.table) × (txns.group ≡ false → txns.waiting ≡ 0) × NoneReturns txns.table };
+    ghost invariant = { λ txns. AreBelow txns.next txns.table × (length txns.table ≤ 64) × AreAbove 0 txns.table × (1 ≤ txns.next) × (txns.waiting ≡ waiting_in txns.table) × (txns.group ≡ false → txns.waiting ≡ 0) };
 }
 
 impl Transactions {
@@ -39,7 +39,6 @@ impl Transactions {
     pub fn starting_at(next: TxnId, group: bool) -> Transactions
         requires { 1 ≤ next }
         ensures starts { (result.rows ≡ []) × (result.next ≡ next) × (result.group ≡ group) × (result.waiting ≡ 0) }
-        ensures forward { NoneReturns result.rows }
     {
         Transactions {
             table: Table::new(),
@@ -108,7 +107,6 @@ impl Transactions {
         ensures some { IfSome result (λ number. (number ≡ self.old.next) × (number ≤ 2 ^ 62) × (self.new ≡ record self.old { rows = self.old.rows ++ begun number ∷ []; next = number + 1 })) }
         ensures none { IfNone result (self.new ≡ self.old) }
         ensures used_up { IfNone result (2 ^ 62 < self.old.next) }
-        ensures forward { NoneReturns self.new.rows }
     {
         let Transactions { table, next, .. } = self;
         let number = *next;
@@ -124,7 +122,6 @@ impl Transactions {
     /// Notes a record of the transaction of this number: its LSN, and the transaction's next LSN to undo.
     pub fn note_record(&mut self, number: TxnId, lsn: Lsn, undo_next: Lsn)
         ensures table { self.new ≡ record self.old { rows = map (changed number (with_record lsn undo_next)) self.old.rows } }
-        ensures forward { NoneReturns self.new.rows }
     {
         law_numbers_stay_below();
         self.table.note_record(number, lsn, undo_next);
@@ -133,7 +130,6 @@ impl Transactions {
     /// Notes the record of a key at this LSN: one change more of the transaction stands.
     pub fn note_made(&mut self, number: TxnId, lsn: Lsn)
         ensures table { self.new ≡ record self.old { rows = counted number lsn self.old.rows } }
-        ensures forward { NoneReturns self.new.rows }
     {
         self.law_are_counted();
         let changes = count_made(self.table.find(number), lsn);
@@ -143,7 +139,6 @@ impl Transactions {
     /// Notes a record with which a change of the transaction was taken back.
     pub fn note_undone(&mut self, number: TxnId, last: Lsn, undo_next: Lsn)
         ensures table { self.new ≡ record self.old { rows = map (changed number (with_undone last undo_next)) self.old.rows } }
-        ensures forward { NoneReturns self.new.rows }
     {
         self.law_are_counted();
         let changes = count_undone(self.table.find(number));
@@ -153,7 +148,6 @@ impl Transactions {
     /// Notes the last record of the end of a structure change of a rollback: after a split a change was taken back.
     pub fn note_back(&mut self, number: TxnId, last: Lsn, undo_next: Lsn, splits: bool)
         ensures table { self.new ≡ record self.old { rows = map (changed number (with_back splits last undo_next)) self.old.rows } }
-        ensures forward { NoneReturns self.new.rows }
     {
         if splits {
             self.note_undone(number, last, undo_next);
@@ -164,23 +158,35 @@ impl Transactions {
 
     fn note_change(&mut self, number: TxnId, lsn: Lsn, undo_next: Lsn, changes: u64)
         ensures table { self.new ≡ record self.old { rows = map (changed number (with_changes lsn undo_next changes)) self.old.rows } }
-        ensures forward { NoneReturns self.new.rows }
     {
         law_numbers_stay_below();
         self.table.note_change(number, lsn, undo_next, changes);
     }
 
-    /// Marks the transaction of this number, which neither waits for a force nor is to, and does not return to a part of its changes.
+    /// Marks the transaction of this number, which neither waits for a force nor is to.
     pub fn set_mark(&mut self, number: TxnId, mark: Mark)
         requires before { waits_at (find (is_of number) self.old.rows) ≡ false }
         requires after { is_committing mark ≡ false }
-        requires forward { is_returning mark ≡ false }
         ensures table { self.new ≡ record self.old { rows = map (changed number (with_mark mark)) self.old.rows } }
-        ensures forward { NoneReturns self.new.rows }
     {
         self.law_are_counted();
         law_numbers_stay_below();
         self.table.set_mark(number, mark);
+    }
+
+    /// Lets the transaction of this number go on where it returns to a part of its changes, and no more are left. Whether that is so.
+    pub fn end_return(&mut self, number: TxnId) -> bool
+        ensures done { IfSome (find (is_of number) self.old.rows) (λ row. result ≡ has_returned row) }
+        ensures table { self.new ≡ record self.old { rows = on_again number self.old.rows } }
+        ensures on { result ≡ true → self.new ≡ record self.old { rows = map (changed number (with_mark Going)) self.old.rows } }
+        ensures still { result ≡ false → self.new ≡ self.old }
+    {
+        self.law_are_counted();
+        if !is_back(self.table.find(number)) {
+            return false;
+        }
+        self.set_mark(number, Mark::Going);
+        true
     }
 
     /// The Commit of the transaction of this number is logged, and waits for a force.
@@ -188,7 +194,6 @@ impl Transactions {
         requires group { self.old.group ≡ true }
         requires there { (row : Row) × (find (is_of number) self.old.rows ≡ Some row) × (is_waiting row ≡ false) }
         ensures table { self.new ≡ record self.old { rows = map (changed number (with_mark Committing)) self.old.rows; waiting = self.old.waiting + 1 } }
-        ensures forward { NoneReturns self.new.rows }
     {
         self.law_are_counted();
         law_numbers_stay_below();
@@ -199,7 +204,6 @@ impl Transactions {
     /// Ends the transactions that wait for a force.
     pub fn end_waiting(&mut self)
         ensures table { self.new ≡ record self.old { rows = without_waiting self.old.rows; waiting = 0 } }
-        ensures forward { NoneReturns self.new.rows }
     {
         law_numbers_stay_below();
         self.table.end_waiting();
@@ -211,7 +215,6 @@ impl Transactions {
         requires { waits_at (find (is_of number) self.old.rows) ≡ false }
         ensures left { self.new ≡ record self.old { rows = filter (λ row. not (is_of number row)) self.old.rows } }
         ensures one { (row : Row) → find (is_of number) self.old.rows ≡ Some row → length self.old.rows ≡ length self.new.rows + 1 }
-        ensures forward { NoneReturns self.new.rows }
     {
         self.law_are_counted();
         law_numbers_stay_below();
@@ -237,5 +240,19 @@ fn count_undone(row: Option<Transaction>) -> u64
     match row {
         Some(row) => row.changes.saturating_sub(1),
         None => 0,
+    }
+}
+
+// Whether a transaction returns to a part of its changes, and no more are left.
+fn is_back(row: Option<Transaction>) -> bool
+    ensures some { IfSome row (λ was. result ≡ has_returned was) }
+    ensures none { IfNone row (result ≡ false) }
+{
+    let Some(row) = row else {
+        return false;
+    };
+    match row.mark {
+        Mark::Returning(left) => row.changes <= left,
+        _ => false,
     }
 }

@@ -64,8 +64,7 @@ wants-full (Do t (Delete k)) f e = ap (λ n. n == 14) e
 wants-full (Commit t) f e = ap (λ n. n == 14) e
 wants-full (Rollback t) f e = ap (λ n. n == 14) e
 wants-full (Continue t) f e = ap (λ n. n == 14) e
-wants-full (RollTo t n) f (inl e) = ap (λ n. n == 14) e
-wants-full (RollTo t n) f (inr e) = ap (λ n. n == 14) e
+wants-full (RollTo t n) f e = ap (λ n. n == 14) e
 wants-full (FlushPage p) f e = ap (λ n. n == 14) e
 wants-full Force f e = ap (λ n. n == 14) e
 wants-full Checkpoint f e = ap (λ n. n == 14) e

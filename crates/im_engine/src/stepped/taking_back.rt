@@ -5,6 +5,7 @@ ghost use Rattle.std.specs.Prelude.{◌≡◌, ◌≢◌, None, Some, false, tru
 use crate::accesses::{breaks, told};
 use crate::engine::Engine;
 use crate::stepped::{Aim, Under, beside_of};
+use crate::turns::ends_back;
 use im_base_disk::Disk;
 use im_base_steps::{Blocker, Reply};
 use im_base_types::{Fault, TxnId};
@@ -18,9 +19,9 @@ impl<D: Disk> Engine<D> {
     ghost use Rattle.im_engine.specs.Aims.{under_of};
     ghost use Rattle.im_engine.specs.Told.{IsMade};
 
-    // Takes back the newest change that a transaction has left, so far as one step goes, and ends it where that was the last. A split that
-    // comes first begins with its first page (`turns_begin`), a deletion after it with none (`turns_empty`); the structure change of another may
-    // stand in the way (`trees_halt`).
+    // Takes back the newest change that a transaction has left, so far as one step goes; one that rolls back ends where that was the last, and one
+    // that has returned goes on. A split that comes first begins with its first page (`turns_begin`), a deletion after it with none (`turns_empty`);
+    // the structure change of another may stand in the way (`trees_halt`).
     pub(crate) fn take_back(&mut self, t: TxnId) -> Reply
         requires works { self.old.failed ≡ false }
         requires stepped { self.old.stepped ≡ true }
@@ -41,10 +42,14 @@ impl<D: Disk> Engine<D> {
             row.undo_next,
             self.room.as_mut_slice(),
             beside_of(&self.under),
+            ends_back(&row),
         ) {
             Ok(Sight::Seen(UndoneInSteps::Made(Undone::More { last, undo_next }))) => {
                 self.failed = false;
                 self.txns.note_undone(t, last, undo_next);
+                if self.txns.end_return(t) {
+                    return Reply::Done;
+                }
                 Reply::More
             }
             Ok(Sight::Seen(UndoneInSteps::Made(Undone::Ended))) => {

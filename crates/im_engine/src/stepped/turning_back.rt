@@ -1,9 +1,10 @@
-//! The end of a structure change of a rollback.
+//! The end of a structure change for a change that is taken back.
 
 ghost use Rattle.std.specs.Prelude.{◌≡◌, None, false};
 
 use crate::accesses::{breaks, told};
 use crate::engine::Engine;
+use crate::turns::ends_back;
 use im_base_disk::Disk;
 use im_base_steps::Reply;
 use im_base_types::{Fault, TxnId};
@@ -17,14 +18,17 @@ impl<D: Disk> Engine<D> {
     ghost use Rattle.im_engine.specs.TurningBack.{EndsBack};
     ghost use Rattle.im_engine.specs.Told.{IsMade};
 
-    // Ends the structure change of a rollback: closes it, and takes back the change for which a split was made. Where nothing is left to take back
-    // then, the transaction ends.
+    // Ends the structure change of a rollback or a return: closes it, and takes back the change for which a split was made. Where nothing is left to
+    // take back then, a transaction that rolls back ends; one that has returned goes on (`returns_end`, `returns_drop`).
     pub(crate) fn end_back(&mut self, t: TxnId, splits: bool) -> Reply
         requires works { self.old.failed ≡ false }
         requires end { EndsBack splits t self.old.under }
         requires checked { checked_by self.old.txns.rows (owns_in (under_of self.old.under) (answers.Continue t)) (answers.Continue t) ≡ None }
         ensures { IsMade D.Disk (answers.Continue t) result self.old self.new }
     {
+        let Some(row) = self.txns.find(t) else {
+            return Reply::Refused(Fault::NoTransaction);
+        };
         let Some(under) = &self.under else {
             return Reply::Refused(Fault::NoTransaction);
         };
@@ -36,11 +40,15 @@ impl<D: Disk> Engine<D> {
             under.begun.change(),
             splits,
             self.room.as_mut_slice(),
+            ends_back(&row),
         ) {
             Ok(Undone::More { last, undo_next }) => {
                 self.failed = false;
                 self.under = None;
                 self.txns.note_back(t, last, undo_next, splits);
+                if self.txns.end_return(t) {
+                    return Reply::Done;
+                }
                 Reply::More
             }
             Ok(Undone::Ended) => {

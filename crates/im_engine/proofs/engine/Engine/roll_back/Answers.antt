@@ -1,13 +1,12 @@
-use Rattle.std.proofs.Common.{◌≡◌, ◌⊎◌, inl, inr, false, refl, sym, ap, ◌∙◌, ◌+◌, length, arith, rules}
+use Rattle.std.proofs.Common.{inl, inr, refl, sym, ap, ◌∙◌, ◌+◌, length, arith, rules}
 use Rattle.im_engine.specs.Numbered.{Numbered, besides_rows}
-use Rattle.im_engine.proofs.Checked.{back_mark, back_unowned}
+use Rattle.im_engine.proofs.Checked.{back_mark, back_unowned, either_done}
 use Rattle.im_engine.proofs.Waits.{not_waiting}
 use Rattle.im_engine.proofs.Ending.{dropped, turned}
 use Rattle.std.proofs.lemmas.List.{length-map}
 use Rattle.im_base_steps.specs.declared.reply.Reply.TheVariants as replies
-use Rattle.im_base_txn.specs.Rows.{changed, is_committing, with_mark}
-use Rattle.im_base_txn.specs.declared.transaction.Mark.{Mark}
-use Rattle.im_base_txn.specs.declared.transaction.Mark.TheVariants.{Going, MustRollBack, RollingBack}
+use Rattle.im_base_txn.specs.Rows.{changed, with_mark}
+use Rattle.im_base_txn.specs.declared.transaction.Mark.TheVariants.{RollingBack}
 use Rattle.im_engine.proofs.Telling.{alive_now, told_answered, told_rolled_back}
 use Rattle.im_engine.proofs.Causes.{not_emptied, rollback_made}
 use Rattle.im_base_disk.proofs.Costs.{most_none}
@@ -18,19 +17,15 @@ use Rattle.im_engine.proofs.Paced.{paced_beside}
 use Rattle.im_engine.proofs.engine.Engine.roll_back.Goals as goal
 use Rattle.im_engine.proofs.Looked.{not_true}
 
-free_mark : (m : Mark) → (m ≡ Going) ⊎ (m ≡ MustRollBack) → is_committing m ≡ false
-free_mark m (inl e) = ap is_committing e
-free_mark m (inr e) = ap is_committing e
-
 pub set_mark-requires-clause-before : goal.set_mark-requires-clause-before
 set_mark-requires-clause-before g c =
     let found = sym c.in-Some.ensures.found in
-    not_waiting c.args.self.now.txns.rows c.args.t c.in-Some.row found (free_mark c.in-Some.row.mark (back_mark c.args.self.now.txns.rows _ c.args.t c.in-Some.row found c.requires.checked))
+    not_waiting c.args.self.now.txns.rows c.args.t c.in-Some.row found (either_done c.in-Some.row.mark (back_mark c.args.self.now.txns.rows _ c.args.t c.in-Some.row found c.requires.checked))
 
 pub end-requires : goal.end-requires
 end-requires g c =
     let found = sym c.in-Some.ensures.found in
-    not_waiting c.args.self.now.txns.rows c.args.t c.in-Some.row found (free_mark c.in-Some.row.mark (back_mark c.args.self.now.txns.rows _ c.args.t c.in-Some.row found c.requires.checked))
+    not_waiting c.args.self.now.txns.rows c.args.t c.in-Some.row found (either_done c.in-Some.row.mark (back_mark c.args.self.now.txns.rows _ c.args.t c.in-Some.row found c.requires.checked))
 
 pub returns-then-row-ne0 : goal.returns-then-row-ne0
 returns-then-row-ne0 g c =

@@ -1,5 +1,4 @@
 use Rattle.std.proofs.Common.{refl, ap}
-use Rattle.im_base_types.specs.Answers as answers
 use Rattle.im_base_steps.specs.declared.reply.Reply.TheVariants as replies
 use Rattle.im_engine_access.specs.LockAnswers.{entry_found, seek_at}
 use Rattle.im_engine.proofs.Causes.{seeks_read}

@@ -1,8 +1,8 @@
 use Rattle.std.proofs.Common.{◌≡◌, ◌+◌, ℕ, suc, [], ◌∷◌, length, length-append, ap, sym, subst, ◌∙◌, arith}
 use Rattle.im_base_txn.specs.Rows.{AreAbove, AreBelow, begun, waiting_in}
 use Rattle.im_base_txn.proofs.Waiting.{waiting_begun}
-use Rattle.im_engine.specs.Numbered.{NoneReturns, Numbered}
-use Rattle.im_engine.proofs.Numbers.{above_begun, forward_begun}
+use Rattle.im_engine.specs.Numbered.{Numbered}
+use Rattle.im_engine.proofs.Numbers.{above_begun}
 use Rattle.im_engine.proofs.transactions.Transactions.begin.Goals as goal
 
 pub invariant_of-self-2 : goal.invariant_of-self-2
@@ -20,8 +20,4 @@ invariant_of-self-2 c =
       omega (arith, owned),
       c.self.invariant.4 ∙ sym (ap waiting_in is ∙ waiting_begun next c.self.inside.table),
       c.self.invariant.5,
-      subst NoneReturns (sym is) (forward_begun next c.self.inside.table c.self.invariant.6),
     )
-
-pub returns-clause-forward : goal.returns-clause-forward
-returns-clause-forward c = subst NoneReturns (sym c.begin.ensures) (forward_begun c.self.inside.next c.self.inside.table c.self.invariant.6)

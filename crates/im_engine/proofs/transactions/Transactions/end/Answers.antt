@@ -3,8 +3,8 @@ use Rattle.std.proofs.lemmas.List.Filters.{length-filter_both}
 use Rattle.std.specs.Prelude.{find}
 use Rattle.im_base_txn.specs.Rows.{AreAbove, AreBelow, AreRising, is_of, waits_at, waiting_in}
 use Rattle.im_base_txn.proofs.Waiting.{waiting_ended}
-use Rattle.im_engine.specs.Numbered.{NoneReturns, Numbered}
-use Rattle.im_engine.proofs.Numbers.{above_without, forward_part}
+use Rattle.im_engine.specs.Numbered.{Numbered}
+use Rattle.im_engine.proofs.Numbers.{above_without}
 use Rattle.im_engine.proofs.transactions.Transactions.end.Goals as goal
 
 pub invariant_of-self : goal.invariant_of-self
@@ -20,14 +20,8 @@ invariant_of-self c =
       c.self.invariant.3,
       c.self.invariant.4 ∙ sym (ap waiting_in left ∙ waiting_ended c.args.number c.self.inside.table rising (subst (λ (x : Numbered). waits_at (find (is_of c.args.number) x.rows) ≡ false) (sym c.self.view_is) c.requires)),
       c.self.invariant.5,
-      subst NoneReturns (sym left) (forward_part (λ row. not (is_of c.args.number row)) c.self.inside.table c.self.invariant.6),
     )
   where
     twice : (b : Bool) → b ≡ not (not b)
     twice true = refl
     twice false = refl
-
-pub returns-clause-forward : goal.returns-clause-forward
-returns-clause-forward c =
-    let left = c.end.ensures.left in
-    subst NoneReturns (sym left) (forward_part (λ row. not (is_of c.args.number row)) c.self.inside.table c.self.invariant.6)

@@ -2,8 +2,6 @@ use Rattle.std.proofs.Common.{length, ap, sym, subst, refl, ◌∙◌, arith, no
 use Rattle.im_base_txn.specs.Rows.{AreAbove, AreBelow, is_waiting, waiting_in}
 use Rattle.im_base_txn.proofs.LookUps.{above_part}
 use Rattle.im_base_txn.proofs.Waiting.{waiting_counts, waiting_none}
-use Rattle.im_engine.specs.Numbered.{NoneReturns}
-use Rattle.im_engine.proofs.Numbers.{forward_part}
 use Rattle.im_engine.proofs.transactions.Transactions.end_waiting.Goals as goal
 
 pub invariant_of-self : goal.invariant_of-self
@@ -18,10 +16,4 @@ invariant_of-self c =
       c.self.invariant.3,
       sym (ap waiting_in left ∙ waiting_none c.self.inside.table),
       (λ off. refl),
-      subst NoneReturns (sym left) (forward_part (λ row. not (is_waiting row)) c.self.inside.table c.self.invariant.6),
     )
-
-pub returns-clause-forward : goal.returns-clause-forward
-returns-clause-forward c =
-    let left = c.end_waiting.ensures in
-    subst NoneReturns (sym left) (forward_part (λ row. not (is_waiting row)) c.self.inside.table c.self.invariant.6)

@@ -2,8 +2,7 @@ use Rattle.std.proofs.Common.{length, ap, sym, subst, refl, arith, ◌∙◌}
 use Rattle.im_theory_steps.proofs.Rows.{length_map}
 use Rattle.im_base_txn.specs.Rows.{AreAbove, AreBelow, changed, waiting_in, with_record}
 use Rattle.im_base_txn.proofs.Waiting.{waiting_noted}
-use Rattle.im_engine.proofs.Numbers.{above_changed, forward_changed}
-use Rattle.im_engine.specs.Numbered.{NoneReturns}
+use Rattle.im_engine.proofs.Numbers.{above_changed}
 use Rattle.im_engine.proofs.transactions.Transactions.note_record.Goals as goal
 
 pub invariant_of-self : goal.invariant_of-self
@@ -18,11 +17,4 @@ invariant_of-self c =
       c.self.invariant.3,
       c.self.invariant.4 ∙ sym (ap waiting_in is ∙ waiting_noted c.args.number c.args.lsn c.args.undo_next c.self.inside.table),
       c.self.invariant.5,
-      subst NoneReturns (sym is) (forward_changed c.args.number f (λ row none. none) c.self.inside.table c.self.invariant.6),
     )
-
-pub returns-clause-forward : goal.returns-clause-forward
-returns-clause-forward c =
-    let f = with_record c.args.lsn c.args.undo_next in
-    let is = c.note_record.ensures in
-    subst NoneReturns (sym is) (forward_changed c.args.number f (λ row none. none) c.self.inside.table c.self.invariant.6)

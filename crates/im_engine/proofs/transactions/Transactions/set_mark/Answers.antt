@@ -3,8 +3,8 @@ use Rattle.std.specs.Prelude.{find}
 use Rattle.im_theory_steps.proofs.Rows.{length_map}
 use Rattle.im_base_txn.specs.Rows.{AreAbove, AreBelow, AreRising, changed, is_of, waits_at, waiting_in, with_mark}
 use Rattle.im_base_txn.proofs.Waiting.{waiting_still}
-use Rattle.im_engine.specs.Numbered.{NoneReturns, Numbered}
-use Rattle.im_engine.proofs.Numbers.{above_changed, forward_changed}
+use Rattle.im_engine.specs.Numbered.{Numbered}
+use Rattle.im_engine.proofs.Numbers.{above_changed}
 use Rattle.im_engine.proofs.transactions.Transactions.set_mark.Goals as goal
 
 pub invariant_of-self : goal.invariant_of-self
@@ -20,11 +20,4 @@ invariant_of-self c =
       c.self.invariant.3,
       c.self.invariant.4 ∙ sym (ap waiting_in is ∙ waiting_still c.args.number c.args.mark c.self.inside.table rising (subst (λ (x : Numbered). waits_at (find (is_of c.args.number) x.rows) ≡ false) (sym c.self.view_is) c.requires.before) c.requires.after),
       c.self.invariant.5,
-      subst NoneReturns (sym is) (forward_changed c.args.number f (λ row none. c.requires.forward) c.self.inside.table c.self.invariant.6),
     )
-
-pub returns-clause-forward : goal.returns-clause-forward
-returns-clause-forward c =
-    let f = with_mark c.args.mark in
-    let is = c.set_mark.ensures in
-    subst NoneReturns (sym is) (forward_changed c.args.number f (λ row none. c.requires.forward) c.self.inside.table c.self.invariant.6)

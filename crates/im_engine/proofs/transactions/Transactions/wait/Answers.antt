@@ -6,8 +6,8 @@ use Rattle.im_base_txn.proofs.LookUps.{few_waiting}
 use Rattle.im_base_txn.proofs.Waiting.{waiting_more}
 use Rattle.im_base_txn.specs.declared.transaction.Mark.TheVariants.{Committing}
 use Rattle.im_base_txn.specs.declared.transaction.Transaction.{Transaction}
-use Rattle.im_engine.specs.Numbered.{NoneReturns, Numbered}
-use Rattle.im_engine.proofs.Numbers.{above_changed, forward_changed}
+use Rattle.im_engine.specs.Numbered.{Numbered}
+use Rattle.im_engine.proofs.Numbers.{above_changed}
 use Rattle.im_engine.proofs.transactions.Transactions.wait.Goals as goal
 
 pub invariant_of-self : goal.invariant_of-self
@@ -25,7 +25,6 @@ invariant_of-self c =
       c.self.invariant.3,
       (let count = ap waiting_in is ∙ waiting_more c.args.number c.self.inside.table rising there.0 there.1 there.2 in let was = c.self.invariant.4 in omega (arith, count, was)),
       (λ off. absurd (true≢false (sym grouped ∙ off))),
-      subst NoneReturns (sym is) (forward_changed c.args.number f (λ row none. refl) c.self.inside.table c.self.invariant.6),
     )
 
 pub overflow_add-self : goal.overflow_add-self
@@ -34,9 +33,3 @@ overflow_add-self c =
     let few = few_waiting c.self.inside.table in
     let most = c.self.invariant.1 in
     omega (arith, counted, few, most)
-
-pub returns-clause-forward : goal.returns-clause-forward
-returns-clause-forward c =
-    let f = with_mark Committing in
-    let is = c.set_mark.ensures in
-    subst NoneReturns (sym is) (forward_changed c.args.number f (λ row none. refl) c.self.inside.table c.self.invariant.6)
