@@ -62,11 +62,16 @@ module _ (d : Ghosts (Renamed ModelDisk)) where
   line_keeps stop lines.Calls told old new run = ap (λ (e : Engine (Renamed ModelDisk) d). e.report) run.1
   line_keeps stop lines.Redo told old new run = ap (λ (e : Engine (Renamed ModelDisk) d). e.report) run.1
   line_keeps stop lines.Log told old new run = ap (λ (e : Engine (Renamed ModelDisk) d). e.report) run.1
+  line_keeps stop (lines.Changes t) told old new run = ap (λ (e : Engine (Renamed ModelDisk) d). e.report) run.1
 
   -- a report that a line is told is the engine's
   page_told : (page : ℕ) (report : RedoReport) (header : Result Header Fault) → MatchResult header (λ h. replies.Redo report ≡ replies.Page page h) (λ f. replies.Redo report ≡ replies.Refused f) → ⊥
   page_told page report (Ok h) is = absurd (cc)
   page_told page report (Err f) is = absurd (cc)
+
+  count_told : (report : RedoReport) (count : Result ℕ Fault) → MatchResult count (λ n. replies.Redo report ≡ replies.Changes n) (λ f. replies.Redo report ≡ replies.Refused f) → ⊥
+  count_told report (Ok n) is = absurd (cc)
+  count_told report (Err f) is = absurd (cc)
 
   told_report : (stop : Option Stop) (line : StoreLine) (report : RedoReport) (old new : Engine (Renamed ModelDisk) d) → IsLineRun d stop line (replies.Redo report) old new → report ≡ old.report
   told_report stop (lines.Step step) report old new run = by run.says
@@ -81,6 +86,7 @@ module _ (d : Ghosts (Renamed ModelDisk)) where
       by (inr on) = absurd (page_told page report run.header on.1)
   told_report stop lines.Calls report old new run = let no : replies.Redo report ≡ replies.Calls (model_calls old.disk.disk) = run.0 in absurd (cc)
   told_report stop lines.Log report old new run = let no : replies.Redo report ≡ replies.Log (gate_of d old) = run.0 in absurd (cc)
+  told_report stop (lines.Changes t) report old new run = absurd (count_told report run.0.count run.0.says)
   told_report stop lines.Redo report old new run = let is : replies.Redo report ≡ replies.Redo old.report = run.0 in cc
 
   line_reports : (stop : Option Stop) (line : StoreLine) (told : StoreReply) (others : List StoreReply) (old new : Engine (Renamed ModelDisk) d) → IsLineRun d stop line told old new → AllReport old.report others → AllReport old.report (told ∷ others)
@@ -89,6 +95,7 @@ module _ (d : Ghosts (Renamed ModelDisk)) where
   line_reports stop line (replies.Page page header) others old new run rest = rest
   line_reports stop line (replies.Redo report) others old new run rest = (told_report stop line report old new run, rest)
   line_reports stop line (replies.Log gate) others old new run rest = rest
+  line_reports stop line (replies.Changes n) others old new run rest = rest
   line_reports stop line (replies.Refused fault) others old new run rest = rest
   line_reports stop line replies.Stopped others old new run rest = rest
 

@@ -24,7 +24,7 @@ use Rattle.im_restart.specs.Restart.{IsFullLog}
 use Rattle.im_engine.specs.declared.config.Config.{Config}
 use Rattle.im_page.specs.declared.header.Header.{Header}
 use Rattle.im_engine.specs.declared.engine.Engine.{Engine}
-use Rattle.im_engine.specs.Looking.{Looks, header_of}
+use Rattle.im_engine.specs.Looking.{Counts, Looks, header_of}
 use Rattle.im_engine.specs.Listing.{IsFoundBy}
 use Rattle.im_engine.specs.Kept.{OpenKept, LookKept, disk_of}
 use Rattle.im_engine.specs.Running.{IsLife}
@@ -72,6 +72,12 @@ module _ (d : Ghosts (Renamed ModelDisk)) where
     pub kept : (before : List Effect) (s : Shown) (v : View) → IsLife d before s v old → LookKept d before s v old new
     pub says : Where (HasCome stop new.disk.disk) (told ≡ replies.Stopped) (MatchResult header (λ h. told ≡ replies.Page page h) (λ f. told ≡ replies.Refused f))
 
+  -- The engine was asked how many changes of a transaction stand, and what is told is its answer.
+  pub record IsCountRun (t : ℕ) (told : StoreReply) (old : Engine (Renamed ModelDisk) d) : Type 0 where
+    pub count : Result ℕ Fault
+    pub counts : Counts d t old count
+    pub says : MatchResult count (λ n. told ≡ replies.Changes n) (λ f. told ≡ replies.Refused f)
+
   -- A line was run by the engine. `calls` counts the device calls so far, `redo` tells the engine's report, `log` where the durable log ends.
   abbrev pub IsLineRun : Option Stop → StoreLine → StoreReply → Engine (Renamed ModelDisk) d → Engine (Renamed ModelDisk) d → Type 0
   IsLineRun stop (lines.Step step) told old new = IsStepRun stop step told old new
@@ -79,6 +85,7 @@ module _ (d : Ghosts (Renamed ModelDisk)) where
   IsLineRun stop lines.Calls told old new = (told ≡ replies.Calls (model_calls old.disk.disk)) × (new ≡ old)
   IsLineRun stop lines.Redo told old new = (told ≡ replies.Redo old.report) × (new ≡ old)
   IsLineRun stop lines.Log told old new = (told ≡ replies.Log (gate_of d old)) × (new ≡ old)
+  IsLineRun stop (lines.Changes t) told old new = IsCountRun t told old × (new ≡ old)
 
   -- The lines that have replies were run in turn, each by the engine that the one before it left.
   abbrev pub AreLinesRun : Option Stop → List StoreLine → List StoreReply → Engine (Renamed ModelDisk) d → Engine (Renamed ModelDisk) d → Type 0

@@ -12,13 +12,13 @@ ghost use Rattle.im_tool_lines.specs.declared.store_answers.StoreReply.TheVarian
 ghost use Rattle.im_tool_lines.specs.Answered.{AnsweredBy};
 ghost use Rattle.im_tool_lines.specs.StoreShown.{asked_by_life, shown_by_lines, IsStoreReply, StoreAnswered};
 ghost use Rattle.im_tool_drill.specs.StoreLives.{in_32_bits, GoesOn, IsConfigOf, LineKept};
-ghost use Rattle.im_tool_drill.specs.StoreRuns.{IsOpening, IsLifeRun, AreLinesRun, IsLineRun, IsStepRun, IsLookRun, IsLastRun};
+ghost use Rattle.im_tool_drill.specs.StoreRuns.{IsOpening, IsLifeRun, AreLinesRun, IsLineRun, IsStepRun, IsCountRun, IsLookRun, IsLastRun};
 
 use im_base_disk::Disk;
 use im_base_model_disk::{ModelDisk, Stop};
 use im_base_steps::Step;
 use im_base_two_logs::Renamed;
-use im_base_types::{Fault, Key, PageNo, Rid};
+use im_base_types::{Fault, Key, PageNo, Rid, TxnId};
 use im_engine::{BufferSize, Config, Engine, look};
 use im_tool_lines::{
     LifeOptions, Opening, StoreAnswers, StoreLife, StoreLine, StoreReply, arm_life, has_come,
@@ -166,6 +166,7 @@ fn run_store_line(
         StoreLine::Page(page) => look_at(engine, *page, stop),
         StoreLine::Redo => StoreReply::Redo(engine.redo_report()),
         StoreLine::Log => StoreReply::Log(engine.log_length()),
+        StoreLine::Changes(number) => count_changes(engine, *number),
     }
 }
 
@@ -180,6 +181,19 @@ fn run_step(engine: &mut Engine<Renamed<ModelDisk>>, step: &Step, stop: &Option<
         StoreReply::Stopped
     } else {
         StoreReply::Step(reply)
+    }
+}
+
+// How many changes of a transaction stand.
+fn count_changes(engine: &Engine<Renamed<ModelDisk>>, number: TxnId) -> StoreReply
+    ensures run { IsCountRun ⟦<Renamed<ModelDisk> as Disk>⟧ number result engine.now }
+    ensures fits { IsStoreReply (StoreLine.Changes number) result }
+    ensures kept { (before : List Effect) (s : Shown) → GoesOn ⟦<Renamed<ModelDisk> as Disk>⟧ before s engine.now
+        → LineKept ⟦<Renamed<ModelDisk> as Disk>⟧ before s (StoreLine.Changes number) result engine.now }
+{
+    match engine.changes(number) {
+        Ok(changes) => StoreReply::Changes(changes),
+        Err(fault) => StoreReply::Refused(fault),
     }
 }
 

@@ -29,6 +29,7 @@ SaysSame (replies.Calls told) (replies.Calls plain) = told ≡ plain
 SaysSame (replies.Page page told) (replies.Page other plain) = (page ≡ other) × (told ≡ plain)
 SaysSame (replies.Redo told) (replies.Redo plain) = told ≡ plain
 SaysSame (replies.Log told) (replies.Log plain) = told ≡ plain
+SaysSame (replies.Changes told) (replies.Changes plain) = told ≡ plain
 SaysSame (replies.Refused told) (replies.Refused plain) = told ≡ plain
 SaysSame replies.Stopped replies.Stopped = Unit {0}
 SaysSame _ _ = ⊥

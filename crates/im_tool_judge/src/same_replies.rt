@@ -34,6 +34,10 @@ pub(crate) fn says_same(told: &StoreReply, plain: &StoreReply) -> bool
             StoreReply::Log(plain) => told == plain,
             _ => false,
         },
+        StoreReply::Changes(told) => match plain {
+            StoreReply::Changes(plain) => told == plain,
+            _ => false,
+        },
         StoreReply::Refused(told) => match plain {
             StoreReply::Refused(plain) => told == plain,
             _ => false,

@@ -82,6 +82,7 @@ impl Showing {
             StoreLine::Calls => Ok(()),
             StoreLine::Redo => Ok(()),
             StoreLine::Log => Ok(()),
+            StoreLine::Changes(_) => Ok(()),
             StoreLine::Page(_) => {
                 self.look(reply);
                 Ok(())
@@ -107,6 +108,7 @@ impl Showing {
             StoreReply::Page(_, _) => Ok(()),
             StoreReply::Redo(_) => Ok(()),
             StoreReply::Log(_) => Ok(()),
+            StoreReply::Changes(_) => Ok(()),
             StoreReply::Refused(_) => Ok(()),
         }
     }

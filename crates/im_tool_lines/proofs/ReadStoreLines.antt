@@ -85,6 +85,7 @@ may_within within.Calls = tt
 may_within (within.Page page) = tt
 may_within within.Redo = tt
 may_within within.Log = tt
+may_within (within.Changes t) = tt
 
 still_within : (line : StoreLine) → place_behind (store_kind_of (lines.Within line)) Within ≡ Within
 still_within (within.Step step) = refl
@@ -92,6 +93,7 @@ still_within within.Calls = refl
 still_within (within.Page page) = refl
 still_within within.Redo = refl
 still_within within.Log = refl
+still_within (within.Changes t) = refl
 
 -- a line of a life
 pub add_read : (files : Files) (lives : List StoreLife) (old v : OpenLife) (said : List StoreScriptLine) (line : StoreLine) → IsStoreRead files lives (Some old) said → v.options ≡ old.options → v.lines.items ≡ old.lines.items ++ line ∷ [] → IsStoreRead files lives (Some v) (said ++ lines.Within line ∷ [])

@@ -64,15 +64,17 @@ SpellsStore text (lines.Within within.Calls) = SpellsLine text raws.Calls
 SpellsStore text (lines.Within (within.Page page)) = (rest : List ℕ) × (text ≡ codes "page " ++ rest) × IsPageNumber rest page
 SpellsStore text (lines.Within within.Redo) = text ≡ codes "redo"
 SpellsStore text (lines.Within within.Log) = text ≡ codes "log"
+SpellsStore text (lines.Within (within.Changes t)) = (rest : List ℕ) × (text ≡ codes "changes " ++ rest) × IsNumber rest t
 SpellsStore text (lines.Within (within.Step step)) = SpellsStep text step
 SpellsStore text (lines.Stop stop) = SpellsLine text (raws.Stop stop)
 
--- a line that is none of `life`, `page`, `redo` and `log`
+-- a line that is none of `life`, `page`, `redo`, `log` and `changes`
 abbrev pub IsPlainLine : StoreScriptLine → Type 0
 IsPlainLine (lines.Life options) = ⊥
 IsPlainLine (lines.Within (within.Page page)) = ⊥
 IsPlainLine (lines.Within within.Redo) = ⊥
 IsPlainLine (lines.Within within.Log) = ⊥
+IsPlainLine (lines.Within (within.Changes t)) = ⊥
 IsPlainLine _ = Unit {0}
 
 -- `life` begins a life as `raw` does, and a step stands where a put does.
@@ -83,6 +85,7 @@ store_kind_of (lines.Within within.Calls) = Counts
 store_kind_of (lines.Within (within.Page page)) = Counts
 store_kind_of (lines.Within within.Redo) = Counts
 store_kind_of (lines.Within within.Log) = Counts
+store_kind_of (lines.Within (within.Changes t)) = Counts
 store_kind_of (lines.Within (within.Step step)) = Steps
 store_kind_of (lines.Stop stop) = Stops
 

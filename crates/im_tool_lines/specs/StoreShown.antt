@@ -37,12 +37,14 @@ asked_in_each (life ∷ rest) (told ∷ others) = asked_by_life life told ∷ as
 asked_in_each [] told = []
 asked_in_each (life ∷ rest) [] = []
 
--- A step has its reply, `calls` and `log` answer a number, `redo` a report, and `page` what that page is for, or why that can't be told.
+-- A step has its reply, `calls` and `log` answer a number, `redo` a report, and `page` what that page is for and `changes` a number, or why that can't be told.
 abbrev pub IsStoreReply : StoreLine → StoreReply → Type 0
 IsStoreReply (lines.Step step) (replies.Step reply) = Unit {0}
 IsStoreReply lines.Calls (replies.Calls n) = Unit {0}
 IsStoreReply lines.Redo (replies.Redo report) = Unit {0}
 IsStoreReply lines.Log (replies.Log gate) = Unit {0}
+IsStoreReply (lines.Changes t) (replies.Changes n) = Unit {0}
+IsStoreReply (lines.Changes t) (replies.Refused fault) = Unit {0}
 IsStoreReply (lines.Page page) (replies.Page of header) = of ≡ page
 IsStoreReply (lines.Page page) (replies.Refused fault) = Unit {0}
 IsStoreReply _ _ = ⊥

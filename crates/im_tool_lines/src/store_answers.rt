@@ -18,7 +18,9 @@ pub enum StoreReply {
     Redo(RedoReport),
     /// Where the gate stands in the file of the current log, in bytes: what is durable of it ends there.
     Log(u64),
-    /// What a page is for can't be told.
+    /// How many changes of a transaction stand.
+    Changes(u64),
+    /// What a page is for, or how many changes stand, can't be told.
     Refused(Fault),
     /// The stop fell into it. The life's other lines answer nothing.
     Stopped,

@@ -33,6 +33,9 @@ pub fn parse_store_line(alloc: Global, line: &[u8]) -> Result<StoreScriptLine, F
     if word == b"page".as_slice() {
         return page_line(rest);
     }
+    if word == b"changes".as_slice() {
+        return changes_line(rest);
+    }
     plain_line(alloc, line)
 }
 
@@ -142,6 +145,16 @@ fn page_line(rest: &[u8]) -> Result<StoreScriptLine, Fault>
 {
     let page = page_of(rest)?;
     Ok(StoreScriptLine::Within(StoreLine::Page(page)))
+}
+
+#[tactic(auto, using(crate::proofs::StoreSpelled::changes_said))]
+fn changes_line(rest: &[u8]) -> Result<StoreScriptLine, Fault>
+    ensures says { IfOk result (λ said. SpellsStore (codes "changes " ++ rest.now) said) }
+    ensures refused { result ≡ Err BadScript → (said : StoreScriptLine) → ¬ (SpellsStore (codes "changes " ++ rest.now) said) }
+    ensures causes { IfErr result (λ e. (e ≡ Memory) ⊎ (e ≡ BadScript)) }
+{
+    let number = count_of(rest)?;
+    Ok(StoreScriptLine::Within(StoreLine::Changes(number)))
 }
 
 // A line that stands in other scripts too, or asks for a step.

@@ -2,7 +2,7 @@
 
 use im_base_model_disk::Stop;
 use im_base_steps::Step;
-use im_base_types::PageNo;
+use im_base_types::{PageNo, TxnId};
 
 /// A line within a life of a store.
 #[derive(Drop)]
@@ -17,6 +17,8 @@ pub enum StoreLine {
     Redo,
     /// Prints where the log ends.
     Log,
+    /// Prints how many changes of a transaction stand.
+    Changes(TxnId),
 }
 
 /// How the store of a life is opened.

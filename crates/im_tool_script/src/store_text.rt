@@ -33,6 +33,7 @@ fn print_store_life<W: Write>(writer: &mut W, life: &StoreAnswers) -> io::Result
             }
             StoreReply::Redo(report) => report_text(writer, report.point, report.applied)?,
             StoreReply::Log(gate) => writeln!(writer, "log {}", gate.saturating_add(1))?,
+            StoreReply::Changes(changes) => writeln!(writer, "changes {changes}")?,
             StoreReply::Refused(fault) => writeln!(writer, "refused {}", fault.number())?,
             StoreReply::Stopped => writeln!(writer, "stopped")?,
         }

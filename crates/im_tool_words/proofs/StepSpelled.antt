@@ -3,7 +3,7 @@ use Rattle.std.proofs.Common.{◌≡◌, ◌≢◌, ℕ, List, [], ◌∷◌, �
 use Rattle.im_base_steps.specs.declared.step.Step.{Step}
 use Rattle.im_base_steps.specs.declared.step.Step.TheVariants as steps
 use Rattle.im_tool_words.specs.Words.{LacksByte, IsNumber, IsPageNumber}
-use Rattle.im_tool_words.specs.Steps.{IsKeyWord, IsNumbered, IsKeyed, IsKeyedWith, IsBehindKey, IsRanged, SpellsStep}
+use Rattle.im_tool_words.specs.Steps.{IsKeyWord, IsNumbered, IsKeyed, IsKeyedWith, IsNumberedWith, IsBehindKey, IsRanged, SpellsStep}
 use Rattle.im_tool_words.proofs.Texts.{lacks_mid, cut_once, digits_lack}
 use Rattle.im_tool_words.proofs.KeyWords.{key_lacks}
 
@@ -20,7 +20,7 @@ word_of (steps.Delete t key) = codes "delete"
 word_of (steps.Commit t) = codes "commit"
 word_of (steps.Rollback t) = codes "rollback"
 word_of (steps.Continue t) = codes "continue"
-word_of (steps.RollTo t left) = []
+word_of (steps.RollTo t left) = codes "rollto"
 word_of (steps.FlushPage page) = codes "flush"
 word_of steps.Force = codes "force"
 word_of steps.Checkpoint = codes "checkpoint"
@@ -39,7 +39,7 @@ SpellsRest (steps.Delete t key) rest = IsKeyed rest t key.items
 SpellsRest (steps.Commit t) rest = IsNumber rest t
 SpellsRest (steps.Rollback t) rest = IsNumber rest t
 SpellsRest (steps.Continue t) rest = IsNumber rest t
-SpellsRest (steps.RollTo t left) rest = ⊥
+SpellsRest (steps.RollTo t left) rest = IsNumberedWith rest t left
 SpellsRest (steps.FlushPage page) rest = IsPageNumber rest page
 SpellsRest steps.Force rest = ⊥
 SpellsRest steps.Checkpoint rest = ⊥
@@ -77,6 +77,9 @@ rollback_lacks = (λ x. omega arith, (λ x. omega arith, (λ x. omega arith, (λ
 
 continue_lacks : LacksByte 32 (codes "continue")
 continue_lacks = (λ x. omega arith, (λ x. omega arith, (λ x. omega arith, (λ x. omega arith, (λ x. omega arith, (λ x. omega arith, (λ x. omega arith, (λ x. omega arith, tt))))))))
+
+rollto_lacks : LacksByte 32 (codes "rollto")
+rollto_lacks = (λ x. omega arith, (λ x. omega arith, (λ x. omega arith, (λ x. omega arith, (λ x. omega arith, (λ x. omega arith, tt))))))
 
 flush_lacks : LacksByte 32 (codes "flush")
 flush_lacks = (λ x. omega arith, (λ x. omega arith, (λ x. omega arith, (λ x. omega arith, (λ x. omega arith, tt)))))
@@ -123,7 +126,9 @@ words_said word rest (steps.Rollback t) s l =
 words_said word rest (steps.Continue t) s l =
     let e = cut_once 32 word (codes "continue") rest s.0 l continue_lacks s.1 in
     (e.0, subst (λ (x : List ℕ). IsNumber x t) (sym e.1) s.2)
-words_said word rest (steps.RollTo t left) s l = absurd s
+words_said word rest (steps.RollTo t left) s l =
+    let e = cut_once 32 word (codes "rollto") rest s.0 l rollto_lacks s.1 in
+    (e.0, subst (λ (x : List ℕ). IsNumberedWith x t left) (sym e.1) s.2)
 words_said word rest (steps.FlushPage page) s l =
     let e = cut_once 32 word (codes "flush") rest s.0 l flush_lacks s.1 in
     (e.0, subst (λ (x : List ℕ). IsPageNumber x page) (sym e.1) s.2)
@@ -144,30 +149,30 @@ lone_step_bad word (steps.Delete t key) s l b f c w = lacks_mid 32 (codes "delet
 lone_step_bad word (steps.Commit t) s l b f c w = lacks_mid 32 (codes "commit") s.0 (subst (λ (t : List ℕ). LacksByte 32 t) s.1 l)
 lone_step_bad word (steps.Rollback t) s l b f c w = lacks_mid 32 (codes "rollback") s.0 (subst (λ (t : List ℕ). LacksByte 32 t) s.1 l)
 lone_step_bad word (steps.Continue t) s l b f c w = lacks_mid 32 (codes "continue") s.0 (subst (λ (t : List ℕ). LacksByte 32 t) s.1 l)
-lone_step_bad word (steps.RollTo t left) s l b f c w = s
+lone_step_bad word (steps.RollTo t left) s l b f c w = lacks_mid 32 (codes "rollto") s.0 (subst (λ (t : List ℕ). LacksByte 32 t) s.1 l)
 lone_step_bad word (steps.FlushPage page) s l b f c w = lacks_mid 32 (codes "flush") s.0 (subst (λ (t : List ℕ). LacksByte 32 t) s.1 l)
 lone_step_bad word steps.Force s l b f c w = f s
 lone_step_bad word steps.Checkpoint s l b f c w = c s
 lone_step_bad word steps.Switch s l b f c w = w s
 
--- a line of several words that asks for a step begins with one of eleven
-pub step_word_said : (word rest : List ℕ) (step : Step) → SpellsStep (word ++ 32 ∷ rest) step → LacksByte 32 word → word ≢ codes "commit" → word ≢ codes "rollback" → word ≢ codes "continue" → word ≢ codes "flush" → word ≢ codes "fetch" → word ≢ codes "seek" → word ≢ codes "next" → word ≢ codes "prev" → word ≢ codes "scan" → word ≢ codes "insert" → word ≢ codes "delete" → ⊥
-step_word_said word rest steps.Begin q l c r o u f s n p a i d = (words_said word rest steps.Begin q l).1
-step_word_said word rest (steps.Fetch t key) q l c r o u f s n p a i d = f (words_said word rest (steps.Fetch t key) q l).0
-step_word_said word rest (steps.Seek t key) q l c r o u f s n p a i d = s (words_said word rest (steps.Seek t key) q l).0
-step_word_said word rest (steps.Next t key) q l c r o u f s n p a i d = n (words_said word rest (steps.Next t key) q l).0
-step_word_said word rest (steps.Prev t key) q l c r o u f s n p a i d = p (words_said word rest (steps.Prev t key) q l).0
-step_word_said word rest (steps.Scan t lo hi limit) q l c r o u f s n p a i d = a (words_said word rest (steps.Scan t lo hi limit) q l).0
-step_word_said word rest (steps.Insert t key rid) q l c r o u f s n p a i d = i (words_said word rest (steps.Insert t key rid) q l).0
-step_word_said word rest (steps.Delete t key) q l c r o u f s n p a i d = d (words_said word rest (steps.Delete t key) q l).0
-step_word_said word rest (steps.Commit t) q l c r o u f s n p a i d = c (words_said word rest (steps.Commit t) q l).0
-step_word_said word rest (steps.Rollback t) q l c r o u f s n p a i d = r (words_said word rest (steps.Rollback t) q l).0
-step_word_said word rest (steps.Continue t) q l c r o u f s n p a i d = o (words_said word rest (steps.Continue t) q l).0
-step_word_said word rest (steps.RollTo t left) q l c r o u f s n p a i d = q
-step_word_said word rest (steps.FlushPage page) q l c r o u f s n p a i d = u (words_said word rest (steps.FlushPage page) q l).0
-step_word_said word rest steps.Force q l c r o u f s n p a i d = (words_said word rest steps.Force q l).1
-step_word_said word rest steps.Checkpoint q l c r o u f s n p a i d = (words_said word rest steps.Checkpoint q l).1
-step_word_said word rest steps.Switch q l c r o u f s n p a i d = (words_said word rest steps.Switch q l).1
+-- a line of several words that asks for a step begins with one of twelve
+pub step_word_said : (word rest : List ℕ) (step : Step) → SpellsStep (word ++ 32 ∷ rest) step → LacksByte 32 word → word ≢ codes "commit" → word ≢ codes "rollback" → word ≢ codes "continue" → word ≢ codes "rollto" → word ≢ codes "flush" → word ≢ codes "fetch" → word ≢ codes "seek" → word ≢ codes "next" → word ≢ codes "prev" → word ≢ codes "scan" → word ≢ codes "insert" → word ≢ codes "delete" → ⊥
+step_word_said word rest steps.Begin q l c r o b u f s n p a i d = (words_said word rest steps.Begin q l).1
+step_word_said word rest (steps.Fetch t key) q l c r o b u f s n p a i d = f (words_said word rest (steps.Fetch t key) q l).0
+step_word_said word rest (steps.Seek t key) q l c r o b u f s n p a i d = s (words_said word rest (steps.Seek t key) q l).0
+step_word_said word rest (steps.Next t key) q l c r o b u f s n p a i d = n (words_said word rest (steps.Next t key) q l).0
+step_word_said word rest (steps.Prev t key) q l c r o b u f s n p a i d = p (words_said word rest (steps.Prev t key) q l).0
+step_word_said word rest (steps.Scan t lo hi limit) q l c r o b u f s n p a i d = a (words_said word rest (steps.Scan t lo hi limit) q l).0
+step_word_said word rest (steps.Insert t key rid) q l c r o b u f s n p a i d = i (words_said word rest (steps.Insert t key rid) q l).0
+step_word_said word rest (steps.Delete t key) q l c r o b u f s n p a i d = d (words_said word rest (steps.Delete t key) q l).0
+step_word_said word rest (steps.Commit t) q l c r o b u f s n p a i d = c (words_said word rest (steps.Commit t) q l).0
+step_word_said word rest (steps.Rollback t) q l c r o b u f s n p a i d = r (words_said word rest (steps.Rollback t) q l).0
+step_word_said word rest (steps.Continue t) q l c r o b u f s n p a i d = o (words_said word rest (steps.Continue t) q l).0
+step_word_said word rest (steps.RollTo t left) q l c r o b u f s n p a i d = b (words_said word rest (steps.RollTo t left) q l).0
+step_word_said word rest (steps.FlushPage page) q l c r o b u f s n p a i d = u (words_said word rest (steps.FlushPage page) q l).0
+step_word_said word rest steps.Force q l c r o b u f s n p a i d = (words_said word rest steps.Force q l).1
+step_word_said word rest steps.Checkpoint q l c r o b u f s n p a i d = (words_said word rest steps.Checkpoint q l).1
+step_word_said word rest steps.Switch q l c r o b u f s n p a i d = (words_said word rest steps.Switch q l).1
 
 -- what stands after the first word
 commit_rest : (rest : List ℕ) (step : Step) → codes "commit" ≡ word_of step → SpellsRest step rest → (n : ℕ) × IsNumber rest n
@@ -182,7 +187,7 @@ commit_rest rest (steps.Delete t key) w b = let e = ap (λ (x : List ℕ). slice
 commit_rest rest (steps.Commit t) w b = (t, b)
 commit_rest rest (steps.Rollback t) w b = let e = ap (λ (x : List ℕ). slice_index x 0) w in absurd (omega (arith, e))
 commit_rest rest (steps.Continue t) w b = let e = ap (λ (x : List ℕ). slice_index x 2) w in absurd (omega (arith, e))
-commit_rest rest (steps.RollTo t left) w b = absurd b
+commit_rest rest (steps.RollTo t left) w b = let e = ap (λ (x : List ℕ). slice_index x 0) w in absurd (omega (arith, e))
 commit_rest rest (steps.FlushPage page) w b = let e = ap (λ (x : List ℕ). slice_index x 0) w in absurd (omega (arith, e))
 commit_rest rest steps.Force w b = absurd b
 commit_rest rest steps.Checkpoint w b = absurd b
@@ -203,7 +208,7 @@ rollback_rest rest (steps.Delete t key) w b = let e = ap (λ (x : List ℕ). sli
 rollback_rest rest (steps.Commit t) w b = let e = ap (λ (x : List ℕ). slice_index x 0) w in absurd (omega (arith, e))
 rollback_rest rest (steps.Rollback t) w b = (t, b)
 rollback_rest rest (steps.Continue t) w b = let e = ap (λ (x : List ℕ). slice_index x 0) w in absurd (omega (arith, e))
-rollback_rest rest (steps.RollTo t left) w b = absurd b
+rollback_rest rest (steps.RollTo t left) w b = let e = ap (λ (x : List ℕ). slice_index x 4) w in absurd (omega (arith, e))
 rollback_rest rest (steps.FlushPage page) w b = let e = ap (λ (x : List ℕ). slice_index x 0) w in absurd (omega (arith, e))
 rollback_rest rest steps.Force w b = absurd b
 rollback_rest rest steps.Checkpoint w b = absurd b
@@ -224,7 +229,7 @@ continue_rest rest (steps.Delete t key) w b = let e = ap (λ (x : List ℕ). sli
 continue_rest rest (steps.Commit t) w b = let e = ap (λ (x : List ℕ). slice_index x 2) w in absurd (omega (arith, e))
 continue_rest rest (steps.Rollback t) w b = let e = ap (λ (x : List ℕ). slice_index x 0) w in absurd (omega (arith, e))
 continue_rest rest (steps.Continue t) w b = (t, b)
-continue_rest rest (steps.RollTo t left) w b = absurd b
+continue_rest rest (steps.RollTo t left) w b = let e = ap (λ (x : List ℕ). slice_index x 0) w in absurd (omega (arith, e))
 continue_rest rest (steps.FlushPage page) w b = let e = ap (λ (x : List ℕ). slice_index x 0) w in absurd (omega (arith, e))
 continue_rest rest steps.Force w b = absurd b
 continue_rest rest steps.Checkpoint w b = absurd b
@@ -232,6 +237,27 @@ continue_rest rest steps.Switch w b = absurd b
 
 pub continue_said : (rest : List ℕ) (step : Step) → SpellsStep (codes "continue " ++ rest) step → (n : ℕ) × IsNumber rest n
 continue_said rest step s = let e = words_said (codes "continue") rest step s continue_lacks in continue_rest rest step e.0 e.1
+
+rollto_rest : (rest : List ℕ) (step : Step) → codes "rollto" ≡ word_of step → SpellsRest step rest → (t : ℕ) × (left : ℕ) × IsNumberedWith rest t left
+rollto_rest rest steps.Begin w b = absurd b
+rollto_rest rest (steps.Fetch t key) w b = let e = ap (λ (x : List ℕ). slice_index x 0) w in absurd (omega (arith, e))
+rollto_rest rest (steps.Seek t key) w b = let e = ap (λ (x : List ℕ). slice_index x 0) w in absurd (omega (arith, e))
+rollto_rest rest (steps.Next t key) w b = let e = ap (λ (x : List ℕ). slice_index x 0) w in absurd (omega (arith, e))
+rollto_rest rest (steps.Prev t key) w b = let e = ap (λ (x : List ℕ). slice_index x 0) w in absurd (omega (arith, e))
+rollto_rest rest (steps.Scan t lo hi limit) w b = let e = ap (λ (x : List ℕ). slice_index x 0) w in absurd (omega (arith, e))
+rollto_rest rest (steps.Insert t key rid) w b = let e = ap (λ (x : List ℕ). slice_index x 0) w in absurd (omega (arith, e))
+rollto_rest rest (steps.Delete t key) w b = let e = ap (λ (x : List ℕ). slice_index x 0) w in absurd (omega (arith, e))
+rollto_rest rest (steps.Commit t) w b = let e = ap (λ (x : List ℕ). slice_index x 0) w in absurd (omega (arith, e))
+rollto_rest rest (steps.Rollback t) w b = let e = ap (λ (x : List ℕ). slice_index x 4) w in absurd (omega (arith, e))
+rollto_rest rest (steps.Continue t) w b = let e = ap (λ (x : List ℕ). slice_index x 0) w in absurd (omega (arith, e))
+rollto_rest rest (steps.RollTo t left) w b = (t, left, b)
+rollto_rest rest (steps.FlushPage page) w b = let e = ap (λ (x : List ℕ). slice_index x 0) w in absurd (omega (arith, e))
+rollto_rest rest steps.Force w b = absurd b
+rollto_rest rest steps.Checkpoint w b = absurd b
+rollto_rest rest steps.Switch w b = absurd b
+
+pub rollto_said : (rest : List ℕ) (step : Step) → SpellsStep (codes "rollto " ++ rest) step → (t : ℕ) × (left : ℕ) × IsNumberedWith rest t left
+rollto_said rest step s = let e = words_said (codes "rollto") rest step s rollto_lacks in rollto_rest rest step e.0 e.1
 
 flush_rest : (rest : List ℕ) (step : Step) → codes "flush" ≡ word_of step → SpellsRest step rest → (n : ℕ) × IsPageNumber rest n
 flush_rest rest steps.Begin w b = absurd b
@@ -245,7 +271,7 @@ flush_rest rest (steps.Delete t key) w b = let e = ap (λ (x : List ℕ). slice_
 flush_rest rest (steps.Commit t) w b = let e = ap (λ (x : List ℕ). slice_index x 0) w in absurd (omega (arith, e))
 flush_rest rest (steps.Rollback t) w b = let e = ap (λ (x : List ℕ). slice_index x 0) w in absurd (omega (arith, e))
 flush_rest rest (steps.Continue t) w b = let e = ap (λ (x : List ℕ). slice_index x 0) w in absurd (omega (arith, e))
-flush_rest rest (steps.RollTo t left) w b = absurd b
+flush_rest rest (steps.RollTo t left) w b = let e = ap (λ (x : List ℕ). slice_index x 0) w in absurd (omega (arith, e))
 flush_rest rest (steps.FlushPage page) w b = (page, b)
 flush_rest rest steps.Force w b = absurd b
 flush_rest rest steps.Checkpoint w b = absurd b
@@ -266,7 +292,7 @@ fetch_rest rest (steps.Delete t key) w b = let e = ap (λ (x : List ℕ). slice_
 fetch_rest rest (steps.Commit t) w b = let e = ap (λ (x : List ℕ). slice_index x 0) w in absurd (omega (arith, e))
 fetch_rest rest (steps.Rollback t) w b = let e = ap (λ (x : List ℕ). slice_index x 0) w in absurd (omega (arith, e))
 fetch_rest rest (steps.Continue t) w b = let e = ap (λ (x : List ℕ). slice_index x 0) w in absurd (omega (arith, e))
-fetch_rest rest (steps.RollTo t left) w b = absurd b
+fetch_rest rest (steps.RollTo t left) w b = let e = ap (λ (x : List ℕ). slice_index x 0) w in absurd (omega (arith, e))
 fetch_rest rest (steps.FlushPage page) w b = let e = ap (λ (x : List ℕ). slice_index x 1) w in absurd (omega (arith, e))
 fetch_rest rest steps.Force w b = absurd b
 fetch_rest rest steps.Checkpoint w b = absurd b
@@ -287,7 +313,7 @@ seek_rest rest (steps.Delete t key) w b = let e = ap (λ (x : List ℕ). slice_i
 seek_rest rest (steps.Commit t) w b = let e = ap (λ (x : List ℕ). slice_index x 0) w in absurd (omega (arith, e))
 seek_rest rest (steps.Rollback t) w b = let e = ap (λ (x : List ℕ). slice_index x 0) w in absurd (omega (arith, e))
 seek_rest rest (steps.Continue t) w b = let e = ap (λ (x : List ℕ). slice_index x 0) w in absurd (omega (arith, e))
-seek_rest rest (steps.RollTo t left) w b = absurd b
+seek_rest rest (steps.RollTo t left) w b = let e = ap (λ (x : List ℕ). slice_index x 0) w in absurd (omega (arith, e))
 seek_rest rest (steps.FlushPage page) w b = let e = ap (λ (x : List ℕ). slice_index x 0) w in absurd (omega (arith, e))
 seek_rest rest steps.Force w b = absurd b
 seek_rest rest steps.Checkpoint w b = absurd b
@@ -308,7 +334,7 @@ next_rest rest (steps.Delete t key) w b = let e = ap (λ (x : List ℕ). slice_i
 next_rest rest (steps.Commit t) w b = let e = ap (λ (x : List ℕ). slice_index x 0) w in absurd (omega (arith, e))
 next_rest rest (steps.Rollback t) w b = let e = ap (λ (x : List ℕ). slice_index x 0) w in absurd (omega (arith, e))
 next_rest rest (steps.Continue t) w b = let e = ap (λ (x : List ℕ). slice_index x 0) w in absurd (omega (arith, e))
-next_rest rest (steps.RollTo t left) w b = absurd b
+next_rest rest (steps.RollTo t left) w b = let e = ap (λ (x : List ℕ). slice_index x 0) w in absurd (omega (arith, e))
 next_rest rest (steps.FlushPage page) w b = let e = ap (λ (x : List ℕ). slice_index x 0) w in absurd (omega (arith, e))
 next_rest rest steps.Force w b = absurd b
 next_rest rest steps.Checkpoint w b = absurd b
@@ -329,7 +355,7 @@ prev_rest rest (steps.Delete t key) w b = let e = ap (λ (x : List ℕ). slice_i
 prev_rest rest (steps.Commit t) w b = let e = ap (λ (x : List ℕ). slice_index x 0) w in absurd (omega (arith, e))
 prev_rest rest (steps.Rollback t) w b = let e = ap (λ (x : List ℕ). slice_index x 0) w in absurd (omega (arith, e))
 prev_rest rest (steps.Continue t) w b = let e = ap (λ (x : List ℕ). slice_index x 0) w in absurd (omega (arith, e))
-prev_rest rest (steps.RollTo t left) w b = absurd b
+prev_rest rest (steps.RollTo t left) w b = let e = ap (λ (x : List ℕ). slice_index x 0) w in absurd (omega (arith, e))
 prev_rest rest (steps.FlushPage page) w b = let e = ap (λ (x : List ℕ). slice_index x 0) w in absurd (omega (arith, e))
 prev_rest rest steps.Force w b = absurd b
 prev_rest rest steps.Checkpoint w b = absurd b
@@ -350,7 +376,7 @@ scan_rest rest (steps.Delete t key) w b = let e = ap (λ (x : List ℕ). slice_i
 scan_rest rest (steps.Commit t) w b = let e = ap (λ (x : List ℕ). slice_index x 0) w in absurd (omega (arith, e))
 scan_rest rest (steps.Rollback t) w b = let e = ap (λ (x : List ℕ). slice_index x 0) w in absurd (omega (arith, e))
 scan_rest rest (steps.Continue t) w b = let e = ap (λ (x : List ℕ). slice_index x 0) w in absurd (omega (arith, e))
-scan_rest rest (steps.RollTo t left) w b = absurd b
+scan_rest rest (steps.RollTo t left) w b = let e = ap (λ (x : List ℕ). slice_index x 0) w in absurd (omega (arith, e))
 scan_rest rest (steps.FlushPage page) w b = let e = ap (λ (x : List ℕ). slice_index x 0) w in absurd (omega (arith, e))
 scan_rest rest steps.Force w b = absurd b
 scan_rest rest steps.Checkpoint w b = absurd b
@@ -371,7 +397,7 @@ insert_rest rest (steps.Delete t key) w b = let e = ap (λ (x : List ℕ). slice
 insert_rest rest (steps.Commit t) w b = let e = ap (λ (x : List ℕ). slice_index x 0) w in absurd (omega (arith, e))
 insert_rest rest (steps.Rollback t) w b = let e = ap (λ (x : List ℕ). slice_index x 0) w in absurd (omega (arith, e))
 insert_rest rest (steps.Continue t) w b = let e = ap (λ (x : List ℕ). slice_index x 0) w in absurd (omega (arith, e))
-insert_rest rest (steps.RollTo t left) w b = absurd b
+insert_rest rest (steps.RollTo t left) w b = let e = ap (λ (x : List ℕ). slice_index x 0) w in absurd (omega (arith, e))
 insert_rest rest (steps.FlushPage page) w b = let e = ap (λ (x : List ℕ). slice_index x 0) w in absurd (omega (arith, e))
 insert_rest rest steps.Force w b = absurd b
 insert_rest rest steps.Checkpoint w b = absurd b
@@ -392,7 +418,7 @@ delete_rest rest (steps.Delete t key) w b = (t, key.items, b)
 delete_rest rest (steps.Commit t) w b = let e = ap (λ (x : List ℕ). slice_index x 0) w in absurd (omega (arith, e))
 delete_rest rest (steps.Rollback t) w b = let e = ap (λ (x : List ℕ). slice_index x 0) w in absurd (omega (arith, e))
 delete_rest rest (steps.Continue t) w b = let e = ap (λ (x : List ℕ). slice_index x 0) w in absurd (omega (arith, e))
-delete_rest rest (steps.RollTo t left) w b = absurd b
+delete_rest rest (steps.RollTo t left) w b = let e = ap (λ (x : List ℕ). slice_index x 0) w in absurd (omega (arith, e))
 delete_rest rest (steps.FlushPage page) w b = let e = ap (λ (x : List ℕ). slice_index x 0) w in absurd (omega (arith, e))
 delete_rest rest steps.Force w b = absurd b
 delete_rest rest steps.Checkpoint w b = absurd b
@@ -418,6 +444,10 @@ numbered_once text n m rest other a b = (cut_once 32 a.word b.word rest other (d
 -- what stands after the number is the word of the key
 pub keyed_same : (text : List ℕ) (n t : ℕ) (word key : List ℕ) → IsNumbered text n word → IsKeyed text t key → IsKeyWord word key
 keyed_same text n t word key a k = subst (λ (x : List ℕ). IsKeyWord x key) (sym (numbered_once text n t word k.word a k.numbered)) k.is_key
+
+-- what stands after the first of two numbers is the other
+pub left_same : (text : List ℕ) (n : ℕ) (last : List ℕ) (t left : ℕ) → IsNumbered text n last → IsNumberedWith text t left → IsNumber last left
+left_same text n last t left a k = subst (λ (x : List ℕ). IsNumber x left) (sym (numbered_once text n t last k.last a k.numbered)) k.is_left
 
 -- what stands after the number of an insert: the word of the key, and the row id
 pub insert_cut : (text : List ℕ) (n : ℕ) (more word last : List ℕ) (t : ℕ) (key : List ℕ) (rid : ℕ) → IsNumbered text n more → more ≡ word ++ 32 ∷ last → LacksByte 32 word → IsKeyedWith text t key rid → IsKeyWord word key × IsNumber last rid

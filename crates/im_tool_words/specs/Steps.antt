@@ -79,6 +79,12 @@ pub record IsRanged (text : List ℕ) (t : ℕ) (lo hi : List ℕ) (limit : ℕ)
   pub high : IsBehindKey rest hi last
   pub is_limit : IsNumber last limit
 
+-- two numbers, with a space between them
+pub record IsNumberedWith (text : List ℕ) (t left : ℕ) : Type 0 where
+  pub last : List ℕ
+  pub numbered : IsNumbered text t last
+  pub is_left : IsNumber last left
+
 -- The bytes of a line that asks for this step.
 abbrev pub SpellsStep : List ℕ → Step → Type 0
 SpellsStep text steps.Begin = text ≡ codes "begin"
@@ -92,7 +98,7 @@ SpellsStep text (steps.Delete t key) = (rest : List ℕ) × (text ≡ codes "del
 SpellsStep text (steps.Commit t) = (rest : List ℕ) × (text ≡ codes "commit " ++ rest) × IsNumber rest t
 SpellsStep text (steps.Rollback t) = (rest : List ℕ) × (text ≡ codes "rollback " ++ rest) × IsNumber rest t
 SpellsStep text (steps.Continue t) = (rest : List ℕ) × (text ≡ codes "continue " ++ rest) × IsNumber rest t
-SpellsStep text (steps.RollTo t left) = ⊥  -- no line asks for it
+SpellsStep text (steps.RollTo t left) = (rest : List ℕ) × (text ≡ codes "rollto " ++ rest) × IsNumberedWith rest t left
 SpellsStep text (steps.FlushPage page) = (rest : List ℕ) × (text ≡ codes "flush " ++ rest) × IsPageNumber rest page
 SpellsStep text steps.Force = text ≡ codes "force"
 SpellsStep text steps.Checkpoint = text ≡ codes "checkpoint"

@@ -33,6 +33,9 @@ pub fn step_line(alloc: Global, line: &[u8]) -> Result<Step, Fault>
     if word == b"continue".as_slice() {
         return continue_line(rest);
     }
+    if word == b"rollto".as_slice() {
+        return rollto_line(rest);
+    }
     if word == b"flush".as_slice() {
         return flush_line(rest);
     }
@@ -44,7 +47,7 @@ pub fn step_line(alloc: Global, line: &[u8]) -> Result<Step, Fault>
 fn access_line(alloc: Global, word: &[u8], rest: &[u8]) -> Result<Step, Fault>
     requires { LacksByte 32 word.now }
     ensures says { IfOk result (λ step. SpellsStep (word.now ++ 32 ∷ rest.now) step) }
-    ensures refused { result ≡ Err BadScript → word.now ≢ codes "commit" → word.now ≢ codes "rollback" → word.now ≢ codes "continue" → word.now ≢ codes "flush"
+    ensures refused { result ≡ Err BadScript → word.now ≢ codes "commit" → word.now ≢ codes "rollback" → word.now ≢ codes "continue" → word.now ≢ codes "rollto" → word.now ≢ codes "flush"
         → (step : Step) → ¬ (SpellsStep (word.now ++ 32 ∷ rest.now) step) }
     ensures causes { IfErr result (λ e. (e ≡ Memory) ⊎ (e ≡ BadScript)) }
 {
@@ -123,6 +126,17 @@ fn continue_line(rest: &[u8]) -> Result<Step, Fault>
 {
     let number = count_of(rest)?;
     Ok(Step::Continue(number))
+}
+
+#[tactic(auto, using(crate::proofs::StepSpelled::rollto_said, crate::proofs::StepSpelled::left_same))]
+fn rollto_line(rest: &[u8]) -> Result<Step, Fault>
+    ensures says { IfOk result (λ step. SpellsStep (codes "rollto " ++ rest.now) step) }
+    ensures refused { result ≡ Err BadScript → (step : Step) → ¬ (SpellsStep (codes "rollto " ++ rest.now) step) }
+    ensures causes { IfErr result (λ e. (e ≡ Memory) ⊎ (e ≡ BadScript)) }
+{
+    let (number, last) = numbered(rest)?;
+    let left = count_of(last)?;
+    Ok(Step::RollTo(number, left))
 }
 
 #[tactic(auto, using(crate::proofs::StepSpelled::flush_said))]
