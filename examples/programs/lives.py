@@ -5,7 +5,7 @@ of a structure change made page by page only that it goes on:
 
 - up to the first refusal a line answers as it does undisturbed;
 - a line that is refused 9 is one that takes memory (docs/FAULTS.md), and has changed nothing: each line behind it answers by what the lines before it
-  did, and a rollback goes on where it stood;
+  did, and a rollback or a return goes on where it stood;
 - behind `refused 8` or `refused 10` the engine answers `refused 10` alone; an opening that does not succeed is refused 9 or 8;
 - an insert or delete answered `more` with `stepped` goes on by continues of its transaction, which answer `more` until they end it; another step of
   that transaction is refused 17, and only a step of another by a key, or its continue, is told `blocked tree`;
@@ -69,6 +69,8 @@ class Txn:
         self.state = "on"
         # what each change took away, the oldest first: key, and the row id that was there, or None
         self.undo = []
+        # how many of these are to be left, as they are taken back
+        self.left = 0
         # how many of these may be taken back already, as each continue makes a page or takes one back with `stepped`
         self.maybe = 0
 
@@ -117,13 +119,17 @@ class Life:
         if kind == "continue":
             if is_owner:
                 return self.under[1]
-            if txn.state != "back":
+            if txn.state not in ("back", "returns"):
                 return "refused 1"
-            return "more" if len(txn.undo) > txn.maybe + 1 else "rolledback"
-        if txn.state == "back":
+            if len(txn.undo) > txn.left + txn.maybe + 1:
+                return "more"
+            return "rolledback" if txn.state == "back" else "done"
+        if txn.state in ("back", "returns"):
             return "refused 4"
         if is_owner:
             return "refused 17"
+        if kind == "rollto":
+            return "more" if len(txn.undo) > int(words[2]) else "done"
         if kind == "rollback":
             return "more" if txn.undo else "rolledback"
         if txn.state == "dead":
@@ -174,6 +180,13 @@ class Life:
         blocked = re.fullmatch(r"blocked lock (\d+)", reply)
         return bool(blocked) and int(blocked[1]) in self.txns and blocked[1] != words[1]
 
+    def standing(self, number):
+        """What a line may be told that asks how many changes of a transaction stand."""
+        txn = self.txns.get(number)
+        if txn is None or txn.state == "waits":
+            return ["refused 1"]
+        return [f"changes {len(txn.undo) - taken}" for taken in range(txn.maybe + 1)]
+
     def may_go_on(self, reply, words, wanted):
         """Whether a line may answer so, as changes are made page by page: one at a time, and nobody is in its owner's way."""
         owner = self.under[0]
@@ -218,8 +231,12 @@ class Life:
         elif reply == "die":
             txn.state = "dead"
         elif kind == "rollback" and reply == "more":
-            txn.state = "back"
-        elif kind == "continue" and reply in ("more", "rolledback"):
+            txn.state, txn.left = "back", 0
+        elif kind == "rollto" and reply == "more":
+            txn.state, txn.left = "returns", int(words[2])
+        elif kind == "rollto" and reply == "done":
+            txn.state = "on"
+        elif kind == "continue" and reply in ("more", "rolledback", "done"):
             self.take_back(reply, txn)
         elif kind == "commit" and txn.state == "on":
             self.commit(reply, txn)
@@ -234,12 +251,14 @@ class Life:
             self.now[key] = words[3]
 
     def take_back(self, reply, txn):
-        """A continue of a rollback was made: it has taken one record back, or with `stepped` one at most, until all are."""
+        """A continue of a rollback or a return was made: it has taken one record back, or with `stepped` one at most, until no more are to be."""
         if self.stepped and reply == "more":
-            txn.maybe = min(txn.maybe + 1, len(txn.undo))
+            txn.maybe = min(txn.maybe + 1, len(txn.undo) - txn.left)
             return
-        for _ in range(len(txn.undo) if self.stepped else 1):
+        for _ in range(len(txn.undo) - txn.left if self.stepped else 1):
             put_back(self.now, *txn.undo.pop())
+        if reply == "done":
+            txn.state, txn.maybe = "on", 0
 
     def commit(self, reply, txn):
         """A Commit was asked, unless it was refused with nothing changed. One of no changes asks for nothing."""
@@ -355,6 +374,10 @@ class Judge:
             if life.failed:
                 if reply != "refused 10":
                     raise Wrong(f"line {at}: {reply}, though the engine has failed")
+                continue
+            if words[0] == "changes":
+                if reply not in life.standing(int(words[1])):
+                    raise Wrong(f"line {at}: {reply}, not {' or '.join(life.standing(int(words[1])))}")
                 continue
             if reply == "refused 9":
                 if words[0] not in TAKES_MEMORY:

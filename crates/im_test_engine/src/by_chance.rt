@@ -1,6 +1,6 @@
 //! Lives by chance, of several transactions at once, beside a plain table of their keys.
 
-ghost use Rattle.std.specs.Prelude.{◌≡◌, false};
+ghost use Rattle.std.specs.Prelude.{◌≡◌, ◌≤◌, false};
 ghost use Rattle.im_base_disk.specs.Runs.{IsSynced};
 
 use crate::said::{Said, make};
@@ -136,7 +136,9 @@ impl Table {
     }
 
     /// A number below n by chance, and 0 where that is 0.
-    pub fn below(&mut self, n: u64) -> u64 {
+    pub fn below(&mut self, n: u64) -> u64
+        ensures { result ≤ n }
+    {
         self.seed = self
             .seed
             .wrapping_mul(6_364_136_223_846_793_005)
@@ -233,8 +235,8 @@ impl Table {
     }
 }
 
-// The key of a number: its three bytes, the highest first, and more, so that a leaf has few.
-fn key_of(alloc: Global, number: u64) -> Result<Vec<u8>, Fail> {
+/// The key of a number: its three bytes, the highest first, and more, so that a leaf has few.
+pub fn key_of(alloc: Global, number: u64) -> Result<Vec<u8>, Fail> {
     let mut key = Vec::new(alloc);
     key.push((number / 65_536 % 256) as u8)?;
     key.push((number / 256 % 256) as u8)?;
@@ -243,8 +245,8 @@ fn key_of(alloc: Global, number: u64) -> Result<Vec<u8>, Fail> {
     Ok(key)
 }
 
-// The number of a key.
-fn number_of(key: &Key) -> usize {
+/// The number of a key.
+pub fn number_of(key: &Key) -> usize {
     match key.bytes() {
         [high, mid, low, ..] => {
             usize::from(*high) * 65_536 + usize::from(*mid) * 256 + usize::from(*low)
@@ -253,8 +255,8 @@ fn number_of(key: &Key) -> usize {
     }
 }
 
-// A step was refused: rightly, where the disk has failed in it.
-fn refused(engine: &Store, within: Within) -> Told {
+/// A step was refused: rightly, where the disk has failed in it.
+pub fn refused(engine: &Store, within: Within) -> Told {
     if engine.failed() {
         Told::Stopped(within)
     } else {
@@ -262,8 +264,8 @@ fn refused(engine: &Store, within: Within) -> Told {
     }
 }
 
-// What is said where a key is there, and else that it is absent.
-fn wanted(had: Option<Rid>, there: Said) -> Said {
+/// What is said where a key is there, and else that it is absent.
+pub fn wanted(had: Option<Rid>, there: Said) -> Said {
     match had {
         Some(_) => there,
         None => Said::Absent,
