@@ -43,7 +43,7 @@ module _ {D : Type 0} (d : Ghosts D) (asked told : Call) where
   -- no step was made: there was no memory for it, or its number is that of none
   pub record IsNotMade (old new : OpenStore D d) : Type 0 where
     pub same : new ≡ old
-    pub tells : Refuses told 9 ⊎ (Refuses told 16 × (12 < asked.step) × (asked.step ≢ 16) × (asked.step ≢ 17))
+    pub tells : Refuses told 9 ⊎ (Refuses told 16 × (12 < asked.step) × (asked.step ≢ 16) × (asked.step ≢ 17) × (asked.step ≢ 24))
 
   -- what becomes of a call
   abbrev pub Serves : OpenStore D d → OpenStore D d → Type 0

@@ -14,7 +14,7 @@ pub struct Call {
     pub limit: u32,
     /// A transaction.
     pub txn: u64,
-    /// A row id; in an answer its number.
+    /// A row id, or how many changes are to stand; in an answer its number.
     pub number: u64,
     /// How many bytes of `key` are asked for, or where a copy begins the descriptor to ask.
     pub key_len: u32,

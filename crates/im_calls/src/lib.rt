@@ -14,7 +14,7 @@
 //! form has the entries that were told (`entries_are_read_again`).
 //!
 //! Steps by their numbers: 0 Begin, 1 Fetch, 2 Seek, 3 Next, 4 Scan, 5 Insert, 6 Delete, 7 Commit, 8 Rollback, 9 Continue, 10 FlushPage,
-//! 11 Force, 12 Checkpoint, 16 Switch, 17 Prev. What is no step has a number of its own: 13 how the store stands, 15 Close, and of a copy 18 Begin,
+//! 11 Force, 12 Checkpoint, 16 Switch, 17 Prev, 24 RollTo. What is no step has a number of its own: 13 how the store stands, 15 Close, and of a copy 18 Begin,
 //! 19 Piece, 20 End; of a load 21 Begin, 22 Put, 23 End. Replies: 0 Started, 1 Found, 2 Absent, 3 Entry, 4 End, 5 Entries, 6 Inserted, 7 Duplicate, 8 Deleted,
 //! 9 Committed, 10 RolledBack, 11 More, 12 Blocked by a lock, 13 Die, 14 Done, 15 Refused, 16 Blocked by a structure change.
 #![tactic(auto)]

@@ -13,7 +13,7 @@ use std::alloc::Global;
 /// The step that is asked. Refused `BadScript` where the number is no step's, and `Memory` where a step by a key finds none.
 pub fn step_of(alloc: Global, call: &Call) -> Result<Step, Fault>
     ensures asked { IfOk result (λ step. AsksStep call.now (asked_by step)) }
-    ensures unknown { result ≡ Err BadScript ↔ ((12 < call.now.step) × (call.now.step ≢ 16) × (call.now.step ≢ 17)) }
+    ensures unknown { result ≡ Err BadScript ↔ ((12 < call.now.step) × (call.now.step ≢ 16) × (call.now.step ≢ 17) × (call.now.step ≢ 24)) }
     ensures causes { IfErr result (λ e. (e ≡ Memory) ⊎ (e ≡ BadScript)) }
     ensures memory { result ≡ Err Memory → ((1 ≤ call.now.step) × (call.now.step ≤ 6)) ⊎ (call.now.step ≡ 17) }
 {
@@ -39,6 +39,7 @@ pub fn step_of(alloc: Global, call: &Call) -> Result<Step, Fault>
         12 => Ok(Step::Checkpoint),
         16 => Ok(Step::Switch),
         17 => Ok(Step::Prev(t, key_of(alloc, call)?)),
+        24 => Ok(Step::RollTo(t, call.number)),
         _ => Err(Fault::BadScript),
     }
 }
