@@ -101,7 +101,7 @@ static RUNS: [Run; 12] = [
         manner: IN_WORDS,
         lines: "help die\nhelp force\nhelp di\nbegin\nfetch 1 \"a b\"c\nfetch 1 x'61'62\nfetch 1 \"é\"\nscan 1 \"a\" \"b\"c 9\nquit\nbegin\n",
         end: StoreEnd::Input,
-        printed: "Nothing was done: an older transaction is in the way. `rollback N`, `continue N` while there is `more`, and begin again.\nforce                    makes the log durable\nA commit does that by itself.\nrefused 16: a bad line: `help` has no such word, alone it has all lines\nstarted 1\nrefused 16: a bad line: KEY is not written so in `fetch N KEY`, `help KEY` says how\nrefused 16: a bad line: KEY is not written so in `fetch N KEY`, `help KEY` says how\nabsent\nrefused 16: a bad line: KEY is not written so in `scan N KEY KEY LIMIT`, `help KEY` says how\n",
+        printed: "Nothing was done: an older transaction is in the way. `rollback N`, `continue N` while there is `more`, and begin again. `rollto N COUNT` goes on without this step.\nforce                    makes the log durable\nA commit does that by itself.\nrefused 16: a bad line: `help` has no such word, alone it has all lines\nstarted 1\nrefused 16: a bad line: KEY is not written so in `fetch N KEY`, `help KEY` says how\nrefused 16: a bad line: KEY is not written so in `fetch N KEY`, `help KEY` says how\nabsent\nrefused 16: a bad line: KEY is not written so in `scan N KEY KEY LIMIT`, `help KEY` says how\n",
     },
     Run {
         name: "a store that is only read refuses changes, and goes on",
@@ -188,7 +188,27 @@ static RUNS: [Run; 12] = [
 ];
 
 // Lines for daily use, and the words of bad ones.
-static DAILY: [Run; 6] = [
+static DAILY: [Run; 8] = [
+    Run {
+        name: "a savepoint has a name until its transaction returns to before it, or ends",
+        log: b"",
+        fails: 0,
+        bound: 0,
+        manner: BY_NUMBERS,
+        lines: "begin\nsavepoint 1 a\ninsert 1 x 1\nsavepoint . b-2\ninsert 1 y 2\nsavepoint 1 c\ninsert 1 z 3\nrollto 1 c\ncontinue 1\nrollto 1 b-2\nrollto 1 a\nsavepoint 1 d\ncontinue 1\nrollto 1 c\nrollto 1 d\nrollto 1 b-2\ninsert 1 y 4\nsavepoint 1 b-2\nrollto 1 b-2\nbegin\nrollto . a\nsavepoint 2 a\ncommit 1\nrollto 1 a\nsavepoint 1 a\nrollto . a\nsavepoint 2\nsavepoint . 7a\nsavepoint 2 aaaaaaaaaaaaaaaaaaaaaaaaaaaaaaaaa\nsavepoint 2 aaaaaaaaaaaaaaaaaaaaaaaaaaaaaaaa\nsavepoint x a\nrollto 2 a b\nrollback 2\nrollto . a\nentries",
+        end: StoreEnd::Input,
+        printed: "started 1\nsavepoint 0\ninserted\nsavepoint 1\ninserted\nsavepoint 2\ninserted\nmore\ndone\nmore\nrefused 4\nsavepoint 2\ndone\nrefused 16\nrefused 16\ndone\ninserted\nsavepoint 2\ndone\nstarted 2\nrefused 16: a bad line: the transaction has no savepoint of that name\nsavepoint 0\ncommitted\nrefused 1\nrefused 1\ndone\nrefused 16\nrefused 16: a bad line: NAME begins with a letter, and has 1 to 32 printable bytes in `savepoint N NAME`\nrefused 16\nsavepoint 0\nrefused 16\nrefused 16\nrolledback\nrefused 1: no active transaction of that number\ntotal 2\n78 1\n79 4\n",
+    },
+    Run {
+        name: "a part of a transaction is taken back, and it goes on",
+        log: b"",
+        fails: 0,
+        bound: 0,
+        manner: BY_NUMBERS,
+        lines: "begin\nchanges 1\ninsert 1 a 7\ninsert 1 b 8\ninsert 1 b 9\ndelete 1 a\nchanges .\nrollto 1 4\nrollto 1 1\nfetch 1 a\ncommit 1\nrollback 1\ncontinue 1\ncontinue 1\nchanges 1\nfetch 1 b\ncontinue 1\ninsert 1 c 9\nrollto . 0\ncontinue .\ncontinue .\nchanges 1\ncommit 1\nchanges 1\nrollto 1 0\nchanges\nchanges x\nchanges 1 2\nrollto 1\nentries",
+        end: StoreEnd::Input,
+        printed: "started 1\nchanges 0\ninserted\ninserted\nduplicate\ndeleted\nchanges 3\ndone\nmore\nrefused 4\nrefused 4\nrefused 4\nmore\ndone\nchanges 1\nabsent\nrefused 1\ninserted\nmore\nmore\ndone\nchanges 0\ncommitted\nrefused 1\nrefused 1\nrefused 16\nrefused 16\nrefused 16\nrefused 16\ntotal 0\n",
+    },
     Run {
         name: "lines that are a transaction by themselves are in words",
         log: b"",

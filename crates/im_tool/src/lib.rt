@@ -19,6 +19,7 @@ mod limits;
 mod look;
 mod recovered;
 mod rising;
+mod savepoints;
 mod store;
 mod tasks;
 mod transfer;

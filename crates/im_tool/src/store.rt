@@ -4,6 +4,7 @@ ghost use Rattle.std.specs.Prelude.{◌≡◌, false};
 ghost use Rattle.im_base_disk.specs.Runs.{IsSynced};
 
 use crate::copying::Copier;
+use crate::savepoints::Savepoints;
 use crate::whole::{made_whole, print_whole};
 use im_base_disk::Disk;
 use im_base_steps::{Reply, Step};
@@ -39,7 +40,7 @@ pub enum StoreEnd {
 /// Opens the store of a disk, makes the steps that the input's lines ask for, and writes each reply, one a line.
 ///
 /// Replies are flushed before a line is waited for, after each `committed`, and at the end. The line `entries` writes how
-/// many entries there are, and each; `redo` what redo did in the opening; `copy FOLDER` how many bytes the copy has that the copier made. A bad line is answered `refused 16`, and the store goes on. Empty lines are passed over,
+/// many entries there are, and each; `changes N` how many changes of a transaction stand, which `savepoint N NAME` gives a name; `redo` what redo did in the opening; `copy FOLDER` how many bytes the copy has that the copier made. A bad line is answered `refused 16`, and the store goes on. Empty lines are passed over,
 /// and a carriage return in front of a newline is left out. An error is of the program's own memory, input or output.
 ///
 /// Checkpoints are taken after the opening and after the steps, and the log goes on in the other file, as the bounds want it. At the end of the input a long
@@ -152,19 +153,34 @@ fn run_all_lines<D: TwoLogs + Cause + Drop, R: LineInput, W: Write, E: Write, C:
     copier: &mut C,
 ) -> io::Result<StoreEnd> {
     let mut line = Vec::new(alloc);
+    let mut session = Session {
+        last: None,
+        is_held_up: false,
+        is_noted: false,
+        saves: Savepoints::new(alloc),
+    };
     run_lines(
-        alloc, store, manner, reader, &mut line, writer, causes, copier,
+        alloc,
+        store,
+        manner,
+        &mut session,
+        reader,
+        &mut line,
+        writer,
+        causes,
+        copier,
     )
 }
 
 // What is known from one line to the next.
-#[derive(Clone, Copy)]
+#[derive(Drop)]
 struct Session {
     // The transaction of the last line `begin`, unless that was refused.
     last: Option<TxnId>,
     // It was told that the log is past its bound, and how a key was read.
     is_held_up: bool,
     is_noted: bool,
+    saves: Savepoints,
 }
 
 // Reads line by line into the room for one.
@@ -172,17 +188,13 @@ fn run_lines<D: TwoLogs + Cause + Drop, R: LineInput, W: Write, E: Write, C: Cop
     alloc: Global,
     store: &mut OpenStore<D>,
     manner: Manner,
+    session: &mut Session,
     reader: &mut R,
     line: &mut Vec<u8>,
     writer: &mut W,
     causes: &mut Causes<E>,
     copier: &mut C,
 ) -> io::Result<StoreEnd> {
-    let mut session = Session {
-        last: None,
-        is_held_up: false,
-        is_noted: false,
-    };
     for count in 0..u64::MAX {
         if !reader.has_line() {
             print_prompt(manner, writer)?;
@@ -199,7 +211,7 @@ fn run_lines<D: TwoLogs + Cause + Drop, R: LineInput, W: Write, E: Write, C: Cop
         }
         if !text.is_empty() {
             session.is_noted = tell_noted(manner, session.is_noted, text, count, causes);
-            let refused = run_line(alloc, store, manner, &mut session, text, writer, copier)?;
+            let refused = run_line(alloc, store, manner, session, text, writer, copier)?;
             session.is_held_up = tell_held_up(store, manner, session.is_held_up, writer)?;
             causes.tell(store.engine().disk());
             if refused == Some(Fault::NotAStore) {
@@ -334,6 +346,19 @@ fn run_asked<D: TwoLogs + Drop, W: Write>(
         }
         Ok(Asked::Step(step)) => run_step(alloc, store, manner, session, &step, writer),
         Ok(Asked::Whole(whole)) => run_whole(alloc, store, manner, whole, writer),
+        Ok(Asked::Changes(number)) => match store.engine().changes(number) {
+            Ok(count) => {
+                writeln!(writer, "changes {count}")?;
+                Ok(None)
+            }
+            Err(fault) => refuse(writer, manner, fault),
+        },
+        Ok(Asked::Savepoint(number, name)) => {
+            run_savepoint(store, manner, session, number, name, writer)
+        }
+        Ok(Asked::Return(number, name)) => {
+            run_return(alloc, store, manner, session, number, &name, writer)
+        }
         Ok(Asked::OfNone) => {
             let words = "no transaction was begun last, of which `.` would be the number";
             print_refused(writer, manner, Fault::NoTransaction.number(), &words)?;
@@ -346,6 +371,50 @@ fn run_asked<D: TwoLogs + Drop, W: Write>(
         }
         Err(_) => Err(io::Error::from(AllocError)),
     }
+}
+
+// Notes how many changes of a transaction stand, under a name.
+fn run_savepoint<D: TwoLogs + Drop, W: Write>(
+    store: &OpenStore<D>,
+    manner: Manner,
+    session: &mut Session,
+    number: TxnId,
+    name: Vec<u8>,
+    writer: &mut W,
+) -> io::Result<Option<Fault>> {
+    let count = match store.engine().changes(number) {
+        Ok(count) => count,
+        Err(fault) => return refuse(writer, manner, fault),
+    };
+    if !session.saves.note(number, name, count)? {
+        let words = "64 savepoints have names: end a transaction that has some";
+        print_refused(writer, manner, Fault::TooMany.number(), &words)?;
+        return Ok(Some(Fault::TooMany));
+    }
+    writeln!(writer, "savepoint {count}")?;
+    Ok(None)
+}
+
+// Makes the return to the savepoint of a name.
+fn run_return<D: TwoLogs + Drop, W: Write>(
+    alloc: Global,
+    store: &mut OpenStore<D>,
+    manner: Manner,
+    session: &mut Session,
+    number: TxnId,
+    name: &[u8],
+    writer: &mut W,
+) -> io::Result<Option<Fault>> {
+    if let Some(count) = session.saves.count_at(number, name) {
+        let step = Step::RollTo(number, count);
+        return run_step(alloc, store, manner, session, &step, writer);
+    }
+    if let Err(fault) = store.engine().changes(number) {
+        return refuse(writer, manner, fault);
+    }
+    let words = "a bad line: the transaction has no savepoint of that name";
+    print_refused(writer, manner, Fault::BadScript.number(), &words)?;
+    Ok(Some(Fault::BadScript))
 }
 
 // Makes a transaction by itself, and answers the refusal, if it was refused, or the upkeep after a step of it.
@@ -405,6 +474,7 @@ fn run_step<D: TwoLogs + Drop, W: Write>(
     writer: &mut W,
 ) -> io::Result<Option<Fault>> {
     let reply = store.step(step);
+    session.saves.keep_standing(store.engine());
     if matches!(step, Step::Begin) {
         session.last = begun_by(&reply);
     }

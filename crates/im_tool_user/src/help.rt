@@ -4,7 +4,7 @@ use std::io;
 use std::io::Write;
 
 /// Each line that asks for something: how it is written, what it does, and what else is to be known of it.
-static LINES: [(&str, &str, &str); 24] = [
+static LINES: [(&str, &str, &str); 27] = [
     (
         "put KEY ROWID",
         "puts a key in, or gives it another row id, and keeps that",
@@ -76,9 +76,24 @@ static LINES: [(&str, &str, &str); 24] = [
         "Answers `rolledback`; or `more`, and then `continue N` until that answers `rolledback`.",
     ),
     (
+        "changes N",
+        "how many changes of transaction N stand, to return to by `rollto`",
+        "Answers `changes COUNT`: one for each `inserted` and each `deleted` that was not taken back.",
+    ),
+    (
+        "rollto N COUNT",
+        "takes back the newest changes of transaction N until COUNT are left",
+        "Answers `done` where no more stand; or `more`, and then `continue N` until that answers `done`. N goes on, also after `die`, with all of its locks. `rollto N NAME` does so to the COUNT of a savepoint.",
+    ),
+    (
+        "savepoint N NAME",
+        "gives the changes of transaction N that stand a name, for `rollto N NAME`",
+        "Answers `savepoint COUNT`. NAME begins with a letter, and has 32 bytes at most. It is forgotten once N has ended, or fewer stand; noted again, it is here. Refused 12 where 64 savepoints have names.",
+    ),
+    (
         "continue N",
         "takes back the next of it",
-        "Answers `more` while something is left to be taken back, and then `rolledback`.",
+        "Answers `more` while something is left to be taken back, and then `rolledback`, or `done` after `rollto`.",
     ),
     (
         "entries",
@@ -149,7 +164,7 @@ static WORDS: [(&str, &str); 5] = [
     ),
     (
         "die",
-        "Nothing was done: an older transaction is in the way. `rollback N`, `continue N` while there is `more`, and begin again.",
+        "Nothing was done: an older transaction is in the way. `rollback N`, `continue N` while there is `more`, and begin again. `rollto N COUNT` goes on without this step.",
     ),
     ("more", "Something is left to be taken back: `continue N`."),
 ];

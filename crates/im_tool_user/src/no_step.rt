@@ -1,5 +1,6 @@
 //! Why a line asks for no step.
 
+use crate::asked::is_name;
 use crate::help::usage_of;
 use im_tool_look::noted_key;
 use im_tool_words::{first_piece, number_of, page_of};
@@ -25,6 +26,8 @@ pub enum NoStep {
     Missing(&'static str, &'static str),
     /// This part is no number that may stand there.
     NoNumber(&'static str, &'static str),
+    /// The name of a savepoint is not written as one.
+    NoName(&'static str),
     /// The key is not written as a key.
     NoKey(&'static str),
     /// The key is no text that stands without quotation marks.
@@ -58,6 +61,12 @@ impl Display for NoStep {
                 write!(
                     f,
                     "a bad line: {part} is no number that may stand in `{usage}`"
+                )
+            }
+            NoStep::NoName(usage) => {
+                write!(
+                    f,
+                    "a bad line: NAME begins with a letter, and has 1 to 32 printable bytes in `{usage}`"
                 )
             }
             NoStep::NoKey(usage) => {
@@ -125,9 +134,9 @@ fn why_not(alloc: Global, usage: &'static str, rest: Option<&[u8]>) -> NoStep {
                 Err(()) => return NoStep::NoKey(usage),
             }
         } else {
-            let (number, after) = first_piece(text, b' ');
-            if !is_number(part, number) {
-                return NoStep::NoNumber(usage, part);
+            let (word, after) = first_piece(text, b' ');
+            if !is_part(part, word) {
+                return not_so(usage, part);
             }
             after
         };
@@ -162,9 +171,18 @@ fn after_key(alloc: Global, text: &[u8]) -> Result<(bool, Option<&[u8]>), ()> {
     }
 }
 
-// Whether this is a number that may stand for that part; for that of a transaction also `.`.
-fn is_number(part: &str, word: &[u8]) -> bool {
+// What is wrong with a word that may not stand for that part.
+fn not_so(usage: &'static str, part: &'static str) -> NoStep {
     match part {
+        "NAME" => NoStep::NoName(usage),
+        _ => NoStep::NoNumber(usage, part),
+    }
+}
+
+// Whether this is a name, or a number, that may stand for that part; for that of a transaction also `.`.
+fn is_part(part: &str, word: &[u8]) -> bool {
+    match part {
+        "NAME" => is_name(word),
         "N" => word == b".".as_slice() || number_of(word).is_some(),
         "PAGE" => page_of(word).is_ok(),
         _ => number_of(word).is_some(),
