@@ -69,7 +69,7 @@ _Static_assert(sizeof(vah_info) == 104 && offsetof(vah_info, restarts) == 48, "b
 
 /* What is asked, and what is answered, by number: crates/im_calls. */
 enum { BEGIN, FETCH, SEEK, NEXT, SCAN, INSERT, DELETE, COMMIT, ROLLBACK, CONTINUE, FLUSH_PAGE, FORCE, CHECKPOINT, STAT, CLOSE = 15, SWITCH, PREV,
-	COPY_BEGIN, COPY_PIECE, COPY_END, LOAD_BEGIN, LOAD_PUT, LOAD_END };
+	COPY_BEGIN, COPY_PIECE, COPY_END, LOAD_BEGIN, LOAD_PUT, LOAD_END, ROLL_TO };
 enum { STARTED, FOUND, ABSENT, ENTRY, END, ENTRIES, INSERTED, DUPLICATE, DELETED, COMMITTED, ROLLED_BACK, MORE, BLOCKED, DIE, DONE, REFUSED, BLOCKED_TREE };
 
 /* ---- the device: files.c ---- */
@@ -145,14 +145,18 @@ ssize_t vah_device_write(int fd, const void *from, size_t len);
 ssize_t vah_device_read(int fd, void *to, size_t len);
 
 #ifdef VAH_TEST
-/* In tests: how many syncs were asked for, of all stores; and that this insert from now on finds no memory, where it is not 0. */
+/* In tests: how many syncs were asked for, of all stores; and that this insert from now on, and this change that is to be taken back, finds no memory, where
+ * it is not 0. */
 extern atomic_ulong vah_test_syncs;
-extern unsigned long vah_test_refused_insert;
+extern unsigned long vah_test_refused_insert, vah_test_refused_continue;
 #endif
 
 /* ---- a store, and the places of its transactions ---- */
 
 enum { PLACES = 64, SHELLS = 4096 };
+
+/* What a call takes back of a transaction. */
+enum { NOTHING, PART, ALL };
 
 /* The place of a transaction. It is used under the store's lock; what is atomic is also read without it, by who looks for a deadlock. */
 struct place {
@@ -160,9 +164,10 @@ struct place {
 	uint64_t serial;        /* which transaction has it, or had it: a part of its name */
 	int is_taken;
 	int is_committing;      /* its call waits for a force, and no other call has to do with it */
-	int is_ending;          /* its call takes it back, and no other call has to do with it */
-	int is_to_end;          /* while it was taken back to begin again another thread asked for its end */
-	int is_doomed;          /* a put failed half way: it can only be rolled back */
+	int taken_back;         /* what its call takes back of it, with which no other call has to do meanwhile */
+	int is_to_end;          /* while it was taken back, to begin again or in part, another thread asked for its end */
+	int is_returning;       /* it has more changes than are to stand: nothing else is asked of it before the others are taken back */
+	uint64_t changes;       /* how many of its changes stand, or are to stand */
 	int is_own_victim;      /* it gave way, and none but its own thread's transactions were older */
 	unsigned flags;
 	uint64_t wait_ms;
@@ -240,12 +245,12 @@ struct question { uint32_t what, limit; uint64_t number; const void *key; size_t
 /* Has the proved library read a call, and answer it. */
 void step(struct store *s, struct call *call);
 
-/* Makes a step of a transaction, or of the store where its number is 0, once. The answer's bytes are in `call`. */
-struct told ask_in(struct store *s, struct call *call, uint64_t txn, const struct question *q);
+/* Makes a step of the transaction in a place, or of the store where that is NULL, once. The answer's bytes are in `call`. */
+struct told ask_in(struct store *s, struct call *call, struct place *p, const struct question *q);
 
 /* The same in the store's own call: a question of the transaction in a place, one that is a word alone, and one of the store. */
-struct told ask(struct store *s, const struct place *p, const struct question *q);
-struct told ask_what(struct store *s, const struct place *p, uint32_t what);
+struct told ask(struct store *s, struct place *p, const struct question *q);
+struct told ask_what(struct store *s, struct place *p, uint32_t what);
 struct told ask_store(struct store *s, uint32_t what);
 
 /* What becomes of a commit that waits for a force. Where the store fails before that, it is not known whether it is kept. */
@@ -256,8 +261,15 @@ struct told force_for_all(struct store *s);
 /* Its number in the engine; 0 where it has not begun, or gave way. */
 static inline uint64_t txn_number(const struct place *p) { return atomic_load_explicit(&p->going->number, memory_order_relaxed); }
 
-/* Whether a transaction can only be rolled back, as this layer knows. */
-int is_over(const struct place *p);
+/* Whether a transaction gave way, and has not begun again. */
+static inline int is_over(const struct place *p) { return !txn_number(p); }
+
+/* Asks that so many changes stand. Where more do, one is taken back by each CONTINUE, and then it is returning. */
+struct told begin_return(struct store *s, struct place *p, uint64_t left);
+
+/* Takes back what is left of a return, one change at a time, between which others' calls come. A code. Where there is no memory for one it is returning
+ * still; where another thread asked for its end meanwhile, it has ended. */
+int finish_return(struct store *s, struct place *p);
 
 /* ---- names: names.c ---- */
 

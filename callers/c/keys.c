@@ -11,7 +11,7 @@ struct asking { struct question q; struct call *call; struct told told; };
 /* Makes what is asked once. */
 typedef void make(struct store *s, struct place *p, struct asking *a);
 
-static void make_step(struct store *s, struct place *p, struct asking *a) { a->told = ask_in(s, a->call, txn_number(p), &a->q); }
+static void make_step(struct store *s, struct place *p, struct asking *a) { a->told = ask_in(s, a->call, p, &a->q); }
 
 /* Makes what is asked in a transaction, again each time that one has ended while it is blocked. Its code; VAH_BUSY and VAH_DEADLOCK where it was not
  * waited any longer. */
@@ -19,12 +19,17 @@ static int make_in(struct store *s, struct place *p, make *makes, struct asking 
 {
 	struct wait w = { .limit_ms = p->wait_ms };
 	uint64_t serial = p->serial, number = txn_number(p);
+	int code;
 	if (is_over(p))
 		return VAH_MUST_ROLL_BACK;
+	if ((code = finish_return(s, p)))
+		return code;
 	while (makes(s, p, a), a->told.word == BLOCKED || a->told.word == BLOCKED_TREE) {
-		int code = wait_for_lock(s, p, a->told.number, &w);
-		if (p->serial != serial || p->is_ending || txn_number(p) != number)
+		code = wait_for_lock(s, p, a->told.number, &w);
+		if (p->serial != serial || p->taken_back == ALL || txn_number(p) != number)
 			return VAH_NO_TRANSACTION; /* another thread has taken it back meanwhile */
+		if (p->taken_back)
+			return VAH_ROLLING_BACK;
 		if (code)
 			return code;
 	}
@@ -119,14 +124,19 @@ int vah_last(vah_txn *txn, vah_entry *entry)
 /* ---- put ---- */
 
 /* Puts a key in once it was taken out. Its locks are those that the delete took, and no other step came in between, so it does not wait; but there
- * may be no room or memory for it. Then nothing of the transaction may be kept, as its half was not asked for. */
+ * may be no room or memory for it. Then the delete is taken back, one change, for which the lock is kept: where there is no memory for that either, the
+ * transaction's next call does it first. One that has to give way is taken back whole. */
 static struct told put_back_in(struct store *s, struct place *p, const struct question *q, uint64_t previous)
 {
-	struct told told = ask(s, p, q);
+	uint64_t before = p->changes - 1;
+	struct told told = ask(s, p, q), back;
 	if (told.word == INSERTED)
 		return (struct told){ REPLACED, 0, previous };
-	p->is_doomed = 1;
-	return told.word == DIE || told.word == REFUSED ? told : (struct told){ REFUSED, VAH_MUST_ROLL_BACK, 0 };
+	if (told.word == DIE || breaks(&told))
+		return told;
+	if ((back = begin_return(s, p, before)).word == MORE && (back = ask_what(s, p, CONTINUE)).word == DONE)
+		p->is_returning = 0;
+	return breaks(&back) ? back : told;
 }
 
 /* Inserts a key, or replaces its row id, once. Blocked it has changed nothing. An insert first, as a new key then costs one step, and no lock more;

@@ -1,8 +1,7 @@
 /* Several indexes, each with a name, and values of any length in one store, as the packages for Rust and Python keep them (docs/GUIDE.md). Copy this
  * file into a program: it stands on vahondrisa.h alone. Each function works within the caller's transaction, and returns what the call of the store
- * did that was refused: after VAH_GIVE_WAY call vah_again and make all again; after any other code but VAH_NOT_FOUND roll back. A long value that is
- * refused half way ends its transaction, as by vah_rollback, so that no half is ever committed: its next call is refused VAH_NO_TRANSACTION.
- * LONG_NOT_WHOLE is this file's own: the parts of a value are not numbered 0, 1, 2 and on, or do not say how many bytes are left. */
+ * did that was refused: after VAH_GIVE_WAY call vah_again and make all again. A long value that is refused half way is taken back, so that no half of it is
+ * ever committed. LONG_NOT_WHOLE is this file's own: the parts of a value are not numbered 0, 1, 2 and on, or do not say how many bytes are left. */
 #ifndef VAH_NAMED_H
 #define VAH_NAMED_H
 #include <string.h>
@@ -98,11 +97,11 @@ static inline int long_get(vah_txn *txn, const char *name, const void *key, size
 	return VAH_OK;
 }
 
-/* What was refused, after so many parts were changed: a half is not to be kept. After VAH_GIVE_WAY only vah_again and vah_rollback are taken. */
-static inline int long_refused(vah_txn *txn, int rc, size_t changed)
+/* What was refused: a half is not to be kept. After VAH_GIVE_WAY all of the transaction is made again. */
+static inline int long_refused(vah_txn *txn, int rc, uint64_t save)
 {
-	if (rc && rc != VAH_GIVE_WAY && changed)
-		vah_rollback(txn);
+	if (rc && rc != VAH_GIVE_WAY)
+		vah_roll_to(txn, save);
 	return rc;
 }
 
@@ -112,13 +111,16 @@ static inline int long_delete(vah_txn *txn, const char *name, const void *key, s
 	uint8_t lo[VAH_KEY_MAX];
 	vah_ref refs[VAH_SCAN_MAX];
 	size_t len, count, all = 0;
+	uint64_t save;
 	int rc = long_prefix(name, key, key_len, lo, &len);
+	if (rc || (rc = vah_savepoint(txn, &save)))
+		return rc;
 	do {
-		if (rc || (rc = long_parts(txn, lo, len, 0, refs, &count)))
-			return long_refused(txn, rc, all);
+		if ((rc = long_parts(txn, lo, len, 0, refs, &count)))
+			return long_refused(txn, rc, save);
 		for (size_t i = 0; i < count; i++, all++)
 			if ((rc = vah_delete(txn, refs[i].key, refs[i].len)))
-				return long_refused(txn, rc, all);
+				return long_refused(txn, rc, save);
 	} while (count == VAH_SCAN_MAX);
 	return all ? VAH_OK : VAH_NOT_FOUND;
 }
@@ -128,16 +130,15 @@ static inline int long_put(vah_txn *txn, const char *name, const void *key, size
 {
 	uint8_t part[VAH_KEY_MAX];
 	size_t front, len;
-	uint64_t left;
-	int rc = long_prefix(name, key, key_len, part, &front), is_there;
-	if (rc || (rc = vah_long_part(part, front, value, size, 0, &len, &left)))
+	uint64_t left, save;
+	int rc = long_prefix(name, key, key_len, part, &front);
+	if (rc || (rc = vah_long_part(part, front, value, size, 0, &len, &left)) || (rc = vah_savepoint(txn, &save)))
 		return rc;
 	if ((rc = long_delete(txn, name, key, key_len)) && rc != VAH_NOT_FOUND)
 		return rc;
-	is_there = !rc;
 	for (uint32_t n = 0; !(rc = vah_long_part(part, front, value, size, n, &len, &left)); n++)
 		if ((rc = vah_insert(txn, part, len, left)))
-			return long_refused(txn, rc, n || is_there);
+			return long_refused(txn, rc, save);
 	return rc == VAH_NOT_FOUND ? VAH_OK : rc;
 }
 

@@ -157,7 +157,7 @@ static int find_txn(const vah_txn *name, int is_to_end, struct store **to, struc
 	if (is_of_parent(s)) /* where nobody else works on it, as the threads of the parent are not here */
 		return is_txn(s, p, name) ? VAH_FORKED : VAH_NO_TRANSACTION;
 	enter(s);
-	int code = !is_txn(s, p, name) || p->is_committing ? VAH_NO_TRANSACTION : p->is_ending ? VAH_ROLLING_BACK : VAH_OK;
+	int code = !is_txn(s, p, name) || p->is_committing ? VAH_NO_TRANSACTION : p->taken_back ? VAH_ROLLING_BACK : VAH_OK;
 	if (code) {
 		p->is_to_end |= code == VAH_ROLLING_BACK && is_to_end;
 		done(s);

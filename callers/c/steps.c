@@ -35,34 +35,42 @@ static void wake(struct store *s, uint32_t what, const struct told *told)
 }
 
 #ifdef VAH_TEST
-unsigned long vah_test_refused_insert;
+unsigned long vah_test_refused_insert, vah_test_refused_continue;
+
+static int is_refused(uint32_t what)
+{
+	unsigned long *left = what == INSERT ? &vah_test_refused_insert : &vah_test_refused_continue;
+	return (what == INSERT || what == CONTINUE) && *left && !--*left;
+}
 #endif
 
-struct told ask_in(struct store *s, struct call *call, uint64_t txn, const struct question *q)
+struct told ask_in(struct store *s, struct call *call, struct place *p, const struct question *q)
 {
 #ifdef VAH_TEST
-	if (q->what == INSERT && vah_test_refused_insert && !--vah_test_refused_insert)
+	if (is_refused(q->what))
 		return (struct told){ REFUSED, VAH_MEMORY, 0 };
 #endif
 	if (s->has_failed && q->what != STAT) /* by a read for a copy too, after which the proved library fails at the next call of the device alone */
 		return (struct told){ REFUSED, VAH_FAILED, 0 };
 	call->step = q->what;
-	call->txn = txn;
+	call->txn = p ? txn_number(p) : 0;
 	call->limit = q->limit;
 	call->number = q->number;
 	set_key(call->key, &call->key_len, q->key, q->key_len);
 	set_key(call->hi, &call->hi_len, q->hi, q->hi_len);
 	step(s, call);
 	struct told told = { call->word, call->fault, call->number };
+	if (p)
+		p->changes += told.word == INSERTED || told.word == DELETED;
 	wake(s, q->what, &told);
 	return told;
 }
 
-struct told ask_store(struct store *s, uint32_t what) { return ask_in(s, s->call, 0, &(struct question){ .what = what }); }
+struct told ask_store(struct store *s, uint32_t what) { return ask_in(s, s->call, NULL, &(struct question){ .what = what }); }
 
-struct told ask(struct store *s, const struct place *p, const struct question *q) { return ask_in(s, s->call, txn_number(p), q); }
+struct told ask(struct store *s, struct place *p, const struct question *q) { return ask_in(s, s->call, p, q); }
 
-struct told ask_what(struct store *s, const struct place *p, uint32_t what) { return ask(s, p, &(struct question){ .what = what }); }
+struct told ask_what(struct store *s, struct place *p, uint32_t what) { return ask(s, p, &(struct question){ .what = what }); }
 
 /* The last caller that is awake forces the log for all of them. */
 struct told force_for_all(struct store *s)

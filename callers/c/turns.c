@@ -455,7 +455,8 @@ struct place *take_place(struct store *s, unsigned flags, uint64_t wait_ms, uint
 		p++;
 	p->serial++;
 	p->is_taken = 1;
-	p->is_committing = p->is_ending = p->is_to_end = p->is_doomed = p->is_own_victim = 0;
+	p->is_committing = p->taken_back = p->is_to_end = p->is_returning = p->is_own_victim = 0;
+	p->changes = 0;
 	p->sleeping = 0;
 	p->flags = flags;
 	p->wait_ms = wait_ms;

@@ -40,8 +40,6 @@ int vah_set_wait(vah_txn *txn, uint64_t wait_ms)
 
 /* ---- its end ---- */
 
-int is_over(const struct place *p) { return p->is_doomed || !txn_number(p); }
-
 /* Makes a transaction durable, with all that wait for the same. While it waits no other call has to do with its place. */
 static struct told commit_in(struct store *s, struct place *p)
 {
@@ -65,25 +63,44 @@ int vah_commit(vah_txn *txn)
 		return fail(NULL, code);
 	if (is_over(p))
 		return leave_with(s, VAH_MUST_ROLL_BACK);
-	struct told told = commit_in(s, p);
-	code = told_code(&told);
-	if (code != VAH_MUST_ROLL_BACK && code != VAH_ROLLING_BACK)
+	if (!(code = finish_return(s, p))) {
+		struct told told = commit_in(s, p);
+		code = told_code(&told);
+	}
+	if (code != VAH_MUST_ROLL_BACK && code != VAH_ROLLING_BACK && code != VAH_MEMORY && p->is_taken)
 		free_place(s, p);
 	return leave_with(s, code);
 }
 
-/* Takes back what a transaction did, one change at a time, between which others' calls come, but none of this one. */
-static int take_back(struct store *s, struct place *p)
+/* Takes changes back, one at a time, as long as there are more, between which others' calls come, but none of this transaction. */
+static struct told go_back(struct store *s, struct place *p, int what, struct told told)
 {
-	struct told told = ask_what(s, p, ROLLBACK);
-	p->is_ending = 1;
+	p->taken_back = what;
 	while (told.word == MORE) {
 		done(s);
 		enter(s);
 		told = ask_what(s, p, CONTINUE);
 		p->going->seen = s->tick;
 	}
-	p->is_ending = 0;
+	p->taken_back = NOTHING;
+	return told;
+}
+
+/* Takes back what is left of a return. */
+static struct told go_on_returning(struct store *s, struct place *p, int what)
+{
+	struct told told = { p->is_returning ? MORE : DONE, 0, 0 };
+	told = go_back(s, p, what, told);
+	p->is_returning = told.word != DONE;
+	return told;
+}
+
+/* Takes back what a transaction did. */
+static int take_back(struct store *s, struct place *p)
+{
+	struct told told = go_on_returning(s, p, ALL);
+	if (told.word == DONE)
+		told = go_back(s, p, ALL, ask_what(s, p, ROLLBACK));
 	return told_code(&told);
 }
 
@@ -102,6 +119,66 @@ int vah_rollback(vah_txn *txn)
 	return leave_with(s, code);
 }
 
+/* ---- a part of it ---- */
+
+struct told begin_return(struct store *s, struct place *p, uint64_t left)
+{
+	struct told told = ask(s, p, &(struct question){ .what = ROLL_TO, .number = left });
+	p->going->seen = s->tick;
+	if (told.word == MORE) {
+		p->is_returning = 1;
+		p->changes = left;
+	}
+	return told;
+}
+
+int finish_return(struct store *s, struct place *p)
+{
+	if (!p->is_returning)
+		return VAH_OK;
+	struct told told = go_on_returning(s, p, PART);
+	if (!p->is_to_end)
+		return told_code(&told);
+	take_back(s, p);
+	free_place(s, p);
+	return VAH_NO_TRANSACTION;
+}
+
+int vah_savepoint(vah_txn *txn, uint64_t *save)
+{
+	struct store *s;
+	struct place *p;
+	int code = save ? enter_txn(txn, &s, &p) : VAH_INVALID;
+	if (code)
+		return fail(NULL, code);
+	if (is_over(p))
+		return leave_with(s, VAH_MUST_ROLL_BACK);
+	*save = p->changes;
+	return leave_with(s, VAH_OK);
+}
+
+/* Returns to so many changes, after an earlier return, where one was left half way. */
+static int return_to(struct store *s, struct place *p, uint64_t save)
+{
+	int code = finish_return(s, p);
+	if (code)
+		return code;
+	struct told told = begin_return(s, p, save);
+	return told.word == MORE ? finish_return(s, p) : told_code(&told);
+}
+
+int vah_roll_to(vah_txn *txn, uint64_t save)
+{
+	struct store *s;
+	struct place *p;
+	int code = enter_txn(txn, &s, &p);
+	if (code)
+		return fail(NULL, code);
+	return leave_with(s, is_over(p) ? VAH_MUST_ROLL_BACK : return_to(s, p, save));
+}
+
+/* ---- again ---- */
+
 /* Takes back what a transaction did that is to begin again. */
 static int give_way(struct store *s, struct place *p)
 {
@@ -111,7 +188,6 @@ static int give_way(struct store *s, struct place *p)
 		atomic_store(&p->going->number, 0);
 		p->had = had;
 		p->from = s->tick;
-		p->is_doomed = 0;
 	}
 	return code;
 }
@@ -129,6 +205,7 @@ static int begin_again(struct store *s, struct place *p)
 	if (told.word == STARTED) {
 		s->restarts++;
 		p->is_own_victim = 0;
+		p->changes = 0;
 		atomic_store(&p->going->number, told.number);
 	}
 	return told_code(&told);

@@ -59,6 +59,8 @@ static int fill_shell(struct store *s, const char *path, const vah_config *confi
 	s->device.kill_at = getenv("VAH_KILL_AT") ? strtoul(getenv("VAH_KILL_AT"), NULL, 10) : 0;
 	if (getenv("VAH_REFUSE_INSERT"))
 		vah_test_refused_insert = strtoul(getenv("VAH_REFUSE_INSERT"), NULL, 10);
+	if (getenv("VAH_REFUSE_CONTINUE"))
+		vah_test_refused_continue = strtoul(getenv("VAH_REFUSE_CONTINUE"), NULL, 10);
 	s->device.slow = getenv("VAH_SLOW_SYNC") ? strtoul(getenv("VAH_SLOW_SYNC"), NULL, 10) : 0;
 #endif
 	s->path = strdup(path);

@@ -187,8 +187,8 @@ typedef struct vah_info {
 #define VAH_NOT_FOUND 100
 /** The key is there already. Nothing was changed. */
 #define VAH_EXISTS 101
-/** An older transaction stands in the way. Only vah_again and vah_rollback are
- *  taken now. */
+/** An older transaction stands in the way. Only vah_again, vah_rollback and
+ *  vah_roll_to are taken now. */
 #define VAH_GIVE_WAY 102
 /** A younger transaction holds what is needed, and under VAH_NO_WAIT it is not
  *  waited for; or it was waited for as long as is allowed; or another thread
@@ -229,12 +229,12 @@ typedef struct vah_info {
 /* The refusals of the store, by the numbers that its programs print. */
 /** The transaction has ended: begin another. */
 #define VAH_NO_TRANSACTION 1
-/** A call of the transaction was answered VAH_GIVE_WAY, or a vah_put of it failed
- *  half way: vah_again, or vah_rollback. */
+/** A call of the transaction was answered VAH_GIVE_WAY: vah_again, or vah_rollback. */
 #define VAH_MUST_ROLL_BACK 2
 /** A key has 1 to 255 bytes: shorten it, or keep it elsewhere, by its row id. */
 #define VAH_KEY_LENGTH 3
-/** Another thread takes the transaction back at this moment: begin another. */
+/** Another thread takes the transaction back at this moment: begin another; or takes
+ *  a part of it back, by vah_roll_to: call again. */
 #define VAH_ROLLING_BACK 4
 /** vah_config.max_pages are in use: open the store with more, or delete keys. */
 #define VAH_PAGES_FULL 5
@@ -341,7 +341,7 @@ int vah_set_wait(vah_txn *txn, uint64_t wait_ms);
 
 /** Make all that the transaction did durable, and end it. On VAH_DEVICE it is
  *  not known whether it is kept: open the store again to see. The transaction
- *  has ended except on VAH_MUST_ROLL_BACK and VAH_ROLLING_BACK. */
+ *  has ended except on VAH_MUST_ROLL_BACK, VAH_ROLLING_BACK and VAH_MEMORY. */
 int vah_commit(vah_txn *txn);
 
 /** After VAH_GIVE_WAY: take back all that the transaction did, wait until each
@@ -353,8 +353,8 @@ int vah_commit(vah_txn *txn);
  *  On VAH_BUSY, and on VAH_DEADLOCK where it gave way to another transaction of
  *  its thread, which has to end first, what it did is taken back, and it has not
  *  begun again: call this again, or vah_rollback; its other calls are refused
- *  VAH_MUST_ROLL_BACK. On any other code but 0 the transaction has ended, or is
- *  being ended by another thread (VAH_ROLLING_BACK). */
+ *  VAH_MUST_ROLL_BACK. On any other code but 0 the transaction has ended, or another
+ *  thread takes it back at this moment (VAH_ROLLING_BACK). */
 int vah_again(vah_txn *txn);
 
 /** Take back all that the transaction did, and end it. Changes are taken back
@@ -363,6 +363,24 @@ int vah_again(vah_txn *txn);
  *  and told VAH_NO_TRANSACTION. The transaction has ended whatever this returns,
  *  but for VAH_ROLLING_BACK, where another thread is about to. NULL is taken. */
 int vah_rollback(vah_txn *txn);
+
+/** Note where the transaction stands, for vah_roll_to. It asks nothing of the store,
+ *  and nothing has to be let go of.
+ *  @param[out] save how many changes it has made that stand: one for each vah_insert
+ *  and vah_delete that returned 0, two for a vah_put that replaced a row id by another */
+int vah_savepoint(vah_txn *txn, uint64_t *save);
+
+/** Take back the newest changes of the transaction until `save` are left; where it
+ *  has no more, nothing. It goes on, and keeps all of its locks. Other threads' calls
+ *  come in between; those of the same transaction are refused VAH_ROLLING_BACK.
+ *  After VAH_GIVE_WAY it goes on too, with what stands, to commit that or to take
+ *  another key. The same key is told VAH_GIVE_WAY again until the older one has ended,
+ *  which may wait for a lock of this one: who needs that key calls vah_again.
+ *  @param[in] save of vah_savepoint. It is a number alone: after a return to an earlier
+ *  savepoint, and other changes, it stands for these
+ *  @return VAH_MEMORY: some changes are left, and the next call of the transaction,
+ *  whichever it is, takes them back first. VAH_NO_TRANSACTION, VAH_DEVICE, .. */
+int vah_roll_to(vah_txn *txn, uint64_t save);
 
 /** The row id of a key.
  *  @param[out] rid may be NULL
@@ -373,11 +391,8 @@ int vah_fetch(vah_txn *txn, const void *key, size_t len, uint64_t *rid);
  *  VAH_PAGES_FULL, .. */
 int vah_insert(vah_txn *txn, const void *key, size_t len, uint64_t rid);
 
-/** Put a key in, or give one that is there another row id. On VAH_BUSY and
- *  VAH_DEADLOCK nothing was changed. On VAH_PAGES_FULL and VAH_MEMORY nothing was
- *  changed either, or, where the key was taken out and found no room again, the
- *  transaction can only be rolled back: its calls are refused
- *  VAH_MUST_ROLL_BACK, so that no half of it is ever committed.
+/** Put a key in, or give one that is there another row id. On VAH_BUSY,
+ *  VAH_DEADLOCK, VAH_PAGES_FULL and VAH_MEMORY nothing was changed.
  *  @param[out] was_there 1 where the key was there, and else 0; may be NULL
  *  @param[out] previous its row id before, where it was there; may be NULL
  *  @return VAH_GIVE_WAY, VAH_PAGES_FULL, .. */

@@ -29,6 +29,8 @@ static void is_refused(vah_store *store, vah_txn *txn)
 	IS(vah_scan(txn, "a", 1, "b", 1, &entry, 1, &count), VAH_FORKED);
 	IS(vah_scan_refs(txn, "a", 1, "b", 1, &ref, 1, &count), VAH_FORKED);
 	IS(vah_set_wait(txn, 1), VAH_FORKED);
+	IS(vah_savepoint(txn, &n), VAH_FORKED);
+	IS(vah_roll_to(txn, 0), VAH_FORKED);
 	IS(vah_commit(txn), VAH_FORKED);
 	IS(vah_rollback(txn), VAH_FORKED);
 	IS(vah_again(txn), VAH_FORKED);

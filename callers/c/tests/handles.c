@@ -15,7 +15,7 @@ static void refuses_txn(vah_txn *txn, int code)
 {
 	vah_entry entry = { .rid = 77, .len = 7 };
 	vah_ref ref = { .rid = 77 };
-	uint64_t rid = 77, previous = 77;
+	uint64_t rid = 77, previous = 77, save = 77;
 	int was_there = 77;
 	size_t count = 77;
 	IS(vah_fetch(txn, "a", 1, &rid), code);
@@ -29,10 +29,12 @@ static void refuses_txn(vah_txn *txn, int code)
 	IS(vah_scan(txn, "a", 1, "b", 1, &entry, 1, &count), code);
 	IS(vah_scan_refs(txn, "a", 1, "b", 1, &ref, 1, &count), code);
 	IS(vah_set_wait(txn, 1), code);
+	IS(vah_savepoint(txn, &save), code);
+	IS(vah_roll_to(txn, 0), code);
 	IS(vah_commit(txn), code);
 	IS(vah_again(txn), code);
 	if (txn) IS(vah_rollback(txn), code);
-	HOLDS(entry.rid == 77 && entry.len == 7 && ref.rid == 77 && rid == 77 && previous == 77 && was_there == 77 && count == 77);
+	HOLDS(entry.rid == 77 && entry.len == 7 && ref.rid == 77 && rid == 77 && previous == 77 && save == 77 && was_there == 77 && count == 77);
 }
 
 static void refuses_store(vah_store *store, int code)
@@ -161,8 +163,9 @@ static void *use_shared(void *arg)
 	for (int i = 0; i < 400; i++) {
 		vah_txn *txn = atomic_load(&shared);
 		char key[2] = { 'k', (char)('a' + i % 20) };
+		uint64_t save;
 		int rc;
-		switch ((mix = mix * 1664525u + 1013904223u) >> 29) {
+		switch ((mix = mix * 1664525u + 1013904223u) >> 28) {
 		case 0: rc = vah_insert(txn, key, 2, 1); break;
 		case 1: rc = vah_delete(txn, key, 2); break;
 		case 2: rc = vah_put(txn, key, 2, (uint64_t)i, NULL, NULL); break;
@@ -170,7 +173,10 @@ static void *use_shared(void *arg)
 		case 4: rc = vah_scan_refs(txn, "k", 1, "l", 1, refs, 4, &count); break;
 		case 5: rc = vah_again(txn); break;
 		case 6: rc = vah_commit(txn); break;
-		default: rc = vah_rollback(txn); break;
+		case 7: rc = vah_rollback(txn); break;
+		case 8: rc = vah_savepoint(txn, &save); break;
+		case 9: rc = vah_roll_to(txn, (uint64_t)i % 4); break;
+		default: rc = vah_put(txn, key, 2, (uint64_t)i, NULL, NULL); break;
 		}
 		HOLDS(rc == VAH_OK || rc == VAH_NOT_FOUND || rc == VAH_EXISTS || rc == VAH_NO_TRANSACTION || rc == VAH_MUST_ROLL_BACK || rc == VAH_ROLLING_BACK
 			|| rc == VAH_GIVE_WAY || rc == VAH_BUSY || rc == VAH_DEADLOCK);

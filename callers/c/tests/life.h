@@ -1,5 +1,5 @@
-/* A life whose device calls fail, or within which the process is killed: splits, rollbacks half way, a checkpoint, a log that goes on in the other file, a page pool
- * that is small. */
+/* A life whose device calls fail, or within which the process is killed: splits, rollbacks half way, returns to a savepoint, a checkpoint, a log that goes on in the
+ * other file, a page pool that is small. */
 #ifndef LIFE_H
 #define LIFE_H
 #include "test.h"
@@ -24,7 +24,23 @@ static inline void life_key(unsigned char turn, unsigned char k, unsigned char *
 	key[2] = k;
 }
 
-/* Each turn is a transaction; turn 2 is rolled back, and turn 4 deletes what turn 0 put in. `acked` is told of each that was committed. */
+/* Changes that are taken back: more keys, and what turn 0 put in is deleted. A part goes first. */
+static inline int life_returns(vah_txn *txn)
+{
+	unsigned char key[220];
+	uint64_t save;
+	int rc = vah_savepoint(txn, &save);
+	for (unsigned char k = 0; !rc && k < KEYS; k++) {
+		life_key(TURNS, k, key);
+		rc = vah_insert(txn, key, sizeof key, k);
+		life_key(0, k, key);
+		if (!rc) rc = vah_delete(txn, key, sizeof key);
+	}
+	if (!rc) rc = vah_roll_to(txn, save + KEYS / 2);
+	return rc ? rc : vah_roll_to(txn, save);
+}
+
+/* Each turn is a transaction; turn 2 is rolled back, turn 3 returns to a savepoint, and turn 4 deletes what turn 0 put in. `acked` is told of each that was committed. */
 static inline int life(const char *dir, void (*acked)(int turn, void *with), void *with)
 {
 	vah_config config = small_config();
@@ -39,6 +55,7 @@ static inline int life(const char *dir, void (*acked)(int turn, void *with), voi
 			life_key(t == 4 ? 0 : t, k, key);
 			rc = t == 4 ? vah_delete(txn, key, sizeof key) : t == 5 ? vah_put(txn, key, sizeof key, t, NULL, NULL) : vah_insert(txn, key, sizeof key, t);
 		}
+		if (!rc && t == 3) rc = life_returns(txn);
 		if (rc || t == 2) {
 			int back = vah_rollback(txn);
 			rc = rc ? rc : back;
@@ -69,6 +86,8 @@ static inline void life_kept(const char *dir, int acked)
 			int rc = vah_fetch(txn, key, sizeof key, &n);
 			HOLDS(rc == VAH_NOT_FOUND || (rc == VAH_OK && n == t));
 			there[t] += rc == VAH_OK;
+			life_key(TURNS, k, key);
+			IS(vah_fetch(txn, key, sizeof key, &n), VAH_NOT_FOUND);
 		}
 	OK(vah_commit(txn));
 	OK(vah_close(store));

@@ -47,6 +47,18 @@ static int short_life(const char *dir, const vah_config *config, int *acked)
 			}
 		}
 		if (rc) break;
+		if (t == 3) {
+			uint64_t save;
+			TWICE(rc, vah_savepoint(txn, &save));
+			for (unsigned char k = 0; !rc && k < 2 * KEYS; k++) {
+				life_key(k < KEYS ? 0 : TURNS, k % KEYS, key);
+				if (k < KEYS) TWICE(rc, vah_delete(txn, key, sizeof key));
+				else TWICE(rc, vah_insert(txn, key, sizeof key, t));
+			}
+			if (!rc) TWICE(rc, vah_roll_to(txn, save + KEYS / 2));
+			if (!rc) TWICE(rc, vah_roll_to(txn, save));
+			if (rc) break;
+		}
 		if (t == 2) {
 			TWICE(rc, vah_rollback(txn));
 			continue;

@@ -110,7 +110,7 @@ static void long_values(vah_txn *txn)
 }
 
 #ifdef VAH_TEST
-/* A value whose put finds no memory for its third part: nothing of it is committed, nor was the one before taken out. */
+/* A value whose put finds no memory for a part: it is taken back, the one before is there, and what else was done is committed. */
 static void half_a_value(vah_store *store, unsigned long refused)
 {
 	static uint8_t value[3000];
@@ -122,9 +122,12 @@ static void half_a_value(vah_store *store, unsigned long refused)
 	OK(vah_begin(store, &txn));
 	vah_test_refused_insert = refused;
 	IS(long_put(txn, "notes", "k", 1, value, sizeof value), VAH_MEMORY);
-	IS(vah_commit(txn), VAH_NO_TRANSACTION);
+	is_value(txn, "k", 1, value, 700);
+	OK(long_put(txn, "notes", "beside", 6, value, 900));
+	OK(vah_commit(txn));
 	OK(vah_begin(store, &txn));
 	is_value(txn, "k", 1, value, 700);
+	is_value(txn, "beside", 6, value, 900);
 	OK(vah_commit(txn));
 }
 
