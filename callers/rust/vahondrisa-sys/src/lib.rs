@@ -139,6 +139,8 @@ extern "C" {
     pub fn vah_commit(txn: *mut vah_txn) -> c_int;
     pub fn vah_again(txn: *mut vah_txn) -> c_int;
     pub fn vah_rollback(txn: *mut vah_txn) -> c_int;
+    pub fn vah_savepoint(txn: *mut vah_txn, save: *mut u64) -> c_int;
+    pub fn vah_roll_to(txn: *mut vah_txn, save: u64) -> c_int;
     pub fn vah_fetch(txn: *mut vah_txn, key: *const c_void, len: usize, rid: *mut u64) -> c_int;
     pub fn vah_insert(txn: *mut vah_txn, key: *const c_void, len: usize, rid: u64) -> c_int;
     pub fn vah_put(txn: *mut vah_txn, key: *const c_void, len: usize, rid: u64, was_there: *mut c_int, previous: *mut u64) -> c_int;

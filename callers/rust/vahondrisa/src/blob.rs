@@ -15,7 +15,7 @@ use vahondrisa_sys as sys;
 /// part is read, and locked, as an entry: it is for values of some kilobytes. A key has 1 to 217 bytes, fewer by the length of the name, and by one for
 /// each byte 0 in it; else `KeyLength`.
 ///
-/// A `put` or `remove` that is refused half way is taken back; where that is refused too, `commit` is refused `MustRollBack`.
+/// A `put` or `remove` that is refused half way is taken back.
 ///
 /// ```
 /// # let dir = std::env::temp_dir().join(format!("vahondrisa-doc-blob-{}", std::process::id()));
@@ -119,16 +119,10 @@ impl Place {
 
 /// Takes entries out and puts others in: all, or none where one is refused.
 fn change(txn: &Transaction<'_>, old: &[Entry], new: &[Entry]) -> Result<()> {
-    let (mut gone, mut there) = (0, 0);
-    let outcome = old.iter().try_for_each(|(at, _)| txn.remove(at).map(|_| gone += 1));
-    let outcome = outcome.and_then(|()| new.iter().try_for_each(|(at, rid)| txn.insert(at, *rid).map(|_| there += 1)));
-    if outcome.is_err() {
-        let taken_out = new[..there].iter().rev().try_for_each(|(at, _)| txn.remove(at).map(drop));
-        if taken_out.and_then(|()| old[..gone].iter().rev().try_for_each(|(at, rid)| txn.insert(at, *rid).map(drop))).is_err() {
-            txn.mark_half();
-        }
-    }
-    outcome
+    txn.attempt(|txn| {
+        old.iter().try_for_each(|(at, _)| txn.remove(at).map(drop))?;
+        new.iter().try_for_each(|(at, rid)| txn.insert(at, *rid).map(drop))
+    })
 }
 
 fn not_whole(txn: &Transaction<'_>) -> Error {

@@ -60,7 +60,7 @@ pub type Result<T, E = Error> = std::result::Result<T, E>;
 pub enum ErrorKind {
     /// The transaction has ended.
     NoTransaction,
-    /// A call of the transaction was answered `GiveWay` before, or a `put` of it or a change of a long value failed half way.
+    /// A call of the transaction was answered `GiveWay` before.
     MustRollBack,
     /// A key has 1 to 255 bytes; in an index fewer.
     KeyLength,

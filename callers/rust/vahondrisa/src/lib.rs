@@ -38,6 +38,7 @@ mod layout;
 mod load;
 mod options;
 mod range;
+mod savepoint;
 mod store;
 mod transaction;
 
@@ -48,6 +49,7 @@ pub use key_range::KeyRange;
 pub use load::Names;
 pub use options::Options;
 pub use range::Range;
+pub use savepoint::Savepoint;
 pub use store::{Info, Store};
 pub use transaction::Transaction;
 

@@ -1,8 +1,9 @@
 use crate::error::{Error, Result};
 use crate::key_range::KeyRange;
 use crate::range::Range;
+use crate::savepoint::Savepoint;
 use crate::store::{done, Store};
-use std::cell::Cell;
+use std::cell::{Cell, RefCell};
 use std::fmt;
 use std::mem::MaybeUninit;
 use std::time::Duration;
@@ -28,8 +29,9 @@ pub struct Transaction<'s> {
     store: &'s Store,
     /// A call of it was told that an older transaction stands in the way.
     gives_way: Cell<bool>,
-    /// A long value was changed in part, and that was not taken back.
-    is_half: Cell<bool>,
+    /// How many savepoints were made, and the numbers of those that may be returned to, in their order.
+    saves: Cell<u64>,
+    standing: RefCell<Vec<u64>>,
 }
 
 // SAFETY: it may move to another thread. It is not `Sync`: one thread at a time.
@@ -37,7 +39,7 @@ unsafe impl Send for Transaction<'_> {}
 
 impl<'s> Transaction<'s> {
     pub(crate) fn of(at: *mut sys::vah_txn, store: &'s Store) -> Transaction<'s> {
-        Transaction { at, store, gives_way: Cell::new(false), is_half: Cell::new(false) }
+        Transaction { at, store, gives_way: Cell::new(false), saves: Cell::new(0), standing: RefCell::default() }
     }
 
     pub(crate) fn at(&self) -> *mut sys::vah_txn {
@@ -53,9 +55,19 @@ impl<'s> Transaction<'s> {
         self.gives_way.get()
     }
 
-    /// From now on it can only be rolled back.
-    pub(crate) fn mark_half(&self) {
-        self.is_half.set(true);
+    /// A savepoint is returned to no more.
+    pub(crate) fn keep(&self, save: u64) {
+        self.standing.borrow_mut().retain(|it| *it != save);
+    }
+
+    /// Neither is this one, nor those that were made after it; whether it could be.
+    pub(crate) fn end_from(&self, save: u64) -> bool {
+        let mut standing = self.standing.borrow_mut();
+        let place = standing.iter().position(|it| *it == save);
+        if let Some(place) = place {
+            standing.truncate(place);
+        }
+        place.is_some()
     }
 
     /// The row id of a key.
@@ -73,8 +85,6 @@ impl<'s> Transaction<'s> {
     }
 
     /// Puts a key in, or gives one that is there another row id; the one that it had.
-    ///
-    /// After `PagesFull` and `Memory` the transaction may be one that can only be rolled back.
     pub fn put(&self, key: impl AsRef<[u8]>, rid: u64) -> Result<Option<u64>> {
         let key = key.as_ref();
         let (mut was_there, mut previous) = (0, 0);
@@ -132,12 +142,46 @@ impl<'s> Transaction<'s> {
         done(unsafe { sys::vah_set_wait(self.at, limit.map_or(0, milliseconds)) })
     }
 
+    /// Notes where it stands: what is done from now on is taken back when the savepoint is dropped, unless that is told to `keep` it.
+    pub fn savepoint(&self) -> Savepoint<'_, 's> {
+        let number = self.saves.get();
+        self.saves.set(number + 1);
+        self.standing.borrow_mut().push(number);
+        Savepoint::new(self, number)
+    }
+
+    /// Runs `body`, and where it fails, by whatever error, takes back what it did, and hands the error on: the transaction goes on.
+    ///
+    /// Where a call was told `GiveWay` nothing is taken back alone, as the whole transaction is to begin again: hand that on.
+    ///
+    /// ```
+    /// # let dir = std::env::temp_dir().join(format!("vahondrisa-doc-attempt-{}", std::process::id()));
+    /// # let store = vahondrisa::Store::open(&dir)?;
+    /// store.write(|txn| {
+    ///     for row in 0..3 {
+    ///         let taken = txn.attempt(|txn| {
+    ///             txn.put(b"last", row)?;
+    ///             txn.insert([row as u8 / 2], row)?.then_some(()).ok_or_else(|| std::io::Error::other("it is there already"))
+    ///         });
+    ///         assert_eq!(taken.is_ok(), row != 1);
+    ///     }
+    ///     assert_eq!(txn.get(b"last")?, Some(2));
+    ///     Ok::<_, vahondrisa::Error>(())
+    /// })?;
+    /// # store.close()?; std::fs::remove_dir_all(dir).unwrap();
+    /// # Ok::<(), vahondrisa::Error>(())
+    /// ```
+    pub fn attempt<T, E>(&self, body: impl FnOnce(&Transaction<'s>) -> Result<T, E>) -> Result<T, E> {
+        let save = self.savepoint();
+        let outcome = body(self);
+        if outcome.is_ok() {
+            save.keep();
+        }
+        outcome
+    }
+
     /// Makes all that it did durable, and ends it. On `Device` it is not known whether it is kept: open the store again to see.
     pub fn commit(self) -> Result<()> {
-        if self.is_half.get() && !self.gives_way() {
-            let text = format!("{}: the transaction must roll back, as a long value was changed in part", self.store.path().display());
-            return Err(Error::of(sys::VAH_MUST_ROLL_BACK, text)); // it is dropped
-        }
         let code = unsafe { sys::vah_commit(self.at) };
         let refused = if code == sys::VAH_OK { None } else { Some(Error::last(code)) };
         if !matches!(code, sys::VAH_MUST_ROLL_BACK | sys::VAH_ROLLING_BACK | sys::VAH_BUSY | sys::VAH_MEMORY) {
@@ -154,7 +198,6 @@ impl<'s> Transaction<'s> {
         match unsafe { sys::vah_again(self.at) } {
             sys::VAH_OK => {
                 self.gives_way.set(false);
-                self.is_half.set(false);
                 Ok(self)
             }
             code => Err(Error::last(code)), // it is dropped, as it may not have ended

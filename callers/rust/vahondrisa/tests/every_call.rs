@@ -15,7 +15,7 @@ fn key(turn: u8, k: u8) -> [u8; 220] {
     key
 }
 
-/// Each turn is a transaction of twelve keys; turn 2 is rolled back. `acked` has those that were committed.
+/// Each turn is a transaction of twelve keys, and returns to a savepoint; turn 2 is rolled back. `acked` has those that were committed.
 fn life(dir: &Path, acked: &mut Vec<u8>) -> Result<()> {
     let store = Store::options().frames(8).redo_bytes(200_000).open(dir)?;
     for turn in 0..6 {
@@ -26,6 +26,12 @@ fn life(dir: &Path, acked: &mut Vec<u8>) -> Result<()> {
         for k in 0..12 {
             assert_eq!(txn.put(&key(turn, k), turn.into())?, Some(99));
         }
+        let save = txn.savepoint();
+        for k in 0..12 {
+            txn.remove(key(turn, k))?;
+            txn.put(key(99, k), 99)?;
+        }
+        save.roll_back()?;
         if turn == 2 {
             txn.rollback()?;
             continue;
@@ -65,6 +71,7 @@ fn every_call_fails_in_turn() {
             assert!(there == 0 || there == 12 && turn != 2, "{n}: {there} of turn {turn}");
             assert!(there == 12 || !acked.contains(&turn), "{n}: turn {turn} is lost");
         }
+        assert!((0..12).all(|k| txn.get(key(99, k)).unwrap().is_none()), "{n}: what was taken back is there");
         txn.commit().unwrap();
         store.close().unwrap();
         if outcome.is_ok() {
@@ -107,6 +114,37 @@ fn every_call_of_a_copy_fails_in_turn() {
     }
     store.close().unwrap();
     std::fs::remove_dir_all(&dir).unwrap();
+}
+
+#[test]
+#[ignore = "over a library that refuses memory: make -C callers test"]
+fn a_return_that_finds_no_memory_is_ended_by_the_next_call() {
+    let _alone = ALONE.lock().unwrap_or_else(PoisonError::into_inner);
+    for refused in 1..8u64 {
+        let dir = std::env::temp_dir().join(format!("vahondrisa-half-back-{}-{refused}", std::process::id()));
+        let _ = std::fs::remove_dir_all(&dir);
+        std::env::set_var("VAH_REFUSE_CONTINUE", refused.to_string());
+        let store = Store::open(&dir).unwrap();
+        std::env::remove_var("VAH_REFUSE_CONTINUE");
+        let txn = store.begin().unwrap();
+        txn.put(b"a", 1).unwrap();
+        let save = txn.savepoint();
+        (0..4).for_each(|i| assert!(txn.insert([i], 2).unwrap()));
+        let outcome = if refused % 2 == 0 {
+            drop(save);
+            Ok(())
+        } else {
+            save.roll_back()
+        };
+        assert_eq!(outcome.map_err(|it| it.kind()), if refused % 2 == 1 && refused <= 4 { Err(ErrorKind::Memory) } else { Ok(()) });
+        assert_eq!((txn.first().unwrap(), txn.range(..).count()), (Some((b"a".to_vec(), 1)), 1));
+        txn.commit().unwrap();
+        store.close().unwrap();
+        std::env::set_var("VAH_REFUSE_CONTINUE", "0"); // what is left of the count is for no other test
+        Store::open(&dir).unwrap().close().unwrap();
+        std::env::remove_var("VAH_REFUSE_CONTINUE");
+        std::fs::remove_dir_all(&dir).unwrap();
+    }
 }
 
 #[test]

@@ -337,12 +337,12 @@ fn a_value_that_is_refused_half_way_is_not_kept_half() {
 }
 
 #[test]
-fn a_value_that_stays_half_is_not_committed() {
-    let dir = Folder::new("stays-half");
+fn a_value_is_taken_back_whatever_others_hold() {
+    let dir = Folder::new("taken-back");
     let store = Store::open(&dir.0).unwrap();
     let texts = store.blob("b").unwrap();
-    // the younger one comes between two parts, and holds what lies after them: so they are neither put on nor taken out again
-    let mut halves = 0;
+    // the younger one comes between two parts, and holds what lies after them, so that a delete of one would wait too
+    let mut taken_back = 0;
     for round in 0..200 {
         let (older, younger) = (store.try_begin().unwrap(), store.begin().unwrap());
         let meet = std::sync::Barrier::new(2);
@@ -360,19 +360,18 @@ fn a_value_that_stays_half_is_not_committed() {
         let outcome = older.commit();
         match put {
             Ok(was_there) => assert!(!was_there && there > 400 && outcome.is_ok()),
-            Err(it) if there == 0 => assert!(it.kind() == ErrorKind::Busy && outcome.is_ok()),
             Err(it) => {
-                assert_eq!((it.kind(), outcome.unwrap_err().kind()), (ErrorKind::Busy, ErrorKind::MustRollBack));
-                halves += 1;
+                assert!(it.kind() == ErrorKind::Busy && there == 0 && outcome.is_ok());
+                taken_back += 1;
             }
         }
         let value = store.write(|txn| texts.get(txn, b"a").and_then(|it| texts.remove(txn, b"a").map(|_| it))).unwrap();
         assert!(value.is_none() || value.unwrap().len() == 100_000);
-        if halves == 3 {
+        if taken_back == 10 {
             return;
         }
     }
-    panic!("{halves} values were half");
+    panic!("{taken_back} values were taken back");
 }
 
 #[test]
