@@ -17,7 +17,7 @@ def key(turn: int, k: int) -> bytes:
 
 
 def life(folder: str, acked: set) -> None:
-    """Each turn is a transaction; turn 2 is rolled back. `acked` has those that were committed."""
+    """Each turn is a transaction; turn 2 is rolled back, and each returns to a savepoint. `acked` has those that were committed."""
     with vahondrisa.open(folder, frames=8, redo_bytes=200_000) as store:
         for turn in range(TURNS):
             with store.begin() as txn:
@@ -25,6 +25,14 @@ def life(folder: str, acked: set) -> None:
                     txn[key(turn, k)] = 99
                 for k in range(KEYS):
                     txn[key(turn, k)] = turn
+                try:
+                    with txn.savepoint():
+                        for k in range(KEYS):
+                            del txn[key(turn, k)]
+                            txn[key(99, k)] = 99
+                        raise LookupError
+                except LookupError:
+                    pass
                 if turn == 2:
                     txn.rollback()
                     continue
@@ -51,10 +59,10 @@ class EveryCall(unittest.TestCase):
                 if failed:
                     self.assertEqual(failed.__cause__.errno, errno.EIO)
                 with vahondrisa.open(folder) as store, store.begin() as txn:
-                    found = {it: [rid for key, rid in txn.range() if rid == it] for it in range(TURNS)}
+                    found = {it: [rid for key, rid in txn.range() if rid == it] for it in (*range(TURNS), 99)}
                 self.assertTrue(all(len(it) in (0, KEYS) for it in found.values()), found)
                 self.assertTrue(all(found[it] for it in acked), (found, acked))
-                self.assertFalse(found[2])
+                self.assertFalse(found[2] or found[99])
             if not failed:
                 break
         self.assertGreater(n, 20)
@@ -84,6 +92,30 @@ class EveryCall(unittest.TestCase):
                 if not failed:
                     break
             self.assertGreater(n, 12)
+
+    def test_a_return_that_finds_no_memory_is_ended_by_the_next_call(self):
+        for refused in range(1, 12):
+            with self.subTest(refused=refused), tempfile.TemporaryDirectory() as room:
+                os.environ["VAH_REFUSE_CONTINUE"] = str(refused)
+                try:
+                    store = vahondrisa.open(os.path.join(room, "store"))
+                finally:
+                    del os.environ["VAH_REFUSE_CONTINUE"]
+                with store:
+                    with store.begin() as txn:
+                        txn[b"a"] = 1
+                        with self.assertRaises(ZeroDivisionError), txn.savepoint() as save:
+                            txn[b"a"] = 2
+                            txn.update({b"%d" % i: i for i in range(8)})
+                            1 / 0
+                        self.assertEqual(dict(txn), {b"a": 1})
+                        with txn.savepoint() as save:
+                            txn[b"b"] = 2
+                            try:
+                                save.roll_back()
+                            except MemoryError:
+                                self.assertEqual(refused, 11)
+                    self.assertEqual(store.items(), [(b"a", 1)])
 
     def test_a_name_that_is_refused_half_way_is_none(self):
         for refused in (1, 2, 3):  # of its three entries

@@ -37,7 +37,7 @@ def hold(what, call, *arguments):
 
 def of_keys(is_blob):
     """Calls of what has keys, as functions of that."""
-    for name in ("get", "seek", "next", "prev", "range", "prefix", "pop", "delete", "size", "__contains__", "__getitem__", "__delitem__"):
+    for name in ("get", "seek", "next", "prev", "range", "prefix", "pop", "delete", "size", "savepoint", "roll_to", "__contains__", "__getitem__", "__delitem__"):
         for it in KEYS:
             yield f"{name}({it!r:.30})", lambda keys, name=name, it=it: list(getattr(keys, name)(it) or ())
     for name in ("put", "insert", "setdefault", "__setitem__"):

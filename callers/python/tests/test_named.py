@@ -174,27 +174,35 @@ class Named(Case):
         with self.store.begin() as txn:
             self.assertEqual((txn[b"other"], dict(texts.within(txn))), (1, {b"a": b"A" * 700}))
 
-    def test_a_value_that_stays_half_is_not_committed(self):
+    def test_a_value_is_taken_back_whatever_others_hold(self):
         texts = self.store.blob("b")
 
         def insert(key, rid):
             if key.startswith(b"\x01ba\0\0\0\3"):
-                younger.get(b"\x01bz")  # holds what lies after the parts, so that they are neither put on nor taken out again
+                younger.get(b"\x01bz")  # holds what lies after the parts, so that a delete of one would wait too
             return vahondrisa.Transaction.insert(older, key, rid)
 
-        for ends in (lambda: older.commit(), lambda: older.__exit__(None, None, None)):
-            older, younger = self.store.begin(wait=False), self.store.begin()
-            older.insert = insert
-            self.assertRaises(vahondrisa.Busy, texts.within(older).put, b"a", b"A" * 3000)
-            self.assertIn("to be rolled back", repr(older))
-            younger.rollback()
-            texts.within(older)[b"b"] = b"B" * 1000  # what succeeds does not make good for it
+        older, younger = self.store.begin(wait=False), self.store.begin()
+        older.insert = insert
+        self.assertRaises(vahondrisa.Busy, texts.within(older).put, b"a", b"A" * 3000)
+        self.assertIn("active", repr(older))
+        younger.rollback()
+        texts.within(older)[b"b"] = b"B" * 1000
+        older.commit()
+        with self.store.begin() as txn:
+            self.assertEqual(dict(texts.within(txn)), {b"b": b"B" * 1000})
+
+    def test_a_value_whose_return_was_cut_off_is_not_committed(self):
+        for ends in (lambda: txn.commit(), lambda: txn.__exit__(None, None, None)):
+            txn = self.store.begin()
+            txn[b"other"] = 1
+            txn._is_half = True  # as two exceptions of signals leave it, one upon the other
+            self.assertIn("to be rolled back", repr(txn))
             with self.assertRaisesRegex(vahondrisa.Error, "the transaction must roll back, as a long value was changed in part$") as caught:
                 ends()
             self.assertEqual((caught.exception.code, self.store.info()["active"]), (2, 0))
-            self.assertRaisesRegex(ValueError, "^the transaction has ended$", older.commit)
-        with self.store.begin() as txn:
-            self.assertEqual(dict(texts.within(txn)), {})
+            self.assertRaisesRegex(ValueError, "^the transaction has ended$", txn.commit)
+        self.assertIsNone(self.store.get(b"other"))
 
     def test_threads_that_change_one_value(self):
         texts = self.store.blob("b")

@@ -172,7 +172,7 @@ class Words(Case):
     def test_nothing_of_the_library_is_copied(self):
         txn = self.store.begin()
         index, blob = self.store.index("by_city"), self.store.blob("texts")
-        each = (self.store, txn, index, blob, index.within(txn), blob.within(txn), txn.range())
+        each = (self.store, txn, txn.savepoint(), index, blob, index.within(txn), blob.within(txn), txn.range())
         for it in each:
             for call in (copy.copy, copy.deepcopy, pickle.dumps):
                 self.assertRaisesRegex(TypeError, r"^vahondrisa\.\w+ can be neither copied nor pickled$", call, it)

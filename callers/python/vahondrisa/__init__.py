@@ -24,11 +24,12 @@ from ._errors import Busy, Deadlock, Error, Failed, GiveWay, Locked, Missing, No
 from ._keys import Keys, Range
 from ._load import compact, load
 from ._named import Blob, Index, Values
+from ._savepoint import Savepoint
 from ._store import Store, build, open
 from ._transaction import Transaction
 
 __all__ = [
-    "open", "load", "compact", "build", "Store", "Transaction", "Keys", "Range", "Index", "Blob", "Values",
+    "open", "load", "compact", "build", "Store", "Transaction", "Savepoint", "Keys", "Range", "Index", "Blob", "Values",
     "Error", "GiveWay", "Busy", "Deadlock", "Locked", "NotAStore", "Failed", "Missing", "ReadOnly", "NotCopied",
 ]
 __version__ = "0.1.0"

@@ -84,6 +84,8 @@ _FUNCTIONS: "Dict[str, Tuple[Any, ...]]" = {
     "vah_commit": (c_void_p,),
     "vah_again": (c_void_p,),
     "vah_rollback": (c_void_p,),
+    "vah_savepoint": (c_void_p, POINTER(c_uint64)),
+    "vah_roll_to": (c_void_p, c_uint64),
     "vah_fetch": (c_void_p, c_char_p, c_size_t, POINTER(c_uint64)),
     "vah_insert": (c_void_p, c_char_p, c_size_t, c_uint64),
     "vah_put": (c_void_p, c_char_p, c_size_t, c_uint64, POINTER(c_int), POINTER(c_uint64)),

@@ -1,10 +1,9 @@
 """Named indexes and long values of a store."""
 from collections.abc import MutableMapping
-from typing import TYPE_CHECKING, Any, Callable, Iterable, Iterator, List, Mapping, Optional, Tuple, TypeVar, Union, overload
+from typing import TYPE_CHECKING, Callable, Iterable, Iterator, Mapping, Optional, Tuple, TypeVar, Union, overload
 
 from . import _library as c
 from ._arguments import NONE, Alone, Bytes, bytes_of
-from ._errors import Error
 from ._keys import Entry, Keys
 from ._layout import FIRST, LAST, PARTS, PARTS_END, key_in, key_of, parts_of, value_of
 
@@ -99,7 +98,7 @@ class Blob(_Named):
 class Values(Alone, MutableMapping[bytes, bytes]):
     """The long values of a `Blob` in a transaction, by their keys: a mapping of bytes to bytes, in the order of the keys' bytes.
 
-    A change that is refused half way, or that Ctrl-C ends, is taken back; where that is refused too, the transaction is not committed: `commit` rolls it
+    A change that is refused half way, or that Ctrl-C ends, is taken back; where another Ctrl-C comes at that very moment, `commit` rolls all of the transaction
     back, and raises Error with the code 2.
 
     >>> blob = store.blob("texts")
@@ -167,29 +166,19 @@ class Values(Alone, MutableMapping[bytes, bytes]):
 
     def _change(self, old: "Iterable[Entry]", new: "Iterable[Entry]") -> None:
         """Takes entries out and puts others in: all, or none where an exception comes, a refusal or that of a signal's handler."""
-        txn, was_half = self._txn, self._txn._is_half
-        undo: "List[Tuple[Any, ...]]" = []  # each before its call is made
+        txn, was_half, changes = self._txn, self._txn._is_half, self._txn._changes()
         try:
             txn._is_half = True
-            for at, rid in old:
-                undo.append((c.lib.vah_insert, at, len(at), rid))
+            for at, _ in old:
                 txn.delete(at)
             for at, rid in new:
-                undo.append((c.lib.vah_delete, at, len(at)))
                 txn.insert(at, rid)
             txn._is_half = was_half
-        except BaseException as it:
+        except BaseException:
             txn._is_half = True
-            if isinstance(it, Error) and undo:
-                undo.pop()  # nothing was changed by what was refused
-            while undo:
-                function, *arguments = undo[-1]
-                code = function(txn._at, *arguments)  # it waits for one slice, as the wait that has ended is not to be made again
-                txn._gives_way |= code == c.GIVE_WAY
-                if code not in (0, c.EXISTS, c.NOT_FOUND):
-                    break
-                undo.pop()
-            txn._is_half = was_half or bool(undo)
+            if not txn._gives_way:
+                c.lib.vah_roll_to(txn._at, changes)  # what this is refused the next call is told, or makes
+            txn._is_half = was_half
             raise
 
     def _place(self, key: Bytes) -> "Tuple[bytes, bytes]":

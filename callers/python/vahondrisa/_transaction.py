@@ -2,13 +2,14 @@
 import math
 import threading
 import time
-from ctypes import c_void_p
+from ctypes import byref, c_uint64, c_void_p
 from types import TracebackType
-from typing import TYPE_CHECKING, Callable, Dict, Generator, Optional, Tuple, Type
+from typing import TYPE_CHECKING, Callable, Dict, Generator, List, Optional, Tuple, Type
 
 from . import _library as c
-from ._errors import Error, refuse
+from ._errors import Error, GiveWay, refuse
 from ._keys import Keys
+from ._savepoint import Savepoint
 
 if TYPE_CHECKING:
     from ._store import Store
@@ -40,7 +41,8 @@ class Transaction(Keys):
         self._at = c_void_p()  # its name, which the library sets when it begins
         self._timeout, self._slice_ms = timeout, slice_ms
         self._gives_way = False  # a call of it was told so
-        self._is_half = False  # a long value was changed in part, and that was not taken back
+        self._is_half = False  # a long value is changed in part; else than for a moment only where exceptions of signals came one upon the other
+        self._saves: "List[Savepoint]" = []  # those that may be returned to, in the order of their making
         self._long = threading.RLock()  # of who changes a long value, which is several calls, or makes what stands for all calls so far
         self._has_ended = False
         store._active[id(self._at)] = self._at
@@ -73,8 +75,11 @@ class Transaction(Keys):
                 code = self._wait(c.lib.vah_again)
             if not code:
                 self._gives_way = self._is_half = False
+                self._saves.clear()
                 return
-        if code not in (c.BUSY, c.DEADLOCK):
+        if code == c.ROLLING_BACK:  # by another thread, whole or in part
+            self.rollback()
+        elif code not in (c.BUSY, c.DEADLOCK):
             self._end()
         self._refuse(code)
 
@@ -90,6 +95,54 @@ class Transaction(Keys):
             if code and code not in (c.NO_TRANSACTION, c.CLOSED):  # these: another thread has ended it, or the store
                 self._refuse(code)
 
+    def savepoint(self, name: Optional[str] = None) -> Savepoint:
+        """Notes where it stands, for a `with` block, whose changes are taken back where an exception leaves it, or for `roll_back` of what is returned. With
+        a name `roll_to` finds it too."""
+        if name is not None and not isinstance(name, str):
+            raise TypeError(f"name must be a str, or None, not {type(name).__name__}")
+        with self._long:
+            save = Savepoint(self, name, self._changes())
+            self._saves.append(save)
+        return save
+
+    def roll_to(self, name: str) -> None:
+        """Takes back what was done since the last savepoint of a name, as its `roll_back` does; KeyError where there is none.
+
+        >>> with store.begin() as txn:
+        ...     with txn.savepoint("fruit"):
+        ...         txn[b"apple"] = 7
+        ...         txn.roll_to("fruit")
+        ...         txn[b"pear"] = 8
+        ...     list(txn)
+        [b'pear']
+        """
+        with self._long:
+            save = next((it for it in reversed(self._saves) if it._name == name), None)
+            if save is None:
+                self._changes()
+                raise KeyError(name)
+            self._return_to(save)
+
+    def _changes(self) -> int:
+        """How many changes of it stand."""
+        count = c_uint64()
+        code = c.lib.vah_savepoint(self._at, byref(count))
+        if code:
+            self._refuse(code)
+        return count.value
+
+    def _return_to(self, save: Savepoint) -> None:
+        with self._long:
+            if save not in self._saves:
+                self._changes()
+                raise ValueError("the savepoint has ended")
+            if self._gives_way:
+                raise GiveWay(c.GIVE_WAY, f"{self._store._path}: {c.lib.vah_strerror(c.GIVE_WAY).decode()}")
+            del self._saves[self._saves.index(save) + 1 :]
+            code = c.lib.vah_roll_to(self._at, save._changes)
+        if code:
+            self._refuse(code)
+
     def _drop(self) -> None:
         """Rolls it back because of an exception, which stays what is told: a store that has failed refuses this too."""
         try:
@@ -99,6 +152,7 @@ class Transaction(Keys):
 
     def _end(self) -> None:
         self._has_ended = True
+        self._saves.clear()
         self._store._active.pop(id(self._at), None)
         self._guard.close()
 
