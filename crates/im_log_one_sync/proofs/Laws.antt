@@ -1,8 +1,8 @@
 -- The laws.
-use Rattle.std.proofs.Common.{◌≡◌, ◌⊎◌, inl, inr, ⊎_elim, ℕ, zero, suc, ◌+◌, ◌<◌, ◌≤◌, Bool, List, [], ◌∷◌, ◌++◌, length, take, drop, get_or, Some, None, refl, sym, ◌∙◌, ap, arith, append_assoc, append-nil, take-append-drop}
+use Rattle.std.proofs.Common.{◌≡◌, ◌⊎◌, inl, inr, ⊎_elim, ℕ, zero, suc, ◌+◌, ◌<◌, ◌≤◌, Bool, List, [], ◌∷◌, ◌++◌, length, take, drop, get_or, Some, None, refl, sym, ◌∙◌, ap, arith, append_assoc, append-nil, length-drop, take-append-drop}
 use Rattle.std.proofs.lemmas.List.{drop-drop, take_at, length-take-le, get_or-drop}
 use Rattle.std.proofs.lemmas.Option.{none-some, same_Some}
-use Rattle.im_base_disk.specs.Disk.{Unforged, whole}
+use Rattle.im_base_disk.specs.Disk.{Torn, Unforged, whole}
 use Rattle.im_base_disk.specs.Sums.{shows}
 use Rattle.im_base_disk.proofs.Runs.{unforged_not}
 use Rattle.im_base_disk.proofs.Stops.{torn_over, unforged_whole}
@@ -57,25 +57,25 @@ module _ (fits : ℕ → ℕ → List ℕ → Bool) (base : ℕ) where
 
   module _ (first place : ℕ) (old : List ℕ) (before : List (List ℕ)) (last : IsLast fits first base place old before) where
     -- a file with the same front reads on from the gate
-    pub reads_on : (new : List ℕ) → take place new ≡ take place old → batches_from fits first base new ≡ before ++ from_place fits base place new
-    reads_on new same =
+    pub reads_on : (new : List ℕ) → take place new ≡ take place old → place < length new → batches_from fits first base new ≡ before ++ from_place fits base place new
+    reads_on new same long =
         ap (batches_from fits first base) (sym (take-append-drop place new) ∙ ap (λ (l : List ℕ). l ++ drop place new) same)
-        ∙ last.front (drop place new)
+        ∙ last.front (drop place new) (omega (arith, length-drop place new, long))
 
-    pub stays : (new : List ℕ) → take place new ≡ take place old → shows fits base place new ≡ None → batches_from fits first base new ≡ before
-    stays new same none = reads_on new same ∙ ap (λ (l : List (List ℕ)). before ++ l) (ends_at place new none) ∙ append-nil before
-
-    pub there_from : (all : List ℕ) → take place all ≡ take place old → (end : ℕ) (bs : List (List ℕ)) → LaysFrom fits base end place bs all → batches_from fits first base all ≡ before ++ bs
-    there_from all same end bs lays = reads_on all same ∙ ap (λ (l : List (List ℕ)). before ++ l) (has_all end place bs all lays)
+    pub stays : (new : List ℕ) → take place new ≡ take place old → place < length new → shows fits base place new ≡ None → batches_from fits first base new ≡ before
+    stays new same long none = reads_on new same long ∙ ap (λ (l : List (List ℕ)). before ++ l) (ends_at place new none) ∙ append-nil before
 
     pub whole_front : (bytes : List ℕ) → take place (whole place bytes old) ≡ take place old
     whole_front bytes =
         ap (λ (l : List ℕ). take place l) (append_assoc (take place old) bytes (drop (place + length bytes) old))
         ∙ take_at (take place old) (bytes ++ drop (place + length bytes) old) place (length-take-le place old (omega (arith, last.within)))
 
+    whole_long : (bytes : List ℕ) → place < length (whole place bytes old)
+    whole_long bytes = let torn : Torn place (length bytes) old (whole place bytes old) = torn_over place bytes bytes old (omega (arith, last.within)) refl in omega (arith, last.within, torn.no_shorter)
+
     pub there : (bs : List (List ℕ)) (bytes : List ℕ) → LaysFrom fits base (place + length bytes) place bs (whole place bytes old) → batches_from fits first base (whole place bytes old) ≡ before ++ bs
     there bs bytes lays =
-        reads_on (whole place bytes old) (whole_front bytes)
+        reads_on (whole place bytes old) (whole_front bytes) (whole_long bytes)
         ∙ ap (λ (l : List (List ℕ)). before ++ l) (has_all (place + length bytes) place bs (whole place bytes old) lays)
 
     pub front_of : (bs : List (List ℕ)) (bytes new : List ℕ) → IsClear fits base place (place + length bytes) old → LaysFrom fits base (place + length bytes) place bs (whole place bytes old)
@@ -84,7 +84,7 @@ module _ (fits : ℕ → ℕ → List ℕ → Bool) (base : ℕ) where
         let only : (p : ℕ) (r : List ℕ) → place ≤ p → p < place + length bytes → shows fits base p new ≡ Some r → shows fits base p (whole place bytes old) ≡ Some r =
         λ p r from upto is. ⊎_elim (λ as_before. absurd (none-some r (sym (clear p from upto) ∙ as_before))) (λ as_written. as_written) (left.shown p r from upto is) in
         let has = has_front place (place + length bytes) (whole place bytes old) new only place bs (omega arith) lays in
-        (has.0, reads_on new left.torn.before ∙ ap (λ (l : List (List ℕ)). before ++ l) has.1)
+        (has.0, reads_on new left.torn.before (omega (arith, last.within, left.torn.no_shorter)) ∙ ap (λ (l : List (List ℕ)). before ++ l) has.1)
 
 pub front_of_all : FrontOfAll
 front_of_all fits first base place bs bytes old new before last clear lays left = front_of fits base first place old before last bs bytes new clear lays left

@@ -11,7 +11,7 @@ pub none_or_some : {A : Type 0} (o : Option A) → (o ≡ None) ⊎ ((x : A) × 
 none_or_some None = inl refl
 none_or_some (Some x) = inr (x, refl)
 
-picked : (b : Bool) (r x : List ℕ) → pick b r ≡ Some x → (b ≡ true) × (r ≡ x)
+pub picked : (b : Bool) (r x : List ℕ) → pick b r ≡ Some x → (b ≡ true) × (r ≡ x)
 picked true r x is = (refl, same_Some r x is)
 picked false r x is = absurd (none-some x is)
 
@@ -19,10 +19,10 @@ not_picked : (b : Bool) (r : List ℕ) → pick b r ≡ None → b ≡ false
 not_picked true r is = absurd (none-some r (sym is))
 not_picked false r is = refl
 
-whole_some : (behind : List ℕ) → is_whole behind ≡ true → 9 ≤ batch_length behind
+pub whole_some : (behind : List ℕ) → is_whole behind ≡ true → 9 ≤ batch_length behind
 whole_some behind whole = grind (arith, nat_tests)
 
-whole_long : (behind : List ℕ) → is_whole behind ≡ true → 4 + batch_length behind < length behind
+pub whole_long : (behind : List ℕ) → is_whole behind ≡ true → 4 + batch_length behind < length behind
 whole_long behind whole = grind (arith, nat_tests)
 
 chosen : (b : Bool) (x y : List (List ℕ)) → b ≡ true → (if b then x else y) ≡ x

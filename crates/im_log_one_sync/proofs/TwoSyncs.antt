@@ -21,7 +21,7 @@ module _ (fits : ℕ → ℕ → List ℕ → Bool) (first base place : ℕ) (ol
       sym (take-take place (place + 1) new (omega arith)) ∙ ap (λ (l : List ℕ). take place l) torn.before ∙ take-take place (place + 1) old (omega arith) in
       let gate : get_or new place 0 ≡ get_or old place 0 =
       sym (get_or-take (place + 1) new place 0 (omega arith)) ∙ ap (λ (l : List ℕ). get_or l place 0) torn.before ∙ get_or-take (place + 1) old place 0 (omega arith) in
-      stays fits base first place old before last new same (none_shown new (ap is_open gate ∙ closed))
+      stays fits base first place old before last new same (omega (arith, last.within, torn.no_shorter)) (none_shown new (ap is_open gate ∙ closed))
 
   module _ (staged all : List ℕ) (front : take place staged ≡ take place old) (within : place < length staged) (is_all : all ≡ take place staged ++ 1 ∷ drop (place + 1) staged) (end : ℕ) where
     all_from : drop place all ≡ 1 ∷ drop (place + 1) staged
@@ -46,9 +46,9 @@ module _ (fits : ℕ → ℕ → List ℕ → Bool) (first base place : ℕ) (ol
         let from : drop place new ≡ get_or new place 0 ∷ drop (place + 1) staged =
         drop_more new place 0 (omega (arith, within, torn.no_shorter)) ∙ ap (λ (l : List ℕ). get_or new place 0 ∷ l) torn.after in
         ⊎_elim
-        (λ none. inl (stays fits base first place old before last new (torn.before ∙ front) (ap (shown fits (base + place)) from ∙ none)))
+        (λ none. inl (stays fits base first place old before last new (torn.before ∙ front) (omega (arith, within, torn.no_shorter)) (ap (shown fits (base + place)) from ∙ none)))
         (λ is. inr
-        (reads_on fits base first place old before last new (torn.before ∙ front)
+        (reads_on fits base first place old before last new (torn.before ∙ front) (omega (arith, within, torn.no_shorter))
         ∙ ap (λ (l : List (List ℕ)). before ++ l)
         (passes_at fits base place new b (ap (shown fits (base + place)) from ∙ is)
         ∙ ap (λ (l : List (List ℕ)). b ∷ l)

@@ -9,10 +9,10 @@ module _ (fits : ℕ → ℕ → List ℕ → Bool) where
   batches_from (suc skip) lsn (byte ∷ file) = batches_from skip (suc lsn) file
   batches_from zero lsn (gate ∷ behind) = if counts fits lsn gate behind then records behind ∷ batches_from (4 + batch_length behind) (suc lsn) behind else []
 
-  -- A gate after whole batches. The log's first gate stands at `first`.
+  -- A gate after whole batches, whatever stands from it on: a batch counts only where a gate comes after it. The log's first gate stands at `first`.
   pub record IsLast (first base place : ℕ) (file : List ℕ) (before : List (List ℕ)) : Type 0 where
     pub within : place < length file
-    pub front : (rest : List ℕ) → batches_from first base (take place file ++ rest) ≡ before ++ batches_from 0 (base + place) rest
+    pub front : (rest : List ℕ) → 1 ≤ length rest → batches_from first base (take place file ++ rest) ≡ before ++ batches_from 0 (base + place) rest
 
   -- From the gate on up to this place the file shows nothing.
   abbrev pub IsClear : (base place end : ℕ) → List ℕ → Type 0

@@ -1,7 +1,7 @@
 -- What one write and one sync may do.
-use Rattle.std.specs.Prelude.{◌≡◌, ◌≢◌, ◌⊎◌, ℕ, ◌+◌, ◌<◌, ◌≤◌, Bool, false, List, [], ◌∷◌, ◌++◌, length, take, slice_index}
+use Rattle.std.specs.Prelude.{◌≡◌, ◌≢◌, ◌⊎◌, ℕ, ◌+◌, ◌<◌, ◌≤◌, Bool, false, List, [], ◌∷◌, ◌++◌, length, take, slice_index, Some}
 use Rattle.im_base_disk.specs.Disk.{Shows, Torn, Unforged, whole}
-use Rattle.im_base_disk.specs.Sums.{is_open, shows}
+use Rattle.im_base_disk.specs.Sums.{is_open, shows, sum_fits}
 use Rattle.im_log_one_sync.specs.Batches.{batches_from, IsLast, IsClear, LaysFrom}
 
 -- Where no stop forges a sum: at whatever moment within the write and its sync a stop falls, the log has its batches, or these and the new one, whole.
@@ -54,3 +54,11 @@ abbrev pub NoneIsZero : Type 0
 NoneIsZero = (at : ℕ) (bytes old new : List ℕ) → Mixed at bytes old new
     → ((i : ℕ) → at ≤ i → i < at + length bytes → slice_index old i ≡ 0) → ((i : ℕ) → at ≤ i → i < at + length bytes → slice_index new i ≢ 0)
     → (i : ℕ) → at ≤ i → i < at + length bytes → slice_index new i ≡ slice_index (whole at bytes old) i
+
+-- No batch stands in front of a log's first gate. After a batch that is shown comes the next gate, and a file that keeps what stands in front of a gate has the same batches there.
+pub record GatesGoOn : Type 0 where
+  pub first : (fits : ℕ → ℕ → List ℕ → Bool) (first base : ℕ) (file : List ℕ) → first < length file → IsLast fits first base first file []
+  pub next : (salt : List ℕ) (first base place : ℕ) (file batch : List ℕ) (before : List (List ℕ)) → IsLast (sum_fits salt) first base place file before → shows (sum_fits salt) base place file ≡ Some batch
+      → IsLast (sum_fits salt) first base (place + (13 + length batch)) file (before ++ batch ∷ [])
+  pub kept : (fits : ℕ → ℕ → List ℕ → Bool) (first base place : ℕ) (file new : List ℕ) (before : List (List ℕ)) → IsLast fits first base place file before → take place new ≡ take place file → place < length new
+      → IsLast fits first base place new before

@@ -1,3 +1,4 @@
+use Rattle.im_log_one_sync.proofs.Going.{gates_go_on}
 use Rattle.im_log_one_sync.proofs.Laws.{one_or_none, front_of_all, are_there, zeros_are_clear, can_be_kept, no_reader, none_is_zero}
 use Rattle.im_log_one_sync.proofs.TwoSyncs.{two_syncs}
 use Rattle.im_log_one_sync.proofs.law.one_sync_is_enough.Goals as goal
@@ -25,3 +26,6 @@ returns-clause-two c = two_syncs
 
 pub returns-clause-kept : goal.returns-clause-kept
 returns-clause-kept c = can_be_kept
+
+pub returns-clause-goes : goal.returns-clause-goes
+returns-clause-goes c = gates_go_on
