@@ -10,9 +10,9 @@ use im_base_types::{Fault, FileId};
 /// A disk that is only read, if there is one.
 #[derive(Drop)]
 pub(crate) struct Base<D: Disk + Drop> {
-    disk: Option<D>,
+    pub(crate) disk: Option<D>,
     // The last call of it failed: there is no other.
-    is_lost: bool,
+    pub(crate) is_lost: bool,
     ghost known: { ForSome disk (λ d. D.failed d ≡ is_lost) },
 }
 

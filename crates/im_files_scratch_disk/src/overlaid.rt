@@ -21,6 +21,7 @@ impl<D: Disk + Drop> Overlaid<D> {
     /// The length of a file in bytes.
     pub(crate) fn length(&mut self, file: FileId) -> Result<u64, Fault>
         ensures only { IsOnlyRead D.Disk self.old.base.disk self.new.base.disk }
+        ensures kept { self.new.over ≡ self.old.over }
         ensures device { IfErr result (λ e. e ≡ Device) }
     {
         let length = self.base.length(file)?;
@@ -30,6 +31,7 @@ impl<D: Disk + Drop> Overlaid<D> {
     /// Fills the room with the bytes from a place on; past the end they are 0.
     pub(crate) fn read(&mut self, file: FileId, at: u64, room: &mut [u8]) -> Result<(), Fault>
         ensures only { IsOnlyRead D.Disk self.old.base.disk self.new.base.disk }
+        ensures kept { self.new.over ≡ self.old.over }
         ensures device { IfErr result (λ e. e ≡ Device) }
     {
         room.fill(0);

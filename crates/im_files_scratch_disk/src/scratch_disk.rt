@@ -76,6 +76,7 @@ impl<D: Disk + Drop> ScratchDisk<D> {
     /// Refused `Device` where a call of the disk below failed, this one or an earlier one.
     pub fn length_of(&mut self, file: FileId) -> Result<u64, Fault>
         ensures only { IsOnlyRead D.Disk self.old.files.base.disk self.new.files.base.disk }
+        ensures kept { self.new.files.over ≡ self.old.files.over }
         ensures failed { self.new.has_failed ≡ self.old.has_failed }
         ensures counts { (self.new.writes ≡ self.old.writes) × (self.new.syncs ≡ self.old.syncs) }
         ensures device { IfErr result (λ e. e ≡ Device) }
@@ -88,6 +89,7 @@ impl<D: Disk + Drop> ScratchDisk<D> {
     /// Refused `Device` as `length_of` is.
     pub fn fill_from(&mut self, file: FileId, at: u64, room: &mut [u8]) -> Result<(), Fault>
         ensures only { IsOnlyRead D.Disk self.old.files.base.disk self.new.files.base.disk }
+        ensures kept { self.new.files.over ≡ self.old.files.over }
         ensures failed { self.new.has_failed ≡ self.old.has_failed }
         ensures counts { (self.new.writes ≡ self.old.writes) × (self.new.syncs ≡ self.old.syncs) }
         ensures device { IfErr result (λ e. e ≡ Device) }
@@ -106,6 +108,11 @@ impl<D: Disk + Drop> ScratchDisk<D> {
 }
 
 impl<D: Disk + Drop> Disk for ScratchDisk<D> {
+    ghost use Rattle.std.specs.Prelude.{◌≡◌, ◌+◌, ◌≤◌, [], false, length};
+    ghost use Rattle.im_base_disk.specs.Disk.{Answers};
+    ghost use Rattle.im_base_disk.specs.Runs.{Costs, Reads};
+    ghost use Rattle.im_files_scratch_disk.specs.OnlyRead.{IsOnlyRead};
+
     ghost tells = { ⊥ };
 
     // Nothing is written to any file.
@@ -135,26 +142,50 @@ impl<D: Disk + Drop> Disk for ScratchDisk<D> {
         true
     }
 
-    fn len(&mut self, file: FileId) -> Result<u64, Fault> {
+    fn len(&mut self, file: FileId) -> Result<u64, Fault>
+        requires { ⟦<ScratchDisk<D> as Disk>⟧.failed self.old ≡ false }
+        ensures reads { Reads ⟦<ScratchDisk<D> as Disk>⟧ self.old self.new }
+        ensures answers { Answers (⟦<ScratchDisk<D> as Disk>⟧.failed self.new) result }
+        ensures only { IsOnlyRead D.Disk self.old.files.base.disk self.new.files.base.disk }
+        ensures kept { self.new.files.over ≡ self.old.files.over }
+    {
         let outcome = self.length_of(file);
         self.has_failed = outcome.is_err();
         outcome.map_err(|_| Fault::Device)
     }
 
-    fn read(&mut self, file: FileId, at: u64, buf: &mut [u8]) -> Result<(), Fault> {
+    fn read(&mut self, file: FileId, at: u64, buf: &mut [u8]) -> Result<(), Fault>
+        requires working { ⟦<ScratchDisk<D> as Disk>⟧.failed self.old ≡ false }
+        requires within { ⟦<ScratchDisk<D> as Disk>⟧.tells → at + length buf.old ≤ length (⟦<ScratchDisk<D> as Disk>⟧.seen self.old file) }
+        ensures reads { Reads ⟦<ScratchDisk<D> as Disk>⟧ self.old self.new }
+        ensures answers { Answers (⟦<ScratchDisk<D> as Disk>⟧.failed self.new) result }
+        ensures only { IsOnlyRead D.Disk self.old.files.base.disk self.new.files.base.disk }
+        ensures kept { self.new.files.over ≡ self.old.files.over }
+    {
         let outcome = self.fill_from(file, at, buf);
         self.has_failed = outcome.is_err();
         outcome.map_err(|_| Fault::Device)
     }
 
-    fn write_at(&mut self, file: FileId, at: u64, bytes: &[u8]) -> Result<(), Fault> {
+    fn write_at(&mut self, file: FileId, at: u64, bytes: &[u8]) -> Result<(), Fault>
+        requires working { ⟦<ScratchDisk<D> as Disk>⟧.failed self.old ≡ false }
+        requires place { ⟦<ScratchDisk<D> as Disk>⟧.tells → at ≤ length (⟦<ScratchDisk<D> as Disk>⟧.seen self.old file) }
+        ensures costs { Costs ⟦<ScratchDisk<D> as Disk>⟧ 1 0 self.old self.new }
+        ensures answers { Answers (⟦<ScratchDisk<D> as Disk>⟧.failed self.new) result }
+        ensures only { IsOnlyRead D.Disk self.old.files.base.disk self.new.files.base.disk }
+    {
         self.writes = self.writes.with_one_more();
         let outcome = self.keep(file, at, bytes);
         self.has_failed = outcome.is_err();
         outcome.map_err(|_| Fault::Device)
     }
 
-    fn sync(&mut self, _file: FileId) -> Result<(), Fault> {
+    fn sync(&mut self, _file: FileId) -> Result<(), Fault>
+        requires { ⟦<ScratchDisk<D> as Disk>⟧.failed self.old ≡ false }
+        ensures costs { Costs ⟦<ScratchDisk<D> as Disk>⟧ 0 1 self.old self.new }
+        ensures answers { Answers (⟦<ScratchDisk<D> as Disk>⟧.failed self.new) result }
+        ensures kept { self.new.files ≡ self.old.files }
+    {
         self.syncs = self.syncs.with_one_more();
         Ok(())
     }
