@@ -1,7 +1,7 @@
 -- What was made is upkeep.
 use Rattle.std.proofs.Common.{◌∙◌, ap, inl, inr, refl, subst, sym, arith}
 use Rattle.std.proofs.lemmas.Bool.{cases_lt}
-use Rattle.std.specs.Prelude.{◌≡◌, ◌⊎◌, ◌<◌, ◌+◌, ◌-◌, ◌^◌, ℕ, min, max, Bool, Some, true, false, Result, OnOk, IfErr, Ok, Err, ◌≤◌, IsTrue}
+use Rattle.std.specs.Prelude.{◌≡◌, ◌⊎◌, ◌<◌, ◌+◌, ◌-◌, ◌^◌, ℕ, min, max, Bool, Some, true, false, Result, OnOk, IfErr, Ok, Err, ◌≤◌}
 use Rattle.im_base_types.specs.declared.tables.DirtyPage.{DirtyPage}
 use Rattle.im_page_table.specs.DirtyTable.{oldest}
 use Rattle.im_base_disk.specs.declared.disk.Disk.{Ghosts}
@@ -195,16 +195,13 @@ module _ {D : Type 0} (d : Ghosts D) where
   -- ---- at the end
 
   pub failed_is_ended : (u : Upkeep) (e : Engine D d) → e.failed ≡ true → IsEnded d u e e
-  failed_is_ended u e fails = record { failed = λ _. refl; forced = λ works is. absurd (let never : true ≡ false = sym fails ∙ works in cc never) }
+  failed_is_ended u e fails = record { failed = λ _. refl; forced = λ works. absurd (let never : true ≡ false = sym fails ∙ works in cc never) }
 
-  pub unset_is_ended : (u : Upkeep) (e : Engine D d) → e.failed ≡ false → (1 ≤ u.bounds.log.bytes → IsTrue false) → IsEnded d u e e
-  unset_is_ended u e works unset = record { failed = λ _. refl; forced = λ _ is. absurd (let never : false ≡ true = unset is in cc never) }
-
-  pub forced_is_ended : (u : Upkeep) (old mid new : Engine D d) → old.failed ≡ false → IsTaken d Force old mid → (IsLongAtEnd d u mid → WentOn d mid new)
+  pub forced_is_ended : (u : Upkeep) (old mid new : Engine D d) → old.failed ≡ false → IsTaken d Force old mid → IsKeptUp d mid new → (IsLongAtEnd d u mid → WentOn d mid new)
       → (1 ≤ u.bounds.log.bytes → active_of d new ≡ 0 → (log_length_of d new < 49152) ⊎ WentOn d mid new) → IsEnded d u old new
-  forced_is_ended u old mid new works forced switched short = record {
+  forced_is_ended u old mid new works forced kept switched short = record {
     failed = λ fails. absurd (let never : true ≡ false = sym fails ∙ works in cc never);
-    forced = λ _ bounded. record { mid = mid; reply = forced.reply; forced = forced.made; switched = switched; short = short bounded };
+    forced = λ _. record { mid = mid; forced = forced; kept = kept; switched = switched; short = short };
   }
 
   -- a force changes nothing by which the log is long

@@ -118,15 +118,15 @@ module _ {D : Type 0} (d : Ghosts D) where
     pub before : IsKeptUp d old mid
     pub taken : IsTaken Switch mid new
 
-  -- The log was forced, and a long one left for an empty one: where nothing is active the log has less than 48 KiB, or it went on in the other file last.
+  -- The log was forced, so that no Commit waits, and then a long one left for an empty one: where nothing is active a log that has a bound has less than 48 KiB, or it went on in the other file last.
   pub record WasForced (u : Upkeep) (old new : Engine D d) : Type 0 where
     pub mid : Engine D d
-    pub reply : Reply
-    pub forced : IsStep d Force reply old mid
+    pub forced : IsTaken Force old mid
+    pub kept : IsKeptUp d mid new
     pub switched : IsLongAtEnd u mid → WentOn mid new
-    pub short : active_of d new ≡ 0 → (log_length_of d new < 49152) ⊎ WentOn mid new
+    pub short : 1 ≤ u.bounds.log.bytes → active_of d new ≡ 0 → (log_length_of d new < 49152) ⊎ WentOn mid new
 
-  -- What the end wants was made, where the engine works and there is a bound of the log.
+  -- What the end wants was made, where the engine works, whatever the bounds are.
   pub record IsEnded (u : Upkeep) (old new : Engine D d) : Type 0 where
     pub failed : old.failed ≡ true → new ≡ old
-    pub forced : old.failed ≡ false → 1 ≤ u.bounds.log.bytes → WasForced u old new
+    pub forced : old.failed ≡ false → WasForced u old new

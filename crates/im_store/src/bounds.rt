@@ -1,6 +1,6 @@
 //! What an opening may cost.
 
-ghost use Rattle.std.specs.Prelude.{◌≡◌, ◌≤◌, ◌⊎◌, ◌↔◌, false, IsTrue};
+ghost use Rattle.std.specs.Prelude.{◌≡◌, false};
 ghost use Rattle.im_store.specs.LogBound.{least_or_none};
 
 use crate::log_bound::LogBound;
@@ -25,12 +25,5 @@ impl Bounds {
             redo: RedoBound::of_bytes(redo),
             log: LogBound::of_bytes(log),
         }
-    }
-
-    /// Whether there is one of the two.
-    pub(crate) fn are_set(&self) -> bool
-        ensures { IsTrue result ↔ ((1 ≤ self.now.redo.bytes) ⊎ (1 ≤ self.now.log.bytes)) }
-    {
-        self.redo.is_set() || self.log.is_set()
     }
 }

@@ -176,7 +176,7 @@ impl<D: TwoLogs + Drop> OpenStore<D> {
         &self.engine
     }
 
-    /// Ends the store, and hands the disk back: what is due is made, a log that is long, or whose file may be, is left for an empty one where nothing is active, else all pages are written
+    /// Ends the store, and hands the disk back: what is due is made, the log is forced, so that no Commit waits, one that is long, or whose file may be, is left for an empty one where nothing is active, else all pages are written
     /// and a Checkpoint is taken, and the files are synced. What was committed is kept, refused or not; what is active is taken back by the next opening. Where nothing is active and the log
     /// has a bound, it has less than 48 KiB then, or the Switch came last: 64 KiB of each file are enough for the next opening.
     ///

@@ -201,7 +201,8 @@ impl Upkeep {
 
     /// Leaves little for the next opening, after the last step, and short logs for whoever cuts them. Where nothing is active, a log of 48 KiB or more is left for an empty one, and so is
     /// one that has a record where so much was logged since the opening, or a file was longer before it: that of the log may be, which is not cut then. Else all changed pages are written
-    /// and a Checkpoint is taken, so that nothing is to be redone. A store of which that is so already is left as it is, and so is one that has failed.
+    /// and a Checkpoint is taken, so that nothing is to be redone. A store of which that is so already is left as it is, and so is one that has failed. Before all that the log is forced, whatever
+    /// the bounds are: a Commit that waits is made then.
     ///
     /// Refused as the step is that was refused.
     pub fn close<D: TwoLogs>(&mut self, engine: &mut Engine<D>) -> Result<(), Fault>
@@ -212,9 +213,6 @@ impl Upkeep {
         ensures pages { KnowsPages D.Disk engine.old self.old.pages self.new.pages }
     {
         if engine.failed() {
-            return Ok(());
-        }
-        if !self.bounds.are_set() {
             return Ok(());
         }
         if let Err(fault) = self.make(engine, &Step::Force) {

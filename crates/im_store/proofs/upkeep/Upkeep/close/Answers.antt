@@ -4,14 +4,11 @@ use Rattle.im_store.specs.declared.bounds.Bounds.{Bounds}
 use Rattle.im_store.specs.Numbers.{active_of, log_length_of}
 use Rattle.im_store.specs.Rule.{KnowsPages, WentOn}
 use Rattle.im_store.specs.Upkeep.{none}
-use Rattle.im_store.proofs.Keeping.{either_way, err_on, failed_is_ended, first_kept, first_refused, forced_is_ended, kept_then, knows_after, long_after_force, ok_both, ok_on, refused_kept, refused_then, unset_is_ended}
+use Rattle.im_store.proofs.Keeping.{either_way, err_on, failed_is_ended, first_kept, first_refused, forced_is_ended, kept_then, knows_after, long_after_force, ok_both, ok_on, refused_kept, refused_then}
 use Rattle.im_store.proofs.upkeep.Upkeep.close.Goals as goal
 
 pub returns-then-failed-clause-rule : goal.returns-then-failed-clause-rule
 returns-then-failed-clause-rule g c = failed_is_ended g.D.Disk c.args.self.now c.args.engine.now (search rules)
-
-pub returns-then-not-are_set-clause-rule : goal.returns-then-not-are_set-clause-rule
-returns-then-not-are_set-clause-rule g c = unset_is_ended g.D.Disk c.args.self.now c.args.engine.now (search rules) (λ is. c.if-not-are_set.ensures.1 (inr is))
 
 pub returns-in-Err-clause-kept : goal.returns-in-Err-clause-kept
 returns-in-Err-clause-kept g c =
@@ -29,10 +26,10 @@ returns-clause-kept g c =
 
 pub returns-clause-rule : goal.returns-clause-rule
 returns-clause-rule g c =
-    ok_on c.end.result (ok_both _ _ c.end.result c.end.ensures.switched c.end.ensures.short)
-    (λ ended. forced_is_ended g.D.Disk c.args.self.now c.args.engine.now c.make.new.engine c.end.new.engine (search rules) c.in_default.ensures.taken
-    (λ is. ended.0 (long_after_force g.D.Disk c.args.self.now c.make.new.self c.args.engine.now c.make.new.engine c.make.ensures.noted c.make.ensures.bounds is))
-    (subst (λ (b : Bounds). 1 ≤ b.log.bytes → active_of g.D.Disk c.end.new.engine ≡ 0 → (log_length_of g.D.Disk c.end.new.engine < 49152) ⊎ WentOn g.D.Disk c.make.new.engine c.end.new.engine) c.make.ensures.bounds ended.1))
+    ok_on c.end.result (ok_both _ _ c.end.result c.end.ensures.kept (ok_both _ _ c.end.result c.end.ensures.switched c.end.ensures.short))
+    (λ ended. forced_is_ended g.D.Disk c.args.self.now c.args.engine.now c.make.new.engine c.end.new.engine (search rules) c.in_default.ensures.taken ended.0
+    (λ is. ended.1.0 (long_after_force g.D.Disk c.args.self.now c.make.new.self c.args.engine.now c.make.new.engine c.make.ensures.noted c.make.ensures.bounds is))
+    (subst (λ (b : Bounds). 1 ≤ b.log.bytes → active_of g.D.Disk c.end.new.engine ≡ 0 → (log_length_of g.D.Disk c.end.new.engine < 49152) ⊎ WentOn g.D.Disk c.make.new.engine c.end.new.engine) c.make.ensures.bounds ended.1.1))
 
 pub returns-clause-refused : goal.returns-clause-refused
 returns-clause-refused g c =
@@ -41,9 +38,6 @@ returns-clause-refused g c =
 
 pub returns-then-failed-clause-kept : goal.returns-then-failed-clause-kept
 returns-then-failed-clause-kept g c = none
-
-pub returns-then-not-are_set-clause-kept : goal.returns-then-not-are_set-clause-kept
-returns-then-not-are_set-clause-kept g c = none
 
 pub returns-clause-pages : goal.returns-clause-pages
 returns-clause-pages g c =
