@@ -64,7 +64,7 @@ pub fn open<R: Threads + Sync>(
     ensures dense { IfOk result (λ e. e.dense ≡ config.dense) }
     ensures works { IfOk result (λ e. (e.failed ≡ false) × (e.txns.rows ≡ [])) }
     ensures kept { IfOk result (λ e. IsKeptHere ⟦<Files as Disk>⟧ config e) }
-    ensures causes { IfErr result (λ e. IsRefusalKept config e) }
+    ensures causes { IfErr result (λ e. IsRefusalKept ⟦<Files as Disk>⟧ config e) }
 {
     match opened(rt, threads, folder, config) {
         Ok(engine) => Ok(Rested::new(engine)),
@@ -86,7 +86,7 @@ fn opened<R: Threads + Sync>(
     ensures dense { IfOk result (λ e. e.dense ≡ config.dense) }
     ensures works { IfOk result (λ e. (e.failed ≡ false) × (e.txns.rows ≡ [])) }
     ensures kept { IfOk result (λ e. IsKeptHere ⟦<Files as Disk>⟧ config e) }
-    ensures causes { IfErr result (λ e. IsRefusalKept config e) }
+    ensures causes { IfErr result (λ e. IsRefusalKept ⟦<Files as Disk>⟧ config e) }
 {
     let mut store = match open_store(rt, threads, folder, config, usual()) {
         Ok(store) => store,
