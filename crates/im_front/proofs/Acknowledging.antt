@@ -15,7 +15,7 @@ use Rattle.im_theory_store_trait.specs.declared.store.Store.{Ghosts}
 use Rattle.im_front.specs.Made.{WereMade}
 use Rattle.im_front.specs.Held.{State, waits_in, forces_in}
 use Rattle.im_front.specs.Locked.{LockedState, seen_of, StandsFrom}
-use Rattle.im_front.specs.Acknowledged.{point_of, point_in, IsFullFor, IsHeld, IsSpent, IsNotAcknowledged, IsNotForced, IsStepOf}
+use Rattle.im_front.specs.Acknowledged.{point_of, IsFullFor, IsHeld, WasIn, IsSpent, IsNotAcknowledged, IsNotForced, IsStepOf}
 use Rattle.im_front.specs.Writing.{CameToNothing}
 use Rattle.im_front.proofs.Steps.{run_of}
 
@@ -69,10 +69,10 @@ module _ {E : Type 0} (d : Ghosts E) where
   pub spent : (was now : LockedState E) → now ≡ was → IsHeld d (point_of now) → 2 ^ 62 ≤ length was.trace → IsSpent d
   spent was now same held all = record { point = point_of now; held = held; all = subst (λ (s : LockedState E). 2 ^ 62 ≤ length s.trace) (sym same) all }
 
-  pub full_for : (step : answers.Step) (was now : State E) → now ≡ was → IsHeld d (point_in now) → (65536 ≤ length was.trace) × (may_end was.waiting step ≡ false) → IsFullFor d step
-  full_for step was now same held full = record {
+  pub full_for : (step : answers.Step) (was now : State E) → now ≡ was → WasIn d now → (65536 ≤ length was.trace) × (may_end was.waiting step ≡ false) → IsFullFor d step
+  full_for step was now same there full = record {
     state = now;
-    held = held;
+    was = there;
     most = subst (λ (s : State E). 65536 ≤ length s.trace) (sym same) full.0;
     ends_none = subst (λ (s : State E). may_end s.waiting step ≡ false) (sym same) full.1;
   }

@@ -1,5 +1,6 @@
--- That a force cannot be made up: it does not follow from what always holds behind a lock.
-use Rattle.std.proofs.Common.{◌≡◌, ℕ, List, [], refl, ap, arith}
+-- That neither a force nor a full trace can be made up: they do not follow from what always holds behind a lock.
+use Rattle.std.proofs.Common.{◌≡◌, ◌∙◌, ℕ, List, [], ◌++◌, length, length-append, refl, sym, ap, arith}
+use Rattle.im_base_types.specs.Answers as answers
 use Rattle.im_base_steps.specs.declared.step.Step.{Step}
 use Rattle.im_base_steps.specs.declared.reply.Reply.{Reply}
 use Rattle.im_theory_store_trait.specs.declared.store.Store.{Ghosts}
@@ -7,7 +8,9 @@ use Rattle.im_front.specs.Made.{AreMade}
 use Rattle.im_front.specs.Made.AreMade.{none, one_more, blocked, looked}
 use Rattle.im_front.specs.Held.{forces_in}
 use Rattle.im_front.specs.Locked.{seen_of}
-use Rattle.im_front.specs.Acknowledged.{IsForced, IsHeld}
+use Rattle.im_front.specs.Traces.{trace_of}
+use Rattle.im_front.specs.Acknowledged.{IsForced, IsFullFor, IsHeld, IsSpent}
+use Rattle.im_front.proofs.Steps.{length-trace_of}
 
 -- a store that makes no step
 abbrev pub MakesNone : {E : Type 0} → Ghosts E → Type 0
@@ -32,3 +35,22 @@ module _ {E : Type 0} (d : Ghosts E) (idle : MakesNone d) where
       let counted = h.held.counted in
       let more = h.more in
       absurd (omega (arith, counted, forces, more))
+
+  -- nor was a trace full
+  pub never_full : (step : answers.Step) → IsFullFor d step → ⊥
+  never_full step h =
+      let s = h.state in
+      let steps : s.history ≡ [] = no_steps h.was.held.made.0 s.history s.engine h.was.held.made.1 in
+      let ends = h.was.kept.ends in
+      let all : length (seen_of s.history) ≡ 0 = ap (λ (l : List (Step × Reply)). length (seen_of l)) steps in
+      let parts = ap length ends.1 ∙ length-append ends.0 (trace_of s.trace) in
+      let long = length-trace_of s.trace in
+      let most = h.most in
+      absurd (omega (arith, all, parts, long, most))
+
+  pub never_spent : IsSpent d → ⊥
+  never_spent h =
+      let steps : h.point.steps ≡ [] = no_steps h.held.made.0 h.point.steps h.point.engine h.held.made.1 in
+      let none : length h.point.steps ≡ 0 = ap length steps in
+      let all = h.all in
+      absurd (omega (arith, none, all))

@@ -11,7 +11,8 @@ use Rattle.im_base_types.specs.declared.fault.Fault.TheVariants.{Failed, TraceFu
 use Rattle.im_base_steps.specs.Calls.{told_by, may_end}
 use Rattle.im_theory_store_trait.specs.declared.store.Store.{Ghosts}
 use Rattle.im_front.specs.Made.{WereMade}
-use Rattle.im_front.specs.Held.{State, IsRun, waits_in, forces_in}
+use Rattle.im_front.specs.Traces.{trace_of}
+use Rattle.im_front.specs.Held.{State, IsCounted, IsRun, WereKept, waits_in, forces_in}
 use Rattle.im_front.specs.Locked.{LockedState, seen_of}
 
 -- The value behind a lock, whichever front it is of: the engine, every step that was made of it with its reply, and how many wait for a force.
@@ -74,10 +75,18 @@ module _ {E : Type 0} (d : Ghosts E) where
     pub held : IsHeld point
     pub all : 2 ^ 62 ≤ length point.steps
 
-  -- Behind the lock the trace that is kept was full for this step: it has its most steps, and the step ends no transaction.
+  -- The front was in this state: it is as it always is behind the lock, of all steps that were made the trace has those that were not cut, and the counts are those of the trace, after those of the steps cut.
+  pub record WasIn (s : State E) : Type 0 where
+    pub held : IsHeld (point_in s)
+    pub kept : WereKept (seen_of s.history) s.cut s.kept (trace_of s.trace)
+    pub counted : IsCounted (trace_of s.trace) (d.actives s.engine) s.kept s.counts
+    pub waiting : s.waiting ≡ waits_in 0 (trace_of s.trace)
+    pub run : d.tells → IsRun d.life s.base (trace_of s.trace) s.engine
+
+  -- Behind the lock the trace that is kept was full for this step: it had its most steps, and the step ends no transaction.
   pub record IsFullFor (step : answers.Step) : Type 0 where
     pub state : State E
-    pub held : IsHeld (point_in state)
+    pub was : WasIn state
     pub most : 65536 ≤ length state.trace
     pub ends_none : may_end state.waiting step ≡ false
 

@@ -7,8 +7,8 @@ use Rattle.im_base_types.specs.declared.fault.Fault.TheVariants.{Failed, Busy}
 use Rattle.im_theory_machine.specs.View.{View}
 use Rattle.im_theory_store_trait.specs.declared.store.Store.{Ghosts}
 use Rattle.im_front.specs.Traces.{trace_of}
-use Rattle.im_front.specs.Held.{State, IsCut, IsRun, WhyNotCut}
-use Rattle.im_front.specs.Acknowledged.{point_in, IsHeld}
+use Rattle.im_front.specs.Held.{State, IsCut, WhyNotCut}
+use Rattle.im_front.specs.Acknowledged.{WasIn}
 
 -- That the engine has failed is told first, and then that a transaction is active. Where the trace is cut none is.
 pub record ComesFirst {E : Type 0} (d : Ghosts E) (engine : E) (result : Result Unit Fault) : Type 0 where
@@ -20,14 +20,13 @@ pub record ComesFirst {E : Type 0} (d : Ghosts E) (engine : E) (result : Result 
 pub record WasNotCut {E : Type 0} (d : Ghosts E) (fault : Fault) : Type 0 where
   pub was : State E
   pub now : State E
-  pub held : IsHeld d (point_in was) × IsHeld d (point_in now)
+  pub both : WasIn d was × WasIn d now
   pub why : WhyNotCut d was now fault
 
 -- Behind the lock the trace was cut, from one moment to the next: no step is left in it, and its base holds what they came to. The counts stay.
 pub record WasCut {E : Type 0} (d : Ghosts E) : Type 0 where
   pub was : State E
   pub now : State E
-  pub held : IsHeld d (point_in was) × IsHeld d (point_in now)
-  pub runs : d.tells → IsRun d.life was.base (trace_of was.trace) was.engine × IsRun d.life now.base (trace_of now.trace) now.engine
+  pub both : WasIn d was × WasIn d now
   pub emptied : (now.trace ≡ []) × (now.cut ≡ was.cut + length was.trace) × (now.kept ≡ was.counts) × (now.counts ≡ was.counts)
   pub base : d.tells → IsCut was.base now.base (trace_of was.trace)

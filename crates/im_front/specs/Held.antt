@@ -8,12 +8,13 @@ use Rattle.im_base_types.specs.Changes.{Effect, apply_all}
 use Rattle.im_base_types.specs.Lives.{Shown, Survives, effects, nothing_shown, shown_by}
 use Rattle.im_theory_machine.specs.View.{View}
 use Rattle.im_theory_machine.specs.Machine.{Run, start}
-use Rattle.im_front_stats.specs.Counts.{started, committed_count, rolled_back, IsSound}
+use Rattle.im_front_stats.specs.Counts.{nothing, started, committed_count, rolled_back, IsSound}
 use Rattle.im_base_types.specs.declared.fault.Fault.{Fault}
 use Rattle.im_base_types.specs.declared.fault.Fault.TheVariants.{Failed, Busy, TraceFull}
 use Rattle.im_base_steps.specs.declared.step.Step.{Step as Steps}
 use Rattle.im_base_steps.specs.declared.reply.Reply.{Reply as Replies}
 use Rattle.im_front.specs.declared.recorded.Recorded.{Recorded}
+use Rattle.im_front.specs.Made.{EndsIn}
 use Rattle.im_front.specs.Traces.{trace_of}
 use Rattle.im_base_steps.specs.Calls.{is_blocked, is_force}
 use Rattle.im_theory_store_trait.specs.Store.{Rests}
@@ -98,6 +99,13 @@ pub record IsTallied (trace : List (Step × Reply)) (active waiting cut : ℕ) (
   pub cut_small : cut ≤ 2 ^ 62
   pub counts_small : (started counts ≤ cut + length trace) × (committed_count counts + waiting ≤ cut + length trace) × (rolled_back counts ≤ cut + length trace)
   pub balanced : started counts ≡ committed_count counts + rolled_back counts + active
+
+-- The trace has the last of all steps that were made. Those before were cut at a moment at which nobody waited for a force and no transaction was active, and the counts that are kept are theirs.
+pub record WereKept (all : List (Step × Reply)) (cut : ℕ) (kept : List ℕ) (trace : List (Step × Reply)) : Type 0 where
+  pub ends : EndsIn all cut trace
+  pub counts : kept ≡ after_trace 0 nothing ends.0
+  pub nobody : waits_in 0 ends.0 ≡ 0
+  pub idle : started kept ≡ committed_count kept + rolled_back kept
 
 -- What the trace tells: each reply suits its step; the counts that were written last are those of its steps, after those of the steps cut, and are sound; and what was started has ended or is active.
 pub record IsCounted (trace : List (Step × Reply)) (active : ℕ) (kept counts : List ℕ) : Type 0 where

@@ -12,13 +12,11 @@ ghost use Rattle.im_front_stats.specs.Counts.{nothing, writer, IsSound, NoLess};
 ghost use Rattle.im_base_types.specs.declared.fault.Fault.TheVariants.{Failed, Busy, TooMany, TraceFull, Memory};
 ghost use Rattle.im_base_steps.specs.Calls.{asked_by, told_by, is_blocked, may_end, most_entries, most_key};
 ghost use Rattle.im_front.specs.Traces.{trace_of};
-ghost use Rattle.im_front.specs.Made.{EndsIn};
-ghost use Rattle.im_front.specs.Locked.{seen_of};
-ghost use Rattle.im_front.specs.Acknowledged.{point_in, IsHeld};
+ghost use Rattle.im_front.specs.Acknowledged.{WasIn};
 ghost use Rattle.im_base_steps.specs.Replies.{is_full, lacks_memory, IsReply, Suits};
 ghost use Rattle.im_theory_store_trait.specs.Store.{LookKept};
 ghost use Rattle.im_front.specs.Cuts.{ComesFirst};
-ghost use Rattle.im_front.specs.Held.{IsCounted, IsResting, Records, IsRun, StopKeeps, IsCut, WhyNotCut, after_reply, waits_in, force_of};
+ghost use Rattle.im_front.specs.Held.{IsResting, Records, IsRun, StopKeeps, IsCut, WhyNotCut, after_reply, force_of};
 
 use crate::callers::{Behind, Pace};
 use crate::recorded::Recorded;
@@ -75,15 +73,15 @@ impl<E: Store, L: Ledger> Model for Held<E, L> {
     ghost use Rattle.crossbeam_utils.specs.Seq.{cell_view};
     ghost use Rattle.im_front_stats.specs.Counts.{writer};
     ghost use Rattle.im_front.specs.Traces.{trace_of};
-    ghost use Rattle.im_front.specs.Made.{EndsIn, WereMade};
+    ghost use Rattle.im_front.specs.Made.{WereMade};
     ghost use Rattle.im_front.specs.Locked.{StandsFrom, seen_of};
-    ghost use Rattle.im_front.specs.Held.{State, IsTallied, Stands, forces_in, waits_in};
+    ghost use Rattle.im_front.specs.Held.{State, IsTallied, Stands, WereKept, forces_in, waits_in};
 
     ghost Value = { State E };
 
     ghost view = { λ h. record { engine = h.engine; base = h.base.items; trace = h.trace.items; cut = h.cut; kept = h.kept; counts = (cell_view h.pass).seen; waiting = h.waiting; forces = h.forces; history = h.history.steps; handed = h.handed } };
 
-    ghost invariant = { λ h. (E.tells → Stands E.life h.base.items (trace_of h.trace.items) h.engine) × IsTallied (trace_of h.trace.items) (E.actives h.engine) (E.waiting h.engine) h.cut h.kept h.counts × (h.book.total ≡ h.cut + length h.trace.items) × (h.rest.parts + h.handed ≡ 1024) × (h.rest.amount ≡ 0) × (h.pass.table_id ≡ (arc_value h.cell).table.shared.table_id) × (cell_view h.pass ≡ writer h.counts) × (h.waiting ≡ E.waiting h.engine) × (h.forces ≡ forces_in (seen_of h.history.steps)) × (h.forces ≤ h.cut + length h.trace.items) × WereMade E.Store h.history.steps h.engine × (E.tells → StandsFrom E.life h.history.steps h.engine) × EndsIn (seen_of h.history.steps) h.cut (trace_of h.trace.items) × (h.waiting ≡ waits_in 0 (seen_of h.history.steps)) };
+    ghost invariant = { λ h. (E.tells → Stands E.life h.base.items (trace_of h.trace.items) h.engine) × IsTallied (trace_of h.trace.items) (E.actives h.engine) (E.waiting h.engine) h.cut h.kept h.counts × (h.book.total ≡ h.cut + length h.trace.items) × (h.rest.parts + h.handed ≡ 1024) × (h.rest.amount ≡ 0) × (h.pass.table_id ≡ (arc_value h.cell).table.shared.table_id) × (cell_view h.pass ≡ writer h.counts) × (h.waiting ≡ E.waiting h.engine) × (h.forces ≡ forces_in (seen_of h.history.steps)) × (h.forces ≤ h.cut + length h.trace.items) × WereMade E.Store h.history.steps h.engine × (E.tells → StandsFrom E.life h.history.steps h.engine) × WereKept (seen_of h.history.steps) h.cut h.kept (trace_of h.trace.items) × (h.waiting ≡ waits_in 0 (seen_of h.history.steps)) };
 }
 
 /// What is left of a front.
@@ -150,12 +148,8 @@ impl<E: Store, L: Ledger> Held<E, L> {
     /// cut, those wait for a force whose Commit was answered `More` since the last force, as many forces were made as were answered `Done`, and
     /// what was started has ended or is active. It does nothing: its contract says so.
     pub fn law_holds_always(&self)
-        ensures run { E.tells → IsRun E.life self.now.base (trace_of self.now.trace) self.now.engine }
+        ensures was { WasIn E.Store self.now }
         ensures stops { E.tells → StopKeeps E.leaves self.now.base (trace_of self.now.trace) self.now.engine }
-        ensures held { IsHeld E.Store (point_in self.now) }
-        ensures ends { EndsIn (seen_of self.now.history) self.now.cut (trace_of self.now.trace) }
-        ensures waiting { self.now.waiting ≡ waits_in 0 (trace_of self.now.trace) }
-        ensures counted { IsCounted (trace_of self.now.trace) (E.actives self.now.engine) self.now.kept self.now.counts }
         ensures handed { self.now.handed ≤ 1024 }
     {
         let _handed = self.handed;

@@ -15,4 +15,4 @@ returns-then-not-is_blocked-clause-suits g c room memory = subst (λ (s : Step).
 pub returns-then-not-is_blocked-clause-spent : goal.returns-then-not-is_blocked-clause-spent
 returns-then-not-is_blocked-clause-spent g c full =
     subst (λ (s : Step). IsFullFor g.E.Store (asked_by s)) c.loop.invariant.2
-    (full_for g.E.Store _ c.deref_mut.result.now c.deref.result.now (c.deref.ensures ∙ c.step-reply.ensures.same full) c.law_holds_always.ensures.held (c.step-reply.ensures.full.0 full))
+    (full_for g.E.Store _ c.deref_mut.result.now c.deref.result.now (c.deref.ensures ∙ c.step-reply.ensures.same full) c.law_holds_always.ensures.was (c.step-reply.ensures.full.0 full))

@@ -20,7 +20,7 @@ returns-in-More-clause-acknowledged g c =
     let memory : lacks_memory (told_by c.step-reply.result) ≡ false = ap (λ r. lacks_memory (told_by r)) more in
     let at = c.forces-forces.ensures ∙ ap (λ s. s.forces) (c.deref-in-More.ensures ∙ sym c.deref.ensures) in
     let grown = ap (λ s. s.history) c.deref.ensures ∙ c.step-reply.ensures.adds blocked full memory in
-    let held = c.law_holds_always.ensures.held in
+    let held = c.law_holds_always.ensures.was.held in
     let last : IsLast g.E.Store c.args.t (point_in c.deref.result.now) = record { held = held; older = _; reply = c.step-reply.result; told = ap told_by more; last = grown } in
     map_ok c.settle_all.result (IsForced g.E.Store c.forces-forces.result) (IsAcknowledged g.E.Store c.args.t)
     (λ forced. by_force _ last (subst (λ (n : ℕ). IsForced g.E.Store n) at forced))

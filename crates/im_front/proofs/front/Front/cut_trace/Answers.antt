@@ -1,28 +1,24 @@
 use Rattle.std.proofs.Common.{sym, subst, ◌∙◌}
-use Rattle.im_front.specs.Traces.{trace_of}
-use Rattle.im_front.specs.Held.{State, IsRun}
-use Rattle.im_front.specs.Acknowledged.{point_in, IsHeld}
+use Rattle.im_front.specs.Held.{State}
+use Rattle.im_front.specs.Acknowledged.{WasIn}
 use Rattle.im_front.proofs.Acknowledging.{both_ok, map_err}
 use Rattle.im_front.proofs.front.Front.cut_trace.Goals as goal
 
 pub returns-clause-causes : goal.returns-clause-causes
 returns-clause-causes g c =
-    let Holds : State g.row.E.Denot → Type 0 = λ s. IsHeld g.E.Store (point_in s) in
+    let Holds : State g.row.E.Denot → Type 0 = λ s. WasIn g.E.Store s in
     let was = c.deref_mut.result.now in
     let now = c.cut_trace-done.new.self in
-    let before : Holds was = subst Holds (c.deref.ensures ∙ sym c.deref_mut.ensures.value) c.law_holds_always.ensures.held in
-    let after : Holds now = subst Holds c.deref-2.ensures c.law_holds_always-2.ensures.held in
-    map_err c.cut_trace-done.result _ _ (λ fault why. record { was = was; now = now; held = (before, after); why = why }) c.cut_trace-done.ensures.cause
+    let before : Holds was = subst Holds (c.deref.ensures ∙ sym c.deref_mut.ensures.value) c.law_holds_always.ensures.was in
+    let after : Holds now = subst Holds c.deref-2.ensures c.law_holds_always-2.ensures.was in
+    map_err c.cut_trace-done.result _ _ (λ fault why. record { was = was; now = now; both = (before, after); why = why }) c.cut_trace-done.ensures.cause
 
 pub returns-clause-cut : goal.returns-clause-cut
 returns-clause-cut g c =
-    let Holds : State g.row.E.Denot → Type 0 = λ s. IsHeld g.E.Store (point_in s) in
+    let Holds : State g.row.E.Denot → Type 0 = λ s. WasIn g.E.Store s in
     let was = c.deref_mut.result.now in
     let now = c.cut_trace-done.new.self in
-    let before : Holds was = subst Holds (c.deref.ensures ∙ sym c.deref_mut.ensures.value) c.law_holds_always.ensures.held in
-    let after : Holds now = subst Holds c.deref-2.ensures c.law_holds_always-2.ensures.held in
-    let Runs : State g.row.E.Denot → Type 0 = λ s. g.E.Store.tells → IsRun g.E.Store.life s.base (trace_of s.trace) s.engine in
-    let run_was : Runs was = subst Runs (c.deref.ensures ∙ sym c.deref_mut.ensures.value) c.law_holds_always.ensures.run in
-    let run_now : Runs now = subst Runs c.deref-2.ensures c.law_holds_always-2.ensures.run in
+    let before : Holds was = subst Holds (c.deref.ensures ∙ sym c.deref_mut.ensures.value) c.law_holds_always.ensures.was in
+    let after : Holds now = subst Holds c.deref-2.ensures c.law_holds_always-2.ensures.was in
     both_ok c.cut_trace-done.result _ _ _ c.cut_trace-done.ensures.ok c.cut_trace-done.ensures.base
-    (λ ok base. record { was = was; now = now; held = (before, after); runs = λ tells. (run_was tells, run_now tells); emptied = (ok.0, ok.1, ok.2, c.cut_trace-done.ensures.same.0); base = base })
+    (λ ok base. record { was = was; now = now; both = (before, after); emptied = (ok.0, ok.1, ok.2, c.cut_trace-done.ensures.same.0); base = base })

@@ -7,11 +7,10 @@ use Rattle.im_front.specs.declared.recorded.Recorded.{Recorded}
 use Rattle.im_front.specs.Traces.{trace_of}
 use Rattle.im_front.specs.Events.{shown_in}
 use Rattle.im_front.specs.Cuts.{ComesFirst}
-use Rattle.im_front.specs.Made.{EndsIn}
 use Rattle.im_front.specs.Made.AreMade.{looked}
 use Rattle.im_front.specs.Locked.{seen_of}
-use Rattle.im_front.specs.Held.{State, IsTallied, Stands, IsCut}
-use Rattle.im_front.proofs.Growing.{ends_cut}
+use Rattle.im_front.specs.Held.{State, IsTallied, Stands, IsCut, WereKept}
+use Rattle.im_front.proofs.Growing.{kept_cut}
 use Rattle.im_front.proofs.Steps.{stands_cut, stands_life, stands_look, tallied_as, tallied_cut, none_waiting, rest_walk, is_cut, length-trace_of}
 use Rattle.im_front.proofs.Cuts.{told_failed, told_busy, told_else}
 use Rattle.im_front.proofs.held.Held.cut_trace.Goals as goal
@@ -79,8 +78,10 @@ invariant_of-self-2 g c =
           let h = i.11 tells in
           let list = c.in_ok-base.ensures.list h.1.before (shown_in nothing_shown h.1.events) h.1.view h.1.life_is in
           (h.0, stands_life g.E.Store.life h.0 (seen_of c.self.inside.history.steps) c.self.inside.engine h.1 c.entries.new.self list.1)),
-      subst (λ (l : List Recorded). EndsIn (seen_of c.self.inside.history.steps) (c.self.inside.cut + c.len-2.result) (trace_of l)) none_left
-          (subst (λ (n : ℕ). EndsIn (seen_of c.self.inside.history.steps) n []) cut (ends_cut (seen_of c.self.inside.history.steps) trace c.self.inside.cut i.12)),
+      subst (λ (l : List Recorded). WereKept (seen_of c.self.inside.history.steps) (c.self.inside.cut + c.len-2.result) c.self.inside.counts (trace_of l)) none_left
+          (subst (λ (n : ℕ). WereKept (seen_of c.self.inside.history.steps) n c.self.inside.counts []) cut (
+          kept_cut (seen_of c.self.inside.history.steps) trace c.self.inside.cut c.self.inside.kept c.self.inside.counts i.12 i.1.counted (sym i.1.waits ∙ sym c.in_ok-base.ensures.waiting ∙ nobody) (let balanced = there.balanced in omega (arith, balanced, idle))
+          )),
       i.13,
     )
 

@@ -7,10 +7,10 @@ use Rattle.im_front.specs.declared.recorded.Recorded.{Recorded}
 use Rattle.im_base_steps.specs.declared.step.Step.{Step}
 use Rattle.im_base_steps.specs.declared.reply.Reply.{Reply}
 use Rattle.im_front.specs.Traces.{trace_of}
-use Rattle.im_front.specs.Made.{EndsIn, WereMade}
+use Rattle.im_front.specs.Made.{WereMade}
 use Rattle.im_front.specs.Made.AreMade.{none as none_made, looked}
 use Rattle.im_front.specs.Locked.{StandsFrom, seen_of}
-use Rattle.im_front.specs.Held.{IsTallied, Stands, forces_in, waits_in}
+use Rattle.im_front.specs.Held.{IsTallied, Stands, WereKept, forces_in, waits_in}
 use Rattle.im_front.proofs.Steps.{stands_new, tallied_new, none_waiting}
 use Rattle.im_front.proofs.held.Held.new.Goals as goal
 
@@ -41,6 +41,6 @@ invariant_of-result g c =
           let e = c.in-Ok.ensures.list r.before nothing_shown (start (apply_all empty r.before) r.first) r.life_is in
           let base = entries (apply_all empty r.before) in
           subst (λ (l : List (Step × Reply)). StandsFrom g.E.Store.life l c.entries.new.self) nothing (base, stands_new g.E.Store.life base c.entries.new.self r.before r.first e.1 refl)),
-      subst (λ (l : List (Step × Reply) × List Recorded). EndsIn (seen_of l.0) 0 (trace_of l.1)) (λ i. (nothing i, none i)) ([], refl, refl),
+      subst (λ (l : List (Step × Reply) × List Recorded). WereKept (seen_of l.0) 0 zeros (trace_of l.1)) (λ i. (nothing i, none i)) (record { ends = ([], refl, refl); counts = refl; nobody = refl; idle = refl }),
       subst (λ (l : List (Step × Reply)). 0 ≡ waits_in 0 (seen_of l)) nothing refl,
     )

@@ -8,12 +8,12 @@ use Rattle.im_base_steps.specs.Calls.{asked_by, told_by, is_blocked}
 use Rattle.im_front.specs.Traces.{trace_of}
 use Rattle.im_front.specs.Events.{shown_in}
 use Rattle.im_base_steps.specs.Replies.{is_full, waits_after}
-use Rattle.im_front.specs.Made.{EndsIn, WereMade}
+use Rattle.im_front.specs.Made.{WereMade}
 use Rattle.im_front.specs.Made.AreMade.{one_more, blocked}
 use Rattle.im_front.specs.Locked.{seen_of}
-use Rattle.im_front.specs.Held.{State, IsTallied, Stands, after_reply, forces_in, waits_in}
+use Rattle.im_front.specs.Held.{State, IsTallied, Stands, WereKept, after_reply, forces_in, waits_in}
 use Rattle.im_front.proofs.Replies.{few_entries, entry_asked, blocked_counts}
-use Rattle.im_front.proofs.Growing.{forces_push, seen_of-push, ends_push}
+use Rattle.im_front.proofs.Growing.{forces_push, seen_of-push, kept_push}
 use Rattle.im_front.proofs.Steps.{alive_of, stands_push, stands_blocked, tallied_as, tallied_push, trace_of-recorded, waits_in-push}
 use Rattle.im_front.proofs.held.Held.step.Goals as goal
 
@@ -44,7 +44,7 @@ invariant_of-self-then-is_blocked g c =
           let h = i.11 tells in
           let made = c.step-reply.ensures.kept h.1.before (shown_in nothing_shown h.1.events) h.1.view h.1.life_is in
           (h.0, stands_blocked g.E.Store.life h.0 (seen_of c.self.inside.history.steps) c.self.inside.engine h.1 c.step-reply.new.self (asked_by c.args.step.now) (told_by c.step-reply.result) made b)),
-      subst (λ (l : List Recorded). EndsIn (seen_of c.self.inside.history.steps) c.self.inside.cut (trace_of l)) (sym c.in-Some.ensures.kept) i.12,
+      subst (λ (l : List Recorded). WereKept (seen_of c.self.inside.history.steps) c.self.inside.cut c.self.inside.kept (trace_of l)) (sym c.in-Some.ensures.kept) i.12,
       i.13,
     )
 
@@ -106,7 +106,7 @@ invariant_of-self-2 g c =
           let made = c.step-reply.ensures.kept h.1.before (shown_in nothing_shown h.1.events) h.1.view h.1.life_is in
           let stands = stands_push g.E.Store.life h.0 (seen_of all) c.self.inside.engine h.1 c.step-reply.new.self (asked_by c.args.step.now) (told_by c.step-reply.result) made in
           (h.0, subst (λ (l : List (Step × Reply)). Stands g.E.Store.life h.0 l c.step-reply.new.self) (sym seen) stands)),
-      subst (λ (l : List (Step × Reply) × List (Step × Reply)). EndsIn l.0 c.self.inside.cut l.1) (λ i. (sym seen i, sym trace i)) (ends_push (seen_of all) (trace_of c.self.inside.trace.items) c.self.inside.cut (asked_by c.args.step.now, told_by c.step-reply.result) i.12),
+      subst (λ (l : List (Step × Reply) × List (Step × Reply)). WereKept l.0 c.self.inside.cut c.self.inside.kept l.1) (λ i. (sym seen i, sym trace i)) (kept_push (seen_of all) (trace_of c.self.inside.trace.items) c.self.inside.cut c.self.inside.kept (asked_by c.args.step.now, told_by c.step-reply.result) i.12),
       waits ∙ sym (waits_in-push 0 (seen_of all) (asked_by c.args.step.now, told_by c.step-reply.result)) ∙ ap (waits_in 0) (sym seen),
     )
 
