@@ -1,5 +1,5 @@
 -- Who waits to begin, and for whom.
-use Rattle.std.specs.Prelude.{ℕ, ◌+◌, ◌-◌, ◌^◌, Bool, min, if◌then◌else◌}
+use Rattle.std.specs.Prelude.{◌≡◌, ◌<◌, ◌≤◌, ◌⊎◌, ℕ, ◌+◌, ◌-◌, ◌^◌, Bool, min, if◌then◌else◌}
 use Rattle.im_base_admission.specs.declared.asker.Asker.{Asker}
 use Rattle.im_base_admission.specs.declared.going.Going.{Going}
 use Rattle.im_base_admission.specs.Admission.{IsAwaited}
@@ -43,3 +43,18 @@ first_begun number l = record l { first_number = number; first_seen = l.tick }
 -- nobody is first any more
 abbrev pub none_first : Line → Line
 none_first l = record l { first = 0 }
+
+-- the one that is first began a transaction, which was left alone
+abbrev pub IsFirstLeft : Line → Type 0
+IsFirstLeft l = (0 < l.first) × ((0 < l.first_number) × (l.first_seen + 10 ≤ l.tick))
+
+-- this turn is first, and has not begun
+abbrev pub first_now : Turn → Line → Line
+first_now turn l = record l { first = turn.ticket; first_number = 0 }
+
+-- What asking changes: who is first and was left alone is so no longer; who has given way four times is first then, where nobody is. All else stays.
+pub record Asks (turn : Turn) (old new : Line) : Type 0 where
+  pub becomes : 4 ≤ turn.agains → (old.first ≡ 0) ⊎ IsFirstLeft old → new ≡ first_now turn old
+  pub left : turn.agains < 4 → IsFirstLeft old → new ≡ none_first old
+  pub few : turn.agains < 4 → (IsFirstLeft old → ⊥) → new ≡ old
+  pub another : 0 < old.first → (IsFirstLeft old → ⊥) → new ≡ old

@@ -5,7 +5,7 @@
 
 ghost use Rattle.std.specs.Prelude.{◌≡◌, ◌≢◌, ◌<◌, ◌≤◌, ◌+◌, ◌⊎◌, ◌↔◌, true, false};
 ghost use Rattle.std.specs.List.{All};
-ghost use Rattle.im_front.specs.Line.{IsWaitedFor, asker_of, first_begun, next_turn, none_first, ticked, turn_again, with_one};
+ghost use Rattle.im_front.specs.Line.{Asks, IsWaitedFor, asker_of, first_begun, next_turn, none_first, ticked, turn_again, with_one};
 ghost use Rattle.im_base_admission.specs.Admission.{MayBegin};
 
 use im_base_admission::{Asker, FEW, Going, becomes_first, is_left_alone, may_begin, whose};
@@ -131,9 +131,7 @@ impl Line {
         ensures before { result ≡ true → (self.new.first ≡ 0) ⊎ (self.new.first ≡ turn.now.ticket) }
         ensures older { result ≡ true → 0 < turn.now.mine → self.new.first ≡ 0 → All (λ g. IsWaitedFor self.old.tick turn.now.came g → turn.now.mine < g.number) self.old.going }
         ensures alone { result ≡ true → 0 < turn.now.ticket → self.new.first ≡ turn.now.ticket → All (λ g. IsWaitedFor self.old.tick 0 g → ⊥) self.old.going }
-        ensures stays { 0 < self.old.first → (self.new.first ≡ self.old.first) ⊎ ((0 < self.old.first_number) × (self.old.first_seen + 10 ≤ self.old.tick)) }
-        ensures few { 4 ≤ turn.now.agains → 0 < turn.now.ticket → 0 < self.new.first }
-        ensures same { (self.new.going ≡ self.old.going) × (self.new.tick ≡ self.old.tick) }
+        ensures asks { Asks turn.now self.old self.new }
         ensures goes { result ≡ true ↔ MayBegin self.old.going self.new.first (asker_of turn.now self.old.tick) }
     {
         if self.first != 0 && self.is_first_left() {

@@ -10,7 +10,7 @@ ghost use Rattle.im_base_steps.specs.Calls.{asked_by, told_by, is_blocked};
 ghost use Rattle.im_front.specs.Traces.{counts_of};
 ghost use Rattle.im_base_steps.specs.Replies.{is_full, IsReply, Suits};
 ghost use Rattle.im_front.specs.Held.{IsCounted};
-ghost use Rattle.im_front.specs.Line.{asker_of};
+ghost use Rattle.im_front.specs.Line.{Asks, asker_of};
 ghost use Rattle.im_base_admission.specs.Admission.{MayBegin};
 ghost use Rattle.im_front.specs.Locked.{none, seen_of, GoesOn, IsKeptFrom};
 ghost use Rattle.im_front.specs.Acknowledged.{point_of, IsAcknowledged, IsForced, IsHeld, IsNotAcknowledged, IsNotForced, IsSettled, IsSpent, IsStepOf};
@@ -227,9 +227,7 @@ impl<E: Store> Kept<E> {
     pub(crate) fn may_begin(&mut self, turn: &Turn) -> bool
         ensures same { self.new ≡ record self.old { line = self.new.line } }
         ensures goes { result ≡ true ↔ (MayBegin self.old.line.going self.new.line.first (asker_of turn.now self.old.line.tick) ⊎ E.broken self.old.engine) }
-        ensures stays { 0 < self.old.line.first → (self.new.line.first ≡ self.old.line.first) ⊎ ((0 < self.old.line.first_number) × (self.old.line.first_seen + 10 ≤ self.old.line.tick)) }
-        ensures few { 4 ≤ turn.now.agains → 0 < turn.now.ticket → 0 < self.new.line.first }
-        ensures known { (self.new.line.going ≡ self.old.line.going) × (self.new.line.tick ≡ self.old.line.tick) }
+        ensures asks { Asks turn.now self.old.line self.new.line }
     {
         self.line.ask(turn) || self.engine.failed()
     }
