@@ -1,8 +1,9 @@
 //! The files of a store that its caller holds, written to or only read.
 ghost use Rattle.std.specs.Prelude.{◌≡◌, [], false};
+ghost use Rattle.im_files_caller_disk.specs.Ways.{IsWay, has_failed, syncs_of, writes_of};
 
 use crate::caller_disk::CallerDisk;
-use im_base_disk::{Count, Disk};
+use im_base_disk::Disk;
 use im_base_types::{Fault, FileId};
 use im_files_scratch_disk::ScratchDisk;
 use std::alloc::Global;
@@ -14,74 +15,37 @@ enum Way {
     Kept(ScratchDisk<CallerDisk>),
 }
 
-impl Way {
-    fn len(&mut self, file: FileId) -> Result<u64, Fault> {
-        match self {
-            Way::Through(disk) if !disk.has_failed() => disk.len(file),
-            Way::Kept(disk) if !disk.has_failed() => disk.len(file),
-            _ => Err(Fault::Device),
-        }
-    }
-
-    fn read(&mut self, file: FileId, at: u64, buf: &mut [u8]) -> Result<(), Fault> {
-        match self {
-            Way::Through(disk) if !disk.has_failed() => disk.read(file, at, buf),
-            Way::Kept(disk) if !disk.has_failed() => disk.read(file, at, buf),
-            _ => Err(Fault::Device),
-        }
-    }
-
-    fn write_at(&mut self, file: FileId, at: u64, bytes: &[u8]) -> Result<(), Fault> {
-        match self {
-            Way::Through(disk) if !disk.has_failed() => disk.write_at(file, at, bytes),
-            Way::Kept(disk) if !disk.has_failed() => disk.write_at(file, at, bytes),
-            _ => Err(Fault::Device),
-        }
-    }
-
-    fn sync(&mut self, file: FileId) -> Result<(), Fault> {
-        match self {
-            Way::Through(disk) if !disk.has_failed() => disk.sync(file),
-            Way::Kept(disk) if !disk.has_failed() => disk.sync(file),
-            _ => Err(Fault::Device),
-        }
-    }
-}
-
 /// The files of a store that its caller holds. Where they are only read, what is written stays in memory, and the caller is asked for lengths and bytes alone.
 #[derive(Drop)]
 pub struct CallerFiles {
     way: Way,
-    has_failed: bool,
-    writes: Count,
-    syncs: Count,
 }
 
 impl CallerFiles {
     /// Those of a caller's disk, which are written to or only read.
     pub fn new(alloc: Global, disk: CallerDisk, is_read: bool) -> CallerFiles
         requires { ⟦<CallerDisk as Disk>⟧.failed disk ≡ false }
-        ensures { ⟦<CallerFiles as Disk>⟧.failed result ≡ false }
+        ensures working { ⟦<CallerFiles as Disk>⟧.failed result ≡ false }
+        ensures way { IsWay is_read disk result.way }
     {
         if is_read {
-            return CallerFiles::over(Way::Kept(ScratchDisk::new(alloc, Some(disk))));
+            return CallerFiles {
+                way: Way::Kept(ScratchDisk::new(alloc, Some(disk))),
+            };
         }
-        CallerFiles::over(Way::Through(disk))
-    }
-
-    fn over(way: Way) -> CallerFiles
-        ensures { ⟦<CallerFiles as Disk>⟧.failed result ≡ false }
-    {
         CallerFiles {
-            way,
-            has_failed: false,
-            writes: Count::new(),
-            syncs: Count::new(),
+            way: Way::Through(disk),
         }
     }
 }
 
 impl Disk for CallerFiles {
+    ghost use Rattle.std.specs.Prelude.{◌≡◌, ◌+◌, ◌≤◌, [], false, length};
+    ghost use Rattle.im_base_disk.specs.Disk.{Answers};
+    ghost use Rattle.im_base_disk.specs.Runs.{Costs, Reads};
+    ghost use Rattle.im_files_caller_disk.specs.Disks.{IsAsked};
+    ghost use Rattle.im_files_caller_disk.specs.Ways.{Goes, IsOver, IsReadOver, IsSameOver, has_failed, syncs_of, writes_of};
+
     ghost tells = { ⊥ };
 
     ghost sums = { Unit {0} };
@@ -94,11 +58,11 @@ impl Disk for CallerFiles {
 
     ghost left_since = { λ _ _ _. ⊥ };
 
-    ghost failed = { λ d. d.has_failed };
+    ghost failed = { λ d. has_failed d.way };
 
-    ghost writes = { λ d. d.writes.count };
+    ghost writes = { λ d. writes_of d.way };
 
-    ghost syncs = { λ d. d.syncs.count };
+    ghost syncs = { λ d. syncs_of d.way };
 
     ghost counts_now = { λ _ _ _ _ none. none };
 
@@ -110,29 +74,53 @@ impl Disk for CallerFiles {
         true
     }
 
-    fn len(&mut self, file: FileId) -> Result<u64, Fault> {
-        let outcome = self.way.len(file);
-        self.has_failed = outcome.is_err();
-        outcome.map_err(|_| Fault::Device)
+    fn len(&mut self, file: FileId) -> Result<u64, Fault>
+        requires { ⟦<CallerFiles as Disk>⟧.failed self.old ≡ false }
+        ensures reads { Reads ⟦<CallerFiles as Disk>⟧ self.old self.new }
+        ensures answers { Answers (⟦<CallerFiles as Disk>⟧.failed self.new) result }
+        ensures goes { Goes (IsAsked 1 file 0 0 []) IsReadOver self.old.way self.new.way }
+    {
+        match &mut self.way {
+            Way::Through(disk) => disk.len(file),
+            Way::Kept(disk) => disk.len(file),
+        }
     }
 
-    fn read(&mut self, file: FileId, at: u64, buf: &mut [u8]) -> Result<(), Fault> {
-        let outcome = self.way.read(file, at, buf);
-        self.has_failed = outcome.is_err();
-        outcome.map_err(|_| Fault::Device)
+    fn read(&mut self, file: FileId, at: u64, buf: &mut [u8]) -> Result<(), Fault>
+        requires working { ⟦<CallerFiles as Disk>⟧.failed self.old ≡ false }
+        requires within { ⟦<CallerFiles as Disk>⟧.tells → at + length buf.old ≤ length (⟦<CallerFiles as Disk>⟧.seen self.old file) }
+        ensures reads { Reads ⟦<CallerFiles as Disk>⟧ self.old self.new }
+        ensures answers { Answers (⟦<CallerFiles as Disk>⟧.failed self.new) result }
+        ensures goes { Goes (IsAsked 2 file at (length buf.old) []) IsReadOver self.old.way self.new.way }
+    {
+        match &mut self.way {
+            Way::Through(disk) => disk.read(file, at, buf),
+            Way::Kept(disk) => disk.read(file, at, buf),
+        }
     }
 
-    fn write_at(&mut self, file: FileId, at: u64, bytes: &[u8]) -> Result<(), Fault> {
-        self.writes = self.writes.with_one_more();
-        let outcome = self.way.write_at(file, at, bytes);
-        self.has_failed = outcome.is_err();
-        outcome.map_err(|_| Fault::Device)
+    fn write_at(&mut self, file: FileId, at: u64, bytes: &[u8]) -> Result<(), Fault>
+        requires working { ⟦<CallerFiles as Disk>⟧.failed self.old ≡ false }
+        requires place { ⟦<CallerFiles as Disk>⟧.tells → at ≤ length (⟦<CallerFiles as Disk>⟧.seen self.old file) }
+        ensures costs { Costs ⟦<CallerFiles as Disk>⟧ 1 0 self.old self.new }
+        ensures answers { Answers (⟦<CallerFiles as Disk>⟧.failed self.new) result }
+        ensures goes { Goes (IsAsked 3 file at (length bytes.now) bytes.now) IsOver self.old.way self.new.way }
+    {
+        match &mut self.way {
+            Way::Through(disk) => disk.write_at(file, at, bytes),
+            Way::Kept(disk) => disk.write_at(file, at, bytes),
+        }
     }
 
-    fn sync(&mut self, file: FileId) -> Result<(), Fault> {
-        self.syncs = self.syncs.with_one_more();
-        let outcome = self.way.sync(file);
-        self.has_failed = outcome.is_err();
-        outcome.map_err(|_| Fault::Device)
+    fn sync(&mut self, file: FileId) -> Result<(), Fault>
+        requires { ⟦<CallerFiles as Disk>⟧.failed self.old ≡ false }
+        ensures costs { Costs ⟦<CallerFiles as Disk>⟧ 0 1 self.old self.new }
+        ensures answers { Answers (⟦<CallerFiles as Disk>⟧.failed self.new) result }
+        ensures goes { Goes (IsAsked 4 file 0 0 []) IsSameOver self.old.way self.new.way }
+    {
+        match &mut self.way {
+            Way::Through(disk) => disk.sync(file),
+            Way::Kept(disk) => disk.sync(file),
+        }
     }
 }
