@@ -1,0 +1,5 @@
+pub mod Saying
+pub mod Spellings
+pub mod Stops
+pub mod Runs
+mod WorkedHeader
