@@ -2,3 +2,4 @@ pub mod Buffers
 pub mod Entries
 mod Causes
 mod Limits
+mod Named

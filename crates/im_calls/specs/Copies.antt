@@ -50,7 +50,7 @@ module _ {D T : Type 0} (d : Ghosts D) (t : Ghosts T) (m : Ghosts (Mirrored D T 
     pub upkeep : SameUpkeep old new
     pub tells : TellsCopy told result
 
-  -- One begins over the descriptors that are asked; a number that no descriptor has is answered as a device that fails.
-  pub record IsBegunOver (asked told : Call) (old new : Opened (Mirrored D T d t) m) : Type 0 where
+  -- One begins into these files, over the descriptors that are asked; a number that no descriptor has is answered as a device that fails.
+  pub record IsBegunOver (to : T) (asked told : Call) (old new : Opened (Mirrored D T d t) m) : Type 0 where
     pub none : (2 ^ 31 ≤ asked.key_len) ⊎ (2 ^ 31 ≤ asked.hi_len) → Refuses told 8 × (new ≡ old)
-    pub begun : asked.key_len < 2 ^ 31 → asked.hi_len < 2 ^ 31 → (to : T) × (t.failed to ≡ false) × IsBegun to told old.store new.store
+    pub begun : asked.key_len < 2 ^ 31 → asked.hi_len < 2 ^ 31 → IsBegun to told old.store new.store

@@ -5,3 +5,4 @@ pub mod Sessions
 pub mod Made
 pub mod Copies
 pub mod Loads
+pub mod Named

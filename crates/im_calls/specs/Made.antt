@@ -2,7 +2,7 @@
 use mir.Syntax.{Dict, impl, tcons, tnil, dnil}
 use denote.Struct.Struct.{layout}
 use denote.Struct.Declared.{shape}
-use Rattle.std.specs.Prelude.{◌≡◌, ◌∷◌, [], None, Some, IfSome}
+use Rattle.std.specs.Prelude.{◌≡◌, ◌≢◌, ◌∷◌, [], None, Some, IfSome}
 use Rattle.std.specs.Option.{IsSomeAnd}
 use Rattle.im_base_disk.specs.declared.disk.Disk.{Ghosts}
 use Rattle.im_files_caller_disk.specs.declared.caller_disk.CallerDisk.{CallerDisk}
@@ -20,8 +20,9 @@ use Rattle.im_calls.specs.declared.call.Call.{Call}
 use Rattle.im_calls.specs.Calls.{IsAnswered, Refuses, TellsWord, Shows, numbers_bytes}
 use Rattle.im_calls.specs.declared.session.Session.{Session}
 use Rattle.im_calls.specs.Copies.{IsBegunOver, IsCopyEnded, IsPieceMade}
-use Rattle.im_calls.specs.Loads.{Loads}
+use Rattle.im_calls.specs.Loads.{IsLoadBegunOver, Loads}
 use Rattle.im_calls.specs.declared.opening.Opening.{Opening}
+use Rattle.im_calls.specs.Named.{AreOpened, copy_files, load_files}
 use Rattle.im_calls.specs.Openings.{AsksTheSame, IsOpeningOver}
 use Rattle.im_calls.specs.Sessions.{IsClosing, IsForLoad, IsForStep, IsServed, standing}
 
@@ -44,8 +45,9 @@ file_ghosts = mirrored.ghosts (renamed_row files_row) (renamed_row disk_row) own
 -- All that `open` promises: of the opening and what it is told, and of the store before and after.
 pub record Opens (asked told : Opening) (was now : Session) : Type 0 where
   pub question : AsksTheSame asked told
-  pub opening : was.store ≡ None → IsOpeningOver file_ghosts asked told now.store
+  pub opening : was.store ≡ None → IsOpeningOver file_ghosts asked told (AreOpened asked) now.store
   pub twice : IfSome was.store (λ opened. (told.fault ≡ 10) × (now.store ≡ Some opened))
+  pub apart : now.load ≡ was.load
 
 -- All that `made` promises: of the question and what it is told, and of the store before and after.
 pub record Makes (asked told : Call) (was now : Session) : Type 0 where
@@ -55,9 +57,11 @@ pub record Makes (asked told : Call) (was now : Session) : Type 0 where
   pub stat : IfSome was.store (λ opened. asked.step ≡ 13 → TellsWord told 14 6 × (now.store ≡ Some opened))
   pub shown : IfSome was.store (λ opened. asked.step ≡ 13 → Shows told (numbers_bytes (standing file_ghosts opened.store.engine)))
   pub left : IfSome was.store (λ opened. asked.step ≡ 15 → IsClosing file_ghosts told opened.store)
-  pub begun : IfSome was.store (λ opened. asked.step ≡ 18 → IsSomeAnd now.store (IsBegunOver own_ghosts copy_ghosts file_ghosts asked told opened))
+  pub begun : IfSome was.store (λ opened. asked.step ≡ 18 → IsSomeAnd now.store (IsBegunOver own_ghosts copy_ghosts file_ghosts (copy_files asked) asked told opened))
   pub copied : IfSome was.store (λ opened. asked.step ≡ 19 → IsSomeAnd now.store (λ left. IsPieceMade own_ghosts copy_ghosts file_ghosts told opened.store left.store))
   pub whole : IfSome was.store (λ opened. asked.step ≡ 20 → IsSomeAnd now.store (λ left. IsCopyEnded own_ghosts copy_ghosts file_ghosts told opened.store left.store))
   pub served : IfSome was.store (λ opened. IsForStep asked.step → IsServed file_ghosts asked told opened now.store)
-  pub loads : was.store ≡ None → IsForLoad asked.step → Loads caller.ghosts asked told was.load now.load
+  pub loads : IsForLoad asked.step → Loads caller.ghosts (was.store ≡ None) (IsLoadBegunOver caller.ghosts (load_files asked) asked told) asked told was.load now.load
   pub beside : IsForLoad asked.step → now.store ≡ was.store
+  pub apart : (IsForLoad asked.step → ⊥) → asked.step ≢ 15 → now.load ≡ was.load
+  pub over : asked.step ≡ 15 → now.load ≡ None

@@ -46,7 +46,7 @@ module _ {D : Type 0} (d : Ghosts D) (asked told : Opening) where
   IsOpening disk None = (fault : Fault) × (told.fault ≡ number_of fault) × RefusesOpening asked fault
   IsOpening disk (Some opened) = (told.fault ≡ 0) × IsOpenedOn d asked disk opened.store
 
-  -- And of one over the descriptors that are asked: a number that no descriptor has is answered as a device that fails.
-  pub record IsOpeningOver (result : Option (Opened D d)) : Type 0 where
+  -- And of one over the descriptors that are asked, whose files are these: a number that no descriptor has is answered as a device that fails.
+  pub record IsOpeningOver (Is : D → Type 0) (result : Option (Opened D d)) : Type 0 where
     pub none : (2 ^ 31 ≤ asked.ask) ⊎ (2 ^ 31 ≤ asked.answer) → (told.fault ≡ 8) × (result ≡ None)
-    pub opening : asked.ask < 2 ^ 31 → asked.answer < 2 ^ 31 → (disk : D) × (d.failed disk ≡ false) × IsOpening disk result
+    pub opening : asked.ask < 2 ^ 31 → asked.answer < 2 ^ 31 → (disk : D) × Is disk × IsOpening disk result

@@ -1,5 +1,5 @@
 -- What a store that is open makes of a call.
-use Rattle.std.specs.Prelude.{◌≡◌, ◌≢◌, ◌⊎◌, ◌<◌, ◌∷◌, [], ℕ, List, Option, None, Some, Result, Ok, Err, if◌then◌else◌}
+use Rattle.std.specs.Prelude.{◌≡◌, ◌≢◌, ◌⊎◌, ◌<◌, ◌≤◌, ◌∷◌, [], ℕ, List, Option, None, Some, Result, Ok, Err, if◌then◌else◌}
 use Rattle.im_base_types.specs.declared.fault.Fault.{Fault}
 use Rattle.im_base_types.specs.Faults.{number_of}
 use Rattle.im_base_disk.specs.declared.disk.Disk.{Ghosts}
@@ -17,6 +17,10 @@ use Rattle.im_calls.specs.declared.opened.Opened.{Opened}
 -- a number that is for a step: it asks neither how the store stands, nor an end, nor for a copy or a load
 abbrev pub IsForStep : ℕ → Type 0
 IsForStep step = (step ≢ 13) × (step ≢ 15) × (step ≢ 18) × (step ≢ 19) × (step ≢ 20) × (step ≢ 21) × (step ≢ 22) × (step ≢ 23)
+
+-- a number that is for a step by a key
+abbrev pub IsForKey : ℕ → Type 0
+IsForKey step = ((1 ≤ step) × (step ≤ 6)) ⊎ (step ≡ 17)
 
 -- a number that is for a load
 abbrev pub IsForLoad : ℕ → Type 0
@@ -40,10 +44,10 @@ module _ {D : Type 0} (d : Ghosts D) (asked told : Call) where
     pub made : IsStepKept d step reply old new
     pub tells : Tells told (told_by reply)
 
-  -- no step was made: there was no memory for it, or its number is that of none
+  -- no step was made: there was no memory for its key, or its number is that of none
   pub record IsNotMade (old new : OpenStore D d) : Type 0 where
     pub same : new ≡ old
-    pub tells : Refuses told 9 ⊎ (Refuses told 16 × (12 < asked.step) × (asked.step ≢ 16) × (asked.step ≢ 17) × (asked.step ≢ 24))
+    pub tells : (Refuses told 9 × IsForKey asked.step) ⊎ (Refuses told 16 × (12 < asked.step) × (asked.step ≢ 16) × (asked.step ≢ 17) × (asked.step ≢ 24))
 
   -- what becomes of a call
   abbrev pub Serves : OpenStore D d → OpenStore D d → Type 0

@@ -1,10 +1,12 @@
 //! A store that may be open.
 
-ghost use Rattle.std.specs.Prelude.{◌≡◌, ◌⊎◌, ◌<◌, ◌≤◌, ◌^◌, false, None, IfSome};
+ghost use Rattle.std.specs.Prelude.{◌≡◌, ◌≢◌, ◌⊎◌, ◌<◌, ◌≤◌, ◌^◌, true, false, pos, None, IfSome};
 ghost use Rattle.std.specs.Option.{IsSomeAnd};
+ghost use Rattle.im_files_caller_disk.specs.Disks.{disk_over};
 ghost use Rattle.im_calls.specs.Copies.{IsBegunOver, IsCopyEnded, IsPieceMade};
 ghost use Rattle.im_calls.specs.Calls.{IsAnswered, Refuses, TellsWord, Shows, numbers_bytes};
 ghost use Rattle.im_calls.specs.Loads.{IsLoadBegunOver, IsLoadEnded, IsPut, Loads};
+ghost use Rattle.im_calls.specs.Named.{AreOpened, copy_files, load_files};
 ghost use Rattle.im_calls.specs.Openings.{AsksTheSame, IsOpeningOver};
 ghost use Rattle.im_calls.specs.Sessions.{IsClosing, IsForLoad, IsServed, IsForStep, standing};
 
@@ -50,7 +52,7 @@ pub struct Session {
 
 /// A store that is not open.
 pub fn blank(alloc: Global) -> Session
-    ensures { result.store ≡ None }
+    ensures { (result.store ≡ None) × (result.load ≡ None) }
 {
     Session {
         alloc,
@@ -63,8 +65,9 @@ pub fn blank(alloc: Global) -> Session
 /// `Failed`.
 pub fn open(session: &mut Session, asked: &mut Opening)
     ensures question { AsksTheSame asked.old asked.new }
-    ensures opening { session.old.store ≡ None → IsOpeningOver ⟦<Files as Disk>⟧ asked.old asked.new session.new.store }
+    ensures opening { session.old.store ≡ None → IsOpeningOver ⟦<Files as Disk>⟧ asked.old asked.new (AreOpened asked.old) session.new.store }
     ensures twice { IfSome session.old.store (λ opened. (asked.new.fault ≡ 10) × (session.new.store ≡ Some opened)) }
+    ensures apart { session.new.load ≡ session.old.load }
 {
     if session.store.is_some() {
         asked.refuse(Fault::Failed);
@@ -75,7 +78,7 @@ pub fn open(session: &mut Session, asked: &mut Opening)
 
 fn opened(alloc: Global, asked: &mut Opening) -> Option<Opened<Files>>
     ensures question { AsksTheSame asked.old asked.new }
-    ensures opening { IsOpeningOver ⟦<Files as Disk>⟧ asked.old asked.new result }
+    ensures opening { IsOpeningOver ⟦<Files as Disk>⟧ asked.old asked.new (AreOpened asked.old) result }
 {
     let Some(disk) = disk_of(asked.ask, asked.answer, false) else {
         asked.refuse(Fault::Device);
@@ -87,7 +90,7 @@ fn opened(alloc: Global, asked: &mut Opening) -> Option<Opened<Files>>
 
 // The disk over two descriptors, the one to ask and the one to be answered, for the files of the store or for those of a copy.
 fn disk_of(ask: u32, answer: u32, is_copy: bool) -> Option<CallerDisk>
-    ensures some { IfSome result (λ disk. (ask < 2 ^ 31) × (answer < 2 ^ 31) × (⟦<CallerDisk as Disk>⟧.failed disk ≡ false)) }
+    ensures some { IfSome result (λ disk. (ask < 2 ^ 31) × (answer < 2 ^ 31) × (disk ≡ disk_over (pos ask) (pos answer) is_copy)) }
     ensures none { result ≡ None → (2 ^ 31 ≤ ask) ⊎ (2 ^ 31 ≤ answer) }
 {
     let (Ok(ask), Ok(answer)) = (i32::try_from(ask), i32::try_from(answer)) else {
@@ -105,12 +108,14 @@ pub fn made(session: &mut Session, call: &mut Call)
     ensures stat { IfSome session.old.store (λ opened. call.old.step ≡ 13 → TellsWord call.new 14 6 × (session.new.store ≡ Some opened)) }
     ensures shown { IfSome session.old.store (λ opened. call.old.step ≡ 13 → Shows call.new (numbers_bytes (standing ⟦<Files as Disk>⟧ opened.store.engine))) }
     ensures left { IfSome session.old.store (λ opened. call.old.step ≡ 15 → IsClosing ⟦<Files as Disk>⟧ call.new opened.store) }
-    ensures begun { IfSome session.old.store (λ opened. call.old.step ≡ 18 → IsSomeAnd session.new.store (IsBegunOver ⟦<Renamed<CallerFiles> as Disk>⟧ ⟦<Renamed<CallerDisk> as Disk>⟧ ⟦<Files as Disk>⟧ call.old call.new opened)) }
+    ensures begun { IfSome session.old.store (λ opened. call.old.step ≡ 18 → IsSomeAnd session.new.store (IsBegunOver ⟦<Renamed<CallerFiles> as Disk>⟧ ⟦<Renamed<CallerDisk> as Disk>⟧ ⟦<Files as Disk>⟧ (copy_files call.old) call.old call.new opened)) }
     ensures copied { IfSome session.old.store (λ opened. call.old.step ≡ 19 → IsSomeAnd session.new.store (λ now. IsPieceMade ⟦<Renamed<CallerFiles> as Disk>⟧ ⟦<Renamed<CallerDisk> as Disk>⟧ ⟦<Files as Disk>⟧ call.new opened.store now.store)) }
     ensures whole { IfSome session.old.store (λ opened. call.old.step ≡ 20 → IsSomeAnd session.new.store (λ now. IsCopyEnded ⟦<Renamed<CallerFiles> as Disk>⟧ ⟦<Renamed<CallerDisk> as Disk>⟧ ⟦<Files as Disk>⟧ call.new opened.store now.store)) }
     ensures served { IfSome session.old.store (λ opened. IsForStep call.old.step → IsServed ⟦<Files as Disk>⟧ call.old call.new opened session.new.store) }
-    ensures loads { session.old.store ≡ None → IsForLoad call.old.step → Loads ⟦<CallerDisk as Disk>⟧ call.old call.new session.old.load session.new.load }
+    ensures loads { IsForLoad call.old.step → Loads ⟦<CallerDisk as Disk>⟧ (session.old.store ≡ None) (IsLoadBegunOver ⟦<CallerDisk as Disk>⟧ (load_files call.old) call.old call.new) call.old call.new session.old.load session.new.load }
     ensures beside { IsForLoad call.old.step → session.new.store ≡ session.old.store }
+    ensures apart { (IsForLoad call.old.step → ⊥) → call.old.step ≢ 15 → session.new.load ≡ session.old.load }
+    ensures over { call.old.step ≡ 15 → session.new.load ≡ None }
 {
     match call.step {
         CLOSE => close(session, call),
@@ -128,7 +133,7 @@ pub fn made(session: &mut Session, call: &mut Call)
 fn close(session: &mut Session, call: &mut Call)
     ensures question { IsAnswered call.old call.new }
     ensures closed { session.old.store ≡ None → Refuses call.new 10 }
-    ensures ended { session.new.store ≡ None }
+    ensures ended { (session.new.store ≡ None) × (session.new.load ≡ None) }
     ensures left { IfSome session.old.store (λ opened. IsClosing ⟦<Files as Disk>⟧ call.new opened.store) }
 {
     session.load = None;
@@ -154,6 +159,7 @@ fn step(session: &mut Session, call: &mut Call)
     ensures question { IsAnswered call.old call.new }
     ensures closed { session.old.store ≡ None → Refuses call.new 10 × (session.new.store ≡ None) }
     ensures served { IfSome session.old.store (λ opened. IsServed ⟦<Files as Disk>⟧ call.old call.new opened session.new.store) }
+    ensures apart { session.new.load ≡ session.old.load }
 {
     match &mut session.store {
         Some(store) => store.step(session.alloc, call),
@@ -165,7 +171,8 @@ fn step(session: &mut Session, call: &mut Call)
 fn begin_copy(session: &mut Session, call: &mut Call)
     ensures question { IsAnswered call.old call.new }
     ensures closed { session.old.store ≡ None → Refuses call.new 10 × (session.new.store ≡ None) }
-    ensures begun { IfSome session.old.store (λ opened. IsSomeAnd session.new.store (IsBegunOver ⟦<Renamed<CallerFiles> as Disk>⟧ ⟦<Renamed<CallerDisk> as Disk>⟧ ⟦<Files as Disk>⟧ call.old call.new opened)) }
+    ensures begun { IfSome session.old.store (λ opened. IsSomeAnd session.new.store (IsBegunOver ⟦<Renamed<CallerFiles> as Disk>⟧ ⟦<Renamed<CallerDisk> as Disk>⟧ ⟦<Files as Disk>⟧ (copy_files call.old) call.old call.new opened)) }
+    ensures apart { session.new.load ≡ session.old.load }
 {
     let Some(store) = &mut session.store else {
         refuse(call, Fault::Failed);
@@ -181,6 +188,7 @@ fn copy_piece(session: &mut Session, call: &mut Call)
     ensures question { IsAnswered call.old call.new }
     ensures closed { session.old.store ≡ None → Refuses call.new 10 × (session.new.store ≡ None) }
     ensures made { IfSome session.old.store (λ opened. IsSomeAnd session.new.store (λ now. IsPieceMade ⟦<Renamed<CallerFiles> as Disk>⟧ ⟦<Renamed<CallerDisk> as Disk>⟧ ⟦<Files as Disk>⟧ call.new opened.store now.store)) }
+    ensures apart { session.new.load ≡ session.old.load }
 {
     match &mut session.store {
         Some(store) => store.copy_piece(call),
@@ -192,6 +200,7 @@ fn end_copy(session: &mut Session, call: &mut Call)
     ensures question { IsAnswered call.old call.new }
     ensures closed { session.old.store ≡ None → Refuses call.new 10 × (session.new.store ≡ None) }
     ensures ended { IfSome session.old.store (λ opened. IsSomeAnd session.new.store (λ now. IsCopyEnded ⟦<Renamed<CallerFiles> as Disk>⟧ ⟦<Renamed<CallerDisk> as Disk>⟧ ⟦<Files as Disk>⟧ call.new opened.store now.store)) }
+    ensures apart { session.new.load ≡ session.old.load }
 {
     match &mut session.store {
         Some(store) => store.end_copy(call),
@@ -203,7 +212,8 @@ fn end_copy(session: &mut Session, call: &mut Call)
 fn begin_load(session: &mut Session, call: &mut Call)
     ensures question { IsAnswered call.old call.new }
     ensures beside { session.new.store ≡ session.old.store }
-    ensures begun { session.old.store ≡ None → IsLoadBegunOver ⟦<CallerDisk as Disk>⟧ call.old call.new session.new.load }
+    ensures begun { session.old.store ≡ None → IsLoadBegunOver ⟦<CallerDisk as Disk>⟧ (load_files call.old) call.old call.new session.new.load }
+    ensures barred { (session.old.store ≡ None → ⊥) → Refuses call.new 10 × (session.new.load ≡ session.old.load) }
 {
     if session.store.is_some() {
         refuse(call, Fault::Failed);
@@ -214,7 +224,7 @@ fn begin_load(session: &mut Session, call: &mut Call)
 
 fn begun_load(alloc: Global, call: &mut Call) -> Option<Loading<CallerDisk>>
     ensures question { IsAnswered call.old call.new }
-    ensures begun { IsLoadBegunOver ⟦<CallerDisk as Disk>⟧ call.old call.new result }
+    ensures begun { IsLoadBegunOver ⟦<CallerDisk as Disk>⟧ (load_files call.old) call.old call.new result }
 {
     let Some(disk) = disk_of(call.key_len, call.hi_len, true) else {
         refuse(call, Fault::Device);
@@ -227,7 +237,8 @@ fn begun_load(alloc: Global, call: &mut Call) -> Option<Loading<CallerDisk>>
 fn put_load(session: &mut Session, call: &mut Call)
     ensures question { IsAnswered call.old call.new }
     ensures beside { session.new.store ≡ session.old.store }
-    ensures none { session.old.load ≡ None → Refuses call.new 10 }
+    ensures none { session.old.load ≡ None → Refuses call.new 10 × (session.new.load ≡ None) }
+    ensures lost { IfSome session.old.load (λ load. ⟦<CallerDisk as Disk>⟧.failed load.disk ≡ true → Refuses call.new 10 × (session.new.load ≡ None)) }
     ensures put { IfSome session.old.load (λ load. ⟦<CallerDisk as Disk>⟧.failed load.disk ≡ false → IsPut ⟦<CallerDisk as Disk>⟧ call.old call.new load session.new.load) }
 {
     let Some(load) = session.load.take() else {
@@ -244,7 +255,8 @@ fn put_load(session: &mut Session, call: &mut Call)
 fn end_load(session: &mut Session, call: &mut Call)
     ensures question { IsAnswered call.old call.new }
     ensures beside { session.new.store ≡ session.old.store }
-    ensures none { session.old.load ≡ None → Refuses call.new 10 }
+    ensures none { session.old.load ≡ None → Refuses call.new 10 × (session.new.load ≡ None) }
+    ensures lost { IfSome session.old.load (λ load. ⟦<CallerDisk as Disk>⟧.failed load.disk ≡ true → Refuses call.new 10 × (session.new.load ≡ None)) }
     ensures ended { session.new.load ≡ None }
     ensures left { IfSome session.old.load (λ load. ⟦<CallerDisk as Disk>⟧.failed load.disk ≡ false → (disk : CallerDisk) × IsLoadEnded ⟦<CallerDisk as Disk>⟧ call.new load disk) }
 {

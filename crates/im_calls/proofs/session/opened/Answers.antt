@@ -1,12 +1,10 @@
-use Rattle.std.proofs.Common.{◌⊎◌, inl, inr, ◌<◌, ◌≤◌, ◌^◌, ℕ, arith}
+use Rattle.im_calls.proofs.Named.{are_opened, within}
 use Rattle.im_calls.proofs.session.opened.Goals as goal
-
--- numbers that descriptors have are no others
-within : {A : Type 0} (a b : ℕ) → a < 2 ^ 31 → b < 2 ^ 31 → (2 ^ 31 ≤ a) ⊎ (2 ^ 31 ≤ b) → A
-within a b low least (inl high) = absurd (omega (arith, low, high))
-within a b low least (inr high) = absurd (omega (arith, least, high))
 
 pub returns-clause-opening : goal.returns-clause-opening
 returns-clause-opening c =
     let some = c.in-Some.ensures.some in
-    record { none = λ high. within _ _ some.0 some.1 high; opening = λ _ _. (c.new-2.result, c.new-2.ensures.working, c.open.ensures.opening) }
+    record {
+      none = λ high. within _ _ some.0 some.1 high;
+      opening = λ _ _. (c.new-2.result, are_opened _ c.in-Some.disk _ _ c.new-2.result some.2 c.new-files.ensures.way c.new.ensures.disk c.new.ensures.swapped c.new-2.ensures.disk c.new-2.ensures.copy, c.open.ensures.opening);
+    }
