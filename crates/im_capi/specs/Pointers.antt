@@ -31,9 +31,9 @@ store_at p q = lies_at Pot full_share p q.0
 abbrev pub call_at : Ptr → Question → Fml
 call_at p q = lies_at Call full_share p q.1
 
--- a store that is not open
+-- a store that is not open, and no load
 abbrev pub blank_at : Ptr → Fml
-blank_at p = fex Pot.Denot (λ store. fex (store.store ≡ None) (λ _. lies_at Pot full_share p store))
+blank_at p = fex Pot.Denot (λ store. fex ((store.store ≡ None) × (store.load ≡ None)) (λ _. lies_at Pot full_share p store))
 
 -- what `made` leaves of them: the store, and what the question is told
 abbrev pub made_at : Ptr → Ptr → Question → Fml

@@ -42,15 +42,15 @@ im_init_spec 𝓤 𝓛 𝓜 𝓡 wired =
     let z : G.Ghost = ((tt, tt, tt, (a.0, tt), (vals a.0, tt)), tt) in
     nothing ! $ move ! (1 ∷ 0 ∷ []) $ join ! $ nothing ! $ join ! $ nothing ! $ move ! (1 ∷ 0 ∷ []) $ use2 𝓛 (raw (G.pre z)) (id⊢ 𝓤 _) $
     calls_at ! (framed 𝓤 𝓛.H 𝓜 𝓣) G (met 𝓤 𝓛 𝓜 𝓡 (code.calls-im_calls::session::blank 𝓡.env wired)) z (and_then ! (get ! refl) (no_more !)) (λ v.
-    use1 𝓛 (later (some (λ (r : P.Denot). (‵ ftrue ⊛ ‵ (P.own_val r (v ∷ []))) ⊛ some (λ (ws : Unit {0} × Unit {0}). ‵ (lasts g.ended z.0.0 z.0.3 ws) ⊛ raw (fact 𝓤 (r.store ≡ None)))))) (id⊢ 𝓤 _) $
-    await ! tt $ pick ! (λ r. split ! $ split ! $ drop ! $ move ! (1 ∷ []) $ pick ! (λ ws. split ! $ drop ! $ heard ! (r.store ≡ None) (λ is_blank.
+    use1 𝓛 (later (some (λ (r : P.Denot). (‵ ftrue ⊛ ‵ (P.own_val r (v ∷ []))) ⊛ some (λ (ws : Unit {0} × Unit {0}). ‵ (lasts g.ended z.0.0 z.0.3 ws) ⊛ raw (fact 𝓤 ((r.store ≡ None) × (r.load ≡ None))))))) (id⊢ 𝓤 _) $
+    await ! tt $ pick ! (λ r. split ! $ split ! $ drop ! $ move ! (1 ∷ []) $ pick ! (λ ws. split ! $ drop ! $ heard ! ((r.store ≡ None) × (r.load ≡ None)) (λ is_blank.
     -- [what the store owns; the room]
     peeks ! P (Is P) (shows 𝓛 P) r (v ∷ []) (λ is. let good = ((loose_lawful P'.the_type pot.the_loose 𝓛).typed r _ is).0 in
     lands_as ! refl refl good $
     assigns ! (of_opd ! (get ! refl)) (through ! refl (stop !)) (init ! 1 refl good) $
     sets ! (of_opd ! (unit_lit !)) refl (tt, tt) $ returns ! (look_at ! 0 refl) $ free_all ! refl $ move ! (1 ∷ 0 ∷ []) $
     use2 𝓛 (‵ (lies_at P full_share (block_ptr b o) r)) (part_in 𝓛 P refl full_share r b o v) $ keep ! (0 ∷ []) $
-    fpack ! (r.store ≡ None) (λ _. lies_at P full_share (block_ptr b o) r) is_blank $
-    fpack ! P.Denot (λ x. fex (x.store ≡ None) (λ _. lies_at P full_share (block_ptr b o) x)) r $
+    fpack ! ((r.store ≡ None) × (r.load ≡ None)) (λ _. lies_at P full_share (block_ptr b o) r) is_blank $
+    fpack ! P.Denot (λ x. fex ((x.store ≡ None) × (x.load ≡ None)) (λ _. lies_at P full_share (block_ptr b o) x)) r $
     suffices ! _ (ends_at 𝓛 f.ended stayed c (y (block_ptr b o)) vunit tt (tt, (tt, tt)) (tt, (tt, tt))) $
     feq_i ! _ (vunit ∷ []) _ refl $ nothing ! $ nothing ! $ join ! $ nothing ! $ join ! $ nothing ! $ group ! 3 $ done !))))))))

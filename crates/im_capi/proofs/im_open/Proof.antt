@@ -53,20 +53,20 @@ im_open_spec 𝓤 𝓛 𝓜 𝓡 wired =
     calls_at ! (framed 𝓤 𝓛.H 𝓜 𝓣) G (met 𝓤 𝓛 𝓜 𝓡 (code.calls-im_calls::session::open 𝓡.env wired)) z
     (and_then ! (get ! refl) (and_then ! (get ! refl) (no_more !))) (λ v.
     use1 𝓛 (later (some (λ (u : Unit {0}). ((‵ (flft (α ∷ []) full_share) ⊛ ‵ (flft (β ∷ []) full_share) ⊛ ‵ ftrue) ⊛ ‵ (unit.own_val u (v ∷ []))) ⊛
-    some (λ (ws : P.Denot × (K.Denot × Unit {0})). ‵ (lasts g.ended z.0.0 z.0.3 ws) ⊛ (raw (fact 𝓤 _) ⊛ raw (fact 𝓤 _) ⊛ raw (fact 𝓤 _)))))) (id⊢ 𝓤 _) $
+    some (λ (ws : P.Denot × (K.Denot × Unit {0})). ‵ (lasts g.ended z.0.0 z.0.3 ws) ⊛ (raw (fact 𝓤 _) ⊛ raw (fact 𝓤 _) ⊛ raw (fact 𝓤 _) ⊛ raw (fact 𝓤 _)))))) (id⊢ 𝓤 _) $
     await ! tt $ pick ! (λ u. split ! $ split ! $ split ! $ lft_end ! tt $ move ! (1 ∷ []) $ split ! $ lft_end ! tt $
     move ! (3 ∷ []) $ feq_l ! (λ is_unit. lands_as ! (ap only is_unit) refl (tt, tt) $
     -- [the opening's lifetime is over; nothing; the store's is; the last values; what is lent of the store; and of the opening]
     move ! (3 ∷ []) $ pick ! (λ ws. split ! $ move ! (1 ∷ []) $
-    split ! $ heard ! _ (λ f0. split ! $ heard ! _ (λ f1. heard ! _ (λ f2.
+    split ! $ heard ! _ (λ f0. split ! $ heard ! _ (λ f1. split ! $ heard ! _ (λ f2. heard ! _ (λ f3.
     nothing ! $ move ! (1 ∷ []) $ fsplit ! $ fsplit ! $ move ! (2 ∷ []) $ fsplit ! $ fsplit ! $
     move ! (6 ∷ 10 ∷ 0 ∷ []) $ use3 𝓛 (later (‵ (lies_at K full_share (block_ptr b' o') ws.1.0))) (ref_back 𝓛 K (β ∷ []) δ' ws.1.0 b' o') $ await ! tt $
     move ! (7 ∷ 8 ∷ 3 ∷ []) $ use3 𝓛 (later (‵ (lies_at P full_share (block_ptr b o) ws.0))) (ref_back 𝓛 P (α ∷ []) δ ws.0 b o) $ await ! tt $
     sets ! (of_opd ! (unit_lit !)) refl (tt, tt) $ returns ! (look_at ! 0 refl) $ free_all ! refl $ keep ! (0 ∷ 1 ∷ []) $
     let left : P.Denot = ws.0 in let told : K.Denot = ws.1.0 in
     fjoin ! $
-    fpack ! (Opens asked told store left) (λ _. fsep (lies_at P full_share (block_ptr b o) left) (lies_at K full_share (block_ptr b' o') told)) (record { question = f0; opening = f1; twice = f2 }) $
+    fpack ! (Opens asked told store left) (λ _. fsep (lies_at P full_share (block_ptr b o) left) (lies_at K full_share (block_ptr b' o') told)) (record { question = f0; opening = f1; twice = f2; apart = f3 }) $
     fpack ! K.Denot (λ c. fex (Opens asked c store left) (λ _. fsep (lies_at P full_share (block_ptr b o) left) (lies_at K full_share (block_ptr b' o') c))) told $
     fpack ! P.Denot (λ s. fex K.Denot (λ c. fex (Opens asked c store s) (λ _. fsep (lies_at P full_share (block_ptr b o) s) (lies_at K full_share (block_ptr b' o') c)))) left $
     suffices ! _ (ends_at 𝓛 f.ended stayed c (y (block_ptr b o) (block_ptr b' o')) vunit tt (tt, (tt, tt)) (tt, (tt, tt))) $
-    feq_i ! _ (vunit ∷ []) _ refl $ nothing ! $ nothing ! $ join ! $ nothing ! $ join ! $ nothing ! $ group ! 3 $ done !)))))))))))))))
+    feq_i ! _ (vunit ∷ []) _ refl $ nothing ! $ nothing ! $ join ! $ nothing ! $ join ! $ nothing ! $ group ! 3 $ done !))))))))))))))))
