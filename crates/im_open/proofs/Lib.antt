@@ -1,2 +1,3 @@
 mod Engines
+mod InFolders
 mod Still

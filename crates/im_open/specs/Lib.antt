@@ -1,3 +1,4 @@
+pub mod Folders
 pub mod Opened
 pub mod Closed
 pub mod Refusals

@@ -15,10 +15,11 @@ pub record AreUsual (b : Bounds) : Type 0 where
   pub log : b.log.bytes ≡ 67108864
   pub log_grows : b.log.grows ≡ true
 
-module _ {D : Type 0} (d : Ghosts D) where
-  -- It was opened as any store is, over a disk that worked. (What the files of a folder hold no contract can say.)
+module _ {D : Type 0} (d : Ghosts D) (from : D → Type 0) where
+  -- It was opened as any store is, over a disk that worked and came from there, with no call between.
   pub record IsOpenedHere (config : Config) (bounds : Bounds) (s : OpenStore D d) : Type 0 where
     pub disk : D
+    pub handed : from disk
     pub works : d.failed disk ≡ false
     pub opened : IsOpenedStore d config bounds disk (Ok s)
 

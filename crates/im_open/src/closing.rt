@@ -1,10 +1,9 @@
 //! How the store of a folder is closed.
 
-ghost use Rattle.std.specs.Prelude.{◌≡◌, IfErr};
-ghost use Rattle.im_base_types.specs.declared.fault.Fault.TheVariants.{Device};
 ghost use Rattle.im_open.specs.Closed.{IsClosedHere};
 
-use crate::open_folder::Files;
+use crate::folder::Folder;
+use crate::open_folder::FilesOf;
 use im_base_disk::Disk;
 use im_base_types::Fault;
 use im_store::OpenStore;
@@ -13,23 +12,12 @@ use im_store::OpenStore;
 /// its end. With nothing active, and a bound of the log, 65,536 bytes of each are left at most. A copy that is under way is let go. What was committed is kept, refused or not.
 ///
 /// Refused as `OpenStore::close` is: then nothing is cut. Else `Device` where a log was not cut: each is as long as it was then, or cut.
-pub fn close(store: OpenStore<Files>) -> Result<(), Fault>
-    ensures { IsClosedHere ⟦<Files as Disk>⟧ store result }
+pub fn close<F: Folder>(store: OpenStore<FilesOf<F>>) -> Result<(), Fault>
+    ensures { IsClosedHere ⟦<FilesOf<F> as Disk>⟧ (λ left. F.cuts left.disk.disk) store result }
 {
     let (closed, disk) = store.close();
     match closed {
-        Ok(()) => give_back(disk),
-        Err(fault) => Err(fault),
-    }
-}
-
-// Gives back the room of the logs of the store of these files.
-fn give_back(files: Files) -> Result<(), Fault>
-    ensures { IfErr result (λ e. e ≡ Device) }
-{
-    let mut disk = files.into_disk().into_disk();
-    match disk.cut_logs() {
-        Ok(_bytes) => Ok(()),
+        Ok(()) => disk.into_disk().into_disk().cut_and_end(),
         Err(fault) => Err(fault),
     }
 }

@@ -1,15 +1,18 @@
 //! A copy of a store that is open, in a folder of its own.
 
-ghost use Rattle.std.specs.Prelude.{◌≡◌, OnOk, IfErr};
-ghost use Rattle.im_open.specs.Copied.{HasBegun, HasEnded, IsNotCopied, OnlyItsDisk};
+ghost use Rattle.std.specs.Prelude.{◌≡◌, length, Err, IfErr, IfSome, OnOk};
+ghost use Rattle.im_open.specs.Copied.{HasBegun, HasEnded, IsCopiedHere, IsNotBegun, IsNotCopied, IsNotEnded, OnlyItsDisk, WasCopied, WasPieceRefused};
+ghost use Rattle.im_open.specs.Folders.{HasNames, IsNamed};
 
-use crate::open_folder::Files;
+use crate::folder::Folder;
+use crate::open_folder::FilesOf;
 use im_base_disk::Disk;
 use im_base_mirror_disk::Piece;
 use im_base_two_logs::Renamed;
 use im_base_types::Fault;
-use im_files_disk::{FileDisk, OpenError};
+use im_files_disk::OpenError;
 use im_store::OpenStore;
+use std::alloc::Global;
 use thiserror::Error;
 
 /// So many bytes are copied at once.
@@ -34,39 +37,49 @@ pub enum NotCopied {
 
 /// Copies a store into a folder that is not there, or is empty: each commit that was acknowledged is in the copy, of the others a front, each whole. Steps are made
 /// between no pieces of it; `begin_copy`, `OpenStore::copy_piece` and `end_copy` are for who makes some.
-pub fn copy(rt: &HostRuntime, store: &mut OpenStore<Files>, folder: &str) -> Result<(), NotCopied>
-    ensures only { OnlyItsDisk ⟦<Files as Disk>⟧ store.old store.new }
-    ensures ended { OnOk result (HasEnded ⟦<Renamed<FileDisk> as Disk>⟧ ⟦<Renamed<FileDisk> as Disk>⟧ ⟦<Files as Disk>⟧ store.new.engine) }
-    ensures refused { IfErr result (IsNotCopied ⟦<Renamed<FileDisk> as Disk>⟧ ⟦<Renamed<FileDisk> as Disk>⟧ ⟦<Files as Disk>⟧ store.new.engine) }
+pub fn copy<F: Folder>(
+    rt: &HostRuntime,
+    store: &mut OpenStore<FilesOf<F>>,
+    folder: &str,
+) -> Result<(), NotCopied>
+    ensures only { OnlyItsDisk ⟦<FilesOf<F> as Disk>⟧ store.old store.new }
+    ensures copied { OnOk result (IsCopiedHere ⟦<Renamed<F> as Disk>⟧ ⟦<Renamed<F> as Disk>⟧ ⟦<FilesOf<F> as Disk>⟧ (IsNamed F.makes folder.now) (HasNames F.names folder.now) store.old.engine store.new.engine) }
+    ensures refused { IfErr result (IsNotCopied ⟦<Renamed<F> as Disk>⟧ ⟦<Renamed<F> as Disk>⟧ ⟦<FilesOf<F> as Disk>⟧ (IsNamed F.makes folder.now) (λ error. F.makes folder.now (Err error)) (λ to error. F.names folder.now to.disk (Err error)) store.old.engine store.new.engine) }
 {
     if let Err(error) = begin_copy(rt, store, folder) {
         return Err(error);
     }
-    let Ok(mut room) = vec![in rt.alloc(); 0; PIECE] else {
+    let Some(mut room) = room_in(rt.alloc()) else {
         return Err(NotCopied::Memory);
     };
-    for _ in 0..u64::MAX {
-        match store.copy_piece(&mut room) {
-            Ok(Piece::More) => {}
-            Ok(_) => break,
-            Err(fault) => return Err(NotCopied::Store(fault)),
-        }
+    if let Err(fault) = copy_pieces(store, &mut room) {
+        return Err(NotCopied::Store(fault));
     }
     end_copy(rt, store, folder)
 }
 
+// Room for a piece.
+fn room_in(alloc: Global) -> Option<Vec<u8>>
+    ensures { IfSome result (λ room. length room.items ≡ 262144) }
+{
+    match vec![in alloc; 0; PIECE] {
+        Ok(room) => Some(room),
+        Err(_) => None,
+    }
+}
+
 /// Makes the files of a copy in a folder that is not there, or is empty, and begins the copy. One that was under way is let go. Refused as `FileDisk::create_copy` is.
-pub fn begin_copy(
+pub fn begin_copy<F: Folder>(
     rt: &HostRuntime,
-    store: &mut OpenStore<Files>,
+    store: &mut OpenStore<FilesOf<F>>,
     folder: &str,
 ) -> Result<(), NotCopied>
-    ensures only { OnlyItsDisk ⟦<Files as Disk>⟧ store.old store.new }
-    ensures begun { OnOk result (HasBegun ⟦<Renamed<FileDisk> as Disk>⟧ ⟦<Renamed<FileDisk> as Disk>⟧ ⟦<Files as Disk>⟧ store.old.engine store.new.engine) }
+    ensures only { OnlyItsDisk ⟦<FilesOf<F> as Disk>⟧ store.old store.new }
+    ensures begun { OnOk result (HasBegun ⟦<Renamed<F> as Disk>⟧ ⟦<Renamed<F> as Disk>⟧ ⟦<FilesOf<F> as Disk>⟧ (IsNamed F.makes folder.now) store.old.engine store.new.engine) }
     ensures none { IfErr result (λ _. store.new ≡ store.old) }
-    ensures refused { IfErr result (IsNotCopied ⟦<Renamed<FileDisk> as Disk>⟧ ⟦<Renamed<FileDisk> as Disk>⟧ ⟦<Files as Disk>⟧ store.new.engine) }
+    ensures refused { IfErr result (IsNotBegun ⟦<Renamed<F> as Disk>⟧ ⟦<Renamed<F> as Disk>⟧ ⟦<FilesOf<F> as Disk>⟧ (λ error. F.makes folder.now (Err error))) }
 {
-    match FileDisk::create_copy(rt, folder) {
+    match F::make_in(rt, folder) {
         Ok(disk) => {
             store.begin_copy(Renamed::new(disk, false));
             Ok(())
@@ -75,18 +88,40 @@ pub fn begin_copy(
     }
 }
 
+/// Copies pieces of a copy that was begun, of as many bytes as there is room for, which should be some, until nothing is left. Steps are made between none.
+///
+/// Refused as `OpenStore::copy_piece` is.
+pub fn copy_pieces<F: Folder>(
+    store: &mut OpenStore<FilesOf<F>>,
+    room: &mut [u8],
+) -> Result<(), Fault>
+    ensures only { OnlyItsDisk ⟦<FilesOf<F> as Disk>⟧ store.old store.new }
+    ensures copied { OnOk result (WasCopied ⟦<Renamed<F> as Disk>⟧ ⟦<Renamed<F> as Disk>⟧ ⟦<FilesOf<F> as Disk>⟧ (length room.old) store.old.engine store.new.engine) }
+    ensures refused { IfErr result (WasPieceRefused ⟦<Renamed<F> as Disk>⟧ ⟦<Renamed<F> as Disk>⟧ ⟦<FilesOf<F> as Disk>⟧ (length room.old) store.old.engine store.new.engine) }
+{
+    for _count in 0..u64::MAX {
+        match store.copy_piece(room) {
+            Ok(Piece::More) => {}
+            Ok(Piece::Last) => return Ok(()),
+            Ok(Piece::None) => return Ok(()),
+            Err(fault) => return Err(fault),
+        }
+    }
+    Ok(())
+}
+
 /// Ends a copy that was begun into this folder, where nothing is left to be copied, as `OpenStore::copy_piece` says: brings its files to the disk, and gives them their names.
-pub fn end_copy(
+pub fn end_copy<F: Folder>(
     rt: &HostRuntime,
-    store: &mut OpenStore<Files>,
+    store: &mut OpenStore<FilesOf<F>>,
     folder: &str,
 ) -> Result<(), NotCopied>
-    ensures only { OnlyItsDisk ⟦<Files as Disk>⟧ store.old store.new }
-    ensures ended { OnOk result (HasEnded ⟦<Renamed<FileDisk> as Disk>⟧ ⟦<Renamed<FileDisk> as Disk>⟧ ⟦<Files as Disk>⟧ store.new.engine) }
-    ensures refused { IfErr result (IsNotCopied ⟦<Renamed<FileDisk> as Disk>⟧ ⟦<Renamed<FileDisk> as Disk>⟧ ⟦<Files as Disk>⟧ store.new.engine) }
+    ensures only { OnlyItsDisk ⟦<FilesOf<F> as Disk>⟧ store.old store.new }
+    ensures ended { OnOk result (HasEnded ⟦<Renamed<F> as Disk>⟧ ⟦<Renamed<F> as Disk>⟧ ⟦<FilesOf<F> as Disk>⟧ (HasNames F.names folder.now) store.old.engine store.new.engine) }
+    ensures refused { IfErr result (IsNotEnded ⟦<Renamed<F> as Disk>⟧ ⟦<Renamed<F> as Disk>⟧ ⟦<FilesOf<F> as Disk>⟧ (λ to error. F.names folder.now to.disk (Err error)) store.old.engine store.new.engine) }
 {
     match store.end_copy() {
-        Ok(Some(copy)) => match copy.into_disk().name_copy(rt, folder) {
+        Ok(Some(copy)) => match copy.into_disk().name_in(rt, folder) {
             Ok(_named) => Ok(()),
             Err(error) => Err(NotCopied::Files(error)),
         },
