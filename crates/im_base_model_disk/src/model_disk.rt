@@ -33,7 +33,7 @@ pub struct ModelDisk {
 }
 
 impl ModelDisk {
-    ghost use Rattle.im_base_model_disk.specs.Model.{IsFresh, IsArmed, file_of, armed_of, model_calls, model_stopped, model_stop, model_end};
+    ghost use Rattle.im_base_model_disk.specs.Model.{IsFresh, IsArmed, file_of, armed_of, model_calls, model_reads, model_stopped, model_stop, model_end};
     ghost use Rattle.im_base_model_disk.specs.Left.{IsLeft, IsLeftBy};
     ghost use Rattle.im_base_disk.specs.Runs.{IsSynced, Reads};
 
@@ -105,6 +105,13 @@ impl ModelDisk {
         ensures { result ≡ model_calls self.now }
     {
         self.plan.calls
+    }
+
+    /// The reads and length calls of this life so far, one that failed included.
+    pub fn reads(&self) -> u64
+        ensures { result ≡ model_reads self.now }
+    {
+        self.plan.reads
     }
 
     /// The greatest written end of a file, in bytes.
