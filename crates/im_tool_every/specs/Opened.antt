@@ -12,12 +12,20 @@ use Rattle.im_base_two_logs.specs.declared.renamed.Renamed.{Renamed}
 use Rattle.im_base_model_disk.specs.Model.{IsArmed, IsFresh, armed_of, file_of, model_calls, model_stop}
 use Rattle.im_engine.specs.declared.engine.Engine.{Engine}
 use Rattle.im_engine.specs.Kept.{disk_of}
+use Rattle.im_tool_lines.specs.declared.life_answers.Opening.{Opening}
+use Rattle.im_tool_lines.specs.declared.life_answers.Opening.TheVariants as openings
 use Rattle.im_tool_lines.specs.declared.store_life.LifeOptions.{LifeOptions}
 use Rattle.im_engine.specs.Listing.{IsListing}
 use Rattle.im_tool_drill.specs.StoreRuns.{IsByOwnNames, IsOpening}
 use Rattle.im_tool_judge.specs.declared.change.AskedEffect.{AskedEffect}
 use Rattle.im_tool_every.specs.declared.judged_opening.Judged.{Judged}
 use Rattle.im_tool_judge.specs.Judged.{IsGood, IsPassedOver}
+
+-- A life without a call that fails may begin so: it is open, its stop has come, or the refusal says nothing against the store.
+abbrev pub IsBegun : Opening → Type 0
+IsBegun (openings.Open calls) = Unit {0}
+IsBegun openings.Stopped = Unit {0}
+IsBegun (openings.Refused fault) = IsPassedOver fault
 
 module _ (d : Ghosts (Renamed ModelDisk)) where
   -- The engine was asked for its entries, and the verdict is that on its answer.

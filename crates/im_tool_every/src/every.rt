@@ -1,16 +1,21 @@
 //! Every stop of a life, and every stop of the openings after it.
 
-ghost use Rattle.std.specs.Prelude.{◌≡◌, false, IfOk};
+ghost use Rattle.std.specs.Prelude.{◌≡◌, false, [], IfOk};
 ghost use Rattle.im_base_disk.specs.Runs.{IsSynced};
-ghost use Rattle.im_tool_every.specs.Counted.{IsCounted, IsJudgedIn};
+ghost use Rattle.im_base_disk.specs.Disk.{three};
+ghost use Rattle.im_base_model_disk.specs.Model.{IsFresh};
+ghost use Rattle.im_tool_every.specs.Counted.{counted, one_stop, one_restart, AreCalls, IsAtEnd, IsJudgedIn};
+ghost use Rattle.im_tool_every.specs.Failing.{with_later};
+ghost use Rattle.im_tool_every.specs.Stopped.{IsLeftIn, IsStoppedIn, IsStoppedOn};
+ghost use Rattle.im_tool_every.specs.Swept.{AreRestarts, AreRestartsAt, AreStopsAt, IsEveryRestart, IsEveryStop, IsLifeStopped, IsRestart, IsSameLife};
 
 use crate::guards::is_taken;
-use crate::judged_opening::{judge_opening, left_by, stop_opening};
+use crate::judged_opening::{is_begun, judge_opening, left_by, stop_opening};
 use crate::start::Start;
 use crate::torn_disk::torn;
-use crate::ways::{Stops, Way, stop_at};
+use crate::ways::{END, Stops, Way, stop_at, written_at};
 use im_base_disk::Disk;
-use im_base_model_disk::{Fill, ModelDisk, Stop};
+use im_base_model_disk::{ModelDisk, Stop};
 use im_base_two_logs::Renamed;
 use im_engine::BufferSize;
 use im_tool_drill::run_store_life;
@@ -40,27 +45,72 @@ pub fn every_stop<P: Write, T: Threads + Sync>(
     buffer: BufferSize,
     stops: Stops,
     progress: &mut P,
-) -> Result<Counts, AllocError> {
+) -> Result<Counts, AllocError>
+    ensures { IfOk result (λ counts. IsEveryStop ⟦<ModelDisk as Disk>⟧ ⟦<Renamed<ModelDisk> as Disk>⟧ start.now life.old stops counts) }
+{
     life.stop = None;
-    let mut counts = Counts::default();
+    let mut counts = Counts::NONE;
     let disk = left_by(alloc, start.disk())?;
-    let (_, disk) = run_store_life(rt, alloc, disk, life, buffer)?;
+    let (told, disk) = run_store_life(rt, alloc, disk, life, buffer)?;
+    counts.count(is_begun(told.opening));
     let calls = disk.calls();
-    for i in 0..calls {
-        let call = i.wrapping_add(1);
-        stop_call(rt, alloc, start, life, buffer, call, stops, &mut counts)?;
-        let _ = write!(progress, "\r{call} of {calls} device calls");
-    }
+    stop_calls(
+        rt,
+        alloc,
+        start,
+        life,
+        buffer,
+        calls,
+        stops,
+        &mut counts,
+        progress,
+    )?;
     let _ = writeln!(progress);
-    if stops.has_end() {
-        stop_call(rt, alloc, start, life, buffer, END, stops, &mut counts)?;
-    }
+    stop_end(rt, alloc, start, life, buffer, stops, &mut counts)?;
     life.stop = None;
     Ok(counts)
 }
 
-// No call has this number, so that a stop within it comes at the end.
-const END: u64 = 0;
+// Stops a life within each of its first so many device calls.
+fn stop_calls<P: Write, T: Threads + Sync>(
+    rt: &T,
+    alloc: Global,
+    start: &Start,
+    life: &mut StoreLife,
+    buffer: BufferSize,
+    calls: u64,
+    stops: Stops,
+    counts: &mut Counts,
+    progress: &mut P,
+) -> Result<(), AllocError>
+    ensures stops { IfOk result (λ _. AreCalls (AreStopsAt ⟦<ModelDisk as Disk>⟧ ⟦<Renamed<ModelDisk> as Disk>⟧ start.now life.old.options life.old.lines stops) calls counts.old counts.new) }
+    ensures life { IfOk result (λ _. IsSameLife life.old life.new) }
+{
+    for i in 0..calls {
+        let call = i + 1;
+        stop_call(rt, alloc, start, life, buffer, call, stops, counts)?;
+        let _ = write!(progress, "\r{call} of {calls} device calls");
+    }
+    Ok(())
+}
+
+// Stops it at its end, where that is such a place.
+fn stop_end<T: Threads + Sync>(
+    rt: &T,
+    alloc: Global,
+    start: &Start,
+    life: &mut StoreLife,
+    buffer: BufferSize,
+    stops: Stops,
+    counts: &mut Counts,
+) -> Result<(), AllocError>
+    ensures { IfOk result (λ _. IsAtEnd (AreStopsAt ⟦<ModelDisk as Disk>⟧ ⟦<Renamed<ModelDisk> as Disk>⟧ start.now life.old.options life.old.lines stops 0) stops counts.old counts.new) }
+{
+    match stops {
+        Stops::EachCall => Ok(()),
+        Stops::Everywhere => stop_call(rt, alloc, start, life, buffer, END, stops, counts),
+    }
+}
 
 // Stops a life within one of its device calls, in each way.
 fn stop_call<T: Threads + Sync>(
@@ -72,57 +122,55 @@ fn stop_call<T: Threads + Sync>(
     call: u64,
     stops: Stops,
     counts: &mut Counts,
-) -> Result<(), AllocError> {
-    for way in stops.ways() {
-        life.stop = Some(stop_at(alloc, call, *way)?);
-        stop_life(rt, alloc, start, life, buffer, *way, stops, counts)?;
+) -> Result<(), AllocError>
+    ensures stops { IfOk result (λ _. AreStopsAt ⟦<ModelDisk as Disk>⟧ ⟦<Renamed<ModelDisk> as Disk>⟧ start.now life.old.options life.old.lines stops call counts.old counts.new) }
+    ensures life { IfOk result (λ _. IsSameLife life.old life.new) }
+{
+    let ways = stops.ways();
+    for way in ways {
+        stop_life(rt, alloc, start, life, buffer, call, way, stops, counts)?;
     }
     Ok(())
 }
 
-// Makes a life with its stop, and stops each opening after it.
+// Makes a life that is stopped within one of its device calls in one way, and stops each opening after it.
 fn stop_life<T: Threads + Sync>(
     rt: &T,
     alloc: Global,
     start: &Start,
-    life: &StoreLife,
+    life: &mut StoreLife,
     buffer: BufferSize,
-    way: Way,
+    call: u64,
+    way: &Way,
     stops: Stops,
     counts: &mut Counts,
-) -> Result<(), AllocError> {
-    counts.stops = counts.stops.saturating_add(1);
+) -> Result<(), AllocError>
+    ensures stopped { IfOk result (λ _. IsLifeStopped ⟦<ModelDisk as Disk>⟧ ⟦<Renamed<ModelDisk> as Disk>⟧ start.now life.old.options life.old.lines stops call way.now counts.old counts.new) }
+    ensures life { IfOk result (λ _. IsSameLife life.old life.new) }
+{
+    let stop = stop_at(alloc, call, *way)?;
+    life.stop = Some(stop);
+    counts.count_stop();
     let disk = left_by(alloc, start.disk())?;
     let (told, disk) = run_store_life(rt, alloc, disk, life, buffer)?;
+    counts.count(is_begun(told.opening));
     let asked = start.asked(alloc, &life.lines, &told.replies)?;
-    let left = left_in(alloc, disk, way)?;
-    each_restart(
-        rt,
-        alloc,
-        &left,
-        life.options,
-        buffer,
-        &asked,
-        stops,
-        counts,
-    )
+    let left = left_in(alloc, disk, *way)?;
+    let options = life.options;
+    each_restart(rt, alloc, &left, options, buffer, &asked, stops, counts)?;
+    Ok(())
 }
 
 // The disk that its stop leaves in this way.
 fn left_in(alloc: Global, disk: ModelDisk, way: Way) -> Result<ModelDisk, AllocError>
-    ensures working { IfOk result (λ next. ⟦<ModelDisk as Disk>⟧.failed next ≡ false) }
-    ensures synced { IfOk result (λ next. IsSynced ⟦<ModelDisk as Disk>⟧ next) }
+    ensures { IfOk result (λ next. IsLeftIn ⟦<ModelDisk as Disk>⟧ way.keeps_single way disk next) }
 {
     let filled = left_by(alloc, &disk)?;
     if !way.keeps_single {
         return Ok(filled);
     }
     let mut disk = disk;
-    disk.arm(Stop {
-        call: END,
-        length: way.length,
-        fill: Fill::Written,
-    });
+    disk.arm(written_at(END, way));
     let written = left_by(alloc, &disk)?;
     let next = torn(alloc, filled, written)?;
     Ok(next)
@@ -137,26 +185,24 @@ pub fn every_restart<T: Threads + Sync>(
     buffer: BufferSize,
     stops: Stops,
     counts: &mut Counts,
-) -> Result<(), AllocError> {
+) -> Result<(), AllocError>
+    ensures { IfOk result (λ _. IsEveryRestart ⟦<ModelDisk as Disk>⟧ ⟦<Renamed<ModelDisk> as Disk>⟧ life.now stops counts.old counts.new) }
+{
     let disk = new_disk(alloc);
     let (told, disk) = run_store_life(rt, alloc, disk, life, buffer)?;
+    counts.count(is_begun(told.opening));
     let asked = effects_asked(alloc, &life.lines, &told.replies)?;
     let left = left_by(alloc, &disk)?;
-    each_restart(
-        rt,
-        alloc,
-        &left,
-        life.options,
-        buffer,
-        &asked,
-        stops,
-        counts,
-    )
+    let options = life.options;
+    each_restart(rt, alloc, &left, options, buffer, &asked, stops, counts)?;
+    Ok(())
 }
 
 pub(crate) fn new_disk(alloc: Global) -> ModelDisk
     ensures working { ⟦<ModelDisk as Disk>⟧.failed result ≡ false }
     ensures synced { IsSynced ⟦<ModelDisk as Disk>⟧ result }
+    ensures fresh { IsFresh result }
+    ensures empty { ⟦<ModelDisk as Disk>⟧.seen result ≡ three [] [] [] }
 {
     ModelDisk::new(Vec::new(alloc), Vec::new(alloc))
 }
@@ -171,16 +217,57 @@ fn each_restart<T: Threads + Sync>(
     asked: &[AskedEffect],
     stops: Stops,
     counts: &mut Counts,
-) -> Result<(), AllocError> {
+) -> Result<(), AllocError>
+    ensures { IfOk result (λ _. AreRestarts ⟦<ModelDisk as Disk>⟧ ⟦<Renamed<ModelDisk> as Disk>⟧ options asked.now stops left.now counts.old counts.new) }
+{
     let calls = judge(rt, alloc, left, options, buffer, asked, counts)?;
+    restart_calls(
+        rt, alloc, left, options, buffer, asked, calls, stops, counts,
+    )?;
+    restart_end(rt, alloc, left, options, buffer, asked, stops, counts)?;
+    Ok(())
+}
+
+// Stops an opening within each of its first so many device calls.
+fn restart_calls<T: Threads + Sync>(
+    rt: &T,
+    alloc: Global,
+    left: &ModelDisk,
+    options: LifeOptions,
+    buffer: BufferSize,
+    asked: &[AskedEffect],
+    calls: u64,
+    stops: Stops,
+    counts: &mut Counts,
+) -> Result<(), AllocError>
+    ensures { IfOk result (λ _. AreCalls (AreRestartsAt ⟦<ModelDisk as Disk>⟧ ⟦<Renamed<ModelDisk> as Disk>⟧ options asked.now stops left.now) calls counts.old counts.new) }
+{
     for i in 0..calls {
-        let call = i.wrapping_add(1);
+        let call = i + 1;
         stop_restart(rt, alloc, left, options, buffer, asked, call, stops, counts)?;
     }
-    if stops.has_end() {
-        stop_restart(rt, alloc, left, options, buffer, asked, END, stops, counts)?;
-    }
     Ok(())
+}
+
+// Stops it at its end, where that is such a place.
+fn restart_end<T: Threads + Sync>(
+    rt: &T,
+    alloc: Global,
+    left: &ModelDisk,
+    options: LifeOptions,
+    buffer: BufferSize,
+    asked: &[AskedEffect],
+    stops: Stops,
+    counts: &mut Counts,
+) -> Result<(), AllocError>
+    ensures { IfOk result (λ _. IsAtEnd (AreRestartsAt ⟦<ModelDisk as Disk>⟧ ⟦<Renamed<ModelDisk> as Disk>⟧ options asked.now stops left.now 0) stops counts.old counts.new) }
+{
+    match stops {
+        Stops::EachCall => Ok(()),
+        Stops::Everywhere => {
+            stop_restart(rt, alloc, left, options, buffer, asked, END, stops, counts)
+        }
+    }
 }
 
 // Stops an opening within one of its device calls, in each way, and opens once more.
@@ -194,12 +281,33 @@ fn stop_restart<T: Threads + Sync>(
     call: u64,
     stops: Stops,
     counts: &mut Counts,
-) -> Result<(), AllocError> {
-    for way in stops.ways() {
-        counts.restarts = counts.restarts.saturating_add(1);
-        let next = stopped_in(rt, alloc, left, options, buffer, call, *way)?;
-        let _calls = judge(rt, alloc, &next, options, buffer, asked, counts)?;
+) -> Result<(), AllocError>
+    ensures { IfOk result (λ _. AreRestartsAt ⟦<ModelDisk as Disk>⟧ ⟦<Renamed<ModelDisk> as Disk>⟧ options asked.now stops left.now call counts.old counts.new) }
+{
+    let ways = stops.ways();
+    for way in ways {
+        one_restart(rt, alloc, left, options, buffer, asked, call, way, counts)?;
     }
+    Ok(())
+}
+
+// In one way.
+fn one_restart<T: Threads + Sync>(
+    rt: &T,
+    alloc: Global,
+    left: &ModelDisk,
+    options: LifeOptions,
+    buffer: BufferSize,
+    asked: &[AskedEffect],
+    call: u64,
+    way: &Way,
+    counts: &mut Counts,
+) -> Result<(), AllocError>
+    ensures { IfOk result (λ _. IsRestart ⟦<ModelDisk as Disk>⟧ ⟦<Renamed<ModelDisk> as Disk>⟧ options asked.now left.now call way.now counts.old counts.new) }
+{
+    counts.count_restart();
+    let next = stopped_in(rt, alloc, left, options, buffer, call, *way)?;
+    let _calls = judge(rt, alloc, &next, options, buffer, asked, counts)?;
     Ok(())
 }
 
@@ -213,23 +321,32 @@ fn stopped_in<T: Threads + Sync>(
     call: u64,
     way: Way,
 ) -> Result<ModelDisk, AllocError>
-    ensures working { IfOk result (λ next. ⟦<ModelDisk as Disk>⟧.failed next ≡ false) }
-    ensures synced { IfOk result (λ next. IsSynced ⟦<ModelDisk as Disk>⟧ next) }
+    ensures { IfOk result (λ next. IsStoppedIn ⟦<ModelDisk as Disk>⟧ ⟦<Renamed<ModelDisk> as Disk>⟧ way.keeps_single options call way disk.now next) }
 {
-    let copy = left_by(alloc, disk)?;
     let stop = stop_at(alloc, call, way)?;
-    let filled = stop_opening(rt, alloc, copy, options, buffer, stop)?;
+    let filled = stopped_on(rt, alloc, disk, options, buffer, stop)?;
     if !way.keeps_single {
         return Ok(filled);
     }
-    let copy = left_by(alloc, disk)?;
-    let stop = Stop {
-        call,
-        length: way.length,
-        fill: Fill::Written,
-    };
-    let written = stop_opening(rt, alloc, copy, options, buffer, stop)?;
+    let written = stopped_on(rt, alloc, disk, options, buffer, written_at(call, way))?;
     let next = torn(alloc, filled, written)?;
+    Ok(next)
+}
+
+// What is left of this disk where an opening is stopped so.
+fn stopped_on<T: Threads + Sync>(
+    rt: &T,
+    alloc: Global,
+    disk: &ModelDisk,
+    options: LifeOptions,
+    buffer: BufferSize,
+    stop: Stop,
+) -> Result<ModelDisk, AllocError>
+    ensures working { IfOk result (λ next. ⟦<ModelDisk as Disk>⟧.failed next ≡ false) }
+    ensures stopped { IfOk result (λ next. IsStoppedOn ⟦<ModelDisk as Disk>⟧ ⟦<Renamed<ModelDisk> as Disk>⟧ options stop disk.now next) }
+{
+    let copy = left_by(alloc, disk)?;
+    let next = stop_opening(rt, alloc, copy, options, buffer, stop)?;
     Ok(next)
 }
 
@@ -255,9 +372,41 @@ pub(crate) fn judge<T: Threads + Sync>(
 }
 
 impl Counts {
-    /// One opening more, or one life, which is good or bad.
+    /// Nothing is counted.
+    pub(crate) const NONE: Counts = Counts {
+        stops: 0,
+        restarts: 0,
+        bad: 0,
+    };
+
+    /// One life more that was made.
+    pub(crate) fn count_stop(&mut self)
+        ensures { self.new ≡ one_stop self.old }
+    {
+        self.stops = self.stops.saturating_add(1);
+    }
+
+    /// One opening more that was stopped.
+    pub(crate) fn count_restart(&mut self)
+        ensures { self.new ≡ one_restart self.old }
+    {
+        self.restarts = self.restarts.saturating_add(1);
+    }
+
+    /// The counts of lives, and of the openings after them.
+    pub(crate) fn with_later(self, later: Counts) -> Counts
+        ensures { result ≡ with_later self later }
+    {
+        Counts {
+            stops: self.stops,
+            restarts: later.stops,
+            bad: self.bad.saturating_add(later.bad),
+        }
+    }
+
+    /// One verdict more.
     pub(crate) fn count(&mut self, good: bool)
-        ensures { IsCounted good self.old self.new }
+        ensures { self.new ≡ counted good self.old }
     {
         if !good {
             self.bad = self.bad.saturating_add(1);

@@ -1,11 +1,11 @@
 //! An opening that is judged, and one that is stopped.
 
-ghost use Rattle.std.specs.Prelude.{◌≡◌, false, IfOk};
+ghost use Rattle.std.specs.Prelude.{◌≡◌, ◌↔◌, true, false, IfOk};
 ghost use Rattle.im_base_types.specs.declared.file_id.FileId.{FileId};
 ghost use Rattle.im_base_model_disk.specs.Left.{IsLeftBy};
 ghost use Rattle.im_base_model_disk.specs.Model.{IsFresh, file_of, model_stop};
 ghost use Rattle.im_base_disk.specs.Runs.{IsSynced};
-ghost use Rattle.im_tool_every.specs.Opened.{IsJudged, IsJudgedBy, IsStopped};
+ghost use Rattle.im_tool_every.specs.Opened.{IsBegun, IsJudged, IsJudgedBy, IsStopped};
 
 use im_base_disk::Disk;
 use im_base_model_disk::{ModelDisk, Stop};
@@ -13,7 +13,7 @@ use im_base_two_logs::Renamed;
 use im_engine::{BufferSize, Engine};
 use im_tool_drill::open_store;
 use im_tool_judge::{AskedEffect, is_good, is_passed_over};
-use im_tool_lines::LifeOptions;
+use im_tool_lines::{LifeOptions, Opening};
 use std::alloc::{AllocError, Global};
 use std::thread::Threads;
 
@@ -64,6 +64,17 @@ fn judge_entries(
     let found = engine.entries(alloc);
     let good = is_good(alloc, asked, found)?;
     Ok(good)
+}
+
+/// Whether a life without a call that fails may begin so: it is open, its stop has come, or the refusal says nothing against the store.
+pub(crate) fn is_begun(opening: Opening) -> bool
+    ensures { result ≡ true ↔ IsBegun opening }
+{
+    match opening {
+        Opening::Open(_) => true,
+        Opening::Stopped => true,
+        Opening::Refused(fault) => is_passed_over(fault),
+    }
 }
 
 /// Opens with a stop armed, and gives the disk that the stop leaves.

@@ -6,7 +6,7 @@
 //! that were acknowledged (`IsAllowed` of `im_tool_judge`), by the life's lines and replies alone.
 //!
 //! `every_failure` makes a life again and again, in which each time another device call fails, or another read, and judges the answers
-//! (`is_disturbed`) and the opening after it; then each call of the opening after the whole life fails in turn.
+//! (`is_disturbed`) and the opening after it: a failure that nothing tells is bad. Then each call of the opening after the whole life fails in turn.
 //!
 //! `sweep_text` does either to the last life of a script, in each setting that its words leave open: frames, group, workers, the log's buffer. What
 //! that life begins with (`Start`) stands before what it asked, as one effect that was acknowledged. It stops a life and an opening at their ends
@@ -15,7 +15,8 @@
 //! each file, at each place stands the byte of one of the two (`torn_file`, `IsTornOf`).
 //!
 //! It stands on `im_tool_judge` for the verdicts, on `im_tool_drill` for lives, on `im_files_belonging` for the guards, on the engine and the model disk. What it prints is tested, and
-//! stands in no clause; of an opening each verdict is the judge's (`IsJudged`), and a stopped one leaves what the stop does (`IsStopped`). What a stop left
+//! stands in no clause. Of a sweep it is said which calls were stopped, or failed, and what was counted (`IsEveryStop`, `IsEveryRestart`, `IsEveryFailure`);
+//! a life whose opening is refused for more than its frames or workers is bad too. Of an opening each verdict is the judge's (`IsJudged`), and a stopped one leaves what the stop does (`IsStopped`). What a stop left
 //! is bad too where the guards of a folder of these files would refuse it (`IsGuarded`); each verdict is counted (`IsJudgedIn`).
 #![tactic(auto)]
 

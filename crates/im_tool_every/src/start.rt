@@ -1,7 +1,9 @@
 //! What a life begins with.
 
-ghost use Rattle.std.specs.Prelude.{◌≡◌, false};
+ghost use Rattle.std.specs.Prelude.{◌≡◌, false, IfOk};
 ghost use Rattle.im_base_disk.specs.Runs.{IsSynced};
+ghost use Rattle.im_tool_judge.specs.Judged.{asked_effect};
+ghost use Rattle.im_tool_every.specs.Swept.{begun_with};
 
 use crate::every::{Counts, judge, new_disk};
 use crate::judged_opening::left_by;
@@ -36,6 +38,11 @@ pub struct Start {
 }
 
 impl Start {
+    ghost use Rattle.std.specs.Prelude.{◌≡◌, ◌∷◌, IfOk};
+    ghost use Rattle.im_tool_judge.specs.Judged.{asked_in};
+    ghost use Rattle.im_tool_every.specs.Failing.{IsAfter};
+    ghost use Rattle.im_tool_every.specs.Swept.{asked_of, begun_with};
+
     /// Three empty files.
     pub fn empty(alloc: Global) -> Start {
         Start {
@@ -50,7 +57,9 @@ impl Start {
         alloc: Global,
         disk: ModelDisk,
         buffer: BufferSize,
-    ) -> Result<Result<Start, Fault>, AllocError> {
+    ) -> Result<Result<Start, Fault>, AllocError>
+        ensures { IfOk result (λ found. IfOk found (λ start. start.disk ≡ disk)) }
+    {
         let copy = left_by(alloc, &disk)?;
         match entries_on(rt, alloc, copy, buffer) {
             Ok(entries) => Ok(Ok(Start { disk, entries })),
@@ -59,7 +68,9 @@ impl Start {
         }
     }
 
-    pub(crate) fn disk(&self) -> &ModelDisk {
+    pub(crate) fn disk(&self) -> &ModelDisk
+        ensures { result.now ≡ self.now.disk }
+    {
         &self.disk
     }
 
@@ -69,9 +80,12 @@ impl Start {
         alloc: Global,
         lines: &[StoreLine],
         replies: &[StoreReply],
-    ) -> Result<Vec<AskedEffect>, AllocError> {
+    ) -> Result<Vec<AskedEffect>, AllocError>
+        ensures { IfOk result (λ asked. asked_in asked.items ≡ begun_with self.now.entries.items ∷ asked_of lines.now replies.now) }
+    {
         let mut asked = effects_asked(alloc, lines, replies)?;
-        asked.insert(0, effect_of(alloc, &self.entries)?)?;
+        let first = effect_of(alloc, &self.entries)?;
+        asked.insert(0, first)?;
         Ok(asked)
     }
 
@@ -83,13 +97,16 @@ impl Start {
         life: &StoreLife,
         buffer: BufferSize,
         counts: &mut Counts,
-    ) -> Result<Result<Start, Fault>, AllocError> {
+    ) -> Result<Result<Start, Fault>, AllocError>
+        ensures { IfOk result (λ next. IsAfter ⟦<ModelDisk as Disk>⟧ ⟦<Renamed<ModelDisk> as Disk>⟧ self.now life.now next counts.old counts.new) }
+    {
         let disk = left_by(alloc, &self.disk)?;
         let (told, disk) = run_store_life(rt, alloc, disk, life, buffer)?;
         let asked = self.asked(alloc, &life.lines, &told.replies)?;
         let left = left_by(alloc, &disk)?;
         let _calls = judge(rt, alloc, &left, PLAIN, buffer, &asked, counts)?;
-        Start::of(rt, alloc, left, buffer)
+        let next = Start::of(rt, alloc, left, buffer)?;
+        Ok(next)
     }
 }
 
@@ -114,11 +131,14 @@ fn entries_on<T: Threads + Sync>(
 }
 
 // These entries, put by one effect that was acknowledged.
-fn effect_of(alloc: Global, entries: &[(Key, Rid)]) -> Result<AskedEffect, AllocError> {
+fn effect_of(alloc: Global, entries: &[(Key, Rid)]) -> Result<AskedEffect, AllocError>
+    ensures { IfOk result (λ effect. asked_effect effect ≡ begun_with entries.now) }
+{
     let mut changes = Vec::new(alloc);
     for entry in entries {
         let key = Vec::from_slice(alloc, entry.0.bytes())?;
-        changes.push(Change::Insertion(key, entry.1))?;
+        let change = Change::Insertion(key, entry.1);
+        changes.push(change)?;
     }
     Ok(AskedEffect {
         txn: 0,

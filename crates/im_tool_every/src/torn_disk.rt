@@ -2,6 +2,7 @@
 
 ghost use Rattle.std.specs.Prelude.{◌≡◌, false, IfOk};
 ghost use Rattle.im_base_disk.specs.Runs.{IsSynced};
+ghost use Rattle.im_tool_every.specs.Stopped.{AreTornOf};
 ghost use Rattle.im_tool_every.specs.Torn.{IsTornOf};
 
 use im_base_disk::Disk;
@@ -15,6 +16,7 @@ pub fn torn(alloc: Global, filled: ModelDisk, written: ModelDisk) -> Result<Mode
     requires written { ⟦<ModelDisk as Disk>⟧.failed written ≡ false }
     ensures working { IfOk result (λ next. ⟦<ModelDisk as Disk>⟧.failed next ≡ false) }
     ensures synced { IfOk result (λ next. IsSynced ⟦<ModelDisk as Disk>⟧ next) }
+    ensures torn { IfOk result (λ next. AreTornOf ⟦<ModelDisk as Disk>⟧ filled written next) }
 {
     let mut filled = filled;
     let mut written = written;

@@ -1,7 +1,14 @@
 //! Where a life is stopped, and in which ways.
 
+ghost use Rattle.std.specs.Prelude.{◌≡◌, IfOk};
+ghost use Rattle.im_tool_every.specs.Stopped.{ways_of, IsStopAt};
+ghost use Rattle.im_tool_every.specs.Stopped as stopped;
+
 use im_base_model_disk::{Fill, Length, Stop};
 use std::alloc::{AllocError, Global};
+
+/// No call has this number, so that a stop within it comes at the end.
+pub(crate) const END: u64 = 0;
 
 /// Where a life is stopped, and an opening.
 #[derive(Clone, Copy, Debug, PartialEq, Eq)]
@@ -14,16 +21,13 @@ pub enum Stops {
 
 impl Stops {
     /// The ways in which each place is stopped.
-    pub(crate) fn ways(self) -> &'static [Way] {
+    pub(crate) fn ways(self) -> &'static [Way]
+        ensures { result.now ≡ ways_of self }
+    {
         match self {
             Stops::EachCall => &WAYS[..6],
             Stops::Everywhere => &WAYS,
         }
-    }
-
-    /// Whether the end is such a place.
-    pub(crate) fn has_end(self) -> bool {
-        self == Stops::Everywhere
     }
 }
 
@@ -82,7 +86,9 @@ static WAYS: [Way; 8] = [
 ];
 
 /// A stop of this way within the device call of this number, with its fill everywhere.
-pub(crate) fn stop_at(alloc: Global, call: u64, way: Way) -> Result<Stop, AllocError> {
+pub(crate) fn stop_at(alloc: Global, call: u64, way: Way) -> Result<Stop, AllocError>
+    ensures { IfOk result (λ stop. IsStopAt call way stop) }
+{
     let mut pattern = Vec::new(alloc);
     pattern.push(way.fill)?;
     Ok(Stop {
@@ -90,4 +96,15 @@ pub(crate) fn stop_at(alloc: Global, call: u64, way: Way) -> Result<Stop, AllocE
         length: way.length,
         fill: Fill::Bytes(pattern),
     })
+}
+
+/// The same, but all is left as written.
+pub(crate) fn written_at(call: u64, way: Way) -> Stop
+    ensures { result ≡ stopped.written_at call way }
+{
+    Stop {
+        call,
+        length: way.length,
+        fill: Fill::Written,
+    }
 }

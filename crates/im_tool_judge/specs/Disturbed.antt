@@ -44,15 +44,16 @@ abbrev pub IsNext : Bool → StoreReply → StoreReply → Type 0
 IsNext true plain told = (is_behind_failure told ≡ true) ⊎ TellsSame told plain
 IsNext false plain told = (is_by_device told ≡ true) ⊎ SaysSame told plain
 
--- Each line has such a reply in turn; the first refusal by the device says that a call has failed.
-abbrev pub AreDisturbed : Bool → List StoreReply → List StoreReply → Type 0
-AreDisturbed failed [] [] = Unit {0}
-AreDisturbed failed [] (told ∷ others) = ⊥
-AreDisturbed failed (plain ∷ rest) [] = ⊥
-AreDisturbed failed (plain ∷ rest) (told ∷ others) = IsNext failed plain told × AreDisturbed (failed || is_by_device told) rest others
+-- Each line has such a reply in turn; the first refusal by the device says that a call has failed. One says so just where one fails.
+abbrev pub AreDisturbed : (fails failed : Bool) → List StoreReply → List StoreReply → Type 0
+AreDisturbed fails failed [] [] = failed ≡ fails
+AreDisturbed fails failed [] (told ∷ others) = ⊥
+AreDisturbed fails failed (plain ∷ rest) [] = ⊥
+AreDisturbed fails failed (plain ∷ rest) (told ∷ others) = IsNext failed plain told × AreDisturbed fails (failed || is_by_device told) rest others
 
--- The opening was refused by the device, and no line has a reply; or it is as undisturbed, and the lines' replies are such.
-abbrev pub IsDisturbed : StoreAnswers → StoreAnswers → Type 0
-IsDisturbed plain told =
-    ((told.opening ≡ openings.Refused faults.Device) × (told.replies.items ≡ []))
-    ⊎ ((told.opening ≢ openings.Refused faults.Device) × (told.opening ≡ plain.opening) × AreDisturbed false plain.replies.items told.replies.items)
+-- A call, a read or a length call fails, the opening was refused by the device, and no line has a reply; or the opening is as undisturbed, and no such
+-- refusal, and the lines' replies are such.
+abbrev pub IsDisturbed : Bool → StoreAnswers → StoreAnswers → Type 0
+IsDisturbed fails plain told =
+    ((fails ≡ true) × (told.opening ≡ openings.Refused faults.Device) × (told.replies.items ≡ []))
+    ⊎ ((told.opening ≢ openings.Refused faults.Device) × (told.opening ≡ plain.opening) × AreDisturbed fails false plain.replies.items told.replies.items)

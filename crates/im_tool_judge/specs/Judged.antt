@@ -4,7 +4,7 @@ use Rattle.std.specs.Global.{Vec}
 use Rattle.std.specs.FinMap.{empty, entries}
 use Rattle.std.specs.FinMap.Entries as lists
 use Rattle.im_base_types.specs.declared.fault.Fault.{Fault}
-use Rattle.im_base_types.specs.declared.fault.Fault.TheVariants.{Device, PoolSize, Workers}
+use Rattle.im_base_types.specs.declared.fault.Fault.TheVariants.{PoolSize, Workers}
 use Rattle.im_base_types.specs.Changes as changes
 use Rattle.im_base_types.specs.Changes.{Effect, applied, apply_all}
 use Rattle.im_base_types.specs.Keys.{Key, key_order}
@@ -38,9 +38,9 @@ pub record IsAllowed (asked : List AskedEffect) (found : List Entry) : Type 0 wh
   pub survives : Survives [] (asked_in asked) after
   pub is : found ≡ entries (apply_all empty after)
 
--- Such a refusal says nothing against a store: the device failed, or the frames or the workers are too few or too many.
+-- Such a refusal says nothing against a store: the frames or the workers are too few or too many.
 abbrev pub IsPassedOver : Fault → Type 0
-IsPassedOver fault = (fault ≡ Device) ⊎ (fault ≡ PoolSize) ⊎ (fault ≡ Workers)
+IsPassedOver fault = (fault ≡ PoolSize) ⊎ (fault ≡ Workers)
 
 -- The entries are allowed, or what hid them says nothing against the store.
 abbrev pub IsGood : List AskedEffect → Result (Vec Entry) Fault → Type 0

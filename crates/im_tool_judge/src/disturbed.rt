@@ -1,4 +1,4 @@
-//! The judge of a life in which one device call, read or length call failed.
+//! The judge of a life in which one device call, read or length call fails.
 
 ghost use Rattle.std.specs.Prelude.{◌≡◌, ◌↔◌, true, false};
 ghost use Rattle.im_tool_judge.specs.Disturbed.{IsDisturbed, AreDisturbed, IsNext, TellsSame, is_behind_failure, is_by_device};
@@ -8,18 +8,19 @@ use im_base_steps::Reply;
 use im_base_types::Fault;
 use im_tool_lines::{Opening, StoreAnswers, StoreReply};
 
-/// Whether a life in which one device call failed may answer so, where it answers as the first without that.
-pub fn is_disturbed(plain: &StoreAnswers, told: &StoreAnswers) -> bool
-    ensures { result ≡ true ↔ IsDisturbed plain.now told.now }
+/// Whether a life may answer so that answers as the first where no device call, read or length call fails. Where one failed in it, the opening's refusal or
+/// a reply has to say so; where none did, it has to answer as the first.
+pub fn is_disturbed(plain: &StoreAnswers, told: &StoreAnswers, fails: bool) -> bool
+    ensures { result ≡ true ↔ IsDisturbed fails plain.now told.now }
 {
     if told.opening == Opening::Refused(Fault::Device) {
-        return told.replies.is_empty();
+        return fails && told.replies.is_empty();
     }
-    told.opening == plain.opening && are_disturbed(&plain.replies, &told.replies)
+    told.opening == plain.opening && are_disturbed(&plain.replies, &told.replies, fails)
 }
 
-fn are_disturbed(plain: &[StoreReply], told: &[StoreReply]) -> bool
-    ensures { result ≡ true ↔ AreDisturbed false plain.now told.now }
+fn are_disturbed(plain: &[StoreReply], told: &[StoreReply], fails: bool) -> bool
+    ensures { result ≡ true ↔ AreDisturbed fails false plain.now told.now }
 {
     if plain.len() != told.len() {
         return false;
@@ -34,7 +35,14 @@ fn are_disturbed(plain: &[StoreReply], told: &[StoreReply]) -> bool
         let by_device = is_by_device(reply);
         failed = failed || by_device;
     }
-    true
+    is_told(failed, fails)
+}
+
+// Whether a failure is told just where one comes.
+fn is_told(failed: bool, fails: bool) -> bool
+    ensures { result ≡ true ↔ failed ≡ fails }
+{
+    failed == fails
 }
 
 // Whether a line may have this reply that had the first one undisturbed, once a device call has failed or before.
@@ -74,8 +82,8 @@ fn tells_same(told: &StoreReply, plain: &StoreReply) -> bool
     }
 }
 
-/// Whether a line was refused by the device.
-pub fn is_by_device(reply: &StoreReply) -> bool
+// Whether a line was refused by the device.
+fn is_by_device(reply: &StoreReply) -> bool
     ensures { result ≡ is_by_device reply.now }
 {
     matches!(

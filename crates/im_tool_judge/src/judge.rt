@@ -44,11 +44,11 @@ pub fn is_good(
     }
 }
 
-/// Whether such a refusal says nothing against a store: the device failed, or the frames or the workers are too few or too many.
+/// Whether such a refusal says nothing against a store: the frames or the workers are too few or too many.
 pub fn is_passed_over(fault: Fault) -> bool
     ensures { result ≡ true ↔ IsPassedOver fault }
 {
-    fault == Fault::Device || fault == Fault::PoolSize || fault == Fault::Workers
+    fault == Fault::PoolSize || fault == Fault::Workers
 }
 
 // Whether none of the effects after a front was acknowledged, and what was found are the entries of the map after that front.

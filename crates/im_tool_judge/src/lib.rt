@@ -4,8 +4,8 @@
 //! whether the entries that an opening found are those of a front of these effects, with all that were acknowledged (`IsAllowed`): it keeps a plain
 //! ordered list of entries, and knows nothing of pages or logs. `is_good` judges also an opening that was refused (`IsGood`).
 //!
-//! `is_disturbed` judges the answers of a life in which a device call, a read or a length call failed by those of the same life undisturbed
-//! (`IsDisturbed`): it answers as undisturbed up to a refusal by the device, and after that as an engine that has failed.
+//! `is_disturbed` judges the answers of a life in which a device call, a read or a length call fails by those of the same life undisturbed
+//! (`IsDisturbed`): it answers as undisturbed up to a refusal by the device, which comes just where one failed, and after that as an engine that has failed.
 //!
 //! This crate knows lines and answers alone, and no engine.
 #![tactic(auto)]
@@ -19,6 +19,6 @@ mod showing;
 mod sorted;
 
 pub use change::{AskedEffect, Change};
-pub use disturbed::{is_by_device, is_disturbed};
+pub use disturbed::is_disturbed;
 pub use judge::{is_allowed, is_good, is_passed_over};
 pub use showing::effects_asked;

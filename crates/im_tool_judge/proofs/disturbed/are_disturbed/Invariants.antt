@@ -4,4 +4,4 @@ use Rattle.im_tool_judge.proofs.disturbed.are_disturbed.Given as goal
 
 -- the replies from here on decide
 abbrev pub invariant-loop-i : goal.invariant-loop-i
-invariant-loop-i l = AreDisturbed false l.plain l.told ↔ AreDisturbed l.failed (drop l.i l.plain) (drop l.i l.told)
+invariant-loop-i l = AreDisturbed l.fails false l.plain l.told ↔ AreDisturbed l.fails l.failed (drop l.i l.plain) (drop l.i l.told)
