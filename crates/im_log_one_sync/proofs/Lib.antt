@@ -1,6 +1,6 @@
 pub mod Reading
 pub mod Laws
-mod Going
+pub mod Going
 pub mod TwoSyncs
 pub mod Headers
 pub mod Puts

@@ -1,0 +1,9 @@
+pub mod Strict
+pub mod Walks
+pub mod Wholes
+pub mod Laws
+pub mod Seals
+pub mod Puts
+pub mod Rooms
+pub mod AtGates
+pub mod Gates

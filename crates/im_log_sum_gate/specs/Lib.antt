@@ -1,0 +1,4 @@
+pub mod Batches
+pub mod Laws
+pub mod Sealed
+pub mod Gate
