@@ -15,7 +15,8 @@ use Rattle.im_theory_store_trait.specs.declared.store.Store.{Ghosts}
 use Rattle.im_front.specs.Made.{WereMade}
 use Rattle.im_front.specs.Held.{State, waits_in, forces_in}
 use Rattle.im_front.specs.Locked.{LockedState, seen_of, StandsFrom}
-use Rattle.im_front.specs.Acknowledged.{point_of, IsFullFor, IsHeld, WasIn, IsSpent, IsNotAcknowledged, IsNotForced, IsStepOf}
+use Rattle.im_front.specs.Acknowledged.{point_of, IsAcknowledged, IsForced, IsFullFor, IsWaiting, IsHeld, WasIn, IsSpent, IsNotAcknowledged, IsNotForced, IsStepOf}
+use Rattle.im_front.specs.Acknowledged.IsAcknowledged.{by_force}
 use Rattle.im_front.specs.Writing.{CameToNothing}
 use Rattle.im_front.proofs.Steps.{run_of}
 
@@ -29,13 +30,13 @@ held_of d steps engine waiting forces made stands counted waits same = record {
   waits = (waits, same);
 }
 
-pub map_ok : (r : Result Unit Fault) (P Q : Type 0) → (P → Q) → IfOk r (λ x. P) → IfOk r (λ x. Q)
-map_ok (Ok x) P Q f h = f h
-map_ok (Err e) P Q f h = tt
-
 pub both_ok : (r : Result Unit Fault) (P Q R : Type 0) → IfOk r (λ x. P) → IfOk r (λ x. Q) → (P → Q → R) → IfOk r (λ x. R)
 both_ok (Ok x) P Q R one two f = f one two
 both_ok (Err e) P Q R one two f = tt
+
+-- a Commit that waits is acknowledged once more forces came
+pub once_forced : {E : Type 0} (d : Ghosts E) (t n : ℕ) → IsWaiting d t n → IsForced d n → IsAcknowledged d t
+once_forced d t n waits forced = by_force waits.point waits.last (subst (λ (m : ℕ). IsForced d m) waits.so_many forced)
 
 -- ---- refusals
 

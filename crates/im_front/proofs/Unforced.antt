@@ -1,5 +1,5 @@
 -- That neither a force nor a full trace can be made up: they do not follow from what always holds behind a lock.
-use Rattle.std.proofs.Common.{◌≡◌, ◌∙◌, ℕ, List, [], ◌++◌, length, length-append, refl, sym, ap, arith}
+use Rattle.std.proofs.Common.{◌≡◌, ◌∙◌, ℕ, List, [], length, length-append, refl, ap, arith}
 use Rattle.im_base_types.specs.Answers as answers
 use Rattle.im_base_steps.specs.declared.step.Step.{Step}
 use Rattle.im_base_steps.specs.declared.reply.Reply.{Reply}

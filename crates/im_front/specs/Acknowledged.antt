@@ -58,6 +58,12 @@ module _ {E : Type 0} (d : Ghosts E) where
     pub told : told_by reply ≡ answers.More
     pub last : p.steps ≡ older ++ (steps.Commit t, reply) ∷ []
 
+  -- So it was, and so many forces had been made.
+  pub record IsWaiting (t n : ℕ) : Type 0 where
+    pub point : Point E
+    pub last : IsLast t point
+    pub so_many : n ≡ point.forces
+
   -- The Commit was made, and answered Committed; or it was answered More, and a force came after it.
   pub data IsAcknowledged (t : ℕ) : Type 0 where
     at_once : (reply : Reply) → told_by reply ≡ answers.Committed → IsStepOf d.made (steps.Commit t) reply → IsAcknowledged t

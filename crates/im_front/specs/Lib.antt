@@ -3,6 +3,7 @@ pub mod Events
 pub mod Held
 pub mod Line
 pub mod Made
+pub mod Outcomes
 pub mod Locked
 pub mod Traces
 pub mod Writing

@@ -18,6 +18,7 @@ ghost use Rattle.im_front.specs.Acknowledged.{IsAcknowledged, IsForced, IsFullFo
 
 use crate::callers::{Behind, Callers};
 use crate::held::{Closed, Held};
+use crate::outcome::Outcome;
 use crate::share::Share;
 use crate::stats::Stats;
 use im_base_steps::{Reply, Step};
@@ -98,23 +99,22 @@ impl<E: Store, L: Ledger> Front<E, L> {
         ensures causes { IfErr result (λ fault. IsNotAcknowledged E.Store (IsFullFor E.Store Force) t fault ⊎ (fault ≡ Memory)) }
         ensures few { (mine.old.made.amount ≤ mine.new.made.amount) × (mine.new.made.amount ≤ mine.old.made.amount + 2) }
     {
-        let step = Step::Commit(t);
         self.callers.come();
         let mut held = self.held.lock(rt);
-        let reply = held.step(rt, mine, &step);
-        held.law_holds_always();
-        self.callers.tell(&step, &reply);
-        let done = match reply {
-            Reply::More => {
-                let forces = held.forces();
-                return self.settle_all(rt, mine, held, forces);
+        match held.make_commit(rt, &self.callers, mine, t) {
+            Outcome::Done => {
+                self.callers.go(held.pace());
+                Ok(())
             }
-            Reply::Committed => Ok(()),
-            Reply::Refused(fault) => Err(fault),
-            _ => unreachable!(),
-        };
-        self.callers.go(held.pace());
-        done
+            Outcome::Waits(forces) => {
+                self.settle_all(rt, mine, held, forces)?;
+                Ok(())
+            }
+            Outcome::Refused(fault) => {
+                self.callers.go(held.pace());
+                Err(fault)
+            }
+        }
     }
 
     /// Returns once every Commit that was answered `More` before is durable: it waits for a force, or makes it. It makes no step where none
@@ -126,17 +126,19 @@ impl<E: Store, L: Ledger> Front<E, L> {
     {
         self.callers.come();
         let held = self.held.lock(rt);
-        held.law_holds_always();
-        let pace = held.pace();
-        if pace.waiting > 0 && !pace.failed {
-            let forces = held.forces();
-            return self.settle_all(rt, mine, held, forces);
-        }
-        self.callers.go(pace);
-        if pace.failed {
-            Err(Fault::Failed)
-        } else {
-            Ok(())
+        match held.look() {
+            Outcome::Done => {
+                self.callers.go(held.pace());
+                Ok(())
+            }
+            Outcome::Waits(forces) => {
+                self.settle_all(rt, mine, held, forces)?;
+                Ok(())
+            }
+            Outcome::Refused(fault) => {
+                self.callers.go(held.pace());
+                Err(fault)
+            }
         }
     }
 

@@ -12,19 +12,22 @@ ghost use Rattle.im_front_stats.specs.Counts.{nothing, writer, IsSound, NoLess};
 ghost use Rattle.im_base_types.specs.declared.fault.Fault.TheVariants.{Failed, Busy, TooMany, TraceFull, Memory};
 ghost use Rattle.im_base_steps.specs.Calls.{asked_by, told_by, is_blocked, may_end, most_entries, most_key};
 ghost use Rattle.im_front.specs.Traces.{trace_of};
-ghost use Rattle.im_front.specs.Acknowledged.{WasIn};
+ghost use Rattle.im_base_types.specs.Answers.{Force};
+ghost use Rattle.im_front.specs.Outcomes.{ComesTo, UnlessRefused};
+ghost use Rattle.im_front.specs.Acknowledged.{IsAcknowledged, IsForced, IsFullFor, IsNotAcknowledged, IsNotForced, IsSettled, IsWaiting, WasIn};
 ghost use Rattle.im_base_steps.specs.Replies.{is_full, lacks_memory, IsReply, Suits};
 ghost use Rattle.im_theory_store_trait.specs.Store.{LookKept};
 ghost use Rattle.im_front.specs.Cuts.{ComesFirst};
 ghost use Rattle.im_front.specs.Held.{IsResting, Records, IsRun, StopKeeps, IsCut, WhyNotCut, after_reply, force_of};
 
-use crate::callers::{Behind, Pace};
+use crate::callers::{Behind, Callers, Pace};
+use crate::outcome::Outcome;
 use crate::recorded::Recorded;
 use crate::share::Share;
 use crate::told::{Room, Told};
 use crate::trace::Trace;
 use im_base_steps::{Reply, Step};
-use im_base_types::{Fault, Key, Rid};
+use im_base_types::{Fault, Key, Rid, TxnId};
 use im_front_stats::{Pass, StatsCell};
 use im_theory_machine::law_isolation;
 use im_theory_store_trait::Store;
@@ -326,6 +329,47 @@ impl<E: Store, L: Ledger> Held<E, L> {
         publish(rt, cell, pass, *counts, now);
         *counts = now;
         reply
+    }
+}
+
+impl<E: Store, L: Ledger> Held<E, L> {
+    /// Makes the step `Commit`, and tells of it.
+    pub(crate) fn make_commit<R: Wait>(
+        &mut self,
+        rt: &R,
+        callers: &Callers,
+        mine: &mut Share<L>,
+        t: TxnId,
+    ) -> Outcome
+        ensures comes { ComesTo (IsAcknowledged E.Store t) (IsWaiting E.Store t) (λ fault. IsNotAcknowledged E.Store (IsFullFor E.Store Force) t fault ⊎ (fault ≡ Memory)) result }
+        ensures made { UnlessRefused result (mine.new.made.amount ≡ mine.old.made.amount + 1) }
+        ensures few { (mine.old.made.amount ≤ mine.new.made.amount) × (mine.new.made.amount ≤ mine.old.made.amount + 1) }
+    {
+        let step = Step::Commit(t);
+        let reply = self.step(rt, mine, &step);
+        self.law_holds_always();
+        callers.tell(&step, &reply);
+        match reply {
+            Reply::Committed => Outcome::Done,
+            Reply::More => Outcome::Waits(self.forces()),
+            Reply::Refused(fault) => Outcome::Refused(fault),
+            _ => unreachable!(),
+        }
+    }
+
+    /// Whether all that was answered `More` is durable.
+    pub(crate) fn look(&self) -> Outcome
+        ensures { ComesTo (IsSettled E.Store) (λ n. IsForced E.Store n → IsSettled E.Store) (IsNotForced E.Store (IsFullFor E.Store Force)) result }
+    {
+        self.law_holds_always();
+        let pace = self.pace();
+        if pace.failed {
+            return Outcome::Refused(Fault::Failed);
+        }
+        if pace.waiting == 0 {
+            return Outcome::Done;
+        }
+        Outcome::Waits(self.forces())
     }
 }
 

@@ -31,6 +31,7 @@ mod held;
 mod line;
 mod load_args;
 mod open;
+mod outcome;
 mod recorded;
 mod seat;
 mod share;

@@ -13,11 +13,13 @@ ghost use Rattle.im_front.specs.Held.{IsCounted};
 ghost use Rattle.im_front.specs.Line.{Asks, asker_of};
 ghost use Rattle.im_base_admission.specs.Admission.{MayBegin};
 ghost use Rattle.im_front.specs.Locked.{none, seen_of, GoesOn, IsKeptFrom};
+ghost use Rattle.im_front.specs.Outcomes.{ComesTo};
 ghost use Rattle.im_front.specs.Acknowledged.{point_of, IsAcknowledged, IsForced, IsHeld, IsNotAcknowledged, IsNotForced, IsSettled, IsSpent, IsStepOf};
 
 use crate::callers::{Behind, Callers, Pace};
 use crate::held::{counted, forces_after, passed_after, publish};
 use crate::line::{Line, Turn};
+use crate::outcome::Outcome;
 use crate::seat::{Rested, Seat};
 use crate::stats::Stats;
 use crate::trace::Trace;
@@ -216,6 +218,37 @@ impl<E: Store> Kept<E> {
 }
 
 impl<E: Store> Kept<E> {
+    /// Makes the step `Commit`, and tells of it.
+    pub(crate) fn make_commit<R: Wait>(&mut self, rt: &R, callers: &Callers, t: TxnId) -> Outcome
+        ensures { ComesTo (IsAcknowledged E.Store t) (λ n. IsForced E.Store n → IsAcknowledged E.Store t) (IsNotAcknowledged E.Store (IsSpent E.Store) t) result }
+    {
+        let step = Step::Commit(t);
+        let reply = self.step(rt, &step);
+        self.law_holds_always();
+        callers.tell(&step, &reply);
+        match reply {
+            Reply::Committed => Outcome::Done,
+            Reply::More => Outcome::Waits(self.forces()),
+            Reply::Refused(fault) => Outcome::Refused(fault),
+            _ => unreachable!(),
+        }
+    }
+
+    /// Whether all that was answered `More` is durable.
+    pub(crate) fn look(&self) -> Outcome
+        ensures { ComesTo (IsSettled E.Store) (λ n. IsForced E.Store n → IsSettled E.Store) (IsNotForced E.Store (IsSpent E.Store)) result }
+    {
+        self.law_holds_always();
+        let pace = self.pace();
+        if pace.failed {
+            return Outcome::Refused(Fault::Failed);
+        }
+        if pace.waiting == 0 {
+            return Outcome::Done;
+        }
+        Outcome::Waits(self.forces())
+    }
+
     /// A turn for one that begins a transaction for the first time.
     pub(crate) fn come(&mut self) -> Turn
         ensures same { self.new ≡ record self.old { line = self.new.line } }
@@ -346,23 +379,22 @@ impl<E: Store> Open<E> {
         ensures acknowledged { IfOk result (λ _. IsAcknowledged E.Store t) }
         ensures causes { IfErr result (IsNotAcknowledged E.Store (IsSpent E.Store) t) }
     {
-        let step = Step::Commit(t);
         self.callers.come();
         let mut held = self.held.lock(rt);
-        let reply = held.step(rt, &step);
-        held.law_holds_always();
-        self.callers.tell(&step, &reply);
-        let done = match reply {
-            Reply::More => {
-                let forces = held.forces();
-                return self.settle_all(rt, held, forces);
+        match held.make_commit(rt, &self.callers, t) {
+            Outcome::Done => {
+                self.callers.go(held.pace());
+                Ok(())
             }
-            Reply::Committed => Ok(()),
-            Reply::Refused(fault) => Err(fault),
-            _ => unreachable!(),
-        };
-        self.callers.go(held.pace());
-        done
+            Outcome::Waits(forces) => {
+                self.settle_all(rt, held, forces)?;
+                Ok(())
+            }
+            Outcome::Refused(fault) => {
+                self.callers.go(held.pace());
+                Err(fault)
+            }
+        }
     }
 
     /// Returns once every Commit that was answered `More` before is durable: it waits for a force, or makes it. It makes no step where none
@@ -373,17 +405,19 @@ impl<E: Store> Open<E> {
     {
         self.callers.come();
         let held = self.held.lock(rt);
-        held.law_holds_always();
-        let pace = held.pace();
-        if pace.waiting > 0 && !pace.failed {
-            let forces = held.forces();
-            return self.settle_all(rt, held, forces);
-        }
-        self.callers.go(pace);
-        if pace.failed {
-            Err(Fault::Failed)
-        } else {
-            Ok(())
+        match held.look() {
+            Outcome::Done => {
+                self.callers.go(held.pace());
+                Ok(())
+            }
+            Outcome::Waits(forces) => {
+                self.settle_all(rt, held, forces)?;
+                Ok(())
+            }
+            Outcome::Refused(fault) => {
+                self.callers.go(held.pace());
+                Err(fault)
+            }
         }
     }
 
