@@ -1,5 +1,7 @@
 //! Who is in a front: the callers that are awake, and those that sleep until a transaction or a structure change has ended or a force was made. No contract speaks
-//! of who sleeps; it decides alone when a force is made, and by whom.
+//! of who sleeps; it decides alone when a force is made, and by whom: by what a caller looks at (`Pace`), and by whether another one is awake.
+
+ghost use Rattle.std.specs.Prelude.{◌≡◌, ◌<◌, ◌≤◌, ◌%◌, ◌⊎◌, ◌↔◌, true};
 
 use im_base_steps::{Reply, Step};
 use std::sync::atomic::{AtomicU64, Ordering};
@@ -27,8 +29,24 @@ pub(crate) struct Pace {
 
 impl Pace {
     // Whether they have waited for so many steps.
-    fn is_long(self) -> bool {
+    fn is_long(self) -> bool
+        ensures { result ≡ true ↔ ((0 < self.waiting) × (self.passed % 256 ≡ 0)) }
+    {
         self.waiting > 0 && self.passed % PATIENCE == 0
+    }
+
+    // Whether one of those that wait for a force is woken, to make it.
+    fn wants_one(self, is_alone: bool) -> bool
+        ensures { result ≡ true ↔ ((0 < self.waiting) × ((self.passed % 256 ≡ 0) ⊎ (is_alone ≡ true))) }
+    {
+        self.waiting > 0 && (self.is_long() || is_alone)
+    }
+
+    // Whether one that waits since so many forces were made waits no longer: one was made, the store has failed, or it is to make one.
+    fn is_due(self, forces: u64, is_alone: bool) -> bool
+        ensures { result ≡ true ↔ ((forces < self.forces) ⊎ ((self.failed ≡ true) ⊎ ((256 ≤ self.passed) ⊎ (is_alone ≡ true)))) }
+    {
+        self.forces > forces || self.failed || self.passed >= PATIENCE || is_alone
     }
 }
 
@@ -190,8 +208,7 @@ impl Callers {
     ) -> MutexGuard<'a, T> {
         let mut held = held;
         for _ in rt.forever() {
-            let pace = held.pace();
-            if pace.forces > forces || pace.failed || pace.passed >= PATIENCE || self.is_alone() {
+            if held.pace().is_due(forces, self.is_alone()) {
                 break;
             }
             held = self.forced.sleep(rt, &self.awake, held);
@@ -206,7 +223,7 @@ impl Callers {
 
     // The last one awake wakes one that waits for a force, to make it; so does who sees that they have waited for long.
     fn nudge(&self, pace: Pace) {
-        if pace.waiting > 0 && (pace.is_long() || self.is_alone()) {
+        if pace.wants_one(self.is_alone()) {
             self.forced.door.notify_one();
         }
     }

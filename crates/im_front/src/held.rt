@@ -13,6 +13,7 @@ ghost use Rattle.im_base_types.specs.declared.fault.Fault.TheVariants.{Failed, B
 ghost use Rattle.im_base_steps.specs.Calls.{asked_by, told_by, is_blocked, may_end, most_entries, most_key};
 ghost use Rattle.im_front.specs.Traces.{trace_of};
 ghost use Rattle.im_base_types.specs.Answers.{Force};
+ghost use Rattle.im_front.specs.Line.{one_more};
 ghost use Rattle.im_front.specs.Outcomes.{ComesTo, UnlessRefused};
 ghost use Rattle.im_front.specs.Acknowledged.{IsAcknowledged, IsForced, IsFullFor, IsNotAcknowledged, IsNotForced, IsSettled, IsWaiting, WasIn};
 ghost use Rattle.im_base_steps.specs.Replies.{is_full, lacks_memory, IsReply, Suits};
@@ -478,7 +479,10 @@ pub(crate) fn forces_after(forces: u64, step: &Step, reply: &Reply) -> u64
 }
 
 // How many steps were made since the first of so many came to wait, where so many were made before this one.
-pub(crate) fn passed_after(passed: u64, waiting: u64) -> u64 {
+pub(crate) fn passed_after(passed: u64, waiting: u64) -> u64
+    ensures none { waiting ≡ 0 → result ≡ 0 }
+    ensures some { 0 < waiting → result ≡ one_more passed }
+{
     if waiting == 0 {
         0
     } else {
