@@ -7,3 +7,4 @@ pub mod Puts
 pub mod Rooms
 pub mod AtGates
 pub mod Gates
+pub mod Frames

@@ -43,6 +43,14 @@ pub record InOneFile (some other : SumGate) : Type 0 where
   pub file : file_of other ≡ file_of some
   pub header : header_of other ≡ header_of some
 
+-- The header of the log of the next generation, whose first byte has the LSN `end`, with transactions from this number on, and sums as before.
+pub record GoesOn (h : ThirdHeader) (end next : ℕ) (after : ThirdHeader) : Type 0 where
+  pub generation : after.start.generation ≡ h.start.generation + 1
+  pub base : after.start.base ≡ end
+  pub number : after.start.next ≡ next
+  pub salt : after.salt ≡ h.salt
+  pub syncs : after.two_syncs ≡ h.two_syncs
+
 -- These bytes begin with batches, sealed for this gate, that take so many bytes, and a closed gate after the last.
 pub record IsSealed (gate : SumGate) (used : ℕ) (bs : List (List ℕ)) (bytes : List ℕ) : Type 0 where
   pub some : 1 ≤ length bs

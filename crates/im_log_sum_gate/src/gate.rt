@@ -1,13 +1,20 @@
 //! The gate of a log whose batches have sums: making and opening the file, reading its batches, and putting more.
 
-ghost use Rattle.std.specs.Prelude.{◌≡◌, ◌≢◌, ◌+◌, ◌^◌, ◌<◌, ◌≤◌, ◌↔◌, ◌⊎◌, ◌++◌, ℕ, List, false, true, length, max, replicate, slice_index, take, drop, not, is_ok, IfOk, IfSome, OnOk, MatchOption, [], ◌∷◌};
+ghost use Rattle.std.specs.Prelude.{◌≡◌, ◌≢◌, ◌+◌, ◌^◌, ◌<◌, ◌≤◌, ◌↔◌, ◌⊎◌, ◌++◌, ℕ, List, false, true, length, max, replicate, slice_index, take, drop, not, is_ok, IfErr, IfOk, IfSome, OnOk, MatchOption, [], ◌∷◌};
 
 use crate::putting::put;
 use crate::reading::{batch_at, is_opened};
 use crate::sealing::seal;
 use im_base_disk::Disk;
-use im_base_types::{Fault, FileId, LAST_LSN};
+use im_base_types::{Fault, FileId, LAST_LSN, TxnId};
+use im_log_header::Header;
 use im_log_third_header::{ThirdHeader, make_third, read_third};
+
+// The first generation that no log has.
+const GENERATIONS: u64 = 1 << 62;
+
+// The greatest base: the first gate has an LSN of 2^62 at most.
+const LAST_BASE: u64 = LAST_LSN - 47;
 
 /// A gate of a log whose batches have sums. It carries its file and the header of its log. It has failed once a call failed, and refuses every call from then on.
 #[derive(Drop)]
@@ -21,6 +28,7 @@ pub struct SumGate {
     opened: bool,
     failed: bool,
     ghost low: { header.start.base ≤ 2 ^ 62 },
+    ghost salted: { length header.salt ≡ 3 },
     ghost placed: { place ≤ 2 ^ 63 },
 }
 
@@ -56,7 +64,7 @@ fn later(one: u64, other: u64) -> u64
 
 impl SumGate {
     ghost use Rattle.im_base_types.specs.declared.file_id.FileId.TheVariants.{Pages};
-    ghost use Rattle.im_base_types.specs.declared.fault.Fault.TheVariants.{LogFull, NotAStore};
+    ghost use Rattle.im_base_types.specs.declared.fault.Fault.TheVariants.{Capacity, LogFull, NotAStore};
     ghost use Rattle.im_base_disk.specs.Disk.{Only, Answers};
     ghost use Rattle.im_base_disk.specs.Ends.{ReadsOr, Refusals};
     ghost use Rattle.im_base_disk.specs.Runs.{ChangesOnly, CostsAtMost, LeavesIn, Reads};
@@ -64,7 +72,7 @@ impl SumGate {
     ghost use Rattle.im_log_third_header.specs.declared.header.ThirdHeader.{ThirdHeader};
     ghost use Rattle.im_log_third_header.specs.Header.{HasHeader, IsBeingMade, MayStart};
     ghost use Rattle.im_log_sum_gate.specs.Batches.{HasFront};
-    ghost use Rattle.im_log_sum_gate.specs.Gate.{file_of, has_failed, header_of, is_torn, logged, place_of, unread, InOneFile, IsReading, IsReady, IsSealed, PutOutcome};
+    ghost use Rattle.im_log_sum_gate.specs.Gate.{file_of, has_failed, header_of, is_torn, logged, lsn_of, place_of, unread, GoesOn, InOneFile, IsReading, IsReady, IsSealed, PutOutcome};
 
     /// Makes a log with this header and no batch, of a file whatever it has, and answers its gate: by six device calls, or four.
     ///
@@ -137,6 +145,36 @@ impl SumGate {
         ensures { result ≡ header_of self.now }
     {
         self.header
+    }
+
+    /// The header of the log that goes on in the other file where this gate stands: of the next generation, with the LSN of this gate as the LSN of its first
+    /// byte, the same salt and as many syncs a force, and transactions from this number on. `create` makes that log.
+    ///
+    /// Refused `LogFull` where its first gate would have an LSN above 2^62, and then `Capacity` where there is no next generation.
+    pub fn next_header(&self, next: TxnId) -> Result<ThirdHeader, Fault>
+        requires numbered { 1 ≤ next }
+        ensures may { IfOk result (λ after. MayStart after) }
+        ensures header { IfOk result (λ after. GoesOn (header_of self.now) (lsn_of self.now) next after) }
+        ensures full { result ≡ Err LogFull ↔ (2 ^ 62 < lsn_of self.now + 47) }
+        ensures capacity { result ≡ Err Capacity ↔ (lsn_of self.now + 47 ≤ 2 ^ 62) × (2 ^ 62 ≤ (header_of self.now).start.generation + 1) }
+        ensures causes { IfErr result (λ e. (e ≡ LogFull) ⊎ (e ≡ Capacity)) }
+    {
+        let base = self.header.start.base + self.place;
+        if base > LAST_BASE {
+            return Err(Fault::LogFull);
+        }
+        if self.header.start.generation >= GENERATIONS - 1 {
+            return Err(Fault::Capacity);
+        }
+        Ok(ThirdHeader {
+            start: Header {
+                generation: self.header.start.generation + 1,
+                base,
+                next,
+            },
+            salt: self.header.salt,
+            two_syncs: self.header.two_syncs,
+        })
     }
 
     /// The next batch comes to stand at the front of the buffer, from its gate to its sum: its records have so many bytes, and begin after five. None where the log

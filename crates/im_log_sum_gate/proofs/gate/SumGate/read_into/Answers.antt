@@ -25,6 +25,12 @@ returns-then-not-opened-clause-end g c is =
       durable = λ works. only_reads g.D.Disk gate.file c.args.disk.now c.is_opened.new.disk c.in_ok-opened.ensures.reads (c.requires.reading.durable c.if-self.false);
     }
 
+pub returns-then-not-opened-clause-next : goal.returns-then-not-opened-clause-next
+returns-then-not-opened-clause-next g c told =
+    let gate = c.args.self.now in
+    let old : List ℕ = g.D.Disk.seen c.args.disk.now gate.file in
+    none_unread gate.header gate.place old (none_closed gate.header gate.place old (c.in_ok-opened.ensures.no (ap Ok c.if-not-opened.true) told))
+
 pub returns-in_default-clause-next : goal.returns-in_default-clause-next
 returns-in_default-clause-next g c told =
     let gate = c.args.self.now in
