@@ -3,6 +3,7 @@
 ghost use Rattle.std.specs.Prelude.{◌≡◌, false, OnOk};
 ghost use Rattle.im_base_disk.specs.Disk.{Only, Answers};
 ghost use Rattle.im_base_disk.specs.Runs.{LeavesIn, ChangesOnly};
+ghost use Rattle.im_log_header.specs.Header.{StaysShort};
 ghost use Rattle.im_log_gate.specs.Header.{IsUnmade, IsBlank, IsNewLog};
 
 use im_base_disk::Disk;
@@ -27,6 +28,7 @@ pub(crate) fn make_new<D: Disk>(disk: &mut D, file: FileId) -> Result<(), Fault>
     ensures made { OnOk result (D.tells → IsNewLog (D.seen disk.new file)) }
     ensures durable { OnOk result (Only file (D.seen disk.new) (D.may_leave disk.new)) }
     ensures any_moment { LeavesIn D.Disk file disk.old disk.new IsBlank }
+    ensures short { LeavesIn D.Disk file disk.old disk.new (StaysShort (D.seen disk.old file)) }
     ensures changes { ChangesOnly D.Disk file disk.old disk.new }
     ensures answers { Answers (D.failed disk.new) result }
 {

@@ -50,6 +50,7 @@ impl Gate {
     ghost use Rattle.im_base_types.specs.declared.file_id.FileId.TheVariants.{Pages};
     ghost use Rattle.im_base_types.specs.declared.fault.Fault.TheVariants.{Memory, NotAStore};
     ghost use Rattle.im_log_gate.specs.Batches.{with_batch, with_batches, in_front, IsBeforeOrWith, IsBeforeOrWithAll, IsLaid};
+    ghost use Rattle.im_log_header.specs.Header.{StaysShort};
     ghost use Rattle.im_log_gate.specs.Header.{IsUnmade, IsMade, IsBlank, Says};
     ghost use Rattle.im_base_disk.specs.Ends.{AnswersOr, CostsUpTo, ReadsOr};
     ghost use Rattle.im_log_gate.specs.Gate.{file_of, first_of, base_at, least_at, generation_at, place_of, has_failed, StartsAs, logged, unread, IsFirstGate, IsNewGate, IsReading, IsReady};
@@ -77,7 +78,8 @@ impl Gate {
     }
 
     /// Makes a log of the second format, of generation 1 and without batches, of a file that is none yet, and answers its closed gate: by six device calls, or four where
-    /// the file has two bytes or more. It takes the room from which every batch is written, before the first call.
+    /// the file has two bytes or more. It takes the room from which every batch is written, before the first call. A stop leaves the file no
+    /// longer than it was, or than 48 bytes.
     ///
     /// Refused `Memory`, with no device call made, or `Device`.
     pub fn create<D: Disk>(alloc: Global, disk: &mut D, file: FileId) -> Result<Gate, Fault>
@@ -86,6 +88,7 @@ impl Gate {
         requires durable { Only file (D.seen disk.old) (D.may_leave disk.old) }
         ensures gate { IfOk result (λ gate. IsNewGate D.Disk file gate disk.new) }
         ensures any_moment { LeavesIn D.Disk file disk.old disk.new IsBlank }
+        ensures short { LeavesIn D.Disk file disk.old disk.new (StaysShort (D.seen disk.old file)) }
         ensures changes { ChangesOnly D.Disk file disk.old disk.new }
         ensures memory { result ≡ Err Memory → disk.new ≡ disk.old }
         ensures answers { AnswersOr (λ e. e ≡ Memory) (D.failed disk.new) result }

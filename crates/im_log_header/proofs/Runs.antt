@@ -1,16 +1,20 @@
 -- What a stop leaves at each moment while a log is made.
-use Rattle.std.proofs.Common.{◌≡◌, ◌≢◌, ◌⊎◌, inl, inr, ℕ, ◌≤◌, List, [], ◌∷◌, ◌++◌, length, slice_index, refl, subst}
+use Rattle.std.proofs.Common.{◌≡◌, ◌≢◌, ◌⊎◌, inl, inr, ℕ, ◌≤◌, ◌+◌, max, List, [], ◌∷◌, ◌++◌, length, slice_index, refl, ap, subst, arith}
 use Rattle.im_base_types.specs.declared.file_id.FileId.{FileId}
 use Rattle.im_base_disk.specs.declared.disk.Disk.{Ghosts}
 use Rattle.im_base_disk.specs.Disk.{Files, Only, Stepped, InFile, Holds, Torn}
 use Rattle.im_base_disk.specs.Runs.{LeavesOnly, LeavesIn, ChangesOnly, Reads}
 use Rattle.im_base_disk.proofs.Runs.{step_in, in_then, in_started, in_weakened, reads_on, changes_reads, only_reads}
-use Rattle.im_log_header.specs.Header.{IsUnmade, IsEmptyLog, IsBeingMade, second_header}
+use Rattle.im_log_header.specs.Header.{IsUnmade, IsEmptyLog, IsBeingMade, StaysShort, second_header}
 use Rattle.im_log_header.proofs.Stops.{torn_closing, torn_closed, torn_opening}
 
 -- as it was, or not made
 abbrev pub IsClosing : List ℕ → List ℕ → Type 0
 IsClosing old c = (c ≡ old) ⊎ IsUnmade c
+
+-- the header and the gate end at byte 48
+pub header_low : (g b n : ℕ) (bytes : List ℕ) → bytes ≡ second_header g b n ++ 0 ∷ [] → 1 + length bytes ≤ 48
+header_low g b n bytes is = let long : length bytes ≡ 47 = ap length is in omega (arith, long)
 
 module _ {D : Type 0} (d : Ghosts D) (file : FileId) (old mid new : D) where
   -- byte 0 of a file is not written
@@ -28,6 +32,29 @@ module _ {D : Type 0} (d : Ghosts D) (file : FileId) (old mid new : D) where
       (step_in d file mid new (IsClosing (d.seen old file)) 0 1 (only_reads d file old mid reads synced) run
       (λ told c torn. torn_closing (d.seen old file) c (other told) (subst (λ (f : Files). Torn 0 1 (f file) c) reads.seen torn)))
       (λ told c p. p) (λ told c p. p)
+
+  -- ---- how long it is by then
+
+  -- nothing is written
+  pub short_read : ((c : Files) → d.left_since old (d.moment old) c → d.may_leave old c) → Only file (d.seen old) (d.may_leave old) → Reads d old mid → LeavesIn d file old mid (StaysShort (d.seen old file))
+  short_read only_now synced reads =
+      reads_on d old old mid (Stepped (InFile file (λ _ bytes. StaysShort (d.seen old file) bytes)) (d.may_leave old)) (in_started d file old (StaysShort (d.seen old file)) only_now synced (λ told. omega arith)) reads
+
+  -- one write of what is in front of the first batch
+  pub short_write : (at n : ℕ) → at + n ≤ 48 → Only file (d.seen old) (d.may_leave old) → LeavesOnly d old mid (Stepped (InFile file (Torn at n)) (d.may_leave old)) → LeavesIn d file old mid (StaysShort (d.seen old file))
+  short_write at n low synced run = step_in d file old mid (StaysShort (d.seen old file)) at n synced run (λ told c torn. (let long = torn.no_longer in omega (arith, long, low)))
+
+  -- after a run
+  pub short_now : ((disk : D) (t : ℕ) (c : Files) → t ≤ d.moment disk → d.may_leave disk c → d.left_since disk t c) → ((disk : D) → d.tells → d.may_leave disk (d.seen disk))
+      → LeavesIn d file old mid (StaysShort (d.seen old file)) → d.tells → StaysShort (d.seen old file) (d.seen mid file)
+  short_now counts stays run told = (run.each told (d.seen mid) (counts mid (d.moment old) (d.seen mid) run.later (stays mid told))).2.changed
+
+  -- two runs in a row
+  pub short_then : ((disk : D) (t : ℕ) (c : Files) → t ≤ d.moment disk → d.may_leave disk c → d.left_since disk t c) → ((disk : D) → d.tells → d.may_leave disk (d.seen disk))
+      → LeavesIn d file old mid (StaysShort (d.seen old file)) → ChangesOnly d file old mid → LeavesIn d file mid new (StaysShort (d.seen mid file)) → LeavesIn d file old new (StaysShort (d.seen old file))
+  short_then counts stays first changes second =
+      in_then d file old mid new (StaysShort (d.seen old file)) (StaysShort (d.seen mid file)) (StaysShort (d.seen old file)) first changes second (λ told c p. p)
+      (λ told c p. (let before = short_now counts stays first told in omega (arith, before, p)))
 
   module _ (g b n : ℕ) where
     abbrev pub IsOpening : List ℕ → Type 0

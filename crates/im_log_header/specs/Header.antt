@@ -86,3 +86,7 @@ IsEmptyLog generation base next file = (junk : List ℕ) × (file ≡ made_with 
 -- A file while such a log is made of it: as it was, not made, or that log.
 abbrev pub IsBeingMade : List ℕ → (generation base next : ℕ) → List ℕ → Type 0
 IsBeingMade old generation base next file = (file ≡ old) ⊎ IsUnmade file ⊎ IsEmptyLog generation base next file
+
+-- It is no longer than this one, or than a header with its gate.
+abbrev pub StaysShort : List ℕ → List ℕ → Type 0
+StaysShort old file = length file ≤ max (length old) 48

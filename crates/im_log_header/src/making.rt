@@ -4,7 +4,7 @@
 ghost use Rattle.std.specs.Prelude.{◌≡◌, ◌≢◌, ◌≤◌, ◌⊎◌, ◌++◌, [], ◌∷◌, true, false, length, slice_index, OnOk};
 ghost use Rattle.im_base_disk.specs.Disk.{Only, Answers};
 ghost use Rattle.im_base_disk.specs.Runs.{LeavesIn, ChangesOnly, Reads, CostsAtMost};
-ghost use Rattle.im_log_header.specs.Header.{IsClosed, IsUnmade, IsEmptyLog, IsBeingMade, second_header};
+ghost use Rattle.im_log_header.specs.Header.{IsClosed, IsUnmade, IsEmptyLog, IsBeingMade, StaysShort, second_header};
 
 use crate::header::Header;
 use crate::spelling::spell;
@@ -34,6 +34,7 @@ fn close<D: Disk>(disk: &mut D, file: FileId) -> Result<(), Fault>
     ensures closed { OnOk result (D.tells → IsClosed (D.seen disk.new file)) }
     ensures durable { OnOk result (Only file (D.seen disk.old) (D.may_leave disk.old) → Only file (D.seen disk.new) (D.may_leave disk.new)) }
     ensures any_moment { Only file (D.seen disk.old) (D.may_leave disk.old) → LeavesIn D.Disk file disk.old disk.new (λ c. (c ≡ D.seen disk.old file) ⊎ IsUnmade c) }
+    ensures short { Only file (D.seen disk.old) (D.may_leave disk.old) → LeavesIn D.Disk file disk.old disk.new (StaysShort (D.seen disk.old file)) }
     ensures changes { ChangesOnly D.Disk file disk.old disk.new }
     ensures few { CostsAtMost D.Disk 1 1 disk.old disk.new }
     ensures answers { Answers (D.failed disk.new) result }
@@ -63,6 +64,7 @@ fn write<D: Disk>(disk: &mut D, file: FileId, header: &Header) -> Result<(), Fau
     ensures made { OnOk result (D.tells → IsEmptyLog header.now.generation header.now.base header.now.next (D.seen disk.new file)) }
     ensures durable { OnOk result (Only file (D.seen disk.new) (D.may_leave disk.new)) }
     ensures any_moment { Only file (D.seen disk.old) (D.may_leave disk.old) → LeavesIn D.Disk file disk.old disk.new (λ c. IsUnmade c ⊎ IsEmptyLog header.now.generation header.now.base header.now.next c) }
+    ensures short { Only file (D.seen disk.old) (D.may_leave disk.old) → LeavesIn D.Disk file disk.old disk.new (StaysShort (D.seen disk.old file)) }
     ensures changes { ChangesOnly D.Disk file disk.old disk.new }
     ensures few { CostsAtMost D.Disk 2 2 disk.old disk.new }
     ensures answers { Answers (D.failed disk.new) result }
@@ -73,7 +75,8 @@ fn write<D: Disk>(disk: &mut D, file: FileId, header: &Header) -> Result<(), Fau
 }
 
 /// Makes a log of the second format with this header and no batch, of a file whatever it has: by six device calls, or four where
-/// the file has two bytes or more and its byte 0 is not 1. Where all of the file was on the disk, a stop within leaves it as it was, or not made, or the new log.
+/// the file has two bytes or more and its byte 0 is not 1. Where all of the file was on the disk, a stop within leaves it as it was, or not made, or the new log, and no
+/// longer than it was, or than 48 bytes.
 ///
 /// Refused `Device`.
 pub fn make_log<D: Disk>(disk: &mut D, file: FileId, header: &Header) -> Result<(), Fault>
@@ -81,6 +84,7 @@ pub fn make_log<D: Disk>(disk: &mut D, file: FileId, header: &Header) -> Result<
     ensures made { OnOk result (D.tells → IsEmptyLog header.now.generation header.now.base header.now.next (D.seen disk.new file)) }
     ensures durable { OnOk result (Only file (D.seen disk.new) (D.may_leave disk.new)) }
     ensures any_moment { Only file (D.seen disk.old) (D.may_leave disk.old) → LeavesIn D.Disk file disk.old disk.new (IsBeingMade (D.seen disk.old file) header.now.generation header.now.base header.now.next) }
+    ensures short { Only file (D.seen disk.old) (D.may_leave disk.old) → LeavesIn D.Disk file disk.old disk.new (StaysShort (D.seen disk.old file)) }
     ensures changes { ChangesOnly D.Disk file disk.old disk.new }
     ensures few { CostsAtMost D.Disk 3 3 disk.old disk.new }
     ensures answers { Answers (D.failed disk.new) result }
