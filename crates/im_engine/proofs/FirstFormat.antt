@@ -6,7 +6,7 @@ use Rattle.im_log_gate.specs.Header.{IsUnmade, Says}
 use Rattle.im_log_header.proofs.Saying.{unmade}
 use Rattle.im_theory_log.specs.Histories.{Base}
 use Rattle.im_page_file.specs.OtherLog.{IsNewest}
-use Rattle.im_engine.specs.FirstFormat.{StandsForFirst}
+use Rattle.im_engine.specs.FirstFormat.{IsShortUnmade, StandsForFirst}
 use Rattle.im_engine.specs.Stands.{StandsFor}
 use Rattle.im_engine.proofs.Named.{newest_current}
 
@@ -14,8 +14,8 @@ use Rattle.im_engine.proofs.Named.{newest_current}
 no_bytes : IsUnmade []
 no_bytes = inl (omega arith)
 
-newest : (b : Base) (log pages : List ℕ) → IsUnmade log ⊎ Says 31 1 0 1 log → IsNewest b (both log pages)
-newest b log pages (inl none) = inr (none, no_bytes)
+newest : (b : Base) (log pages : List ℕ) → IsShortUnmade log ⊎ Says 31 1 0 1 log → IsNewest b (both log pages)
+newest b log pages (inl none) = inr (record { log = none.0; other = no_bytes; short = none.1; other_short = omega arith })
 newest b log pages (inr says) = let other = unmade [] no_bytes in inl (record { earlier = omega (arith, says.generation, other.generation); known = inl no_bytes; left = inl no_bytes })
 
 pub first_stands : (before : List Effect) (log pages : List ℕ) → StandsForFirst before log pages → StandsFor before (both log pages)

@@ -7,18 +7,19 @@ use Rattle.std.proofs.lemmas.Bool.Decides.{nat_tests}
 use Rattle.im_base_types.specs.Keys.{key_order}
 use Rattle.im_base_types.specs.Pages.{Entry, Body, Page}
 use Rattle.im_base_types.specs.declared.page_kind.PageKind.TheVariants.{Free, Meta, Leaf}
-use Rattle.im_base_types.specs.declared.file_id.FileId.TheVariants.{Log, Pages, Log2}
+use Rattle.im_base_types.specs.declared.file_id.FileId.TheVariants.{Log, Pages}
 use Rattle.im_theory_log.specs.Histories.{Base}
 use Rattle.im_theory_log.specs.LogLaws.{bodies}
 use Rattle.im_theory_log.specs.PageCounts.{first_count}
 use Rattle.im_theory_log.specs.Lawful.{IsLawful}
 use Rattle.im_theory_log.proofs.RedoPoints.{covers_base}
-use Rattle.im_base_disk.specs.Disk.{Files}
-use Rattle.im_log_gate.specs.Header.{base_of, IsUnmade}
+use Rattle.im_base_disk.specs.Disk.{Files, both}
+use Rattle.im_log_gate.specs.Header.{base_of}
 use Rattle.im_theory_page.specs.Header.{initial}
 use Rattle.im_theory_page.specs.PageFile.{file_page}
 use Rattle.im_theory_page.proofs.PageFileLemmas.{page_past}
-use Rattle.im_restart.specs.Restart.{IsFresh, HasStore}
+use Rattle.im_page_file.specs.OtherLog.{AreUnmade}
+use Rattle.im_restart.specs.Restart.{HasStore}
 use Rattle.im_theory_tree.specs.Good.{times, IsGoodTree}
 use Rattle.im_theory_tree.specs.Theory.{page_tree}
 use Rattle.im_engine.specs.Stands.{StandsFor}
@@ -91,30 +92,34 @@ first_is p = elim (cases_eq p 0) [
   ]
 ]
 
-fresh_store : (files : Files) → IsFresh files → IsUnmade (files Log2) → HasStore (new_from (base_of (files Log))) (base_of (files Log)) [] files
-fresh_store files fresh other = record {
-  log = inl (fresh.0, refl, refl);
-  bare = λ _. fresh.1;
-  covers = covers_base (new_from (base_of (files Log))) (file_page (files Pages)) (λ p. page_past (files Pages) p (let none = fresh.1 in omega (arith, none)) ∙ ap (λ x. Some x) (first_is p));
-  newest = inr (fresh.0, other);
+fresh_store : (files : Files) → AreUnmade files → length (files Pages) ≡ 0 → HasStore (new_from (base_of (files Log))) (base_of (files Log)) [] files
+fresh_store files none bare = record {
+  log = inl (none.log, refl, refl);
+  bare = λ _. bare;
+  covers = covers_base (new_from (base_of (files Log))) (file_page (files Pages)) (λ p. page_past (files Pages) p (omega (arith, bare)) ∙ ap (λ x. Some x) (first_is p));
+  newest = inr none;
 }
 
 begun : first_count ≤ first_count
 begun = omega arith
 
 -- they stand for no effect
-pub fresh_stands : (files : Files) → IsFresh files → IsUnmade (files Log2) → StandsFor [] files
-fresh_stands files fresh other = record {
+pub fresh_stands : (files : Files) → AreUnmade files → length (files Pages) ≡ 0 → StandsFor [] files
+fresh_stands files none bare = record {
   swapped = false;
-  current = newest_current files (fresh_store files fresh other).newest;
+  current = newest_current files (fresh_store files none bare).newest;
   b = new_from (base_of (files Log));
   base = base_of (files Log);
   start = omega arith;
   counted = λ first. begun;
   log = [];
-  has = fresh_store files fresh other;
+  has = fresh_store files none bare;
   lawful = empty_log (base_of (files Log));
   earlier = [];
   made = refl;
   is = refl;
 }
+
+-- files without a byte are so
+pub none_yet : AreUnmade (both [] [])
+none_yet = record { log = inl (omega arith); other = inl (omega arith); short = omega arith; other_short = omega arith }

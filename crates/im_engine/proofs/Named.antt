@@ -18,7 +18,7 @@ use Rattle.im_log_choice.proofs.Choices.{choices}
 use Rattle.im_log_choice.proofs.Names.{turned_has}
 use Rattle.im_log.specs.Kept.{IsLogOf}
 use Rattle.im_log.proofs.Creations.{not_both, unmade_none, unmade_starts}
-use Rattle.im_page_file.specs.OtherLog.{IsNewest}
+use Rattle.im_page_file.specs.OtherLog.{AreUnmade, IsNewest}
 use Rattle.im_restart.specs.Restart.{HasStore, MayRestart, SpellsLog}
 use Rattle.im_engine.specs.Stands.{Allowed, StandsFor, SpellsCurrent}
 use Rattle.im_engine.specs.Turns.{IsCutOff}
@@ -38,7 +38,7 @@ back_has false files has = has
 
 pub newest_current : {b : Base} (files : Files) → IsNewest b files → IsCurrent false files
 newest_current {b} files (inl older) = inl older.earlier
-newest_current {b} files (inr none) = inr ((unmade (files Log) none.0).generation, (unmade (files Log2) none.1).generation, refl)
+newest_current {b} files (inr none) = inr ((unmade (files Log) none.log).generation, (unmade (files Log2) none.other).generation, refl)
 
 newest_has : {b : Base} (base : ℕ) (all : History) (files : Files) → IsLogOf base all (files Log) → IsNewest b files → HasCurrent files
 newest_has {b} base all files log (inl older) = record {
@@ -46,7 +46,7 @@ newest_has {b} base all files log (inl older) = record {
   other = older.known;
   apart = λ same. (let less = older.earlier in absurd (omega (arith, same, less)));
 }
-newest_has {b} base all files log (inr none) = record { log = inl none.0; other = inl none.1; apart = λ same. none }
+newest_has {b} base all files log (inr none) = record { log = inl none.log; other = inl none.other; apart = λ same. (none.log, none.other) }
 
 -- ---- neither is made: then any of the two is the log that will be
 
@@ -58,19 +58,19 @@ of_either P true false files log other = other
 of_either P false true files log other = other
 
 module _ (b : Base) (base : ℕ) (all : History) where
-  turned_store : (files : Files) → IsUnmade (files Log) → IsUnmade (files Log2) → HasStore b base all files → HasStore b base all (named true files)
-  turned_store files none other has = record {
-    log = inl (other, unmade_none base all (files Log) none has.log, (unmade (files Log2) other).base ∙ sym (unmade (files Log) none).base ∙ unmade_starts base all (files Log) none has.log);
-    bare = λ _. has.bare none;
+  turned_store : (files : Files) → AreUnmade files → HasStore b base all files → HasStore b base all (named true files)
+  turned_store files none has = record {
+    log = inl (none.other, unmade_none base all (files Log) none.log has.log, (unmade (files Log2) none.other).base ∙ sym (unmade (files Log) none.log).base ∙ unmade_starts base all (files Log) none.log has.log);
+    bare = λ _. has.bare none.log;
     covers = has.covers;
-    newest = inr (other, none);
+    newest = inr (record { log = none.other; other = none.log; short = none.other_short; other_short = none.short });
   }
 
-  store_by : (r s : Bool) (files : Files) → IsUnmade (named s files Log) → IsUnmade (named s files Log2) → HasStore b base all (named s files) → HasStore b base all (named r files)
-  store_by true true files none other has = has
-  store_by false false files none other has = has
-  store_by true false files none other has = turned_store files none other has
-  store_by false true files none other has = subst (λ (f : Files). HasStore b base all f) (same_files true files) (turned_store (named true files) none other has)
+  store_by : (r s : Bool) (files : Files) → AreUnmade (named s files) → HasStore b base all (named s files) → HasStore b base all (named r files)
+  store_by true true files none has = has
+  store_by false false files none has = has
+  store_by true false files none has = turned_store files none has
+  store_by false true files none has = subst (λ (f : Files). HasStore b base all f) (same_files true files) (turned_store (named true files) none has)
 
 -- both are of no generation, by whatever names
 none_by : (r s : Bool) (files : Files) → generation_of (named s files Log) ≡ 0 → generation_of (named s files Log2) ≡ 0 → generation_of (named r files Log) ≡ 0
@@ -82,20 +82,20 @@ module _ (before : List Effect) (files : Files) (stands : StandsFor before files
   has_some : HasCurrent files
   has_some = back_has stands.swapped files (newest_has stands.base stands.log (named stands.swapped files) stands.has.log stands.has.newest)
 
-  both_none : (r : Bool) → generation_of (named r files Log) ≡ 0 → generation_of (named r files Log2) ≡ 0 → IsUnmade (named stands.swapped files Log) × IsUnmade (named stands.swapped files Log2)
+  both_none : (r : Bool) → generation_of (named r files Log) ≡ 0 → generation_of (named r files Log2) ≡ 0 → AreUnmade (named stands.swapped files)
   both_none r log other = by stands.has.newest
     where
-      by : IsNewest stands.b (named stands.swapped files) → IsUnmade (named stands.swapped files Log) × IsUnmade (named stands.swapped files Log2)
+      by : IsNewest stands.b (named stands.swapped files) → AreUnmade (named stands.swapped files)
       by (inl older) = let zero = none_by stands.swapped r files log other in let less = older.earlier in absurd (omega (arith, zero, less))
       by (inr none) = none
 
   none_store : (r : Bool) → generation_of (named r files Log) ≡ 0 → generation_of (named r files Log2) ≡ 0 → HasStore stands.b stands.base stands.log (named r files)
-  none_store r log other = let none = both_none r log other in store_by stands.b stands.base stands.log r stands.swapped files none.0 none.1 stands.has
+  none_store r log other = store_by stands.b stands.base stands.log r stands.swapped files (both_none r log other) stands.has
 
   none_least : (r : Bool) → generation_of (named r files Log) ≡ 0 → generation_of (named r files Log2) ≡ 0 → least_number (named r files Log) ≡ least_number (named stands.swapped files Log)
   none_least r log other =
       let none = both_none r log other in
-      (unmade (named r files Log) (of_either IsUnmade r stands.swapped files none.0 none.1)).number ∙ sym (unmade (named stands.swapped files Log) none.0).number
+      (unmade (named r files Log) (of_either IsUnmade r stands.swapped files none.log none.other)).number ∙ sym (unmade (named stands.swapped files Log) none.log).number
 
   may_so : (r : Bool) → HasStore stands.b stands.base stands.log (named r files) → MayRestart stands.b stands.base stands.log (named r files)
   may_so r has = record { start = stands.start; counted = stands.counted; has = has; lawful = stands.lawful }

@@ -12,10 +12,14 @@ use Rattle.im_theory_tree.specs.Theory.{page_tree}
 use Rattle.im_log_gate.specs.Header.{IsUnmade, Says}
 use Rattle.im_log.specs.Kept.{IsLogOf}
 
+-- No log yet, in a file that is no longer than the making of a log leaves it.
+abbrev pub IsShortUnmade : List ℕ → Type 0
+IsShortUnmade log = IsUnmade log × (length log ≤ 48)
+
 -- A log of the first format, or none yet, and a file of pages stand for these effects, in the order of their Commits: the log begins at LSN 0 and over no key, spells these records, is lawful, and
 -- covers the pages.
 pub record StandsForFirst (effects : List Effect) (log pages : List ℕ) : Type 0 where
-  pub format : IsUnmade log ⊎ Says 31 1 0 1 log
+  pub format : IsShortUnmade log ⊎ Says 31 1 0 1 log
   pub b : Base
   pub start : b.start ≡ 0
   pub none : b.map ≡ empty

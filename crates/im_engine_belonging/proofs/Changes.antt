@@ -1,5 +1,5 @@
 -- What a walk has found, and what it has passed over.
-use Rattle.std.proofs.Common.{◌≡◌, ◌≢◌, ◌⊎◌, inl, inr, ℕ, ◌+◌, ◌^◌, ◌≤◌, ◌==◌, if◌then◌else◌, Bool, true, false, not, [], ◌∷◌, Option, Some, None, refl, sym, ◌∙◌, ap, subst, arith}
+use Rattle.std.proofs.Common.{◌≡◌, ◌≢◌, ◌⊎◌, inl, inr, ℕ, ◌+◌, ◌^◌, ◌≤◌, ◌==◌, if◌then◌else◌, Bool, true, false, not, List, [], ◌∷◌, drop, get_or, slice_index, Option, Some, None, refl, sym, ◌∙◌, ap, subst, arith}
 use Rattle.std.specs.Prelude.{nat_lt}
 use Rattle.std.proofs.lemmas.Bool.{cases_Bool, cond-true, cond-false, eqb-false}
 use Rattle.im_base_types.specs.Pages.{Page}
@@ -9,6 +9,8 @@ use Rattle.im_files_belonging.specs.LeftLog.{copied_step, found_step, kind_copie
 use Rattle.im_files_belonging.specs.Fronts.{kind_changes}
 use Rattle.im_log_record.specs.Entry.{Entry, InsertKey, DeleteKey, UndoInsert, UndoDelete, Smo, UndoSmo, DummyClr, Commit, End, Image, Checkpoint, page_of}
 use Rattle.im_log_record.specs.Kind.{kind_at, kind_of, number_of}
+use Rattle.im_log_header.specs.Header.{first_gate}
+use Rattle.im_log.specs.Kept.{HasLog}
 use Rattle.im_log.specs.Spelled.{logged_at}
 use Rattle.im_log.specs.Whats.{smo_of, undo_smo_of, page_behind, what_of}
 use Rattle.im_theory_log.specs.Copies.{copy_in}
@@ -16,7 +18,7 @@ use Rattle.im_theory_log.specs.Histories.{History, IsRecordOf, changes_page}
 use Rattle.im_theory_switch.specs.Left.{AreReadable}
 use Rattle.im_engine_belonging.specs.Walks.{CurrentIsRead, HasNoCopy, IsPageChange, LeftIsRead, NamesChanges, PassesCopied, walked}
 use Rattle.im_engine_belonging.proofs.Pieces.{passed}
-use Rattle.im_engine_belonging.proofs.Positions.{begun, walks_all, walks_on, walks_within}
+use Rattle.im_engine_belonging.proofs.Positions.{begun, first_there, walks_all, walks_on, walks_within}
 
 -- ---- kinds
 
@@ -159,20 +161,16 @@ module _ (from : LeftLog) where
 
   -- a record without a copy
   plain_more : (lsn page pages : ℕ) (r : Logged) (older : History) → copy_in r.lsn r.what ≡ None → PassesCopied from lsn page pages older → PassesCopied from lsn page pages (r ∷ older)
-  plain_more lsn page pages r older plain is = record { same = is.same; newest = newest is.newest; greatest = greatest is.greatest }
+  plain_more lsn page pages r older plain is = record { same = is.same; newest = newest is.newest; greatest = is.greatest }
     where
       newest : (lsn ≡ 0) ⊎ ((lsn ≡ from.lsn) × HasNoCopy from.page older) → (lsn ≡ 0) ⊎ ((lsn ≡ from.lsn) × HasNoCopy from.page (r ∷ older))
       newest (inl zero) = inl zero
       newest (inr has) = inr (has.0, no_more from.page r older (λ at. plain) has.1)
 
-      greatest : (pages ≡ 0) ⊎ ((pages ≡ from.pages) × ((p : ℕ) → p + 1 ≡ from.pages → HasNoCopy p older)) → (pages ≡ 0) ⊎ ((pages ≡ from.pages) × ((p : ℕ) → p + 1 ≡ from.pages → HasNoCopy p (r ∷ older)))
-      greatest (inl zero) = inl zero
-      greatest (inr has) = inr (has.0, λ p last. no_more p r older (λ at. plain) (has.1 p last))
-
   -- any record, by whether it is of the page
   copied_more : (lsn page pages : ℕ) (r : Logged) (older : History) → PassesCopied from lsn page pages older
-      → PassesCopied from (if r.page == page then 0 else lsn) page (if r.page + 1 == pages then 0 else pages) (r ∷ older)
-  copied_more lsn page pages r older is = record { same = is.same; newest = newest (cases_Bool (r.page == page)) is.newest; greatest = greatest (cases_Bool (r.page + 1 == pages)) is.greatest }
+      → PassesCopied from (if r.page == page then 0 else lsn) page pages (r ∷ older)
+  copied_more lsn page pages r older is = record { same = is.same; newest = newest (cases_Bool (r.page == page)) is.newest; greatest = is.greatest }
     where
       newest : ((r.page == page) ≡ true) ⊎ ((r.page == page) ≡ false) → (lsn ≡ 0) ⊎ ((lsn ≡ from.lsn) × HasNoCopy from.page older)
           → ((if r.page == page then 0 else lsn) ≡ 0) ⊎ (((if r.page == page then 0 else lsn) ≡ from.lsn) × HasNoCopy from.page (r ∷ older))
@@ -180,16 +178,6 @@ module _ (from : LeftLog) where
       newest (inr other) (inl zero) = inl (cond-false (r.page == page) 0 lsn other ∙ zero)
       newest (inr other) (inr has) =
           inr (cond-false (r.page == page) 0 lsn other ∙ has.0, no_more from.page r older (λ at. absurd (eqb-false r.page page other (at ∙ sym is.same))) has.1)
-
-      greatest : ((r.page + 1 == pages) ≡ true) ⊎ ((r.page + 1 == pages) ≡ false) → (pages ≡ 0) ⊎ ((pages ≡ from.pages) × ((p : ℕ) → p + 1 ≡ from.pages → HasNoCopy p older))
-          → ((if r.page + 1 == pages then 0 else pages) ≡ 0) ⊎ (((if r.page + 1 == pages then 0 else pages) ≡ from.pages) × ((p : ℕ) → p + 1 ≡ from.pages → HasNoCopy p (r ∷ older)))
-      greatest (inl this) before = inl (cond-true (r.page + 1 == pages) 0 pages this)
-      greatest (inr other) (inl zero) = inl (cond-false (r.page + 1 == pages) 0 pages other ∙ zero)
-      greatest (inr other) (inr has) =
-          inr (
-            cond-false (r.page + 1 == pages) 0 pages other ∙ has.0,
-            λ p last. no_more p r older (λ at. absurd (eqb-false (r.page + 1) pages other (ap (λ (n : ℕ). n + 1) at ∙ last ∙ sym has.0))) (has.1 p last),
-          )
 
   module _ (base : ℕ) (log : History) where
     pass : (l : LeftLog) (older : History) (e : Entry) (p : ℕ) → Passed l older → l.base ≡ base → 1 ≤ l.place → base + l.place ≤ 2 ^ 62 → IsRecordOf (logged_at (base + l.place) e) log
@@ -224,4 +212,18 @@ current_is_read base file log has l begins current sizes ends =
     (walks_all file base log (Passed l) (opens l) (closes l) (pass l base log) (walked sizes file l) w ends).passes
   where
     first : Passed l l []
-    first = record { current = current; passes = record { same = refl; newest = inr (refl, λ r of at. absurd of); greatest = inr (refl, λ p last r of at. absurd of) } }
+    first = record { current = current; passes = record { same = refl; newest = inr (refl, λ r of at. absurd of); greatest = refl } }
+
+-- ---- the first record of a log that was left
+
+-- Where its kind says so, it changes its page.
+pub first_changes : (base : ℕ) (file : List ℕ) (log : History) → HasLog base log file → AreReadable log → get_or file (first_gate file) 0 ≡ 1 → kind_changes (kind_at (slice_index (drop (first_gate file + 5) file) 4)) ≡ true
+    → (s : Logged) × IsPageChange s log
+first_changes base file log has readable one kind =
+    let f = first_there file base log has one in
+    let r = logged_at (base + (first_gate file + 5)) f.entry in
+    (r, record { of = f.of; changes = by f.entry (kinds f.entry (readable r f.of)) (ap (λ (n : ℕ). kind_changes (kind_at n)) (sym f.kind) ∙ kind) })
+  where
+    by : (e : Entry) → (quiet (number_of (kind_of e)) ≡ true) ⊎ ((quiet (number_of (kind_of e)) ≡ false) × (changes_page (what_of e) ≡ true)) → kind_changes (kind_at (number_of (kind_of e))) ≡ true → changes_page (what_of e) ≡ true
+    by e (inl is) says = absurd (let clash : true ≡ false = sym is ∙ ap not says in cc clash)
+    by e (inr is) says = is.1

@@ -24,7 +24,7 @@ use Rattle.im_log.specs.Spelled.{log_of}
 use Rattle.im_log.proofs.Spells.{log_is}
 use Rattle.im_page_file.specs.OtherLog.{IsNewest, IsOlder, LeftSays, SaysLeft}
 use Rattle.im_theory_log.specs.Histories.{Base, History}
-use Rattle.im_theory_page.specs.PageFile.{file_page}
+use Rattle.im_theory_page.specs.PageFile.{file_page, page_count}
 use Rattle.im_theory_log.specs.RedoPoints.{Covers}
 use Rattle.im_restart.specs.Restart.{HasStore}
 use Rattle.im_engine.specs.Stands.{StandsFor}
@@ -74,8 +74,8 @@ module _ (k : ℕ) (file : List ℕ) (past : 47 ≤ k) where
       }
 
   -- one that was left says what it said
-  says_cut : (b : Base) → SaysLeft b file → SaysLeft b (take k file)
-  says_cut b says =
+  says_cut : (b : Base) (many : ℕ) → SaysLeft b many file → SaysLeft b many (take k file)
+  says_cut b many says =
       let whole : take k file ++ (drop k file ++ says.cut) ≡ file ++ says.cut = sym (append_assoc (take k file) (drop k file) says.cut) ∙ ap (λ (l : List ℕ). l ++ says.cut) (take-append-drop k file) in
       record {
         before = says.before;
@@ -85,6 +85,7 @@ module _ (k : ℕ) (file : List ℕ) (past : 47 ≤ k) where
             (subst (λ (n : ℕ). HasLog n says.before (file ++ says.cut)) (sym base_cut) says.spells);
         readable = says.readable;
         past = says.past;
+        there = says.there;
       }
 
 -- ---- what is cut of each log
@@ -162,27 +163,38 @@ module _ (b : Base) (base : ℕ) (all : History) (files cut : Files) (log : Keep
           (λ made. inr (subst headers.IsMade (sym some.1) (header_cut some.0 (files Log2) (omega (arith, more)) made (omega (arith, more, most)) some.3)))
           older.known)
     ];
-    left = elim log2.is [
-      | inl same ↦ subst (λ (l : List ℕ). LeftSays b l) (sym same) older.left
+    left = subst (λ (l : List ℕ). LeftSays b (page_count l) (cut Log2)) (sym pages) (elim log2.is [
+      | inl same ↦ subst (λ (l : List ℕ). LeftSays b (page_count (files Pages)) l) (sym same) older.left
       | inr some ↦ (let more = some.2 in ⊎_elim
           (λ none. absurd (some.4 none))
-          (λ says. inr (subst (λ (l : List ℕ). SaysLeft b l) (sym some.1) (says_cut some.0 (files Log2) (omega (arith, more)) b says)))
+          (λ says. inr (subst (λ (l : List ℕ). SaysLeft b (page_count (files Pages)) l) (sym some.1) (says_cut some.0 (files Log2) (omega (arith, more)) b (page_count (files Pages)) says)))
           older.left)
-    ];
+    ]);
   }
 
   newest_cut : IsNewest b files → IsNewest b cut
   newest_cut (inl older) = inl (older_cut older)
-  newest_cut (inr none) = inr (
-    elim log.is [
-      | inl same ↦ subst IsUnmade (sym same) none.0
-      | inr some ↦ absurd (some.4 none.0)
-    ],
-    elim log2.is [
-      | inl same ↦ subst IsUnmade (sym same) none.1
-      | inr some ↦ absurd (some.4 none.1)
-    ],
-  )
+  newest_cut (inr none) =
+      let log_same = same_log none.log in
+      let log2_same = same_log2 none.other in
+      inr (record {
+        log = subst IsUnmade (sym log_same) none.log;
+        other = subst IsUnmade (sym log2_same) none.other;
+        short = subst (λ (l : List ℕ). length l ≤ 48) (sym log_same) none.short;
+        other_short = subst (λ (l : List ℕ). length l ≤ 48) (sym log2_same) none.other_short;
+      })
+    where
+      same_log : IsUnmade (files Log) → cut Log ≡ files Log
+      same_log unmade = elim log.is [
+        | inl same ↦ same
+        | inr some ↦ absurd (some.4 unmade)
+      ]
+
+      same_log2 : IsUnmade (files Log2) → cut Log2 ≡ files Log2
+      same_log2 unmade = elim log2.is [
+        | inl same ↦ same
+        | inr some ↦ absurd (some.4 unmade)
+      ]
 
   store_cut : HasStore b base all files → HasStore b base all cut
   store_cut has = record {

@@ -1,5 +1,5 @@
 -- The beginning of a log says what the log says.
-use Rattle.std.proofs.Common.{◌≡◌, inl, inr, ℕ, ◌+◌, ◌<◌, ◌≤◌, if◌then◌else◌, Bool, true, false, List, ◌++◌, length, take, replicate, get_or, slice_index, sym, ◌∙◌, ap, arith, length-take, get_or-take, take-take, take_all}
+use Rattle.std.proofs.Common.{◌≡◌, inl, inr, ℕ, ◌+◌, ◌<◌, ◌≤◌, if◌then◌else◌, Bool, true, false, List, ◌++◌, length, take, drop, replicate, get_or, slice_index, sym, ◌∙◌, ap, arith, length-take, get_or-take, get_or-drop, take-take, take_all}
 use Rattle.std.proofs.lemmas.Bool.{cases_lt}
 use Rattle.std.proofs.lemmas.List.{take-append-le}
 use Rattle.im_files_belonging.specs.declared.folder.Front.{Front}
@@ -51,6 +51,18 @@ module _ (file : List ℕ) (front : Front) (is : IsFront file front) where
   -- its first gate is the log's
   pub gate_is : gate_byte (shown front) ≡ get_or file (first_gate file) 0
   gate_is = gate_within (gate_most file)
+
+  -- and so is the kind of the record after it, where that is shown
+  kind_within : first_gate file ≤ 47 → slice_index (drop (first_gate (shown front) + 5) (shown front)) 4 ≡ slice_index (drop (first_gate file + 5) file) 4
+  kind_within most =
+      ap (λ (n : ℕ). slice_index (drop (n + 5) (shown front)) 4) starts.0.gate
+      ∙ ap (λ (l : List ℕ). slice_index (drop (first_gate file + 5) l) 4) shown_is
+      ∙ get_or-drop (first_gate file + 5) (take 65 file) 4 0
+      ∙ get_or-take 65 file (first_gate file + 5 + 4) 0 (omega (arith, most))
+      ∙ sym (get_or-drop (first_gate file + 5) file 4 0)
+
+  pub kind_is : slice_index (drop (first_gate (shown front) + 5) (shown front)) 4 ≡ slice_index (drop (first_gate file + 5) file) 4
+  kind_is = kind_within (gate_most file)
 
   pub made_is : front_says_made front ≡ says_made (take 47 file)
   made_is = ap (λ (h : List ℕ). says_made h) header_is

@@ -13,6 +13,7 @@ use Rattle.im_theory_switch.specs.Left.{IsAtLeast, IsPast}
 use Rattle.im_theory_switch.proofs.Left.{pages_there}
 use Rattle.im_files_belonging.specs.declared.left_log.LeftLog.{LeftLog}
 use Rattle.im_files_belonging.specs.LeftLog.{PagesAreOlder}
+use Rattle.im_page_file.specs.OtherLog.{AreWithin}
 use Rattle.im_engine_belonging.specs.Guards.{lsn_in}
 use Rattle.im_engine_belonging.proofs.PageFronts.{page_lsn}
 
@@ -29,17 +30,17 @@ pub record NamesNewest (l : LeftLog) (before log : History) : Type 0 where
   pub lsn : newest.lsn ≡ l.lsn
   pub page : newest.page ≡ l.page
 
--- and one of the greatest page.
-pub record NamesGreatest (l : LeftLog) (before log : History) : Type 0 where
+-- and a change of the greatest page, whether the current log has a copy of that or not.
+pub record NamesGreatest (l : LeftLog) (before : History) : Type 0 where
   pub greatest : Logged
-  pub uncopied : IsUncopied greatest before log
-  pub some : 1 ≤ greatest.lsn
+  pub of : IsRecordOf greatest before
+  pub changes : changes_page greatest.what ≡ true
   pub last : greatest.page + 1 ≡ l.pages
 
 -- What the walks over the log that was left and over the current one name is so.
 pub record Names (l : LeftLog) (before log : History) : Type 0 where
   pub newest : 0 < l.lsn → NamesNewest l before log
-  pub greatest : 0 < l.pages → NamesGreatest l before log
+  pub greatest : 0 < l.pages → NamesGreatest l before
 
 -- where no record of a log has a copy of a page, none is noted
 none_noted : (from : ℕ) (log : History) (p : ℕ) → ((r : Logged) → IsRecordOf r log → r.page ≡ p → copy_in r.lsn r.what ≡ None) → noted from log p ≡ None
@@ -83,7 +84,7 @@ in_file file p l some h = elim (cases_lt p (page_count file)) [
       omega (arith, some, zero, least))
 ]
 
-module _ (b : Base) (before log : History) (file : List ℕ) (past : IsPast b before) (rises : Rises b log) (covers : Covers b log (file_page file)) where
+module _ (b : Base) (before log : History) (file : List ℕ) (past : IsPast b before) (within : AreWithin (page_count file) before) (rises : Rises b log) (covers : Covers b log (file_page file)) where
   uncopied_there : (s : Logged) → IsUncopied s before log → 1 ≤ s.lsn → (s.page < page_count file) × (s.lsn ≤ lsn_in file s.page)
   uncopied_there s un some =
       in_file file s.page s.lsn some
@@ -92,7 +93,7 @@ module _ (b : Base) (before log : History) (file : List ℕ) (past : IsPast b be
   pub never_older : (l : LeftLog) → Names l before log → PagesAreOlder l (page_count file) (lsn_in file l.page) → ⊥
   never_older l names (inl few) =
       let g = names.greatest (omega (arith, few)) in
-      let there = (uncopied_there g.greatest g.uncopied g.some).0 in
+      let there = within g.greatest g.of g.changes in
       let last = g.last in
       omega (arith, there, last, few)
   never_older l names (inr older) =

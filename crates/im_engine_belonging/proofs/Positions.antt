@@ -285,9 +285,30 @@ module _ (file : List ℕ) (base : ℕ) (log : History) where
             let four : l.place + 1 + 4 ≡ l.place + 5 = omega arith in
             ap (λ (m : ℕ). take m (drop (l.place + 5) file)) k ∙ sym (ap (take n) (drop-drop 4 (l.place + 1) file ∙ ap (λ (m : ℕ). drop m file) four))
 
+        at_batch : At (l.place + 5) (l.place + 5 + n) older
+        at_batch =
+            let some = a.some in
+            let room = room_here in
+            let long = long_batch in
+            let are = sizes_are in
+            let add : base + (l.place + 5 + n) ≡ base + l.place + (5 + length (batch behind)) = omega (arith, long) in
+            let at_five : base + (l.place + 5) ≡ base + l.place + 5 = omega arith in
+            let past : l.place + 5 + n ≡ l.place + (n + 5) = omega arith in
+            record {
+              some = omega (arith, some);
+              low = omega arith;
+              mid = first_batch.mid;
+              reads = ap (λ (k : ℕ). records_from 0 k (take (l.place + 5 + n - (l.place + 5)) (drop (l.place + 5) file)) older) at_five
+                  ∙ ap (λ (bytes : List ℕ). records_from 0 (base + l.place + 5) bytes older) batch_at
+                  ∙ first_batch.here;
+              rest = next.rest;
+              gates = ap (λ (p : ℕ). batches_from p file) past ∙ next.is;
+              leads = ap (λ (k : ℕ). batches_records k next.rest first_batch.mid) add ∙ first_batch.rest;
+              room = omega (arith, room, are, long);
+            }
+
         open_here : Opens l older
         open_here =
-            let some = a.some in
             let room = room_here in
             let long = long_batch in
             let are = sizes_are in
@@ -295,29 +316,14 @@ module _ (file : List ℕ) (base : ℕ) (log : History) where
             let most = z.most in
             let wide = z.room in
             let far = length-drop (l.place + 1) file in
-            let above = inside in
             let there = long_here in
-            let add : base + (l.place + 5 + n) ≡ base + l.place + (5 + length (batch behind)) = omega (arith, long) in
-            let at_five : base + (l.place + 5) ≡ base + l.place + 5 = omega arith in
-            let past : l.place + 5 + n ≡ l.place + (n + 5) = omega arith in
             record {
               end = l.place + 5 + n;
               does = at_gate l (drop l.place file) s.going is_gate (omega (arith, far, wide, least, there))
                   ∙ ap (λ (g : ℕ). gate_by l g (batch_length (drop 1 (drop l.place file)))) gate_byte
                   ∙ ap (λ (m : ℕ). gate_by l (get_or file l.place 0) m) size_said
                   ∙ gate_open l (get_or file l.place 0) n one least most (omega (arith, room, are, long));
-              at = record {
-                some = omega (arith, some);
-                low = omega arith;
-                mid = first_batch.mid;
-                reads = ap (λ (k : ℕ). records_from 0 k (take (l.place + 5 + n - (l.place + 5)) (drop (l.place + 5) file)) older) at_five
-                    ∙ ap (λ (bytes : List ℕ). records_from 0 (base + l.place + 5) bytes older) batch_at
-                    ∙ first_batch.here;
-                rest = next.rest;
-                gates = ap (λ (p : ℕ). batches_from p file) past ∙ next.is;
-                leads = ap (λ (k : ℕ). batches_records k next.rest first_batch.mid) add ∙ first_batch.rest;
-                room = omega (arith, room, are, long);
-              };
+              at = at_batch;
             }
 
       at_the_gate : Steps l older
@@ -386,15 +392,31 @@ module _ (file : List ℕ) (base : ℕ) (log : History) where
           ∙ ap (λ (m : ℕ). take m (drop size ahead)) k
           ∙ ap (take (l.end - (l.place + size))) (drop-drop size l.place file)
 
+      at_record : At (l.place + size) l.end (logged_at (base + l.place) r.entry ∷ older)
+      at_record =
+          let some = a.some in
+          let most = fits in
+          let add : base + (l.place + size) ≡ base + l.place + size = omega arith in
+          record {
+            some = omega (arith, some);
+            low = omega (arith, within, most);
+            mid = a.mid;
+            reads = ap (λ (k : ℕ). records_from 0 k (take (l.end - (l.place + size)) (drop (l.place + size) file)) (logged_at (base + l.place) r.entry ∷ older)) add
+                ∙ ap (λ (bytes : List ℕ). records_from 0 (base + l.place + size) bytes (logged_at (base + l.place) r.entry ∷ older)) (sym rest_at)
+                ∙ r.rest;
+            rest = a.rest;
+            gates = a.gates;
+            leads = a.leads;
+            room = a.room;
+          }
+
       at_the_record : PassesOne l older
       at_the_record =
-          let some = a.some in
           let room = a.room in
           let wide = size_long in
           let most = fits in
           let end = end_inside in
           let all = ahead_long in
-          let add : base + (l.place + size) ≡ base + l.place + size = omega arith in
           record {
             entry = r.entry;
             size = size;
@@ -405,18 +427,7 @@ module _ (file : List ℕ) (base : ℕ) (log : History) where
                 ∙ ap (λ (n : ℕ). record_by l size n (number (drop 29 ahead))) kind_said
                 ∙ ap (λ (n : ℕ). record_by l size (number_of (kind_of r.entry)) n) page_said
                 ∙ record_read l size (number_of (kind_of r.entry)) (page_of r.entry) size_long (omega (arith, within, most)) (omega (arith, room));
-            at = record {
-              some = omega (arith, some);
-              low = omega (arith, within, most);
-              mid = a.mid;
-              reads = ap (λ (k : ℕ). records_from 0 k (take (l.end - (l.place + size)) (drop (l.place + size) file)) (logged_at (base + l.place) r.entry ∷ older)) add
-                  ∙ ap (λ (bytes : List ℕ). records_from 0 (base + l.place + size) bytes (logged_at (base + l.place) r.entry ∷ older)) (sym rest_at)
-                  ∙ r.rest;
-              rest = a.rest;
-              gates = a.gates;
-              leads = a.leads;
-              room = a.room;
-            };
+            at = at_record;
           }
 
     pub steps_there : Steps l older
@@ -534,3 +545,40 @@ module _ (file : List ℕ) (base : ℕ) (log : History) where
               room = omega (arith, room, end);
             };
           }
+
+  -- The first record, where the first gate is open: it is the log's, and its kind stands after the length of its batch.
+  pub record IsFirst : Type 0 where
+    pub entry : Entry
+    pub of : IsRecordOf (logged_at (base + (first_gate file + 5)) entry) log
+    pub kind : slice_index (drop (first_gate file + 5) file) 4 ≡ number_of (kind_of entry)
+
+  abbrev at_first : LeftLog
+  at_first = record { place = first_gate file; end = first_gate file; base = base; lsn = 0; pages = 0; page = 0; is_over = false; is_log2 = false; is_current = false }
+
+  module _ (has : HasLog base log file) (one : get_or file (first_gate file) 0 ≡ 1) where
+    s : StandsAt at_first []
+    s = begun has at_first (record { place = refl; end = refl; based = refl; going = refl })
+
+    abbrev behind_first : List ℕ
+    behind_first = drop (first_gate file + 1) file
+
+    first_of : is_whole behind_first ≡ true → IsFirst
+    first_of whole =
+        let end : ℕ = first_gate file + 5 + batch_length behind_first in
+        let l : LeftLog = record at_first { place = first_gate file + 5; end = end } in
+        let there : StandsAt l [] = record { going = refl; based = refl; at = at_batch at_first [] s refl one whole } in
+        let least = (sizes behind_first whole).some in
+        let within : first_gate file + 5 < end = omega (arith, least) in
+        let entry = (r l [] there within).entry in
+        record {
+          entry = entry;
+          of = of_log (first_gate file + 5 + record_size (take (end - (first_gate file + 5)) (drop (first_gate file + 5) file))) end (logged_at (base + (first_gate file + 5)) entry ∷ []) (at_record l [] there within)
+              (logged_at (base + (first_gate file + 5)) entry) (inl refl);
+          kind = kind_said l [] there within;
+        }
+
+    pub first_there : IsFirst
+    first_there = elim (cases_Bool (is_whole behind_first)) [
+      | inl whole ↦ first_of whole
+      | inr cut ↦ absurd (let never : None ≡ Some (a at_first [] s).rest = sym (broken file (first_gate file) (inside at_first [] s refl) one cut) ∙ gates_here at_first [] s refl in cc)
+    ]

@@ -18,7 +18,7 @@ use Rattle.im_log.specs.Kept.{HasLog, IsLogOf}
 use Rattle.im_engine_belonging.specs.Walks.{IsAtFirstGate, HasNoCopy, IsAtEnd, NamesChanges, PassesCopied, walked}
 use Rattle.im_engine_belonging.proofs.Changes.{current_is_read, left_is_read}
 use Rattle.im_engine_belonging.proofs.Pieces.{at_over, walked_cut, walked_on}
-use Rattle.im_page_file.specs.OtherLog.{IsNewest, LeftSays, SaysLeft}
+use Rattle.im_page_file.specs.OtherLog.{AreWithin, IsNewest, LeftSays, SaysLeft}
 use Rattle.im_theory_log.specs.Histories.{History}
 use Rattle.im_theory_log.specs.RedoPoints.{Covers}
 use Rattle.im_theory_log.proofs.Fronts.{rises}
@@ -28,7 +28,7 @@ use Rattle.im_engine.specs.Stands.{StandsFor}
 use Rattle.im_engine_belonging.specs.Guards.{IsFolder, IsFront, IsWalked, NeverOlder, walked_log, lsn_in}
 use Rattle.im_engine_belonging.proofs.LogFronts.{starts, unmade_says}
 use Rattle.im_engine_belonging.proofs.Older.{Names, NamesGreatest, NamesNewest, never_older}
-use Rattle.im_engine_belonging.proofs.Sound.{other_is}
+use Rattle.im_engine_belonging.proofs.Sound.{left_front, other_is}
 
 -- ---- walks that find nothing
 
@@ -57,10 +57,6 @@ current_file t true files same = ap (λ (b : Bool). if b then files Log2 else fi
 current_file t false files same = ap (λ (b : Bool). if b then files Log2 else files Log) same
 
 module _ (files : Files) (f : Folder) (is : IsFolder files f) where
-  left_front : (s : Bool) → other_is_current f ≡ s → IsFront (named s files Log2) (left f)
-  left_front true e = subst (IsFront (files Log)) (sym (cond-true (other_is_current f) f.log f.log2 e)) is.log
-  left_front false e = subst (IsFront (files Log2)) (sym (cond-false (other_is_current f) f.log f.log2 e)) is.log2
-
   current_front : (s : Bool) → other_is_current f ≡ s → IsFront (named s files Log) (current f)
   current_front true e = subst (IsFront (files Log2)) (sym (cond-true (other_is_current f) f.log2 f.log e)) is.log2
   current_front false e = subst (IsFront (files Log)) (sym (cond-false (other_is_current f) f.log2 f.log e)) is.log
@@ -77,12 +73,10 @@ names_by l m before log names passes = record { newest = λ some. newest some pa
         let n = names.newest (omega (arith, some, same)) in
         record { newest = n.newest; uncopied = record { of = n.change.of; changes = n.change.changes; none = λ r of at. has.1 r of (at ∙ n.on) }; lsn = n.at ∙ sym has.0; page = n.on ∙ sym passes.same }
 
-    greatest : 0 < m.pages → (m.pages ≡ 0) ⊎ ((m.pages ≡ l.pages) × ((p : ℕ) → p + 1 ≡ l.pages → HasNoCopy p log)) → NamesGreatest m before log
-    greatest some (inl zero) = absurd (omega (arith, some, zero))
-    greatest some (inr has) =
-        let same = has.0 in
+    greatest : 0 < m.pages → m.pages ≡ l.pages → NamesGreatest m before
+    greatest some same =
         let g = names.greatest (omega (arith, some, same)) in
-        record { greatest = g.greatest; uncopied = record { of = g.change.of; changes = g.change.changes; none = λ r of at. has.1 g.greatest.page g.last r of at }; some = g.some; last = g.last ∙ sym has.0 }
+        record { greatest = g.greatest; of = g.change.of; changes = g.change.changes; last = g.last ∙ sym same }
 
 -- ---- all of it
 
@@ -112,18 +106,22 @@ module _ (effects : List Effect) (files : Files) (stands : StandsFor effects fil
   at = lsn_in (files Pages) m.page
 
   -- what the log that was left says of the pages
-  says : (IsUnmade lf ⊎ headers.IsMade lf) × LeftSays stands.b lf
+  says : (IsUnmade lf ⊎ headers.IsMade lf) × LeftSays stands.b (page_count (named stands.swapped files Pages)) lf
   says = by stands.has.newest
     where
-      by : IsNewest stands.b (named stands.swapped files) → (IsUnmade lf ⊎ headers.IsMade lf) × LeftSays stands.b lf
+      by : IsNewest stands.b (named stands.swapped files) → (IsUnmade lf ⊎ headers.IsMade lf) × LeftSays stands.b (page_count (named stands.swapped files Pages)) lf
       by (inl older) = (older.known, older.left)
-      by (inr none) = (inl none.1, inl none.1)
+      by (inr none) = (inl none.other, inl none.other)
 
   -- where the first walk found nothing, so does the second
   none_found : l.lsn ≡ 0 → l.pages ≡ 0 → PagesAreOlder m many at → ⊥
   none_found none no_pages =
       let same : m ≡ current_log_of f l = m_is ∙ still w.further cf (current_log_of f l) (eq-eqb l.lsn 0 none) in
       nothing m many at (ap (λ (x : LeftLog). x.lsn) same ∙ none) (ap (λ (x : LeftLog). x.pages) same ∙ no_pages)
+
+  within : (s : Bool) (before : History) → AreWithin (page_count (named s files Pages)) before → AreWithin (page_count (files Pages)) before
+  within true before are = are
+  within false before are = are
 
   covered : (s : Bool) → Covers stands.b stands.log (file_page (named s files Pages)) → Covers stands.b stands.log (file_page (files Pages))
   covered true covers = covers
@@ -139,11 +137,11 @@ module _ (effects : List Effect) (files : Files) (stands : StandsFor effects fil
     not_unmade : IsUnmade lf → ⊥
     not_unmade none = unmade_says lf (left f) lf_front left_was none
 
-    said : LeftSays stands.b lf → SaysLeft stands.b lf
+    said : LeftSays stands.b (page_count (named stands.swapped files Pages)) lf → SaysLeft stands.b (page_count (named stands.swapped files Pages)) lf
     said (inl none) = absurd (not_unmade none)
     said (inr so) = so
 
-    so : SaysLeft stands.b lf
+    so : SaysLeft stands.b (page_count (named stands.swapped files Pages)) lf
     so = said says.1
 
     abbrev whole : List ℕ
@@ -169,7 +167,7 @@ module _ (effects : List Effect) (files : Files) (stands : StandsFor effects fil
     has_log : IsNewest stands.b (named stands.swapped files) → IsLogOf stands.base stands.log cf → HasLog stands.base stands.log cf
     has_log newest (inr has) = has
     has_log (inl older) (inl none) = let zero = (unmade cf none.0).generation in let less = older.earlier in absurd (omega (arith, zero, less))
-    has_log (inr both) (inl none) = absurd (not_unmade both.1)
+    has_log (inr both) (inl none) = absurd (not_unmade both.other)
 
     found : (l.lsn == 0) ≡ false → PagesAreOlder m many at → ⊥
     found some =
@@ -185,7 +183,7 @@ module _ (effects : List Effect) (files : Files) (stands : StandsFor effects fil
         let passes : PassesCopied (current_log_of f l) m.lsn m.page m.pages stands.log =
         subst (λ (x : LeftLog). PassesCopied (current_log_of f l) x.lsn x.page x.pages stands.log) (sym m_is) (current_is_read stands.base cf stands.log has (current_log_of f l) begins refl w.further ends)
         in
-        never_older stands.b so.before stands.log (files Pages) so.past (rises stands.b page_tree stands.log stands.lawful) (covered stands.swapped stands.has.covers) m
+        never_older stands.b so.before stands.log (files Pages) so.past (within stands.swapped so.before so.there) (rises stands.b page_tree stands.log stands.lawful) (covered stands.swapped stands.has.covers) m
         (names_by (current_log_of f l) m so.before stands.log names passes)
 
     by_found : PagesAreOlder m many at → ⊥

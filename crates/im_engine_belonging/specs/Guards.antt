@@ -10,15 +10,13 @@ use Rattle.im_files_belonging.specs.declared.folder.PagesFront.{PagesFront}
 use Rattle.im_files_belonging.specs.declared.folder.Folder.{Folder}
 use Rattle.im_files_belonging.specs.declared.left_log.LeftLog.{LeftLog}
 use Rattle.im_files_belonging.specs.LeftLog.{PagesAreOlder, current_log_of, left_log_of}
-use Rattle.im_files_belonging.specs.Fronts.{BeginsWithChange}
 use Rattle.im_files_belonging.specs.declared.log_cuts.LogCuts.{LogCuts}
 use Rattle.im_files_belonging.specs.LogCuts.{log_cuts_of}
-use Rattle.im_files_belonging.specs.Belonging.{left, IsVerdict, DecidesBelonging}
+use Rattle.im_files_belonging.specs.Belonging.{IsVerdict, DecidesBelonging}
 use Rattle.im_files_belonging.specs.declared.belonging.Apart.{Apart}
 use Rattle.im_files_belonging.specs.declared.belonging.Logs.{Logs}
 use Rattle.im_log_choice.specs.Current.{IsCurrent}
 use Rattle.im_engine.specs.Stands.{StandsFor}
-use Rattle.im_log_gate.specs.Header.{IsUnmade}
 use Rattle.im_engine_belonging.specs.Walks.{IsAtEnd, walked}
 use Rattle.im_theory_page.specs.PageFile.{page_count}
 use Rattle.im_theory_tree.specs.Levels.{Pages}
@@ -46,17 +44,11 @@ pub record IsFolder (files : Files) (f : Folder) : Type 0 where
   pub pages : IsPagesFront (files PagesFile) f.pages
   pub whole : f.has_part ≡ false
 
--- What the files that stand for effects say nothing of: where no log was made, neither is longer than a creation leaves it; and where the log that was left begins with a record that
--- changes a page, the file of pages has the first two. A Switch makes both true, and no write makes a file shorter.
-pub record IsLeft (files : Files) (f : Folder) : Type 0 where
-  pub fresh : IsUnmade (files Log) → IsUnmade (files Log2) → (length (files Log) ≤ 48) × (length (files Log2) ≤ 48)
-  pub first : BeginsWithChange (left f) → 2 ≤ page_count (files PagesFile)
-
 -- ---- the law
 
 -- It is no refusal, where the folder has files that stand for effects.
 abbrev pub IsSparing : Folder → Result Logs Apart → Type 0
-IsSparing f verdict = (effects : List Effect) (files : Files) → StandsFor effects files → IsFolder files f → IsLeft files f → IfErr verdict (λ why. ⊥)
+IsSparing f verdict = (effects : List Effect) (files : Files) → StandsFor effects files → IsFolder files f → IfErr verdict (λ why. ⊥)
 
 -- It names the log that is the current one.
 abbrev pub TakesCurrent : Folder → Result Logs Apart → Type 0
@@ -66,7 +58,7 @@ TakesCurrent f verdict = (effects : List Effect) (files : Files) → StandsFor e
 pub record NeverRefused : Type 0 where
   pub belong : (f : Folder) (verdict : Result Logs Apart) → IsVerdict f verdict → IsSparing f verdict
   pub current : (f : Folder) (verdict : Result Logs Apart) → IsVerdict f verdict → TakesCurrent f verdict
-  pub told : (f : Folder) (word : ℕ) → DecidesBelonging f word → (effects : List Effect) (files : Files) → StandsFor effects files → IsFolder files f → IsLeft files f → word ≤ 1
+  pub told : (f : Folder) (word : ℕ) → DecidesBelonging f word → (effects : List Effect) (files : Files) → StandsFor effects files → IsFolder files f → word ≤ 1
 
 -- ---- older pages
 

@@ -63,11 +63,11 @@ LeftIsRead = (base : ℕ) (file : List ℕ) (log : History) → HasLog base log 
 abbrev pub HasNoCopy : ℕ → History → Type 0
 HasNoCopy p log = (r : Logged) → IsRecordOf r log → r.page ≡ p → copy_in r.lsn r.what ≡ None
 
--- Of what was found before, that is left of whose page the log has no full copy.
+-- Of what was found before, the newest change is left where the log has no full copy of its page, and the greatest page in any case.
 pub record PassesCopied (l : LeftLog) (lsn page pages : ℕ) (log : History) : Type 0 where
   pub same : page ≡ l.page
   pub newest : (lsn ≡ 0) ⊎ ((lsn ≡ l.lsn) × HasNoCopy l.page log)
-  pub greatest : (pages ≡ 0) ⊎ ((pages ≡ l.pages) × ((p : ℕ) → p + 1 ≡ l.pages → HasNoCopy p log))
+  pub greatest : pages ≡ l.pages
 
 -- A walk over the current log that is at its end has passed over each full copy.
 abbrev pub CurrentIsRead : Type 0

@@ -3,9 +3,7 @@
 //! That `im_files_belonging`, which an opening of a folder asks first, refuses no files that stand for effects: those that lives and stops leave, also within a write, of
 //! which any bytes may be left. No lower crate can say so, since what files stand for is a word of `im_engine`.
 //!
-//! `guards_never_refuse` is the law of every verdict, `verdict` the guard with the law as its contract. Two things are supposed, of which that word says nothing
-//! (`IsLeft`): where no log was made, neither is longer than a creation leaves it; and where the log that was left begins with a record that changes a page, the first two
-//! pages are in the file. Whether a file is there at all is no part of files as the theory has them.
+//! `guards_never_refuse` is the law of every verdict, `verdict` the guard with the law as its contract. Whether a file is there at all is no part of files as the theory has them.
 //!
 //! It is so as of what the walks over the heads of logs say, which read lengths and kinds alone (`walks_say`): where the bytes of a log spell a list of records, in whatever
 //! pieces they are read, what the walk over a log that was left names is so of these records; and once the walk over the current log is at its end, the pages that it did not

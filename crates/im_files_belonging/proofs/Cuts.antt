@@ -116,7 +116,7 @@ module _ (f g : Folder) (h : AlikeFolders f g) where
   first : LacksFirst (base_of (shown (current f))) (left f) f.pages → LacksFirst (base_of (shown (current g))) (left g) g.pages
   first lacks = (
     subst (λ (n : ℕ). 0 < n) (sym currents.base) lacks.0,
-    subst (λ (p : PagesFront). p.long / 4096 < 2) (sym h.pages) lacks.1,
+    subst (λ (p : PagesFront). p.long / 4096 < 1) (sym h.pages) lacks.1,
     h.said.0 lacks.2,
   )
 

@@ -53,11 +53,11 @@ IsLongUnmade f log = (is_store f ≡ false) × (48 < log.long)
 abbrev pub LacksCounted : ℕ → PagesFront → Type 0
 LacksCounted base pages = (from_be_bytes w64 (take 8 pages.bytes) < base) × (3 < from_be_bytes w32 (take 4 (drop 24 pages.bytes))) × (pages.long / 4096 + 1 < from_be_bytes w32 (take 4 (drop 24 pages.bytes)))
 
--- A log goes on from one that began with a record that changes a page, and the file lacks one of the first two pages.
+-- A log goes on from one that began with a record that changes a page, and the file has no page.
 abbrev pub LacksFirst : ℕ → Front → PagesFront → Type 0
-LacksFirst base left pages = (0 < base) × (pages.long / 4096 < 2) × BeginsWithChange left
+LacksFirst base left pages = (0 < base) × (pages.long / 4096 < 1) × BeginsWithChange left
 
--- The file of pages was cut: it lacks what page 0 counts, where the current log has no record, so that page 0 is as the log found it; or one of the first two pages.
+-- The file of pages was cut: it lacks what page 0 counts, where the current log has no record, so that page 0 is as the log found it; or all of them.
 abbrev pub IsCutShort : Folder → Type 0
 IsCutShort f = ((gate_byte (shown (current f)) ≢ 1) × LacksCounted (base_of (shown (current f))) f.pages) ⊎ LacksFirst (base_of (shown (current f))) (left f) f.pages
 

@@ -57,9 +57,9 @@ noted_step l place page = record l { place = place; lsn = sum l.base l.place; pa
 abbrev pub leaves_batch : LeftLog → ℕ → Bool
 leaves_batch l size = nat_lt size 33 || nat_lt l.end (sum l.place size)
 
--- Over a record of the current log which has a full copy of this page: a stop may have torn that page since, and any LSN may stand there.
+-- Over a record of the current log which has a full copy of this page: a stop may have torn that page since, and any LSN may stand there. It is in the file all the same.
 abbrev pub copied_step : LeftLog → (place page : ℕ) → LeftLog
-copied_step l place page = record l { place = place; lsn = if page == l.page then 0 else l.lsn; pages = if page + 1 == l.pages then 0 else l.pages }
+copied_step l place page = record l { place = place; lsn = if page == l.page then 0 else l.lsn }
 
 abbrev pub found_step : LeftLog → (place page : ℕ) → LeftLog
 found_step l place page = if l.is_current then copied_step l place page else noted_step l place page

@@ -22,7 +22,7 @@ pub struct LeftLog {
     pub base: u64,
     /// The LSN of the newest change so far, 0 where there is none, or the current log has a copy of its page.
     pub lsn: u64,
-    /// The least number above the pages that changes so far name, 0 where there are none, or the current log has a copy of the greatest.
+    /// The least number above the pages that changes so far name, 0 where there are none.
     pub pages: u64,
     /// The page of the newest change.
     pub page: u32,
@@ -79,11 +79,6 @@ fn copied(left: LeftLog, place: u64, page: u32) -> LeftLog
     LeftLog {
         place,
         lsn: if page == left.page { 0 } else { left.lsn },
-        pages: if u64::from(page) + 1 == left.pages {
-            0
-        } else {
-            left.pages
-        },
         ..left
     }
 }
@@ -206,7 +201,7 @@ impl LeftLog {
     }
 
     /// The walk over the current log, at its first gate, with what the one over the log that was left has found. A page that has a full copy there may have been written since, and a
-    /// stop may have left any bytes of it: nothing is asked of it. It is over at once where nothing was found.
+    /// stop may have left any bytes of it: nothing is asked of these. No write makes the file shorter, so it has that page too. It is over at once where nothing was found.
     pub fn go_on(&self, folder: &Folder) -> LeftLog
         ensures { result ≡ current_log_of folder.now self.now }
     {

@@ -81,18 +81,18 @@ fn lacks_beside_none(current: &Front, pages: &PagesFront) -> bool
     lacks_counted(base(current), pages)
 }
 
-// It lacks one of the first two pages, and the log that was left begins with a record that changes a page.
+// It has no page, and the log that was left begins with a record that changes a page.
 fn lacks_first(base: u64, left: &Front, pages: &PagesFront) -> bool
     ensures { (result ≡ true) ↔ LacksFirst base left.now pages.now }
 {
-    base > 0 && pages_of(pages) < 2 && begins_with_change(left)
+    base > 0 && pages_of(pages) < 1 && begins_with_change(left)
 }
 
 /// The file of pages was cut. A log goes on in the other file once every page that was ever changed is in its own, and no write makes a file shorter. So that file has each
 /// page that page 0 counts, as long as page 0 is as it was then: it is while the log has no record, and after that a stop may leave it with any bytes. But two count from
-/// the start, whether a key was ever there or not; and where the file lacks one page alone, that may be a free page of which page 0 says all that is known. And it has the
-/// first two where the log that was left begins with a record that changes a page, as the first such record of a store changes page 1; one whose first byte says that it was
-/// not made is being made anew, and one that was left with another record or none, or was emptied, says nothing.
+/// the start, whether a key was ever there or not; and where the file lacks one page alone, that may be a free page of which page 0 says all that is known. And it has a
+/// page where the log that was left begins with a record that changes one; one whose first byte says that it was not made is being made anew, and one that was left with
+/// another record or none, or was emptied, says nothing. Which pages it has beside, `LeftLog` asks.
 pub(crate) fn is_cut(folder: &Folder) -> bool
     ensures { (result ≡ true) ↔ IsCutShort folder.now }
 {

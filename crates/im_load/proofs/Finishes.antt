@@ -1,5 +1,5 @@
 -- The end of a load as the disk sees it: the pages, their sync, and the log that is made.
-use Rattle.std.proofs.Common.{◌≡◌, ◌≢◌, inl, inr, ⊎_elim, ℕ, List, [], length, sym, ◌∙◌, ap, subst, arith}
+use Rattle.std.proofs.Common.{◌≡◌, ◌≢◌, inl, inr, ⊎_elim, ℕ, ◌≤◌, List, [], length, sym, ◌∙◌, ap, subst, arith}
 use Rattle.im_base_types.specs.Pages.{Entry}
 use Rattle.im_base_types.specs.declared.file_id.FileId.{FileId}
 use Rattle.im_base_types.specs.declared.file_id.FileId.TheVariants.{Log, Pages, Log2}
@@ -7,7 +7,8 @@ use Rattle.im_base_disk.specs.declared.disk.Disk.{Ghosts}
 use Rattle.im_base_disk.specs.Disk.{Files, Only, Stepped, InFile}
 use Rattle.im_base_disk.specs.Runs.{IsSynced, LeavesOnly, LeavesIn, ChangesOnly}
 use Rattle.im_base_disk.proofs.Runs.{weakened, then_on}
-use Rattle.im_log_header.specs.Header.{IsUnmade, IsEmptyLog, IsBeingMade}
+use Rattle.im_log_header.specs.Header.{IsUnmade, IsEmptyLog, IsBeingMade, StaysShort}
+use Rattle.im_restart.proofs.Restarts.{in_both}
 use Rattle.im_load.specs.Files.{HaveNoLog, AreHalf, ArePages, AreOfLoad, AreLeft}
 use Rattle.im_load.specs.Goings.{WritesPages}
 
@@ -26,6 +27,9 @@ other_not_log e = cc
 -- a file without bytes is no log
 pub none_made : (file : List ℕ) → file ≡ [] → IsUnmade file
 none_made file is = inl (omega (arith, ap length is))
+
+pub none_long : (file : List ℕ) → file ≡ [] → length file ≤ 48
+none_long file is = omega (arith, ap length is)
 
 module _ {D : Type 0} (d : Ghosts D) (from pages : D) (run : WritesPages d from pages) (bare : d.tells → HaveNoLog (d.seen from)) where
   -- neither log is written with the pages
@@ -48,6 +52,7 @@ module _ {D : Type 0} (d : Ghosts D) (from pages : D) (run : WritesPages d from 
     half_by : d.tells → (c : Files) → (e : Files) × d.may_leave from e × ((other : FileId) → other ≢ Pages → c other ≡ e other) → AreHalf c
     half_by told c left = (
       none_made (c Log) (left.2 Log log_not_pages ∙ first Log left.0 left.1 ∙ (bare told).0),
+      none_long (c Log) (left.2 Log log_not_pages ∙ first Log left.0 left.1 ∙ (bare told).0),
       left.2 Log2 other_not_pages ∙ first Log2 left.0 left.1 ∙ (bare told).1,
     )
 
@@ -82,22 +87,23 @@ module _ {D : Type 0} (d : Ghosts D) (from pages : D) (run : WritesPages d from 
       log_synced = still_synced Log log_not_pages
 
       module _ (new : D) (es : List Entry) (durable : Only Pages (d.seen synced) (d.may_leave synced)) (tree : d.tells → ArePages es (d.seen pages Pages)) where
-        by_making : d.tells → (c : Files) → Stepped (InFile Log (λ _ bytes. IsBeingMade (d.seen synced Log) 1 48 1 bytes)) (d.may_leave synced) c → AreLeft es c
+        by_making : d.tells → (c : Files) → Stepped (InFile Log (λ _ bytes. IsBeingMade (d.seen synced Log) 1 48 1 bytes × StaysShort (d.seen synced Log) bytes)) (d.may_leave synced) c → AreLeft es c
         by_making told c left =
             let is : c Pages ≡ d.seen pages Pages = left.2.others Pages pages_not_log ∙ durable left.0 left.1 ∙ ap (λ (f : Files). f Pages) seen in
             let other : c Log2 ≡ [] = left.2.others Log2 other_not_log ∙ still_synced Log2 other_not_pages left.0 left.1 ∙ ap (λ (f : Files). f Log2) seen ∙ no_other told in
             let none : d.seen synced Log ≡ [] = ap (λ (f : Files). f Log) seen ∙ no_log told in
             ⊎_elim
-            (λ (same : c Log ≡ d.seen synced Log). inl (none_made (c Log) (same ∙ none), other))
+            (λ (same : c Log ≡ d.seen synced Log). inl (none_made (c Log) (same ∙ none), none_long (c Log) (same ∙ none), other))
             (⊎_elim
-            (λ (unmade : IsUnmade (c Log)). inl (unmade, other))
+            (λ (unmade : IsUnmade (c Log)). inl (unmade, (let stays = left.2.changed.1 in omega (arith, stays, ap length none)), other))
             (λ (made : IsEmptyLog 1 48 1 (c Log)). inr (record { tree = subst (ArePages es) (sym is) (tree told); log = made; other = other })))
-            left.2.changed
+            left.2.changed.0
 
         -- a stop while the log is made
-        pub made_left : LeavesIn d Log synced new (IsBeingMade (d.seen synced Log) 1 48 1) → LeavesOnly d from new (AreLeft es)
-        made_left making =
-            then_on d from synced new (AreLeft es) (Stepped (InFile Log (λ _ bytes. IsBeingMade (d.seen synced Log) 1 48 1 bytes)) (d.may_leave synced)) (synced_left es) making by_making
+        pub made_left : LeavesIn d Log synced new (IsBeingMade (d.seen synced Log) 1 48 1) → LeavesIn d Log synced new (StaysShort (d.seen synced Log)) → LeavesOnly d from new (AreLeft es)
+        made_left making short =
+            then_on d from synced new (AreLeft es) (Stepped (InFile Log (λ _ bytes. IsBeingMade (d.seen synced Log) 1 48 1 bytes × StaysShort (d.seen synced Log) bytes)) (d.may_leave synced)) (synced_left es)
+            (in_both d Log synced new (IsBeingMade (d.seen synced Log) 1 48 1) (StaysShort (d.seen synced Log)) making short) by_making
 
       -- and all is on the disk then
       pub all_synced : (new : D) → Only Pages (d.seen synced) (d.may_leave synced) → Only Log (d.seen new) (d.may_leave new) → ChangesOnly d Log synced new → (file : FileId) → Only file (d.seen new) (d.may_leave new)

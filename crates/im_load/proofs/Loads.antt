@@ -24,7 +24,7 @@ use Rattle.im_load.proofs.Ends.{entries_are, loaded_stands}
 use Rattle.im_engine.specs.Stands.{StandsFor, SpellsCurrent}
 use Rattle.im_engine.proofs.Fresh.{fresh_stands}
 use Rattle.im_load.specs.Files.{AreHalf, AreOfLoad, AreLeft}
-use Rattle.im_load.proofs.Finishes.{none_made}
+use Rattle.im_load.proofs.Finishes.{none_long, none_made}
 use Rattle.im_load.specs.Standing.{IsStoreOrNone, LoadsStand}
 
 abbrev header : Header
@@ -78,7 +78,7 @@ are es files l = ap entries (effects_make es) ∙ entries_are es l.tree.rises
 
 -- a half of a load spells no log
 no_log : (swapped : Bool) (files : Files) → AreHalf files → IsUnmade (named swapped files Log)
-no_log true files h = none_made (files Log2) h.1
+no_log true files h = none_made (files Log2) h.2
 no_log false files h = h.0
 
 same_pages : (swapped : Bool) (files : Files) → named swapped files Pages ≡ files Pages
@@ -92,7 +92,7 @@ halves files h some s = ⊎_elim
     s.spells
 
 bare : (files : Files) → AreHalf files → length (files Pages) ≡ 0 → StandsFor [] files
-bare files h none = fresh_stands files (h.0, none) (none_made (files Log2) h.1)
+bare files h none = fresh_stands files (record { log = h.0; other = none_made (files Log2) h.2; short = h.1; other_short = none_long (files Log2) h.2 }) none
 
 left : (es : List Entry) (files : Files) → AreLeft es files → IsStoreOrNone es files
 left es files (inl half) = ⊎_elim

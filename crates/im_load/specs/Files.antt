@@ -18,9 +18,9 @@ HaveNoLog files = (files Log ≡ []) × (files Log2 ≡ [])
 abbrev pub AreEmpty : Files → Type 0
 AreEmpty files = HaveNoLog files × (files Pages ≡ [])
 
--- What a stop within a load leaves: neither log is made. Where pages has bytes these files are no store, and where it has none no store was made yet.
+-- What a stop within a load leaves: neither log is made, and the first is no longer than a header with its gate. Where pages has bytes these files are no store, and where it has none no store was made yet.
 abbrev pub AreHalf : Files → Type 0
-AreHalf files = IsUnmade (files Log) × (files Log2 ≡ [])
+AreHalf files = IsUnmade (files Log) × (length (files Log) ≤ 48) × (files Log2 ≡ [])
 
 -- The file of pages that a load of these entries makes: a good tree of them, with no LSN, each leaf but the last full to 93 percent.
 pub record ArePages (es : List Entry) (file : List ℕ) : Type 0 where

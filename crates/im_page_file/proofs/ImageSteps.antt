@@ -27,7 +27,7 @@ use Rattle.im_page_table.specs.Growth.{image_at, image_pages, with_image}
 use Rattle.im_page_file.specs.Images.{MayLogImage, Imaged, ImageKept}
 use Rattle.im_page_table.specs.KnownCopies.{KnowsCopies}
 use Rattle.im_page_table.proofs.KnownCopies.{knows_grown, knows_joined, knows_redoing}
-use Rattle.im_page_file.proofs.OtherLog.{older_as, only_spared}
+use Rattle.im_page_file.proofs.OtherLog.{earlier_as, only_spared, stays_logged}
 use Rattle.im_page_file.proofs.PageFiles.{page_file_spared}
 use Rattle.im_page_file.proofs.Standing.{log_stops}
 
@@ -101,7 +101,8 @@ module _ {D : Type 0} (d : Ghosts D) (b : Base) (base : ℕ) (s : Writer) (log :
           tied = tied_imaged s.redo_end lsn s.pages table st.tied;
           copies = knows_imaged b s lsn p put.now_durable st.kept st.copies (put.rises b starts) put.grows;
           other = only_spared d Log2 old new (spared d Log Log2 old new (λ same. cc) changes) st.other;
-          older = older_as (d.seen old) (d.seen new) put.file.generation (changes.seen Log2 (λ same. cc)) st.older;
+          older = earlier_as (d.seen old) (d.seen new) put.file.generation (changes.seen Log2 (λ same. cc)) st.older;
+          left = stays_logged d b old new changes st.left;
         };
       }
 

@@ -14,6 +14,7 @@ use Rattle.im_theory_page.specs.PageFile.{file_page}
 use Rattle.im_page_table.specs.declared.table_entry.TableEntry.{TableEntry}
 use Rattle.im_page_table.specs.DirtyTable.{TableView, entry_among}
 use Rattle.im_page_file.specs.OtherLog.{IsOlder}
+use Rattle.im_page_file.proofs.OtherLog.{earlier_of, stays_synced}
 use Rattle.im_page_file.specs.PageFile.{IsPageFile}
 use Rattle.im_page_file.specs.Stands.{Stands}
 use Rattle.im_page_table.proofs.KnownCopies.{knows_redoing}
@@ -43,5 +44,6 @@ module _ {D : Type 0} (d : Ghosts D) where
     tied = λ p. inl (ap (λ (xs : List TableEntry). entry_among xs p) none);
     copies = knows_redoing (opened b all (file_page (d.seen disk Pages))) refl;
     other = other;
-    older = older;
+    older = earlier_of (d.seen disk) older;
+    left = stays_synced d b disk synced older.left;
   }

@@ -1,5 +1,5 @@
 -- How a writer of pages stands after each of its calls, and what a stop within one leaves.
-use Rattle.std.proofs.Common.{◌≡◌, inl, ⊎_elim, ℕ, ◌*◌, ◌≤◌, false, true, List, length, refl, sym, ◌∙◌, ap, subst}
+use Rattle.std.proofs.Common.{◌≡◌, inl, ⊎_elim, ℕ, ◌*◌, ◌≤◌, false, true, List, length, refl, sym, ◌∙◌, ap, subst, arith}
 use Rattle.im_base_types.specs.declared.file_id.FileId.{FileId}
 use Rattle.im_base_types.specs.declared.file_id.FileId.TheVariants.{Log, Pages, Log2}
 use Rattle.im_theory_log.specs.Histories.{Base, History, IsFront}
@@ -23,7 +23,7 @@ use Rattle.im_page_file.specs.PageFile.{KeepsSynced}
 use Rattle.im_page_file.specs.Stands.{IsCovered, LeavesCovered, Stands, MayWritePage, Synced, Run}
 use Rattle.im_page_table.proofs.TableSteps.{tied_synced, tied_written}
 use Rattle.im_page_table.proofs.KnownCopies.{knows_forced, knows_synced, knows_written}
-use Rattle.im_page_file.proofs.OtherLog.{older_as, only_spared}
+use Rattle.im_page_file.proofs.OtherLog.{earlier_as, older_by, only_spared, says_left, says_torn, stays_logged, stays_longer, stays_written}
 use Rattle.im_page_file.proofs.PageFiles.{page_file_spared, page_file_synced, page_file_torn, page_file_written}
 
 -- ---- the log's file
@@ -73,12 +73,12 @@ module _ {D : Type 0} (d : Ghosts D) (b : Base) (base : ℕ) where
     has_log c same = record { made = subst IsMade (sym same) st.log_is.made; starts = ap base_of same ∙ st.log_is.starts; spells = ap (log_of base) same ∙ st.log_is.on_disk }
 
     -- the other log is older still
-    older_left : (c : Files) → c Log ≡ d.seen old Log → c Log2 ≡ d.seen old Log2 → IsOlder b c
-    older_left c log other = older_as (d.seen old) c (ap generation_of log) other st.older
+    older_left : (e c : Files) → d.may_leave old e → c Log ≡ d.seen old Log → c Pages ≡ e Pages → c Log2 ≡ d.seen old Log2 → IsOlder b c
+    older_left e c left log pages other = older_by c (earlier_as (d.seen old) c (ap generation_of log) other st.older) (says_left d b old e c left pages other st.left)
 
     -- a stop now
     pub stop_now : (c : Files) → d.may_leave old c → IsCovered b base s.durable s.log c
-    stop_now c left = covered_by s c st.kept (has_log c (log_durable c left)) (st.file.leaves c left) (older_left c (log_durable c left) (st.other c left))
+    stop_now c left = covered_by s c st.kept (has_log c (log_durable c left)) (st.file.leaves c left) (older_left c c left (log_durable c left) refl (st.other c left))
 
     -- a stop within the write of a page
     pub write_stops : (p l n : ℕ) (new : D) → n ≡ 4096 → WriterKept b (written p l s) → LeavesOnly d old new (Stepped (InFile Pages (Torn (p * 4096) n)) (d.may_leave old)) → LeavesCovered d b base s.durable s.log old new
@@ -86,7 +86,9 @@ module _ {D : Type 0} (d : Ghosts D) (b : Base) (base : ℕ) where
         weakened d old new (Stepped (InFile Pages (Torn (p * 4096) n)) (d.may_leave old)) (IsCovered b base s.durable s.log) run
         (λ told c left.
         let log = left.2.others Log (λ same. cc) ∙ log_durable left.0 left.1 in
-        covered_by (written p l s) c kept (has_log c log) (page_file_torn d s.pages p l n old whole st.file c left) (older_left c log (left.2.others Log2 (λ same. cc) ∙ st.other left.0 left.1)))
+        let other = left.2.others Log2 (λ same. cc) ∙ st.other left.0 left.1 in
+        covered_by (written p l s) c kept (has_log c log) (page_file_torn d s.pages p l n old whole st.file c left)
+        (older_by c (earlier_as (d.seen old) c (ap generation_of log) other st.older) (says_torn d b (p * 4096) n old c left other st.left)))
 
     -- a stop within a sync
     pub sync_stops : (new : D) → LeavesOnly d old new (d.may_leave old) → LeavesCovered d b base s.durable s.log old new
@@ -98,7 +100,8 @@ module _ {D : Type 0} (d : Ghosts D) (b : Base) (base : ℕ) where
         weakened d old new _ (IsCovered b base s.durable s.log) run
         (λ told c left.
         let keeps = subst (λ (bytes : List ℕ). KeepsSynced s.pages bytes) (sym (left.2.others Pages (λ same. cc))) (st.file.leaves left.0 left.1) in
-        let older = older_as (d.seen old) c left.2.changed.1 (left.2.others Log2 (λ same. cc) ∙ st.other left.0 left.1) st.older in
+        let other = left.2.others Log2 (λ same. cc) ∙ st.other left.0 left.1 in
+        let older = older_by c (earlier_as (d.seen old) c left.2.changed.1 other st.older) (says_left d b old left.0 c left.1 (left.2.others Pages (λ same. cc)) other st.left) in
         ⊎_elim
         (λ (has : HasLog base s.durable (c Log)). covered_by s c st.kept has keeps older)
         (λ (has : HasLog base s.log (c Log)). record {
@@ -123,7 +126,8 @@ module _ {D : Type 0} (d : Ghosts D) (b : Base) (base : ℕ) where
           tied = tied_written s.pages p l table new_table may.entry is enters st.tied;
           copies = knows_written s p l st.copies;
           other = only_spared d Log2 old new (spared d Pages Log2 old new (λ same. cc) changes) st.other;
-          older = older_as (d.seen old) (d.seen new) (ap generation_of spares.seen) (changes.seen Log2 (λ same. cc)) st.older;
+          older = earlier_as (d.seen old) (d.seen new) (ap generation_of spares.seen) (changes.seen Log2 (λ same. cc)) st.older;
+          left = stays_written d b (p * 4096) (length bytes) old new crash (changes.seen Log2 (λ same. cc)) st.left;
         }
 
     pub stands_synced : (new_table : TableView) (new : D) → d.seen new ≡ d.seen old → ((c : Files) → d.may_leave new c → d.may_leave old c) → Only Pages (d.seen new) (d.may_leave new) → d.failed new ≡ false
@@ -140,7 +144,8 @@ module _ {D : Type 0} (d : Ghosts D) (b : Base) (base : ℕ) where
             tied = λ p. inl (entries p);
             copies = knows_synced b s st.kept st.copies;
             other = λ c left. st.other c (outcomes c left) ∙ sym (ap (λ (files : Files). files Log2) seen);
-            older = older_as (d.seen old) (d.seen new) (ap generation_of spares.seen) (ap (λ (files : Files). files Log2) seen) st.older;
+            older = earlier_as (d.seen old) (d.seen new) (ap generation_of spares.seen) (ap (λ (files : Files). files Log2) seen) st.older;
+            left = stays_longer d b old new (ap (λ (files : Files). files Log2) seen) (λ c left. (c, outcomes c left, omega arith)) st.left;
           };
           entries = entries;
         }
@@ -154,7 +159,8 @@ module _ {D : Type 0} (d : Ghosts D) (b : Base) (base : ℕ) where
       tied = st.tied;
       copies = knows_forced s st.kept.front st.copies;
       other = only_spared d Log2 old new (spared d Log Log2 old new (λ same. cc) changes) st.other;
-      older = older_as (d.seen old) (d.seen new) same (changes.seen Log2 (λ same. cc)) st.older;
+      older = earlier_as (d.seen old) (d.seen new) same (changes.seen Log2 (λ same. cc)) st.older;
+      left = stays_logged d b old new changes st.left;
     }
 
     pub stands_read : (new : D) → Reads d old new → d.failed new ≡ false → Stands d b base s log table new
@@ -166,7 +172,8 @@ module _ {D : Type 0} (d : Ghosts D) (b : Base) (base : ℕ) where
       tied = st.tied;
       copies = st.copies;
       other = only_spared d Log2 old new (spares_reads d Log2 old new reads) st.other;
-      older = older_as (d.seen old) (d.seen new) (ap (λ (files : Files). generation_of (files Log)) reads.seen) (ap (λ (files : Files). files Log2) reads.seen) st.older;
+      older = earlier_as (d.seen old) (d.seen new) (ap (λ (files : Files). generation_of (files Log)) reads.seen) (ap (λ (files : Files). files Log2) reads.seen) st.older;
+      left = stays_longer d b old new (ap (λ (files : Files). files Log2) reads.seen) (λ c left. (c, reads.outcomes c left, omega arith)) st.left;
     }
 
     -- ---- runs

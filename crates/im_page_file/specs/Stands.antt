@@ -15,7 +15,7 @@ use Rattle.im_log.specs.Kept.{SpellsBetween}
 use Rattle.im_theory_page.specs.Page.{page_of}
 use Rattle.im_theory_page.specs.PageFile.{file_page}
 use Rattle.im_page_table.specs.DirtyTable.{TableView, entry_in, HasEntries, IsTied}
-use Rattle.im_page_file.specs.OtherLog.{IsOlder}
+use Rattle.im_page_file.specs.OtherLog.{IsEarlier, IsOlder, LeftStays}
 use Rattle.im_page_file.specs.PageFile.{IsPageFile}
 use Rattle.im_page_table.specs.KnownCopies.{KnowsCopies}
 
@@ -44,7 +44,8 @@ module _ {D : Type 0} (d : Ghosts D) (b : Base) (base : ℕ) where
     pub copies : KnowsCopies s
     -- 7
     pub other : Only Log2 (d.seen disk) (d.may_leave disk)
-    pub older : IsOlder b (d.seen disk)
+    pub older : IsEarlier (d.seen disk)
+    pub left : LeftStays d b disk
 
   -- A stop at any moment since old leaves what redo can start from.
   abbrev pub LeavesCovered : History → History → D → D → Type 0

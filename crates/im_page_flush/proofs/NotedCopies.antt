@@ -161,6 +161,7 @@ module _ {D : Type 0} (d : Ghosts D) (b : Base) (base : ℕ) where
             copies = told_knows b t p e at done.copy w.stands.copies;
             other = w.stands.other;
             older = w.stands.older;
+            left = w.stands.left;
           };
           entries = entries;
           pooled = pooled_told pool t.pages p w.pooled;

@@ -21,7 +21,7 @@ use Rattle.im_page_pool.specs.Pool.{Held, PoolView, held_of}
 use Rattle.im_page_pool.specs.Writes.{TearsPage, WritesPage}
 use Rattle.im_page_table.specs.DirtyTable.{TableView, entry_in, has_room, put, written_in, ChangesEntry, is_changed}
 use Rattle.im_log_gate.specs.Header.{generation_of}
-use Rattle.im_page_file.proofs.OtherLog.{older_as, only_spared}
+use Rattle.im_page_file.proofs.OtherLog.{earlier_as, only_spared, stays_longer}
 use Rattle.im_page_file.specs.Stands.{LeavesCovered, Stands, Synced}
 use Rattle.im_page_table.specs.Growth.{Keeps, SamePage}
 use Rattle.im_page_flush.specs.Writing.{lsn_for, IsShown, IsPooled, SameHeld, Unmarks, unmarked, pool_page, IsWriting, MayPlace, MayPlaceEarly, MayWriteHere, WrittenHere, WritesTo, Flushed}
@@ -158,7 +158,8 @@ module _ {D : Type 0} (d : Ghosts D) (b : Base) (base : ℕ) (s : Writer) (log :
           tied = tied_written s.pages p l table new_table may.entry is entry st.tied;
           copies = knows_written s p l st.copies;
           other = only_spared d Log2 old new (spared d Pages Log2 old new (λ same. cc) changes) st.other;
-          older = older_as (d.seen old) (d.seen new) (ap generation_of spares.seen) (changes.seen Log2 (λ same. cc)) st.older;
+          older = earlier_as (d.seen old) (d.seen new) (ap generation_of spares.seen) (changes.seen Log2 (λ same. cc)) st.older;
+          left = stays_longer d b old new (changes.seen Log2 (λ same. cc)) (λ c left. (let e = crash c left in (e.0, e.1, e.2.changed.range.no_shorter))) st.left;
         };
         pooled = pooled_written pool new_pool s.pages p l pooled un;
         entries = λ e has. entries_written s.pages p l table new_table may.entry is entry (sym room ∙ e) has;

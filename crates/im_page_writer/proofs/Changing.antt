@@ -25,7 +25,7 @@ use Rattle.im_log.specs.Kept.{Appended}
 use Rattle.im_page_pool.specs.declared.frame.Frame.{Frame}
 use Rattle.im_page_pool.specs.Pool.{Held, PoolView, held_of, Sets}
 use Rattle.im_page_table.specs.DirtyTable.{TableView, ChangesEntry, HasEntries, is_changed}
-use Rattle.im_page_file.proofs.OtherLog.{older_as, only_spared}
+use Rattle.im_page_file.proofs.OtherLog.{earlier_as, only_spared, stays_logged}
 use Rattle.im_page_file.specs.PageFile.{IsPageFile}
 use Rattle.im_page_flush.specs.Writing.{IsShown, IsPooled, IsWriting}
 use Rattle.im_page_table.specs.KnownCopies.{changed_as, changed_page_as, IsAtOrAfter, IsKnownFrom}
@@ -124,7 +124,8 @@ module _ {D : Type 0} (d : Ghosts D) (b : Base) (base : ℕ) (s : Writer) (log n
           copies = knows_grown (changed_as known r s) done.now_durable done.grows
               (knows_joined b s r w.stands.kept w.stands.copies may.last (λ q. passed lsn (only r.page (changed_page_as known r) s.pages q)) (others_none (changed_page_as known r) r.page lsn s.pages (λ x none. cc none)));
           other = only_spared d Log2 old new (spared d Log Log2 old new (λ same. cc) changes) w.stands.other;
-          older = older_as (d.seen old) (d.seen new) done.file.generation (changes.seen Log2 (λ same. cc)) w.stands.older;
+          older = earlier_as (d.seen old) (d.seen new) done.file.generation (changes.seen Log2 (λ same. cc)) w.stands.older;
+          left = stays_logged d b old new changes w.stands.left;
         };
         entries = entries;
         pooled = pooled_same new_pool (only r.page (changed_page_as known r) s.pages) (λ q. passed lsn (only r.page (changed_page_as known r) s.pages q)) (λ q. refl) (λ q. refl) (λ q. refl) pooled;

@@ -20,7 +20,7 @@ use Rattle.im_page_pool.specs.Pool.{Held, PoolView, held_of}
 use Rattle.im_page_writer.specs.declared.page_writer.PageWriter.{PageWriter}
 use Rattle.im_page_table.specs.DirtyTable.{TableView, dirty_pages, entry_in, AreApart, FitsRecord, HasEntries, is_changed, synced_entries}
 use Rattle.im_page_table.specs.KnownCopies.{KnowsCopies}
-use Rattle.im_page_file.proofs.OtherLog.{older_as, only_spared}
+use Rattle.im_page_file.proofs.OtherLog.{earlier_as, only_spared, stays_logged}
 use Rattle.im_page_file.specs.Stands.{LeavesCovered}
 use Rattle.im_page_flush.specs.Writing.{IsPooled, IsShown, IsWriting, LeavesGrown}
 use Rattle.im_page_writer.specs.PageWriter.{GoesOn}
@@ -90,6 +90,7 @@ module _ {D : Type 0} (d : Ghosts D) (b : Base) (base : ℕ) (s : Writer) (log :
       copies = knows_forgotten s w.stands.copies;
       other = w.stands.other;
       older = w.stands.older;
+      left = w.stands.left;
     };
     entries = entries;
     pooled = pooled_forgotten pool s.pages w.pooled;
@@ -118,7 +119,8 @@ module _ {D : Type 0} (d : Ghosts D) (b : Base) (base : ℕ) (s : Writer) (e nex
           tied = w.stands.tied;
           copies = knows_grown (appended r t) done.now_durable done.grows (knows_joined b t r w.stands.kept w.stands.copies high (λ q. passed lsn (t.pages q)) (λ q none. (none, refl)));
           other = only_spared d Log2 old new (spared d Log Log2 old new (λ same. cc) changes) w.stands.other;
-          older = older_as (d.seen old) (d.seen new) done.file.generation (changes.seen Log2 (λ same. cc)) w.stands.older;
+          older = earlier_as (d.seen old) (d.seen new) done.file.generation (changes.seen Log2 (λ same. cc)) w.stands.older;
+          left = stays_logged d b old new changes w.stands.left;
         };
         entries = w.entries;
         pooled = pooled_same pool t.pages (λ q. passed lsn (t.pages q)) (λ q. refl) (λ q. refl) (λ q. refl) w.pooled;

@@ -19,7 +19,7 @@ use Rattle.im_page_table.specs.DirtyTable.{TableView}
 use Rattle.im_page_flush.specs.Writing.{IsWriting}
 use Rattle.im_page_writer.specs.PageWriter.{IsPlain}
 use Rattle.im_page_table.proofs.KnownCopies.{knows_grown, knows_joined}
-use Rattle.im_page_file.proofs.OtherLog.{older_as, only_spared}
+use Rattle.im_page_file.proofs.OtherLog.{earlier_as, only_spared, stays_logged}
 use Rattle.im_page_file.proofs.PageFiles.{page_file_spared}
 use Rattle.im_page_flush.proofs.Goings.{pooled_same}
 
@@ -54,7 +54,8 @@ module _ {D : Type 0} (d : Ghosts D) (b : Base) (base : ℕ) (s : Writer) (e : �
           copies = knows_grown (appended (logged_at lsn entry) s) done.now_durable done.grows
               (knows_joined b s (logged_at lsn entry) w.stands.kept w.stands.copies logged_high (λ q. passed lsn (s.pages q)) (λ q none. (none, refl)));
           other = only_spared d Log2 old new (spared d Log Log2 old new (λ same. cc) changes) w.stands.other;
-          older = older_as (d.seen old) (d.seen new) done.file.generation (changes.seen Log2 (λ same. cc)) w.stands.older;
+          older = earlier_as (d.seen old) (d.seen new) done.file.generation (changes.seen Log2 (λ same. cc)) w.stands.older;
+          left = stays_logged d b old new changes w.stands.left;
         };
         entries = w.entries;
         pooled = pooled_same pool s.pages (λ q. passed lsn (s.pages q)) (λ q. refl) (λ q. refl) (λ q. refl) w.pooled;

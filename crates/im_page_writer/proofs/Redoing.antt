@@ -111,6 +111,7 @@ module _ {D : Type 0} (d : Ghosts D) (b : Base) (base : ℕ) (s : Writer) (log :
           copies = knows_redoing (loaded p c s) going;
           other = w.stands.other;
           older = w.stands.older;
+          left = w.stands.left;
         };
         entries = entries;
         pooled = pooled_loaded pool new_pool s.pages s.point p c frame w.pooled number takes low;

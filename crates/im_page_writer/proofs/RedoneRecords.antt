@@ -126,6 +126,7 @@ module _ {D : Type 0} (d : Ghosts D) (b : Base) (base : ℕ) (s : Writer) (log :
       copies = knows_redoing (redone_as known r s) going;
       other = w.stands.other;
       older = w.stands.older;
+      left = w.stands.left;
     };
     entries = entries;
     pooled = pooled;

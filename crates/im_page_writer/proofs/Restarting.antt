@@ -80,6 +80,7 @@ module _ {D : Type 0} (d : Ghosts D) (b : Base) (base : ℕ) where
           copies = knows_ended b s (redo_ends b s begun grows.images is.writing.stands.kept going ready grows.is grows.all front past);
           other = is.writing.stands.other;
           older = is.writing.stands.older;
+          left = is.writing.stands.left;
         };
         entries = is.writing.entries;
         pooled = pooled_same w.pool s.pages (ended b s).pages (λ p. refl) (λ p. refl) (λ p. refl) is.writing.pooled;

@@ -164,6 +164,7 @@ module _ {D : Type 0} (d : Ghosts D) (b : Base) (base : ℕ) (s : Writer) (old :
           copies = knows_redoing t going;
           other = w.stands.other;
           older = w.stands.older;
+          left = w.stands.left;
         };
         entries = entries;
         pooled = pooled;

@@ -1,5 +1,5 @@
 -- How the log goes on in the other file under a writer of pages.
-use Rattle.std.proofs.Common.{◌≡◌, ◌⊎◌, inl, inr, ⊎_elim, ℕ, ◌+◌, ◌<◌, ◌≤◌, Bool, true, false, not, List, [], Option, None, Some, Result, Ok, Err, take, refl, sym, ◌∙◌, ap, subst, arith, append-nil}
+use Rattle.std.proofs.Common.{◌≡◌, ◌⊎◌, inl, inr, ⊎_elim, ℕ, ◌+◌, ◌<◌, ◌≤◌, Bool, true, false, not, List, [], ◌∷◌, Option, None, Some, Result, Ok, Err, take, refl, sym, ◌∙◌, ap, subst, arith, append-nil}
 use Rattle.std.specs.Prelude.{◌≢◌, ◌↔◌, ◌^◌, nat_le, nat_lt, if◌then◌else◌, IfErr, IsErrAnd}
 use Rattle.std.proofs.lemmas.Bool.{cases_lt}
 use Rattle.std.specs.Ordering.{nat_cmp}
@@ -9,7 +9,8 @@ use Rattle.im_base_types.specs.declared.fault.Fault.{Fault}
 use Rattle.im_base_types.specs.declared.fault.Fault.TheVariants.{Capacity, Device, Failed, LogFull, NotAStore}
 use Rattle.im_base_types.specs.declared.file_id.FileId.TheVariants.{Log, Pages, Log2}
 use Rattle.im_base_types.specs.Pages.{Page}
-use Rattle.im_theory_log.specs.Histories.{Base, History, IsFront, Rises, end_of, page_at}
+use Rattle.im_base_types.specs.Records.{Logged}
+use Rattle.im_theory_log.specs.Histories.{Base, History, IsFront, IsRecordOf, Rises, end_of, page_at}
 use Rattle.im_theory_log.specs.Copies.{GrowsByImages}
 use Rattle.im_theory_log.specs.Writer.{Writer}
 use Rattle.im_theory_log.specs.WriterSteps.{is_copied}
@@ -36,10 +37,13 @@ use Rattle.im_log.specs.Spelled.{log_of}
 use Rattle.im_log.specs.Switching.{LogSwitchKept, HasEither, IsKeptOrUnmade, WentOn, next_gate}
 use Rattle.im_log.proofs.Above.{front_then}
 use Rattle.im_log.proofs.Switching.{named_weakened}
-use Rattle.im_theory_page.specs.PageFile.{file_page}
+use Rattle.im_theory_page.specs.Header.{initial}
+use Rattle.im_theory_page.specs.PageFile.{file_page, page_count}
+use Rattle.im_theory_page.proofs.PageFileLemmas.{page_past}
 use Rattle.im_page_table.specs.DirtyTable.{TableView, entry_in, HasEntries, IsTied}
 use Rattle.im_page_table.proofs.Growing.{grows_none, grows_then, keeps_none, keeps_then, on_ok}
-use Rattle.im_page_file.specs.OtherLog.{IsOlder, LeftSays}
+use Rattle.im_page_file.specs.OtherLog.{AreWithin, IsEarlier, IsOlder, LeftSays}
+use Rattle.im_page_file.proofs.OtherLog.{stays_synced}
 use Rattle.im_page_file.specs.PageFile.{KeepsSynced}
 use Rattle.im_page_file.specs.Stands.{IsCovered, Stands}
 use Rattle.im_page_writer.specs.declared.known.Known.{Known}
@@ -67,31 +71,51 @@ pub made_header : (file : List ℕ) → IsMade file → headers.IsMade file
 made_header file made = record { within = made.within; made = made.made; named = made.named }
 
 -- where the other log is older, the log is the current one
-pub older_current : {b : Base} (files : Files) → IsMade (files Log) → IsOlder b files → IsCurrent false files × HasCurrent files
-older_current {b} files made older = (inl older.earlier, record { log = inr (made_header (files Log) made); other = older.known; apart = λ same. (let less = older.earlier in absurd (omega (arith, same, less))) })
+pub older_current : (files : Files) → IsMade (files Log) → IsEarlier files → IsCurrent false files × HasCurrent files
+older_current files made older = (inl older.earlier, record { log = inr (made_header (files Log) made); other = older.known; apart = λ same. (let less = older.earlier in absurd (omega (arith, same, less))) })
 
 -- and the other way round, by the names of the current one
-current_older : (b : Base) (swapped : Bool) (files : Files) → IsCurrent swapped files → HasCurrent files → 1 ≤ generation_of (named swapped files Log) → LeftSays b (named swapped files Log2) → IsOlder b (named swapped files)
+current_older : (b : Base) (swapped : Bool) (files : Files) → IsCurrent swapped files → HasCurrent files → 1 ≤ generation_of (named swapped files Log) → LeftSays b (page_count (named swapped files Pages)) (named swapped files Log2) → IsOlder b (named swapped files)
 current_older b false files (inl less) has some left = record { earlier = less; known = has.other; left = left }
 current_older b false files (inr none) has some left = (let low : generation_of (named false files Log) ≡ 0 = none.0 in absurd (omega (arith, some, low)))
 current_older b true files (inl less) has some left = record { earlier = less; known = has.log; left = left }
 current_older b true files (inr none) has some left = (let clash : true ≡ false = none.2 in absurd (cc clash))
 
+-- a record has an LSN above the base's
+some_lsn : (b : Base) (log : History) (s : Logged) → Rises b log → IsRecordOf s log → 1 ≤ s.lsn
+some_lsn b [] s up is = absurd is
+some_lsn b (r ∷ older) s up (inl same) = let high = up.1 in let at = ap (λ (x : Logged). x.lsn) same in omega (arith, high, at)
+some_lsn b (r ∷ older) s up (inr there) = some_lsn b older s up.0 there
+
+-- a file that has each page as the log made it has each that it changed
+within_file : (b : Base) (log : History) (place : ℕ) (pages : List ℕ) → Rises b log → ((p : ℕ) → file_page pages p ≡ Some (page_at b log p)) → AreWithin (page_count pages) log
+within_file b log place pages up each s is changes = elim (cases_lt s.page (page_count pages)) [
+  | inl less ↦ less
+  | inr more ↦
+      let past : Some (initial s.page) ≡ Some (page_at b log s.page) = sym (page_past pages s.page (omega (arith, more))) ∙ each s.page in
+      let same : initial s.page ≡ page_at b log s.page = cc past in
+      let none : 0 ≡ (page_at b log s.page).lsn = ap (λ (g : Page). g.lsn) same in
+      let low : s.lsn ≤ (page_at b log s.page).lsn = past_after b log place up s is changes in
+      let some = some_lsn b log s up is in
+      absurd (omega (arith, none, low, some))
+]
+
 -- a switch makes it so of the log that it leaves
-left_after : (b : Base) (base place : ℕ) (log : History) (file : List ℕ) → Rises b log → AreReadable log → HasLog base log file → LeftSays (base_after b log place) file
-left_after b base place log file up readable has = inr (record {
+left_after : (b : Base) (base place : ℕ) (log : History) (file pages : List ℕ) → Rises b log → AreReadable log → ((p : ℕ) → file_page pages p ≡ Some (page_at b log p)) → HasLog base log file → LeftSays (base_after b log place) (page_count pages) file
+left_after b base place log file pages up readable each has = inr (record {
   before = log;
   cut = [];
   header = ap (take 47) (append-nil file);
   spells = subst (λ (bytes : List ℕ). HasLog (base_of file) log bytes) (sym (append-nil file)) (subst (λ (n : ℕ). HasLog n log file) (sym has.starts) has);
   readable = readable;
   past = past_after b log place up;
+  there = within_file b log place pages up each;
 })
 
 -- and of one that was left before it stays so
-left_still : (b : Base) (was file : List ℕ) → IsKeptOrUnmade was file → LeftSays b was → LeftSays b file
-left_still b was file (inl same) left = subst (LeftSays b) (sym same) left
-left_still b was file (inr none) left = inl none
+left_still : (b : Base) (many : ℕ) (was file : List ℕ) → IsKeptOrUnmade was file → LeftSays b many was → LeftSays b many file
+left_still b many was file (inl same) left = subst (LeftSays b many) (sym same) left
+left_still b many was file (inr none) left = inl none
 
 -- the file of pages has one name
 pub named_pages : (swapped : Bool) (files : Files) → named swapped files Pages ≡ files Pages
@@ -211,12 +235,12 @@ module _ {D : Type 0} (d : Ghosts D) (b : Base) (base : ℕ) where
     has_log : HasLog base s.log (d.seen old Log)
     has_log = record { made = st.log_is.made; starts = st.log_is.starts; spells = subst (λ (l : History). log_of base (d.seen old Log) ≡ Some l) durable st.log_is.on_disk }
 
-    left_log : LeftSays (base_after b s.log start) (d.seen old Log)
-    left_log = left_after b base start s.log (d.seen old Log) st.kept.rises readable has_log
+    left_log : LeftSays (base_after b s.log start) (page_count (d.seen old Pages)) (d.seen old Log)
+    left_log = left_after b base start s.log (d.seen old Log) (d.seen old Pages) st.kept.rises readable in_file has_log
 
     -- a stop within
-    left_either : (c : Files) → HasEither base s.log start (d.seen old) c → LeftSwitching b base s c
-    left_either c r = record {
+    left_either : LeftSays b (page_count (d.seen old Pages)) (d.seen old Log2) → (c : Files) → HasEither base s.log start (d.seen old) c → LeftSwitching b base s c
+    left_either now c r = record {
       swapped = r.swapped;
       high = s.log;
       grows = grows_none b s.log;
@@ -233,18 +257,18 @@ module _ {D : Type 0} (d : Ghosts D) (b : Base) (base : ℕ) where
         by (inl has) = inl (record {
           log = record { left = s.log; has = has.0; longer = st.kept.front; shorter = front_self s.log };
           pages = covers b s st.kept (file_page (named r.swapped c Pages)) (subst (λ (bytes : List ℕ). KeepsSynced s.pages bytes) (sym pages_same) keeps_synced) s.log (record { from = st.kept.front; upto = front_self s.log });
-          older = current_older b r.swapped c r.current r.has (made_some (named r.swapped c Log) has.0.made) (left_still b (d.seen old Log2) (named r.swapped c Log2) has.1 st.older.left);
+          older = current_older b r.swapped c r.current r.has (made_some (named r.swapped c Log) has.0.made) (subst (λ (l : List ℕ). LeftSays b (page_count l) (named r.swapped c Log2)) (sym pages_same) (left_still b (page_count (d.seen old Pages)) (d.seen old Log2) (named r.swapped c Log2) has.1 now));
         })
         by (inr next) = inr (record {
           log = record { left = []; has = next.0; longer = front_self []; shorter = front_self [] };
           pages = covers_base (base_after b s.log start) (file_page (named r.swapped c Pages)) (λ p. ap (λ (bytes : List ℕ). file_page bytes p) pages_same ∙ in_file p);
-          older = current_older (base_after b s.log start) r.swapped c r.current r.has (made_some (named r.swapped c Log) next.0.made) (subst (LeftSays (base_after b s.log start)) (sym next.1) left_log);
+          older = current_older (base_after b s.log start) r.swapped c r.current r.has (made_some (named r.swapped c Log) next.0.made) (subst (λ (l : List ℕ). LeftSays (base_after b s.log start) (page_count l) (named r.swapped c Log2)) (sym pages_same) (subst (LeftSays (base_after b s.log start) (page_count (d.seen old Pages))) (sym next.1) left_log));
         })
 
-    pub turn_stops : (next : ℕ) (new_log : LogFile) (new : D) (result : Result Unit Fault) → LogSwitchKept d base s.log next w.log old new_log new result → LeavesNamed d old new (LeftSwitching b base s)
-    turn_stops next new_log new result kept =
+    pub turn_stops : (d.tells → d.may_leave old (d.seen old)) → (next : ℕ) (new_log : LogFile) (new : D) (result : Result Unit Fault) → LogSwitchKept d base s.log next w.log old new_log new result → LeavesNamed d old new (LeftSwitching b base s)
+    turn_stops stays next new_log new result kept =
         let has = older_current (d.seen old) st.log_is.made st.older in
-        named_weakened d old new (HasEither base s.log start (d.seen old)) (LeftSwitching b base s) (kept.stops has.0 has.1) (λ told c r. left_either c r)
+        named_weakened d old new (HasEither base s.log start (d.seen old)) (LeftSwitching b base s) (kept.stops has.0 has.1) (λ told c r. left_either (st.left (d.seen old) (stays told)) c r)
 
     -- ---- how it stands then
 
@@ -294,8 +318,9 @@ module _ {D : Type 0} (d : Ghosts D) (b : Base) (base : ℕ) where
             older = record {
               earlier = (let before : generation_of (d.seen new Log2) ≡ generation_of (d.seen old Log) = ap generation_of went.before in let now = went.generation in omega (arith, before, now));
               known = inr (subst (λ (bytes : List ℕ). headers.IsMade bytes) (sym went.before) (made_header (d.seen old Log) st.log_is.made));
-              left = subst (LeftSays (base_after b s.log start)) (sym went.before) left_log;
             };
+            left = stays_synced d (base_after b s.log start) new (went.durable Pages)
+                (subst (λ (l : List ℕ). LeftSays (base_after b s.log start) (page_count l) (d.seen new Log2)) (sym went.pages) (subst (LeftSays (base_after b s.log start) (page_count (d.seen old Pages))) (sym went.before) left_log));
           };
           entries = subst (λ (t : TableView). HasEntries t s.pages) (sym table) is.writing.entries;
           pooled = subst (λ (v : PoolView). IsPooled v (switched start s).pages) (sym pool) (pooled_same w.pool s.pages (switched start s).pages (λ q. refl) (λ q. refl) (λ q. refl) is.writing.pooled);

@@ -1,5 +1,5 @@
 -- A restart: what redo, undo and the last force leave, put together.
-use Rattle.std.proofs.Common.{◌≡◌, ◌≢◌, ◌≤◌, ◌<◌, ◌-◌, ◌^◌, ℕ, min, inl, inr, [], List, false, length, Option, Result, refl, sym, ◌∙◌, ap, subst, arith, None}
+use Rattle.std.proofs.Common.{◌≡◌, ◌≢◌, ◌≤◌, ◌<◌, ◌-◌, ◌^◌, ℕ, min, inl, inr, ⊎_elim, [], List, false, length, Option, Result, refl, sym, ◌∙◌, ap, subst, arith, None}
 use Rattle.std.specs.Prelude.{IfErr}
 use Rattle.im_base_types.specs.declared.fault.Fault.{Fault}
 use Rattle.im_base_types.specs.declared.fault.Fault.TheVariants.{NotAStore}
@@ -16,9 +16,10 @@ use Rattle.im_theory_log.specs.WriterSteps.{forced, opened}
 use Rattle.im_theory_log.proofs.Images.{images_open, lawful_images}
 use Rattle.im_theory_log.specs.Structure.{open_smo}
 use Rattle.im_base_disk.specs.declared.disk.Disk.{Ghosts}
-use Rattle.im_base_disk.specs.Disk.{Files, Only}
+use Rattle.im_base_disk.specs.Disk.{Files, InFile, Only, Stepped}
 use Rattle.im_base_disk.specs.Runs.{ChangesOnly, LeavesIn, LeavesOnly, Reads}
 use Rattle.im_base_disk.proofs.Runs.{reads_on, spared, spares_reads, started, weakened}
+use Rattle.im_log_header.specs.Header.{StaysShort}
 use Rattle.im_log_gate.specs.Header.{IsUnmade, least_number}
 use Rattle.im_theory_page.specs.PageFile.{file_page}
 use Rattle.im_log.specs.Kept.{IsLogOf}
@@ -60,8 +61,19 @@ has_same b base all files c log pages other has = record {
   log = subst (λ (bytes : List ℕ). IsLogOf base all bytes) (sym log) has.log;
   bare = λ unmade. ap (λ (bytes : List ℕ). length bytes) pages ∙ has.bare (subst (λ (bytes : List ℕ). IsUnmade bytes) log unmade);
   covers = subst (λ (bytes : List ℕ). Covers b all (file_page bytes)) (sym pages) has.covers;
-  newest = newest_as files c log other has.newest;
+  newest = newest_as files c log pages other has.newest;
 }
+
+-- two facts of one file
+pub in_both : {D : Type 0} (d : Ghosts D) (file : FileId) (old new : D) (P Q : List ℕ → Type 0) → LeavesIn d file old new P → LeavesIn d file old new Q → LeavesIn d file old new (λ bytes. P bytes × Q bytes)
+in_both d file old new P Q first second = record {
+  later = first.later;
+  each = λ told c left. both c (first.each told c left) (second.each told c left);
+  before = λ told t c le left. ⊎_elim (λ past. inl past) (λ one. ⊎_elim (λ past. inl past) (λ two. inr (both c one two)) (second.before told t c le left)) (first.before told t c le left);
+}
+  where
+    both : (c : Files) → Stepped (InFile file (λ _ bytes. P bytes)) (d.may_leave old) c → Stepped (InFile file (λ _ bytes. Q bytes)) (d.may_leave old) c → Stepped (InFile file (λ _ bytes. P bytes × Q bytes)) (d.may_leave old) c
+    both c one two = (one.0, one.1, record { changed = (one.2.changed, two.2.changed); others = one.2.others })
 
 module _ {D : Type 0} (d : Ghosts D) (b : Base) (base : ℕ) (all : History) where
   -- ---- before any call
@@ -79,26 +91,34 @@ module _ {D : Type 0} (d : Ghosts D) (b : Base) (base : ℕ) (all : History) whe
   -- ---- the log is opened or made
 
   pub left_opening : (old mid : D) → ((c : Files) → d.left_since old (d.moment old) c → d.may_leave old c) → d.tells → Only Log (d.seen old) (d.may_leave old) → Only Pages (d.seen old) (d.may_leave old) → Only Log2 (d.seen old) (d.may_leave old)
-      → MayRestart b base all (d.seen old) → LeavesIn d Log old mid (IsLogOf base all) → (d.tells → ¬ (IsFresh (d.seen old)) → Reads d old mid) → LeavesOnly d old mid (IsLeftUndoing b base all)
-  left_opening old mid only_now told log pages other may stops reads = by may.has.log
+      → MayRestart b base all (d.seen old) → LeavesIn d Log old mid (IsLogOf base all) → LeavesIn d Log old mid (StaysShort (d.seen old Log)) → (d.tells → ¬ (IsFresh (d.seen old)) → Reads d old mid) → LeavesOnly d old mid (IsLeftUndoing b base all)
+  left_opening old mid only_now told log pages other may stops short reads = by may.has.log
     where
       -- while the log is made, which was not
-      newest_by : IsUnmade (d.seen old Log) → (c : Files) → IsLogOf base all (c Log) → c Log2 ≡ d.seen old Log2 → IsNewest b c
-      newest_by was c (inl none) same = inr (none.0, subst IsUnmade (sym same) (newest_unmade (d.seen old) was may.has.newest))
-      newest_by was c (inr has) same = inl (newest_made (d.seen old) c (λ _. same) has.made (λ made. absurd (made was)) may.has.newest)
+      newest_by : IsUnmade (d.seen old Log) → (c : Files) → IsLogOf base all (c Log) → StaysShort (d.seen old Log) (c Log) → c Log2 ≡ d.seen old Log2 → IsNewest b c
+      newest_by was c (inl none) stays same =
+          let before = newest_unmade (d.seen old) was may.has.newest in
+          let bound = before.short in
+          inr (record {
+            log = none.0;
+            other = subst IsUnmade (sym same) before.other;
+            short = omega (arith, bound, stays);
+            other_short = subst (λ (bytes : List ℕ). length bytes ≤ 48) (sym same) before.other_short;
+          })
+      newest_by was c (inr has) stays same = inl (newest_made (d.seen old) c (λ _. same) has.made (λ made. absurd (made was)) may.has.newest)
 
       by : IsLogOf base all (d.seen old Log) → LeavesOnly d old mid (IsLeftUndoing b base all)
       by (inl fresh) =
-          weakened d old mid _ (IsLeftUndoing b base all) stops
+          weakened d old mid _ (IsLeftUndoing b base all) (in_both d Log old mid (IsLogOf base all) (StaysShort (d.seen old Log)) stops short)
           (λ t c left.
           let same : c Pages ≡ d.seen old Pages = left.2.others Pages (λ e. cc e) ∙ pages left.0 left.1 in
           record {
             left = all;
             has = record {
-              log = left.2.changed;
+              log = left.2.changed.0;
               bare = λ unmade. ap (λ (bytes : List ℕ). length bytes) same ∙ may.has.bare fresh.0;
               covers = subst (λ (bytes : List ℕ). Covers b all (file_page bytes)) (sym same) may.has.covers;
-              newest = newest_by fresh.0 c left.2.changed (left.2.others Log2 (λ e. cc e) ∙ other left.0 left.1);
+              newest = newest_by fresh.0 c left.2.changed.0 left.2.changed.1 (left.2.others Log2 (λ e. cc e) ∙ other left.0 left.1);
             };
             grown = grows_none all;
             order = inl (order_none all);

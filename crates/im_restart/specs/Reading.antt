@@ -9,6 +9,7 @@ use Rattle.im_base_disk.specs.declared.disk.Disk.{Ghosts}
 use Rattle.im_base_disk.specs.Disk.{Only}
 use Rattle.im_base_disk.specs.Ends.{AnswersOr}
 use Rattle.im_base_disk.specs.Runs.{ChangesOnly, LeavesIn, Reads}
+use Rattle.im_log_header.specs.Header.{StaysShort}
 use Rattle.im_log_gate.specs.declared.gate.Gate.{Gate}
 use Rattle.im_log_gate.specs.Header.{least_number, StartsAlike, IsMade}
 use Rattle.im_log.specs.Kept.{HasLog, IsLogOf}
@@ -64,10 +65,11 @@ module _ {D : Type 0} (d : Ghosts D) where
     pub made : d.tells → IsMade (d.seen new Log)
     pub had : HadLog old new
 
-  -- The outcome of a call that opens the log, and makes it where there is no store: elsewhere it only reads.
+  -- The outcome of a call that opens the log, and makes it where there is no store: elsewhere it only reads. A stop leaves the log no longer than it was, or than a header with its gate.
   pub record OpensLog {A : Type 0} (old new : D) (result : Result A Fault) : Type 0 where
     pub changes : ChangesOnly d Log old new
     pub reads : d.tells → ¬ (IsFresh (d.seen old)) → Reads d old new
+    pub short : LeavesIn d Log old new (StaysShort (d.seen old Log))
     pub answers : AnswersOr (λ e. (e ≡ Memory) ⊎ (e ≡ NotAStore)) (d.failed new) result
 
   -- The log is open, and has not failed.

@@ -62,6 +62,7 @@ stands_raised d b base s n w disk kept is = let old = is.writing in record {
       copies = record { copies = old.stands.copies.copies };
       other = old.stands.other;
       older = old.stands.older;
+      left = old.stands.left;
     };
     entries = old.entries;
     pooled = pooled_same w.pool s.pages (raised n s).pages (λ q. refl) (λ q. refl) (λ q. refl) old.pooled;

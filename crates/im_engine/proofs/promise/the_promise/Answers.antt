@@ -1,14 +1,14 @@
-use Rattle.std.proofs.Common.{[], inl, refl, arith}
+use Rattle.std.proofs.Common.{[], refl}
 use Rattle.im_base_disk.specs.Disk.{both}
 use Rattle.im_engine.specs.Stands.{StandsFor}
 use Rattle.im_engine.proofs.FirstFormat.{first_stands}
-use Rattle.im_engine.proofs.Fresh.{fresh_stands}
+use Rattle.im_engine.proofs.Fresh.{fresh_stands, none_yet}
 use Rattle.im_engine.proofs.Named.{stands_nameless}
 use Rattle.im_engine.proofs.Promised.{one_list}
 use Rattle.im_engine.proofs.promise.the_promise.Goals as goal
 
 pub returns-clause-promise : goal.returns-clause-promise
-returns-clause-promise c lives are = one_list StandsFor (both [] []) lives [] (fresh_stands (both [] []) (inl (omega arith), refl) (inl (omega arith))) are
+returns-clause-promise c lives are = one_list StandsFor (both [] []) lives [] (fresh_stands (both [] []) none_yet refl) are
 
 pub returns-clause-from : goal.returns-clause-from
 returns-clause-from c before files stands lives are = one_list StandsFor files lives before stands are

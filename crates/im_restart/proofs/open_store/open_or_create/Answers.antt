@@ -32,7 +32,7 @@ returns-in_err-found-clause-kept g c b base all told may =
     let k = c.in_err-found.ensures.kept base all told may.has.log may.has.bare (lawful_taken b page_tree (pages_at_first base) page_tree_laws (counted_by b base may.counted) all may.lawful) in
     record {
       sound = sound_on c.from_residual.result _ _ c.from_residual.ensures.1 k.cause;
-      stops = left_opening d b base all old c.open_log.new.disk (g.met.D.Disk.only_now old) told (c.requires.synced Log) (c.requires.synced Pages) (c.requires.synced Log2) may k.stops c.in_err-found.ensures.outcome.reads;
+      stops = left_opening d b base all old c.open_log.new.disk (g.met.D.Disk.only_now old) told (c.requires.synced Log) (c.requires.synced Pages) (c.requires.synced Log2) may k.stops c.in_err-found.ensures.outcome.short c.in_err-found.ensures.outcome.reads;
     }
 
 pub returns-clause-kept : goal.returns-clause-kept
@@ -41,7 +41,7 @@ returns-clause-kept g c b base all told may =
     let old = c.args.disk.now in
     let mid = c.open_log.new.disk in
     let k = c.in_ok-found.ensures.kept base all told may.has.log may.has.bare (lawful_taken b page_tree (pages_at_first base) page_tree_laws (counted_by b base may.counted) all may.lawful) in
-    let opening = left_opening d b base all old mid (g.met.D.Disk.only_now old) told (c.requires.synced Log) (c.requires.synced Pages) (c.requires.synced Log2) may k.stops c.in_ok-found.ensures.outcome.reads in
+    let opening = left_opening d b base all old mid (g.met.D.Disk.only_now old) told (c.requires.synced Log) (c.requires.synced Pages) (c.requires.synced Log2) may k.stops c.in_ok-found.ensures.outcome.short c.in_ok-found.ensures.outcome.reads in
     let behind = may_behind d b base all old mid c.in_ok-found.found.log may c.in_ok-found.ensures.outcome.changes c.in_ok-found.ensures.outcome.reads k.ok.log in
     let r = c.restart_tested.ensures.kept b base all behind (pages_synced d b base all old mid c.in_ok-found.ensures.outcome.changes (c.requires.synced Pages)) (other_synced d b base all old mid c.in_ok-found.ensures.outcome.changes (c.requires.synced Log2)) k.ok in
     let number = (c.in_ok-found.ensures.had.alike told).number in

@@ -5,6 +5,7 @@ use Rattle.im_base_types.specs.declared.fault.Fault.TheVariants.{Memory, NotASto
 use Rattle.im_base_types.specs.declared.file_id.FileId.TheVariants.{Log, Pages}
 use Rattle.im_base_disk.specs.Disk.{Files}
 use Rattle.im_base_disk.proofs.Runs.{changes_reads, changes_then}
+use Rattle.im_log_header.proofs.Runs.{short_read, short_then}
 use Rattle.im_log_gate.specs.declared.gate.Gate.{Gate}
 use Rattle.im_log_gate.specs.Gate.{IsFirstGate, IsNewGate, IsReading}
 use Rattle.im_log_gate.specs.Header.{IsMade}
@@ -42,6 +43,7 @@ pub returns-in_err-gate-clause-outcome : goal.returns-in_err-gate-clause-outcome
 returns-in_err-gate-clause-outcome g c = record {
   changes = changes_reads g.D.Disk Log c.args.disk.now c.open.new.disk c.open.ensures.outcome.reads;
   reads = λ told known. c.open.ensures.outcome.reads;
+  short = short_read g.D.Disk Log c.args.disk.now c.open.new.disk c.open.new.disk (g.met.D.Disk.only_now c.args.disk.now) c.requires.durable c.open.ensures.outcome.reads;
   answers = search rules;
 }
 
@@ -49,6 +51,7 @@ pub returns-in-Some-clause-outcome : goal.returns-in-Some-clause-outcome
 returns-in-Some-clause-outcome g c = record {
   changes = changes_reads g.D.Disk Log c.args.disk.now c.open.new.disk c.open.ensures.outcome.reads;
   reads = λ told known. c.open.ensures.outcome.reads;
+  short = short_read g.D.Disk Log c.args.disk.now c.open.new.disk c.open.new.disk (g.met.D.Disk.only_now c.args.disk.now) c.requires.durable c.open.ensures.outcome.reads;
   answers = search rules;
 }
 
@@ -56,6 +59,9 @@ pub returns-in-None-clause-outcome : goal.returns-in-None-clause-outcome
 returns-in-None-clause-outcome g c = record {
   changes = changes_then g.D.Disk Log c.args.disk.now c.open.new.disk c.create.new.disk (changes_reads g.D.Disk Log c.args.disk.now c.open.new.disk c.open.ensures.outcome.reads) c.create.ensures.changes;
   reads = λ told known. absurd (known (c.in_ok-gate.ensures.unmade (ap Ok c.in-None.is) told));
+  short = short_then g.D.Disk Log c.args.disk.now c.open.new.disk c.create.new.disk g.met.D.Disk.counts_now g.met.D.Disk.seen_may_stay
+      (short_read g.D.Disk Log c.args.disk.now c.open.new.disk c.open.new.disk (g.met.D.Disk.only_now c.args.disk.now) c.requires.durable c.open.ensures.outcome.reads)
+      (changes_reads g.D.Disk Log c.args.disk.now c.open.new.disk c.open.ensures.outcome.reads) c.create.ensures.short;
   answers = answers_more (λ e. e ≡ Memory) (λ e. (e ≡ Memory) ⊎ (e ≡ NotAStore)) (g.D.Disk.failed c.create.new.disk) c.create.result (λ e is. inl is) c.create.ensures.answers;
 }
 

@@ -1,6 +1,7 @@
 use Rattle.std.proofs.Common.{rules, Option, IfSome, subst}
 use Rattle.im_base_disk.proofs.Runs.{changes_then}
 use Rattle.im_base_types.specs.declared.file_id.FileId.TheVariants.{Log}
+use Rattle.im_log_header.proofs.Runs.{short_then}
 use Rattle.im_restart.specs.declared.found.Found.{Found}
 use Rattle.im_restart.specs.Reading.{IsFound}
 use Rattle.im_restart.proofs.Openings.{had_again, kept_again, of_read, reads_again, spelled_again}
@@ -42,5 +43,6 @@ returns-in-None-clause-outcome g c =
     record {
       changes = changes_then g.D.Disk Log old mid new first.outcome.changes second.changes;
       reads = reads_again g.D.Disk old mid new first.again first.outcome.reads second.reads;
+      short = short_then g.D.Disk Log old mid new g.met.D.Disk.counts_now g.met.D.Disk.seen_may_stay first.outcome.short first.outcome.changes second.short;
       answers = second.answers;
     }

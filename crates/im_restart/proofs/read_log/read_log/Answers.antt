@@ -51,6 +51,7 @@ returns-clause-outcome g c =
     record {
       changes = changes_then g.D.Disk Log old mid new opened.changes (changes_reads g.D.Disk Log mid new c.read_all.ensures.outcome.reads);
       reads = λ told known. reads_then g.D.Disk old mid new (opened.reads told known) c.read_all.ensures.outcome.reads;
+      short = reads_on g.D.Disk old mid new _ opened.short c.read_all.ensures.outcome.reads;
       answers = c.read_all.ensures.outcome.answers;
     }
 

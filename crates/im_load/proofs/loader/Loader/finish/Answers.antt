@@ -20,6 +20,7 @@ returns-in_err-make_log-clause-stops g c from es l =
     made_left d from c.write_pages.new.disk run l.bare l.synced c.sync.new.disk c.sync.ensures.seen c.sync.ensures.outcomes c.sync.ensures.any_moment c.make_log.new.disk es c.in_ok-sync.ensures.durable
     (c.in_ok-write_pages.ensures.written es l.taken)
     (c.make_log.ensures.any_moment (log_synced d from c.write_pages.new.disk run l.bare l.synced c.sync.new.disk c.sync.ensures.seen c.sync.ensures.outcomes c.sync.ensures.any_moment))
+    (c.make_log.ensures.short (log_synced d from c.write_pages.new.disk run l.bare l.synced c.sync.new.disk c.sync.ensures.seen c.sync.ensures.outcomes c.sync.ensures.any_moment))
 
 pub returns-clause-stops : goal.returns-clause-stops
 returns-clause-stops g c from es l =
@@ -28,6 +29,7 @@ returns-clause-stops g c from es l =
     made_left d from c.write_pages.new.disk run l.bare l.synced c.sync.new.disk c.sync.ensures.seen c.sync.ensures.outcomes c.sync.ensures.any_moment c.make_log.new.disk es c.in_ok-sync.ensures.durable
     (c.in_ok-write_pages.ensures.written es l.taken)
     (c.make_log.ensures.any_moment (log_synced d from c.write_pages.new.disk run l.bare l.synced c.sync.new.disk c.sync.ensures.seen c.sync.ensures.outcomes c.sync.ensures.any_moment))
+    (c.make_log.ensures.short (log_synced d from c.write_pages.new.disk run l.bare l.synced c.sync.new.disk c.sync.ensures.seen c.sync.ensures.outcomes c.sync.ensures.any_moment))
 
 pub returns-clause-loaded : goal.returns-clause-loaded
 returns-clause-loaded g c from es l told =

@@ -11,7 +11,7 @@ returns-in_err-switch_log-clause-kept g c b base s e is over durable clean reada
     let w = c.args.self.now in
     let old = c.args.disk.now in
     let kept = c.in_err-switch_log.ensures.kept base s.log s.durable is.writing.stands.log_is pages is.writing.stands.other in
-    record { ok = search rules; stops = turn_stops g.D.Disk b base s e w old is over durable clean (c.requires.ready.opened c.requires.working) readable c.args.next c.switch_log.new.self c.switch_log.new.disk _ kept }
+    record { ok = search rules; stops = turn_stops g.D.Disk b base s e w old is over durable clean (c.requires.ready.opened c.requires.working) readable (g.met.D.Disk.seen_may_stay old) c.args.next c.switch_log.new.self c.switch_log.new.disk _ kept }
 
 pub returns-clause-kept : goal.returns-clause-kept
 returns-clause-kept g c b base s e is over durable clean readable pages =
@@ -21,7 +21,7 @@ returns-clause-kept g c b base s e is over durable clean readable pages =
     let kept = c.in_ok-switch_log.ensures.kept base s.log s.durable is.writing.stands.log_is pages is.writing.stands.other in
     record {
       ok = turned g.D.Disk b base s e w old is over durable clean opened readable c.args.next _ c.switch_log.new.disk refl c.switch_log.ensures.outcome.ready kept.ok refl refl c.forget.ensures.from c.forget.ensures.none;
-      stops = turn_stops g.D.Disk b base s e w old is over durable clean opened readable c.args.next c.switch_log.new.self c.switch_log.new.disk _ kept;
+      stops = turn_stops g.D.Disk b base s e w old is over durable clean opened readable (g.met.D.Disk.seen_may_stay old) c.args.next c.switch_log.new.self c.switch_log.new.disk _ kept;
     }
 
 pub returns-in_err-switch_log-clause-causes : goal.returns-in_err-switch_log-clause-causes
