@@ -23,4 +23,5 @@ pub mod Sized
 pub mod Switching
 mod Loans
 mod SameWriter
+pub mod HeldPages
 pub mod RoundsDone

@@ -24,6 +24,7 @@ mod by_age;
 mod changes;
 mod checkpoints;
 mod every_page;
+mod held;
 mod in_company;
 mod least_used;
 mod redo;
