@@ -7,4 +7,5 @@ pub mod Added
 pub mod Locked
 pub mod Owners
 pub mod Conflicts
+pub mod FreeLocks
 pub mod ScanRows

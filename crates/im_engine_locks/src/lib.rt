@@ -9,7 +9,7 @@
 //! (`Wait`); any other requester must die (`Die`). Nothing changes unless all is granted, and where memory is
 //! refused nothing is. `release_all` takes out the locks of one owner; it cannot fail and takes no memory. A lock of the
 //! third duration is kept until the structure change ends that it was asked for: then `fall_back` takes it out, but not
-//! where it was asked to commit too.
+//! where it was asked to commit too. `is_free` says whether a step would be granted what it asks, and leaves the table as it is.
 //!
 //! Contracts see the table as a list of owners, each with its locks (`Table`, `locks_of`), of which some last
 //! (`lasting_of`). Within, each lock stands once, with the bytes of its name, in a list of its owner, who has one of those that last and

@@ -21,6 +21,8 @@ use std::alloc::{AllocError, Global};
 use std::collections::HashMap;
 use std::marker::Model;
 
+mod free;
+
 /// The locks held, and by whom. Contracts see it as a list of owners, each with its locks.
 #[derive(Drop)]
 pub struct LockTable {
