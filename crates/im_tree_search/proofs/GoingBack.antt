@@ -131,7 +131,7 @@ back_answer pages spare k p lent held at good comes some same is last =
     ap (λ (x : Body). Some (entry_at x.entries at)) is ∙ sym (behind_answers pages spare k (length comes.passed) p (entry_at (pages p).entries at) good (behind_of pages k p comes) some here)
 
 -- and where the page has none, the search goes on before it
-back_to : (pages : Pages) (spare : List ℕ) (k : Key) (p : ℕ) (lent held : Page) → IsGoodTree pages spare → (h : ComesBack pages k p) → 1 ≤ p → lent ≡ held → held.body ≡ pages p → last_in k lent.body.entries ≡ None
+pub back_to : (pages : Pages) (spare : List ℕ) (k : Key) (p : ℕ) (lent held : Page) → IsGoodTree pages spare → (h : ComesBack pages k p) → 1 ≤ p → lent ≡ held → held.body ≡ pages p → last_in k lent.body.entries ≡ None
     → (c : ComesBack pages k lent.body.prev) × (length c.passed ≡ suc (length h.passed))
 back_to pages spare k p lent held good h some same is none =
     let body : lent.body ≡ pages p = ap (λ (g : Page). g.body) same ∙ is in

@@ -1,5 +1,5 @@
 -- A search beside a structure change.
-use Rattle.std.proofs.Common.{◌≡◌, ◌≤◌, ℕ, Bool, true, List, [], ◌∷◌, ◌++◌, Some, None, refl, sym, ◌∙◌, ap, subst, arith, append_assoc, append-nil}
+use Rattle.std.proofs.Common.{◌≡◌, ◌≤◌, ℕ, suc, Bool, true, List, [], ◌∷◌, ◌++◌, length, length-append, Some, None, refl, sym, ◌∙◌, ap, subst, arith, append_assoc, append-nil}
 use Rattle.std.proofs.lemmas.List.Concat.{flat_map-append}
 use Rattle.im_base_types.specs.Keys.{Key}
 use Rattle.im_base_types.specs.Pages.{Body, Entry, Page}
@@ -67,23 +67,37 @@ answer_here pages s p e h some is =
     first_past pages s x.before x.passed (x.node ∷ x.after) x.leaves x.low x.none
     ∙ first_within s (pages x.node.page).entries (entries_in pages x.after) e (subst (λ (q : ℕ). first_in s (pages q).entries ≡ Some e) (sym x.page) is)
 
-goes_on : (pages : Pages) (spare : List ℕ) (s : Start) (p : ℕ) → IsGoodTree pages spare → Comes pages s p → 1 ≤ p → first_in s (pages p).entries ≡ None → Comes pages s (pages p).next
-goes_on pages spare s p good h some is =
-    let x = stands pages s p h some in
+goes_from : (pages : Pages) (spare : List ℕ) (s : Start) (p : ℕ) → IsGoodTree pages spare → (x : Stands pages s p) → first_in s (pages p).entries ≡ None → (c : Comes pages s (pages p).next) × (length c.passed ≡ suc (length x.passed))
+goes_from pages spare s p good x is =
     let front = x.before ++ x.passed in
     let whole : leaves_under pages (height pages) the_root ≡ front ++ x.node ∷ x.after = x.leaves ∙ sym (append_assoc x.before x.passed (x.node ∷ x.after)) in
     let chain = chained_right pages 0 front (x.node ∷ x.after) (subst (AreChained pages 0) whole good.chained) in
-    let next : (pages x.node.page).next ≡ first_page x.after = chain.1.1 in
-    record {
-      before = x.before;
-      passed = x.passed ++ x.node ∷ [];
-      rest = x.after;
-      leaves = x.leaves ∙ ap (λ (ns : List Node). x.before ++ ns) (sym (append_assoc x.passed (x.node ∷ []) x.after));
-      way = subst (λ (ns : List Node). IsOnWay pages 0 (key_of s) (first_page ns)) (sym (append_assoc x.passed (x.node ∷ []) x.after)) x.way;
-      low = x.low;
-      none = AllOf-append (λ (m : Node). first_in s (pages m.page).entries ≡ None) x.passed (x.node ∷ []) x.none (subst (λ (q : ℕ). first_in s (pages q).entries ≡ None) (sym x.page) is, tt);
-      page = sym next ∙ ap (λ (q : ℕ). (pages q).next) x.page;
-    }
+    let next : (pages x.node.page).next ≡ first_page x.after = chain.1.1 in (
+      record {
+        before = x.before;
+        passed = x.passed ++ x.node ∷ [];
+        rest = x.after;
+        leaves = x.leaves ∙ ap (λ (ns : List Node). x.before ++ ns) (sym (append_assoc x.passed (x.node ∷ []) x.after));
+        way = subst (λ (ns : List Node). IsOnWay pages 0 (key_of s) (first_page ns)) (sym (append_assoc x.passed (x.node ∷ []) x.after)) x.way;
+        low = x.low;
+        none = AllOf-append (λ (m : Node). first_in s (pages m.page).entries ≡ None) x.passed (x.node ∷ []) x.none (subst (λ (q : ℕ). first_in s (pages q).entries ≡ None) (sym x.page) is, tt);
+        page = sym next ∙ ap (λ (q : ℕ). (pages q).next) x.page;
+      },
+      omega (arith, length-append x.passed (x.node ∷ [])),
+    )
+
+-- one leaf more is passed
+goes_more : (pages : Pages) (spare : List ℕ) (s : Start) (p : ℕ) → IsGoodTree pages spare → (h : Comes pages s p) → 1 ≤ p → first_in s (pages p).entries ≡ None → (c : Comes pages s (pages p).next) × (length c.passed ≡ suc (length h.passed))
+goes_more pages spare s p good h some is = by h.rest h.leaves h.way h.page
+  where
+    by : (rest : List Node) → leaves_under pages (height pages) the_root ≡ h.before ++ (h.passed ++ rest) → IsOnWay pages 0 (key_of s) (first_page (h.passed ++ rest)) → first_page rest ≡ p → (c : Comes pages s (pages p).next) × (length c.passed ≡ suc (length h.passed))
+    by [] leaves way page = absurd (omega (arith, page, some))
+    by (node ∷ after) leaves way page =
+        let at : Stands pages s p = record { before = h.before; passed = h.passed; node = node; after = after; leaves = leaves; way = way; low = h.low; none = h.none; page = page } in
+        goes_from pages spare s p good at is
+
+goes_on : (pages : Pages) (spare : List ℕ) (s : Start) (p : ℕ) → IsGoodTree pages spare → Comes pages s p → 1 ≤ p → first_in s (pages p).entries ≡ None → Comes pages s (pages p).next
+goes_on pages spare s p good h some is = (goes_more pages spare s p good h some is).0
 
 ends_none : (pages : Pages) (spare : List ℕ) (s : Start) → IsGoodTree pages spare → Comes pages s 0 → first_in s (walk pages) ≡ None
 ends_none pages spare s good h = first_past pages s h.before h.passed h.rest h.leaves h.low h.none ∙ by h.rest h.leaves h.page
@@ -116,6 +130,12 @@ pub comes_next : (pages : Pages) (spare : List ℕ) (s : Start) (p : ℕ) (lent 
 comes_next pages spare s p lent held good comes some same is none =
     let body : lent.body ≡ pages p = ap (λ (g : Page). g.body) same ∙ is in
     subst (λ (x : Body). Comes pages s x.next) (sym body) (goes_on pages spare s p good comes some (subst (λ (x : Body). first_in s x.entries ≡ None) body none))
+
+pub comes_more : (pages : Pages) (spare : List ℕ) (s : Start) (p : ℕ) (lent held : Page) → IsGoodTree pages spare → (h : Comes pages s p) → 1 ≤ p → lent ≡ held → held.body ≡ pages p → first_in s lent.body.entries ≡ None
+    → (c : Comes pages s lent.body.next) × (length c.passed ≡ suc (length h.passed))
+comes_more pages spare s p lent held good comes some same is none =
+    let body : lent.body ≡ pages p = ap (λ (g : Page). g.body) same ∙ is in
+    subst (λ (x : Body). (c : Comes pages s x.next) × (length c.passed ≡ suc (length comes.passed))) (sym body) (goes_more pages spare s p good comes some (subst (λ (x : Body). first_in s x.entries ≡ None) body none))
 
 -- after the leaf of the key
 pub comes_on : (pages : Pages) (spare : List ℕ) (inclusive : Bool) (key : Key) (p : ℕ) (lent held : Page) (next : ℕ) → IsGoodTree pages spare → IsOnWay pages 0 key p → lent ≡ held → held.body ≡ pages p

@@ -11,3 +11,4 @@ pub mod HeldTrees
 pub mod GoingOn
 pub mod Sighted
 pub mod GoingBack
+pub mod Looking

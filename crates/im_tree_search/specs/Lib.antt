@@ -8,3 +8,4 @@ pub mod Beside
 pub mod Sights
 pub mod RangesBeside
 pub mod Backward
+pub mod Looks

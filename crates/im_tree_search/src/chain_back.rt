@@ -24,7 +24,7 @@ use im_page::Page;
 use im_page_writer::PageWriter;
 
 // The place of the last entry below a key, where the page has one.
-fn last_below(page: &Page, key: &[u8]) -> Option<usize>
+pub(crate) fn last_below(page: &Page, key: &[u8]) -> Option<usize>
     ensures some { IfSome result (λ i. (i < length page.now.body.entries) × (last_in key.now page.now.body.entries ≡ Some (entry_at page.now.body.entries i))) }
     ensures none { result ≡ None → last_in key.now page.now.body.entries ≡ None }
 {

@@ -24,7 +24,7 @@ use im_page_pool::Frame;
 use im_page_writer::PageWriter;
 
 // The child of an inner page in whose range a key lies.
-fn child_of(page: &Page, key: &[u8]) -> PageNo
+pub(crate) fn child_of(page: &Page, key: &[u8]) -> PageNo
     requires { page.now.body.kind ≡ Inner }
     ensures { IsChild page.now.body key.now result }
 {
