@@ -1,5 +1,6 @@
 pub mod Names
 pub mod Calls
+pub mod Looked
 pub mod KeyLogs
 pub mod Deletes
 pub mod Inserts

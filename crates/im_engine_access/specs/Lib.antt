@@ -1,6 +1,7 @@
 pub mod LockAnswers
 pub mod Hidden
 pub mod Reads
+pub mod Looks
 pub mod LockCalls
 pub mod KeyLogs
 pub mod Edits
