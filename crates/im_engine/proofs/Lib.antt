@@ -48,6 +48,7 @@ pub mod Inserting
 pub mod Promised
 pub mod AsAlone
 pub mod OneLook
+pub mod LookingNow
 pub mod Waits
 pub mod SteppedTold
 pub mod SteppedLogs

@@ -13,6 +13,7 @@ pub mod Paces
 pub mod Told
 pub mod Accesses
 pub mod Looking
+pub mod LookNow
 pub mod Counted
 pub mod Turns
 pub mod Opening

@@ -36,6 +36,7 @@ mod ends;
 mod engine;
 mod inserts;
 mod lives;
+mod look_now;
 mod looking;
 mod looks;
 mod more_frames;
