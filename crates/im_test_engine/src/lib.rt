@@ -15,6 +15,8 @@ mod loads;
 #[cfg(test)]
 mod long_lists;
 #[cfg(test)]
+mod looks;
+#[cfg(test)]
 mod many;
 #[cfg(test)]
 mod plain_map;
