@@ -79,7 +79,7 @@ fit_same Last fits = refl
 
 module _ {D : Type 0} (d : Ghosts D) (e : Engine D d) (works : e.failed ≡ false) (none : is_some e.under ≡ false) where
   -- what was found below is what the look says
-  module _ {X : Type 0} (of : X → Reply) (a : Access) (reply : LookReply) where
+  module _ {X : Type 0} (of : X → Reply) (a : Access) (told : Option Reply) where
     module _ (before : List Effect) (s : Shown) (v : View) {b : Base} (r : IsRunning d b before s v e) where
       under_none : e.under ≡ None
       under_none = none_if e.under none
@@ -100,7 +100,7 @@ module _ {D : Type 0} (d : Ghosts D) (e : Engine D d) (works : e.failed ≡ fals
       not_free not_so free = not_so (free_out v e.locks e.txns.next (asked a v.walk) r.serving.locks (subst (λ (n : ℕ). IsFree (locks_in v) n (asked a v.walk)) r.serving.table.numbers free))
 
     pub look_is : (sight : Sight X) → ((pages : AllPages) (m : IndexMap) → ShowsTree pages e.writer.pool → walk (bodies_of pages) ≡ entries m → IsLooked of e.txns.next a m (bodies_of pages) e.writer.pool e.locks sight)
-        → IfSeen (λ x. told_now reply ≡ Some (of x)) (told_now reply ≡ None) sight → IsLookAt d a reply e
+        → IfSeen (λ x. told ≡ Some (of x)) (told ≡ None) sight → IsLookAt d a told e
     look_is (Seen x) looked tells = record {
       committed = λ before s v life.
           let r = (life.running works).1 in
@@ -127,7 +127,7 @@ module _ {D : Type 0} (d : Ghosts D) (e : Engine D d) (works : e.failed ≡ fals
 
     -- asked as who has the next number
     pub look_by : (reader : ℕ) (sight : Sight X) → reader ≡ e.txns.next → ((pages : AllPages) (m : IndexMap) → ShowsTree pages e.writer.pool → walk (bodies_of pages) ≡ entries m → IsLooked of reader a m (bodies_of pages) e.writer.pool e.locks sight)
-        → IfSeen (λ x. told_now reply ≡ Some (of x)) (told_now reply ≡ None) sight → IsLookAt d a reply e
+        → IfSeen (λ x. told ≡ Some (of x)) (told ≡ None) sight → IsLookAt d a told e
     look_by reader sight same looked tells = look_is sight (λ pages m tree is. subst (λ (n : ℕ). IsLooked of n a m (bodies_of pages) e.writer.pool e.locks sight) same (looked pages m tree is)) tells
 
 -- ---- a transaction that would begin now
@@ -266,7 +266,7 @@ look_changing {D} d e step reply tells right some = record {
 }
 
 -- and of one that was made
-pub look_made : {D : Type 0} (d : Ghosts D) (e : Engine D d) (step : LookStep) (reply : LookReply) → e.failed ≡ false → is_some e.under ≡ false → look_fits step ≡ true → IsLookAt d (looked_for step) reply e → IsLook d step reply e
+pub look_made : {D : Type 0} (d : Ghosts D) (e : Engine D d) (step : LookStep) (reply : LookReply) → e.failed ≡ false → is_some e.under ≡ false → look_fits step ≡ true → IsLookAt d (looked_for step) (told_now reply) e → IsLook d step reply e
 look_made {D} d e step reply works none right at = record {
   committed = λ before s v life. told before s v life;
   acknowledged = λ before s v life. subst (λ (m : IndexMap). IfSome (told_now reply) (λ r. r ≡ alone_on step m)) life.lived.shows.commits (told before s v life);

@@ -49,10 +49,10 @@ pub record IsMoment (v : View) (a : Access) (reply : Reply) : Type 0 where
 module _ {D : Type 0} (d : Ghosts D) where
   -- What a look for an access says of an engine that works, with no structure change under way: where it is answered, it is so on the map that is committed now, and nobody holds a lock against a transaction that would begin
   -- now; where it is not, a page that it would read is not held, or somebody does.
-  pub record IsLookAt (a : Access) (reply : LookReply) (e : Engine D d) : Type 0 where
-    pub committed : (before : List Effect) (s : Shown) (v : View) → IsLife d before s v e → IfSome (told_now reply) (λ r. r ≡ answer a v.committed)
-    pub granted : (before : List Effect) (s : Shown) (v : View) → IsLife d before s v e → IfSome (told_now reply) (λ r. (r ≡ answer a v.walk) × IsFree (locks_in v) v.next (asked a v.walk))
-    pub hidden : (b : Base) (before : List Effect) (s : Shown) (v : View) (r : IsRunning d b before s v e) → told_now reply ≡ None → LacksFor (bodies_of (pages_of r.now)) e.writer.pool a v.walk ⊎ (IsFree (locks_in v) v.next (asked a v.walk) → ⊥)
+  pub record IsLookAt (a : Access) (told : Option Reply) (e : Engine D d) : Type 0 where
+    pub committed : (before : List Effect) (s : Shown) (v : View) → IsLife d before s v e → IfSome told (λ r. r ≡ answer a v.committed)
+    pub granted : (before : List Effect) (s : Shown) (v : View) → IsLife d before s v e → IfSome told (λ r. (r ≡ answer a v.walk) × IsFree (locks_in v) v.next (asked a v.walk))
+    pub hidden : (b : Base) (before : List Effect) (s : Shown) (v : View) (r : IsRunning d b before s v e) → told ≡ None → LacksFor (bodies_of (pages_of r.now)) e.writer.pool a v.walk ⊎ (IsFree (locks_in v) v.next (asked a v.walk) → ⊥)
 
   -- What a look says of any engine.
   pub record IsLook (step : LookStep) (reply : LookReply) (e : Engine D d) : Type 0 where

@@ -11,6 +11,9 @@
 //! engine that works stands as `IsRunning` says; of one that has failed nothing is said but what a stop leaves, and the machine that it
 //! came to (`IsLife`).
 //!
+//! A look (`Engine::look`) asks it as it is at one moment, in no transaction and by `&`: its answer is that of a transaction which begins then, makes this
+//! one step and commits (`IsLook`).
+//!
 //! # When it has failed
 //!
 //! A step sets `failed` before its call below, and takes it back by what that answers: so a step that is left in its midst has failed. Gate, log and

@@ -66,7 +66,7 @@ impl<D: Disk> Engine<D> {
     fn look_at<'a>(&'a self, step: LookStep<'_>) -> LookReply<'a>
         requires works { self.now.failed ≡ false }
         requires none { is_some self.now.under ≡ false }
-        ensures { IsLookAt D.Disk (looked_for step.entry) result self.now }
+        ensures { IsLookAt D.Disk (looked_for step.entry) (told_now result) self.now }
     {
         match step {
             LookStep::Fetch(key) => self.look_for(key),
@@ -81,7 +81,7 @@ impl<D: Disk> Engine<D> {
     fn look_for<'a>(&'a self, key: &[u8]) -> LookReply<'a>
         requires works { self.now.failed ≡ false }
         requires none { is_some self.now.under ≡ false }
-        ensures { IsLookAt D.Disk (answers.Fetch key.now) result self.now }
+        ensures { IsLookAt D.Disk (answers.Fetch key.now) (told_now result) self.now }
     {
         match look_fetch(&self.writer, &self.locks, self.txns.next(), key) {
             Sight::Seen(Some(rid)) => LookReply::Found(rid),
@@ -94,7 +94,7 @@ impl<D: Disk> Engine<D> {
     fn look_from<'a>(&'a self, key: &[u8], inclusive: bool) -> LookReply<'a>
         requires works { self.now.failed ≡ false }
         requires none { is_some self.now.under ≡ false }
-        ensures { IsLookAt D.Disk (seek_at inclusive key.now) result self.now }
+        ensures { IsLookAt D.Disk (seek_at inclusive key.now) (told_now result) self.now }
     {
         match look_seek(&self.writer, &self.locks, self.txns.next(), key, inclusive) {
             Sight::Seen(Some(place)) => self.entry_at(place),
@@ -107,7 +107,7 @@ impl<D: Disk> Engine<D> {
     fn look_below<'a>(&'a self, key: &[u8]) -> LookReply<'a>
         requires works { self.now.failed ≡ false }
         requires none { is_some self.now.under ≡ false }
-        ensures { IsLookAt D.Disk (answers.Prev key.now) result self.now }
+        ensures { IsLookAt D.Disk (answers.Prev key.now) (told_now result) self.now }
     {
         match look_prev(&self.writer, &self.locks, self.txns.next(), key) {
             Sight::Seen(Some(place)) => self.entry_at(place),
