@@ -1,6 +1,7 @@
 pub mod Names
 pub mod Calls
 pub mod Looked
+pub mod LookedRows
 pub mod KeyLogs
 pub mod Deletes
 pub mod Inserts

@@ -10,7 +10,7 @@
 //! - `scan` answers the entries of a range.
 //! - Beside another transaction's structure change that is made page by page (`Beside`) these four answer as over the tree from before it; where
 //!   they would have to read a page that is made, they are hidden, and ask no lock. Beside none, nothing is.
-//! - `look_fetch`, `look_seek` and `look_prev` answer the same of one moment to who has no transaction, by `&` alone: over pages that are held, and where
+//! - `look_fetch`, `look_seek`, `look_prev` and `look_scan` answer the same of one moment to who has no transaction, by `&` alone: over pages that are held, and where
 //!   nobody holds a lock that a transaction which begins now would have to wait for.
 //! - `log_insert` and `log_delete` log the change on that leaf, after which the log is lawful and the transaction not finished. Another
 //!   transaction's structure change may be open that has not changed that leaf.
@@ -33,6 +33,7 @@ mod inserting;
 mod inserting_beside;
 mod lock_answer;
 mod logging;
+mod look_scans;
 mod looks;
 mod noted;
 mod reads;
@@ -45,6 +46,7 @@ pub use inserting::insert;
 pub use inserting_beside::{insert_beside, insert_end};
 pub use lock_answer::LockAnswer;
 pub use logging::{log_delete, log_insert};
+pub use look_scans::look_scan;
 pub use looks::{look_fetch, look_prev, look_seek};
 pub use noted::Noted;
 pub use reads::{fetch, prev, seek};

@@ -26,7 +26,7 @@ use im_page_writer::PageWriter;
 use im_tree_search::{EntryPlace, Sight, held_leaf, held_next, held_prev, value_of};
 
 // The name of an entry where it stands, else the name past the last key.
-fn name_at(writer: &PageWriter, place: Option<EntryPlace>) -> Name<'_>
+pub(crate) fn name_at(writer: &PageWriter, place: Option<EntryPlace>) -> Name<'_>
     requires { IfSome place (IsEntry writer.now.pool) }
     ensures { named result ≡ name_of (option_map (entry_of writer.now.pool) place) }
 {

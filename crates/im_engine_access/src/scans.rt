@@ -32,7 +32,7 @@ use im_tree_search::{Beside, NextKey, Sight, entries_between};
 use std::alloc::Global;
 
 // A limit, brought into 1 to 256.
-fn bounded(limit: usize) -> usize
+pub(crate) fn bounded(limit: usize) -> usize
     ensures { result ≡ limit_of limit }
 {
     if limit == 0 {
@@ -75,7 +75,7 @@ fn ask_range(
 }
 
 // Whether a range is empty by its bounds.
-fn lacks_keys(lo: &[u8], hi: &[u8]) -> bool
+pub(crate) fn lacks_keys(lo: &[u8], hi: &[u8]) -> bool
     ensures { result ≡ is_below hi.now lo.now }
 {
     compare(hi, lo).is_lt()

@@ -12,3 +12,4 @@ pub mod GoingOn
 pub mod Sighted
 pub mod GoingBack
 pub mod Looking
+pub mod RangesLooked

@@ -108,7 +108,7 @@ taken_more es from i le lt =
     ap (λ (n : ℕ). drop from (take n es)) one ∙ ap (drop from) (take-suc es i no_entry lt) ∙ drop-append-le from (take i es) (entry_at es i ∷ []) long
 
 -- those taken are a front of all
-front_of : (es : List Entry) (from k n : ℕ) → from ≤ k → k ≤ length es → drop from (take (k + n) es) ≡ drop from (take k es) ++ take n (drop k es)
+pub front_of : (es : List Entry) (from k n : ℕ) → from ≤ k → k ≤ length es → drop from (take (k + n) es) ≡ drop from (take k es) ++ take n (drop k es)
 front_of es from k n le lt =
     let long : from ≤ length (take k es) = omega (arith, length-take-le k es lt) in
     ap (drop from) (take-add k n es) ∙ drop-append-le from (take k es) (take n (drop k es)) long

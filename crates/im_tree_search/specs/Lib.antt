@@ -9,3 +9,4 @@ pub mod Sights
 pub mod RangesBeside
 pub mod Backward
 pub mod Looks
+pub mod LookRanges

@@ -27,7 +27,7 @@
 //! A search whose pages are held asks nothing of the disk, whatever it answers (`quiet`, over a set of pages as `HoldsWay` or `HoldsOn` has
 //! it; `laws` says when a pool holds one).
 //!
-//! Who only looks searches over the pages that are held, by `&PageWriter` alone, beside others who do: `held_leaf`, `held_next` and `held_prev`. Where a page
+//! Who only looks searches over the pages that are held, by `&PageWriter` alone, beside others who do: `held_leaf`, `held_next`, `held_prev` and `held_range`. Where a page
 //! that they come to is not held, they are hidden.
 //!
 //! On any bytes each search ends: levels are read from the pages and have to fall by one, a page of another kind than its
@@ -51,6 +51,7 @@ mod leaf_chain;
 mod level_and_child;
 mod levels;
 mod listing;
+mod look_ranges;
 mod looks;
 mod lookup;
 mod next_key;
@@ -58,6 +59,7 @@ mod range;
 pub mod search_laws;
 mod sight;
 mod sights;
+mod span;
 
 pub use chain_back::{place_around, prev_entry};
 pub use change_beside::Beside;
@@ -68,8 +70,10 @@ pub use leaf_chain::next_entry;
 pub use level_and_child::{child_in, child_of, level_of};
 pub use levels::{has_level, tree_page};
 pub use listing::entries;
+pub use look_ranges::held_range;
 pub use looks::{held_leaf, held_next, held_prev};
 pub use lookup::value_of;
 pub use next_key::{NextKey, next_in_leaf_beside};
 pub use range::entries_between;
 pub use sight::Sight;
+pub use span::Span;

@@ -27,7 +27,7 @@ use im_page_writer::PageWriter;
 const MOST_PASSED: PageNo = 64;
 
 // A page that is held, and is of this level.
-fn held_page(writer: &PageWriter, number: PageNo, level: u8) -> Sight<Frame>
+pub(crate) fn held_page(writer: &PageWriter, number: PageNo, level: u8) -> Sight<Frame>
     ensures held { IfSeen (IsHeldAt level writer.now.pool) Unit result }
     ensures number { IfSeen (λ frame. frame.number ≡ number) Unit result }
     ensures shown { (pages : AllPages) → ShowsTree pages writer.now.pool → HasLevel level (pages number).body
