@@ -9,7 +9,7 @@ use Rattle.im_base_model_disk.specs.declared.model_file.ModelFile.{ModelFile}
 use Rattle.im_base_model_disk.specs.declared.model_disk.ModelDisk.{ModelDisk}
 use Rattle.im_base_model_disk.specs.Left.{IsLeftBy}
 use Rattle.im_base_model_disk.specs.Model.{file_of, moment_of, model_stop}
-use Rattle.im_base_model_disk.specs.Past.{FileMayHold, MayLeave}
+use Rattle.im_base_model_disk.specs.Past.{FileMayHold, MayLeave, Moment, reads_may_stay}
 use Rattle.im_base_sum_disk.specs.Leaves.{FileLeaves, IsLogAfter, Leaves, LogAfter, LogLeaves, ShowsNoMore}
 
 -- ---- a log
@@ -61,3 +61,12 @@ module _ (old filled made result : ModelDisk) (log pages log2 : List ℕ)
       each Log p r there = log_shows old.log filled.log.bytes.items log one p r there
       each Pages p r there = absurd (none-some r there)
       each Log2 p r there = log_shows old.log2 filled.log2.bytes.items log2 two p r there
+
+-- ---- what it may leave the model disk may leave
+
+log_may : (file : ModelFile) (c : List ℕ) → LogLeaves file c → FileMayHold file c
+log_may file c (inl same) = subst (λ (l : List ℕ). FileMayHold file l) (sym same) (reads_may_stay file file file).0
+log_may file c (inr harmless) = harmless.may
+
+pub leaves_may : (moment : Moment) (c : Files) → Leaves moment c → MayLeave moment.0 moment.1 moment.2 c
+leaves_may moment c left = (log_may moment.0 (c Log) (left Log), left Pages, log_may moment.2 (c Log2) (left Log2))

@@ -28,7 +28,8 @@ impl SummingDisk {
 
     /// A model disk that stops so from now on, with what was armed.
     pub fn new(disk: ModelDisk) -> SummingDisk
-        ensures { result.disk ≡ disk }
+        ensures disk { result.disk ≡ disk }
+        ensures synced { IsSynced ⟦<ModelDisk as Disk>⟧ disk → IsSynced ⟦<SummingDisk as Disk>⟧ result }
     {
         SummingDisk { disk }
     }
@@ -57,6 +58,7 @@ impl SummingDisk {
         ensures shown { IfOk result (λ disk. (file : FileId) (p : ℕ) (r : List ℕ) → shows_in file p (⟦<SummingDisk as Disk>⟧.seen disk file) ≡ Some r
             → shows_in file p (⟦<SummingDisk as Disk>⟧.seen self.now file) ≡ Some r) }
         ensures synced { IfOk result (λ disk. IsSynced ⟦<ModelDisk as Disk>⟧ disk.disk) }
+        ensures all { IfOk result (λ disk. IsSynced ⟦<SummingDisk as Disk>⟧ disk) }
         ensures working { IfOk result (λ disk. ⟦<SummingDisk as Disk>⟧.failed disk ≡ false) }
         ensures fresh { IfOk result (λ disk. IsFresh disk.disk) }
         ensures causes { IfErr result (λ e. e ≡ Fault.Memory) }
