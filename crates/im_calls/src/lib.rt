@@ -3,7 +3,7 @@
 //! A store that a caller of another language has by a pointer, and what that caller asks and is answered, as numbers and bytes in one place in memory.
 //!
 //! A `Session` is a store over a disk whose files its caller holds (`im_files_caller_disk`), or none while it is not open: an engine with the upkeep that its
-//! next opening wants (`im_store`). `open` opens it as an `Opening` asks. `made` does what a `Call` asks, and puts the answer in its place: a step of the store, an
+//! next opening wants (`im_store`). `open` opens it as an `Opening` asks, over the files that this names by its descriptors (`AreOpened`). `made` does what a `Call` asks, and puts the answer in its place: a step of the store, an
 //! end, how it stands, or a part of a copy. Its contract says which by that of the store: the step that is asked was made (`Serves`), its opening and its end are told
 //! as they were, and a copy is begun, goes on by a piece, and ends as that of the store (`IsPieceMade`, `IsCopyEnded`). Where no store is open a load of rising entries makes one (`Loads`, over `im_load`):
 //! a key that is not above all before it is answered Duplicate. It waits for nothing: a step that is blocked is answered so, and the caller makes it again.

@@ -80,12 +80,22 @@ fn opened(alloc: Global, asked: &mut Opening) -> Option<Opened<Files>>
     ensures question { AsksTheSame asked.old asked.new }
     ensures opening { IsOpeningOver ⟦<Files as Disk>⟧ asked.old asked.new (AreOpened asked.old) result }
 {
-    let Some(disk) = disk_of(asked.ask, asked.answer, false) else {
+    let Some(files) = files_of(alloc, asked) else {
         asked.refuse(Fault::Device);
         return None;
     };
+    Opened::open(alloc, files, asked)
+}
+
+// The files that an opening names.
+#[tactic(auto, using(crate::proofs::Named::are_opened))]
+fn files_of(alloc: Global, asked: &Opening) -> Option<Files>
+    ensures some { IfSome result (λ files. (asked.now.ask < 2 ^ 31) × (asked.now.answer < 2 ^ 31) × AreOpened asked.now files × (⟦<Files as Disk>⟧.failed files ≡ false)) }
+    ensures none { result ≡ None → (2 ^ 31 ≤ asked.now.ask) ⊎ (2 ^ 31 ≤ asked.now.answer) }
+{
+    let disk = disk_of(asked.ask, asked.answer, false)?;
     let files = CallerFiles::new(alloc, disk, asked.read_only == 1);
-    Opened::open(alloc, Mirrored::new(Renamed::new(files, false)), asked)
+    Some(Mirrored::new(Renamed::new(files, false)))
 }
 
 // The disk over two descriptors, the one to ask and the one to be answered, for the files of the store or for those of a copy.
